@@ -1,0 +1,24 @@
+-- Bytes read as numbers: high byte first, and as pairs of four-bit digits.
+-- Assumes nothing.
+use mathlib.Core.Bool.{Bool}
+use mathlib.Core.List.{List, [], _∷_}
+use Prim.Native.Nat.{ℕ, _+_, _*_, _/_, _%_}
+use lib.Dec.{eqb}
+
+-- the bytes s behind the number n, high byte first
+unfoldable pub numberFrom : ℕ → List ℕ → ℕ
+numberFrom n [] = n
+numberFrom n (b ∷ s) = numberFrom (n * 256 + b) s
+
+-- bytes as one number, high byte first
+abbrev pub number : List ℕ → ℕ
+number s = numberFrom 0 s
+
+-- each byte's high digit and then its low one
+unfoldable pub nibbles : List ℕ → List ℕ
+nibbles [] = []
+nibbles (b ∷ s) = b / 16 ∷ b % 16 ∷ nibbles s
+
+-- bit n of a byte by its weight (1, 2, 4, .. 128) is set
+abbrev pub hasBit : ℕ → ℕ → Bool
+hasBit b weight = eqb (b / weight % 2) 1
