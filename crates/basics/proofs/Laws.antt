@@ -80,3 +80,17 @@ pub either-no : (a b : Bool) → a ≡ false → b ≡ false → either a b ≡ 
 unfolding either
 either-no true b e f = e
 either-no false b e f = f
+
+-- a test that passes leaves the other
+pub both-true : {a : Bool} (b : Bool) → a ≡ true → both a b ≡ b
+unfolding both
+both-true {a} b e = ap (λ (t : Bool). both t b) e
+
+pub both-assoc : (a b r : Bool) → both a (both b r) ≡ both (both a b) r
+unfolding both
+both-assoc true b r = refl
+both-assoc false b r = refl
+
+pub either-false : {a : Bool} (b : Bool) → a ≡ false → either a b ≡ b
+unfolding either
+either-false {a} b e = ap (λ (t : Bool). either t b) e

@@ -16,3 +16,10 @@ pub fn wide32(x: u8) -> u32
 {
     x as u32
 }
+
+// A 16-bit number as a size.
+pub fn wide16(x: u16) -> usize
+    ensures { λ r. ⌜ r ≡ x ⌝ }
+{
+    x as usize
+}

@@ -1,0 +1,127 @@
+-- Digits byte by byte agree with digits four bits at a time. Each law is by the first byte, and by whether its digits are decimal.
+-- Assumes nothing.
+use mathlib.Core.Path.{_≡_, refl, sym, ap, ap₂, _∙_}
+use mathlib.Core.Bool.{Bool, true, false}
+use mathlib.Core.List.{List, [], _∷_}
+use Prim.Native.Nat.{ℕ, zero, suc, _+_, _/_, _%_, _≤_, _<_}
+use native.Mathlib.Numerals.{add-one}
+use native.Mathlib.Omega.{arith}
+use lib.Dec.{ltb, eqb, eqb·suc-suc}
+use lib.ListN.{length, getD, drop, drop-of-length-le}
+use lib.Seq.{drop-cons}
+use borrow.Author.Tests.{ltb-true, ltb-false, lt-ltb, le-ltb, eqb-true, eqb-false, eq-eqb, ne-eqb}
+use Rattle.basics.specs.Choice.{if, both, every}
+use Rattle.basics.specs.Number.{nibbles}
+use Rattle.basics.proofs.Laws.{if-yes, if-no, if-ind, both-yes, both-left, both-right, both-no-left, both-no-right, both-true, both-assoc}
+use Rattle.dictionary.specs.Form.{isDigit, isF, numeric, digitsThenFs, compressed, isDigits, digitBytes, onlyFs}
+
+-- ---- the count of digit bytes, one byte at a time
+module _ (v : List ℕ) (i : ℕ) (h : i < length v) where
+  pub stop-here : isDigits (getD v i 0) ≡ false → i + digitBytes (drop i v) ≡ i
+  unfolding digitBytes
+  stop-here e = rw (drop-cons v i 0) (ap (λ (n : ℕ). i + n) (if-no _ _ e) ∙ omega arith)
+
+  pub go-on : isDigits (getD v i 0) ≡ true → i + digitBytes (drop i v) ≡ i + 1 + digitBytes (drop (i + 1) v)
+  unfolding digitBytes
+  go-on e = rw (add-one, drop-cons v i 0) (ap (λ (n : ℕ). i + n) (if-yes _ _ e) ∙ omega arith)
+
+pub all-passed : (v : List ℕ) (i : ℕ) → length v ≤ i → i + digitBytes (drop i v) ≡ i
+unfolding digitBytes
+all-passed v i h = rw (drop-of-length-le v h) (omega arith)
+
+-- the byte at which the digits stop is not two decimal digits
+pub stops : (v : List ℕ) → digitBytes v < length v → isDigits (getD v (digitBytes v) 0) ≡ false
+unfolding digitBytes if
+stops [] h = absurd (omega arith)
+stops (b ∷ v) h = go (isDigits b) refl h (stops v)
+  where
+    go : (x : Bool) → isDigits b ≡ x → if x (suc (digitBytes v)) 0 < suc (length v) → (digitBytes v < length v → isDigits (getD v (digitBytes v) 0) ≡ false)
+        → isDigits (getD (b ∷ v) (if x (suc (digitBytes v)) 0) 0) ≡ false
+    go true e k ih = ih (omega arith)
+    go false e k ih = e
+
+-- ---- n
+pub numeric-is : (v : List ℕ) → numeric v ≡ eqb (digitBytes v) (length v)
+unfolding numeric nibbles every digitBytes isDigits if both
+numeric-is [] = refl
+numeric-is (b ∷ v) = both-assoc (isDigit (b / 16)) (isDigit (b % 16)) (numeric v) ∙ go (isDigits b) (numeric-is v)
+  where
+    go : (x : Bool) → numeric v ≡ eqb (digitBytes v) (length v) → both x (numeric v) ≡ eqb (if x (suc (digitBytes v)) 0) (suc (length v))
+    go true ih = ih ∙ sym (eqb·suc-suc (digitBytes v) (length v))
+    go false ih = sym (ne-eqb 0 (suc (length v)) (omega arith))
+
+-- ---- cn
+pub byte-fs : (b : ℕ) → both (isF (b / 16)) (isF (b % 16)) ≡ eqb b 0xFF
+byte-fs b = go (eqb b 0xFF) refl (isF (b / 16)) refl
+  where
+    go : (x : Bool) → eqb b 0xFF ≡ x → (y : Bool) → isF (b / 16) ≡ y → both (isF (b / 16)) (isF (b % 16)) ≡ x
+    go true e y f =
+        let k = eqb-true b 0xFF e in
+        both-yes _ _ (eq-eqb (b / 16) 15 (omega arith)) (eq-eqb (b % 16) 15 (omega arith))
+    go false e true f =
+        let k = eqb-false b 0xFF e in
+        let j = eqb-true (b / 16) 15 f in
+        both-no-right _ _ (ne-eqb (b % 16) 15 (omega arith))
+    go false e false f = both-no-left _ _ f
+
+pub fs-bytes : (w : List ℕ) → every isF (nibbles w) ≡ onlyFs w
+unfolding onlyFs nibbles every
+fs-bytes [] = refl
+fs-bytes (b ∷ w) = both-assoc _ _ _ ∙ ap₂ both (byte-fs b) (fs-bytes w)
+
+-- a first byte of two decimal digits, of FF, of a digit and F, and any other
+digits-first : (b : ℕ) (w : List ℕ) → isDigits b ≡ true → compressed (b ∷ w) ≡ compressed w
+unfolding compressed digitsThenFs nibbles isDigits
+digits-first b w e = if-yes _ _ (both-left _ _ e) ∙ if-yes _ _ (both-right _ _ e)
+
+ff-first : (b : ℕ) (w : List ℕ) → b ≡ 0xFF → compressed (b ∷ w) ≡ onlyFs w
+unfolding compressed digitsThenFs nibbles every
+ff-first b w e =
+    if-no _ _ (le-ltb (b / 16) 10 (omega arith))
+    ∙ both-assoc _ _ _ ∙ both-true _ (byte-fs b ∙ eq-eqb b 0xFF e) ∙ fs-bytes w
+
+half-first : (b : ℕ) (w : List ℕ) → b / 16 < 10 → b % 16 ≡ 15 → compressed (b ∷ w) ≡ onlyFs w
+unfolding compressed digitsThenFs nibbles every
+half-first b w a e =
+    if-yes _ _ (lt-ltb (b / 16) 10 a) ∙ if-no _ _ (le-ltb (b % 16) 10 (omega arith)) ∙ both-true _ (eq-eqb (b % 16) 15 e) ∙ fs-bytes w
+
+wrong-first : (b : ℕ) (w : List ℕ) → isDigits b ≡ false → (b ≡ 0xFF → ⊥) → (b / 16 < 10 → b % 16 ≡ 15 → ⊥) → compressed (b ∷ w) ≡ false
+unfolding compressed digitsThenFs nibbles every isDigits
+wrong-first b w d ne nh = go (ltb (b / 16) 10) refl
+  where
+    go : (x : Bool) → ltb (b / 16) 10 ≡ x → compressed (b ∷ w) ≡ false
+    go true e =
+        let a = ltb-true (b / 16) 10 e in
+        if-yes _ _ e ∙ if-no _ _ (sym (both-true (ltb (b % 16) 10) e) ∙ d) ∙ both-no-left _ _ (ne-eqb (b % 16) 15 (nh a))
+    go false e = if-no _ _ e ∙ both-assoc _ _ _ ∙ both-no-left _ _ (byte-fs b ∙ ne-eqb b 0xFF ne)
+
+skip-digits : (v : List ℕ) → compressed v ≡ compressed (drop (digitBytes v) v)
+unfolding digitBytes if
+skip-digits [] = refl
+skip-digits (b ∷ v) = go (isDigits b) refl (skip-digits v)
+  where
+    go : (x : Bool) → isDigits b ≡ x → compressed v ≡ compressed (drop (digitBytes v) v) → compressed (b ∷ v) ≡ compressed (drop (if x (suc (digitBytes v)) 0) (b ∷ v))
+    go true e ih = digits-first b v e ∙ ih
+    go false e ih = refl
+
+-- what the first byte that is not two decimal digits decides, at its place n
+module _ (v : List ℕ) (n : ℕ) (e : n ≡ digitBytes v) (h : n < length v) where
+  from-there : compressed v ≡ compressed (getD v n 0 ∷ drop (n + 1) v)
+  from-there = skip-digits v ∙ rw (← e, add-one, drop-cons v n 0)
+
+  pub is-ff : getD v n 0 ≡ 0xFF → compressed v ≡ onlyFs (drop (n + 1) v)
+  is-ff p = from-there ∙ ff-first _ _ p
+
+  pub is-half : getD v n 0 / 16 < 10 → getD v n 0 % 16 ≡ 15 → compressed v ≡ onlyFs (drop (n + 1) v)
+  is-half a p = from-there ∙ half-first _ _ a p
+
+  pub is-wrong : (getD v n 0 ≡ 0xFF → ⊥) → (getD v n 0 / 16 < 10 → getD v n 0 % 16 ≡ 15 → ⊥) → compressed v ≡ false
+  is-wrong a p =
+      let k : digitBytes v < length v = omega arith in
+      from-there ∙ wrong-first _ _ (ap (λ (m : ℕ). isDigits (getD v m 0)) e ∙ stops v k) a p
+
+pub all-digits : (v : List ℕ) → digitBytes v ≡ length v → compressed v ≡ true
+unfolding compressed digitsThenFs nibbles
+all-digits v e =
+    let h : length v ≤ digitBytes v = omega arith in
+    skip-digits v ∙ ap compressed (drop-of-length-le v h)

@@ -1,0 +1,44 @@
+-- What fits a row: the length first, then the digits by the row's form. Assumes nothing.
+use mathlib.Core.Path.{_≡_, sym, _∙_}
+use mathlib.Core.Bool.{Bool, true, false}
+use mathlib.Core.List.{List}
+use Prim.Native.Nat.{ℕ, _≤_, _<_}
+use lib.Dec.{leb, eqb}
+use lib.ListN.{length}
+use borrow.Author.Tests.{le-leb, lt-leb, eq-eqb, ne-eqb, leb-true}
+use Rattle.basics.specs.Choice.{both}
+use Rattle.basics.proofs.Laws.{if-yes, if-no, both-true, both-left, both-right, both-no-left}
+use Rattle.dictionary.specs.Rows.{Row, formN, formCn}
+use Rattle.dictionary.specs.Form.{fitting, digitsFit, numeric, compressed}
+
+-- a value that fits is neither too short nor too long
+pub fits-length : (r : Row) (v : List ℕ) → fitting r v ≡ true → (r .least ≤ length v) × (length v ≤ r .greatest)
+unfolding fitting
+fits-length r v e = (leb-true _ _ (both-left _ _ e), leb-true _ _ (both-left _ _ (both-right _ _ e)))
+
+module _ (r : Row) (v : List ℕ) where
+  pub too-short : length v < r .least → fitting r v ≡ false
+  unfolding fitting
+  too-short h = both-no-left _ _ (lt-leb _ _ h)
+
+  pub too-long : r .least ≤ length v → r .greatest < length v → fitting r v ≡ false
+  unfolding fitting
+  too-long a h = both-true _ (le-leb _ _ a) ∙ both-no-left _ _ (lt-leb _ _ h)
+
+  -- where the length is in range, the form decides
+  pub by-form : r .least ≤ length v → length v ≤ r .greatest → fitting r v ≡ digitsFit (r .form) v
+  unfolding fitting
+  by-form a h = both-true _ (le-leb _ _ a) ∙ both-true _ (le-leb _ _ h)
+
+module _ {f : ℕ} (v : List ℕ) where
+  pub form-n : f ≡ formN → digitsFit f v ≡ numeric v
+  unfolding digitsFit
+  form-n e = if-yes _ _ (eq-eqb _ _ e)
+
+  pub form-cn : (f ≡ formN → ⊥) → f ≡ formCn → digitsFit f v ≡ compressed v
+  unfolding digitsFit
+  form-cn a e = if-no _ _ (ne-eqb _ _ a) ∙ if-yes _ _ (eq-eqb _ _ e)
+
+  pub form-b : (f ≡ formN → ⊥) → (f ≡ formCn → ⊥) → digitsFit f v ≡ true
+  unfolding digitsFit
+  form-b a b = if-no _ _ (ne-eqb _ _ a) ∙ if-no _ _ (ne-eqb _ _ b)

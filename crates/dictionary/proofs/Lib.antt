@@ -1,0 +1,5 @@
+pub mod Table
+pub mod Find
+pub mod Digits
+pub mod Fit
+pub mod Named

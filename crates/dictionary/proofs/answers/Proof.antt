@@ -1,0 +1,17 @@
+-- `dictionary::answers` meets its contract: the column's entry is the row's, and past the last row it is 0. Assumes nothing.
+use borrow.Author.Needs.{needs}
+use mathlib.Core.Path.{_≡_}
+use Rattle.dictionary.specs.Rows.{rows}
+use Rattle.dictionary.proofs.Table.{column, beyond}
+use Rattle.dictionary.proofs.answers.Statement.{statement}
+use Rattle.dictionary.proofs.answers.Tie as tie
+
+returns : tie.Need-returns
+unfolding rows
+returns c = column (λ r. r .answers) rows (c .before .args .row)
+
+returns-2 : tie.Need-returns-2
+returns-2 c = beyond (λ r. r .answers) (c .before .args .row) (c .if1 .left)
+
+pub answers-spec : {M : Type 1} → statement M
+answers-spec = tie.close (tie.spec (λ c. search needs) returns returns-2)

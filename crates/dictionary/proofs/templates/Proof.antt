@@ -1,0 +1,17 @@
+-- `dictionary::templates` meets its contract: the column's entry is the row's, and past the last row it is 0. Assumes nothing.
+use borrow.Author.Needs.{needs}
+use mathlib.Core.Path.{_≡_}
+use Rattle.dictionary.specs.Rows.{rows}
+use Rattle.dictionary.proofs.Table.{column, beyond}
+use Rattle.dictionary.proofs.templates.Statement.{statement}
+use Rattle.dictionary.proofs.templates.Tie as tie
+
+returns : tie.Need-returns
+unfolding rows
+returns c = column (λ r. r .templates) rows (c .before .args .row)
+
+returns-2 : tie.Need-returns-2
+returns-2 c = beyond (λ r. r .templates) (c .before .args .row) (c .if1 .left)
+
+pub templates-spec : {M : Type 1} → statement M
+templates-spec = tie.close (tie.spec (λ c. search needs) returns returns-2)

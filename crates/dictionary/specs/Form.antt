@@ -1,0 +1,54 @@
+-- Does a value fit its row (document 01, "Dictionary"): the length in bytes, and the digits that its form asks for.
+-- Assumes nothing.
+use mathlib.Core.Bool.{Bool, true}
+use mathlib.Core.List.{List, [], _∷_}
+use Prim.Native.Nat.{ℕ, suc, _/_, _%_}
+use lib.Dec.{ltb, leb, eqb}
+use lib.ListN.{length}
+use Rattle.basics.specs.Choice.{if, both, every}
+use Rattle.basics.specs.Number.{nibbles}
+use Rattle.dictionary.specs.Rows.{Row, formN, formCn}
+
+-- a four-bit digit is decimal
+abbrev pub isDigit : ℕ → Bool
+isDigit d = ltb d 10
+
+-- a four-bit digit is F
+abbrev pub isF : ℕ → Bool
+isF d = eqb d 15
+
+-- n: every digit is 0 to 9
+unfoldable pub numeric : List ℕ → Bool
+numeric v = every isDigit (nibbles v)
+
+-- digits 0 to 9, and from the first that is none only Fs to the end
+unfoldable pub digitsThenFs : List ℕ → Bool
+digitsThenFs [] = true
+digitsThenFs (d ∷ s) = if (isDigit d) (digitsThenFs s) (every isF (d ∷ s))
+
+-- cn: any digits and then any Fs
+unfoldable pub compressed : List ℕ → Bool
+compressed v = digitsThenFs (nibbles v)
+
+-- what the form asks of the digits; b asks nothing
+unfoldable pub digitsFit : ℕ → List ℕ → Bool
+digitsFit form v = if (eqb form formN) (numeric v) (if (eqb form formCn) (compressed v) true)
+
+-- the length is in range and the digits fit
+unfoldable pub fitting : Row → List ℕ → Bool
+fitting r v = both (leb (r .least) (length v)) (both (leb (length v) (r .greatest)) (digitsFit (r .form) v))
+
+-- ---- the same byte by byte, as a reader of bytes goes
+
+-- both digits of a byte are decimal
+unfoldable pub isDigits : ℕ → Bool
+isDigits b = both (isDigit (b / 16)) (isDigit (b % 16))
+
+-- how many bytes at the front are decimal digits
+unfoldable pub digitBytes : List ℕ → ℕ
+digitBytes [] = 0
+digitBytes (b ∷ v) = if (isDigits b) (suc (digitBytes v)) 0
+
+-- every byte is FF
+unfoldable pub onlyFs : List ℕ → Bool
+onlyFs v = every (λ b. eqb b 0xFF) v

@@ -1,0 +1,4 @@
+pub mod Rows
+pub mod Form
+pub mod Named
+pub mod TerminalType

@@ -1,0 +1,146 @@
+-- The dictionary of data objects (document 01, "Dictionary"; Book C-2, annex A): one row for each known tag, tags rising.
+-- Assumes nothing.
+use mathlib.Core.Bool.{Bool}
+use mathlib.Core.List.{List, [], _∷_, map}
+use Prim.Native.Nat.{ℕ, _+_}
+use lib.Dec.{eqb}
+use lib.ListN.{getD}
+use Rattle.basics.specs.Choice.{if}
+use Rattle.dictionary.specs.declared.Found.{Found}
+use Rattle.dictionary.specs.declared.Found.the-variants.{At, Unknown}
+
+-- a row: the tag, the least and greatest length in bytes, the form of the value, and three sets of bits:
+-- who may set the object, the templates that may stand directly around it, the answers that may bring it;
+-- last, whether a start must bring it
+pub record Row : Type 0 where
+  pub tag : ℕ
+  pub least : ℕ
+  pub greatest : ℕ
+  pub form : ℕ
+  pub setters : ℕ
+  pub templates : ℕ
+  pub answers : ℕ
+  pub must : ℕ
+
+abbrev pub row : ℕ → ℕ → ℕ → ℕ → ℕ → ℕ → ℕ → ℕ → Row
+row t a g f s p w m = record { tag = t; least = a; greatest = g; form = f; setters = s; templates = p; answers = w; must = m }
+
+-- ---- the columns' values
+
+-- forms: b any bytes, n digits, cn digits and then any Fs
+abbrev pub formB : ℕ
+formB = 0
+
+abbrev pub formN : ℕ
+formN = 1
+
+abbrev pub formCn : ℕ
+formCn = 2
+
+-- who may set an object
+abbrev pub start : ℕ
+start = 1
+
+abbrev pub card : ℕ
+card = 2
+
+abbrev pub session : ℕ
+session = 4
+
+-- the template directly around an object; weights 4, 8, 16 and 32 are kept for A5, BF0C, 6F and no template
+abbrev pub nowhere : ℕ
+nowhere = 0
+
+abbrev pub in70 : ℕ
+in70 = 1
+
+abbrev pub in77 : ℕ
+in77 = 2
+
+-- the answer that brings an object; weight 8 is kept for one more
+abbrev pub noAnswer : ℕ
+noAnswer = 0
+
+abbrev pub options : ℕ
+options = 1
+
+abbrev pub record′ : ℕ
+record′ = 2
+
+abbrev pub cryptogram : ℕ
+cryptogram = 4
+
+abbrev pub anyAnswer : ℕ
+anyAnswer = options + record′ + cryptogram
+
+-- whether a start must bring it
+abbrev pub optional : ℕ
+optional = 0
+
+abbrev pub required : ℕ
+required = 1
+
+-- ---- the table
+
+unfoldable pub rows : List Row
+rows =
+    row 0x57       0  19 formB  card    in70    anyAnswer  optional ∷
+    row 0x5A       0  10 formCn card    in70    anyAnswer  optional ∷
+    row 0x82       2   2 formB  card    in77    anyAnswer  optional ∷
+    row 0x8C       0 250 formB  card    in70    anyAnswer  optional ∷
+    row 0x94       4 248 formB  card    in77    anyAnswer  optional ∷
+    row 0x95       5   5 formB  session nowhere noAnswer   optional ∷
+    row 0x9A       3   3 formN  start   nowhere noAnswer   required ∷
+    row 0x9C       1   1 formN  start   nowhere noAnswer   required ∷
+    row 0x5F24     3   3 formN  card    in70    anyAnswer  optional ∷
+    row 0x5F25     3   3 formN  card    in70    anyAnswer  optional ∷
+    row 0x5F28     2   2 formN  card    in70    anyAnswer  optional ∷
+    row 0x5F2A     2   2 formN  start   nowhere noAnswer   optional ∷
+    row 0x5F34     1   1 formN  card    in70    anyAnswer  optional ∷
+    row 0x9F02     6   6 formN  start   nowhere noAnswer   required ∷
+    row 0x9F03     6   6 formN  start   nowhere noAnswer   optional ∷
+    row 0x9F07     2   2 formB  card    in70    anyAnswer  optional ∷
+    row 0x9F08     2   2 formB  card    in70    anyAnswer  optional ∷
+    row 0x9F09     2   2 formB  start   nowhere noAnswer   required ∷
+    row 0x9F0D     5   5 formB  card    in70    anyAnswer  optional ∷
+    row 0x9F0E     5   5 formB  card    in70    anyAnswer  optional ∷
+    row 0x9F0F     5   5 formB  card    in70    anyAnswer  optional ∷
+    row 0x9F10     0  32 formB  card    in77    cryptogram optional ∷
+    row 0x9F1A     2   2 formN  start   nowhere noAnswer   required ∷
+    row 0x9F26     8   8 formB  card    in77    cryptogram optional ∷
+    row 0x9F27     1   1 formB  card    in77    cryptogram optional ∷
+    row 0x9F33     3   3 formB  start   nowhere noAnswer   optional ∷
+    row 0x9F35     1   1 formN  start   nowhere noAnswer   required ∷
+    row 0x9F36     2   2 formB  card    in77    cryptogram optional ∷
+    row 0x9F37     4   4 formB  start   nowhere noAnswer   required ∷
+    row 0x9F38     0 240 formB  start   nowhere noAnswer   optional ∷
+    row 0x9F40     5   5 formB  start   nowhere noAnswer   optional ∷
+    row 0xDF8120   5   5 formB  start   nowhere noAnswer   required ∷
+    row 0xDF8121   5   5 formB  start   nowhere noAnswer   required ∷
+    row 0xDF8122   5   5 formB  start   nowhere noAnswer   required ∷
+    row 0xDF8123   6   6 formN  start   nowhere noAnswer   required ∷
+    row 0xDF8124   6   6 formN  start   nowhere noAnswer   required ∷
+    []
+
+-- what stands past the last row
+abbrev pub blank : Row
+blank = row 0 0 0 0 0 0 0 0
+
+-- row k of a table, counted from 0
+abbrev pub rowIn : List Row → ℕ → Row
+rowIn table k = getD table k blank
+
+abbrev pub rowAt : ℕ → Row
+rowAt k = rowIn rows k
+
+-- ---- lookup
+
+-- a place counted from n rows further on
+unfoldable pub past : ℕ → Found → Found
+past n Unknown = Unknown
+past n (At k) = At (n + k)
+
+-- the first row of a table that has the tag
+unfoldable pub find : List Row → ℕ → Found
+find [] t = Unknown
+find (r ∷ rs) t = if (eqb (r .tag) t) (At 0) (past 1 (find rs t))

@@ -1,0 +1,263 @@
+-- What a put leaves, for every table and every store that is large enough for it: its own row holds the value, every other place
+-- is untouched, puts of two rows commute. A put is a run of stores at a place, and the places lie apart.
+-- Assumes nothing.
+use mathlib.Core.Path.{_≡_, refl, sym, ap, ap₂, subst, _∙_}
+use mathlib.Core.Bool.{Bool, true, false, not}
+use mathlib.Core.Logic.{_⊎_, inl, inr}
+use mathlib.Core.List.{List, [], _∷_, _++_, append-assoc}
+use Prim.Native.Nat.{ℕ, zero, suc, _+_, _-_, _≤_, _<_, min}
+use native.Mathlib.Nat.{add-zero}
+use native.Mathlib.Numerals.{add-one}
+use native.Mathlib.Omega.{arith}
+use lib.Dec.{eqb}
+use lib.ListN.{length, getD, take, drop, set, replicate, length-append, length-take, length-drop, length-set, drop-of-length-le, List·getD-eq-default}
+use lib.Seq.{drop-cons, take-at, drop-at, take-all, take-take, drop-drop, take-append-le, drop-append-le, drop-append-add, length-take-le, getD-take, getD-drop, sets, sets-eq, length-sets, set-comm, drop-set-add, drop-set-lt, take-set-le, take-suc-set, take-length, append-snoc, paste}
+use borrow.Author.Tests.{eq-eqb, ne-eqb, eqb-true}
+use Rattle.basics.specs.Choice.{if}
+use Rattle.basics.proofs.Laws.{if-yes, if-no, if-ind}
+use Rattle.basics.proofs.Order.{le-or-gt, sides}
+use Rattle.dictionary.specs.Rows.{Row, blank, rowIn, find}
+use Rattle.dictionary.specs.declared.Found.the-variants.{At, Unknown}
+use Rattle.store.specs.Place.{Value, absent, present, bytesOf, isThere, room, offsetIn, sizeOf, placeAt, held, valueAt, lengthByte, storedLength, putAt, putAll, emptyOf, valueFound, valueIn}
+use Rattle.store.proofs.Places.{inside, ends, apart}
+
+take-min : (m n : ℕ) (l : List ℕ) → take m (take n l) ≡ take (min m n) l
+take-min m n l = go (le-or-gt m n)
+  where
+    go : (m ≤ n) ⊎ (n < m) → take m (take n l) ≡ take (min m n) l
+    go (inl h) = let e : min m n ≡ m = omega arith in take-take m n l h ∙ ap (λ (i : ℕ). take i l) (sym e)
+    go (inr h) =
+        let e : min m n ≡ n = omega arith in
+        let s : length (take n l) ≤ m = simp length-take (omega arith) in
+        take-all m (take n l) s ∙ ap (λ (i : ℕ). take i l) (sym e)
+
+-- ---- what a place holds, by its length byte
+
+pub byte-there : (p : List ℕ) → isThere (held p) ≡ not (eqb (getD p 0 0) 0)
+unfolding held
+byte-there [] = refl
+byte-there (n ∷ v) = go (eqb n 0) refl
+  where
+    go : (x : Bool) → eqb n 0 ≡ x → isThere (if (eqb n 0) absent (present (take (n - 1) v))) ≡ not (eqb n 0)
+    go true e = ap isThere (if-yes _ _ e) ∙ ap not (sym e)
+    go false e = ap isThere (if-no _ _ e) ∙ ap not (sym e)
+
+pub zero-absent : (p : List ℕ) → getD p 0 0 ≡ 0 → held p ≡ absent
+unfolding held
+zero-absent [] e = refl
+zero-absent (n ∷ v) e = if-yes _ _ (eq-eqb n 0 e)
+
+pub held-bytes : (n : ℕ) (v : List ℕ) → (n ≡ 0 → ⊥) → held (n ∷ v) ≡ present (take (n - 1) v)
+unfolding held
+held-bytes n v e = if-no _ _ (ne-eqb n 0 e)
+
+module _ (table : List Row) (b : List ℕ) (k : ℕ) where
+  -- the length byte is the store's byte at the place's start
+  pub length-byte-at : lengthByte table b k ≡ getD b (offsetIn table k) 0
+  unfolding lengthByte placeAt
+  length-byte-at = getD-take (room (rowIn table k)) _ 0 0 (omega arith) ∙ getD-drop (offsetIn table k) b 0 0 ∙ rw add-zero
+
+  pub there-is : isThere (valueAt table b k) ≡ not (eqb (lengthByte table b k) 0)
+  unfolding valueAt lengthByte
+  there-is = byte-there (placeAt table b k)
+
+  pub absent-is : lengthByte table b k ≡ 0 → valueAt table b k ≡ absent
+  unfolding valueAt lengthByte
+  absent-is e = zero-absent (placeAt table b k) e
+
+  -- a length byte that is not 0 gives that many bytes less one, and at most the greatest length
+  pub present-is : offsetIn table k < length b → (lengthByte table b k ≡ 0 → ⊥)
+      → valueAt table b k ≡ present (take (lengthByte table b k - 1) (take (rowIn table k .greatest) (drop (offsetIn table k + 1) b)))
+  unfolding valueAt placeAt
+  present-is h e =
+      let n = getD b (offsetIn table k) 0 in
+      let g = rowIn table k .greatest in
+      ap held (ap (take (g + 1)) (drop-cons b (offsetIn table k) 0 h) ∙ ap (λ (m : ℕ). take m (n ∷ drop (suc (offsetIn table k)) b)) (add-one g))
+      ∙ held-bytes n _ (λ z. e (length-byte-at ∙ z))
+      ∙ ap₂ (λ (m : ℕ) (l : List ℕ). present (take (m - 1) (take g l))) (sym length-byte-at) (ap (λ (m : ℕ). drop m b) (sym (add-one (offsetIn table k))))
+
+  -- the value's bytes, by its stored length
+  pub value-bytes : offsetIn table k < length b
+      → bytesOf (valueAt table b k) ≡ take (storedLength table b k) (drop (offsetIn table k + 1) b)
+  unfolding storedLength
+  value-bytes h = go (lengthByte table b k) refl
+    where
+      go : (n : ℕ) → lengthByte table b k ≡ n → bytesOf (valueAt table b k) ≡ take (min (lengthByte table b k - 1) (rowIn table k .greatest)) (drop (offsetIn table k + 1) b)
+      go zero e =
+          let z : min (lengthByte table b k - 1) (rowIn table k .greatest) ≡ 0 = omega arith in
+          ap bytesOf (absent-is e) ∙ ap (λ (m : ℕ). take m (drop (offsetIn table k + 1) b)) (sym z)
+      go (suc n) e =
+          ap bytesOf (present-is h (λ z. omega arith)) ∙ take-min (lengthByte table b k - 1) (rowIn table k .greatest) (drop (offsetIn table k + 1) b)
+
+  -- where the store ends before the place there is no value
+  pub no-place : length b ≤ offsetIn table k → valueAt table b k ≡ absent
+  no-place h = absent-is (length-byte-at ∙ List·getD-eq-default b 0 h)
+
+  pub there-absent : isThere (valueAt table b k) ≡ false → valueAt table b k ≡ absent
+  there-absent e = go (valueAt table b k) e
+    where
+      go : (x : Value) → isThere x ≡ false → x ≡ absent
+      go absent p = refl
+      go (present v) p = cc
+
+-- ---- a run of stores
+
+-- a part before it, and a part behind it
+part-before : (vs l : List ℕ) (i o m : ℕ) → o + m ≤ i → take m (drop o (sets l i vs)) ≡ take m (drop o l)
+part-before [] l i o m h = refl
+part-before (x ∷ vs) l i o m h =
+    let e : o + (i - o) ≡ i = omega arith in
+    part-before vs (set l i x) (suc i) o m (omega arith)
+    ∙ ap (λ (j : ℕ). take m (drop o (set l j x))) (sym e)
+    ∙ ap (take m) (drop-set-add o l (i - o) x) ∙ take-set-le m (drop o l) (i - o) x (omega arith)
+
+part-behind : (vs l : List ℕ) (i o : ℕ) → i + length vs ≤ o → drop o (sets l i vs) ≡ drop o l
+part-behind [] l i o h = refl
+part-behind (x ∷ vs) l i o h = part-behind vs (set l i x) (suc i) o (omega arith) ∙ drop-set-lt o l i x (omega arith)
+
+-- runs that lie apart commute
+set-sets : (vs l : List ℕ) (i j a : ℕ) → i + length vs ≤ j → set (sets l i vs) j a ≡ sets (set l j a) i vs
+set-sets [] l i j a h = refl
+set-sets (x ∷ vs) l i j a h =
+    set-sets vs (set l i x) (suc i) j a (omega arith) ∙ ap (λ (r : List ℕ). sets r (suc i) vs) (set-comm l i j x a (λ e. omega arith))
+
+sets-sets : (ws vs l : List ℕ) (i j : ℕ) → i + length vs ≤ j → sets (sets l i vs) j ws ≡ sets (sets l j ws) i vs
+sets-sets [] vs l i j h = refl
+sets-sets (y ∷ ws) vs l i j h =
+    ap (λ (r : List ℕ). sets r (suc j) ws) (set-sets vs l i j y h) ∙ sets-sets ws vs (set l j y) i (suc j) (omega arith)
+
+-- ---- a put is such a run
+
+-- the value v fits row k of the table, and the store is large enough
+pub record Fits (table : List Row) (b : List ℕ) (k : ℕ) (v : List ℕ) : Type 0 where
+  pub row : k < length table
+  pub value : length v ≤ rowIn table k .greatest
+  pub store : sizeOf table ≤ length b
+
+module _ (table : List Row) (b : List ℕ) (k : ℕ) (v : List ℕ) (f : Fits table b k v) where
+  pub lies : offsetIn table k + 1 + length v ≤ length b
+  lies = omega (arith, inside table k (f .row))
+
+  pub put-sets : putAt table b k v ≡ sets b (offsetIn table k) ((length v + 1) ∷ v)
+  unfolding putAt
+  put-sets =
+      let e : offsetIn table k + 1 + length v ≡ offsetIn table k + suc (length v) = omega arith in
+      let h : offsetIn table k + suc (length v) ≤ length b = omega (arith, lies) in
+      ap (λ (m : ℕ). take (offsetIn table k) b ++ ((length v + 1) ∷ (v ++ drop m b))) e
+      ∙ sym (sets-eq ((length v + 1) ∷ v) b (offsetIn table k) h ∙ append-assoc (take (offsetIn table k) b) ((length v + 1) ∷ v) (drop (offsetIn table k + suc (length v)) b))
+
+  -- the store keeps its length
+  pub put-length : length (putAt table b k v) ≡ length b
+  put-length = ap length put-sets ∙ length-sets b (offsetIn table k) ((length v + 1) ∷ v)
+
+  -- the length byte stored, and then the value copied behind it
+  pub paste-put : paste (set b (offsetIn table k) (length v + 1)) (offsetIn table k + 1) v (length v) ≡ putAt table b k v
+  unfolding putAt
+  paste-put =
+      let o = offsetIn table k in
+      let h : o < length b = omega (arith, lies) in
+      let q : o < suc o + length v = omega arith in
+      rw (add-one o, take-length v, take-suc-set b o (length v + 1) h, drop-set-lt (suc o + length v) b o (length v + 1) q)
+      (append-assoc (take o b ++ ((length v + 1) ∷ [])) v (drop (suc o + length v) b) ∙ append-snoc (take o b) (length v + 1) (v ++ drop (suc o + length v) b))
+
+  -- its own row holds the value
+  pub put-get : valueAt table (putAt table b k v) k ≡ present v
+  unfolding valueAt placeAt putAt
+  put-get =
+      let g = rowIn table k .greatest in
+      let o = offsetIn table k in
+      let rest = drop (o + 1 + length v) b in
+      let z : length v + 1 - 1 ≡ length v = omega arith in
+      ap (λ (l : List ℕ). held (take (g + 1) l)) (drop-at (take o b) _ o (length-take-le o b (omega (arith, lies))))
+      ∙ ap (λ (m : ℕ). held (take m ((length v + 1) ∷ (v ++ rest)))) (add-one g)
+      ∙ held-bytes (length v + 1) _ (λ e. omega arith)
+      ∙ ap present (ap (λ (m : ℕ). take m (take g (v ++ rest))) z ∙ take-take (length v) g (v ++ rest) (f .value) ∙ take-at v rest (length v) refl)
+
+  -- every other place is untouched
+  pub place-other : (j : ℕ) → (j ≡ k → ⊥) → placeAt table (putAt table b k v) j ≡ placeAt table b j
+  unfolding placeAt
+  place-other j ne = ap (λ (l : List ℕ). take (room (rowIn table j)) (drop (offsetIn table j) l)) put-sets ∙ go (sides j k ne)
+    where
+      go : (j < k) ⊎ (k < j) → take (room (rowIn table j)) (drop (offsetIn table j) (sets b (offsetIn table k) ((length v + 1) ∷ v))) ≡ take (room (rowIn table j)) (drop (offsetIn table j) b)
+      go (inl h) = part-before ((length v + 1) ∷ v) b _ _ _ (apart table j k h (omega (arith, f .row)))
+      go (inr h) =
+          let behind : offsetIn table k + suc (length v) ≤ offsetIn table j = omega (arith, apart table k j h (f .row), f .value) in
+          ap (take (room (rowIn table j))) (part-behind ((length v + 1) ∷ v) b (offsetIn table k) (offsetIn table j) behind)
+
+  pub put-other : (j : ℕ) → (j ≡ k → ⊥) → valueAt table (putAt table b k v) j ≡ valueAt table b j
+  unfolding valueAt
+  put-other j ne = ap held (place-other j ne)
+
+-- puts of two rows commute
+pub put-put : (table : List Row) (b : List ℕ) (j k : ℕ) (v w : List ℕ) → (j ≡ k → ⊥) → Fits table b j v → Fits table b k w
+    → putAt table (putAt table b j v) k w ≡ putAt table (putAt table b k w) j v
+put-put table b j k v w ne f g = go (sides j k ne)
+  where
+    after : {l m : ℕ} {x y : List ℕ} → Fits table b l x → Fits table b m y → Fits table (putAt table b l x) m y
+    after {l} {m} {x} {y} p q = record { row = q .row; value = q .value; store = rw (put-length table b l x p) (q .store) }
+    two : (l m : ℕ) (x y : List ℕ) → l < m → Fits table b l x → Fits table b m y → putAt table (putAt table b l x) m y ≡ putAt table (putAt table b m y) l x
+    two l m x y h p q =
+        let ol = offsetIn table l in
+        let om = offsetIn table m in
+        put-sets table (putAt table b l x) m y (after p q) ∙ ap (λ (r : List ℕ). sets r om ((length y + 1) ∷ y)) (put-sets table b l x p)
+        ∙ sets-sets ((length y + 1) ∷ y) ((length x + 1) ∷ x) b ol om (omega (arith, apart table l m h (p .row), p .value))
+        ∙ sym (put-sets table (putAt table b m y) l x (after q p) ∙ ap (λ (r : List ℕ). sets r ol ((length x + 1) ∷ x)) (put-sets table b m y q))
+    go : (j < k) ⊎ (k < j) → putAt table (putAt table b j v) k w ≡ putAt table (putAt table b k w) j v
+    go (inl h) = two j k v w h f g
+    go (inr h) = sym (two k j w v h g f)
+
+-- ---- the empty store, and the full one
+
+zeros : (n i : ℕ) → _≡_ {A = ℕ} (getD (replicate n 0) i 0) 0
+zeros zero i = refl
+zeros (suc n) zero = refl
+zeros (suc n) (suc i) = zeros n i
+
+-- the empty store holds nothing
+pub empty-holds-nothing : (table : List Row) (k : ℕ) → valueAt table (emptyOf table) k ≡ absent
+empty-holds-nothing table k = absent-is table (emptyOf table) k (length-byte-at table (emptyOf table) k ∙ zeros (sizeOf table) (offsetIn table k))
+
+-- values for rows k on, each of which fits its row
+pub data Values (table : List Row) : ℕ → List (List ℕ) → Type 0 where
+  none : {k : ℕ} → Values table k []
+  more : {k : ℕ} {v : List ℕ} {vs : List (List ℕ)} → k < length table → length v ≤ rowIn table k .greatest → Values table (suc k) vs → Values table k (v ∷ vs)
+
+module _ (table : List Row) where
+  kept-length : (b : List ℕ) (k : ℕ) (vs : List (List ℕ)) → sizeOf table ≤ length b → Values table k vs → sizeOf table ≤ length (putAll table b k vs)
+  unfolding putAll
+  kept-length b k [] h none = h
+  kept-length b k (v ∷ vs) h (more r g w) =
+      kept-length (putAt table b k v) (suc k) vs (rw (put-length table b k v (record { row = r; value = g; store = h })) h) w
+
+  -- rows before the first are untouched
+  before-kept : (b : List ℕ) (k : ℕ) (vs : List (List ℕ)) → sizeOf table ≤ length b → Values table k vs → (j : ℕ) → j < k
+      → valueAt table (putAll table b k vs) j ≡ valueAt table b j
+  unfolding putAll
+  before-kept b k [] h none j lt = refl
+  before-kept b k (v ∷ vs) h (more r g w) j lt =
+      let f : Fits table b k v = record { row = r; value = g; store = h } in
+      before-kept (putAt table b k v) (suc k) vs (rw (put-length table b k v f) h) w j (omega arith) ∙ put-other table b k v f j (λ e. omega arith)
+
+  -- every row can be put at its greatest length at once, and all read back
+  pub all-read-back : (b : List ℕ) (k : ℕ) (vs : List (List ℕ)) → sizeOf table ≤ length b → Values table k vs → (i : ℕ) → i < length vs
+      → valueAt table (putAll table b k vs) (k + i) ≡ present (getD vs i [])
+  unfolding putAll
+  all-read-back b k [] h none i lt = absurd (omega arith)
+  all-read-back b k (v ∷ vs) h (more r g w) zero lt =
+      let f : Fits table b k v = record { row = r; value = g; store = h } in
+      rw add-zero (before-kept (putAt table b k v) (suc k) vs (rw (put-length table b k v f) h) w k (omega arith) ∙ put-get table b k v f)
+  all-read-back b k (v ∷ vs) h (more r g w) (suc i) lt =
+      let f : Fits table b k v = record { row = r; value = g; store = h } in
+      let e : k + suc i ≡ suc k + i = omega arith in
+      ap (valueAt table (putAll table b k (v ∷ vs))) e
+      ∙ all-read-back (putAt table b k v) (suc k) vs (rw (put-length table b k v f) h) w i (omega arith)
+
+-- ---- by tag
+
+pub by-row : (table : List Row) (b : List ℕ) (t k : ℕ) → find table t ≡ At k → valueIn table b t ≡ valueAt table b k
+unfolding valueIn
+by-row table b t k e = ap (valueFound table b) e
+
+pub unknown-absent : (table : List Row) (b : List ℕ) (t : ℕ) → find table t ≡ Unknown → valueIn table b t ≡ absent
+unfolding valueIn
+unknown-absent table b t e = ap (valueFound table b) e

@@ -1,0 +1,52 @@
+-- Where places lie, for every table: each inside the store, each behind the ones before it. By induction over the rows.
+-- Assumes nothing.
+use mathlib.Core.Path.{_≡_, refl, sym, ap, _∙_}
+use mathlib.Core.Bool.{Bool, true}
+use mathlib.Core.List.{List, [], _∷_}
+use Prim.Native.Nat.{ℕ, zero, suc, _+_, _≤_, _<_}
+use native.Mathlib.Omega.{arith}
+use lib.Dec.{leb}
+use lib.ListN.{length, getD}
+use borrow.Author.Tests.{leb-true}
+use Rattle.basics.proofs.Table.{at}
+use Rattle.dictionary.specs.Rows.{Row, rows, blank, rowIn, rowAt}
+use Rattle.store.specs.Place.{room, offsetIn, sizeOf, storable}
+
+-- a row's place lies inside the store
+pub inside : (table : List Row) (k : ℕ) → k < length table → offsetIn table k + room (rowIn table k) ≤ sizeOf table
+unfolding offsetIn sizeOf
+inside [] k h = absurd (omega arith)
+inside (r ∷ rs) zero h = omega arith
+inside (r ∷ rs) (suc k) h = let ih = inside rs k (omega arith) in omega arith
+
+-- past the last row there is no place
+pub ends : (table : List Row) (k : ℕ) → length table ≤ k → offsetIn table k ≡ sizeOf table
+unfolding offsetIn sizeOf
+ends [] k h = refl
+ends (r ∷ rs) zero h = absurd (omega arith)
+ends (r ∷ rs) (suc k) h = ap (λ (n : ℕ). room r + n) (ends rs k (omega arith))
+
+-- of two rows, the later one's place lies behind the earlier one's
+pub apart : (table : List Row) (j k : ℕ) → j < k → j < length table → offsetIn table j + room (rowIn table j) ≤ offsetIn table k
+unfolding offsetIn
+apart [] j k h i = absurd (omega arith)
+apart (r ∷ rs) zero zero h i = absurd (omega arith)
+apart (r ∷ rs) zero (suc k) h i = omega arith
+apart (r ∷ rs) (suc j) zero h i = absurd (omega arith)
+apart (r ∷ rs) (suc j) (suc k) h i = let ih = apart rs j k (omega arith) (omega arith) in omega arith
+
+-- running sums of the rooms
+abbrev pub sums : ℕ → List Row → List ℕ
+sums n [] = []
+sums n (r ∷ rs) = n ∷ sums (n + room r) rs
+
+pub sum-at : (n : ℕ) (table : List Row) (k : ℕ) → k < length table → getD (sums n table) k 0 ≡ n + offsetIn table k
+unfolding offsetIn
+sum-at n [] k h = absurd (omega arith)
+sum-at n (r ∷ rs) zero h = omega arith
+sum-at n (r ∷ rs) (suc k) h = let ih = sum-at (n + room r) rs k (omega arith) in omega arith
+
+-- every length + 1 fits a byte
+pub short : (table : List Row) → storable table ≡ true → (k : ℕ) → k < length table → rowIn table k .greatest ≤ 254
+unfolding storable
+short table t k h = leb-true _ _ (at (λ r. leb (r .greatest) 254) table blank t k h)

@@ -1,0 +1,63 @@
+-- `store::value` meets its contract. The part behind the length byte, as long as the stored length says.
+-- Assumes nothing.
+use borrow.Author.Needs.{needs}
+use mathlib.Core.Path.{_≡_, sym, ap, _∙_}
+use mathlib.Core.List.{List}
+use Prim.Native.Nat.{ℕ, _+_, _-_, _≤_, _<_}
+use native.Mathlib.Omega.{arith}
+use lib.ListN.{length, take, drop, length-drop}
+use lib.Seq.{take-all}
+use Rattle.dictionary.specs.Rows.{rows}
+use Rattle.store.specs.Place.{offsetIn, storedLength, bytesOf, valueAt}
+use Rattle.store.proofs.Laws.{value-bytes, no-place}
+use Rattle.store.proofs.value.Statement.{statement}
+use Rattle.store.proofs.value.Tie as tie
+
+-- a part that starts behind the length byte and is cut at the stored length, or at the store's end before it
+cut : (b : List ℕ) (k start m : ℕ) → start ≡ offsetIn rows k + 1 → start ≤ length b → (m ≡ storedLength rows b k)
+    → take m (drop start b) ≡ bytesOf (valueAt rows b k)
+cut b k start m s l e =
+    let h : offsetIn rows k < length b = omega arith in
+    ap (λ (n : ℕ). take n (drop start b)) e ∙ ap (λ (n : ℕ). take (storedLength rows b k) (drop n b)) s ∙ sym (value-bytes rows b k h)
+
+returns : tie.Need-returns
+returns c =
+    let a = c .before .before .before .before .before .args in
+    let o = c .before .before .before .offset in
+    let n = c .before .before .value-length in
+    cut (a .bytes .now) (a .row) (o .result + 1) (o .result + 1 + n .result - (o .result + 1)) (omega arith) (omega arith) (omega arith)
+
+returns-2 : tie.Need-returns-2
+returns-2 c =
+    let a = c .before .before .before .before .before .before .args in
+    let b = a .bytes .now in
+    let o = c .before .before .before .before .offset in
+    let n = storedLength rows b (a .row) in
+    let s : length (drop (o .result + 1) b) ≤ length b - (o .result + 1) = simp length-drop (omega arith) in
+    let t : length (drop (o .result + 1) b) ≤ n = simp length-drop (omega arith) in
+    take-all _ _ s ∙ sym (take-all n _ t) ∙ cut b (a .row) (o .result + 1) n (omega arith) (omega arith) (omega arith)
+
+returns-3 : tie.Need-returns-3
+returns-3 c =
+    let a = c .before .before .before .before .before .before .args in
+    let h : length (a .bytes .now) ≤ offsetIn rows (a .row) = omega arith in
+    sym (ap bytesOf (no-place rows (a .bytes .now) (a .row) h))
+
+pub value-spec : {M : Type 1} → statement M
+value-spec =
+    tie.close
+    (tie.spec
+    (λ c κs. search needs)
+    (λ c. search needs)
+    (λ c κs. search needs)
+    (λ c. search needs)
+    (λ c. search needs)
+    (λ c. search needs)
+    (λ c. search needs)
+    returns
+    (λ c. search needs)
+    (λ c. search needs)
+    (λ c. search needs)
+    returns-2
+    (λ c. search needs)
+    returns-3)

@@ -1,0 +1,93 @@
+-- The store (document 01, "Dictionary" and "The shape of some places"): a fixed place for each row of a table, with room for every
+-- row at its greatest length at once. What holds here holds of every table.
+-- Assumes nothing.
+use mathlib.Core.Bool.{Bool, true, false}
+use mathlib.Core.List.{List, [], _∷_, _++_}
+use Prim.Native.Nat.{ℕ, zero, suc, _+_, _-_, min}
+use lib.Dec.{leb, eqb}
+use lib.ListN.{length, getD, take, drop, replicate}
+use Rattle.basics.specs.Choice.{if, both, every}
+use Rattle.dictionary.specs.Rows.{Row, rows, rowIn, find}
+use Rattle.dictionary.specs.declared.Found.{Found}
+use Rattle.dictionary.specs.declared.Found.the-variants.{At, Unknown}
+
+-- the value of an object: absent, or its bytes, which may be none
+pub data Value : Type 0 where
+  absent : Value
+  present : List ℕ → Value
+
+abbrev pub bytesOf : Value → List ℕ
+bytesOf absent = []
+bytesOf (present v) = v
+
+abbrev pub isThere : Value → Bool
+isThere absent = false
+isThere (present v) = true
+
+-- ---- places
+
+-- the room of a row: a byte for the length, and the greatest length
+abbrev pub room : Row → ℕ
+room r = r .greatest + 1
+
+-- where row k's place starts: behind the places of the rows before it
+unfoldable pub offsetIn : List Row → ℕ → ℕ
+offsetIn [] k = 0
+offsetIn (r ∷ rs) zero = 0
+offsetIn (r ∷ rs) (suc k) = room r + offsetIn rs k
+
+-- the store's size: room for every row at its greatest length at once
+unfoldable pub sizeOf : List Row → ℕ
+sizeOf [] = 0
+sizeOf (r ∷ rs) = room r + sizeOf rs
+
+-- the test of a table: every length + 1 fits a byte
+unfoldable pub storable : List Row → Bool
+storable table = every (λ r. leb (r .greatest) 254) table
+
+-- row k's place
+unfoldable pub placeAt : List Row → List ℕ → ℕ → List ℕ
+placeAt table b k = take (room (rowIn table k)) (drop (offsetIn table k) b)
+
+-- what a place holds: its first byte is 0 where the object is absent, else the length + 1
+unfoldable pub held : List ℕ → Value
+held [] = absent
+held (n ∷ v) = if (eqb n 0) absent (present (take (n - 1) v))
+
+-- the value of row k
+unfoldable pub valueAt : List Row → List ℕ → ℕ → Value
+valueAt table b k = held (placeAt table b k)
+
+-- row k's length byte as it stands
+unfoldable pub lengthByte : List Row → List ℕ → ℕ → ℕ
+lengthByte table b k = getD (placeAt table b k) 0 0
+
+-- how many bytes row k's value may have by its length byte: at most the greatest length
+unfoldable pub storedLength : List Row → List ℕ → ℕ → ℕ
+storedLength table b k = min (lengthByte table b k - 1) (rowIn table k .greatest)
+
+-- the store with the value v in row k's place; bytes behind v stay
+unfoldable pub putAt : List Row → List ℕ → ℕ → List ℕ → List ℕ
+putAt table b k v = take (offsetIn table k) b ++ ((length v + 1) ∷ (v ++ drop (offsetIn table k + 1 + length v) b))
+
+-- the values vs in the places of rows k, k + 1 and so on
+unfoldable pub putAll : List Row → List ℕ → ℕ → List (List ℕ) → List ℕ
+putAll table b k [] = b
+putAll table b k (v ∷ vs) = putAll table (putAt table b k v) (suc k) vs
+
+-- the store that holds nothing
+abbrev pub emptyOf : List Row → List ℕ
+emptyOf table = replicate (sizeOf table) 0
+
+-- ---- by tag
+
+abbrev pub valueFound : List Row → List ℕ → Found → Value
+valueFound table b Unknown = absent
+valueFound table b (At k) = valueAt table b k
+
+-- the value of a tag: absent where the tag is unknown
+unfoldable pub valueIn : List Row → List ℕ → ℕ → Value
+valueIn table b t = valueFound table b (find table t)
+
+abbrev pub valueOf : List ℕ → ℕ → Value
+valueOf b t = valueIn rows b t
