@@ -1,5 +1,6 @@
 pub mod Table
 pub mod Find
+pub mod Rule
 pub mod Digits
 pub mod Fit
 pub mod Named

@@ -1,4 +1,5 @@
 pub mod Rows
+pub mod Rule
 pub mod Form
 pub mod Named
 pub mod TerminalType

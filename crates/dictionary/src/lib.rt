@@ -5,10 +5,12 @@
 // `lookup` finds a tag's row; one function for each column answers for a row, and 0 past the last row;
 // `fits` says whether a value's length and digits are allowed.
 ghost use mathlib.Core.Path.{_≡_};
+ghost use mathlib.Core.Bool.{true};
 ghost use mathlib.Core.List.{map};
 ghost use Prim.Native.Nat.{_+_, _≤_, _<_};
 ghost use lib.ListN.{length, drop};
 ghost use Rattle.dictionary.specs.Rows.{rows, rowAt, find};
+ghost use Rattle.dictionary.specs.Rule.{proper};
 ghost use Rattle.dictionary.specs.Form.{digitBytes, onlyFs, numeric, compressed, fitting, isDigits};
 ghost use Rattle.dictionary.specs.Named.{placeOf, usedTags};
 ghost use Rattle.dictionary.specs.TerminalType.{between, listed};
@@ -127,9 +129,10 @@ pub enum Found {
     Unknown,
 }
 
-// The row of a tag.
+// The row of a tag. The table it searches keeps its rule: rising, well-formed tags, lengths in order.
 pub fn lookup(tag: u32) -> Found
-    ensures { λ r. ⌜ r ≡ find rows tag ⌝ }
+    ensures found { λ r. ⌜ r ≡ find rows tag ⌝ }
+    ensures table { λ _. ⌜ proper rows ≡ true ⌝ }
 {
     let tags = TAGS;
     let mut i = 0;

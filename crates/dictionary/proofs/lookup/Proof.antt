@@ -7,6 +7,7 @@ use lib.ListN.{length, drop}
 use Rattle.dictionary.specs.Rows.{rows, rowAt, past, find}
 use Rattle.dictionary.proofs.Table.{column}
 use Rattle.dictionary.proofs.Find.{past-zero, here, there, none-left}
+use Rattle.dictionary.proofs.Rule.{rows-proper}
 use Rattle.dictionary.proofs.lookup.Statement.{statement}
 use Rattle.dictionary.proofs.lookup.Tie as tie
 
@@ -21,7 +22,7 @@ unfolding rows
 returns c =
     let lp = c .before .before .loop in
     let e : rowAt (lp .i) .tag ≡ c .before .before .before .args .tag = sym (column (λ r. r .tag) rows (lp .i)) ∙ c .if1 .taken in
-    sym (lp .inv .1 ∙ here rows _ (lp .i) (omega arith) e)
+    (sym (lp .inv .1 ∙ here rows _ (lp .i) (omega arith) e), rows-proper)
 
 loop-again : tie.Need-loop-again Inv-loop μ-loop
 unfolding rows
@@ -33,7 +34,7 @@ returns-2 : tie.Need-returns-2 Inv-loop μ-loop
 unfolding rows
 returns-2 c =
     let lp = c .before .loop in
-    sym (lp .inv .1 ∙ none-left rows _ (lp .i) (omega arith))
+    (sym (lp .inv .1 ∙ none-left rows _ (lp .i) (omega arith)), rows-proper)
 
 pub lookup-spec : {M : Type 1} → statement M
 lookup-spec =

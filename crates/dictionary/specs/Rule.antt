@@ -1,0 +1,26 @@
+-- The rule of a table (document 01, "Dictionary"): tags rise strictly, each is a well-formed tag, least is not above greatest.
+-- One test over the whole table; what it gives at each row is proved for every table that passes.
+-- Assumes nothing.
+use mathlib.Core.Bool.{Bool, true}
+use mathlib.Core.List.{List, [], _∷_}
+use Prim.Native.Nat.{ℕ}
+use lib.Dec.{ltb, leb}
+use Rattle.basics.specs.Choice.{both, every}
+use Rattle.tlv.specs.Encoding.{wellFormedTag}
+use Rattle.dictionary.specs.Rows.{Row}
+
+-- a row by itself
+abbrev pub properRow : Row → Bool
+properRow r = both (wellFormedTag (r .tag)) (leb (r .least) (r .greatest))
+
+-- a tag is below the first tag of the rows behind it
+abbrev pub belowNext : ℕ → List Row → Bool
+belowNext t [] = true
+belowNext t (r ∷ rs) = ltb t (r .tag)
+
+unfoldable pub rising : List Row → Bool
+rising [] = true
+rising (r ∷ rs) = both (belowNext (r .tag) rs) (rising rs)
+
+unfoldable pub proper : List Row → Bool
+proper table = both (rising table) (every properRow table)

@@ -1,0 +1,112 @@
+-- The shortest encoding parses back to its tree. A tag's bytes are its number again and a length's bytes its value, whatever stands
+-- behind them; so an encoded object is next with its own header, and its parts are those that were encoded.
+-- Assumes nothing.
+use mathlib.Core.Path.{_≡_, refl, sym, ap, _∙_}
+use mathlib.Core.Bool.{true}
+use mathlib.Core.List.{List, [], _∷_, _++_, append-assoc}
+use mathlib.Core.Option.{some}
+use Prim.Native.Nat.{ℕ, zero, suc, _+_, _*_, _/_, _%_, _≤_}
+use native.Mathlib.Numerals.{sub-one}
+use native.Mathlib.Omega.{arith}
+use lib.ListN.{length, drop, length-append}
+use lib.Seq.{take-length, take-append-seam, drop-append-seam, drop-append-add, drop-drop}
+use borrow.Author.Tests.{eqb-true}
+use Rattle.basics.specs.Choice.{if}
+use Rattle.basics.specs.Number.{numberFrom, number}
+use Rattle.basics.proofs.Laws.{if-yes, if-ind, both-right}
+use Rattle.tlv.specs.declared.Front.the-variants.{Object}
+use Rattle.tlv.specs.declared.Following.the-variants.{Inner}
+use Rattle.tlv.specs.Tag.{tagSize, tagged, tagAt}
+use Rattle.tlv.specs.Length.{oneByte, twoBytes, sized, lengthAt}
+use Rattle.tlv.specs.Object.{header, headerOf, valueIn, behind}
+use Rattle.tlv.specs.Tree.{Forest, end, leaf, node, nextOf, parse}
+use Rattle.tlv.specs.Encoding.{tagBytes, wellFormedTag, lengthBytes, objectBytes, encode, Encodable}
+use Rattle.tlv.proofs.Laws.{tag-some, tail-is, header-whole}
+use Rattle.tlv.proofs.Prefix.{tag-kept}
+use Rattle.tlv.proofs.NextObject.{next-end, next-object}
+use Rattle.tlv.proofs.Tree.{parse-end, parse-leaf, parse-node, with-leaf, with-node}
+
+-- ---- a tag's bytes
+
+some-bytes : (t : ℕ) → 1 ≤ length (tagBytes t)
+unfolding tagBytes
+some-bytes t = let P : List ℕ → Type 0 = λ s. 1 ≤ length s in if-ind P _ _ _ (λ _. omega arith) (λ _. if-ind P _ _ _ (λ _. omega arith) (λ _. omega arith))
+
+pub number-tag : (t : ℕ) → number (tagBytes t) ≡ t
+unfolding tagBytes numberFrom
+number-tag t =
+    let P : List ℕ → Type 0 = λ s. number s ≡ t in
+    if-ind P _ _ _ (λ _. omega arith) (λ _. if-ind P _ _ _ (λ _. omega arith) (λ _. omega arith))
+
+pub tag-encoded : (t : ℕ) (r : List ℕ) → wellFormedTag t ≡ true → tagAt (tagBytes t ++ r) ≡ tagged t (length (tagBytes t))
+unfolding wellFormedTag
+tag-encoded t r w =
+    let k = length (tagBytes t) in
+    let e : tagSize (tagBytes t) ≡ k = eqb-true _ _ (both-right _ _ w) in
+    let n = some-bytes t in
+    tag-kept (tagBytes t) r _ (tag-some (tagBytes t) k (sym e) (omega arith) ∙ rw (take-length (tagBytes t), number-tag t))
+
+-- ---- a length's bytes
+
+in-two : (n : ℕ) (r : List ℕ) → lengthAt (0x81 ∷ n ∷ r) ≡ sized n 2
+unfolding lengthAt oneByte if
+in-two n r = refl
+
+in-three : (a b : ℕ) (r : List ℕ) → lengthAt (0x82 ∷ a ∷ b ∷ r) ≡ sized (a * 256 + b) 3
+unfolding lengthAt twoBytes if
+in-three a b r = refl
+
+pub length-encoded : (n : ℕ) (r : List ℕ) → lengthAt (lengthBytes n ++ r) ≡ sized n (length (lengthBytes n))
+unfolding lengthBytes lengthAt
+length-encoded n r =
+    let P : List ℕ → Type 0 = λ s. lengthAt (s ++ r) ≡ sized n (length s) in
+    if-ind P _ _ _ (λ e. if-yes _ _ e) (λ _. if-ind P _ _ _ (λ _. in-two n r)
+    (λ _. let e : n / 0x100 * 256 + n % 0x100 ≡ n = omega arith in in-three _ _ r ∙ ap (λ (m : ℕ). sized m 3) e))
+
+-- ---- an object's bytes
+
+module _ (t : ℕ) (v r : List ℕ) where
+  abbrev bytes : List ℕ
+  bytes = objectBytes t v ++ r
+
+  abbrev start : ℕ
+  start = length (tagBytes t) + length (lengthBytes (length v))
+
+  apart : bytes ≡ tagBytes t ++ (lengthBytes (length v) ++ (v ++ r))
+  apart = simp append-assoc
+
+  behind-tag : drop (length (tagBytes t)) bytes ≡ lengthBytes (length v) ++ (v ++ r)
+  behind-tag = rw apart (drop-append-seam (tagBytes t) (lengthBytes (length v) ++ (v ++ r)))
+
+  behind-header : drop start bytes ≡ v ++ r
+  behind-header = rw (apart, drop-append-add) (drop-append-seam (lengthBytes (length v)) (v ++ r))
+
+  object-value : valueIn bytes (header t start (length v)) ≡ v
+  object-value = rw behind-header (take-append-seam v r)
+
+  object-behind : behind bytes (header t start (length v)) ≡ r
+  object-behind = sym (drop-drop (length v) start bytes) ∙ rw behind-header (drop-append-seam v r)
+
+  pub header-encoded : wellFormedTag t ≡ true → headerOf bytes ≡ Object (header t start (length v))
+  header-encoded w =
+      let k = length (tagBytes t) in
+      header-whole bytes _ _ refl (ap tagAt apart ∙ tag-encoded t (lengthBytes (length v) ++ (v ++ r)) w)
+      _ refl _ (ap lengthAt (tail-is bytes k ∙ behind-tag) ∙ length-encoded (length v) (v ++ r))
+      (simp length-append (omega arith))
+
+  next-encoded : wellFormedTag t ≡ true → nextOf bytes ≡ Inner (header t start (length v))
+  next-encoded w = next-object bytes _ (header-encoded w)
+
+-- ---- a tree's bytes
+
+pub parse-encode : (f : Forest) (l : ℕ) → Encodable f l → parse l (encode f) ≡ some f
+unfolding encode
+parse-encode end l u = parse-end l [] (next-end [] .1 refl)
+parse-encode (leaf t v r) l u =
+    parse-leaf l _ _ (next-encoded t v (encode r) (u .0)) (u .1)
+    ∙ rw (object-value t v (encode r), object-behind t v (encode r)) (with-leaf t v _ r (parse-encode r l (u .3)))
+parse-encode (node t f r) zero u = absurd (u .3)
+parse-encode (node t f r) (suc l) u =
+    parse-node (suc l) _ _ (next-encoded t (encode f) (encode r) (u .0)) (u .1) (λ z. omega arith)
+    ∙ rw (sub-one, object-value t (encode f) (encode r), object-behind t (encode f) (encode r))
+    (with-node t _ _ f r (parse-encode f l (u .3)) (parse-encode r (suc l) (u .4)))

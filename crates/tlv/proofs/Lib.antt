@@ -1,0 +1,5 @@
+pub mod Laws
+pub mod Prefix
+pub mod NextObject
+pub mod Tree
+pub mod Encoding

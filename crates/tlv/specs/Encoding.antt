@@ -1,0 +1,45 @@
+-- The shortest encoding of a tree: what a card that wastes no byte would send.
+-- Assumes nothing.
+use mathlib.Core.Path.{_≡_}
+use mathlib.Core.Bool.{Bool, true, false}
+use mathlib.Core.List.{List, [], _∷_, _++_}
+use Prim.Native.Nat.{ℕ, zero, suc, _/_, _%_, _<_}
+use lib.Dec.{ltb, eqb}
+use lib.ListN.{length}
+use Rattle.basics.specs.Choice.{if, both}
+use Rattle.tlv.specs.Tag.{tagSize, isTemplate}
+use Rattle.tlv.specs.Tree.{Forest, end, leaf, node}
+
+-- a tag's bytes
+unfoldable pub tagBytes : ℕ → List ℕ
+tagBytes t =
+    if (ltb t 0x100) (t ∷ []) (if (ltb t 0x10000) (t / 0x100 ∷ t % 0x100 ∷ []) (t / 0x10000 ∷ t / 0x100 % 0x100 ∷ t % 0x100 ∷ []))
+
+-- a number is a well-formed tag: its bytes are one whole tag
+unfoldable pub wellFormedTag : ℕ → Bool
+wellFormedTag t = both (ltb t 0x1000000) (eqb (tagSize (tagBytes t)) (length (tagBytes t)))
+
+-- a length in as few bytes as it can be
+unfoldable pub lengthBytes : ℕ → List ℕ
+lengthBytes n = if (ltb n 0x80) (n ∷ []) (if (ltb n 0x100) (0x81 ∷ n ∷ []) (0x82 ∷ n / 0x100 ∷ n % 0x100 ∷ []))
+
+-- an object: tag, length, value
+abbrev pub objectBytes : ℕ → List ℕ → List ℕ
+objectBytes t v = tagBytes t ++ (lengthBytes (length v) ++ v)
+
+unfoldable pub encode : Forest → List ℕ
+encode end = []
+encode (leaf t v r) = objectBytes t v ++ encode r
+encode (node t f r) = objectBytes t (encode f) ++ encode r
+
+-- a tree that can be encoded: well-formed tags, primitive at leaves and of templates at nodes, contents of at most 65,535 bytes,
+-- templates nested at most so many levels deep
+abbrev pub Deep : (ℕ → Type 0) → ℕ → Type 0
+Deep p zero = ⊥
+Deep p (suc l) = p l
+
+abbrev pub Encodable : Forest → ℕ → Type 0
+Encodable end levels = Unit {0}
+Encodable (leaf t v r) levels = (wellFormedTag t ≡ true) × (isTemplate t ≡ false) × (length v < 0x10000) × Encodable r levels
+Encodable (node t f r) levels =
+    (wellFormedTag t ≡ true) × (isTemplate t ≡ true) × (length (encode f) < 0x10000) × Deep (Encodable f) levels × Encodable r levels

@@ -1,0 +1,28 @@
+-- Length of a data object (document 01, "Reading an answer"; Book 3, annex B): one to three bytes, any value in them.
+-- Assumes nothing.
+use mathlib.Core.List.{List, [], _∷_}
+use Prim.Native.Nat.{ℕ, _+_, _*_}
+use lib.Dec.{ltb, eqb}
+use Rattle.basics.specs.Choice.{if}
+use Rattle.tlv.specs.declared.LengthFront.{LengthFront}
+use Rattle.tlv.specs.declared.LengthFront.the-variants.{Sized, Unsized}
+
+-- a length n that takes k bytes
+abbrev pub sized : ℕ → ℕ → LengthFront
+sized n k = Sized (record { len = n; size = k })
+
+-- behind 81: one byte
+unfoldable pub oneByte : List ℕ → LengthFront
+oneByte [] = Unsized
+oneByte (a ∷ s) = sized a 2
+
+-- behind 82: two bytes, high first
+unfoldable pub twoBytes : List ℕ → LengthFront
+twoBytes [] = Unsized
+twoBytes (a ∷ []) = Unsized
+twoBytes (a ∷ b ∷ s) = sized (a * 256 + b) 3
+
+-- 00 to 7F is the length itself, 81 has one byte more, 82 two; 80 and 83 up are refused
+unfoldable pub lengthAt : List ℕ → LengthFront
+lengthAt [] = Unsized
+lengthAt (a ∷ s) = if (ltb a 0x80) (sized a 1) (if (eqb a 0x81) (oneByte s) (if (eqb a 0x82) (twoBytes s) Unsized))

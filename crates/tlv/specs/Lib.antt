@@ -1,0 +1,5 @@
+pub mod Tag
+pub mod Length
+pub mod Object
+pub mod Tree
+pub mod Encoding

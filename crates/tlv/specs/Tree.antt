@@ -1,0 +1,86 @@
+-- The tree of an encoding (document 01, "Reading an answer"): the objects within a template, in order, templates nested at
+-- most so many levels deep, and how many objects there are, templates included.
+-- Assumes nothing.
+use mathlib.Core.List.{List, [], _∷_}
+use mathlib.Core.Option.{Option, some, none}
+use Prim.Native.Nat.{ℕ, zero, suc, _+_}
+use lib.ListN.{length}
+use Rattle.basics.specs.Choice.{if}
+use Rattle.tlv.specs.declared.Front.{Front}
+use Rattle.tlv.specs.declared.Front.the-variants.{Object, Broken}
+use Rattle.tlv.specs.declared.Following.{Following}
+use Rattle.tlv.specs.declared.Following.the-variants.{End, Inner, Malformed}
+use Rattle.tlv.specs.Object.{headerOf, valueIn, behind}
+
+-- objects one behind the other: a leaf is a primitive object with its tag and value, a node a template with what it holds
+pub data Forest : Type 0 where
+  end : Forest
+  leaf : ℕ → List ℕ → Forest → Forest
+  node : ℕ → Forest → Forest → Forest
+
+-- how many objects, templates included
+unfoldable pub count : Forest → ℕ
+count end = 0
+count (leaf t v r) = 1 + count r
+count (node t f r) = 1 + count f + count r
+
+-- two runs of objects, one behind the other
+unfoldable pub join : Forest → Forest → Forest
+join end g = g
+join (leaf t v r) g = leaf t v (join r g)
+join (node t f r) g = node t f (join r g)
+
+-- ---- parsing
+
+-- an object at the front is next
+abbrev pub frontNext : Front → Following
+frontNext Broken = Malformed
+frontNext (Object h) = Inner h
+
+-- what stands next within a template's contents
+unfoldable pub nextOf : List ℕ → Following
+nextOf [] = End
+nextOf (b ∷ s) = frontNext (headerOf (b ∷ s))
+
+-- a run behind a leaf, or behind a node; malformed where any part is
+unfoldable pub withLeaf : ℕ → List ℕ → Option Forest → Option Forest
+withLeaf t v none = none
+withLeaf t v (some r) = some (leaf t v r)
+
+unfoldable pub withNode : ℕ → Option Forest → Option Forest → Option Forest
+withNode t none r = none
+withNode t (some f) none = none
+withNode t (some f) (some r) = some (node t f r)
+
+-- a template takes one of the levels still allowed; with none left it is malformed
+abbrev pub nested : (ℕ → List ℕ → Option Forest) → ℕ → ℕ → List ℕ → List ℕ → Option Forest
+nested k zero t v r = none
+nested k (suc l) t v r = withNode t (k l v) (k (suc l) r)
+
+-- one object, and what k parses of its contents and of the bytes behind it
+abbrev pub oneObject : (ℕ → List ℕ → Option Forest) → ℕ → List ℕ → Following → Option Forest
+oneObject k levels s End = some end
+oneObject k levels s Malformed = none
+oneObject k levels s (Inner h) =
+    if (h .template) (nested k levels (h .tag) (valueIn s h) (behind s h)) (withLeaf (h .tag) (valueIn s h) (k levels (behind s h)))
+
+-- the parse by at most so many steps down and along
+unfoldable pub parseBy : ℕ → ℕ → List ℕ → Option Forest
+parseBy zero levels s = none
+parseBy (suc n) levels s = oneObject (parseBy n) levels s (nextOf s)
+
+-- the objects of s, with templates nested at most `levels` deep, or none where s is malformed.
+-- Each object is shorter than its list, so the list's length is steps enough.
+unfoldable pub parse : ℕ → List ℕ → Option Forest
+parse levels s = parseBy (suc (length s)) levels s
+
+-- ---- what holds of it, proved in proofs/ (NextObject, Tree, Encoding) for all lists, levels and trees
+--   next-fits       an object that is next starts its value at 2 or later and ends inside the list; its class is its tag's
+--   next-end        nothing is next exactly where nothing is left
+--   next-join       with bytes behind the list, the same object is next
+--   unroll          parse levels s ≡ oneObject parse levels s (nextOf s): the steps allowed do not matter
+--   parse-end, parse-malformed, parse-deep, parse-node, parse-leaf    the parse at each thing that can be next
+--   parse-join      the parse of two lists, one behind the other, is the one run behind the other
+--   parse-count     2 * count f ≤ length s, where s parses to f
+--   parse-deeper    what parses at some levels parses to the same tree at more
+--   parse-encode    an encodable tree's shortest encoding parses to that tree

@@ -1,0 +1,209 @@
+// One data object at the front of some bytes: its tag, where its value starts and how long it is.
+//
+// `tag_at` reads a tag alone, as a data object list needs it; `head` reads a whole object's header;
+// `next` is what stands next within a template's contents. The tree of an encoding, its count and
+// its laws are in specs/.
+ghost use mathlib.Core.Path.{_≡_};
+ghost use Prim.Native.Nat.{_+_, _≤_, _<_};
+ghost use lib.ListN.{length, drop};
+ghost use Rattle.tlv.specs.Tag.{tagSize, tagAt, firstByte, isTemplate, isPrivate};
+ghost use Rattle.tlv.specs.Length.{lengthAt};
+ghost use Rattle.tlv.specs.Object.{headerOf};
+ghost use Rattle.tlv.specs.Tree.{nextOf};
+
+// A tag: its bytes read as one number, and how many they are.
+pub struct Tag {
+    pub number: u32,
+    pub size: usize,
+}
+
+// What stands where a tag should: a whole one, or none.
+pub enum TagFront {
+    Tagged(Tag),
+    Untagged,
+}
+
+// A length: its value, and how many bytes carry it.
+pub struct Extent {
+    pub len: usize,
+    pub size: usize,
+}
+
+// What stands where a length should: a whole one, or none.
+pub enum LengthFront {
+    Sized(Extent),
+    Unsized,
+}
+
+// An object's header: the tag, where the value starts, and how many bytes it has.
+pub struct Header {
+    pub tag: u32,
+    pub start: usize,
+    pub len: usize,
+    pub template: bool,
+    pub private: bool,
+}
+
+// What stands at the front of some bytes: an object that lies whole inside them, or none.
+pub enum Front {
+    Object(Header),
+    Broken,
+}
+
+// What stands next within a template's contents: nothing more, an object, or no object.
+pub enum Following {
+    End,
+    Inner(Header),
+    Malformed,
+}
+
+// How many bytes at the front are a tag; 0 where no whole tag stands there.
+fn tag_size(s: &[u8]) -> usize
+    ensures size { λ r. ⌜ r ≡ tagSize (now (s .entry)) ⌝ }
+    ensures inside { λ r. ⌜ (r ≤ 3) × (r ≤ length (now (s .entry))) ⌝ }
+{
+    if s.len() < 1 {
+        return 0;
+    }
+    if s[0] == 0 {
+        return 0;
+    }
+    if s[0] % 32 != 31 {
+        return 1;
+    }
+    if s.len() < 2 {
+        return 0;
+    }
+    if s[1] == 0x80 {
+        return 0;
+    }
+    if s[1] < 0x80 {
+        return 2;
+    }
+    if s.len() < 3 {
+        return 0;
+    }
+    if s[2] < 0x80 {
+        return 3;
+    }
+    0
+}
+
+// The tag at the front.
+pub fn tag_at(s: &[u8]) -> TagFront
+    ensures { λ r. ⌜ r ≡ tagAt (now (s .entry)) ⌝ }
+{
+    let size = tag_size(s);
+    if size == 0 {
+        return TagFront::Untagged;
+    }
+    let mut number: u32 = 0;
+    let mut i = 0;
+    while i < size {
+        number = number * 256 + basics::wide32(s[i]);
+        i += 1;
+    }
+    TagFront::Tagged(Tag { number, size })
+}
+
+// The length at the front.
+fn length_at(s: &[u8]) -> LengthFront
+    ensures { λ r. ⌜ r ≡ lengthAt (now (s .entry)) ⌝ }
+{
+    if s.len() < 1 {
+        return LengthFront::Unsized;
+    }
+    let b = s[0];
+    if b < 0x80 {
+        return LengthFront::Sized(Extent {
+            len: basics::wide(b),
+            size: 1,
+        });
+    }
+    if b == 0x81 {
+        if s.len() < 2 {
+            return LengthFront::Unsized;
+        }
+        return LengthFront::Sized(Extent {
+            len: basics::wide(s[1]),
+            size: 2,
+        });
+    }
+    if b == 0x82 {
+        if s.len() < 3 {
+            return LengthFront::Unsized;
+        }
+        let len = basics::wide(s[1]) * 256 + basics::wide(s[2]);
+        return LengthFront::Sized(Extent { len, size: 3 });
+    }
+    LengthFront::Unsized
+}
+
+// The first byte of a tag that is given as a number.
+fn first_byte(tag: u32) -> u32
+    ensures { λ r. ⌜ r ≡ firstByte tag ⌝ }
+{
+    if tag < 0x100 {
+        return tag;
+    }
+    if tag < 0x10000 {
+        return tag / 0x100;
+    }
+    tag / 0x10000
+}
+
+// Whether a tag marks a template.
+pub fn is_template(tag: u32) -> bool
+    ensures { λ r. ⌜ r ≡ isTemplate tag ⌝ }
+{
+    first_byte(tag) / 32 % 2 == 1
+}
+
+// Whether a tag is of the private class.
+pub fn is_private(tag: u32) -> bool
+    ensures { λ r. ⌜ r ≡ isPrivate tag ⌝ }
+{
+    first_byte(tag) / 64 == 3
+}
+
+// The object at the front.
+pub fn head(s: &[u8]) -> Front
+    ensures { λ r. ⌜ r ≡ headerOf (now (s .entry)) ⌝ }
+{
+    let front = tag_at(s);
+    let TagFront::Tagged(t) = front else {
+        return Front::Broken;
+    };
+    let at = t.size;
+    let sized = length_at(&s[at..]);
+    let LengthFront::Sized(e) = sized else {
+        return Front::Broken;
+    };
+    let start = at + e.size;
+    let len = e.len;
+    if start + len <= s.len() {
+        let tag = t.number;
+        return Front::Object(Header {
+            tag,
+            start,
+            len,
+            template: is_template(tag),
+            private: is_private(tag),
+        });
+    }
+    Front::Broken
+}
+
+// What stands next within a template's contents.
+pub fn next(s: &[u8]) -> Following
+    ensures { λ r. ⌜ r ≡ nextOf (now (s .entry)) ⌝ }
+{
+    if s.len() == 0 {
+        return Following::End;
+    }
+    let front = head(s);
+    match front {
+        Front::Object(h) => Following::Inner(h),
+        Front::Broken => Following::Malformed,
+    }
+}
