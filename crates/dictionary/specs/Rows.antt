@@ -84,42 +84,42 @@ required = 1
 
 unfoldable pub rows : List Row
 rows =
-    row 0x57       0  19 formB  card    in70    anyAnswer  optional ∷
-    row 0x5A       0  10 formCn card    in70    anyAnswer  optional ∷
-    row 0x82       2   2 formB  card    in77    anyAnswer  optional ∷
-    row 0x8C       0 250 formB  card    in70    anyAnswer  optional ∷
-    row 0x94       4 248 formB  card    in77    anyAnswer  optional ∷
-    row 0x95       5   5 formB  session nowhere noAnswer   optional ∷
-    row 0x9A       3   3 formN  start   nowhere noAnswer   required ∷
-    row 0x9C       1   1 formN  start   nowhere noAnswer   required ∷
-    row 0x5F24     3   3 formN  card    in70    anyAnswer  optional ∷
-    row 0x5F25     3   3 formN  card    in70    anyAnswer  optional ∷
-    row 0x5F28     2   2 formN  card    in70    anyAnswer  optional ∷
-    row 0x5F2A     2   2 formN  start   nowhere noAnswer   optional ∷
-    row 0x5F34     1   1 formN  card    in70    anyAnswer  optional ∷
-    row 0x9F02     6   6 formN  start   nowhere noAnswer   required ∷
-    row 0x9F03     6   6 formN  start   nowhere noAnswer   optional ∷
-    row 0x9F07     2   2 formB  card    in70    anyAnswer  optional ∷
-    row 0x9F08     2   2 formB  card    in70    anyAnswer  optional ∷
-    row 0x9F09     2   2 formB  start   nowhere noAnswer   required ∷
-    row 0x9F0D     5   5 formB  card    in70    anyAnswer  optional ∷
-    row 0x9F0E     5   5 formB  card    in70    anyAnswer  optional ∷
-    row 0x9F0F     5   5 formB  card    in70    anyAnswer  optional ∷
-    row 0x9F10     0  32 formB  card    in77    cryptogram optional ∷
-    row 0x9F1A     2   2 formN  start   nowhere noAnswer   required ∷
-    row 0x9F26     8   8 formB  card    in77    cryptogram optional ∷
-    row 0x9F27     1   1 formB  card    in77    cryptogram optional ∷
-    row 0x9F33     3   3 formB  start   nowhere noAnswer   optional ∷
-    row 0x9F35     1   1 formN  start   nowhere noAnswer   required ∷
-    row 0x9F36     2   2 formB  card    in77    cryptogram optional ∷
-    row 0x9F37     4   4 formB  start   nowhere noAnswer   required ∷
-    row 0x9F38     0 240 formB  start   nowhere noAnswer   optional ∷
-    row 0x9F40     5   5 formB  start   nowhere noAnswer   optional ∷
-    row 0xDF8120   5   5 formB  start   nowhere noAnswer   required ∷
-    row 0xDF8121   5   5 formB  start   nowhere noAnswer   required ∷
-    row 0xDF8122   5   5 formB  start   nowhere noAnswer   required ∷
-    row 0xDF8123   6   6 formN  start   nowhere noAnswer   required ∷
-    row 0xDF8124   6   6 formN  start   nowhere noAnswer   required ∷
+    row 0x57 0 19 formB card in70 anyAnswer optional ∷
+    row 0x5A 0 10 formCn card in70 anyAnswer optional ∷
+    row 0x82 2 2 formB card in77 anyAnswer optional ∷
+    row 0x8C 0 250 formB card in70 anyAnswer optional ∷
+    row 0x94 4 248 formB card in77 anyAnswer optional ∷
+    row 0x95 5 5 formB session nowhere noAnswer optional ∷
+    row 0x9A 3 3 formN start nowhere noAnswer required ∷
+    row 0x9C 1 1 formN start nowhere noAnswer required ∷
+    row 0x5F24 3 3 formN card in70 anyAnswer optional ∷
+    row 0x5F25 3 3 formN card in70 anyAnswer optional ∷
+    row 0x5F28 2 2 formN card in70 anyAnswer optional ∷
+    row 0x5F2A 2 2 formN start nowhere noAnswer optional ∷
+    row 0x5F34 1 1 formN card in70 anyAnswer optional ∷
+    row 0x9F02 6 6 formN start nowhere noAnswer required ∷
+    row 0x9F03 6 6 formN start nowhere noAnswer optional ∷
+    row 0x9F07 2 2 formB card in70 anyAnswer optional ∷
+    row 0x9F08 2 2 formB card in70 anyAnswer optional ∷
+    row 0x9F09 2 2 formB start nowhere noAnswer required ∷
+    row 0x9F0D 5 5 formB card in70 anyAnswer optional ∷
+    row 0x9F0E 5 5 formB card in70 anyAnswer optional ∷
+    row 0x9F0F 5 5 formB card in70 anyAnswer optional ∷
+    row 0x9F10 0 32 formB card in77 cryptogram optional ∷
+    row 0x9F1A 2 2 formN start nowhere noAnswer required ∷
+    row 0x9F26 8 8 formB card in77 cryptogram optional ∷
+    row 0x9F27 1 1 formB card in77 cryptogram optional ∷
+    row 0x9F33 3 3 formB start nowhere noAnswer optional ∷
+    row 0x9F35 1 1 formN start nowhere noAnswer required ∷
+    row 0x9F36 2 2 formB card in77 cryptogram optional ∷
+    row 0x9F37 4 4 formB start nowhere noAnswer required ∷
+    row 0x9F38 0 240 formB start nowhere noAnswer optional ∷
+    row 0x9F40 5 5 formB start nowhere noAnswer optional ∷
+    row 0xDF8120 5 5 formB start nowhere noAnswer required ∷
+    row 0xDF8121 5 5 formB start nowhere noAnswer required ∷
+    row 0xDF8122 5 5 formB start nowhere noAnswer required ∷
+    row 0xDF8123 6 6 formN start nowhere noAnswer required ∷
+    row 0xDF8124 6 6 formN start nowhere noAnswer required ∷
     []
 
 -- what stands past the last row
@@ -132,6 +132,13 @@ rowIn table k = getD table k blank
 
 abbrev pub rowAt : ℕ → Row
 rowAt k = rowIn rows k
+
+-- how many rows there are, and the size of a store with room for every row at its greatest length at once
+abbrev pub rowCount : ℕ
+rowCount = 36
+
+abbrev pub storeSize : ℕ
+storeSize = 943
 
 -- ---- lookup
 

@@ -23,54 +23,91 @@ pub const SIZE: usize = 943;
 
 // Forms of a value.
 pub const FORM_B: u8 = 0;
+
 pub const FORM_N: u8 = 1;
+
 pub const FORM_CN: u8 = 2;
 
 // Who may set an object.
 pub const START: u8 = 1;
+
 pub const CARD: u8 = 2;
+
 pub const SESSION: u8 = 4;
 
 // The template directly around an object.
 pub const IN_70: u8 = 1;
+
 pub const IN_77: u8 = 2;
 
 // The answer that brings an object.
 pub const OPTIONS: u8 = 1;
+
 pub const RECORD: u8 = 2;
+
 pub const CRYPTOGRAM: u8 = 4;
 
 // The rows of the tags that code uses.
 pub const ROW_5A: usize = 1;
+
 pub const ROW_82: usize = 2;
+
 pub const ROW_8C: usize = 3;
+
 pub const ROW_94: usize = 4;
+
 pub const ROW_95: usize = 5;
+
 pub const ROW_9A: usize = 6;
+
 pub const ROW_9C: usize = 7;
+
 pub const ROW_5F24: usize = 8;
+
 pub const ROW_5F25: usize = 9;
+
 pub const ROW_5F28: usize = 10;
+
 pub const ROW_9F02: usize = 13;
+
 pub const ROW_9F03: usize = 14;
+
 pub const ROW_9F07: usize = 15;
+
 pub const ROW_9F08: usize = 16;
+
 pub const ROW_9F09: usize = 17;
+
 pub const ROW_9F0D: usize = 18;
+
 pub const ROW_9F0E: usize = 19;
+
 pub const ROW_9F0F: usize = 20;
+
 pub const ROW_9F10: usize = 21;
+
 pub const ROW_9F1A: usize = 22;
+
 pub const ROW_9F26: usize = 23;
+
 pub const ROW_9F27: usize = 24;
+
 pub const ROW_9F35: usize = 26;
+
 pub const ROW_9F36: usize = 27;
+
 pub const ROW_9F38: usize = 29;
+
 pub const ROW_9F40: usize = 30;
+
 pub const ROW_DF8120: usize = 31;
+
 pub const ROW_DF8121: usize = 32;
+
 pub const ROW_DF8122: usize = 33;
+
 pub const ROW_DF8123: usize = 34;
+
 pub const ROW_DF8124: usize = 35;
 
 // The table, a column to an array: an array of numbers that is read once costs a few moves, a row to a

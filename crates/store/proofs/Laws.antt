@@ -195,6 +195,7 @@ put-put table b j k v w ne f g = go (sides j k ne)
   where
     after : {l m : ℕ} {x y : List ℕ} → Fits table b l x → Fits table b m y → Fits table (putAt table b l x) m y
     after {l} {m} {x} {y} p q = record { row = q .row; value = q .value; store = rw (put-length table b l x p) (q .store) }
+
     two : (l m : ℕ) (x y : List ℕ) → l < m → Fits table b l x → Fits table b m y → putAt table (putAt table b l x) m y ≡ putAt table (putAt table b m y) l x
     two l m x y h p q =
         let ol = offsetIn table l in
@@ -202,6 +203,7 @@ put-put table b j k v w ne f g = go (sides j k ne)
         put-sets table (putAt table b l x) m y (after p q) ∙ ap (λ (r : List ℕ). sets r om ((length y + 1) ∷ y)) (put-sets table b l x p)
         ∙ sets-sets ((length y + 1) ∷ y) ((length x + 1) ∷ x) b ol om (omega (arith, apart table l m h (p .row), p .value))
         ∙ sym (put-sets table (putAt table b m y) l x (after q p) ∙ ap (λ (r : List ℕ). sets r ol ((length x + 1) ∷ x)) (put-sets table b m y q))
+
     go : (j < k) ⊎ (k < j) → putAt table (putAt table b j v) k w ≡ putAt table (putAt table b k w) j v
     go (inl h) = two j k v w h f g
     go (inr h) = sym (two k j w v h g f)

@@ -15,7 +15,7 @@ pub rows-size : sizeOf rows ≡ 943
 unfolding rows sizeOf
 rows-size = refl
 
-rows-length : length rows ≡ 36
+pub rows-length : length rows ≡ 36
 unfolding rows
 rows-length = refl
 

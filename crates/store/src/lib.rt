@@ -3,11 +3,12 @@
 // A place is one byte of length + 1, 0 where the object is absent, and then room for the value at its
 // greatest length. So absent, present and empty, and present with bytes are apart, the zero array is
 // the empty store, and no object is refused for want of room.
-use dictionary::{ROWS, SIZE};
+use dictionary::ROWS;
+use dictionary::SIZE;
 ghost use mathlib.Core.Path.{_≡_};
 ghost use Prim.Native.Nat.{_+_, _≤_, _<_};
 ghost use lib.ListN.{length, replicate};
-ghost use Rattle.dictionary.specs.Rows.{rows, rowAt};
+ghost use Rattle.dictionary.specs.Rows.{rows, rowAt, rowCount, storeSize};
 ghost use Rattle.store.specs.Place.{offsetIn, lengthByte, storedLength, valueAt, bytesOf, isThere, putAt};
 
 pub struct Store {
@@ -23,7 +24,7 @@ const OFFSETS: [u16; ROWS] = [
 
 // The store that holds nothing.
 pub fn empty() -> Store
-    ensures { λ r. ⌜ r .bytes ≡ replicate 943 0 ⌝ }
+    ensures { λ r. ⌜ r .bytes ≡ replicate storeSize 0 ⌝ }
 {
     Store { bytes: [0u8; SIZE] }
 }
@@ -31,7 +32,7 @@ pub fn empty() -> Store
 // Where a row's place starts; the store's size past the last row.
 fn offset(row: usize) -> usize
     ensures { λ r. ⌜ r ≡ offsetIn rows row ⌝ }
-    ensures { λ r. ⌜ r ≤ 943 ⌝ }
+    ensures { λ r. ⌜ r ≤ storeSize ⌝ }
 {
     if row < ROWS {
         return basics::wide16(OFFSETS[row]);
@@ -92,10 +93,10 @@ pub fn value(bytes: &[u8], row: usize) -> &[u8]
 
 // Puts a value into a row's place, over what is there.
 pub fn put(bytes: &mut [u8; SIZE], row: usize, v: &[u8])
-    requires { ⌜ length (now bytes) ≡ 943 ⌝ }
-    requires { ⌜ (row < 36) × (length (now v) ≤ rowAt row .greatest) ⌝ }
+    requires { ⌜ length (now bytes) ≡ storeSize ⌝ }
+    requires { ⌜ (row < rowCount) × (length (now v) ≤ rowAt row .greatest) ⌝ }
     ensures stored { λ _. ⌜ now (bytes .exit) ≡ putAt rows (now (bytes .entry)) row (now (v .entry)) ⌝ }
-    ensures sized { λ _. ⌜ length (now (bytes .exit)) ≡ 943 ⌝ }
+    ensures sized { λ _. ⌜ length (now (bytes .exit)) ≡ storeSize ⌝ }
 {
     let at = offset(row);
     let start = at + 1;
@@ -109,7 +110,7 @@ pub fn put(bytes: &mut [u8; SIZE], row: usize, v: &[u8])
 
 // The store with a value in a row's place.
 pub fn with_value(store: Store, row: usize, v: &[u8]) -> Store
-    requires { ⌜ (row < 36) × (length (now v) ≤ rowAt row .greatest) ⌝ }
+    requires { ⌜ (row < rowCount) × (length (now v) ≤ rowAt row .greatest) ⌝ }
     ensures { λ r. ⌜ r .bytes ≡ putAt rows (store .bytes) row (now (v .entry)) ⌝ }
 {
     let mut out = store;

@@ -21,9 +21,9 @@ use Rattle.tlv.specs.Length.{oneByte, twoBytes, sized, lengthAt}
 use Rattle.tlv.specs.Object.{header, headerOf, valueIn, behind}
 use Rattle.tlv.specs.Tree.{Forest, end, leaf, node, nextOf, parse}
 use Rattle.tlv.specs.Encoding.{tagBytes, wellFormedTag, lengthBytes, objectBytes, encode, Encodable}
-use Rattle.tlv.proofs.Laws.{tag-some, tail-is, header-whole}
+use Rattle.tlv.proofs.Laws.{tag-some, tail-is, header-with, with-whole}
 use Rattle.tlv.proofs.Prefix.{tag-kept}
-use Rattle.tlv.proofs.NextObject.{next-end, next-object}
+use Rattle.tlv.proofs.NextObject.{next-empty, next-object}
 use Rattle.tlv.proofs.Tree.{parse-end, parse-leaf, parse-node, with-leaf, with-node}
 
 -- ---- a tag's bytes
@@ -90,9 +90,9 @@ module _ (t : ℕ) (v r : List ℕ) where
   pub header-encoded : wellFormedTag t ≡ true → headerOf bytes ≡ Object (header t start (length v))
   header-encoded w =
       let k = length (tagBytes t) in
-      header-whole bytes _ _ refl (ap tagAt apart ∙ tag-encoded t (lengthBytes (length v) ++ (v ++ r)) w)
+      header-with bytes _ _ refl (ap tagAt apart ∙ tag-encoded t (lengthBytes (length v) ++ (v ++ r)) w)
       _ refl _ (ap lengthAt (tail-is bytes k ∙ behind-tag) ∙ length-encoded (length v) (v ++ r))
-      (simp length-append (omega arith))
+      ∙ with-whole bytes _ _ (simp length-append (omega arith))
 
   next-encoded : wellFormedTag t ≡ true → nextOf bytes ≡ Inner (header t start (length v))
   next-encoded w = next-object bytes _ (header-encoded w)
@@ -101,7 +101,7 @@ module _ (t : ℕ) (v r : List ℕ) where
 
 pub parse-encode : (f : Forest) (l : ℕ) → Encodable f l → parse l (encode f) ≡ some f
 unfolding encode
-parse-encode end l u = parse-end l [] (next-end [] .1 refl)
+parse-encode end l u = parse-end l [] (next-empty [] refl)
 parse-encode (leaf t v r) l u =
     parse-leaf l _ _ (next-encoded t v (encode r) (u .0)) (u .1)
     ∙ rw (object-value t v (encode r), object-behind t v (encode r)) (with-leaf t v _ r (parse-encode r l (u .3)))

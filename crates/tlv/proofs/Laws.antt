@@ -33,27 +33,28 @@ use Rattle.tlv.specs.Object.{header, withLength, withTag, headerOf}
 past : (n k : ℕ) → k ≤ 3 → ltb (suc (suc (suc n))) k ≡ false
 past n k h = le-ltb (suc (suc (suc n))) k (omega arith)
 
+-- what is left to test once a second byte is due, and a third
+abbrev pub fromThird : List ℕ → ℕ
+fromThird s = if (ltb (length s) 3) 0 (if (goesOn (getD s 2 0)) 0 3)
+
+abbrev pub fromSecond : List ℕ → ℕ
+fromSecond s = if (ltb (length s) 2) 0 (if (eqb (getD s 1 0) 0x80) 0 (if (goesOn (getD s 1 0)) (fromThird s) 2))
+
 pub tag-size-by : (s : List ℕ) → tagSize s ≡
-    if (ltb (length s) 1) 0
-    (if (eqb (getD s 0 0) 0) 0
-    (if (isFollowed (getD s 0 0))
-    (if (ltb (length s) 2) 0
-    (if (eqb (getD s 1 0) 0x80) 0
-    (if (goesOn (getD s 1 0))
-    (if (ltb (length s) 3) 0 (if (goesOn (getD s 2 0)) 0 3))
-    2)))
-    1))
+    if (ltb (length s) 1) 0 (if (eqb (getD s 0 0) 0) 0 (if (isFollowed (getD s 0 0)) (fromSecond s) 1))
 unfolding tagSize secondByte thirdByte if
 tag-size-by [] = refl
 tag-size-by (a ∷ []) = refl
 tag-size-by (a ∷ b ∷ []) = refl
 tag-size-by (a ∷ b ∷ c ∷ s) = simp (past (length s) 1 (omega arith), past (length s) 2 (omega arith), past (length s) 3 (omega arith))
 
-pub length-by : (s : List ℕ) → lengthAt s ≡
-    if (ltb (length s) 1) Unsized
-    (if (ltb (getD s 0 0) 0x80) (sized (getD s 0 0) 1)
-    (if (eqb (getD s 0 0) 0x81) (if (ltb (length s) 2) Unsized (sized (getD s 1 0) 2))
-    (if (eqb (getD s 0 0) 0x82) (if (ltb (length s) 3) Unsized (sized (getD s 1 0 * 256 + getD s 2 0) 3)) Unsized)))
+-- what is left to test of a length once its first byte is no length itself
+abbrev pub fromLong : List ℕ → LengthFront
+fromLong s =
+    if (eqb (getD s 0 0) 0x81) (if (ltb (length s) 2) Unsized (sized (getD s 1 0) 2))
+    (if (eqb (getD s 0 0) 0x82) (if (ltb (length s) 3) Unsized (sized (getD s 1 0 * 256 + getD s 2 0) 3)) Unsized)
+
+pub length-by : (s : List ℕ) → lengthAt s ≡ if (ltb (length s) 1) Unsized (if (ltb (getD s 0 0) 0x80) (sized (getD s 0 0) 1) (fromLong s))
 unfolding lengthAt oneByte twoBytes if
 length-by [] = refl
 length-by (a ∷ []) = refl
@@ -218,29 +219,34 @@ pub header-untagged : (s : List ℕ) (x : TagFront) → x ≡ tagAt s → x ≡ 
 unfolding headerOf
 header-untagged s x p q = rw (← p, q)
 
+pub with-whole : (s : List ℕ) (t : Tag) (e : Extent) → t .size + e .size + e .len ≤ length s
+    → withLength s t (Sized e) ≡ Object (header (t .number) (t .size + e .size) (e .len))
+with-whole s t e h = if-yes _ _ (le-leb (t .size + e .size + e .len) (length s) h)
+
+-- both were read from bytes: what is left is a test, on small numbers, whether the value lies inside
+pub record HeaderRead (s : List ℕ) (t : Tag) (e : Extent) : Type 0 where
+  pub is : headerOf s ≡ withLength s t (Sized e)
+  pub small : t .size + e .size + e .len < 0x10006
+
+module _ {s : List ℕ} {t : Tag} {e : Extent} (r : HeaderRead s t e) where
+  pub header-whole : t .size + e .size + e .len ≤ length s → headerOf s ≡ Object (header (t .number) (t .size + e .size) (e .len))
+  header-whole h = r .is ∙ with-whole s t e h
+
+  pub header-short : length s < t .size + e .size + e .len → headerOf s ≡ Broken
+  header-short h = r .is ∙ if-no _ _ (lt-leb (t .size + e .size + e .len) (length s) h)
+
 module _ (s : List ℕ) (x : TagFront) (t : Tag) (p : x ≡ tagAt s) (q : x ≡ Tagged t) (y : LengthFront) (g : y ≡ lengthAt (tail s (t .size))) where
-  header-read : (z : LengthFront) → y ≡ z → headerOf s ≡ withLength s t z
+  pub header-with : (z : LengthFront) → y ≡ z → headerOf s ≡ withLength s t z
   unfolding headerOf
-  header-read z h = rw (← p, q, ← (tail-is s (t .size)), ← g, h)
+  header-with z h = rw (← p, q, ← (tail-is s (t .size)), ← g, h)
 
-  -- the value lies inside, or not
-  pub header-whole : (e : Extent) → y ≡ Sized e → t .size + e .size + e .len ≤ length s → headerOf s ≡ Object (header (t .number) (t .size + e .size) (e .len))
-  header-whole e h k = header-read (Sized e) h ∙ if-yes _ _ (le-leb (t .size + e .size + e .len) (length s) k)
-
-  pub header-short : (e : Extent) → y ≡ Sized e → length s < t .size + e .size + e .len → headerOf s ≡ Broken
-  header-short e h k = header-read (Sized e) h ∙ if-no _ _ (lt-leb (t .size + e .size + e .len) (length s) k)
-
-  pub header-unsized : y ≡ Unsized → headerOf s ≡ Broken
-  header-unsized h = header-read Unsized h
-
-  -- of bytes it is small
-  pub header-small : Bytes s → (e : Extent) → y ≡ Sized e → t .size + e .size + e .len < 0x10006
-  header-small b e h =
+  pub header-read : Bytes s → (e : Extent) → y ≡ Sized e → HeaderRead s t e
+  header-read b e h =
       let f = tag-fits s t (sym p ∙ q) in
       let z : lengthAt (drop (t .size) s) ≡ Sized e = ap lengthAt (sym (tail-is s (t .size))) ∙ sym g ∙ h in
       let l = length-fits (drop (t .size) s) e z in
       let n = length-small (drop (t .size) s) e (λ i. rw (getD-drop (t .size) s i 0) (b (t .size + i))) z in
-      omega arith
+      record { is = header-with (Sized e) h; small = omega arith }
 
 -- ---- the first byte of a number
 

@@ -27,19 +27,28 @@ lengthBytes n = if (ltb n 0x80) (n ∷ []) (if (ltb n 0x100) (0x81 ∷ n ∷ [])
 abbrev pub objectBytes : ℕ → List ℕ → List ℕ
 objectBytes t v = tagBytes t ++ (lengthBytes (length v) ++ v)
 
+-- a tree's bytes, object by object
 unfoldable pub encode : Forest → List ℕ
 encode end = []
 encode (leaf t v r) = objectBytes t v ++ encode r
 encode (node t f r) = objectBytes t (encode f) ++ encode r
 
--- a tree that can be encoded: well-formed tags, primitive at leaves and of templates at nodes, contents of at most 65,535 bytes,
--- templates nested at most so many levels deep
+-- what a template holds has one level less; with none left there is no template
 abbrev pub Deep : (ℕ → Type 0) → ℕ → Type 0
 Deep p zero = ⊥
 Deep p (suc l) = p l
 
+-- a tree that can be encoded: well-formed tags, primitive at leaves and of templates at nodes, contents of at most 65,535 bytes,
+-- templates nested at most so many levels deep
 abbrev pub Encodable : Forest → ℕ → Type 0
 Encodable end levels = Unit {0}
 Encodable (leaf t v r) levels = (wellFormedTag t ≡ true) × (isTemplate t ≡ false) × (length v < 0x10000) × Encodable r levels
 Encodable (node t f r) levels =
     (wellFormedTag t ≡ true) × (isTemplate t ≡ true) × (length (encode f) < 0x10000) × Deep (Encodable f) levels × Encodable r levels
+
+-- ---- what holds of it, proved in proofs/Encoding for all tags, lengths, values and trees, whatever bytes stand behind
+--   number-tag        a tag's bytes are its number
+--   tag-encoded       a well-formed tag's bytes are read as that tag
+--   length-encoded    a length's bytes are read as that length
+--   header-encoded    an object's bytes are read as its header
+--   parse-encode      an encodable tree's bytes parse to that tree

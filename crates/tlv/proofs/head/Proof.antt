@@ -1,13 +1,18 @@
 -- `head`: the tag that `tag_at` told and the length that `length_at` told are those of the definition; both fit, so the sums do.
 -- Assumes nothing.
 use mathlib.Core.Path.{sym, _∙_}
-use Prim.Native.Nat.{ℕ, _<_}
 use native.Mathlib.Omega.{arith}
-use lib.ListN.{getD}
 use borrow.Author.Needs.{needs}
-use Rattle.tlv.proofs.Laws.{tag-fits, header-untagged, header-unsized, header-whole, header-short, header-small}
+use Rattle.tlv.specs.declared.LengthFront.the-variants.{Unsized}
+use Rattle.tlv.proofs.Laws.{tag-fits, header-untagged, HeaderRead, header-with, header-read, header-whole, header-short}
 use Rattle.tlv.proofs.head.Statement.{statement}
 use Rattle.tlv.proofs.head.Tie as tie
+use Rattle.tlv.proofs.head.Reads as reads
+use Rattle.tlv.proofs.head.Lts as lts
+use Rattle.tlv.proofs.tag_at.Reads as tag-at
+use Rattle.tlv.proofs.length_at.Reads as length-at
+use Rattle.tlv.proofs.is_template.Reads as is-template
+use Rattle.tlv.proofs.is_private.Reads as is-private
 
 returns : tie.Need-returns
 returns c = sym (header-untagged _ _ (c .before .before .tag-at .ensures) (c .enum-told .given .1))
@@ -19,41 +24,42 @@ sub-length-at c =
     tag-fits s (g .0 .0) (sym (c .before .before .before .tag-at .ensures) ∙ g .1) .inside
 
 part-length-at-start : tie.Need-part-length-at-start
-part-length-at-start c =
-    let s = c .before .before .before .before .before .args .s .now in
-    let g = c .before .front .given in
-    let f = tag-fits s (g .0 .0) (sym (c .before .before .before .tag-at .ensures) ∙ g .1) in
-    omega arith
+part-length-at-start c = let f = sub-length-at c in omega arith
 
 returns-2 : tie.Need-returns-2
 returns-2 c =
     let g = c .before .before .before .before .before .front .given in
-    sym (header-unsized _ _ (g .0 .0) (c .before .before .before .before .before .before .before .tag-at .ensures) (g .1) _ (c .before .before .length-at .ensures) (c .enum-told2 .given .1))
+    sym (header-with _ _ (g .0 .0) (c .before .before .before .before .before .before .before .tag-at .ensures) (g .1) _ (c .before .before .length-at .ensures) Unsized (c .enum-told2 .given .1))
 
-add-if1 : tie.Need-add-if1
-add-if1 c =
-    let s = c .before .before .before .before .before .before .before .before .before .before .before .args .s .now in
+-- where both are known
+abbrev Known : Type 0
+Known =
+    lts.After-struct-known
+    (tag-at.Asked, tag-at.Learnt, length-at.Asked, length-at.Learnt, is-template.Asked, is-template.Learnt, is-private.Asked, is-private.Learnt)
+    reads.Pre reads.Post
+
+read-at : (c : Known) →
+    let b = c .before .before .before .before .before .before .before in
+    HeaderRead (b .before .before .before .before .args .s .now) (b .front .given .0 .0) (c .before .before .sized .given .0 .0)
+read-at c =
     let g = c .before .before .before .before .before .before .before .front .given in
     let z = c .before .before .sized .given in
-    let b : (i : ℕ) → getD s i 0 < 256 = λ i. omega (arith, c .before .before .before .before .before .before .before .before .before .before .shared-slice-known .given i) in
-    let n = header-small s _ (g .0 .0) (c .before .before .before .before .before .before .before .before .before .tag-at .ensures) (g .1) _ (c .before .before .before .before .length-at .ensures) b (z .0 .0) (z .1) in
-    omega arith
+    header-read _ _ (g .0 .0) (c .before .before .before .before .before .before .before .before .before .tag-at .ensures) (g .1) _ (c .before .before .before .before .length-at .ensures)
+    (λ i. omega (arith, c .before .before .before .before .before .before .before .before .before .before .shared-slice-known .given i)) (z .0 .0) (z .1)
 
 add-start : tie.Need-add-start
-add-start c = let n = add-if1 c in omega arith
+add-start c = let r = read-at c in omega arith
+
+add-if1 : tie.Need-add-if1
+add-if1 c = let r = read-at c in omega arith
 
 returns-3 : tie.Need-returns-3
 returns-3 c =
-    let g = c .before .before .before .before .before .before .before .before .before .before .front .given in
-    let z = c .before .before .before .before .before .sized .given in
     rw (c .before .is-template .ensures, c .is-private .ensures)
-    (sym (header-whole _ _ (g .0 .0) (c .before .before .before .before .before .before .before .before .before .before .before .before .tag-at .ensures) (g .1) _ (c .before .before .before .before .before .before .before .length-at .ensures) (z .0 .0) (z .1) (c .before .before .if1 .taken)))
+    (sym (header-whole (read-at (c .before .before .before)) (c .before .before .if1 .taken)))
 
 returns-4 : tie.Need-returns-4
-returns-4 c =
-    let g = c .before .before .before .before .before .before .before .before .front .given in
-    let z = c .before .before .before .sized .given in
-    sym (header-short _ _ (g .0 .0) (c .before .before .before .before .before .before .before .before .before .before .tag-at .ensures) (g .1) _ (c .before .before .before .before .before .length-at .ensures) (z .0 .0) (z .1) (c .if1 .left))
+returns-4 c = sym (header-short (read-at (c .before)) (c .if1 .left))
 
 pub head-spec : {M : Type 1} → statement M
 head-spec =

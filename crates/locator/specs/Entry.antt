@@ -1,0 +1,40 @@
+-- One entry of the file locator, tag 94 (document 01, "Commands and steps", Locator; Book C-2, A.1.15): the file and the
+-- records that its four bytes name, and the rules that they keep.
+-- Assumes nothing.
+use mathlib.Core.Bool.{Bool}
+use mathlib.Core.List.{List}
+use Prim.Native.Nat.{ℕ, _+_, _-_, _/_, _%_}
+use lib.Dec.{leb, eqb}
+use lib.ListN.{getD}
+use Rattle.basics.specs.Choice.{both}
+use Rattle.locator.specs.declared.Entry.{Entry}
+
+-- an entry from its four bytes
+abbrev pub entryOf : ℕ → ℕ → ℕ → ℕ → Entry
+entryOf a b c d = record { lead = a; first = b; last = c; offline = d }
+
+-- the entry in the first four of some bytes
+abbrev pub frontOf : List ℕ → Entry
+frontOf s = entryOf (getD s 0 0) (getD s 1 0) (getD s 2 0) (getD s 3 0)
+
+-- the file number: the top five bits of byte 1
+abbrev pub fileOf : Entry → ℕ
+fileOf e = e .lead / 8
+
+-- how many records it names: last - first + 1, and none where last is below first
+abbrev pub countOf : Entry → ℕ
+countOf e = e .last + 1 - e .first
+
+-- a number lies between two others, both counted in
+abbrev pub between : ℕ → ℕ → ℕ → Bool
+between low n high = both (leb low n) (leb n high)
+
+-- an entry keeps the rules: the low three bits of byte 1 are 0, the file number is 1 to 30, the first record is not 0,
+-- the last is not below the first, and byte 4 is at most the number of its records
+unfoldable pub keeps : Entry → Bool
+keeps e =
+    both (eqb (e .lead % 8) 0)
+    (both (between 1 (fileOf e) 30)
+    (both (leb 1 (e .first))
+    (both (leb (e .first) (e .last))
+    (leb (e .offline) (countOf e)))))

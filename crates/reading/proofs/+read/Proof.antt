@@ -1,0 +1,168 @@
+-- `reading::read` meets its contract. The recursion falls with the levels, the loop with the length of what is left. The loop's
+-- invariant: whatever the objects that are left say and leave is what all of them say and leave.
+-- Assumes nothing.
+use borrow.Author.Needs.{needs}
+use mathlib.Core.Path.{_≡_, refl, sym, ap, _∙_}
+use mathlib.Core.List.{List}
+use Prim.Native.Nat.{ℕ, _+_, _-_, _*_, _≤_, _<_}
+use native.Mathlib.Omega.{arith}
+use lib.ListN.{length, length-take, length-drop}
+use Rattle.tlv.specs.Tree.{parse, nextOf}
+use Rattle.tlv.proofs.Laws.{HeaderFits}
+use Rattle.tlv.proofs.NextObject.{next-fits}
+use Rattle.reading.specs.declared.Contents.{Contents}
+use Rattle.reading.specs.declared.Contents.the-variants.{Whole, Broken}
+use Rattle.reading.specs.Taking.{work}
+use Rattle.reading.specs.Walk.{Leaves}
+use Rattle.reading.proofs.Laws.{did}
+use Rattle.reading.proofs.Walk.{at-end, at-malformed, at-deep, at-leaf, at-node, at-broken, after-leaf, after-node}
+use borrow.Fn.Kinds.{In, Out}
+use borrow.Fn.PlainCycle.{Measures, is, falls, and}
+use Rattle.reading.proofs.read.Reads as read
+use Rattle.reading.proofs.read.Kinds as read-kinds
+use Rattle.reading.proofs.+read.Lts-read as read-lts
+use Rattle.reading.proofs.take_next.Reads as take-next-reads
+use Rattle.tlv.proofs.next.Reads as next-reads
+use Rattle.reading.proofs.+read.{statement}
+use Rattle.reading.proofs.+read.Tie.{close}
+
+abbrev μ-read : Measures 2 read-kinds.ps ℕ
+μ-read κs a = a .1 .1 .0
+
+abbrev read-at : ℕ → In 2 read-kinds.ps
+read-at t = and 2 read-kinds.ps (is 2 read-kinds.ps μ-read t) read.Pre
+
+abbrev read-below : ℕ → In 2 read-kinds.ps
+read-below t = and 2 read-kinds.ps (falls 2 read-kinds.ps _<_ μ-read t) read.Pre
+
+abbrev read-Inv-loop : read-lts.InvT-loop
+read-Inv-loop bytes around levels answer store₀ s₀ n₀ good₀ store s n good =
+    ((r : Contents) (b : List ℕ) → Leaves answer around n (work good store) (parse levels s) r b
+    → Leaves answer around n₀ (work good₀ store₀) (parse levels s₀) r b)
+    × ((length store ≡ 943) × (2 * n + length s ≤ 2 * n₀ + length s₀))
+
+abbrev read-μ-loop : read-lts.MeasureT-loop
+read-μ-loop bytes around levels answer store₀ s₀ n₀ good₀ store s n good = length s
+
+abbrev at : ℕ → (read-lts.Claims → In 2 read-kinds.ps → Out 2 read-kinds.ps read-kinds.r → read-lts.InvT-loop → read-lts.MeasureT-loop → Type 0) → Type 0
+at t f = f (next-reads.Asked, next-reads.Learnt, read-below t, read.Post, take-next-reads.Asked, take-next-reads.Learnt) (read-at t) read.Post read-Inv-loop read-μ-loop
+
+-- where an object is next: its header lies inside what is left
+fits-at : (t : ℕ) (c : at t read-lts.After-following) → HeaderFits (c .before .before .before .loop .s .now) (c .following .given .0 .0)
+fits-at t c = next-fits _ _ (sym (c .before .before .next .ensures) ∙ c .following .given .1)
+
+read-returns : (t : ℕ) → at t read-lts.Need-returns
+read-returns t c =
+    let lp = c .before .before .before .loop in
+    let a = c .before .before .before .before .before .args in
+    let e = sym (c .before .before .next .ensures) ∙ c .enum-told .given .1 in
+    (lp .inv .0 _ _ (at-end (a .answer) (a .around) (a .levels) (lp .s .now) (lp .n) (work (lp .good) (lp .store)) e), (omega arith, lp .inv .1 .0))
+
+read-returns-2 : (t : ℕ) → at t read-lts.Need-returns-2
+read-returns-2 t c =
+    let lp = c .before .before .before .loop in
+    let a = c .before .before .before .before .before .args in
+    let e = sym (c .before .before .next .ensures) ∙ c .enum-told2 .given .1 in
+    (lp .inv .0 _ _ (at-malformed (a .answer) (a .around) (a .levels) (lp .s .now) (lp .n) (work (lp .good) (lp .store)) e (lp .store)), (omega arith, lp .inv .1 .0))
+
+read-returns-3 : (t : ℕ) → at t read-lts.Need-returns-3
+read-returns-3 t c =
+    let f = c .before .before .before .before .before .before .following .given in
+    let lp = c .before .before .before .before .before .before .before .before .before .loop in
+    let a = c .before .before .before .before .before .before .before .before .before .before .before .args in
+    let e = sym (c .before .before .before .before .before .before .before .before .next .ensures) ∙ f .1 in
+    (lp .inv .0 _ _ (at-deep (a .answer) (a .around) (a .levels) (lp .s .now) (lp .n) (work (lp .good) (lp .store)) (f .0 .0) e (c .before .if1 .taken) (c .if2 .taken) (lp .store)), (omega arith, lp .inv .1 .0))
+
+read-read-requires : (t : ℕ) → at t read-lts.Need-read-requires
+read-read-requires t c κs =
+    let lp = c .before .before .before .before .before .before .before .before .before .before .loop in
+    let h = fits-at t (c .before .before .before .before .before .before .before) in
+    (omega arith, (lp .inv .1 .0, (simp (length-take, length-drop) (omega arith), c .before .before .before .before .before .before .before .before .before .before .before .before .pre .1 .1 .1)))
+
+read-returns-4 : (t : ℕ) → at t read-lts.Need-returns-4
+read-returns-4 t c =
+    let f = c .before .before .before .before .before .before .before .before .before .before .following .given in
+    let lp = c .before .before .before .before .before .before .before .before .before .before .before .before .before .loop in
+    let a = c .before .before .before .before .before .before .before .before .before .before .before .before .before .before .before .args in
+    let rd = c .before .before .read in
+    let b = rd .last .1 .1 .1 .1 .1 .0 in
+    let e = sym (c .before .before .before .before .before .before .before .before .before .before .before .before .next .ensures) ∙ f .1 in
+    let q = rw (c .enum-told3 .given .1) at (rd .ensures .0) in
+    (lp .inv .0 _ _ (at-broken (a .answer) (a .around) (a .levels) (lp .s .now) (lp .n) (work (lp .good) (lp .store)) (f .0 .0) e (c .before .before .before .before .before .if1 .taken) (c .before .before .before .before .if2 .left) b q b), (omega arith, rd .ensures .1 .1))
+
+read-loop-less : (t : ℕ) → at t read-lts.Need-loop-less
+read-loop-less t c =
+    let h = fits-at t (c .before .before .before .before .before .before .before .before .before .before .before) in
+    simp (length-take, length-drop) (omega arith)
+
+read-loop-again : (t : ℕ) → at t read-lts.Need-loop-again
+read-loop-again t c =
+    let f = c .before .before .before .before .before .before .before .before .before .before .before .following .given in
+    let lp = c .before .before .before .before .before .before .before .before .before .before .before .before .before .before .loop in
+    let a = c .before .before .before .before .before .before .before .before .before .before .before .before .before .before .before .before .args in
+    let rd = c .before .before .before .read in
+    let i = c .before .inside .given in
+    let b = rd .last .1 .1 .1 .1 .1 .0 in
+    let e = sym (c .before .before .before .before .before .before .before .before .before .before .before .before .before .next .ensures) ∙ f .1 in
+    let q = rw (i .1) at (rd .ensures .0) in
+    let m = rw (i .1) at (rd .ensures .1 .0) in (
+      λ r d g. lp .inv .0 r d (at-node (a .answer) (a .around) (a .levels) (lp .s .now) (lp .n) (work (lp .good) (lp .store)) (f .0 .0) e (c .before .before .before .before .before .before .if1 .taken) (c .before .before .before .before .before .if2 .left) (i .0 .0) b q r d g),
+      (rd .ensures .1 .1, after-node (lp .s .now) (f .0 .0) (fits-at t (c .before .before .before .before .before .before .before .before .before .before .before)) (lp .n) (i .0 .0 .objects) _ m (lp .inv .1 .1)),
+    )
+
+read-loop-less-2 : (t : ℕ) → at t read-lts.Need-loop-less-2
+read-loop-less-2 t c =
+    let h = fits-at t (c .before .before .before .before .before .before .before) in
+    simp (length-take, length-drop) (omega arith)
+
+read-loop-again-2 : (t : ℕ) → at t read-lts.Need-loop-again-2
+read-loop-again-2 t c =
+    let f = c .before .before .before .before .before .before .before .following .given in
+    let lp = c .before .before .before .before .before .before .before .before .before .before .loop in
+    let a = c .before .before .before .before .before .before .before .before .before .before .before .before .args in
+    let tk = c .take-next in
+    let b = tk .last .1 .1 .1 .1 .1 .0 in
+    let e = sym (c .before .before .before .before .before .before .before .before .before .next .ensures) ∙ f .1 in (
+      λ r d g. lp .inv .0 r d (at-leaf (a .answer) (a .around) (a .levels) (lp .s .now) (lp .n) (work (lp .good) (lp .store)) (f .0 .0) e (c .before .before .if1 .left) (work (tk .result) b) (did (tk .ensures .0) (tk .ensures .1 .0)) r d g),
+      (tk .ensures .1 .1, after-leaf (lp .s .now) (f .0 .0) (fits-at t (c .before .before .before .before .before .before .before)) (lp .n) _ (lp .inv .1 .1)),
+    )
+
+pub +read-spec : {M : Type 1} → statement M
++read-spec = close μ-read λ t. read-lts.spec (
+  next-reads.Asked,
+  next-reads.Learnt,
+  read-below t,
+  read.Post,
+  take-next-reads.Asked,
+  take-next-reads.Learnt,
+)
+    (read-at t)
+    read.Post
+    read-Inv-loop
+    read-μ-loop
+    (λ c. (λ r b h. h, (c .before .pre .1 .0, omega arith)))
+    (λ c κs. search needs)
+    (λ c. search needs)
+    (read-returns t)
+    (λ c. search needs)
+    (read-returns-2 t)
+    (λ c. search needs)
+    (λ c. let h = fits-at t (c .before .before) in omega arith)
+    (λ c. omega arith)
+    (λ c. omega arith)
+    (λ c. let h = fits-at t (c .before .before) in omega arith)
+    (λ c. let h = fits-at t (c .before .before .before) in omega arith)
+    (λ c. let h = fits-at t (c .before .before .before) in omega arith)
+    (λ c. let h = fits-at t (c .before .before .before) in omega arith)
+    (λ c. let h = fits-at t (c .before .before .before .before) in omega arith)
+    (read-returns-3 t)
+    (λ c. omega arith)
+    (read-read-requires t)
+    (λ c. search needs)
+    (λ c. search needs)
+    (read-returns-4 t)
+    (λ c κs. (c .before .before .before .before .before .before .before .before .before .loop .inv .1 .0, c .before .before .before .before .before .before .before .before .before .before .before .pre .1 .1 .1))
+    (read-loop-less t)
+    (read-loop-again t)
+    (read-loop-less-2 t)
+    (read-loop-again-2 t)

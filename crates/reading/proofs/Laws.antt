@@ -1,0 +1,75 @@
+-- The laws of taking objects: one for each way an object goes, and objects one after the other. Assumes nothing.
+use mathlib.Core.Path.{_≡_, refl, sym, ap, ap₂, _∙_}
+use mathlib.Core.Bool.{Bool, true, false, not}
+use mathlib.Core.List.{List, [], _∷_, _++_}
+use Prim.Native.Nat.{ℕ, _+_, _≤_, _<_}
+use lib.ListN.{length}
+use Rattle.basics.specs.Choice.{if, both}
+use Rattle.basics.proofs.Laws.{if-yes, if-no, both-left, both-right}
+use Rattle.tlv.specs.Tag.{isPrivate}
+use Rattle.dictionary.specs.declared.Found.{Found}
+use Rattle.dictionary.specs.declared.Found.the-variants.{At, Unknown}
+use Rattle.dictionary.specs.Rows.{rows, rowAt, find}
+use Rattle.dictionary.specs.Form.{fitting}
+use Rattle.store.specs.Place.{putAt}
+use Rattle.reading.specs.Taking.{Item, item, byCard, allowed, Work, work, takeKnown, takeFound, takeItem, takeNext, takeAll}
+
+-- ---- one object
+
+module _ (answer : ℕ) (b : List ℕ) (i : Item) (x : Found) (p : x ≡ find rows (i .tag)) where
+  pub item-unknown : x ≡ Unknown → takeItem answer b i ≡ work true b
+  unfolding takeItem
+  item-unknown q = ap (takeFound answer b i) (sym p ∙ q)
+
+  module _ (k : ℕ) (q : x ≡ At k) where
+    known : takeItem answer b i ≡ takeKnown answer b i k
+    unfolding takeItem
+    known = ap (takeFound answer b i) (sym p ∙ q)
+
+    pub item-skipped : both (isPrivate (i .tag)) (not (byCard (rowAt k))) ≡ true → takeItem answer b i ≡ work true b
+    item-skipped s = known ∙ if-yes _ _ s
+
+    pub item-stored : both (isPrivate (i .tag)) (not (byCard (rowAt k))) ≡ false → allowed answer b k (i .around) (i .value) ≡ true
+        → takeItem answer b i ≡ work true (putAt rows b k (i .value))
+    item-stored s a = known ∙ if-no _ _ s ∙ if-yes _ _ a
+
+    pub item-refused : both (isPrivate (i .tag)) (not (byCard (rowAt k))) ≡ false → allowed answer b k (i .around) (i .value) ≡ false
+        → takeItem answer b i ≡ work false b
+    item-refused s a = known ∙ if-no _ _ s ∙ if-no _ _ a
+
+-- an allowed value fits its row
+pub allowed-fits : (answer : ℕ) (b : List ℕ) (k around : ℕ) (v : List ℕ) → allowed answer b k around v ≡ true → fitting (rowAt k) v ≡ true
+unfolding allowed
+allowed-fits answer b k around v e = both-left _ _ (both-right _ _ (both-right _ _ (both-right _ _ e)))
+
+-- ---- one after the other
+
+pub next-good : (answer : ℕ) {g : Bool} (b : List ℕ) (i : Item) → g ≡ true → takeNext answer (work g b) i ≡ takeItem answer b i
+unfolding takeNext
+next-good answer b i e = if-yes _ _ e
+
+pub next-bad : (answer : ℕ) {g : Bool} (b : List ℕ) (i : Item) → g ≡ false → takeNext answer (work g b) i ≡ work g b
+unfolding takeNext
+next-bad answer b i e = if-no _ _ e
+
+pub take-join : (answer : ℕ) (w : Work) (is js : List Item) → takeAll answer w (is ++ js) ≡ takeAll answer (takeAll answer w is) js
+unfolding takeAll
+take-join answer w [] js = refl
+take-join answer w (i ∷ is) js = take-join answer (takeNext answer w i) is js
+
+-- the objects behind one that was taken
+pub took : (answer : ℕ) (w : Work) {v : Work} (i : Item) (is : List Item) → v ≡ takeNext answer w i → takeAll answer w (i ∷ is) ≡ takeAll answer v is
+unfolding takeAll
+took answer w i is e = ap (λ (z : Work). takeAll answer z is) (sym e)
+
+pub took-all : (answer : ℕ) (w : Work) → takeAll answer w [] ≡ w
+unfolding takeAll
+took-all answer w = refl
+
+-- what a function says and leaves, from the work that it did
+pub gave : {w : Work} {r : Bool} {b : List ℕ} → w ≡ work r b → length b ≡ 943 → (r ≡ w .good) × ((b ≡ w .store) × (length b ≡ 943))
+gave e l = (ap (λ (x : Work). x .good) (sym e), (ap (λ (x : Work). x .store) (sym e), l))
+
+-- the work that a function did, from what it said and left
+pub did : {w : Work} {r : Bool} {b : List ℕ} → r ≡ w .good → b ≡ w .store → work r b ≡ w
+did e f = ap₂ work e f

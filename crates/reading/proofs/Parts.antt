@@ -1,0 +1,203 @@
+-- The reading's steps in order, one law for each way out; and what a reading of the contents says of their tree. Assumes nothing.
+use mathlib.Core.Path.{_≡_, refl, sym, ap, ap₂, _∙_}
+use mathlib.Core.Bool.{Bool, true, false}
+use mathlib.Core.List.{List, [], _∷_}
+use mathlib.Core.Option.{Option, some, none}
+use Prim.Native.Nat.{ℕ, _+_, _-_, _%_, _≤_, _<_}
+use native.Mathlib.Omega.{arith}
+use lib.Dec.{leb, eqb}
+use lib.ListN.{length, take, drop}
+use borrow.Author.Tests.{eq-eqb, ne-eqb, le-leb, lt-leb}
+use Rattle.basics.specs.Choice.{both}
+use Rattle.basics.proofs.Laws.{if-yes, if-no, both-yes, both-true, both-no-left, both-no-right}
+use Rattle.tlv.specs.declared.Header.{Header}
+use Rattle.tlv.specs.declared.Front.{Front}
+use Rattle.tlv.specs.declared.Front.the-variants.{Object, Broken}
+use Rattle.tlv.specs.Object.{headerOf, valueIn}
+use Rattle.tlv.specs.Tree.{Forest, count, parse}
+use Rattle.tlv.proofs.Laws.{tail, tail-is}
+use Rattle.store.specs.declared.Store.{Store}
+use Rattle.reading.specs.declared.Awaited.{Awaited}
+use Rattle.reading.specs.declared.Awaited.the-variants.{Options, Record, Cryptogram}
+use Rattle.reading.specs.declared.Verdict.{Verdict}
+use Rattle.reading.specs.declared.Reading.{Reading}
+use Rattle.reading.specs.declared.Tally.{Tally}
+use Rattle.reading.specs.declared.Contents.{Contents}
+use Rattle.reading.specs.declared.Contents.the-variants as contents
+use Rattle.reading.specs.Taking.{Item, item, items, Work, work, takeAll}
+use Rattle.reading.specs.Walk.{tally, Leaves}
+use Rattle.reading.specs.Answer.{numberOf, Outcome, outcome, Gives, made, Body, primitive, template, templateBody, frontBody, bodyOf, answerBit, templateTag, optionsParts, issuerPart, cryptogramParts, primitiveParts, templateParts, judged, takenParts, readTree, readBody, isRead, goodStatus, goodLength, readAnswer}
+use Rattle.reading.proofs.Walk.{whole-broken}
+
+-- a reading that is made of parts gives the outcome of those parts
+pub gives : {r : Reading} (v : Verdict) (n : ℕ) (s : Store) {o : Outcome} → r ≡ made v n s → o ≡ outcome (numberOf v) n (s .bytes) → Gives r o
+gives v n s e f = record {
+  reason = ap (λ (x : Reading). numberOf (x .verdict)) e ∙ ap (λ (x : Outcome). x .reason) (sym f);
+  objects = ap (λ (x : Reading). x .objects) e ∙ ap (λ (x : Outcome). x .objects) (sym f);
+  store = ap (λ (x : Reading). x .store .bytes) e ∙ ap (λ (x : Outcome). x .store) (sym f);
+}
+
+pub regive : {r : Reading} {o p : Outcome} → o ≡ p → Gives r o → Gives r p
+regive e g = record { reason = g .reason ∙ ap (λ (x : Outcome). x .reason) e; objects = g .objects ∙ ap (λ (x : Outcome). x .objects) e; store = g .store ∙ ap (λ (x : Outcome). x .store) e }
+
+-- ---- objects that were taken
+
+pub judged-yes : (b : List ℕ) (n : ℕ) {w : Work} {g : Bool} {c : List ℕ} → w ≡ work g c → g ≡ true → judged b n w ≡ outcome 0 n c
+judged-yes b n e f = ap (judged b n) e ∙ if-yes _ _ f
+
+pub judged-no : (b : List ℕ) (n : ℕ) {w : Work} {g : Bool} {c : List ℕ} → w ≡ work g c → g ≡ false → judged b n w ≡ outcome 3 n b
+judged-no b n e f = ap (judged b n) e ∙ if-no _ _ f
+
+-- ---- the parts of a primitive body
+
+module _ (v : List ℕ) where
+  pub options-short : length v < 6 → optionsParts v ≡ none
+  unfolding optionsParts
+  options-short h = if-no _ _ (both-no-left _ _ (both-no-left _ _ (lt-leb _ _ h)))
+
+  pub options-long : 250 < length v → optionsParts v ≡ none
+  unfolding optionsParts
+  options-long h = if-no _ _ (both-no-left _ _ (both-no-right _ _ (lt-leb _ _ h)))
+
+  pub options-uneven : ((length v - 2) % 4 ≡ 0 → ⊥) → optionsParts v ≡ none
+  unfolding optionsParts
+  options-uneven h = if-no _ _ (both-no-right _ _ (ne-eqb _ _ h))
+
+  pub options-whole : 6 ≤ length v → length v ≤ 250 → (length v - 2) % 4 ≡ 0 → optionsParts v ≡ some (item 0x77 0x82 (take 2 v) ∷ item 0x77 0x94 (tail v 2) ∷ [])
+  unfolding optionsParts
+  options-whole a b c =
+      if-yes _ _ (both-yes _ _ (both-yes _ _ (le-leb _ _ a) (le-leb _ _ b)) (eq-eqb _ _ c))
+      ∙ ap (λ (z : List ℕ). some (item 0x77 0x82 (take 2 v) ∷ item 0x77 0x94 z ∷ [])) (sym (tail-is v 2))
+
+  pub cryptogram-short : length v < 11 → cryptogramParts v ≡ none
+  unfolding cryptogramParts
+  cryptogram-short h = if-no _ _ (both-no-left _ _ (lt-leb _ _ h))
+
+  pub cryptogram-long : 43 < length v → cryptogramParts v ≡ none
+  unfolding cryptogramParts
+  cryptogram-long h = if-no _ _ (both-no-right _ _ (lt-leb _ _ h))
+
+  pub cryptogram-whole : 11 ≤ length v → length v ≤ 43
+      → cryptogramParts v ≡ some (item 0x77 0x9F27 (take 1 v) ∷ item 0x77 0x9F36 (take 2 (drop 1 v)) ∷ item 0x77 0x9F26 (take 8 (drop 3 v)) ∷ issuerPart (tail v 11))
+  unfolding cryptogramParts
+  cryptogram-whole a b =
+      if-yes _ _ (both-yes _ _ (le-leb _ _ a) (le-leb _ _ b))
+      ∙ ap (λ (z : List ℕ). some (item 0x77 0x9F27 (take 1 v) ∷ item 0x77 0x9F36 (take 2 (drop 1 v)) ∷ item 0x77 0x9F26 (take 8 (drop 3 v)) ∷ issuerPart z)) (sym (tail-is v 11))
+
+module _ (t : ℕ) (v : List ℕ) where
+  pub wrong-tag : (a : Awaited) → (t ≡ 0x80 → ⊥) → primitiveParts a t v ≡ none
+  unfolding primitiveParts
+  wrong-tag Options h = if-no _ _ (ne-eqb _ _ h)
+  wrong-tag (Record f) h = refl
+  wrong-tag Cryptogram h = if-no _ _ (ne-eqb _ _ h)
+
+  pub as-options : t ≡ 0x80 → primitiveParts Options t v ≡ optionsParts v
+  unfolding primitiveParts
+  as-options h = if-yes _ _ (eq-eqb _ _ h)
+
+  pub as-cryptogram : t ≡ 0x80 → primitiveParts Cryptogram t v ≡ cryptogramParts v
+  unfolding primitiveParts
+  as-cryptogram h = if-yes _ _ (eq-eqb _ _ h)
+
+  pub as-record : (f : _) → primitiveParts (Record f) t v ≡ none
+  unfolding primitiveParts
+  as-record f = refl
+
+-- ---- a template
+
+pub template-wrong : (a : Awaited) (t : ℕ) (f : Forest) → (t ≡ templateTag a → ⊥) → templateParts a t f ≡ none
+unfolding templateParts
+template-wrong a t f h = if-no _ _ (ne-eqb _ _ h)
+
+pub template-right : (a : Awaited) (t : ℕ) (f : Forest) → t ≡ templateTag a → templateParts a t f ≡ some (items t f)
+unfolding templateParts
+template-right a t f h = if-yes _ _ (eq-eqb _ _ h)
+
+-- contents that are broken have no tree
+pub broken-contents : (answer around n : ℕ) (w : Work) (x : Option Forest) (b : List ℕ) → Leaves answer around n w x contents.Broken b → x ≡ none
+broken-contents answer around n w none b h = refl
+broken-contents answer around n w (some f) b h = absurd (whole-broken _ (sym (h .0)))
+
+-- whole contents have a tree; the tally is its count and the work that of its objects
+pub record Tree (answer around n : ℕ) (w : Work) (x : Option Forest) (u : Tally) (b : List ℕ) : Type 0 where
+  pub tree : Forest
+  pub parsed : x ≡ some tree
+  pub counted : u .objects ≡ n + count tree
+  pub taken : takeAll answer w (items around tree) ≡ work (u .good) b
+
+pub whole-contents : (answer around n : ℕ) (w : Work) (x : Option Forest) (u : Tally) (b : List ℕ) → Leaves answer around n w x (contents.Whole u) b → Tree answer around n w x u b
+whole-contents answer around n w none u b h = absurd (whole-broken u h)
+whole-contents answer around n w (some f) u b h =
+    let e : u ≡ tally (n + count f) (takeAll answer w (items around f) .good) = cc in
+    record { tree = f; parsed = refl; counted = ap (λ (z : Tally). z .objects) e; taken = sym (ap₂ work (ap (λ (z : Tally). z .good) e) (h .1)) }
+
+-- a template body, by the tree of its contents
+module _ (a : Awaited) (t : ℕ) (b c : List ℕ) (x : Option Forest) (u : Tally) (w : Tree (answerBit a) t 1 (work true b) x u c) where
+  by-tree : readTree a b (templateBody t x) ≡ takenParts a b (u .objects) (templateParts a t (w .tree))
+  by-tree =
+      ap (λ (z : Option Forest). readTree a b (templateBody t z)) (w .parsed)
+      ∙ ap (λ (n : ℕ). takenParts a b n (templateParts a t (w .tree))) (sym (w .counted))
+
+  pub tree-wrong : (t ≡ templateTag a → ⊥) → readTree a b (templateBody t x) ≡ outcome 2 (u .objects) b
+  tree-wrong h = by-tree ∙ ap (takenParts a b (u .objects)) (template-wrong a t (w .tree) h)
+
+  right-tag : t ≡ templateTag a → readTree a b (templateBody t x) ≡ judged b (u .objects) (takeAll (answerBit a) (work true b) (items t (w .tree)))
+  right-tag h = by-tree ∙ ap (takenParts a b (u .objects)) (template-right a t (w .tree) h)
+
+  pub tree-refused : t ≡ templateTag a → u .good ≡ false → readTree a b (templateBody t x) ≡ outcome 3 (u .objects) b
+  tree-refused h g = right-tag h ∙ judged-no b (u .objects) (w .taken) g
+
+  pub tree-taken : t ≡ templateTag a → u .good ≡ true → readTree a b (templateBody t x) ≡ outcome 0 (u .objects) c
+  tree-taken h g = right-tag h ∙ judged-yes b (u .objects) (w .taken) g
+
+-- ---- the body
+
+module _ (s : List ℕ) where
+  pub body-broken : headerOf s ≡ Broken → bodyOf s ≡ none
+  unfolding bodyOf
+  body-broken e = ap (frontBody s) e
+
+  module _ (h : Header) (e : headerOf s ≡ Object h) where
+    pub body-behind : (h .start + h .len ≡ length s → ⊥) → bodyOf s ≡ none
+    unfolding bodyOf
+    body-behind z = ap (frontBody s) e ∙ if-no _ _ (ne-eqb _ _ z)
+
+    pub body-template : h .start + h .len ≡ length s → h .template ≡ true → bodyOf s ≡ templateBody (h .tag) (parse 3 (valueIn s h))
+    unfolding bodyOf
+    body-template z p = ap (frontBody s) e ∙ if-yes _ _ (eq-eqb _ _ z) ∙ if-yes _ _ p
+
+    pub body-primitive : h .start + h .len ≡ length s → h .template ≡ false → bodyOf s ≡ some (primitive (h .tag) (valueIn s h))
+    unfolding bodyOf
+    body-primitive z p = ap (frontBody s) e ∙ if-yes _ _ (eq-eqb _ _ z) ∙ if-no _ _ p
+
+pub body-read : (a : Awaited) (b s : List ℕ) {x : Option Body} → bodyOf s ≡ x → readBody a b s ≡ readTree a b x
+unfolding readBody
+body-read a b s e = ap (readTree a b) e
+
+-- ---- the answer
+
+module _ (a : Awaited) (b s : List ℕ) where
+  pub answer-short : length s < 2 → readAnswer a b s ≡ outcome 2 0 b
+  unfolding readAnswer goodLength
+  answer-short h = if-no _ _ (both-no-left _ _ (lt-leb _ _ h))
+
+  pub answer-long : 258 < length s → readAnswer a b s ≡ outcome 2 0 b
+  unfolding readAnswer goodLength
+  answer-long h = if-no _ _ (both-no-right _ _ (lt-leb _ _ h))
+
+  module _ (l : 2 ≤ length s) (m : length s ≤ 258) where
+    sized : goodLength s ≡ true
+    unfolding goodLength
+    sized = both-yes _ _ (le-leb _ _ l) (le-leb _ _ m)
+
+    pub answer-status : goodStatus s ≡ false → readAnswer a b s ≡ outcome 1 0 b
+    unfolding readAnswer
+    answer-status e = if-yes _ _ sized ∙ if-no _ _ e
+
+    pub answer-unread : goodStatus s ≡ true → isRead a ≡ false → readAnswer a b s ≡ outcome 0 0 b
+    unfolding readAnswer
+    answer-unread e f = if-yes _ _ sized ∙ if-yes _ _ e ∙ if-no _ _ f
+
+    pub answer-read : goodStatus s ≡ true → isRead a ≡ true → readAnswer a b s ≡ readBody a b (take (length s - 2) s)
+    unfolding readAnswer
+    answer-read e f = if-yes _ _ sized ∙ if-yes _ _ e ∙ if-yes _ _ f

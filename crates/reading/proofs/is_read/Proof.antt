@@ -1,0 +1,22 @@
+-- `reading::is_read` meets its contract. By the answer awaited.
+-- Assumes nothing.
+use borrow.Author.Needs.{needs}
+use mathlib.Core.Path.{_≡_, sym, ap}
+use Rattle.reading.specs.Answer.{isRead}
+use Rattle.reading.proofs.is_read.Statement.{statement}
+use Rattle.reading.proofs.is_read.Tie as tie
+
+returns : tie.Need-returns
+unfolding isRead
+returns c = sym (ap isRead (c .enum-told .given .1))
+
+returns-2 : tie.Need-returns-2
+unfolding isRead
+returns-2 c = sym (ap isRead (c .before .before .awaited .given .1))
+
+returns-3 : tie.Need-returns-3
+unfolding isRead
+returns-3 c = sym (ap isRead (c .enum-told2 .given .1))
+
+pub is-read-spec : {M : Type 1} → statement M
+is-read-spec = tie.close (tie.spec (λ c. search needs) (λ c. search needs) (λ c. search needs) returns returns-2 returns-3)

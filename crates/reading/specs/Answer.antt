@@ -1,0 +1,163 @@
+-- Reading a card's answer (document 01, "Reading an answer", "Commands and steps" and the order of reasons): the length, the status,
+-- the encoding, the outer tag and body, the objects. The store is whole or as it was.
+-- Assumes nothing.
+use mathlib.Core.Path.{_≡_}
+use mathlib.Core.Bool.{Bool, true, false}
+use mathlib.Core.List.{List, [], _∷_, _++_}
+use mathlib.Core.Option.{Option, some, none}
+use Prim.Native.Nat.{ℕ, _+_, _-_, _%_}
+use lib.Dec.{ltb, leb, eqb}
+use lib.ListN.{length, getD, take, drop}
+use Rattle.basics.specs.Choice.{if, both, either}
+use Rattle.tlv.specs.declared.Header.{Header}
+use Rattle.tlv.specs.declared.Front.{Front}
+use Rattle.tlv.specs.declared.Front.the-variants.{Object, Broken}
+use Rattle.tlv.specs.Object.{headerOf, valueIn}
+use Rattle.tlv.specs.Tree.{Forest, end, leaf, node, count, parse}
+use Rattle.dictionary.specs.Rows.{options, record′, cryptogram}
+use Rattle.reading.specs.declared.Awaited.{Awaited}
+use Rattle.reading.specs.declared.Awaited.the-variants.{Options, Record, Cryptogram}
+use Rattle.reading.specs.declared.Verdict.{Verdict}
+use Rattle.reading.specs.declared.Verdict.the-variants.{Accepted, BadStatus, Malformed, NotAllowed}
+use Rattle.reading.specs.declared.Reading.{Reading}
+use Rattle.store.specs.declared.Store.{Store}
+use Rattle.reading.specs.Taking.{Item, item, items, Work, work, takeAll}
+
+-- ---- the numbers of a reading
+
+-- document 01's number of each verdict; 0 where the answer gives no reason
+abbrev pub numberOf : Verdict → ℕ
+numberOf Accepted = 0
+numberOf BadStatus = 1
+numberOf Malformed = 2
+numberOf NotAllowed = 3
+
+-- what a reading gives: the reason's number, how many objects it visited, and the store
+pub record Outcome : Type 0 where
+  pub reason : ℕ
+  pub objects : ℕ
+  pub store : List ℕ
+
+abbrev pub outcome : ℕ → ℕ → List ℕ → Outcome
+outcome r n b = record { reason = r; objects = n; store = b }
+
+-- the value r is what the reading o gives
+pub record Gives (r : Reading) (o : Outcome) : Type 0 where
+  pub reason : numberOf (r .verdict) ≡ o .reason
+  pub objects : r .objects ≡ o .objects
+  pub store : r .store .bytes ≡ o .store
+
+-- a reading of these parts
+abbrev pub made : Verdict → ℕ → Store → Reading
+made v n b = record { verdict = v; objects = n; store = b }
+
+-- ---- the body: one object with no byte behind it
+
+pub data Body : Type 0 where
+  primitive : ℕ → List ℕ → Body
+  template : ℕ → Forest → Body
+
+-- the contents of a template, with three levels left inside the outer one
+abbrev pub templateBody : ℕ → Option Forest → Option Body
+templateBody t none = none
+templateBody t (some f) = some (template t f)
+
+abbrev pub frontBody : List ℕ → Front → Option Body
+frontBody s Broken = none
+frontBody s (Object h) =
+    if (eqb (h .start + h .len) (length s))
+    (if (h .template) (templateBody (h .tag) (parse 3 (valueIn s h))) (some (primitive (h .tag) (valueIn s h))))
+    none
+
+-- the body's tree, or none where the encoding is malformed
+unfoldable pub bodyOf : List ℕ → Option Body
+bodyOf s = frontBody s (headerOf s)
+
+-- how many objects a body has, the outer one included
+abbrev pub bodyCount : Body → ℕ
+bodyCount (primitive t v) = 1
+bodyCount (template t f) = 1 + count f
+
+-- ---- the outer tag and body, and the objects that they bring
+
+-- which answer brings an object, as a bit of the dictionary's column
+abbrev pub answerBit : Awaited → ℕ
+answerBit Options = options
+answerBit (Record f) = record′
+answerBit Cryptogram = cryptogram
+
+-- a template: 70 for a record, 77 for the others
+abbrev pub templateTag : Awaited → ℕ
+templateTag Options = 0x77
+templateTag (Record f) = 0x70
+templateTag Cryptogram = 0x77
+
+-- under 80, processing options: two bytes for 82 and the rest, a multiple of 4, for 94
+unfoldable pub optionsParts : List ℕ → Option (List Item)
+optionsParts v =
+    if (both (both (leb 6 (length v)) (leb (length v) 250)) (eqb ((length v - 2) % 4) 0))
+    (some (item 0x77 0x82 (take 2 v) ∷ item 0x77 0x94 (drop 2 v) ∷ []))
+    none
+
+-- under 80, cryptogram: 9F27, 9F36, 9F26, and 9F10 if any bytes are left
+unfoldable pub issuerPart : List ℕ → List Item
+issuerPart [] = []
+issuerPart (a ∷ v) = item 0x77 0x9F10 (a ∷ v) ∷ []
+
+unfoldable pub cryptogramParts : List ℕ → Option (List Item)
+cryptogramParts v =
+    if (both (leb 11 (length v)) (leb (length v) 43))
+    (some (item 0x77 0x9F27 (take 1 v) ∷ item 0x77 0x9F36 (take 2 (drop 1 v)) ∷ item 0x77 0x9F26 (take 8 (drop 3 v)) ∷ issuerPart (drop 11 v)))
+    none
+
+-- what a primitive body brings, or none where the outer tag or body is wrong
+unfoldable pub primitiveParts : Awaited → ℕ → List ℕ → Option (List Item)
+primitiveParts Options t v = if (eqb t 0x80) (optionsParts v) none
+primitiveParts (Record f) t v = none
+primitiveParts Cryptogram t v = if (eqb t 0x80) (cryptogramParts v) none
+
+unfoldable pub templateParts : Awaited → ℕ → Forest → Option (List Item)
+templateParts a t f = if (eqb t (templateTag a)) (some (items t f)) none
+
+abbrev pub partsOf : Awaited → Body → Option (List Item)
+partsOf a (primitive t v) = primitiveParts a t v
+partsOf a (template t f) = templateParts a t f
+
+-- ---- the reading
+
+-- after the objects: the store as they left it if all were allowed, else as it was
+abbrev pub judged : List ℕ → ℕ → Work → Outcome
+judged b n w = if (w .good) (outcome 0 n (w .store)) (outcome 3 n b)
+
+abbrev pub takenParts : Awaited → List ℕ → ℕ → Option (List Item) → Outcome
+takenParts a b n none = outcome 2 n b
+takenParts a b n (some is) = judged b n (takeAll (answerBit a) (work true b) is)
+
+abbrev pub readTree : Awaited → List ℕ → Option Body → Outcome
+readTree a b none = outcome 2 0 b
+readTree a b (some body) = takenParts a b (bodyCount body) (partsOf a body)
+
+-- the body of an answer, into the store b
+unfoldable pub readBody : Awaited → List ℕ → List ℕ → Outcome
+readBody a b s = readTree a b (bodyOf s)
+
+-- files 1 to 10 are read; of the others only the status is
+unfoldable pub isRead : Awaited → Bool
+isRead Options = true
+isRead (Record f) = leb (f .number) 10
+isRead Cryptogram = true
+
+-- the two status bytes at the end are 90 00
+unfoldable pub goodStatus : List ℕ → Bool
+goodStatus s = both (eqb (getD s (length s - 2) 0) 0x90) (eqb (getD s (length s - 1) 0) 0)
+
+-- an answer has 2 to 258 bytes
+unfoldable pub goodLength : List ℕ → Bool
+goodLength s = both (leb 2 (length s)) (leb (length s) 258)
+
+-- a whole answer, status bytes included, into the store b
+unfoldable pub readAnswer : Awaited → List ℕ → List ℕ → Outcome
+readAnswer a b s =
+    if (goodLength s)
+    (if (goodStatus s) (if (isRead a) (readBody a b (take (length s - 2) s)) (outcome 0 0 b)) (outcome 1 0 b))
+    (outcome 2 0 b)

@@ -1,0 +1,82 @@
+-- Taking a card's primitive objects into a store (document 01, "Reading an answer"; Book C-2, 4.1.3): in the order of the bytes, each
+-- skipped, stored, or not allowed.
+-- Assumes nothing.
+use mathlib.Core.Bool.{Bool, true, false, not}
+use mathlib.Core.List.{List, [], _∷_, _++_}
+use Prim.Native.Nat.{ℕ}
+use lib.Dec.{eqb}
+use lib.ListN.{length}
+use Rattle.basics.specs.Choice.{if, both}
+use Rattle.basics.specs.Number.{hasBit}
+use Rattle.tlv.specs.Tag.{isPrivate}
+use Rattle.tlv.specs.Tree.{Forest, end, leaf, node}
+use Rattle.dictionary.specs.declared.Found.{Found}
+use Rattle.dictionary.specs.declared.Found.the-variants.{At, Unknown}
+use Rattle.dictionary.specs.Rows.{Row, rows, rowAt, find, card, in70, in77}
+use Rattle.dictionary.specs.Form.{fitting}
+use Rattle.store.specs.Place.{bytesOf, valueAt, putAt}
+
+-- a primitive object as it stands in an answer: the tag of the template directly around it, its own tag, its value
+pub record Item : Type 0 where
+  pub around : ℕ
+  pub tag : ℕ
+  pub value : List ℕ
+
+abbrev pub item : ℕ → ℕ → List ℕ → Item
+item a t v = record { around = a; tag = t; value = v }
+
+-- the primitive objects of a tree, in the order of the bytes
+unfoldable pub items : ℕ → Forest → List Item
+items a end = []
+items a (leaf t v r) = item a t v ∷ items a r
+items a (node t f r) = items t f ++ items a r
+
+-- a row's object may stand directly inside this template
+unfoldable pub mayStand : Row → ℕ → Bool
+mayStand r around = if (eqb around 0x70) (hasBit (r .templates) in70) (if (eqb around 0x77) (hasBit (r .templates) in77) false)
+
+-- a row's object may be set by the card
+abbrev pub byCard : Row → Bool
+byCard r = hasBit (r .setters) card
+
+-- a row holds no bytes yet: absent, or present and empty
+abbrev pub isFree : List ℕ → ℕ → Bool
+isFree b k = eqb (length (bytesOf (valueAt rows b k))) 0
+
+-- the card may set row k's object here, in this answer, with this value: the template is the named one, length and digits fit,
+-- and no non-empty one is there
+unfoldable pub allowed : ℕ → List ℕ → ℕ → ℕ → List ℕ → Bool
+allowed answer b k around v =
+    both (byCard (rowAt k)) (both (hasBit (rowAt k .answers) answer) (both (mayStand (rowAt k) around)
+    (both (fitting (rowAt k) v) (isFree b k))))
+
+-- the store while objects are taken, and whether every one so far was allowed
+pub record Work : Type 0 where
+  pub good : Bool
+  pub store : List ℕ
+
+abbrev pub work : Bool → List ℕ → Work
+work g b = record { good = g; store = b }
+
+-- a known object: private ones that the card may not set are skipped
+abbrev pub takeKnown : ℕ → List ℕ → Item → ℕ → Work
+takeKnown answer b i k =
+    if (both (isPrivate (i .tag)) (not (byCard (rowAt k)))) (work true b)
+    (if (allowed answer b k (i .around) (i .value)) (work true (putAt rows b k (i .value))) (work false b))
+
+abbrev pub takeFound : ℕ → List ℕ → Item → Found → Work
+takeFound answer b i Unknown = work true b
+takeFound answer b i (At k) = takeKnown answer b i k
+
+-- one object: unknown ones are skipped
+unfoldable pub takeItem : ℕ → List ℕ → Item → Work
+takeItem answer b i = takeFound answer b i (find rows (i .tag))
+
+-- nothing is taken after an object that is not allowed
+unfoldable pub takeNext : ℕ → Work → Item → Work
+takeNext answer w i = if (w .good) (takeItem answer (w .store) i) w
+
+-- one object after the other
+unfoldable pub takeAll : ℕ → Work → List Item → Work
+takeAll answer w [] = w
+takeAll answer w (i ∷ is) = takeAll answer (takeNext answer w i) is

@@ -1,0 +1,415 @@
+// Reading a card's answer into a store, whole or not at all.
+//
+// `read_answer` takes the whole answer with its status bytes, `read_body` the body alone. Inside, the
+// objects go into a working copy that is lent down the templates; the store that came in is handed back
+// unless every object was allowed.
+use dictionary::Found;
+use dictionary::SIZE;
+use store::Store;
+use tlv::Following;
+use tlv::Front;
+ghost use mathlib.Core.Path.{_≡_};
+ghost use mathlib.Core.Bool.{Bool, true, not};
+ghost use mathlib.Core.Option.{some};
+ghost use Prim.Native.Nat.{_+_, _*_, _^_, _≤_, _<_};
+ghost use lib.ListN.{length};
+ghost use Rattle.basics.specs.Choice.{both};
+ghost use Rattle.dictionary.specs.Rows.{rowAt, storeSize, cryptogram};
+ghost use Rattle.tlv.specs.Tag.{isPrivate};
+ghost use Rattle.tlv.specs.Tree.{parse};
+ghost use Rattle.reading.specs.Taking.{item, allowed, byCard, mayStand, work, takeItem, takeNext, takeAll};
+ghost use Rattle.reading.specs.Walk.{Leaves, counted};
+ghost use Rattle.reading.specs.Answer.{Gives, answerBit, templateTag, primitive, templateBody, optionsParts, issuerPart, cryptogramParts, takenParts, readTree, readBody, isRead, goodStatus, readAnswer, made};
+
+// A record's file.
+pub struct File {
+    pub number: u8,
+}
+
+// The answer that is awaited.
+pub enum Awaited {
+    Options,
+    Record(File),
+    Cryptogram,
+}
+
+// What a reading says of an answer.
+pub enum Verdict {
+    Accepted,
+    BadStatus,
+    Malformed,
+    NotAllowed,
+}
+
+// A reading: its verdict, how many objects it visited, templates included, and the store.
+pub struct Reading {
+    pub verdict: Verdict,
+    pub objects: usize,
+    pub store: Store,
+}
+
+// How many objects were visited so far, and whether all were allowed.
+pub struct Tally {
+    pub objects: usize,
+    pub good: bool,
+}
+
+// What the reading of some contents says.
+pub enum Contents {
+    Whole(Tally),
+    Broken,
+}
+
+// The whole answer to the command that was handed out, status bytes included.
+pub fn read_answer(store: Store, awaited: Awaited, answer: &[u8]) -> Reading
+    ensures { λ r. ⌜ Gives r (readAnswer awaited (store .bytes) (now (answer .entry))) ⌝ }
+{
+    let n = answer.len();
+    if n < 2 {
+        return made(Verdict::Malformed, 0, store);
+    }
+    if 258 < n {
+        return made(Verdict::Malformed, 0, store);
+    }
+    if !is_good(answer) {
+        return made(Verdict::BadStatus, 0, store);
+    }
+    if !is_read(awaited) {
+        return made(Verdict::Accepted, 0, store);
+    }
+    let e = n - 2;
+    read_body(store, awaited, &answer[..e])
+}
+
+// The body of an answer: one object with no byte behind it.
+pub fn read_body(store: Store, awaited: Awaited, body: &[u8]) -> Reading
+    ensures given { λ r. ⌜ Gives r (readBody awaited (store .bytes) (now (body .entry))) ⌝ }
+    ensures half { λ r. ⌜ 2 * r .objects ≤ length (now (body .entry)) ⌝ }
+{
+    let front = tlv::head(body);
+    let Front::Object(h) = front else {
+        return made(Verdict::Malformed, 0, store);
+    };
+    let start = h.start;
+    let e = start + h.len;
+    if e != body.len() {
+        return made(Verdict::Malformed, 0, store);
+    }
+    let value = &body[start..e];
+    if h.template {
+        return read_template(store, awaited, h.tag, value);
+    }
+    read_primitive(store, awaited, h.tag, value)
+}
+
+// A reading of these parts.
+fn made(verdict: Verdict, objects: usize, store: Store) -> Reading
+    ensures { λ r. ⌜ r ≡ made verdict objects store ⌝ }
+{
+    Reading {
+        verdict,
+        objects,
+        store,
+    }
+}
+
+// Whether the two bytes at the end are 90 00.
+fn is_good(answer: &[u8]) -> bool
+    requires { ⌜ 2 ≤ length (now answer) ⌝ }
+    ensures { λ r. ⌜ r ≡ goodStatus (now (answer .entry)) ⌝ }
+{
+    let n = answer.len();
+    if answer[n - 2] == 0x90 {
+        return answer[n - 1] == 0;
+    }
+    false
+}
+
+// Whether more than the status is read: of files 11 to 30 nothing is.
+fn is_read(awaited: Awaited) -> bool
+    ensures { λ r. ⌜ r ≡ isRead awaited ⌝ }
+{
+    match awaited {
+        Awaited::Options => true,
+        Awaited::Record(f) => f.number <= 10,
+        Awaited::Cryptogram => true,
+    }
+}
+
+// The answer that brings an object, as a bit of the dictionary's column.
+fn answer_bit(awaited: Awaited) -> u8
+    ensures { λ r. ⌜ r ≡ answerBit awaited ⌝ }
+    ensures { λ r. ⌜ 0 < r ⌝ }
+{
+    match awaited {
+        Awaited::Options => dictionary::OPTIONS,
+        Awaited::Record(_) => dictionary::RECORD,
+        Awaited::Cryptogram => dictionary::CRYPTOGRAM,
+    }
+}
+
+// The outer tag of an answer that is a template.
+fn template_tag(awaited: Awaited) -> u32
+    ensures { λ r. ⌜ r ≡ templateTag awaited ⌝ }
+{
+    match awaited {
+        Awaited::Options => 0x77,
+        Awaited::Record(_) => 0x70,
+        Awaited::Cryptogram => 0x77,
+    }
+}
+
+// An answer that is a template: its contents go into a working copy.
+fn read_template(store: Store, awaited: Awaited, tag: u32, value: &[u8]) -> Reading
+    requires { ⌜ length (now value) + 2 < 2 ^ 64 ⌝ }
+    ensures given { λ r. ⌜ Gives r (readTree awaited (store .bytes) (templateBody tag (parse 3 (now (value .entry))))) ⌝ }
+    ensures half { λ r. ⌜ 2 * r .objects ≤ 2 + length (now (value .entry)) ⌝ }
+{
+    let mut work = store.bytes;
+    let bit = answer_bit(awaited);
+    let contents = read(
+        value,
+        tag,
+        3,
+        bit,
+        Tally {
+            objects: 1,
+            good: true,
+        },
+        &mut work,
+    );
+    let Contents::Whole(t) = contents else {
+        return made(Verdict::Malformed, 0, store);
+    };
+    let n = t.objects;
+    if tag != template_tag(awaited) {
+        return made(Verdict::Malformed, n, store);
+    }
+    if !t.good {
+        return made(Verdict::NotAllowed, n, store);
+    }
+    made(Verdict::Accepted, n, Store { bytes: work })
+}
+
+// An answer that is a primitive object: 80, with its parts one behind the other.
+fn read_primitive(store: Store, awaited: Awaited, tag: u32, value: &[u8]) -> Reading
+    ensures given { λ r. ⌜ Gives r (readTree awaited (store .bytes) (some (primitive tag (now (value .entry))))) ⌝ }
+    ensures one { λ r. ⌜ r .objects ≡ 1 ⌝ }
+{
+    if tag != 0x80 {
+        return made(Verdict::Malformed, 1, store);
+    }
+    match awaited {
+        Awaited::Options => read_options(store, value),
+        Awaited::Record(_) => made(Verdict::Malformed, 1, store),
+        Awaited::Cryptogram => read_cryptogram(store, value),
+    }
+}
+
+// Two bytes for 82 and the rest for 94.
+fn read_options(store: Store, value: &[u8]) -> Reading
+    ensures given { λ r. ⌜ Gives r (takenParts Awaited.Options (store .bytes) 1 (optionsParts (now (value .entry)))) ⌝ }
+    ensures one { λ r. ⌜ r .objects ≡ 1 ⌝ }
+{
+    let n = value.len();
+    if n < 6 {
+        return made(Verdict::Malformed, 1, store);
+    }
+    if 250 < n {
+        return made(Verdict::Malformed, 1, store);
+    }
+    if (n - 2) % 4 != 0 {
+        return made(Verdict::Malformed, 1, store);
+    }
+    let mut work = store.bytes;
+    let bit = dictionary::OPTIONS;
+    let profile = take_next(true, 0x82, 0x77, bit, &value[..2], &mut work);
+    let locator = take_next(profile, 0x94, 0x77, bit, &value[2..], &mut work);
+    if !locator {
+        return made(Verdict::NotAllowed, 1, store);
+    }
+    made(Verdict::Accepted, 1, Store { bytes: work })
+}
+
+// 9F27, 9F36 and 9F26, and 9F10 if any bytes are left.
+fn read_cryptogram(store: Store, value: &[u8]) -> Reading
+    ensures given { λ r. ⌜ Gives r (takenParts Awaited.Cryptogram (store .bytes) 1 (cryptogramParts (now (value .entry)))) ⌝ }
+    ensures one { λ r. ⌜ r .objects ≡ 1 ⌝ }
+{
+    let n = value.len();
+    if n < 11 {
+        return made(Verdict::Malformed, 1, store);
+    }
+    if 43 < n {
+        return made(Verdict::Malformed, 1, store);
+    }
+    let mut work = store.bytes;
+    let bit = dictionary::CRYPTOGRAM;
+    let kind = take_next(true, 0x9F27, 0x77, bit, &value[..1], &mut work);
+    let counter = take_next(kind, 0x9F36, 0x77, bit, &value[1..3], &mut work);
+    let cryptogram = take_next(counter, 0x9F26, 0x77, bit, &value[3..11], &mut work);
+    let issuer = take_rest(cryptogram, &value[11..], &mut work);
+    if !issuer {
+        return made(Verdict::NotAllowed, 1, store);
+    }
+    made(Verdict::Accepted, 1, Store { bytes: work })
+}
+
+// 9F10, if any bytes are left.
+fn take_rest(good: bool, rest: &[u8], store: &mut [u8; SIZE]) -> bool
+    requires { ⌜ length (now store) ≡ storeSize ⌝ }
+    ensures said { λ r. ⌜ r ≡ takeAll cryptogram (work good (now (store .entry))) (issuerPart (now (rest .entry))) .good ⌝ }
+    ensures kept { λ _. ⌜ now (store .exit) ≡ takeAll cryptogram (work good (now (store .entry))) (issuerPart (now (rest .entry))) .store ⌝ }
+    ensures sized { λ _. ⌜ length (now (store .exit)) ≡ storeSize ⌝ }
+{
+    if rest.len() == 0 {
+        return good;
+    }
+    take_next(good, 0x9F10, 0x77, dictionary::CRYPTOGRAM, rest, store)
+}
+
+// A run of objects directly inside the template `around`, with so many levels of templates still
+// allowed, after the objects of the tally. The primitive ones are taken into the store.
+fn read(
+    bytes: &[u8],
+    around: u32,
+    levels: usize,
+    answer: u8,
+    tally: Tally,
+    store: &mut [u8; SIZE],
+) -> Contents
+    requires { ⌜ length (now store) ≡ storeSize ⌝ }
+    requires { ⌜ 2 * tally .objects + length (now bytes) < 2 ^ 64 ⌝ }
+    requires { ⌜ 0 < answer ⌝ }
+    ensures left { λ r. ⌜ Leaves answer around (tally .objects) (work (tally .good) (now (store .entry))) (parse levels (now (bytes .entry))) r (now (store .exit)) ⌝ }
+    ensures half { λ r. ⌜ 2 * counted r ≤ 2 * tally .objects + length (now (bytes .entry)) ⌝ }
+    ensures sized { λ _. ⌜ length (now (store .exit)) ≡ storeSize ⌝ }
+{
+    let mut s = bytes;
+    let mut n = tally.objects;
+    let mut good = tally.good;
+    loop {
+        let following = tlv::next(s);
+        match following {
+            Following::End => return Contents::Whole(Tally { objects: n, good }),
+            Following::Malformed => return Contents::Broken,
+            Following::Inner(h) => {
+                let start = h.start;
+                let e = start + h.len;
+                let value = &s[start..e];
+                let rest = &s[e..];
+                let one = n + 1;
+                if h.template {
+                    if levels == 0 {
+                        return Contents::Broken;
+                    }
+                    let inside = read(
+                        value,
+                        h.tag,
+                        levels - 1,
+                        answer,
+                        Tally { objects: one, good },
+                        store,
+                    );
+                    let Contents::Whole(t) = inside else {
+                        return Contents::Broken;
+                    };
+                    n = t.objects;
+                    good = t.good;
+                } else {
+                    good = take_next(good, h.tag, around, answer, value, store);
+                    n = one;
+                }
+                s = rest;
+            }
+        }
+    }
+}
+
+// The next object, unless one before it was not allowed: whether all are allowed so far.
+fn take_next(
+    good: bool,
+    tag: u32,
+    around: u32,
+    answer: u8,
+    v: &[u8],
+    store: &mut [u8; SIZE],
+) -> bool
+    requires { ⌜ length (now store) ≡ storeSize ⌝ }
+    requires { ⌜ 0 < answer ⌝ }
+    ensures said { λ r. ⌜ r ≡ takeNext answer (work good (now (store .entry))) (item around tag (now (v .entry))) .good ⌝ }
+    ensures kept { λ _. ⌜ now (store .exit) ≡ takeNext answer (work good (now (store .entry))) (item around tag (now (v .entry))) .store ⌝ }
+    ensures sized { λ _. ⌜ length (now (store .exit)) ≡ storeSize ⌝ }
+{
+    if good {
+        return take_object(tag, around, answer, v, store);
+    }
+    false
+}
+
+// One primitive object: skipped, stored, or not allowed.
+fn take_object(tag: u32, around: u32, answer: u8, v: &[u8], store: &mut [u8; SIZE]) -> bool
+    requires { ⌜ length (now store) ≡ storeSize ⌝ }
+    requires { ⌜ 0 < answer ⌝ }
+    ensures said { λ r. ⌜ r ≡ takeItem answer (now (store .entry)) (item around tag (now (v .entry))) .good ⌝ }
+    ensures kept { λ _. ⌜ now (store .exit) ≡ takeItem answer (now (store .entry)) (item around tag (now (v .entry))) .store ⌝ }
+    ensures sized { λ _. ⌜ length (now (store .exit)) ≡ storeSize ⌝ }
+{
+    let found = dictionary::lookup(tag);
+    let Found::At(row) = found else {
+        return true;
+    };
+    if is_skipped(tag, row) {
+        return true;
+    }
+    let all = &store[..];
+    if !is_allowed(all, row, around, answer, v) {
+        return false;
+    }
+    store::put(store, row, v);
+    true
+}
+
+// Whether a known object is passed over: of the private class, and not the card's to set.
+fn is_skipped(tag: u32, row: usize) -> bool
+    ensures { λ r. ⌜ r ≡ both (isPrivate tag) (not (byCard (rowAt row))) ⌝ }
+{
+    if tlv::is_private(tag) {
+        return dictionary::setters(row) / dictionary::CARD % 2 != 1;
+    }
+    false
+}
+
+// Whether the card may set a row's object here, with this value.
+fn is_allowed(bytes: &[u8], row: usize, around: u32, answer: u8, v: &[u8]) -> bool
+    requires { ⌜ 0 < answer ⌝ }
+    ensures { λ r. ⌜ r ≡ allowed answer (now (bytes .entry)) row around (now (v .entry)) ⌝ }
+{
+    if dictionary::setters(row) / dictionary::CARD % 2 != 1 {
+        return false;
+    }
+    if dictionary::answers(row) / answer % 2 != 1 {
+        return false;
+    }
+    if !may_stand(row, around) {
+        return false;
+    }
+    if !dictionary::fits(row, v) {
+        return false;
+    }
+    store::value(bytes, row).len() == 0
+}
+
+// Whether a row's object may stand directly inside a template.
+fn may_stand(row: usize, around: u32) -> bool
+    ensures { λ r. ⌜ r ≡ mayStand (rowAt row) around ⌝ }
+{
+    let templates = dictionary::templates(row);
+    if around == 0x70 {
+        return templates / dictionary::IN_70 % 2 == 1;
+    }
+    if around == 0x77 {
+        return templates / dictionary::IN_77 % 2 == 1;
+    }
+    false
+}
