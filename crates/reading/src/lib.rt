@@ -19,7 +19,7 @@ ghost use Rattle.tlv.specs.Tag.{isPrivate};
 ghost use Rattle.tlv.specs.Tree.{parse};
 ghost use Rattle.reading.specs.Taking.{item, allowed, byCard, mayStand, work, takeItem, takeNext, takeAll};
 ghost use Rattle.reading.specs.Walk.{Leaves, counted};
-ghost use Rattle.reading.specs.Answer.{Gives, answerBit, templateTag, primitive, templateBody, optionsParts, issuerPart, cryptogramParts, takenParts, readTree, readBody, isRead, goodStatus, readAnswer, made};
+ghost use Rattle.reading.specs.Answer.{Gives, numberOf, answerBit, templateTag, primitive, templateBody, optionsParts, issuerPart, cryptogramParts, takenParts, readTree, readBody, isRead, goodStatus, readAnswer, made};
 
 // A record's file.
 pub struct File {
@@ -100,6 +100,18 @@ pub fn read_body(store: Store, awaited: Awaited, body: &[u8]) -> Reading
         return read_template(store, awaited, h.tag, value);
     }
     read_primitive(store, awaited, h.tag, value)
+}
+
+// Document 01's number of a verdict; 0 where the answer gives no reason.
+pub fn number(verdict: Verdict) -> u8
+    ensures { λ r. ⌜ r ≡ numberOf verdict ⌝ }
+{
+    match verdict {
+        Verdict::Accepted => 0,
+        Verdict::BadStatus => 1,
+        Verdict::Malformed => 2,
+        Verdict::NotAllowed => 3,
+    }
 }
 
 // A reading of these parts.

@@ -1,0 +1,9 @@
+pub mod Bench
+pub mod Bits
+pub mod Decimal
+pub mod ByRow
+pub mod Laws
+pub mod Listed
+pub mod Lowest
+pub mod Stages
+pub mod Value

@@ -1,0 +1,36 @@
+-- Types compared with the numbers that a rule lists. Assumes nothing.
+use mathlib.Core.Bool.{true, false}
+use mathlib.Core.Logic.{_⊎_, inl, inr}
+use mathlib.Core.Path.{_≡_}
+use Prim.Native.Nat.{ℕ, _≤_, _<_}
+use native.Mathlib.Omega.{arith}
+use lib.Dec.{eqb}
+use borrow.Author.Tests.{eq-eqb, ne-eqb, eqb-false}
+use Rattle.basics.proofs.Laws.{bool-cases, either-left, either-right, either-no}
+use Rattle.analysis.specs.Digits.{oneOf}
+use Rattle.analysis.specs.Restrictions.{atmType}
+
+pub is-one : (x a b : ℕ) → (x ≡ a) ⊎ (x ≡ b) → oneOf x a b ≡ true
+is-one x a b (inl e) = either-left _ _ (eq-eqb x a e)
+is-one x a b (inr e) = either-right _ _ (eq-eqb x b e)
+
+pub is-none : (x a b : ℕ) → ((x ≡ a) ⊎ (x ≡ b) → ⊥) → oneOf x a b ≡ false
+is-none x a b h = either-no _ _ (ne-eqb x a (λ e. h (inl e))) (ne-eqb x b (λ e. h (inr e)))
+
+pub atm-type : (k : ℕ) → 0x14 ≤ k → k ≤ 0x16 → atmType k ≡ true
+atm-type k l h =
+    elim (bool-cases (eqb k 0x14)) [
+      | inl e ↦ either-left _ _ e
+      | inr m ↦
+          let p = eqb-false k 0x14 m in
+          elim (bool-cases (eqb k 0x15)) [
+            | inl e ↦ either-right _ _ (either-left _ _ e)
+            | inr n ↦ let q = eqb-false k 0x15 n in either-right _ _ (either-right _ _ (eq-eqb k 0x16 (omega arith)))
+          ]
+    ]
+
+pub no-atm-type : (k : ℕ) → (k < 0x14) ⊎ (0x16 < k) → atmType k ≡ false
+no-atm-type k (inl h) =
+    either-no _ _ (ne-eqb k 0x14 (λ e. omega arith)) (either-no _ _ (ne-eqb k 0x15 (λ e. omega arith)) (ne-eqb k 0x16 (λ e. omega arith)))
+no-atm-type k (inr h) =
+    either-no _ _ (ne-eqb k 0x14 (λ e. omega arith)) (either-no _ _ (ne-eqb k 0x15 (λ e. omega arith)) (ne-eqb k 0x16 (λ e. omega arith)))

@@ -1,0 +1,13 @@
+-- `byte::at` meets its contract: past the end the definition reads 0 too.
+-- Assumes nothing.
+use mathlib.Core.Path.{sym}
+use lib.ListN.{List·getD-eq-default}
+use borrow.Author.Needs.{needs}
+use Rattle.analysis.proofs.byte.at.Statement.{statement}
+use Rattle.analysis.proofs.byte.at.Tie as tie
+
+returns-2 : tie.Need-returns-2
+returns-2 c = sym (List·getD-eq-default (c .before .args .s .now) 0 (c .if1 .left))
+
+pub at-spec : {M : Type 1} → statement M
+at-spec = tie.close (tie.spec (λ c. search needs) (λ c. search needs) returns-2)

@@ -1,0 +1,17 @@
+-- `byte::five` meets its contract: the first five bytes one by one (`front-five`).
+-- Assumes nothing.
+use mathlib.Core.Path.{sym}
+use borrow.Author.Needs.{needs}
+use Rattle.analysis.proofs.Value.{front-five}
+use Rattle.analysis.proofs.byte.five.Statement.{statement}
+use Rattle.analysis.proofs.byte.five.Tie as tie
+
+returns : tie.Need-returns
+returns c =
+    simp (c .before .before .before .before .at .ensures, c .before .before .before .at2 .ensures, c .before .before .at3 .ensures, c .before .at4 .ensures, c .at5 .ensures)
+    (sym (front-five (c .before .before .before .before .before .before .args .s .now)))
+
+pub five-spec : {M : Type 1} → statement M
+five-spec =
+    tie.close
+    (tie.spec (λ c κs. search needs) (λ c κs. search needs) (λ c κs. search needs) (λ c κs. search needs) (λ c κs. search needs) returns)

@@ -1,0 +1,24 @@
+-- Bits of a value (document 01, "Result bits and the choice"): by byte and b8 to b1, as the rules name them, and by one number.
+-- Assumes nothing.
+use mathlib.Core.Bool.{Bool}
+use mathlib.Core.List.{List}
+use Prim.Native.Nat.{ℕ, _+_, _-_, _/_, _%_, _^_}
+use lib.ListN.{getD}
+use Rattle.basics.specs.Choice.{if}
+use Rattle.basics.specs.Number.{hasBit}
+
+-- bit b of a byte is set: b8 is the highest, b1 the lowest
+abbrev pub bitIn : ℕ → ℕ → Bool
+bitIn x b = hasBit x (2 ^ (b - 1))
+
+-- what bit b adds to a byte where a test sets it
+abbrev pub worth : ℕ → Bool → ℕ
+worth b set = if set (2 ^ (b - 1)) 0
+
+-- bit b of byte n of a value is set: the first byte is byte 1; past the end no bit is set
+abbrev pub has : List ℕ → ℕ → ℕ → Bool
+has s n b = bitIn (getD s (n - 1) 0) b
+
+-- bit i is set, counted from byte 1 b8 as bit 0: byte 5 b1 is bit 39
+unfoldable pub bit : List ℕ → ℕ → Bool
+bit s i = has s (i / 8 + 1) (8 - i % 8)

@@ -1,0 +1,7 @@
+pub mod Action
+pub mod Bits
+pub mod Choice
+pub mod Digits
+pub mod Restrictions
+pub mod Result
+pub mod Value

@@ -1,0 +1,91 @@
+-- Restrictions, byte 2 of 95 (document 01, "Result bits and the choice"; Book C-2, 7.7): version, dates and usage.
+-- What a session always holds comes as its bytes, what may be missing as a `Value`.
+-- Assumes nothing.
+use mathlib.Core.Bool.{Bool, true, false, not}
+use mathlib.Core.List.{List}
+use Prim.Native.Nat.{ℕ, _+_}
+use lib.Dec.{eqb, ltb}
+use Rattle.basics.specs.Choice.{if, both, either}
+use Rattle.analysis.specs.Bits.{has, worth}
+use Rattle.analysis.specs.Digits.{oneOf, laterThan, amountOf}
+use Rattle.store.specs.Place.{Value, absent, present}
+use Rattle.analysis.specs.Value.{alike}
+use Rattle.analysis.specs.declared.restrictions.Country.{Country}
+use Rattle.analysis.specs.declared.restrictions.Country.the-variants.{Home, Abroad, Untold}
+
+-- b8: the card's application version 9F08 is there and unlike the reader's 9F09
+unfoldable pub otherVersion : Value → List ℕ → Bool
+otherVersion absent reader = false
+otherVersion (present card) reader = not (alike card reader)
+
+-- b7: the transaction date 9A is later than the expiration date 5F24
+abbrev pub expired : List ℕ → List ℕ → Bool
+expired today expiration = laterThan today expiration
+
+-- b6: the effective date 5F25 is there and later than the transaction date 9A
+unfoldable pub notYet : Value → List ℕ → Bool
+notYet absent today = false
+notYet (present effective) today = laterThan effective today
+
+-- ---- b5: usage
+
+-- a terminal type, 9F35, of an ATM
+abbrev pub atmType : ℕ → Bool
+atmType kind = either (eqb kind 0x14) (either (eqb kind 0x15) (eqb kind 0x16))
+
+-- at an ATM: such a type, and the additional capabilities 9F40 there with byte 1 b8, cash
+unfoldable pub atAtm : ℕ → Value → Bool
+atAtm kind absent = false
+atAtm kind (present capabilities) = both (atmType kind) (has capabilities 1 8)
+
+-- home where the issuer's country 5F28 is the terminal's 9F1A, else abroad; untold where 5F28 is absent
+unfoldable pub countryOf : Value → List ℕ → Country
+countryOf absent terminal = Untold
+countryOf (present issuer) terminal = if (alike issuer terminal) Home Abroad
+
+-- cashback is asked for: the other amount 9F03 is there and not zero
+unfoldable pub cashback : Value → Bool
+cashback absent = false
+cashback (present other) = ltb 0 (amountOf other)
+
+-- what is needed at home, and what abroad; nothing where the country is untold
+abbrev pub byCountry : Country → Bool → Bool → Bool
+byCountry Home home abroad = home
+byCountry Abroad home abroad = abroad
+byCountry Untold home abroad = true
+
+-- the place: byte 1 b2 at an ATM, else b1
+unfoldable pub placeMet : List ℕ → Bool → Bool
+placeMet usage atm = if atm (has usage 1 2) (has usage 1 1)
+
+-- cash, transaction type 9C of 01 or 17: byte 1 b8 at home, b7 abroad
+unfoldable pub cashMet : List ℕ → Country → ℕ → Bool
+cashMet usage country transaction =
+    if (oneOf transaction 0x01 0x17) (byCountry country (has usage 1 8) (has usage 1 7)) true
+
+-- goods or services, type of 00 or 09: byte 1 b6 or b4 at home, b5 or b3 abroad
+unfoldable pub goodsMet : List ℕ → Country → ℕ → Bool
+goodsMet usage country transaction =
+    if (oneOf transaction 0x00 0x09)
+    (byCountry country (either (has usage 1 6) (has usage 1 4)) (either (has usage 1 5) (has usage 1 3)))
+    true
+
+-- cashback: byte 2 b8 at home, b7 abroad
+unfoldable pub backMet : List ℕ → Country → Bool → Bool
+backMet usage country back = if back (byCountry country (has usage 2 8) (has usage 2 7)) true
+
+-- the application usage control 9F07 is there and something needed is not met
+unfoldable pub usageBroken : Value → Bool → Country → ℕ → Bool → Bool
+usageBroken absent atm country transaction back = false
+usageBroken (present usage) atm country transaction back =
+    not (both (placeMet usage atm) (both (cashMet usage country transaction) (both (goodsMet usage country transaction) (backMet usage country back))))
+
+-- b5 over the values themselves: 9F07, the terminal's type, 9F40, 5F28, 9F1A, 9C and 9F03
+abbrev pub usageOf : Value → ℕ → Value → Value → List ℕ → ℕ → Value → Bool
+usageOf control kind capabilities issuer terminal transaction other =
+    usageBroken control (atAtm kind capabilities) (countryOf issuer terminal) transaction (cashback other)
+
+-- ---- the byte of the four
+
+abbrev pub restrictionBits : Bool → Bool → Bool → Bool → ℕ
+restrictionBits version expired early usage = worth 8 version + worth 7 expired + worth 6 early + worth 5 usage

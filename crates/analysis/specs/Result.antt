@@ -1,0 +1,14 @@
+-- The result bits, 95 (document 01, "Result bits and the choice"): the floor limit's byte, and the five bytes put together.
+-- Assumes nothing.
+use mathlib.Core.List.{List, [], _∷_}
+use Prim.Native.Nat.{ℕ}
+use Rattle.analysis.specs.Bits.{worth}
+use Rattle.analysis.specs.Digits.{amountAbove}
+
+-- byte 4: b8, the amount 9F02 is above the floor limit DF8123
+abbrev pub floorBits : List ℕ → List ℕ → ℕ
+floorBits amount limit = worth 8 (amountAbove amount limit)
+
+-- byte 1 has b8 alone, byte 2 the restrictions, byte 4 the floor limit
+abbrev pub resultBits : ℕ → ℕ → List ℕ
+resultBits restrictions floor = 0x80 ∷ restrictions ∷ 0 ∷ floor ∷ 0 ∷ []

@@ -1,0 +1,54 @@
+// Dates and amounts, two digits to a byte, compared as decimal numbers.
+use crate::byte;
+ghost use mathlib.Core.Path.{_≡_};
+ghost use mathlib.Core.List.{[], _∷_};
+ghost use Prim.Native.Nat.{_+_, _≤_};
+ghost use lib.ListN.{getD};
+ghost use Rattle.analysis.specs.Digits.{decimal, twoDigits, dateOf, laterThan, amountOf, amountAbove};
+
+// Date a, YYMMDD, is later than date b. Of each the first three bytes count, and bytes past the end are 0.
+pub fn later(a: &[u8], b: &[u8]) -> bool
+    ensures { λ r. ⌜ r ≡ laterThan (now (a .entry)) (now (b .entry)) ⌝ }
+{
+    date_of(b) < date_of(a)
+}
+
+// Amount a is above amount b; an equal one is not. Of each the first six bytes count, and bytes past the end are 0.
+pub fn above(a: &[u8], b: &[u8]) -> bool
+    ensures { λ r. ⌜ r ≡ amountAbove (now (a .entry)) (now (b .entry)) ⌝ }
+{
+    amount_of(b) < amount_of(a)
+}
+
+// The six digits of a date.
+fn date_of(s: &[u8]) -> u64
+    ensures { λ r. ⌜ r ≡ dateOf (now (s .entry)) ⌝ }
+{
+    six_digits(s, 0)
+}
+
+// The twelve digits of an amount.
+pub fn amount_of(s: &[u8]) -> u64
+    ensures { λ r. ⌜ r ≡ amountOf (now (s .entry)) ⌝ }
+{
+    six_digits(s, 0) * 1000000 + six_digits(s, 3)
+}
+
+// The six digits in the three bytes from a place on.
+fn six_digits(s: &[u8], i: usize) -> u64
+    requires { ⌜ i ≤ 3 ⌝ }
+    ensures { λ r. ⌜ (r ≡ decimal (getD (now (s .entry)) i 0 ∷ getD (now (s .entry)) (i + 1) 0 ∷ getD (now (s .entry)) (i + 2) 0 ∷ [])) × (r ≤ 1666665) ⌝ }
+{
+    two_digits(byte::at(s, i)) * 10000
+        + two_digits(byte::at(s, i + 1)) * 100
+        + two_digits(byte::at(s, i + 2))
+}
+
+// The two digits of a byte.
+fn two_digits(b: u8) -> u64
+    ensures { λ r. ⌜ (r ≡ twoDigits b) × (r ≤ 165) ⌝ }
+{
+    let high = (b / 16) as u64;
+    let low = (b % 16) as u64;
+    high * 10 + low
+}

@@ -1,0 +1,9 @@
+pub mod Buffer
+pub mod Entries
+pub mod Fitting
+pub mod Filling
+pub mod Writing
+pub mod Bytes
+pub mod Parts
+pub mod Commands
+pub mod Examples

@@ -1,0 +1,167 @@
+-- What a measured list gives, which lists a command takes, and how a command's parts, written one by one, are the command at the
+-- buffer's front.
+-- Assumes nothing.
+use mathlib.Core.Path.{_≡_, refl, sym, ap, ap₂, _∙_}
+use mathlib.Core.List.{List, [], _∷_, _++_, append-assoc}
+use mathlib.Core.Logic.{inl, inr}
+use mathlib.Core.Option.{Option, some, none}
+use Prim.Native.Nat.{ℕ, suc, _+_, _-_, _≤_, _<_}
+use native.Mathlib.Omega.{arith}
+use lib.Dec.{leb}
+use lib.ListN.{length, getD, take, drop, set, take-append-drop, length-take, length-drop, length-append}
+use lib.Seq.{drop-cons, drop-drop, set-at, append-snoc, sets, sets-eq}
+use borrow.Author.Tests.{lt-ltb, le-ltb, le-leb, lt-leb, leb-false}
+use Rattle.basics.proofs.Laws.{if-yes, if-no, both-yes, both-no-left, both-no-right, bool-cases}
+use Rattle.basics.proofs.Order.{le-or-gt}
+use Rattle.tlv.specs.Encoding.{lengthBytes}
+use Rattle.dictionary.specs.Rows.{Row, rows}
+use Rattle.dictionary.proofs.Named.{at-8C, at-9F38}
+use Rattle.store.specs.Place.{bytesOf, valueAt}
+use Rattle.store.proofs.Laws.{by-row}
+use Rattle.data_list.specs.declared.Entry.{Entry}
+use Rattle.data_list.specs.declared.Written.{Written}
+use Rattle.data_list.specs.declared.Measured.the-variants.{Total, Unfit}
+use Rattle.data_list.specs.Entries.{total, measured, Room}
+use Rattle.data_list.specs.Filling.{fillingOf, filledBy, filled}
+use Rattle.data_list.specs.Commands.{command, optionsHead, optionsData, optionsOf, processingOptions, cryptogramOf, generateAc, handed, written, bufferWith}
+use Rattle.data_list.specs.Buffer.{over}
+use Rattle.data_list.proofs.Buffer.{over-there, over-cover}
+use Rattle.data_list.proofs.Entries.{whole}
+use Rattle.data_list.proofs.Filling.{filling-length, filled-some}
+
+-- ---- what a measured list gives
+
+-- a list with a total: its filling has that length, and room where so many bytes are left
+pub record Fills (table : List Row) (store : List ℕ) (x : Option (List Entry)) (n : ℕ) : Type 0 where
+  pub bytes : List ℕ
+  pub is : filledBy table store x ≡ some bytes
+  pub long : length bytes ≡ n
+  pub few : n ≤ 255
+  pub room : (at m : ℕ) → at + n ≤ m → Room x at m
+
+module _ (table : List Row) (store : List ℕ) (x : Option (List Entry)) where
+  pub fills : (n : ℕ) → measured x ≡ Total n → Fills table store x n
+  fills n p =
+      let w = whole x n p in
+      let s = w .sum in
+      record {
+        bytes = fillingOf table store (w .list);
+        is = filled-some table store x (w .list) (w .is);
+        long = filling-length table store (w .list) ∙ s;
+        few = w .few;
+        room = λ at m h. rw (w .is) (omega arith);
+      }
+
+  -- a list without one: nothing that refuses a broken list and a filling over 255 bytes takes it
+  pub unfit : (f : Option (List ℕ) → Option (List ℕ)) → f none ≡ none → ((v : List ℕ) → 255 < length v → f (some v) ≡ none)
+      → measured x ≡ Unfit → f (filledBy table store x) ≡ none
+  unfolding measured filledBy
+  unfit f broken long p = go x p
+    where
+      go : (x : Option (List Entry)) → measured x ≡ Unfit → f (filledBy table store x) ≡ none
+      go none q = broken
+      go (some es) q = elim (bool-cases (leb (total es) 255)) [
+        | inl t ↦ let i : Total (total es) ≡ Unfit = sym (if-yes _ _ t) ∙ q in let z : _≡_ {A = ℕ} 0 1 = cc in absurd (omega arith)
+        | inr t ↦ long (fillingOf table store es) (omega (arith, leb-false (total es) 255 t, filling-length table store es))
+      ]
+
+-- ---- which lists a command takes
+
+pub options-broken : optionsOf none ≡ none
+unfolding optionsOf
+options-broken = refl
+
+pub options-long : (v : List ℕ) → 252 < length v → optionsOf (some v) ≡ none
+unfolding optionsOf
+options-long v h = if-no _ _ (lt-leb (length v) 252 h)
+
+pub options-some : (v : List ℕ) → length v ≤ 252 → optionsOf (some v) ≡ some (command 0xA8 0 (optionsData v))
+unfolding optionsOf
+options-some v h = if-yes _ _ (le-leb (length v) 252 h)
+
+pub cryptogram-broken : (p1 : ℕ) → cryptogramOf p1 none ≡ none
+unfolding cryptogramOf
+cryptogram-broken p1 = refl
+
+pub cryptogram-empty : (p1 : ℕ) (v : List ℕ) → length v ≡ 0 → cryptogramOf p1 (some v) ≡ none
+unfolding cryptogramOf
+cryptogram-empty p1 v h = if-no _ _ (both-no-left _ _ (lt-leb 1 (length v) (omega arith)))
+
+pub cryptogram-long : (p1 : ℕ) (v : List ℕ) → 255 < length v → cryptogramOf p1 (some v) ≡ none
+unfolding cryptogramOf
+cryptogram-long p1 v h = if-no _ _ (both-no-right _ _ (lt-leb (length v) 255 h))
+
+pub cryptogram-some : (p1 : ℕ) (v : List ℕ) → 1 ≤ length v → length v ≤ 255 → cryptogramOf p1 (some v) ≡ some (command 0xAE p1 v)
+unfolding cryptogramOf
+cryptogram-some p1 v h k = if-yes _ _ (both-yes _ _ (le-leb 1 (length v) h) (le-leb (length v) 255 k))
+
+-- the lists, by their rows
+pub options-of : (store list : List ℕ) → list ≡ bytesOf (valueAt rows store 29) → processingOptions store ≡ optionsOf (filled rows store list)
+unfolding processingOptions
+options-of store list p = ap (λ (l : List ℕ). optionsOf (filled rows store l)) (ap bytesOf (by-row rows store 0x9F38 29 at-9F38) ∙ sym p)
+
+pub cryptogram-of : (p1 : ℕ) (store list : List ℕ) → list ≡ bytesOf (valueAt rows store 3) → generateAc p1 store ≡ cryptogramOf p1 (filled rows store list)
+unfolding generateAc
+cryptogram-of p1 store list p = ap (λ (l : List ℕ). cryptogramOf p1 (filled rows store l)) (ap bytesOf (by-row rows store 0x8C 3 at-8C) ∙ sym p)
+
+-- ---- the parts of a command
+
+pub head-short : (n : ℕ) → n < 128 → optionsHead n ≡ 0x83 ∷ n ∷ []
+unfolding lengthBytes
+head-short n h = ap (λ (l : List ℕ). 0x83 ∷ l) (if-yes _ _ (lt-ltb n 0x80 h))
+
+pub head-long : (n : ℕ) → 128 ≤ n → n < 256 → optionsHead n ≡ 0x83 ∷ 0x81 ∷ n ∷ []
+unfolding lengthBytes
+head-long n h k = ap (λ (l : List ℕ). 0x83 ∷ l) (if-no _ _ (le-ltb n 0x80 h) ∙ if-yes _ _ (lt-ltb n 0x100 k))
+
+pub head-length : (n : ℕ) → n < 256 → (2 ≤ length (optionsHead n)) × (length (optionsHead n) ≤ 3)
+head-length n h = elim (le-or-gt 128 n) [
+  | inl k ↦ let e = ap length (head-long n k h) in (omega arith, omega arith)
+  | inr k ↦ let e = ap length (head-short n k) in (omega arith, omega arith)
+]
+
+-- the header before the data, and 00 behind it
+module _ (ins p1 : ℕ) (b : List ℕ) (end : ℕ) (h : 5 ≤ end) (k : end < length b) where
+  abbrev front : List ℕ
+  front = 0x80 ∷ ins ∷ p1 ∷ 0 ∷ (end - 5) ∷ []
+
+  abbrev body : List ℕ
+  body = take (end - 5) (drop 5 b)
+
+  body-length : length body ≡ end - 5
+  body-length = simp (length-take, length-drop) (omega arith)
+
+  pub closed : set (sets b 0 front) end 0 ≡ over b 0 (command ins p1 body)
+  unfolding over
+  closed =
+      let f : 5 ≤ length b = omega arith in
+      let l : length (front ++ body) ≡ end = simp body-length (omega arith) in
+      let m : 0 + length (command ins p1 body) ≡ suc end = simp (length-append, body-length) (omega arith) in
+      let e : 5 + (end - 5) ≡ end = omega arith in
+      let r : drop 5 b ≡ body ++ (getD b end 0 ∷ drop (suc end) b) = sym (take-append-drop (end - 5) (drop 5 b)) ∙ ap (λ (x : List ℕ). body ++ x) (drop-drop (end - 5) 5 b ∙ rw e (drop-cons b end 0 k)) in
+      ap (λ (x : List ℕ). set x end 0) (sets-eq front b 0 f ∙ ap (λ (x : List ℕ). front ++ x) r ∙ sym (append-assoc front body _))
+      ∙ set-at (front ++ body) (getD b end 0) (drop (suc end) b) 0 end l
+      ∙ sym (ap₂ (λ (n : ℕ) (x : List ℕ). 0x80 ∷ ins ∷ p1 ∷ 0 ∷ n ∷ x) body-length (rw m (append-snoc body 0 (drop (suc end) b))))
+
+-- the data w from place 5 on, and then closed: the command stands at the front, and all behind it stays
+module _ (ins p1 : ℕ) (b w : List ℕ) (end : ℕ) (h : 5 + length w < length b) (e : end ≡ 5 + length w) where
+  pub command-length : handed (end + 1) ≡ written (some (command ins p1 w))
+  command-length = let l : end + 1 ≡ length (command ins p1 w) = simp length-append (omega arith) in ap handed l
+
+  pub command-front : (y z : List ℕ) → y ≡ over b 5 w → z ≡ over y 0 (command ins p1 (take (end - 5) (drop 5 y))) → z ≡ bufferWith (some (command ins p1 w)) b
+  unfolding over
+  command-front y z p q =
+      let f : 5 + length w ≤ length b = omega arith in
+      let l : end - 5 ≡ length w = omega arith in
+      let k : 5 + length w ≤ length (command ins p1 w) = simp length-append (omega arith) in
+      let m : 0 + length (command ins p1 w) ≡ length (command ins p1 w) = omega arith in
+      let d : take (end - 5) (drop 5 y) ≡ w = rw (l, p) (over-there b 5 w f) in
+      q ∙ rw (d, p) (over-cover b 5 w f (command ins p1 w) k ∙ ap (λ (n : ℕ). command ins p1 w ++ drop n b) m)
+
+-- what a call states of its result and of the whole buffer, where there is no command, and where there is one
+pub none-written : (x : Option (List ℕ)) (b : List ℕ) → x ≡ none → (written none ≡ written x) × (b ≡ bufferWith x b)
+none-written x b e = (ap written (sym e), ap (λ (y : Option (List ℕ)). bufferWith y b) (sym e))
+
+pub some-written : (x : Option (List ℕ)) (c b z : List ℕ) (r : Written) → x ≡ some c → r ≡ written (some c) → z ≡ bufferWith (some c) b
+    → (r ≡ written x) × (z ≡ bufferWith x b)
+some-written x c b z r e p q = (p ∙ ap written (sym e), q ∙ ap (λ (y : Option (List ℕ)). bufferWith y b) (sym e))

@@ -1,0 +1,73 @@
+-- `write_entry`: one law of the entry's bytes for each thing that its tag can be.
+-- Assumes nothing.
+use mathlib.Core.Path.{_≡_, sym, ap, _∙_}
+use mathlib.Core.List.{List}
+use Prim.Native.Nat.{ℕ}
+use borrow.Author.Needs.{needs}
+use borrow.Author.Tests.{not-true, not-false}
+use Rattle.dictionary.specs.Rows.{rows}
+use Rattle.data_list.specs.Filling.{zeros}
+use Rattle.data_list.specs.Buffer.{over}
+use Rattle.data_list.proofs.Filling.{of-template, of-unknown, of-absent, of-present}
+use Rattle.data_list.proofs.write_entry.Statement.{statement}
+use Rattle.data_list.proofs.write_entry.Tie as tie
+
+-- zeros as many as are asked
+zeros-of : (b : List ℕ) (at n m : ℕ) (x y : List ℕ) → x ≡ over b at (zeros n) → n ≡ m → y ≡ zeros m → x ≡ over b at y
+zeros-of b at n m x y p e q = p ∙ rw (e, q)
+
+returns : tie.Need-returns
+returns c =
+    let a = c .before .before .before .before .before .before .before .before .before .args in
+    let t = sym (c .before .before .before .before .before .is-template .ensures) ∙ c .before .before .before .before .if1 .taken in
+    zeros-of _ _ _ _ _ _ (c .before .before .repeat .ensures) (c .before .before .before .before .before .before .wide .ensures .0) (of-template rows (a .store .now) (a .entry) t)
+
+returns-2 : tie.Need-returns-2
+returns-2 c =
+    let a = c .before .before .before .before .before .before .before .before .before .before .before .before .args in
+    let t = sym (c .before .before .before .before .before .before .before .before .is-template .ensures) ∙ c .before .before .before .before .before .before .before .if1 .left in
+    let f = sym (c .before .before .before .before .before .before .lookup .ensures .0) ∙ c .before .before .before .before .enum-told .given .1 in
+    zeros-of _ _ _ _ _ _ (c .before .before .repeat2 .ensures) (c .before .before .before .before .before .before .before .before .before .wide .ensures .0) (of-unknown rows (a .store .now) (a .entry) t f)
+
+returns-3 : tie.Need-returns-3
+returns-3 c =
+    let a = c .before .before .before .before .before .before .before .before .before .before .before .before .before .before .before .args in
+    let t = sym (c .before .before .before .before .before .before .before .before .before .before .before .is-template .ensures) ∙ c .before .before .before .before .before .before .before .before .before .before .if1 .left in
+    let f = sym (c .before .before .before .before .before .before .before .before .before .lookup .ensures .0) ∙ c .before .before .before .before .before .before .before .found .given .1 in
+    let i = sym (c .before .before .before .before .before .is-there .ensures) ∙ not-true _ (c .before .before .before .before .if2 .taken) in
+    zeros-of _ _ _ _ _ _ (c .before .before .repeat3 .ensures) (c .before .before .before .before .before .before .before .before .before .before .before .before .wide .ensures .0) (of-absent rows (a .store .now) (a .entry) _ t f i)
+
+returns-4 : tie.Need-returns-4
+returns-4 c =
+    let a = c .before .before .before .before .before .before .before .before .before .before .before .before .before .before .before .before .before .args in
+    let t = sym (c .before .before .before .before .before .before .before .before .before .before .before .before .before .is-template .ensures) ∙ c .before .before .before .before .before .before .before .before .before .before .before .before .if1 .left in
+    let f = sym (c .before .before .before .before .before .before .before .before .before .before .before .lookup .ensures .0) ∙ c .before .before .before .before .before .before .before .before .before .found .given .1 in
+    let i = sym (c .before .before .before .before .before .before .before .is-there .ensures) ∙ not-false _ (c .before .before .before .before .before .before .if2 .left) in
+    c .before .before .write-value .ensures
+    ∙ ap (over (a .buffer .now) (a .at))
+    (rw (c .before .before .before .before .before .form .ensures, c .before .before .before .before .before .before .before .before .before .before .before .before .before .before .wide .ensures .0, c .before .before .before .before .value .ensures) (sym (of-present rows (a .store .now) (a .entry) _ t f i)))
+
+pub write-entry-spec : {M : Type 1} → statement M
+write-entry-spec =
+    tie.close
+    (tie.spec
+    (λ c κs. search needs)
+    (λ c κs. search needs)
+    (λ c κs. search needs)
+    (λ c. search needs)
+    returns
+    (λ c κs. search needs)
+    (λ c. search needs)
+    (λ c. search needs)
+    (λ c κs. search needs)
+    (λ c. search needs)
+    returns-2
+    (λ c κs. search needs)
+    (λ c κs. search needs)
+    (λ c. search needs)
+    returns-3
+    (λ c κs. search needs)
+    (λ c κs. search needs)
+    (λ c κs. search needs)
+    (λ c. search needs)
+    returns-4)

@@ -1,0 +1,69 @@
+-- The commands that carry a filled list (document 01, "Commands and steps"): processing options and generate AC.
+-- Assumes nothing.
+use mathlib.Core.List.{List, [], _∷_, _++_}
+use mathlib.Core.Option.{Option, some, none}
+use Prim.Native.Nat.{ℕ}
+use lib.Dec.{leb}
+use lib.ListN.{length, drop}
+use Rattle.basics.specs.Choice.{if, both}
+use Rattle.tlv.specs.Encoding.{lengthBytes}
+use Rattle.dictionary.specs.Rows.{rows}
+use Rattle.store.specs.Place.{bytesOf, valueOf}
+use Rattle.data_list.specs.declared.Written.{Written}
+use Rattle.data_list.specs.declared.Written.the-variants.{Command, NoCommand}
+use Rattle.data_list.specs.Filling.{filled}
+
+-- a command of class 80: instruction, P1, P2 of 00, Lc, data, Le of 00
+abbrev pub command : ℕ → ℕ → List ℕ → List ℕ
+command ins p1 body = 0x80 ∷ ins ∷ p1 ∷ 0 ∷ length body ∷ (body ++ (0 ∷ []))
+
+-- ---- processing options
+
+-- tag 83, and the length in one byte to 127, in 81 and a byte above
+abbrev pub optionsHead : ℕ → List ℕ
+optionsHead n = 0x83 ∷ lengthBytes n
+
+-- then the filled list
+abbrev pub optionsData : List ℕ → List ℕ
+optionsData v = optionsHead (length v) ++ v
+
+-- no command for a broken list or over 252 filled bytes
+unfoldable pub optionsOf : Option (List ℕ) → Option (List ℕ)
+optionsOf none = none
+optionsOf (some v) = if (leb (length v) 252) (some (command 0xA8 0 (optionsData v))) none
+
+-- the command that a store gives; an absent 9F38 counts as an empty one
+unfoldable pub processingOptions : List ℕ → Option (List ℕ)
+processingOptions store = optionsOf (filled rows store (bytesOf (valueOf store 0x9F38)))
+
+-- ---- generate AC
+
+-- no command for a broken list or a filled length outside 1 to 255
+unfoldable pub cryptogramOf : ℕ → Option (List ℕ) → Option (List ℕ)
+cryptogramOf p1 none = none
+cryptogramOf p1 (some v) = if (both (leb 1 (length v)) (leb (length v) 255)) (some (command 0xAE p1 v)) none
+
+-- the command that a store gives, with the type asked for in P1
+unfoldable pub generateAc : ℕ → List ℕ → Option (List ℕ)
+generateAc p1 store = cryptogramOf p1 (filled rows store (bytesOf (valueOf store 0x8C)))
+
+-- ---- handed back
+
+-- a command of n bytes
+abbrev pub handed : ℕ → Written
+handed n = Command (record { len = n })
+
+-- a command hands back its length
+abbrev pub written : Option (List ℕ) → Written
+written none = NoCommand
+written (some c) = handed (length c)
+
+-- a command fills the front of the buffer; bytes behind it, and the whole buffer where there is no command, stay
+abbrev pub bufferWith : Option (List ℕ) → List ℕ → List ℕ
+bufferWith none b = b
+bufferWith (some c) b = c ++ drop (length c) b
+
+-- ---- what holds of it, proved in proofs/Commands for all stores
+--   options-proper, cryptogram-proper    a command has 5 to 261 bytes and begins with 80 A8, or 80 AE
+--   options-absent, options-empty        without 9F38, or with an empty one, it is 80 A8 00 00 02 83 00 00
+--   options-bytes, cryptogram-bytes      from a store of bytes it is bytes

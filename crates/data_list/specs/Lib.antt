@@ -1,0 +1,4 @@
+pub mod Entries
+pub mod Filling
+pub mod Commands
+pub mod Buffer
