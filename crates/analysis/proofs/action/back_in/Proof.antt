@@ -1,12 +1,15 @@
 -- `action::back_in` meets its contract: the row is the tag's (`value-by-row`). Assumes nothing.
+use mathlib.Core.Path.{ap, _∙_}
 use borrow.Author.Needs.{needs}
 use Rattle.dictionary.proofs.Named.{at-9F03}
+use Rattle.analysis.specs.Restrictions.{cashback}
 use Rattle.analysis.proofs.ByRow.{value-by-row}
 use Rattle.analysis.proofs.action.back_in.Statement.{statement}
 use Rattle.analysis.proofs.action.back_in.Tie as tie
 
 returns : tie.Need-returns
-returns c = cc (value-by-row (c .before .before .before .before .args .bytes .now) 0x9F03 at-9F03)
+returns c =
+    c .asks-back .ensures ∙ ap cashback (value-by-row _ 0x9F03 at-9F03 (c .before .before .is-there .ensures) (c .before .value .ensures))
 
 pub back-in-spec : {M : Type 1} → statement M
 back-in-spec = tie.close (tie.spec (λ c κs. search needs) (λ c κs. search needs) (λ c κs. search needs) returns)

@@ -1,8 +1,9 @@
--- `action::usage_in` meets its contract: the rows are the tags' (`value-by-row`, `bytes-by-row`). Assumes nothing.
+-- `action::usage_in` meets its contract: the rows are the tags' (`value-by-row`, `byte-by-row`). Assumes nothing.
+use mathlib.Core.Path.{_∙_}
 use borrow.Author.Needs.{needs}
 use Rattle.dictionary.proofs.Named.{at-9C, at-9F07}
 use Rattle.analysis.specs.Action.{usageIn}
-use Rattle.analysis.proofs.ByRow.{value-by-row, bytes-by-row}
+use Rattle.analysis.proofs.ByRow.{value-by-row, byte-by-row}
 use Rattle.analysis.proofs.action.usage_in.Statement.{statement}
 use Rattle.analysis.proofs.action.usage_in.Tie as tie
 
@@ -10,7 +11,15 @@ returns : tie.Need-returns
 unfolding usageIn
 returns c =
     let b = c .before .before .before .before .before .before .before .before .args .bytes .now in
-    cc (value-by-row b 0x9F07 at-9F07, bytes-by-row b 0x9C at-9C)
+    let before-atm = c .before .before .before .before .before in
+    c .usage-broken .ensures
+    ∙ simp (
+      value-by-row b 0x9F07 at-9F07 (before-atm .before .is-there .ensures) (before-atm .value .ensures),
+      c .before .before .before .before .atm-in .ensures,
+      c .before .before .before .country-in .ensures,
+      byte-by-row b 0x9C at-9C (c .before .before .byte-in .ensures),
+      c .before .back-in .ensures,
+    )
 
 pub usage-in-spec : {M : Type 1} → statement M
 usage-in-spec =

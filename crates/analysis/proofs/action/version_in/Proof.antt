@@ -1,14 +1,17 @@
 -- `action::version_in` meets its contract: the rows are the tags' (`value-by-row`, `bytes-by-row`). Assumes nothing.
+use mathlib.Core.Path.{ap₂, _∙_}
 use borrow.Author.Needs.{needs}
 use Rattle.dictionary.proofs.Named.{at-9F08, at-9F09}
+use Rattle.analysis.specs.Restrictions.{otherVersion}
 use Rattle.analysis.proofs.ByRow.{value-by-row, bytes-by-row}
 use Rattle.analysis.proofs.action.version_in.Statement.{statement}
 use Rattle.analysis.proofs.action.version_in.Tie as tie
 
 returns : tie.Need-returns
 returns c =
-    let b = c .before .before .before .before .before .args .bytes .now in
-    cc (value-by-row b 0x9F08 at-9F08, bytes-by-row b 0x9F09 at-9F09)
+    c .other-version .ensures
+    ∙ ap₂ otherVersion (value-by-row _ 0x9F08 at-9F08 (c .before .before .before .is-there .ensures) (c .before .before .value .ensures))
+    (bytes-by-row _ 0x9F09 at-9F09 (c .before .value2 .ensures))
 
 pub version-in-spec : {M : Type 1} → statement M
 version-in-spec =

@@ -1,0 +1,113 @@
+-- Records that keep their ranges though a stricter test might refuse them. Assumes nothing.
+use mathlib.Core.Path.{_≡_, refl, sym, ap, subst, _∙_}
+use mathlib.Core.Bool.{true}
+use mathlib.Core.List.{List}
+use Prim.Native.Nat.{ℕ, _+_, _≤_, _<_}
+use native.Mathlib.Omega.{arith}
+use lib.ListN.{length}
+use Rattle.basics.specs.Choice.{both, every}
+use Rattle.dictionary.specs.Rows.{rows, rowAt, find}
+use Rattle.dictionary.specs.declared.Found.the-variants.{At}
+use Rattle.dictionary.specs.Form.{fitting}
+use Rattle.dictionary.proofs.Fit.{fits-length}
+use Rattle.dictionary.proofs.Named.{at-5A, at-82, at-8C, at-94, at-95, at-5F24}
+use Rattle.store.specs.Place.{Value, bytesOf, valueOf, putAt}
+use Rattle.locator.specs.Records.{accepts, total}
+use Rattle.analysis.specs.Bits.{has}
+use Rattle.record.specs.declared.Outcome.{Outcome}
+use Rattle.record.specs.declared.Asked.{Asked}
+use Rattle.record.specs.declared.Phase.{Phase}
+use Rattle.record.specs.declared.Session.{Session}
+use Rattle.record.specs.Numbers.{reasonNone}
+use Rattle.record.specs.Session.{stored, freshSession, endedSession, storedSession, endOf}
+use Rattle.record.specs.Ranges.{inRanges}
+use Rattle.record.specs.Clauses.{OnOptions, OnCryptogram, InPhase}
+use Rattle.record.proofs.Laws.{clauses-pass}
+use Rattle.record.proofs.Stored.{empty-fits, put-size, put-named, put-runs, fits-kept, apartFrom, runningTags, results-apart}
+use Rattle.record.proofs.Reasons.{decided}
+use Rattle.record.proofs.Phases.{store-size, store-fits, on-options, on-cryptogram, ended-keeps}
+
+-- a session with a value put into its store
+abbrev putIn : Session → ℕ → List ℕ → Session
+putIn s k v = storedSession s (record { bytes = putAt rows (stored s) k v })
+
+-- an approved record with count 0
+pub approved-at-none : inRanges (endedSession freshSession (endOf Outcome.Approved reasonNone)) ≡ true
+approved-at-none = ended-keeps freshSession Outcome.Approved reasonNone (decided .0) refl empty-fits (omega arith)
+
+account-apart : apartFrom runningTags (rowAt 1) ≡ true
+unfolding rows every both apartFrom
+account-apart = refl
+
+-- waiting on processing options with an account number in the store
+pub options-with-5A : (s : Session) → inRanges s ≡ true → s .phase ≡ Phase.Options → (v : List ℕ) → fitting (rowAt 1) v ≡ true → inRanges (putIn s 1 v) ≡ true
+options-with-5A s e q v w =
+    clauses-pass (putIn s 1 v)
+    (record {
+      size = put-size b 1 v l h g;
+      fits = fits-kept b 1 v l h w (store-fits s e);
+      phase = subst (λ (p : Phase). InPhase p (putIn s 1 v)) (sym q) after;
+    })
+  where
+    b : List ℕ
+    b = stored s
+
+    l : length b ≡ 943
+    l = store-size s e
+
+    h : 1 < 36
+    h = omega arith
+
+    g : length v ≤ rowAt 1 .greatest
+    g = fits-length (rowAt 1) v w .1
+
+    c : OnOptions (s .count) b
+    c = on-options s e q
+
+    after : OnOptions (s .count) (putAt rows b 1 v)
+    after = record {
+      runs = put-runs b 1 v l h g account-apart (c .runs);
+      no-82 = put-named b 1 v l h g 0x82 2 at-82 (λ z. omega arith) ∙ c .no-82;
+      no-94 = put-named b 1 v l h g 0x94 4 at-94 (λ z. omega arith) ∙ c .no-94;
+      zero-95 = put-named b 1 v l h g 0x95 5 at-95 (λ z. omega arith) ∙ c .zero-95;
+      count = c .count;
+    }
+
+-- waiting on the cryptogram with any five result bytes, zeros too
+pub cryptogram-with-any-95 : (s : Session) (a : Asked) → inRanges s ≡ true → s .phase ≡ Phase.Cryptogram a → (v : List ℕ) → fitting (rowAt 5) v ≡ true → inRanges (putIn s 5 v) ≡ true
+cryptogram-with-any-95 s a e q v w =
+    clauses-pass (putIn s 5 v)
+    (record {
+      size = put-size b 5 v l h g;
+      fits = fits-kept b 5 v l h w (store-fits s e);
+      phase = subst (λ (p : Phase). InPhase p (putIn s 5 v)) (sym q) after;
+    })
+  where
+    b : List ℕ
+    b = stored s
+
+    l : length b ≡ 943
+    l = store-size s e
+
+    h : 5 < 36
+    h = omega arith
+
+    g : length v ≤ rowAt 5 .greatest
+    g = fits-length (rowAt 5) v w .1
+
+    c : OnCryptogram (s .count) b
+    c = on-cryptogram s e a q
+
+    same : (t j : ℕ) → find rows t ≡ At j → (j ≡ 5 → ⊥) → valueOf b t ≡ valueOf (putAt rows b 5 v) t
+    same t j x y = sym (put-named b 5 v l h g t j x y)
+
+    after : OnCryptogram (s .count) (putAt rows b 5 v)
+    after = record {
+      runs = put-runs b 5 v l h g results-apart (c .runs);
+      mode = subst (λ (x : Value). has (bytesOf x) 2 8 ≡ true) (same 0x82 2 at-82 (λ z. omega arith)) (c .mode);
+      locator = subst (λ (x : Value). accepts (bytesOf x) ≡ true) (same 0x94 4 at-94 (λ z. omega arith)) (c .locator);
+      some-5F24 = subst (λ (x : Value). 0 < length (bytesOf x)) (same 0x5F24 8 at-5F24 (λ z. omega arith)) (c .some-5F24);
+      some-5A = subst (λ (x : Value). 0 < length (bytesOf x)) (same 0x5A 1 at-5A (λ z. omega arith)) (c .some-5A);
+      some-8C = subst (λ (x : Value). 0 < length (bytesOf x)) (same 0x8C 3 at-8C (λ z. omega arith)) (c .some-8C);
+      count = c .count ∙ ap (λ (x : Value). 2 + total (bytesOf x)) (same 0x94 4 at-94 (λ z. omega arith));
+    }

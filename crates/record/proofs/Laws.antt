@@ -1,0 +1,221 @@
+-- The ranges test passes exactly when every clause holds: `clauses` and `clauses-pass`, from one pair of laws for each part.
+-- Assumes nothing.
+use mathlib.Core.Path.{_≡_, refl, sym, ap, _∙_}
+use mathlib.Core.Bool.{true, false}
+use mathlib.Core.Logic.{_⊎_, inl, inr}
+use mathlib.Core.List.{List}
+use Prim.Native.Nat.{ℕ, _+_, _≤_, _<_}
+use native.Mathlib.Omega.{arith}
+use lib.Dec.{eqb, leb}
+use lib.ListN.{length, replicate}
+use borrow.Author.Tests.{eq-eqb, ne-eqb, eqb-true, eqb-false, le-leb, leb-true, lt-ltb, ltb-true}
+use Rattle.basics.specs.Choice.{both, every}
+use Rattle.basics.proofs.Laws.{bool-cases, both-yes, both-left, both-right, either-left, either-right, either-false}
+use Rattle.basics.proofs.Table.{at}
+use Rattle.dictionary.specs.Rows.{Row, rows, blank, rowAt, optional, required, rowCount, storeSize}
+use Rattle.record.specs.declared.Place.{Place}
+use Rattle.record.specs.declared.End.{End}
+use Rattle.record.specs.declared.Phase.{Phase}
+use Rattle.record.specs.declared.Session.{Session}
+use Rattle.record.specs.Session.{stored}
+use Rattle.record.specs.Held.{holds}
+use Rattle.record.specs.Ranges.{objectFits, allFit, isBrought, brought, unanswered, running, recordsIn, completed, freshRanges, optionsRanges, recordRanges, cryptogramRanges, endedRanges, phaseRanges, inRanges}
+use Rattle.record.specs.Clauses.{Fits, Running, OnFresh, OnOptions, OnRecord, OnCryptogram, OnEnded, InPhase, Ranges}
+use Rattle.record.proofs.Every.{every-all}
+use Rattle.record.proofs.Tags.{rows-length}
+use Rattle.record.proofs.Values.{absent-of, is-lacking, zeros-of, zeros-are, zero-results, results-zero}
+
+-- ---- every stored object fits
+
+pub all-fits : (b : List ℕ) → allFit b ≡ true → Fits b
+unfolding allFit objectFits
+all-fits b e k h =
+    let w = at (objectFits b) rows blank e k (omega (arith, rows-length)) in
+    record { length-byte = leb-true _ _ (both-left _ _ w); value = both-right _ _ w }
+
+pub fits-all : (b : List ℕ) → Fits b → allFit b ≡ true
+unfolding allFit objectFits
+fits-all b f =
+    every-all (objectFits b) rows blank
+    (λ k h. let w = f k (omega (arith, rows-length)) in both-yes _ _ (le-leb _ _ (w .length-byte)) (w .value))
+
+-- ---- running
+
+-- a start must bring a row's object or need not
+must-bit : every (λ (r : Row). leb (r .must) required) rows ≡ true
+unfolding rows every both
+must-bit = refl
+
+pub all-brought : (b : List ℕ) → brought b ≡ true → (k : ℕ) → k < rowCount → rowAt k .must ≡ required → holds b (rowAt k .tag) ≡ true
+unfolding brought isBrought
+all-brought b e k h m =
+    sym (either-false _ (ne-eqb (rowAt k .must) 0 (λ z. omega arith))) ∙ at (isBrought b) rows blank e k (omega (arith, rows-length))
+
+pub brought-all : (b : List ℕ) → ((k : ℕ) → k < rowCount → rowAt k .must ≡ required → holds b (rowAt k .tag) ≡ true) → brought b ≡ true
+unfolding brought isBrought
+brought-all b f = every-all (isBrought b) rows blank (λ k h. go k h (bool-cases (eqb (rowAt k .must) optional)))
+  where
+    go : (k : ℕ) → k < length rows → (eqb (rowAt k .must) optional ≡ true) ⊎ (eqb (rowAt k .must) optional ≡ false) → isBrought b (rowAt k) ≡ true
+    go k h (inl y) = either-left _ _ y
+    go k h (inr n) =
+        let l : rowAt k .must ≤ 1 = leb-true _ _ (at (λ (r : Row). leb (r .must) required) rows blank must-bit k h) in
+        let z = eqb-false (rowAt k .must) optional n in
+        either-right _ _ (f k (omega (arith, rows-length)) (omega arith))
+
+pub runs : (b : List ℕ) → running b ≡ true → Running b
+unfolding running unanswered every
+runs b e =
+    let p = both-right _ _ e in
+    let q = both-right _ _ p in
+    let u = both-right _ _ q in
+    let v = both-right _ _ u in
+    let w = both-right _ _ v in
+    record {
+      results = both-left _ _ e;
+      brought = all-brought b (both-left _ _ p);
+      terminal = both-left _ _ q;
+      no-9F10 = absent-of _ (both-left _ _ u);
+      no-9F26 = absent-of _ (both-left _ _ v);
+      no-9F27 = absent-of _ (both-left _ _ w);
+      no-9F36 = absent-of _ (both-left _ _ (both-right _ _ w));
+    }
+
+pub running-passes : (b : List ℕ) → Running b → running b ≡ true
+unfolding running unanswered every
+running-passes b r =
+    both-yes _ _ (r .results)
+    (both-yes _ _ (brought-all b (r .brought))
+    (both-yes _ _ (r .terminal)
+    (both-yes _ _ (is-lacking b 0x9F10 (r .no-9F10))
+    (both-yes _ _ (is-lacking b 0x9F26 (r .no-9F26))
+    (both-yes _ _ (is-lacking b 0x9F27 (r .no-9F27))
+    (both-yes _ _ (is-lacking b 0x9F36 (r .no-9F36)) refl))))))
+
+-- ---- phase by phase
+
+pub fresh-clauses : (n : ℕ) (b : List ℕ) → length b ≡ storeSize → freshRanges n b ≡ true → OnFresh n b
+unfolding freshRanges
+fresh-clauses n b l e =
+    record { count = eqb-true n 0 (both-left _ _ e); store = zeros-of b (both-right _ _ e) ∙ ap (λ (m : ℕ). replicate m 0) l }
+
+pub fresh-passes : (n : ℕ) (b : List ℕ) → OnFresh n b → freshRanges n b ≡ true
+unfolding freshRanges
+fresh-passes n b c = both-yes _ _ (eq-eqb n 0 (c .count)) (rw (c .store) (zeros-are storeSize))
+
+pub options-clauses : (n : ℕ) (b : List ℕ) → Fits b → optionsRanges n b ≡ true → OnOptions n b
+unfolding optionsRanges
+options-clauses n b f e =
+    let p = both-right _ _ e in
+    let q = both-right _ _ p in
+    let u = both-right _ _ q in
+    let r = runs b (both-left _ _ e) in
+    record {
+      runs = r;
+      no-82 = absent-of _ (both-left _ _ p);
+      no-94 = absent-of _ (both-left _ _ q);
+      zero-95 = zero-results b f (r .results) (both-left _ _ u);
+      count = eqb-true n 1 (both-right _ _ u);
+    }
+
+pub options-passes : (n : ℕ) (b : List ℕ) → OnOptions n b → optionsRanges n b ≡ true
+unfolding optionsRanges
+options-passes n b c =
+    both-yes _ _ (running-passes b (c .runs))
+    (both-yes _ _ (is-lacking b 0x82 (c .no-82))
+    (both-yes _ _ (is-lacking b 0x94 (c .no-94))
+    (both-yes _ _ (results-zero b (c .zero-95))
+    (eq-eqb n 1 (c .count)))))
+
+pub record-clauses : (p : Place) (n : ℕ) (b : List ℕ) → Fits b → recordRanges p n b ≡ true → OnRecord p n b
+unfolding recordRanges
+record-clauses p n b f e =
+    let q = both-right _ _ e in
+    let u = both-right _ _ q in
+    let v = both-right _ _ u in
+    let w = both-right _ _ v in
+    let r = runs b (both-left _ _ e) in
+    record {
+      runs = r;
+      mode = both-left _ _ q;
+      zero-95 = zero-results b f (r .results) (both-left _ _ u);
+      locator = both-left _ _ v;
+      first = leb-true 1 (p .number) (both-left _ _ (both-left _ _ w));
+      last = leb-true (p .number) (recordsIn b) (both-right _ _ (both-left _ _ w));
+      count = eqb-true n (1 + p .number) (both-right _ _ w);
+    }
+
+pub record-passes : (p : Place) (n : ℕ) (b : List ℕ) → OnRecord p n b → recordRanges p n b ≡ true
+unfolding recordRanges
+record-passes p n b c =
+    both-yes _ _ (running-passes b (c .runs))
+    (both-yes _ _ (c .mode)
+    (both-yes _ _ (results-zero b (c .zero-95))
+    (both-yes _ _ (c .locator)
+    (both-yes _ _ (both-yes _ _ (le-leb 1 (p .number) (c .first)) (le-leb (p .number) (recordsIn b) (c .last)))
+    (eq-eqb n (1 + p .number) (c .count))))))
+
+pub cryptogram-clauses : (n : ℕ) (b : List ℕ) → cryptogramRanges n b ≡ true → OnCryptogram n b
+unfolding cryptogramRanges completed every
+cryptogram-clauses n b e =
+    let p = both-right _ _ e in
+    let q = both-right _ _ p in
+    let k = both-left _ _ q in
+    let u = both-right _ _ q in
+    record {
+      runs = runs b (both-left _ _ e);
+      mode = both-left _ _ p;
+      locator = both-left _ _ u;
+      some-5F24 = ltb-true 0 _ (both-left _ _ k);
+      some-5A = ltb-true 0 _ (both-left _ _ (both-right _ _ k));
+      some-8C = ltb-true 0 _ (both-left _ _ (both-right _ _ (both-right _ _ k)));
+      count = eqb-true n (2 + recordsIn b) (both-right _ _ u);
+    }
+
+pub cryptogram-passes : (n : ℕ) (b : List ℕ) → OnCryptogram n b → cryptogramRanges n b ≡ true
+unfolding cryptogramRanges completed every
+cryptogram-passes n b c =
+    both-yes _ _ (running-passes b (c .runs))
+    (both-yes _ _ (c .mode)
+    (both-yes _ _ (both-yes _ _ (lt-ltb 0 _ (c .some-5F24)) (both-yes _ _ (lt-ltb 0 _ (c .some-5A)) (both-yes _ _ (lt-ltb 0 _ (c .some-8C)) refl)))
+    (both-yes _ _ (c .locator)
+    (eq-eqb n (2 + recordsIn b) (c .count)))))
+
+pub ended-clauses : (x : End) (n : ℕ) → endedRanges x n ≡ true → OnEnded x n
+unfolding endedRanges
+ended-clauses x n e = record { count = leb-true n 130 (both-left _ _ e); reason = both-right _ _ e }
+
+pub ended-passes : (x : End) (n : ℕ) → OnEnded x n → endedRanges x n ≡ true
+unfolding endedRanges
+ended-passes x n c = both-yes _ _ (le-leb n 130 (c .count)) (c .reason)
+
+-- ---- the whole test
+
+phase-clauses : (p : Phase) (s : Session) → length (stored s) ≡ storeSize → Fits (stored s) → phaseRanges p s ≡ true → InPhase p s
+phase-clauses Phase.Fresh s l f e = fresh-clauses (s .count) (stored s) l e
+phase-clauses Phase.Options s l f e = options-clauses (s .count) (stored s) f e
+phase-clauses (Phase.Record p) s l f e = record-clauses p (s .count) (stored s) f e
+phase-clauses (Phase.Cryptogram a) s l f e = cryptogram-clauses (s .count) (stored s) e
+phase-clauses (Phase.Ended x) s l f e = ended-clauses x (s .count) e
+
+phase-passes : (p : Phase) (s : Session) → InPhase p s → phaseRanges p s ≡ true
+phase-passes Phase.Fresh s c = fresh-passes (s .count) (stored s) c
+phase-passes Phase.Options s c = options-passes (s .count) (stored s) c
+phase-passes (Phase.Record p) s c = record-passes p (s .count) (stored s) c
+phase-passes (Phase.Cryptogram a) s c = cryptogram-passes (s .count) (stored s) c
+phase-passes (Phase.Ended x) s c = ended-passes x (s .count) c
+
+-- a record that passes keeps every clause
+pub clauses : (s : Session) → inRanges s ≡ true → Ranges s
+unfolding inRanges
+clauses s e =
+    let p = both-right _ _ e in
+    let l = eqb-true (length (stored s)) storeSize (both-left _ _ e) in
+    let f = all-fits (stored s) (both-left _ _ p) in
+    record { size = l; fits = f; phase = phase-clauses (s .phase) s l f (both-right _ _ p) }
+
+-- a record that keeps every clause passes
+pub clauses-pass : (s : Session) → Ranges s → inRanges s ≡ true
+unfolding inRanges
+clauses-pass s r =
+    both-yes _ _ (eq-eqb (length (stored s)) storeSize (r .size))
+    (both-yes _ _ (fits-all (stored s) (r .fits)) (phase-passes (s .phase) s (r .phase)))

@@ -1,0 +1,10 @@
+pub mod Tests
+pub mod Every
+pub mod Tags
+pub mod Fit
+pub mod Values
+pub mod Laws
+pub mod Stored
+pub mod Reasons
+pub mod Phases
+pub mod Allowed

@@ -1,0 +1,89 @@
+-- `record::cryptogram_keeps` meets its contract: where a clause holds, the later ones decide; last the locator and the count.
+-- Assumes nothing.
+use borrow.Author.Needs.{needs}
+use borrow.Author.Tests.{not-true, not-false, ne-eqb}
+use mathlib.Core.Path.{_≡_, sym, _∙_}
+use Prim.Native.Nat.{_+_, _-_}
+use native.Mathlib.Omega.{arith}
+use lib.Dec.{eqb}
+use Rattle.basics.specs.Choice.{both}
+use Rattle.basics.proofs.Laws.{both-true, both-no-left}
+use Rattle.locator.specs.Records.{accepts}
+use Rattle.record.specs.Ranges.{emvMode, completed, locatorIn, recordsIn, cryptogramRanges}
+use Rattle.record.proofs.Tags.{located-no, located-yes}
+use Rattle.record.proofs.Tests.{two-less}
+use Rattle.record.proofs.cryptogram_keeps.Statement.{statement}
+use Rattle.record.proofs.cryptogram_keeps.Tie as tie
+
+past-running : (c : tie.Else1)
+    → let a = c .before .before .before .args in
+    let b = a .bytes .now in
+    cryptogramRanges (a .count) b ≡ both (emvMode b) (both (completed b) (both (accepts (locatorIn b)) (eqb (a .count) (2 + recordsIn b))))
+unfolding cryptogramRanges
+past-running c = both-true _ (sym (c .before .runs .ensures) ∙ not-false _ (c .if1 .left))
+
+past-mode : (c : tie.Else2)
+    → let a = c .before .before .before .before .before .args in
+    let b = a .bytes .now in
+    cryptogramRanges (a .count) b ≡ both (completed b) (both (accepts (locatorIn b)) (eqb (a .count) (2 + recordsIn b)))
+past-mode c = past-running (c .before .before) ∙ both-true _ (sym (c .before .is-emv .ensures) ∙ not-false _ (c .if2 .left))
+
+past-completed : (c : tie.Else3)
+    → let a = c .before .before .before .before .before .before .before .args in
+    let b = a .bytes .now in
+    cryptogramRanges (a .count) b ≡ both (accepts (locatorIn b)) (eqb (a .count) (2 + recordsIn b))
+past-completed c = past-mode (c .before .before) ∙ both-true _ (sym (c .before .is-complete .ensures) ∙ not-false _ (c .if3 .left))
+
+-- where the locator is accepted, the count decides
+counted : (c : tie.After-known-told)
+    → let a = c .before .before .before .before .before .before .before .before .before .before .before .before .args in
+    (cryptogramRanges (a .count) (a .bytes .now) ≡ eqb (a .count) (2 + recordsIn (a .bytes .now)))
+    × (c .before .c .given .0 .0 .records ≡ recordsIn (a .bytes .now))
+counted c =
+    let k = c .before .before .before in
+    let y = located-yes _ (k .before .value .ensures) (sym (k .check .ensures) ∙ c .before .c .given .1) in
+    (past-completed (k .before .before) ∙ both-true _ (y .0), y .1)
+
+returns : tie.Need-returns
+unfolding cryptogramRanges
+returns c = sym (both-no-left _ _ (sym (c .before .runs .ensures) ∙ not-true _ (c .if1 .taken)))
+
+returns-2 : tie.Need-returns-2
+returns-2 c = sym (past-running (c .before .before) ∙ both-no-left _ _ (sym (c .before .is-emv .ensures) ∙ not-true _ (c .if2 .taken)))
+
+returns-3 : tie.Need-returns-3
+returns-3 c = sym (past-mode (c .before .before) ∙ both-no-left _ _ (sym (c .before .is-complete .ensures) ∙ not-true _ (c .if3 .taken)))
+
+returns-4 : tie.Need-returns-4
+returns-4 c =
+    let k = c .before .before in
+    sym (past-completed (k .before .before) ∙ both-no-left _ _ (located-no _ (k .before .value .ensures) (sym (k .check .ensures) ∙ c .enum-told .given .1)))
+
+returns-5 : tie.Need-returns-5
+returns-5 c =
+    let a = c .before .before .before .before .before .before .before .before .before .before .before .before .before .before .args in
+    sym (counted (c .before .before) .0 ∙ ne-eqb (a .count) (2 + recordsIn (a .bytes .now)) (λ e. omega (arith, c .before .wide .ensures .0)))
+
+returns-6 : tie.Need-returns-6
+returns-6 c =
+    let y = counted (c .before .before .before) in
+    two-less (omega arith) (c .before .before .wide .ensures .0) (y .1) ∙ sym (y .0)
+
+pub cryptogram-keeps-spec : {M : Type 1} → statement M
+cryptogram-keeps-spec =
+    tie.close
+    (tie.spec
+    (λ c κs. search needs)
+    returns
+    (λ c κs. search needs)
+    returns-2
+    (λ c κs. search needs)
+    returns-3
+    (λ c κs. search needs)
+    (λ c κs. search needs)
+    (λ c. search needs)
+    (λ c. search needs)
+    returns-4
+    (λ c κs. search needs)
+    returns-5
+    returns-6)

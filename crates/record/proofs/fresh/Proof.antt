@@ -1,0 +1,11 @@
+-- `record::fresh` meets its contract: the empty store is the zero array.
+-- Assumes nothing.
+use borrow.Author.Needs.{needs}
+use Rattle.record.proofs.fresh.Statement.{statement}
+use Rattle.record.proofs.fresh.Tie as tie
+
+returns : tie.Need-returns
+returns c = rw (c .empty .ensures)
+
+pub fresh-spec : {M : Type 1} → statement M
+fresh-spec = tie.close (tie.spec (λ c κs. search needs) returns)

@@ -1,0 +1,20 @@
+-- `record::fresh_keeps` meets its contract: the count, then the bytes.
+-- Assumes nothing.
+use borrow.Author.Needs.{needs}
+use borrow.Author.Tests.{eq-eqb, ne-eqb}
+use mathlib.Core.Path.{sym, _∙_}
+use Rattle.basics.proofs.Laws.{both-true, both-no-left}
+use Rattle.record.specs.Ranges.{freshRanges}
+use Rattle.record.proofs.fresh_keeps.Statement.{statement}
+use Rattle.record.proofs.fresh_keeps.Tie as tie
+
+returns : tie.Need-returns
+unfolding freshRanges
+returns c = sym (both-no-left _ _ (ne-eqb _ _ (c .if1 .taken)))
+
+returns-2 : tie.Need-returns-2
+unfolding freshRanges
+returns-2 c = c .all-zero .ensures ∙ sym (both-true _ (eq-eqb _ _ (c .before .if1 .left)))
+
+pub fresh-keeps-spec : {M : Type 1} → statement M
+fresh-keeps-spec = tie.close (tie.spec returns (λ c κs. search needs) returns-2)

@@ -1,0 +1,112 @@
+-- `record::record_keeps` meets its contract: where a clause holds, the later ones decide; last the locator, k and the count.
+-- Assumes nothing.
+use borrow.Author.Needs.{needs}
+use borrow.Author.Tests.{not-true, not-false, le-leb, lt-leb}
+use mathlib.Core.Path.{_≡_, sym, ap₂, _∙_}
+use Prim.Native.Nat.{ℕ, _+_}
+use native.Mathlib.Omega.{arith}
+use lib.Dec.{eqb}
+use Rattle.basics.specs.Choice.{both}
+use Rattle.basics.proofs.Laws.{both-true, both-yes, both-no-left, both-no-right}
+use Rattle.dictionary.proofs.Named.{at-95}
+use Rattle.locator.specs.Entry.{between}
+use Rattle.locator.specs.Records.{accepts}
+use Rattle.record.specs.Held.{zeroed}
+use Rattle.record.specs.Ranges.{emvMode, locatorIn, recordsIn, recordRanges}
+use Rattle.record.proofs.Tags.{zero-is, located-no, located-yes}
+use Rattle.record.proofs.record_keeps.Statement.{statement}
+use Rattle.record.proofs.record_keeps.Tie as tie
+
+past-running : (c : tie.Else1)
+    → let a = c .before .before .before .args in
+    let b = a .bytes .now in
+    recordRanges (a .place) (a .count) b
+    ≡ both (emvMode b) (both (zeroed b 0x95) (both (accepts (locatorIn b)) (both (between 1 (a .place .number) (recordsIn b)) (eqb (a .count) (1 + a .place .number)))))
+unfolding recordRanges
+past-running c = both-true _ (sym (c .before .runs .ensures) ∙ not-false _ (c .if1 .left))
+
+past-mode : (c : tie.Else2)
+    → let a = c .before .before .before .before .before .args in
+    let b = a .bytes .now in
+    recordRanges (a .place) (a .count) b
+    ≡ both (zeroed b 0x95) (both (accepts (locatorIn b)) (both (between 1 (a .place .number) (recordsIn b)) (eqb (a .count) (1 + a .place .number))))
+past-mode c = past-running (c .before .before) ∙ both-true _ (sym (c .before .is-emv .ensures) ∙ not-false _ (c .if2 .left))
+
+past-95 : (c : tie.Else3)
+    → let a = c .before .before .before .before .before .before .before .before .args in
+    let b = a .bytes .now in
+    recordRanges (a .place) (a .count) b
+    ≡ both (accepts (locatorIn b)) (both (between 1 (a .place .number) (recordsIn b)) (eqb (a .count) (1 + a .place .number)))
+past-95 c =
+    let z = c .before in
+    past-mode (z .before .before) ∙ both-true _ (zero-is _ _ _ at-95 (z .before .value .ensures) (z .all-zero .ensures) (not-false _ (c .if3 .left)))
+
+-- where the locator is accepted, k and the count decide
+counted : (c : tie.After-known-told)
+    → let a = c .before .before .before .before .before .before .before .before .before .before .before .before .before .args in
+    (recordRanges (a .place) (a .count) (a .bytes .now) ≡ both (between 1 (a .place .number) (recordsIn (a .bytes .now))) (eqb (a .count) (1 + a .place .number)))
+    × (c .before .c .given .0 .0 .records ≡ recordsIn (a .bytes .now))
+counted c =
+    let k = c .before .before .before in
+    let y = located-yes _ (k .before .value2 .ensures) (sym (k .check .ensures) ∙ c .before .c .given .1) in
+    (past-95 (k .before .before) ∙ both-true _ (y .0), y .1)
+
+returns : tie.Need-returns
+unfolding recordRanges
+returns c = sym (both-no-left _ _ (sym (c .before .runs .ensures) ∙ not-true _ (c .if1 .taken)))
+
+returns-2 : tie.Need-returns-2
+returns-2 c = sym (past-running (c .before .before) ∙ both-no-left _ _ (sym (c .before .is-emv .ensures) ∙ not-true _ (c .if2 .taken)))
+
+returns-3 : tie.Need-returns-3
+returns-3 c =
+    let z = c .before in
+    sym (past-mode (z .before .before) ∙ both-no-left _ _ (zero-is _ _ _ at-95 (z .before .value .ensures) (z .all-zero .ensures) (not-true _ (c .if3 .taken))))
+
+returns-4 : tie.Need-returns-4
+returns-4 c =
+    let k = c .before .before in
+    sym (past-95 (k .before .before) ∙ both-no-left _ _ (located-no _ (k .before .value2 .ensures) (sym (k .check .ensures) ∙ c .enum-told .given .1)))
+
+returns-5 : tie.Need-returns-5
+returns-5 c =
+    let a = c .before .before .before .before .before .before .before .before .before .before .before .before .before .before .before .args in
+    sym (counted (c .before .before) .0 ∙ both-no-left _ _ (both-no-left _ _ (lt-leb 1 (a .place .number) (omega (arith, c .before .wide .ensures .0)))))
+
+returns-6 : tie.Need-returns-6
+returns-6 c =
+    let a = c .before .before .before .before .before .before .before .before .before .before .before .before .before .before .before .before .before .args in
+    let w = c .before .before .before in
+    let y = counted (w .before) in
+    sym (y .0 ∙ both-no-left _ _ (both-no-right _ _ (lt-leb (a .place .number) (recordsIn (a .bytes .now)) (omega (arith, w .wide .ensures .0)))))
+
+returns-7 : tie.Need-returns-7
+returns-7 c =
+    let a = c .before .before .before .before .before .before .before .before .before .before .before .before .before .before .before .before .before .before .args in
+    let w = c .before .before .before .before in
+    let y = counted (w .before) in
+    ap₂ (λ (m n : ℕ). eqb m (1 + n)) (c .wide2 .ensures .0) (w .wide .ensures .0)
+    ∙ sym (y .0 ∙ both-true _ (both-yes _ _ (le-leb 1 (a .place .number) (omega (arith, w .wide .ensures .0))) (le-leb (a .place .number) (recordsIn (a .bytes .now)) (omega (arith, w .wide .ensures .0)))))
+
+pub record-keeps-spec : {M : Type 1} → statement M
+record-keeps-spec =
+    tie.close
+    (tie.spec
+    (λ c κs. search needs)
+    returns
+    (λ c κs. search needs)
+    returns-2
+    (λ c κs. search needs)
+    (λ c κs. search needs)
+    returns-3
+    (λ c κs. search needs)
+    (λ c κs. search needs)
+    (λ c. search needs)
+    (λ c. search needs)
+    returns-4
+    (λ c κs. search needs)
+    returns-5
+    returns-6
+    (λ c κs. search needs)
+    (λ c. search needs)
+    returns-7)

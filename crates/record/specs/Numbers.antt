@@ -1,0 +1,108 @@
+-- The numbers of outcomes, reasons and refusals (document 01, "Calls and their numbers"; document 02 for the outcomes'), and which
+-- reason goes with which outcome.
+-- Assumes nothing.
+use mathlib.Core.Bool.{Bool, not}
+use Prim.Native.Nat.{ℕ}
+use lib.Dec.{eqb}
+use Rattle.basics.specs.Choice.{if, both}
+use Rattle.locator.specs.Entry.{between}
+use Rattle.record.specs.declared.Outcome.{Outcome}
+
+-- ---- outcomes
+
+abbrev pub outcomeNumber : Outcome → ℕ
+outcomeNumber Outcome.Approved = 0
+outcomeNumber Outcome.OnlineRequest = 1
+outcomeNumber Outcome.Declined = 2
+outcomeNumber Outcome.Ended = 3
+outcomeNumber Outcome.SelectNext = 4
+
+-- ---- refusals, in the order of their numbers
+
+-- the start bytes are over 1,024, or not a run of whole primitive objects
+abbrev pub refusedBytes : ℕ
+refusedBytes = 20
+
+-- a start on a session that is not fresh, another call on one that is not running
+abbrev pub refusedPhase : ℕ
+refusedPhase = 21
+
+-- the command buffer is too short
+abbrev pub refusedBuffer : ℕ
+refusedBuffer = 22
+
+-- a start object that may not be set, does not fit, comes twice, or a terminal type that is not listed
+abbrev pub refusedObject : ℕ
+refusedObject = 23
+
+-- an object that a start must bring is absent
+abbrev pub refusedAbsent : ℕ
+refusedAbsent = 24
+
+-- the session record breaks its ranges
+abbrev pub refusedRanges : ℕ
+refusedRanges = 25
+
+-- ---- reasons
+
+-- none: a decision was reached
+abbrev pub reasonNone : ℕ
+reasonNone = 0
+
+-- status bytes other than 90 00
+abbrev pub reasonStatus : ℕ
+reasonStatus = 1
+
+-- a malformed answer
+abbrev pub reasonMalformed : ℕ
+reasonMalformed = 2
+
+-- an object that is not allowed
+abbrev pub reasonNotAllowed : ℕ
+reasonNotAllowed = 3
+
+-- an object that is missing
+abbrev pub reasonMissing : ℕ
+reasonMissing = 4
+
+-- a file locator that breaks its rules
+abbrev pub reasonLocator : ℕ
+reasonLocator = 5
+
+-- an amount above the transaction limit
+abbrev pub reasonAboveLimit : ℕ
+reasonAboveLimit = 6
+
+-- a data object list that is broken or fills too much
+abbrev pub reasonDataList : ℕ
+reasonDataList = 7
+
+-- a cryptogram of a type that was not asked for
+abbrev pub reasonCryptogram : ℕ
+reasonCryptogram = 8
+
+-- the link to the card failed
+abbrev pub reasonLink : ℕ
+reasonLink = 9
+
+-- the terminal stopped the session
+abbrev pub reasonStopped : ℕ
+reasonStopped = 10
+
+-- the card is not in EMV mode
+abbrev pub reasonMode : ℕ
+reasonMode = 11
+
+-- ---- which go together
+
+-- an outcome and a reason: none with a decision, the limit with select next, every other one with ended
+unfoldable pub goesWith : Outcome → ℕ → Bool
+goesWith Outcome.Approved n = eqb n reasonNone
+goesWith Outcome.OnlineRequest n = eqb n reasonNone
+goesWith Outcome.Declined n = eqb n reasonNone
+goesWith Outcome.Ended n = both (between reasonStatus n reasonMode) (not (eqb n reasonAboveLimit))
+goesWith Outcome.SelectNext n = eqb n reasonAboveLimit
+
+-- the outcome of a reason other than none
+unfoldable pub outcomeFor : ℕ → Outcome
+outcomeFor n = if (eqb n reasonAboveLimit) Outcome.SelectNext Outcome.Ended

@@ -1,0 +1,134 @@
+-- Session ranges (document 01, "Calls and their numbers"): the test that a session record handed in must pass.
+-- Every clause is a fact by name in Clauses.antt; the test passes exactly when all of them hold.
+-- Assumes nothing.
+use mathlib.Core.Bool.{Bool, true}
+use mathlib.Core.List.{List, [], _∷_}
+use Prim.Native.Nat.{ℕ, _+_}
+use lib.Dec.{eqb, leb}
+use lib.ListN.{length}
+use Rattle.basics.specs.Choice.{both, either, every}
+use Rattle.dictionary.specs.Rows.{Row, rows, optional, storeSize}
+use Rattle.dictionary.specs.Form.{fitting}
+use Rattle.dictionary.specs.TerminalType.{listed}
+use Rattle.store.specs.Place.{Value, absent, present, valueOf, room}
+use Rattle.locator.specs.Entry.{between}
+use Rattle.locator.specs.Records.{accepts, total}
+use Rattle.analysis.specs.Bits.{has}
+use Rattle.record.specs.declared.Place.{Place}
+use Rattle.record.specs.declared.End.{End}
+use Rattle.record.specs.declared.Phase.{Phase}
+use Rattle.record.specs.declared.Session.{Session}
+use Rattle.record.specs.Numbers.{goesWith}
+use Rattle.record.specs.Session.{stored}
+use Rattle.record.specs.Held.{holds, lacks, bytesIn, filled, byteIn, isZero, zeroed, lengthIn}
+
+-- ---- every phase: every stored length and digit fits the dictionary
+
+-- a value fits a row; absent is allowed
+abbrev pub valueFits : Row → Value → Bool
+valueFits r absent = true
+valueFits r (present v) = fitting r v
+
+-- the object of a row: its length byte lies in the row's room, and its value fits
+unfoldable pub objectFits : List ℕ → Row → Bool
+objectFits b r = both (leb (lengthIn b (r .tag)) (room r)) (valueFits r (valueOf b (r .tag)))
+
+-- the objects of all rows
+unfoldable pub allFit : List ℕ → Bool
+allFit b = every (objectFits b) rows
+
+-- ---- running: what a start brought is there, and nothing of the cryptogram's answer
+
+-- the object of a row is there if a start must bring it
+unfoldable pub isBrought : List ℕ → Row → Bool
+isBrought b r = either (eqb (r .must) optional) (holds b (r .tag))
+
+unfoldable pub brought : List ℕ → Bool
+brought b = every (isBrought b) rows
+
+-- issuer application data, cryptogram, cryptogram information and transaction counter
+abbrev pub cryptogramTags : List ℕ
+cryptogramTags = 0x9F10 ∷ 0x9F26 ∷ 0x9F27 ∷ 0x9F36 ∷ []
+
+unfoldable pub unanswered : List ℕ → Bool
+unanswered b = every (lacks b) cryptogramTags
+
+-- 95, all that a start must bring, with a listed terminal type
+unfoldable pub running : List ℕ → Bool
+running b = both (holds b 0x95) (both (brought b) (both (listed (byteIn b 0x9F35 1)) (unanswered b)))
+
+-- ---- after the processing options
+
+-- 82 is there with byte 2 b8 set
+abbrev pub emvMode : List ℕ → Bool
+emvMode b = has (bytesIn b 0x82) 2 8
+
+-- the stored locator, and R
+abbrev pub locatorIn : List ℕ → List ℕ
+locatorIn b = bytesIn b 0x94
+
+abbrev pub recordsIn : List ℕ → ℕ
+recordsIn b = total (locatorIn b)
+
+-- expiry date, account number and the list of the cryptogram's data
+abbrev pub neededTags : List ℕ
+neededTags = 0x5F24 ∷ 0x5A ∷ 0x8C ∷ []
+
+-- they are there, none empty
+unfoldable pub completed : List ℕ → Bool
+completed b = every (filled b) neededTags
+
+-- ---- phase by phase, for a count and a store
+
+-- fresh: nothing was handed out, and the store is all zeros
+unfoldable pub freshRanges : ℕ → List ℕ → Bool
+freshRanges n b = both (eqb n 0) (every isZero b)
+
+-- on processing options: no 82 or 94 yet, 95 is zero, one command
+unfoldable pub optionsRanges : ℕ → List ℕ → Bool
+optionsRanges n b =
+    both (running b)
+    (both (lacks b 0x82)
+    (both (lacks b 0x94)
+    (both (zeroed b 0x95)
+    (eqb n 1))))
+
+-- on the k-th record: EMV mode, 95 is zero, an accepted locator, k is 1 to R, 1 + k commands
+unfoldable pub recordRanges : Place → ℕ → List ℕ → Bool
+recordRanges p n b =
+    both (running b)
+    (both (emvMode b)
+    (both (zeroed b 0x95)
+    (both (accepts (locatorIn b))
+    (both (between 1 (p .number) (recordsIn b))
+    (eqb n (1 + p .number))))))
+
+-- on the cryptogram: EMV mode, what it needs is there, an accepted locator, 2 + R commands
+unfoldable pub cryptogramRanges : ℕ → List ℕ → Bool
+cryptogramRanges n b =
+    both (running b)
+    (both (emvMode b)
+    (both (completed b)
+    (both (accepts (locatorIn b))
+    (eqb n (2 + recordsIn b)))))
+
+-- the most commands: processing options, 128 records, the cryptogram
+abbrev pub mostCommands : ℕ
+mostCommands = 130
+
+-- ended: a count of 0 to 130, and a reason with its outcome
+unfoldable pub endedRanges : End → ℕ → Bool
+endedRanges e n = both (leb n mostCommands) (goesWith (e .outcome) (e .reason))
+
+-- ---- the test
+
+abbrev pub phaseRanges : Phase → Session → Bool
+phaseRanges Phase.Fresh s = freshRanges (s .count) (stored s)
+phaseRanges Phase.Options s = optionsRanges (s .count) (stored s)
+phaseRanges (Phase.Record p) s = recordRanges p (s .count) (stored s)
+phaseRanges (Phase.Cryptogram a) s = cryptogramRanges (s .count) (stored s)
+phaseRanges (Phase.Ended e) s = endedRanges e (s .count)
+
+-- a session record keeps its ranges; the store's size is that of its type
+unfoldable pub inRanges : Session → Bool
+inRanges s = both (eqb (length (stored s)) storeSize) (both (allFit (stored s)) (phaseRanges (s .phase) s))

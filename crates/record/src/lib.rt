@@ -1,0 +1,489 @@
+// The session record by value: its phase, its count of commands handed out and its store; the reply of
+// a call; and the ranges that a record handed in must keep (`in_ranges`).
+//
+// A record is built anew only by `fresh`, `waiting`, `ended` and `with_store`, and a reply only by
+// `refused`, `ends`, `fails` and `commands`: a new field is added there.
+use analysis::choice::Choice;
+use dictionary::{
+    ROWS, ROW_5A, ROW_5F24, ROW_82, ROW_8C, ROW_94, ROW_95, ROW_9F10, ROW_9F26, ROW_9F27, ROW_9F35, ROW_9F36,
+};
+use locator::Checked;
+use store::Store;
+ghost use mathlib.Core.Path.{_≡_};
+ghost use Prim.Native.Nat.{_<_};
+ghost use lib.ListN.{getD};
+ghost use Rattle.basics.specs.Choice.{every};
+ghost use Rattle.dictionary.specs.Rows.{rowAt, rowCount};
+ghost use Rattle.record.specs.Numbers.{outcomeNumber, goesWith, outcomeFor};
+ghost use Rattle.record.specs.Session.{freshSession, waitingSession, endedSession, storedSession, refusedReply, endsReply, failsReply, commandsReply};
+ghost use Rattle.record.specs.Held.{isZero};
+ghost use Rattle.record.specs.Ranges.{objectFits, allFit, isBrought, brought, unanswered as unansweredIn, emvMode, completed, running, freshRanges, optionsRanges, recordRanges, cryptogramRanges, endedRanges, inRanges};
+
+// How a session ends.
+pub enum Outcome {
+    Approved,
+    OnlineRequest,
+    Declined,
+    Ended,
+    SelectNext,
+}
+
+// An outcome with its reason, 0 where a decision was reached.
+pub struct End {
+    pub outcome: Outcome,
+    pub reason: u8,
+}
+
+// The record of the card that is awaited: its number in the locator's order, from 1.
+pub struct Place {
+    pub number: u8,
+}
+
+// The cryptogram that is awaited: what was asked for.
+pub struct Asked {
+    pub choice: Choice,
+}
+
+// Fresh; waiting on processing options, on a record or on the cryptogram; or ended.
+pub enum Phase {
+    Fresh,
+    Options,
+    Record(Place),
+    Cryptogram(Asked),
+    Ended(End),
+}
+
+pub struct Session {
+    pub phase: Phase,
+    pub count: u8,
+    pub store: Store,
+}
+
+// A command in the front of the lent buffer.
+pub struct Issued {
+    pub size: usize,
+}
+
+// A call that was not taken.
+pub struct Refusal {
+    pub number: u8,
+}
+
+pub enum Answer {
+    Command(Issued),
+    Outcome(End),
+    Refused(Refusal),
+}
+
+pub struct Reply {
+    pub session: Session,
+    pub answer: Answer,
+}
+
+// Why a call is refused.
+pub const REFUSED_BYTES: u8 = 20;
+pub const REFUSED_PHASE: u8 = 21;
+pub const REFUSED_BUFFER: u8 = 22;
+pub const REFUSED_OBJECT: u8 = 23;
+pub const REFUSED_ABSENT: u8 = 24;
+pub const REFUSED_RANGES: u8 = 25;
+
+// Why a session ends.
+pub const REASON_NONE: u8 = 0;
+pub const REASON_STATUS: u8 = 1;
+pub const REASON_MALFORMED: u8 = 2;
+pub const REASON_NOT_ALLOWED: u8 = 3;
+pub const REASON_MISSING: u8 = 4;
+pub const REASON_LOCATOR: u8 = 5;
+pub const REASON_ABOVE_LIMIT: u8 = 6;
+pub const REASON_DATA_LIST: u8 = 7;
+pub const REASON_CRYPTOGRAM: u8 = 8;
+pub const REASON_LINK: u8 = 9;
+pub const REASON_STOPPED: u8 = 10;
+pub const REASON_MODE: u8 = 11;
+
+// The most commands that a session hands out.
+const MOST: u8 = 130;
+
+// The number of an outcome.
+pub fn outcome_number(outcome: Outcome) -> u8
+    ensures { λ r. ⌜ r ≡ outcomeNumber outcome ⌝ }
+{
+    match outcome {
+        Outcome::Approved => 0,
+        Outcome::OnlineRequest => 1,
+        Outcome::Declined => 2,
+        Outcome::Ended => 3,
+        Outcome::SelectNext => 4,
+    }
+}
+
+// The outcome that goes with a reason other than 0.
+pub fn outcome_for(reason: u8) -> Outcome
+    ensures { λ r. ⌜ r ≡ outcomeFor reason ⌝ }
+{
+    if reason == REASON_ABOVE_LIMIT {
+        return Outcome::SelectNext;
+    }
+    Outcome::Ended
+}
+
+// How many commands the session has handed out.
+pub fn count(session: Session) -> u8
+    ensures { λ r. ⌜ r ≡ session .count ⌝ }
+{
+    session.count
+}
+
+// A session that nothing has happened to.
+pub fn fresh() -> Session
+    ensures { λ r. ⌜ r ≡ freshSession ⌝ }
+{
+    let store = store::empty();
+    Session {
+        phase: Phase::Fresh,
+        count: 0,
+        store,
+    }
+}
+
+// The session in another phase, with another count.
+pub fn waiting(session: Session, phase: Phase, count: u8) -> Session
+    ensures { λ r. ⌜ r ≡ waitingSession session phase count ⌝ }
+{
+    let store = session.store;
+    Session {
+        phase,
+        count,
+        store,
+    }
+}
+
+// The session ended: count and store stay.
+pub fn ended(session: Session, end: End) -> Session
+    ensures { λ r. ⌜ r ≡ endedSession session end ⌝ }
+{
+    let store = session.store;
+    Session {
+        phase: Phase::Ended(end),
+        count: session.count,
+        store,
+    }
+}
+
+// The session with another store.
+pub fn with_store(session: Session, store: Store) -> Session
+    ensures { λ r. ⌜ r ≡ storedSession session store ⌝ }
+{
+    let phase = session.phase;
+    Session {
+        phase,
+        count: session.count,
+        store,
+    }
+}
+
+// A refusal hands the session back as it is.
+pub fn refused(session: Session, number: u8) -> Reply
+    ensures { λ r. ⌜ r ≡ refusedReply session number ⌝ }
+{
+    Reply {
+        session,
+        answer: Answer::Refused(Refusal { number }),
+    }
+}
+
+// The session ends with an outcome and its reason.
+pub fn ends(session: Session, outcome: Outcome, reason: u8) -> Reply
+    ensures { λ r. ⌜ r ≡ endsReply session outcome reason ⌝ }
+{
+    let end = End { outcome, reason };
+    Reply {
+        session: ended(session, end),
+        answer: Answer::Outcome(end),
+    }
+}
+
+// The session ends for a reason other than 0, with the outcome that goes with it.
+pub fn fails(session: Session, reason: u8) -> Reply
+    ensures { λ r. ⌜ r ≡ failsReply session reason ⌝ }
+{
+    ends(session, outcome_for(reason), reason)
+}
+
+// The session waits on the answer to a command of so many bytes.
+pub fn commands(session: Session, size: usize) -> Reply
+    ensures { λ r. ⌜ r ≡ commandsReply session size ⌝ }
+{
+    Reply {
+        session,
+        answer: Answer::Command(Issued { size }),
+    }
+}
+
+// Whether a session record keeps its ranges.
+pub fn in_ranges(session: Session) -> bool
+    ensures { λ r. ⌜ r ≡ inRanges session ⌝ }
+{
+    let store = session.store;
+    let count = session.count;
+    let phase = session.phase;
+    if !all_fit(&store.bytes) {
+        return false;
+    }
+    match phase {
+        Phase::Fresh => fresh_keeps(count, &store.bytes),
+        Phase::Options => options_keep(count, &store.bytes),
+        Phase::Record(place) => record_keeps(place, count, &store.bytes),
+        Phase::Cryptogram(_) => cryptogram_keeps(count, &store.bytes),
+        Phase::Ended(end) => ended_keeps(end, count),
+    }
+}
+
+// Fresh: no command was handed out and the store is all zeros.
+fn fresh_keeps(count: u8, bytes: &[u8]) -> bool
+    ensures { λ r. ⌜ r ≡ freshRanges count (now (bytes .entry)) ⌝ }
+{
+    if count != 0 {
+        return false;
+    }
+    all_zero(bytes)
+}
+
+// Waiting on processing options: nothing of their answer is there yet.
+fn options_keep(count: u8, bytes: &[u8]) -> bool
+    ensures { λ r. ⌜ r ≡ optionsRanges count (now (bytes .entry)) ⌝ }
+{
+    if !runs(bytes) {
+        return false;
+    }
+    if store::is_there(bytes, ROW_82) {
+        return false;
+    }
+    if store::is_there(bytes, ROW_94) {
+        return false;
+    }
+    if !all_zero(store::value(bytes, ROW_95)) {
+        return false;
+    }
+    count == 1
+}
+
+// Waiting on a record that the stored locator names.
+fn record_keeps(place: Place, count: u8, bytes: &[u8]) -> bool
+    ensures { λ r. ⌜ r ≡ recordRanges place count (now (bytes .entry)) ⌝ }
+{
+    if !runs(bytes) {
+        return false;
+    }
+    if !is_emv(bytes) {
+        return false;
+    }
+    let results = store::value(bytes, ROW_95);
+    if !all_zero(results) {
+        return false;
+    }
+    let c = locator::check(store::value(bytes, ROW_94));
+    let Checked::Accepted(extent) = c else {
+        return false;
+    };
+    let k = basics::wide(place.number);
+    if k < 1 {
+        return false;
+    }
+    if extent.records < k {
+        return false;
+    }
+    basics::wide(count) == 1 + k
+}
+
+// Waiting on the cryptogram: every record was asked for, and what the choice needs is there.
+fn cryptogram_keeps(count: u8, bytes: &[u8]) -> bool
+    ensures { λ r. ⌜ r ≡ cryptogramRanges count (now (bytes .entry)) ⌝ }
+{
+    if !runs(bytes) {
+        return false;
+    }
+    if !is_emv(bytes) {
+        return false;
+    }
+    if !is_complete(bytes) {
+        return false;
+    }
+    let c = locator::check(store::value(bytes, ROW_94));
+    let Checked::Accepted(extent) = c else {
+        return false;
+    };
+    let n = basics::wide(count);
+    if n < 2 {
+        return false;
+    }
+    n - 2 == extent.records
+}
+
+// Ended: a count that a session can reach, and a reason with its outcome.
+fn ended_keeps(end: End, count: u8) -> bool
+    ensures { λ r. ⌜ r ≡ endedRanges end count ⌝ }
+{
+    if MOST < count {
+        return false;
+    }
+    let outcome = end.outcome;
+    reason_goes(outcome, end.reason)
+}
+
+// Whether a reason goes with an outcome.
+pub fn reason_goes(outcome: Outcome, reason: u8) -> bool
+    ensures { λ r. ⌜ r ≡ goesWith outcome reason ⌝ }
+{
+    match outcome {
+        Outcome::Approved => reason == REASON_NONE,
+        Outcome::OnlineRequest => reason == REASON_NONE,
+        Outcome::Declined => reason == REASON_NONE,
+        Outcome::SelectNext => reason == REASON_ABOVE_LIMIT,
+        Outcome::Ended => ends_session(reason),
+    }
+}
+
+// Whether a reason goes with the outcome ended: 1 to 11, and not 6.
+fn ends_session(reason: u8) -> bool
+    ensures { λ r. ⌜ r ≡ goesWith Outcome.Ended reason ⌝ }
+{
+    if reason < REASON_STATUS {
+        return false;
+    }
+    if REASON_MODE < reason {
+        return false;
+    }
+    reason != REASON_ABOVE_LIMIT
+}
+
+// What every running session holds and lacks.
+fn runs(bytes: &[u8]) -> bool
+    ensures { λ r. ⌜ r ≡ running (now (bytes .entry)) ⌝ }
+{
+    if !store::is_there(bytes, ROW_95) {
+        return false;
+    }
+    if !all_brought(bytes) {
+        return false;
+    }
+    if !dictionary::is_listed(byte_at(store::value(bytes, ROW_9F35), 0)) {
+        return false;
+    }
+    is_unanswered(bytes)
+}
+
+// Nothing of the answer to the cryptogram is there.
+fn is_unanswered(bytes: &[u8]) -> bool
+    ensures { λ r. ⌜ r ≡ unansweredIn (now (bytes .entry)) ⌝ }
+{
+    if store::is_there(bytes, ROW_9F10) {
+        return false;
+    }
+    if store::is_there(bytes, ROW_9F26) {
+        return false;
+    }
+    if store::is_there(bytes, ROW_9F27) {
+        return false;
+    }
+    !store::is_there(bytes, ROW_9F36)
+}
+
+// The card said that it is in EMV mode.
+pub fn is_emv(bytes: &[u8]) -> bool
+    ensures { λ r. ⌜ r ≡ emvMode (now (bytes .entry)) ⌝ }
+{
+    byte_at(store::value(bytes, ROW_82), 1) / 128 % 2 == 1
+}
+
+// The expiry date, the account number and the list of the cryptogram's data are there, none empty.
+pub fn is_complete(bytes: &[u8]) -> bool
+    ensures { λ r. ⌜ r ≡ completed (now (bytes .entry)) ⌝ }
+{
+    if store::value(bytes, ROW_5F24).len() == 0 {
+        return false;
+    }
+    if store::value(bytes, ROW_5A).len() == 0 {
+        return false;
+    }
+    store::value(bytes, ROW_8C).len() != 0
+}
+
+// Every stored object fits its row.
+fn all_fit(bytes: &[u8]) -> bool
+    ensures { λ r. ⌜ r ≡ allFit (now (bytes .entry)) ⌝ }
+{
+    let mut row = 0;
+    while row < ROWS {
+        if !row_fits(bytes, row) {
+            return false;
+        }
+        row += 1;
+    }
+    true
+}
+
+// A row's object is absent, or its length byte, its length and its digits fit.
+fn row_fits(bytes: &[u8], row: usize) -> bool
+    requires { ⌜ row < rowCount ⌝ }
+    ensures { λ r. ⌜ r ≡ objectFits (now (bytes .entry)) (rowAt row) ⌝ }
+{
+    let stored = basics::wide(store::length_byte(bytes, row));
+    if stored == 0 {
+        return true;
+    }
+    if dictionary::greatest(row) < stored - 1 {
+        return false;
+    }
+    dictionary::fits(row, store::value(bytes, row))
+}
+
+// Every object that a start must bring is there.
+pub fn all_brought(bytes: &[u8]) -> bool
+    ensures { λ r. ⌜ r ≡ brought (now (bytes .entry)) ⌝ }
+{
+    let mut row = 0;
+    while row < ROWS {
+        if !row_brought(bytes, row) {
+            return false;
+        }
+        row += 1;
+    }
+    true
+}
+
+// A row's object is there if a start must bring it.
+fn row_brought(bytes: &[u8], row: usize) -> bool
+    requires { ⌜ row < rowCount ⌝ }
+    ensures { λ r. ⌜ r ≡ isBrought (now (bytes .entry)) (rowAt row) ⌝ }
+{
+    if dictionary::must(row) == 0 {
+        return true;
+    }
+    store::is_there(bytes, row)
+}
+
+// Every byte is zero.
+fn all_zero(v: &[u8]) -> bool
+    ensures { λ r. ⌜ r ≡ every isZero (now (v .entry)) ⌝ }
+{
+    let mut i = 0;
+    while i < v.len() {
+        if v[i] != 0 {
+            return false;
+        }
+        i += 1;
+    }
+    true
+}
+
+// The byte at place i, counted from 0; past the end it reads as 0.
+pub fn byte_at(v: &[u8], i: usize) -> u8
+    ensures { λ r. ⌜ r ≡ getD (now (v .entry)) i 0 ⌝ }
+{
+    if i < v.len() {
+        return v[i];
+    }
+    0
+}

@@ -1,0 +1,7 @@
+pub mod Run
+pub mod Setting
+pub mod Ways
+pub mod Fit
+pub mod Laws
+pub mod Twice
+pub mod Examples

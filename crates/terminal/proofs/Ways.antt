@@ -1,0 +1,71 @@
+-- The ways out of a loading, one law for each, in the order of the refusals; and what the answer of the call says of them.
+-- Assumes nothing.
+use mathlib.Core.Path.{_≡_, refl, sym, ap, subst, _∙_}
+use mathlib.Core.Bool.{true, false}
+use mathlib.Core.List.{List}
+use mathlib.Core.Option.{Option, some, none}
+use Prim.Native.Nat.{ℕ, _≤_, _<_}
+use lib.ListN.{length}
+use borrow.Author.Tests.{le-leb, lt-leb}
+use Rattle.basics.proofs.Laws.{if-yes, if-no}
+use Rattle.store.specs.declared.Store.{Store}
+use Rattle.record.specs.Ranges.{brought}
+use Rattle.record.specs.Numbers.{refusedBytes, refusedObject, refusedAbsent}
+use Rattle.terminal.specs.declared.Said.{Said}
+use Rattle.terminal.specs.declared.Loading.{Loading}
+use Rattle.terminal.specs.Terminal.{Object, run, isRun, setRun, Loaded, refusal, loaded, afterSetting, afterRun, mostBytes, load, Loads}
+
+-- ---- the ways out
+
+module _ (b s : List ℕ) where
+  pub load-long : mostBytes < length s → load b s ≡ refusal refusedBytes
+  unfolding load
+  load-long h = if-no _ _ (lt-leb _ _ h)
+
+  module _ (l : length s ≤ mostBytes) where
+    short : load b s ≡ afterRun b (run s)
+    unfolding load
+    short = if-yes _ _ (le-leb _ _ l)
+
+    pub load-broken : isRun (run s) ≡ false → load b s ≡ refusal refusedBytes
+    load-broken e = short ∙ go (run s) e
+      where
+        go : (x : Option (List Object)) → isRun x ≡ false → afterRun b x ≡ refusal refusedBytes
+        go none p = refl
+        go (some os) p = cc
+
+    -- the objects decide
+    objects : isRun (run s) ≡ true → load b s ≡ afterSetting (setRun b (run s))
+    unfolding setRun
+    objects e = short ∙ go (run s) e
+      where
+        go : (x : Option (List Object)) → isRun x ≡ true → afterRun b x ≡ afterSetting (setRun b x)
+        go none p = cc
+        go (some os) p = refl
+
+    pub load-object : isRun (run s) ≡ true → setRun b (run s) ≡ none → load b s ≡ refusal refusedObject
+    load-object e f = objects e ∙ ap afterSetting f
+
+    module _ (c : List ℕ) (f : setRun b (run s) ≡ some c) where
+      -- what sets objects is a run
+      set-run : isRun (run s) ≡ true
+      unfolding setRun
+      set-run = go (run s) f
+        where
+          go : (x : Option (List Object)) → setRun b x ≡ some c → isRun x ≡ true
+          go none p = cc
+          go (some os) p = refl
+
+      pub load-absent : brought c ≡ false → load b s ≡ refusal refusedAbsent
+      load-absent g = objects set-run ∙ ap afterSetting f ∙ if-no _ _ g
+
+      pub load-taken : brought c ≡ true → load b s ≡ loaded c
+      load-taken g = objects set-run ∙ ap afterSetting f ∙ if-yes _ _ g
+
+-- ---- the answer
+
+pub refuses : {r : Loading} {n : ℕ} (s : Store) {x : Loaded} → (r .said ≡ Said.Refused (record { number = n })) × (r .store ≡ s) → x ≡ refusal n → Loads r (s .bytes) x
+refuses {r} s e f = subst (Loads r (s .bytes)) (sym f) (record { said = e .0; store = ap (λ (t : Store). t .bytes) (e .1) })
+
+pub loads : {b c : List ℕ} {x : Loaded} → x ≡ loaded c → Loads (record { said = Said.Taken; store = record { bytes = c } }) b x
+loads {b} f = subst (Loads _ b) (sym f) (record { said = refl; store = refl })

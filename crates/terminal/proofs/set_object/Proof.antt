@@ -1,0 +1,62 @@
+-- `terminal::set_object` meets its contract. One law for each way the object goes.
+-- Assumes nothing.
+use borrow.Author.Needs.{needs}
+use borrow.Author.Tests.{not-true, not-false}
+use mathlib.Core.Path.{refl, sym, ap, _∙_}
+use mathlib.Core.Option.{some}
+use native.Mathlib.Omega.{arith}
+use Rattle.dictionary.specs.Rows.{rows, rowAt}
+use Rattle.dictionary.proofs.Find.{found}
+use Rattle.dictionary.proofs.Fit.{fits-length}
+use Rattle.store.proofs.Rows.{rows-length}
+use Rattle.terminal.specs.Terminal.{object}
+use Rattle.terminal.proofs.Setting.{set-unknown, set-taken, set-refused, settable-fits, says-set, says-not}
+use Rattle.terminal.proofs.set_object.Statement.{statement}
+use Rattle.terminal.proofs.set_object.Tie as tie
+
+returns : tie.Need-returns
+returns c =
+    let st = c .before .before .before .before in
+    let a = st .args in
+    let lk = c .before .before .lookup in
+    (says-set (set-unknown (a .store .now) (object (a .tag) (a .v .now)) (lk .result) (lk .ensures .0) (c .enum-told .given .1)) refl, st .pre)
+
+returns-2 : tie.Need-returns-2
+returns-2 c =
+    let st = c .before .before .before .before .before .before .before .before .before in
+    let a = st .args in
+    let lk = c .before .before .before .before .before .before .before .lookup in
+    let f = c .before .before .before .before .before .found .given in
+    (says-not _ (set-refused (a .store .now) (object (a .tag) (a .v .now)) (lk .result) (lk .ensures .0) (f .0 .0) (f .1) (sym (c .before .is-settable .ensures) ∙ not-true _ (c .if1 .taken))) refl, st .pre)
+
+put-requires : tie.Need-put-requires
+put-requires c κs =
+    let st = c .before .before .before .before .before .before .before .before .before .before in
+    let a = st .args in
+    let lk = c .before .before .before .before .before .before .before .before .lookup in
+    let f = c .before .before .before .before .before .before .found .given in
+    let in-table = found rows (a .tag) (f .0 .0) (sym (lk .ensures .0) ∙ f .1) in
+    let fit = fits-length (rowAt (f .0 .0)) (a .v .now) (settable-fits (a .store .now) (f .0 .0) (object (a .tag) (a .v .now)) (sym (c .before .before .is-settable .ensures) ∙ not-false _ (c .before .if1 .left))) in
+    (st .pre, (omega (arith, rows-length), fit .1))
+
+returns-3 : tie.Need-returns-3
+returns-3 c =
+    let st = c .before .before .before .before .before .before .before .before .before .before .before in
+    let a = st .args in
+    let lk = c .before .before .before .before .before .before .before .before .before .lookup in
+    let f = c .before .before .before .before .before .before .before .found .given in
+    let taken = set-taken (a .store .now) (object (a .tag) (a .v .now)) (lk .result) (lk .ensures .0) (f .0 .0) (f .1) (sym (c .before .before .before .is-settable .ensures) ∙ not-false _ (c .before .before .if1 .left)) in
+    (says-set (taken ∙ ap some (sym (c .put .ensures .0))) refl, c .put .ensures .1)
+
+pub set-object-spec : {M : Type 1} → statement M
+set-object-spec =
+    tie.close
+    (tie.spec
+    (λ c κs. search needs)
+    (λ c. search needs)
+    (λ c. search needs)
+    returns
+    (λ c κs. search needs)
+    returns-2
+    put-requires
+    returns-3)

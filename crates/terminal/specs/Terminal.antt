@@ -1,0 +1,161 @@
+-- Start bytes (document 01, refusals 20, 23 and 24; "Dictionary"): a run of whole primitive objects that the terminal brings.
+-- Assumes nothing.
+use mathlib.Core.Path.{_≡_}
+use mathlib.Core.Bool.{Bool, true, false, not}
+use mathlib.Core.List.{List, [], _∷_}
+use mathlib.Core.Option.{Option, some, none}
+use Prim.Native.Nat.{ℕ, zero, suc}
+use lib.Dec.{leb, eqb}
+use lib.ListN.{length, getD}
+use Rattle.basics.specs.Choice.{if, both}
+use Rattle.basics.specs.Number.{hasBit}
+use Rattle.tlv.specs.declared.Front.{Front}
+use Rattle.tlv.specs.Object.{headerOf, valueIn, behind}
+use Rattle.dictionary.specs.declared.Found.{Found}
+use Rattle.dictionary.specs.Rows.{rows, rowAt, find, start}
+use Rattle.dictionary.specs.Form.{fitting}
+use Rattle.dictionary.specs.TerminalType.{listed}
+use Rattle.store.specs.Place.{isThere, valueAt, putAt}
+use Rattle.record.specs.Ranges.{brought}
+use Rattle.record.specs.Numbers.{refusedBytes, refusedObject, refusedAbsent}
+use Rattle.terminal.specs.declared.Said.{Said}
+use Rattle.terminal.specs.declared.Loading.{Loading}
+
+-- ---- a run of whole primitive objects
+
+-- an object of the terminal: its tag and its value
+pub record Object : Type 0 where
+  pub tag : ℕ
+  pub value : List ℕ
+
+abbrev pub object : ℕ → List ℕ → Object
+object t v = record { tag = t; value = v }
+
+unfoldable pub withObject : Object → Option (List Object) → Option (List Object)
+withObject o none = none
+withObject o (some os) = some (o ∷ os)
+
+-- the primitive object at the front of the bytes; a template, known or not, is no such object
+abbrev pub primitiveFront : Front → Front
+primitiveFront Front.Broken = Front.Broken
+primitiveFront (Front.Object h) = if (h .template) Front.Broken (Front.Object h)
+
+unfoldable pub primitiveOf : List ℕ → Front
+primitiveOf s = primitiveFront (headerOf s)
+
+-- that object, and what k reads of the bytes behind it
+abbrev pub oneMore : (List ℕ → Option (List Object)) → List ℕ → Front → Option (List Object)
+oneMore k s Front.Broken = none
+oneMore k s (Front.Object h) = withObject (object (h .tag) (valueIn s h)) (k (behind s h))
+
+abbrev pub nextObject : (List ℕ → Option (List Object)) → List ℕ → Option (List Object)
+nextObject k [] = some []
+nextObject k (b ∷ s) = oneMore k (b ∷ s) (primitiveOf (b ∷ s))
+
+-- the run by at most so many objects
+unfoldable pub runBy : ℕ → List ℕ → Option (List Object)
+runBy zero s = none
+runBy (suc n) s = nextObject (runBy n) s
+
+-- the objects of the bytes in order, or none where the bytes are not a run of them.
+-- Each object is shorter than its list, so the list's length is objects enough.
+unfoldable pub run : List ℕ → Option (List Object)
+run s = runBy (suc (length s)) s
+
+abbrev pub isRun : Option (List Object) → Bool
+isRun none = false
+isRun (some os) = true
+
+-- ---- taking them
+
+-- a terminal type must be listed
+unfoldable pub typeListed : ℕ → List ℕ → Bool
+typeListed t v = if (eqb t 0x9F35) (listed (getD v 0 0)) true
+
+-- a known object that a start may set, of a length and digits that fit, not there yet
+unfoldable pub settable : List ℕ → ℕ → Object → Bool
+settable b k o =
+    both (hasBit (rowAt k .setters) start) (both (fitting (rowAt k) (o .value))
+    (both (not (isThere (valueAt rows b k))) (typeListed (o .tag) (o .value))))
+
+abbrev pub setFound : List ℕ → Object → Found → Option (List ℕ)
+setFound b o Found.Unknown = some b
+setFound b o (Found.At k) = if (settable b k o) (some (putAt rows b k (o .value))) none
+
+-- one object: unknown ones are skipped
+unfoldable pub setObject : List ℕ → Object → Option (List ℕ)
+setObject b o = setFound b o (find rows (o .tag))
+
+-- one after the other, none where one may not be set
+abbrev pub andThen : Option (List ℕ) → (List ℕ → Option (List ℕ)) → Option (List ℕ)
+andThen none k = none
+andThen (some b) k = k b
+
+unfoldable pub setAll : List ℕ → List Object → Option (List ℕ)
+setAll b [] = some b
+setAll b (o ∷ os) = andThen (setObject b o) (λ c. setAll c os)
+
+-- the objects of a run; none where there is no run
+unfoldable pub setRun : List ℕ → Option (List Object) → Option (List ℕ)
+setRun b none = none
+setRun b (some os) = setAll b os
+
+-- what is said and left of a working store: all were set, or one may not be and the working store is given up
+abbrev pub Sets : Bool → List ℕ → Option (List ℕ) → Type 0
+Sets r c none = r ≡ false
+Sets r c (some d) = (r ≡ true) × (c ≡ d)
+
+-- ---- what a start loads: a store, or a refusal by its number
+
+pub data Loaded : Type 0 where
+  refusal : ℕ → Loaded
+  loaded : List ℕ → Loaded
+
+-- all that a start must bring is there
+abbrev pub whole : List ℕ → Loaded
+whole b = if (brought b) (loaded b) (refusal refusedAbsent)
+
+abbrev pub afterSetting : Option (List ℕ) → Loaded
+afterSetting none = refusal refusedObject
+afterSetting (some b) = whole b
+
+abbrev pub afterRun : List ℕ → Option (List Object) → Loaded
+afterRun b none = refusal refusedBytes
+afterRun b (some os) = afterSetting (setAll b os)
+
+-- the most start bytes
+abbrev pub mostBytes : ℕ
+mostBytes = 1024
+
+-- the start bytes s into the store b
+unfoldable pub load : List ℕ → List ℕ → Loaded
+load b s = if (leb (length s) mostBytes) (afterRun b (run s)) (refusal refusedBytes)
+
+-- ---- what the call hands back
+
+-- by its number, or taken
+abbrev pub saidOf : Loaded → Said
+saidOf (refusal n) = Said.Refused (record { number = n })
+saidOf (loaded c) = Said.Taken
+
+-- a refusal leaves the store b as it came
+abbrev pub leftOf : List ℕ → Loaded → List ℕ
+leftOf b (refusal n) = b
+leftOf b (loaded c) = c
+
+pub record Loads (r : Loading) (b : List ℕ) (x : Loaded) : Type 0 where
+  pub said : r .said ≡ saidOf x
+  pub store : r .store .bytes ≡ leftOf b x
+
+-- ---- what holds of it, proved in proofs/ (Run, Laws, Twice, Examples) for all stores, bytes and objects
+--   unroll             run s ≡ nextObject run s: the number of objects allowed does not matter
+--   load-by            a loaded store comes by at most 1,024 bytes that are a run whose objects are all set, and all is brought
+--   load-holds         what each put of a settable object keeps holds of the store that is loaded
+--   load-brought       all that a start must bring is there
+--   load-size          the store keeps its size
+--   load-fits          where every stored object fitted, every one fits
+--   load-untouched     rows that a start may not set are as they were
+--   load-kept          objects that were there are as they were
+--   load-listed        where no terminal type was there, the one that is loaded is listed
+--   load-long-same     every input over 1,024 bytes gives the same
+--   twice-refused      two objects of a known tag are refused, whatever stands around them

@@ -1,0 +1,161 @@
+// The start bytes of a session into a store, or the refusal that they meet.
+//
+// `load` first finds whether the bytes are a run of whole primitive objects, then sets the objects one
+// after the other in a working copy, then sees that all that a start must bring is there. The store
+// that came in is handed back unless every step passed.
+use dictionary::Found;
+use dictionary::SIZE;
+use record::Refusal;
+use store::Store;
+use tlv::Front;
+ghost use mathlib.Core.Path.{_≡_};
+ghost use lib.ListN.{length};
+ghost use Rattle.dictionary.specs.Rows.{storeSize};
+ghost use Rattle.terminal.specs.Terminal.{object, primitiveOf, run, isRun, typeListed, settable, setObject, setRun, Sets, load as loadOf, Loads};
+
+// What a loading says of the start bytes.
+pub enum Said {
+    Taken,
+    Refused(Refusal),
+}
+
+// A loading: what it says, and the store.
+pub struct Loading {
+    pub said: Said,
+    pub store: Store,
+}
+
+// The most start bytes.
+const MOST: usize = 1024;
+
+// The start bytes into a store.
+pub fn load(store: Store, terminal: &[u8]) -> Loading
+    ensures { λ r. ⌜ Loads r (store .bytes) (loadOf (store .bytes) (now (terminal .entry))) ⌝ }
+{
+    if MOST < terminal.len() {
+        return refused(store, record::REFUSED_BYTES);
+    }
+    if !is_run(terminal) {
+        return refused(store, record::REFUSED_BYTES);
+    }
+    let mut work = store.bytes;
+    if !set_objects(terminal, &mut work) {
+        return refused(store, record::REFUSED_OBJECT);
+    }
+    if !record::all_brought(&work) {
+        return refused(store, record::REFUSED_ABSENT);
+    }
+    Loading {
+        said: Said::Taken,
+        store: Store { bytes: work },
+    }
+}
+
+// A refusal hands the store back as it came.
+fn refused(store: Store, number: u8) -> Loading
+    ensures { λ r. ⌜ (r .said ≡ Said.Refused (record { number = number })) × (r .store ≡ store) ⌝ }
+{
+    Loading {
+        said: Said::Refused(Refusal { number }),
+        store,
+    }
+}
+
+// The primitive object at the front; a template is none.
+fn primitive(s: &[u8]) -> Front
+    ensures { λ r. ⌜ r ≡ primitiveOf (now (s .entry)) ⌝ }
+{
+    let front = tlv::head(s);
+    let Front::Object(h) = front else {
+        return Front::Broken;
+    };
+    if h.template {
+        return Front::Broken;
+    }
+    Front::Object(h)
+}
+
+// Whether the bytes are a run of whole primitive objects.
+fn is_run(terminal: &[u8]) -> bool
+    ensures { λ r. ⌜ r ≡ isRun (run (now (terminal .entry))) ⌝ }
+{
+    let mut s = terminal;
+    while s.len() != 0 {
+        let front = primitive(s);
+        let Front::Object(h) = front else {
+            return false;
+        };
+        let start = h.start;
+        let e = start + h.len;
+        s = &s[e..];
+    }
+    true
+}
+
+// Sets the objects of a run one after the other: whether each of them may be set.
+fn set_objects(terminal: &[u8], store: &mut [u8; SIZE]) -> bool
+    requires { ⌜ length (now store) ≡ storeSize ⌝ }
+    ensures set { λ r. ⌜ Sets r (now (store .exit)) (setRun (now (store .entry)) (run (now (terminal .entry)))) ⌝ }
+    ensures sized { λ _. ⌜ length (now (store .exit)) ≡ storeSize ⌝ }
+{
+    let mut s = terminal;
+    while s.len() != 0 {
+        let front = primitive(s);
+        let Front::Object(h) = front else {
+            return false;
+        };
+        let start = h.start;
+        let e = start + h.len;
+        let value = &s[start..e];
+        let rest = &s[e..];
+        if !set_object(h.tag, value, store) {
+            return false;
+        }
+        s = rest;
+    }
+    true
+}
+
+// One object: skipped if unknown, set if it may be, else not.
+fn set_object(tag: u32, v: &[u8], store: &mut [u8; SIZE]) -> bool
+    requires { ⌜ length (now store) ≡ storeSize ⌝ }
+    ensures set { λ r. ⌜ Sets r (now (store .exit)) (setObject (now (store .entry)) (object tag (now (v .entry)))) ⌝ }
+    ensures sized { λ _. ⌜ length (now (store .exit)) ≡ storeSize ⌝ }
+{
+    let found = dictionary::lookup(tag);
+    let Found::At(row) = found else {
+        return true;
+    };
+    let all = &store[..];
+    if !is_settable(all, row, tag, v) {
+        return false;
+    }
+    store::put(store, row, v);
+    true
+}
+
+// Whether a start may set a row's object, with this value.
+fn is_settable(bytes: &[u8], row: usize, tag: u32, v: &[u8]) -> bool
+    ensures { λ r. ⌜ r ≡ settable (now (bytes .entry)) row (object tag (now (v .entry))) ⌝ }
+{
+    if dictionary::setters(row) / dictionary::START % 2 != 1 {
+        return false;
+    }
+    if !dictionary::fits(row, v) {
+        return false;
+    }
+    if store::is_there(bytes, row) {
+        return false;
+    }
+    is_type_listed(tag, v)
+}
+
+// Whether a terminal type is listed; nothing is asked of other objects.
+fn is_type_listed(tag: u32, v: &[u8]) -> bool
+    ensures { λ r. ⌜ r ≡ typeListed tag (now (v .entry)) ⌝ }
+{
+    if tag != 0x9F35 {
+        return true;
+    }
+    dictionary::is_listed(record::byte_at(v, 0))
+}
