@@ -1,0 +1,266 @@
+-- How a step comes about: the refusals that every call checks first, an answer that is accepted or not, and each way out of a step.
+-- The proofs of the code cite these and leave the steps shut.
+-- Assumes nothing.
+use mathlib.Core.Path.{_≡_, refl, sym, ap, ap₂, _∙_}
+use mathlib.Core.Bool.{Bool, true, false}
+use mathlib.Core.List.{List, [], _∷_}
+use mathlib.Core.Option.{Option, some, none}
+use mathlib.Core.Logic.{⊎-elim}
+use Prim.Native.Nat.{ℕ, _+_, _/_, _≤_, _<_}
+use native.Mathlib.Omega.{arith}
+use types.Run.{OneOf}
+use denote.Enum.Declared.{tagOf}
+use lib.Dec.{eqb}
+use lib.ListN.{length}
+use borrow.Author.Tests.{lt-ltb, le-ltb, eq-eqb, ne-eqb}
+use Rattle.basics.specs.Choice.{both}
+use Rattle.basics.proofs.Laws.{if-yes, if-no}
+use Rattle.dictionary.specs.Rows.{rows, rowAt}
+use Rattle.dictionary.specs.Named.{placeFound, placeOf}
+use Rattle.dictionary.proofs.Named.{at-94, at-95}
+use Rattle.store.specs.declared.Store.{Store}
+use Rattle.store.specs.Place.{bytesOf, valueAt, putAt}
+use Rattle.locator.specs.declared.Record.{Record}
+use Rattle.locator.specs.declared.Found.{Found}
+use Rattle.locator.specs.Records.{accepts, recordAt}
+use Rattle.locator.proofs.Laws.{accepted-total, record-accepted, record-inside, record-named}
+use Rattle.data_list.specs.declared.Written.{Written}
+use Rattle.data_list.specs.declared.Written.the-variants.{Command, NoCommand}
+use Rattle.data_list.specs.declared.Command.{Command as Handed}
+use Rattle.data_list.specs.Commands.{written, bufferWith}
+use Rattle.reading.specs.declared.Verdict.{Verdict}
+use Rattle.reading.specs.declared.Verdict.the-variants.{Accepted, BadStatus, Malformed, NotAllowed}
+use Rattle.reading.specs.declared.Reading.{Reading}
+use Rattle.reading.specs.Answer as reading
+use Rattle.reading.proofs.Verdict.{the-type as verdict-type}
+use Rattle.analysis.specs.declared.choice.Choice.{Choice}
+use Rattle.analysis.specs.Action.{aboveLimit, resultOf, chosen}
+use Rattle.record.specs.declared.Outcome.{Outcome}
+use Rattle.record.specs.declared.Asked.{Asked}
+use Rattle.record.specs.declared.Refusal.{Refusal}
+use Rattle.record.specs.declared.Phase.{Phase}
+use Rattle.record.specs.declared.Session.{Session}
+use Rattle.record.specs.declared.Reply.{Reply}
+use Rattle.record.specs.Numbers.{refusedPhase, refusedBuffer, refusedRanges, reasonMissing, reasonLocator, reasonAboveLimit, reasonDataList, reasonMode}
+use Rattle.record.specs.Session.{stored, waitingSession, storedSession, failsReply, commandsReply}
+use Rattle.record.specs.Held.{holds, byteIn}
+use Rattle.record.specs.Ranges.{emvMode, locatorIn, completed, inRanges}
+use Rattle.record.specs.Clauses.{noResults}
+use Rattle.record.proofs.Tags.{bytes-are}
+use Rattle.record.proofs.Phase.{the-type as phase-type}
+use Rattle.terminal.specs.declared.Said.{Said}
+use Rattle.terminal.specs.declared.Loading.{Loading}
+use Rattle.terminal.specs.Terminal.{Loaded, refusal, loaded, Loads}
+use Rattle.session.specs.declared.Needed.{Needed}
+use Rattle.session.specs.declared.Mode.{Mode}
+use Rattle.session.specs.declared.Limit.{Limit}
+use Rattle.session.specs.declared.Decided.{Decided}
+use Rattle.session.specs.declared.Decision.{Decision}
+use Rattle.session.specs.Steps.{Step, Did, quiet, refuses, fails, withStore, withResults, leastBuffer, admitted, handOut}
+use Rattle.session.specs.Start.{askOptions, startLoaded, startIn, refusalNumber}
+use Rattle.session.specs.Answer.{accepted, askFound, optionsRead, askCryptogram, analysed, recordsRead, decision, concluded, cryptogramRead, neededOf, modeOf, limitFor, decidedOf}
+
+-- ---- a step by an equation
+
+pub did-as : {r : Reply} {b : List ℕ} {s t : Step} → s ≡ t → Did r b t → Did r b s
+did-as e d = record { reply = d .reply ∙ ap (λ (x : Step). x .reply) (sym e); buffer = d .buffer ∙ ap (λ (x : Step). x .buffer) (sym e) }
+
+-- no command: the buffer stands as it was
+pub did-quiet : {r q : Reply} {b : List ℕ} {s : Step} → s ≡ quiet q b → r ≡ q → Did r b s
+did-quiet e p = did-as e (record { reply = p; buffer = refl })
+
+-- ---- the refusals that every call checks first
+
+module _ {A : Type 0} (s : Session) (size : ℕ) (refused : ℕ → A) (step : A) where
+  pub admitted-short : size < leastBuffer → admitted s size refused step ≡ refused refusedBuffer
+  unfolding admitted
+  admitted-short h = if-yes _ _ (lt-ltb size leastBuffer h)
+
+  pub admitted-ranges : leastBuffer ≤ size → inRanges s ≡ false → admitted s size refused step ≡ refused refusedRanges
+  unfolding admitted
+  admitted-ranges h e = if-no _ _ (le-ltb size leastBuffer h) ∙ if-no _ _ e
+
+  pub admitted-in : leastBuffer ≤ size → inRanges s ≡ true → admitted s size refused step ≡ step
+  unfolding admitted
+  admitted-in h e = if-no _ _ (le-ltb size leastBuffer h) ∙ if-yes _ _ e
+
+-- ---- an answer that is accepted, or not
+
+-- a verdict other than accepted has a number other than 0
+not-accepted : (v : Verdict) → OneOf (1 ∷ 2 ∷ 3 ∷ []) (tagOf verdict-type v) → reading.numberOf v ≡ 0 → ⊥
+not-accepted Accepted h e = ⊎-elim (λ x. omega arith) (λ r. ⊎-elim (λ x. omega arith) (λ x. omega arith) r) h
+not-accepted BadStatus h e = omega arith
+not-accepted Malformed h e = omega arith
+not-accepted NotAllowed h e = omega arith
+
+module _ {A : Type 0} (s : Session) (r : Reading) (o : reading.Outcome) (failed : ℕ → A) (go : Session → A) (g : reading.Gives r o) where
+  pub accepted-yes : r .verdict ≡ Accepted → accepted s o failed go ≡ go (storedSession s (r .store))
+  unfolding accepted
+  accepted-yes e =
+      if-yes _ _ (eq-eqb (o .reason) 0 (sym (g .reason) ∙ ap reading.numberOf e)) ∙ ap (λ (b : List ℕ). go (withStore s b)) (sym (g .store))
+
+  pub accepted-no : OneOf (1 ∷ 2 ∷ 3 ∷ []) (tagOf verdict-type (r .verdict)) → accepted s o failed go ≡ failed (reading.numberOf (r .verdict))
+  unfolding accepted
+  accepted-no h =
+      if-no _ _ (ne-eqb (o .reason) 0 (λ e. not-accepted (r .verdict) h (g .reason ∙ e))) ∙ ap failed (sym (g .reason))
+
+-- ---- what the code's two-case answers say of their tests
+
+pub is-complete : {x : Needed} (b : Bool) → x ≡ neededOf b → x ≡ Needed.Complete → b ≡ true
+is-complete true e f = refl
+is-complete false e f = let z : _≡_ {A = ℕ} 0 1 = cc in absurd (omega arith)
+
+pub is-missing : {x : Needed} (b : Bool) → x ≡ neededOf b → x ≡ Needed.Missing → b ≡ false
+is-missing true e f = let z : _≡_ {A = ℕ} 0 1 = cc in absurd (omega arith)
+is-missing false e f = refl
+
+pub is-emv : {x : Mode} (b : Bool) → x ≡ modeOf b → x ≡ Mode.Emv → b ≡ true
+is-emv true e f = refl
+is-emv false e f = let z : _≡_ {A = ℕ} 0 1 = cc in absurd (omega arith)
+
+pub is-stripe : {x : Mode} (b : Bool) → x ≡ modeOf b → x ≡ Mode.Stripe → b ≡ false
+is-stripe true e f = let z : _≡_ {A = ℕ} 0 1 = cc in absurd (omega arith)
+is-stripe false e f = refl
+
+pub is-above : {x : Limit} (b : Bool) → x ≡ limitFor b → x ≡ Limit.Above → b ≡ true
+is-above true e f = refl
+is-above false e f = let z : _≡_ {A = ℕ} 0 1 = cc in absurd (omega arith)
+
+pub is-within : {x : Limit} (b : Bool) → x ≡ limitFor b → x ≡ Limit.Within → b ≡ false
+is-within true e f = let z : _≡_ {A = ℕ} 0 1 = cc in absurd (omega arith)
+is-within false e f = refl
+
+pub decides-nothing : {x : Decided} (o : Option Outcome) → x ≡ decidedOf o → x ≡ Decided.Nothing → o ≡ none
+decides-nothing none e f = refl
+decides-nothing (some o) e f = let z : _≡_ {A = ℕ} 0 1 = cc in absurd (omega arith)
+
+pub decides-on : {x : Decided} {d : Decision} (o : Option Outcome) → x ≡ decidedOf o → x ≡ Decided.On d → o ≡ some (d .outcome)
+decides-on none e f = let z : _≡_ {A = ℕ} 0 1 = cc in absurd (omega arith)
+decides-on {x} {d} (some o) e f = let z : record { outcome = o } ≡ d = cc in ap (λ (y : Decision). some (y .outcome)) z
+
+-- ---- the result bits
+
+-- 95 has room for them
+pub results-fit : rowAt 5 .greatest ≡ 5
+unfolding rows
+results-fit = refl
+
+pub results-place : placeOf 0x95 ≡ 5
+unfolding placeOf
+results-place = ap placeFound at-95
+
+-- the record with the bits stored
+pub results-stored : (s : Session) (b v : List ℕ) {k : Store} {t : Session} → k .bytes ≡ putAt rows b 5 v → t ≡ storedSession s k → withStore s (withResults b v) ≡ t
+unfolding withResults
+results-stored s b v g h = ap (λ (n : ℕ). withStore s (putAt rows b n v)) results-place ∙ ap (withStore s) (sym g) ∙ sym h
+
+-- ---- start
+
+-- a phase other than fresh
+pub not-fresh : (p : Phase) (s : Session) (bytes buf : List ℕ) → OneOf (1 ∷ 2 ∷ 3 ∷ 4 ∷ []) (tagOf phase-type p) → startIn p s bytes buf ≡ refuses s refusedPhase buf
+not-fresh Phase.Fresh s bytes buf h =
+    absurd (⊎-elim (λ e. omega arith) (λ r. ⊎-elim (λ e. omega arith) (λ r. ⊎-elim (λ e. omega arith) (λ e. omega arith) r) r) h)
+not-fresh Phase.Options s bytes buf h = refl
+not-fresh (Phase.Record p) s bytes buf h = refl
+not-fresh (Phase.Cryptogram a) s bytes buf h = refl
+not-fresh (Phase.Ended e) s bytes buf h = refl
+
+module _ (s : Session) (buf : List ℕ) {r : Loading} {b : List ℕ} where
+  pub loading-refused : {f : Refusal} (x : Loaded) → Loads r b x → r .said ≡ Said.Refused f → startLoaded s buf x ≡ refuses s (refusalNumber (r .said)) buf
+  loading-refused (refusal n) g e = ap (λ (d : Said). refuses s (refusalNumber d) buf) (sym (g .said))
+  loading-refused (loaded c) g e = let w = g .said in let z : _≡_ {A = ℕ} 0 1 = cc in absurd (omega arith)
+
+  pub loading-taken : {k : Store} {t : Session} (x : Loaded) → Loads r b x → r .said ≡ Said.Taken → k .bytes ≡ putAt rows (r .store .bytes) 5 noResults
+      → t ≡ storedSession s k → startLoaded s buf x ≡ askOptions t buf
+  loading-taken (refusal n) g e f h = let w = g .said in let z : _≡_ {A = ℕ} 0 1 = cc in absurd (omega arith)
+  loading-taken (loaded c) g e f h =
+      ap (λ (t : Session). askOptions t buf)
+      (ap (λ (d : List ℕ). withStore s (withResults d noResults)) (sym (g .store)) ∙ results-stored s (r .store .bytes) noResults f h)
+
+-- ---- a record of the locator, by the row's value and a number
+
+module _ {v : List ℕ} {k : ℕ} {r x : Found} (f : r ≡ recordAt v k) (e : r ≡ x) where
+  pub found-as : (b : List ℕ) (n : ℕ) → v ≡ bytesOf (valueAt rows b 4) → k ≡ n → recordAt (locatorIn b) n ≡ x
+  found-as b n p q = sym (f ∙ ap₂ recordAt (p ∙ bytes-are b 0x94 4 at-94) q) ∙ e
+
+-- one that is there has a file of five bits, and is one of the first 128
+pub found-there : (v : List ℕ) (k : ℕ) {r : Found} {w : Record} → r ≡ recordAt v k → r ≡ Found.At w → (w .file < 32) × (k ≤ 128)
+found-there v k {r} {w} f e =
+    let g = sym f ∙ e in
+    (omega (arith, record-named v k w g .1), omega (arith, record-inside v k w g .1, accepted-total v (record-accepted v k w g) .1))
+
+-- ---- a command that carries a filled list, by what was written
+
+module _ (s : Session) (p : Phase) (buf : List ℕ) {b : List ℕ} {r : Reply} {w : Written} where
+  pub handed-none : (x : Option (List ℕ)) → w ≡ written x → b ≡ bufferWith x buf → w ≡ NoCommand → r ≡ failsReply s reasonDataList → Did r b (handOut s p buf x)
+  handed-none none e f g h = record { reply = h; buffer = f }
+  handed-none (some c) e f g h = let z : _≡_ {A = ℕ} 0 1 = cc in absurd (omega arith)
+
+  pub handed-some : {n : Handed} (x : Option (List ℕ)) → w ≡ written x → b ≡ bufferWith x buf → w ≡ Command n
+      → r ≡ commandsReply (waitingSession s p (s .count + 1)) (n .len) → Did r b (handOut s p buf x)
+  handed-some none e f g h = let z : _≡_ {A = ℕ} 0 1 = cc in absurd (omega arith)
+  handed-some {n} (some c) e f g h =
+      let z : n ≡ record { len = length c } = cc in
+      record { reply = h ∙ ap (λ (m : Handed). commandsReply (waitingSession s p (s .count + 1)) (m .len)) z; buffer = f }
+
+-- ---- after the processing options
+
+module _ (s : Session) (buf : List ℕ) where
+  abbrev there : Bool
+  there = both (holds (stored s) 0x82) (holds (stored s) 0x94)
+
+  pub options-missing : there ≡ false → optionsRead s buf ≡ fails s reasonMissing buf
+  unfolding optionsRead
+  options-missing e = if-no _ _ e
+
+  pub options-mode : there ≡ true → emvMode (stored s) ≡ false → optionsRead s buf ≡ fails s reasonMode buf
+  unfolding optionsRead
+  options-mode e m = if-yes _ _ e ∙ if-no _ _ m
+
+  pub options-locator : there ≡ true → emvMode (stored s) ≡ true → accepts (locatorIn (stored s)) ≡ false → optionsRead s buf ≡ fails s reasonLocator buf
+  unfolding optionsRead
+  options-locator e m a = if-yes _ _ e ∙ if-yes _ _ m ∙ if-no _ _ a
+
+  pub options-ask : (x : Found) → there ≡ true → emvMode (stored s) ≡ true → accepts (locatorIn (stored s)) ≡ true
+      → recordAt (locatorIn (stored s)) 1 ≡ x → optionsRead s buf ≡ askFound s 1 buf x
+  unfolding optionsRead
+  options-ask x e m a f = if-yes _ _ e ∙ if-yes _ _ m ∙ if-yes _ _ a ∙ ap (askFound s 1 buf) f
+
+  -- ---- after the last record
+
+  pub records-limit : aboveLimit (stored s) ≡ true → recordsRead s buf ≡ fails s reasonAboveLimit buf
+  unfolding recordsRead
+  records-limit e = if-yes _ _ e
+
+  pub records-missing : aboveLimit (stored s) ≡ false → completed (stored s) ≡ false → recordsRead s buf ≡ fails s reasonMissing buf
+  unfolding recordsRead
+  records-missing e f = if-no _ _ e ∙ if-no _ _ f
+
+  pub records-analysed : aboveLimit (stored s) ≡ false → completed (stored s) ≡ true → recordsRead s buf ≡ analysed s buf
+  unfolding recordsRead
+  records-analysed e f = if-no _ _ e ∙ if-yes _ _ f
+
+-- ---- the result bits, found
+
+-- the bits as they are found, stored and chosen on
+pub analysed-as : (s : Session) (buf : List ℕ) {t : Session} {r : List ℕ} {k : Store} {x : Choice} → r ≡ resultOf (stored s) → x ≡ chosen (stored s) r
+    → k .bytes ≡ putAt rows (stored s) 5 r → t ≡ storedSession s k → analysed s buf ≡ askCryptogram t x buf
+unfolding analysed
+analysed-as s buf {t} {r} {k} {x} e f g h =
+    ap₂ (λ (u : Session) (c : Choice). askCryptogram u c buf)
+    (ap (λ (y : List ℕ). withStore s (withResults (stored s) y)) (sym e) ∙ results-stored s (stored s) r g h)
+    (ap (chosen (stored s)) (sym e) ∙ sym f)
+
+-- ---- the answer to the cryptogram
+
+module _ (a : Asked) (s : Session) where
+  abbrev brought : Bool
+  brought = both (holds (stored s) 0x9F27) (both (holds (stored s) 0x9F36) (holds (stored s) 0x9F26))
+
+  pub cryptogram-missing : brought ≡ false → cryptogramRead a s ≡ failsReply s reasonMissing
+  unfolding cryptogramRead
+  cryptogram-missing e = if-no _ _ e
+
+  pub cryptogram-decided : brought ≡ true → cryptogramRead a s ≡ concluded s (decision (a .choice) (byteIn (stored s) 0x9F27 1 / 64))
+  unfolding cryptogramRead
+  cryptogram-decided e = if-yes _ _ e
