@@ -73,7 +73,7 @@ pairOf stage card terminal = record { card = cardCode stage card; terminal = fro
 unfoldable pub heldAt : List ℕ → List Pair → ℕ → Bool
 heldAt result pairs stage = someBit (lowestBit result (getD pairs stage noPair))
 
--- where a type that ends in a digit lets the terminal decide; no session has a type with another ending
+-- where a type that ends in a digit lets the terminal decide; no running session has a type with another ending
 unfoldable pub reachAt : ℕ → Reach
 reachAt digit =
     if (oneOf digit 1 4) OnlineOnly

@@ -1,5 +1,5 @@
 -- Restrictions, byte 2 of 95 (document 01, "Result bits and the choice"; Book C-2, 7.7): version, dates and usage.
--- What a session always holds comes as its bytes, what may be missing as a `Value`.
+-- What a session holds when the bits are made comes as its bytes, what may be missing as a `Value`.
 -- Assumes nothing.
 use mathlib.Core.Bool.{Bool, true, false, not}
 use mathlib.Core.List.{List}

@@ -10,7 +10,7 @@ abbrev pub placeFound : Found → ℕ
 placeFound Unknown = 0
 placeFound (At k) = k
 
--- the row of a known tag
+-- the row of a known tag; the first row for an unknown one, which no code asks for
 unfoldable pub placeOf : ℕ → ℕ
 placeOf t = placeFound (find rows t)
 

@@ -57,11 +57,12 @@ pub data Body : Type 0 where
   primitive : ℕ → List ℕ → Body
   template : ℕ → Forest → Body
 
--- the contents of a template, with three levels left inside the outer one
+-- a template whose contents are a tree
 abbrev pub templateBody : ℕ → Option Forest → Option Body
 templateBody t none = none
 templateBody t (some f) = some (template t f)
 
+-- an object that is the whole body; three levels of templates are left inside the outer one
 abbrev pub frontBody : List ℕ → Front → Option Body
 frontBody s Broken = none
 frontBody s (Object h) =

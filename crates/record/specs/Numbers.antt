@@ -31,7 +31,7 @@ refusedPhase = 21
 abbrev pub refusedBuffer : ℕ
 refusedBuffer = 22
 
--- a start object that may not be set, does not fit, comes twice, or a terminal type that is not listed
+-- a known start object that may not be set, does not fit or comes twice, or a terminal type that is not listed
 abbrev pub refusedObject : ℕ
 refusedObject = 23
 
@@ -73,11 +73,11 @@ reasonLocator = 5
 abbrev pub reasonAboveLimit : ℕ
 reasonAboveLimit = 6
 
--- a data object list that is broken or fills too much
+-- a data object list that is broken, or that fills to a length no command can carry
 abbrev pub reasonDataList : ℕ
 reasonDataList = 7
 
--- a cryptogram of a type that was not asked for
+-- a cryptogram of a type that the one asked for does not allow
 abbrev pub reasonCryptogram : ℕ
 reasonCryptogram = 8
 

@@ -10,7 +10,6 @@ use Prim.Native.Nat.{ℕ, _+_, _/_, _≤_, _<_}
 use native.Mathlib.Omega.{arith}
 use types.Run.{OneOf}
 use denote.Enum.Declared.{tagOf}
-use lib.Dec.{eqb}
 use lib.ListN.{length}
 use borrow.Author.Tests.{lt-ltb, le-ltb, eq-eqb, ne-eqb}
 use Rattle.basics.specs.Choice.{both}
@@ -50,7 +49,8 @@ use Rattle.record.proofs.Tags.{bytes-are}
 use Rattle.record.proofs.Phase.{the-type as phase-type}
 use Rattle.terminal.specs.declared.Said.{Said}
 use Rattle.terminal.specs.declared.Loading.{Loading}
-use Rattle.terminal.specs.Terminal.{Loaded, refusal, loaded, Loads}
+use Rattle.terminal.specs.Terminal.{Loaded, Loads}
+use Rattle.terminal.proofs.Laws.{was-taken, was-refused}
 use Rattle.session.specs.declared.Needed.{Needed}
 use Rattle.session.specs.declared.Mode.{Mode}
 use Rattle.session.specs.declared.Limit.{Limit}
@@ -167,15 +167,11 @@ not-fresh (Phase.Ended e) s bytes buf h = refl
 
 module _ (s : Session) (buf : List ℕ) {r : Loading} {b : List ℕ} where
   pub loading-refused : {f : Refusal} (x : Loaded) → Loads r b x → r .said ≡ Said.Refused f → startLoaded s buf x ≡ refuses s (refusalNumber (r .said)) buf
-  loading-refused (refusal n) g e = ap (λ (d : Said). refuses s (refusalNumber d) buf) (sym (g .said))
-  loading-refused (loaded c) g e = let w = g .said in let z : _≡_ {A = ℕ} 0 1 = cc in absurd (omega arith)
+  loading-refused x g e = ap (startLoaded s buf) (was-refused x g e .0) ∙ ap (λ (d : Said). refuses s (refusalNumber d) buf) (sym e)
 
   pub loading-taken : {k : Store} {t : Session} (x : Loaded) → Loads r b x → r .said ≡ Said.Taken → k .bytes ≡ putAt rows (r .store .bytes) 5 noResults
       → t ≡ storedSession s k → startLoaded s buf x ≡ askOptions t buf
-  loading-taken (refusal n) g e f h = let w = g .said in let z : _≡_ {A = ℕ} 0 1 = cc in absurd (omega arith)
-  loading-taken (loaded c) g e f h =
-      ap (λ (t : Session). askOptions t buf)
-      (ap (λ (d : List ℕ). withStore s (withResults d noResults)) (sym (g .store)) ∙ results-stored s (r .store .bytes) noResults f h)
+  loading-taken x g e f h = ap (startLoaded s buf) (was-taken x g e) ∙ ap (λ (u : Session). askOptions u buf) (results-stored s (r .store .bytes) noResults f h)
 
 -- ---- a record of the locator, by the row's value and a number
 

@@ -105,7 +105,7 @@ approvedFor Choice.Offline = some Outcome.Approved
 unfoldable pub decision : Choice → ℕ → Option Outcome
 decision c kind = if (eqb kind 0) (some Outcome.Declined) (if (eqb kind 2) (onlineFor c) (if (eqb kind 1) (approvedFor c) none))
 
--- a decision has reason 0; a cryptogram of a type that was not asked for ends the session with reason 8
+-- a decision has reason 0; a cryptogram of a type that the one asked for does not allow ends the session with reason 8
 abbrev pub concluded : Session → Option Outcome → Reply
 concluded s none = failsReply s reasonCryptogram
 concluded s (some o) = endsReply s o reasonNone

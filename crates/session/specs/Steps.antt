@@ -66,7 +66,7 @@ admitted s size refused step = if (ltb size leastBuffer) (refused refusedBuffer)
 
 -- ---- a command that carries a filled list
 
--- a list that is broken or fills too much ends the session with reason 7
+-- a list that is broken, or that fills to a length no command can carry, ends the session with reason 7
 abbrev pub handOut : Session → Phase → List ℕ → Option (List ℕ) → Step
 handOut s p buf none = fails s reasonDataList buf
 handOut s p buf (some c) = commands s p c buf

@@ -11,9 +11,8 @@ use reading::{Awaited, File, Verdict};
 use record::{Asked, Outcome, Phase, Place, Reply, Session};
 use terminal::Said;
 ghost use mathlib.Core.Path.{_≡_};
-ghost use mathlib.Core.List.{_++_};
-ghost use Prim.Native.Nat.{_+_, _≤_, _<_, _/_};
-ghost use lib.ListN.{length, drop};
+ghost use Prim.Native.Nat.{_≤_, _<_};
+ghost use lib.ListN.{length};
 ghost use Rattle.basics.specs.Choice.{both};
 ghost use Rattle.locator.specs.Command.{readRecord};
 ghost use Rattle.analysis.specs.Action.{aboveLimit};
@@ -21,7 +20,7 @@ ghost use Rattle.terminal.specs.Terminal.{load as loadOf};
 ghost use Rattle.record.specs.Session.{stored};
 ghost use Rattle.record.specs.Held.{holds};
 ghost use Rattle.record.specs.Ranges.{emvMode, completed};
-ghost use Rattle.session.specs.Steps.{Did, commands as commandsStep, withResults, leastBuffer, brokenOff, linkStep, stopStep};
+ghost use Rattle.session.specs.Steps.{Did, commands as commandsStep, leastBuffer, brokenOff, linkStep, stopStep};
 ghost use Rattle.session.specs.Start.{askOptions, startLoaded, startStep, refusalNumber};
 ghost use Rattle.session.specs.Answer.{optionsRead, optionsStep, askCryptogram, analysed, recordsRead, recordRead, recordStep, decision, cryptogramRead, cryptogramReply, answerStep, neededOf, modeOf, limitFor, decidedOf};
 
@@ -46,7 +45,7 @@ pub enum Limit {
     Above,
 }
 
-// What a cryptogram decides: an outcome, or nothing where its type was not asked for.
+// What a cryptogram decides: an outcome, or nothing where the one asked for does not allow its type.
 pub enum Decided {
     On(Decision),
     Nothing,
@@ -335,7 +334,7 @@ fn decision_for(choice: Choice, kind: u8) -> Decided
     }
     if kind == 2 {
         return match choice {
-            Choice::Decline => Decided::Nothing,
+            Choice::Decline => Decided::Nothing, // a decline is never taken online
             Choice::Online => Decided::On(Decision { outcome: Outcome::OnlineRequest }),
             Choice::Offline => Decided::On(Decision { outcome: Outcome::OnlineRequest }),
         };

@@ -58,7 +58,7 @@ runBy zero s = none
 runBy (suc n) s = nextObject (runBy n) s
 
 -- the objects of the bytes in order, or none where the bytes are not a run of them.
--- Each object is shorter than its list, so the list's length is objects enough.
+-- The bytes behind an object are fewer than its list's, so the list's length is objects enough.
 unfoldable pub run : List ℕ → Option (List Object)
 run s = runBy (suc (length s)) s
 

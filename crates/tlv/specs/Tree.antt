@@ -70,7 +70,7 @@ parseBy zero levels s = none
 parseBy (suc n) levels s = oneObject (parseBy n) levels s (nextOf s)
 
 -- the objects of s, with templates nested at most `levels` deep, or none where s is malformed.
--- Each object is shorter than its list, so the list's length is steps enough.
+-- An object's contents and the bytes behind it are shorter than its list, so the list's length is steps enough.
 unfoldable pub parse : ℕ → List ℕ → Option Forest
 parse levels s = parseBy (suc (length s)) levels s
 

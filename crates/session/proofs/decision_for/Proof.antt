@@ -1,16 +1,14 @@
+-- `session::decision_for` meets its contract: type by type, and then by what was asked for.
+-- Assumes nothing.
 use borrow.Author.Needs.{needs}
-use mathlib.Core.Path.{_≡_, refl, sym, ap, _∙_}
 use borrow.Author.Tests.{eq-eqb, ne-eqb}
-use Rattle.basics.proofs.Laws.{if-yes, if-no}
-use Rattle.session.specs.Answer.{onlineFor, approvedFor, decision, decidedOf}
+use mathlib.Core.Path.{_≡_, sym, ap, _∙_}
 use Prim.Native.Nat.{ℕ}
-use mathlib.Core.Option.{Option, some, none}
+use Rattle.basics.proofs.Laws.{if-yes, if-no}
 use Rattle.analysis.specs.declared.choice.Choice.{Choice}
-use Rattle.record.specs.declared.Outcome.{Outcome}
+use Rattle.session.specs.Answer.{onlineFor, approvedFor, decision, decidedOf}
 use Rattle.session.proofs.decision_for.Statement.{statement}
 use Rattle.session.proofs.decision_for.Tie as tie
-use Rattle.session.proofs.decision_for.Reads as reads
-use Rattle.session.proofs.decision_for.Lts as lts
 
 -- a cryptogram of type 10, and of type 01, by what was asked for
 online : {x y : Choice} {kind : ℕ} → (kind ≡ 0 → ⊥) → kind ≡ 2 → x ≡ y → decidedOf (onlineFor y) ≡ decidedOf (decision x kind)
@@ -21,60 +19,28 @@ approved : {x y : Choice} {kind : ℕ} → (kind ≡ 0 → ⊥) → (kind ≡ 2 
 unfolding decision
 approved n m e f = ap decidedOf (sym (if-no _ _ (ne-eqb _ 0 n) ∙ if-no _ _ (ne-eqb _ 2 m) ∙ if-yes _ _ (eq-eqb _ 1 e) ∙ ap approvedFor f))
 
--- src/lib.rt:272:9
 returns : tie.Need-returns
 unfolding decision
 returns c = ap decidedOf (sym (if-yes _ _ (eq-eqb _ 0 (c .if1 .taken))))
 
--- src/lib.rt:276:32
-enum-told : tie.Need-enum-told
-enum-told c = search needs
-
--- src/lib.rt:277:63
-enum-told-2 : tie.Need-enum-told-2
-enum-told-2 c = search needs
-
--- src/lib.rt:278:64
-enum-told-3 : tie.Need-enum-told-3
-enum-told-3 c = search needs
-
--- src/lib.rt:275:9
 returns-2 : tie.Need-returns-2
 returns-2 c = online (c .before .before .before .if1 .left) (c .before .before .if2 .taken) (c .enum-told .given .1)
 
--- src/lib.rt:275:9
 returns-3 : tie.Need-returns-3
 returns-3 c = online (c .before .before .before .if1 .left) (c .before .before .if2 .taken) (c .enum-told2 .given .1)
 
--- src/lib.rt:275:9
 returns-4 : tie.Need-returns-4
 returns-4 c = online (c .before .before .before .if1 .left) (c .before .before .if2 .taken) (c .enum-told3 .given .1)
 
--- src/lib.rt:283:32
-enum-told-4 : tie.Need-enum-told-4
-enum-told-4 c = search needs
-
--- src/lib.rt:284:31
-enum-told-5 : tie.Need-enum-told-5
-enum-told-5 c = search needs
-
--- src/lib.rt:285:64
-enum-told-6 : tie.Need-enum-told-6
-enum-told-6 c = search needs
-
--- src/lib.rt:282:9
 returns-5 : tie.Need-returns-5
 returns-5 c = approved (c .before .before .before .before .if1 .left) (c .before .before .before .if2 .left) (c .before .before .if3 .taken) (c .enum-told4 .given .1)
 
--- src/lib.rt:282:9
 returns-6 : tie.Need-returns-6
 returns-6 c = approved (c .before .before .before .before .if1 .left) (c .before .before .before .if2 .left) (c .before .before .if3 .taken) (c .enum-told5 .given .1)
 
--- src/lib.rt:282:9
 returns-7 : tie.Need-returns-7
 returns-7 c = approved (c .before .before .before .before .if1 .left) (c .before .before .before .if2 .left) (c .before .before .if3 .taken) (c .enum-told6 .given .1)
 
--- src/lib.rt:268:1
 returns-8 : tie.Need-returns-8
 unfolding decision
 returns-8 c = ap decidedOf (sym (if-no _ _ (ne-eqb _ 0 (c .before .before .if1 .left)) ∙ if-no _ _ (ne-eqb _ 2 (c .before .if2 .left)) ∙ if-no _ _ (ne-eqb _ 1 (c .if3 .left))))
@@ -84,15 +50,15 @@ decision-for-spec =
     tie.close
     (tie.spec
     returns
-    enum-told
-    enum-told-2
-    enum-told-3
+    (λ c. search needs)
+    (λ c. search needs)
+    (λ c. search needs)
     returns-2
     returns-3
     returns-4
-    enum-told-4
-    enum-told-5
-    enum-told-6
+    (λ c. search needs)
+    (λ c. search needs)
+    (λ c. search needs)
     returns-5
     returns-6
     returns-7

@@ -1,8 +1,10 @@
+-- `session::start` meets its contract: the two refusals by their laws; past them the record keeps its ranges and the phase decides.
+-- Assumes nothing.
 use borrow.Author.Needs.{needs}
-use mathlib.Core.Path.{_≡_, refl, sym, ap, ap₂, _∙_}
-use native.Mathlib.Omega.{arith}
 use borrow.Author.Tests.{not-true, not-false}
+use mathlib.Core.Path.{_≡_, refl, sym, ap, _∙_}
 use mathlib.Core.Bool.{true}
+use native.Mathlib.Omega.{arith}
 use Rattle.record.specs.declared.Phase.{Phase}
 use Rattle.record.specs.Ranges.{inRanges}
 use Rattle.record.proofs.Phases.{count-most}
@@ -10,13 +12,7 @@ use Rattle.session.specs.Start.{startIn, startStep}
 use Rattle.session.proofs.Laws.{did-as, did-quiet, admitted-short, admitted-ranges, admitted-in, not-fresh}
 use Rattle.session.proofs.start.Statement.{statement}
 use Rattle.session.proofs.start.Tie as tie
-use Rattle.session.proofs.start.Reads as reads
-use Rattle.session.proofs.start.Lts as lts
-use Rattle.record.proofs.in_ranges.Reads as in-ranges-reads
-use Rattle.record.proofs.refused.Reads as refused-reads
-use Rattle.session.proofs.load_objects.Reads as load-objects-reads
 
--- ==lemmas
 -- past the refusals the record keeps its ranges, and the phase decides
 ranged : (c : tie.Else2) → inRanges (c .before .before .before .before .before .args .session) ≡ true
 ranged c = sym (c .before .in-ranges .ensures) ∙ not-false _ (c .if2 .left)
@@ -26,50 +22,21 @@ by-phase : (c : tie.Else2) (p : Phase) → let a = c .before .before .before .be
 by-phase c p e =
     let a = c .before .before .before .before .before .args in
     admitted-in _ _ _ _ (c .before .before .if1 .left) (ranged c) ∙ ap (λ (q : Phase). startIn q (a .session) (a .terminal .now) (a .command .now)) e
--- ==end
 
--- src/lib.rt:64:9
-refused-requires : tie.Need-refused-requires
-refused-requires c κs = search needs
-
--- src/lib.rt:64:9
 returns : tie.Need-returns
 returns c = did-quiet (admitted-short _ _ _ _ (c .before .if1 .taken)) (c .refused .ensures)
 
--- src/lib.rt:66:9
-in-ranges-requires : tie.Need-in-ranges-requires
-in-ranges-requires c κs = search needs
-
--- src/lib.rt:67:9
-refused-requires-2 : tie.Need-refused-requires-2
-refused-requires-2 c κs = search needs
-
--- src/lib.rt:67:9
 returns-2 : tie.Need-returns-2
 returns-2 c = did-quiet (admitted-ranges _ _ _ _ (c .before .before .before .if1 .left) (sym (c .before .before .in-ranges .ensures) ∙ not-true _ (c .before .if2 .taken))) (c .refused2 .ensures)
 
-enum-told : tie.Need-enum-told
-enum-told c = search needs
-
--- src/lib.rt:71:9
-refused-requires-3 : tie.Need-refused-requires-3
-refused-requires-3 c κs = search needs
-
--- src/lib.rt:71:9
 returns-3 : tie.Need-returns-3
-returns-3 c = 
+returns-3 c =
     let a = c .before .before .before .before .before .before .before .args in
     did-quiet (by-phase (c .before .before) _ refl ∙ not-fresh (a .session .phase) (a .session) (a .terminal .now) (a .command .now) (c .before .match .keys2)) (c .refused3 .ensures)
 
--- src/lib.rt:73:5
 load-objects-requires : tie.Need-load-objects-requires
 load-objects-requires c κs = (search needs, omega (arith, count-most _ (ranged (c .before .before .before))))
 
--- src/lib.rt:60:1
-same-length : tie.Need-same-length
-same-length c = search needs
-
--- src/lib.rt:60:1
 returns-4 : tie.Need-returns-4
 returns-4 c = did-as (by-phase (c .before .before .before .before .before .before) _ (c .before .before .before .before .enum-told .given .1)) (c .before .before .load-objects .ensures)
 
@@ -77,14 +44,14 @@ pub start-spec : {M : Type 1} → statement M
 start-spec =
     tie.close
     (tie.spec
-    refused-requires
+    (λ c κs. search needs)
     returns
-    in-ranges-requires
-    refused-requires-2
+    (λ c κs. search needs)
+    (λ c κs. search needs)
     returns-2
-    enum-told
-    refused-requires-3
+    (λ c. search needs)
+    (λ c κs. search needs)
     returns-3
     load-objects-requires
-    same-length
+    (λ c. search needs)
     returns-4)

@@ -1,0 +1,293 @@
+-- The ways out of each call's step, with what is known on each: a call's step is one of them, and every law on steps goes by these cases.
+-- Assumes nothing.
+use mathlib.Core.Path.{_≡_, refl}
+use mathlib.Core.Bool.{true}
+use mathlib.Core.List.{List}
+use mathlib.Core.Option.{Option, some, none}
+use Prim.Native.Nat.{ℕ, _+_, _-_, _/_, _≤_}
+use native.Mathlib.Omega.{arith}
+use lib.ListN.{length, take}
+use borrow.Author.Tests.{eqb-true, eqb-false, ltb-false}
+use Rattle.basics.proofs.Laws.{if-ind}
+use Rattle.locator.specs.declared.Record.{Record}
+use Rattle.locator.specs.declared.Found.{Found}
+use Rattle.locator.specs.Records.{accepts, recordAt}
+use Rattle.locator.specs.Command.{readRecord}
+use Rattle.reading.specs.declared.Awaited.{Awaited}
+use Rattle.reading.specs.Answer as reading
+use Rattle.reading.specs.Taking.{Item}
+use Rattle.data_list.specs.Commands.{processingOptions, generateAc}
+use Rattle.analysis.specs.declared.choice.Choice.{Choice}
+use Rattle.analysis.specs.Choice.{p1Of}
+use Rattle.analysis.specs.Action.{resultOf, chosen}
+use Rattle.record.specs.declared.Outcome.{Outcome}
+use Rattle.record.specs.declared.Place.{Place}
+use Rattle.record.specs.declared.Asked.{Asked}
+use Rattle.record.specs.declared.Phase.{Phase}
+use Rattle.record.specs.declared.Session.{Session}
+use Rattle.record.specs.declared.Reply.{Reply}
+use Rattle.record.specs.Numbers.{refusedPhase, refusedBuffer, refusedRanges, reasonNone, reasonMissing, reasonLocator, reasonAboveLimit, reasonDataList, reasonCryptogram, reasonMode, goesWith}
+use Rattle.record.specs.Session.{stored, refusedReply, endsReply, failsReply}
+use Rattle.record.specs.Held.{byteIn}
+use Rattle.record.specs.Ranges.{emvMode, locatorIn, completed, inRanges}
+use Rattle.record.specs.Clauses.{noResults}
+use Rattle.record.proofs.Reasons.{decided}
+use Rattle.terminal.specs.Terminal.{Loaded, refusal, loaded, load}
+use Rattle.session.specs.Steps.{Step, quiet, refuses, fails, commands, withStore, withResults, leastBuffer, admitted, handOut, endsIn, brokenOff}
+use Rattle.session.specs.Start.{askOptions, startLoaded, startIn, startStep}
+use Rattle.session.specs.Answer.{accepted, askFound, optionsRead, optionsStep, askCryptogram, analysed, recordsRead, nextFound, recordRead, recordFound, recordStep, onlineFor, approvedFor, decision, concluded, cryptogramRead, cryptogramReply, answerIn, answerStep}
+
+-- a reason that ends a session
+pub record Reason (n : ℕ) : Type 0 where
+  pub least : 1 ≤ n
+  pub most : n ≤ reasonMode
+
+reason : (n : ℕ) → 1 ≤ n → n ≤ 11 → Reason n
+reason n l m = record { least = l; most = m }
+
+-- ---- the refusals that every call checks first
+
+-- a call is admitted: the buffer has room, and the record keeps its ranges
+pub record Admitted (s : Session) (size : ℕ) : Type 0 where
+  pub room : leastBuffer ≤ size
+  pub ranges : inRanges s ≡ true
+
+admitted-ind : {A : Type 0} (P : A → Type 0) (s : Session) (size : ℕ) (refused : ℕ → A) (step : A)
+    → ((n : ℕ) → P (refused n)) → (Admitted s size → P step) → P (admitted s size refused step)
+unfolding admitted
+admitted-ind P s size refused step f g =
+    if-ind P _ _ _ (λ e. f refusedBuffer)
+    (λ e. if-ind P _ _ _ (λ r. g (record { room = ltb-false size leastBuffer e; ranges = r })) (λ r. f refusedRanges))
+
+-- ---- an answer
+
+-- the session with the store that the reading of an answer leaves
+abbrev pub taken : Awaited → Session → List ℕ → Session
+taken a s card = withStore s (reading.readAnswer a (stored s) card .store)
+
+accepted-ind : {A : Type 0} (P : A → Type 0) (s : Session) (o : reading.Outcome) (failed : ℕ → A) (go : Session → A)
+    → ((o .reason ≡ 0 → ⊥) → P (failed (o .reason))) → (o .reason ≡ 0 → P (go (withStore s (o .store)))) → P (accepted s o failed go)
+unfolding accepted
+accepted-ind P s o failed go f g = if-ind P _ _ _ (λ e. g (eqb-true (o .reason) 0 e)) (λ e. f (eqb-false (o .reason) 0 e))
+
+-- a reading's reason is 1 to 3, or none
+abbrev Few : reading.Outcome → Type 0
+Few o = o .reason ≤ 3
+
+few-parts : (a : Awaited) (b : List ℕ) (n : ℕ) (x : Option (List Item)) → Few (reading.takenParts a b n x)
+few-parts a b n none = omega arith
+few-parts a b n (some is) = if-ind Few _ _ _ (λ g. omega arith) (λ g. omega arith)
+
+few-tree : (a : Awaited) (b : List ℕ) (x : Option reading.Body) → Few (reading.readTree a b x)
+few-tree a b none = omega arith
+few-tree a b (some body) = few-parts a b (reading.bodyCount body) (reading.partsOf a body)
+
+few-reasons : (a : Awaited) (b s : List ℕ) → Few (reading.readAnswer a b s)
+unfolding reading.readAnswer reading.readBody
+few-reasons a b s =
+    if-ind Few _ _ _
+    (λ l. if-ind Few _ _ _ (λ t. if-ind Few _ _ _ (λ r. few-tree a b (reading.bodyOf (take (length s - 2) s))) (λ r. omega arith)) (λ t. omega arith))
+    (λ l. omega arith)
+
+unread-reason : (a : Awaited) (b s : List ℕ) → (reading.readAnswer a b s .reason ≡ 0 → ⊥) → Reason (reading.readAnswer a b s .reason)
+unread-reason a b s z = let f = few-reasons a b s in reason _ (omega arith) (omega arith)
+
+-- ---- after the processing options
+
+pub data OptionsWay (t : Session) (buf : List ℕ) : Step → Type 0 where
+  failed : (n : ℕ) → Reason n → OptionsWay t buf (fails t n buf)
+  first : (r : Record) → emvMode (stored t) ≡ true → accepts (locatorIn (stored t)) ≡ true → recordAt (locatorIn (stored t)) 1 ≡ Found.At r
+      → OptionsWay t buf (commands t (Phase.Record (record { number = 1 })) (readRecord r) buf)
+
+pub options-way : (t : Session) (buf : List ℕ) → OptionsWay t buf (optionsRead t buf)
+unfolding optionsRead
+options-way t buf =
+    if-ind P _ _ _
+    (λ e. if-ind P _ _ _
+    (λ m. if-ind P _ _ _ (λ a. go m a (recordAt (locatorIn (stored t)) 1) refl) (λ a. failed reasonLocator (reason 5 (omega arith) (omega arith))))
+    (λ m. failed reasonMode (reason 11 (omega arith) (omega arith))))
+    (λ e. failed reasonMissing (reason 4 (omega arith) (omega arith)))
+  where
+    P : Step → Type 0
+    P = OptionsWay t buf
+
+    go : emvMode (stored t) ≡ true → accepts (locatorIn (stored t)) ≡ true → (x : Found) → recordAt (locatorIn (stored t)) 1 ≡ x → P (askFound t 1 buf x)
+    go m a Found.Nothing e = failed reasonLocator (reason 5 (omega arith) (omega arith))
+    go m a (Found.At r) e = first r m a e
+
+-- ---- after the last record
+
+-- the session with its result bits, and the choice on them
+abbrev pub analysedSession : Session → Session
+analysedSession t = withStore t (withResults (stored t) (resultOf (stored t)))
+
+abbrev pub choiceIn : Session → Choice
+choiceIn t = chosen (stored t) (resultOf (stored t))
+
+pub data RecordsWay (t : Session) (buf : List ℕ) : Step → Type 0 where
+  failed : (n : ℕ) → Reason n → RecordsWay t buf (fails t n buf)
+  unlisted : RecordsWay t buf (fails (analysedSession t) reasonDataList buf)
+  asked : (c : List ℕ) → completed (stored t) ≡ true → generateAc (p1Of (choiceIn t)) (stored (analysedSession t)) ≡ some c
+      → RecordsWay t buf (commands (analysedSession t) (Phase.Cryptogram (record { choice = choiceIn t })) c buf)
+
+pub records-way : (t : Session) (buf : List ℕ) → RecordsWay t buf (recordsRead t buf)
+unfolding recordsRead analysed askCryptogram
+records-way t buf =
+    if-ind P _ _ _ (λ e. failed reasonAboveLimit (reason 6 (omega arith) (omega arith)))
+    (λ e. if-ind P _ _ _ (λ f. go f (generateAc (p1Of (choiceIn t)) (stored (analysedSession t))) refl) (λ f. failed reasonMissing (reason 4 (omega arith) (omega arith))))
+  where
+    P : Step → Type 0
+    P = RecordsWay t buf
+
+    go : completed (stored t) ≡ true → (x : Option (List ℕ)) → generateAc (p1Of (choiceIn t)) (stored (analysedSession t)) ≡ x
+        → P (handOut (analysedSession t) (Phase.Cryptogram (record { choice = choiceIn t })) buf x)
+    go f none e = unlisted
+    go f (some c) e = asked c f e
+
+-- ---- after a record
+
+pub data RecordWay (p : Place) (t : Session) (buf : List ℕ) : Step → Type 0 where
+  next : (r : Record) → recordAt (locatorIn (stored t)) (p .number + 1) ≡ Found.At r
+      → RecordWay p t buf (commands t (Phase.Record (record { number = p .number + 1 })) (readRecord r) buf)
+  last : {st : Step} → recordAt (locatorIn (stored t)) (p .number + 1) ≡ Found.Nothing → RecordsWay t buf st → RecordWay p t buf st
+
+pub record-way : (p : Place) (t : Session) (buf : List ℕ) → RecordWay p t buf (recordRead p t buf)
+unfolding recordRead
+record-way p t buf = go (recordAt (locatorIn (stored t)) (p .number + 1)) refl
+  where
+    go : (x : Found) → recordAt (locatorIn (stored t)) (p .number + 1) ≡ x → RecordWay p t buf (nextFound t (p .number + 1) buf x)
+    go Found.Nothing e = last e (records-way t buf)
+    go (Found.At r) e = next r e
+
+-- ---- after the cryptogram
+
+pub data CryptogramWay (t : Session) : Reply → Type 0 where
+  failed : (n : ℕ) → Reason n → CryptogramWay t (failsReply t n)
+  decides : (o : Outcome) → goesWith o reasonNone ≡ true → CryptogramWay t (endsReply t o reasonNone)
+
+-- a decision has no reason
+abbrev Fine : Option Outcome → Type 0
+Fine none = Unit {0}
+Fine (some o) = goesWith o reasonNone ≡ true
+
+fine-online : (c : Choice) → Fine (onlineFor c)
+fine-online Choice.Decline = tt
+fine-online Choice.Online = decided .1
+fine-online Choice.Offline = decided .1
+
+fine-approved : (c : Choice) → Fine (approvedFor c)
+fine-approved Choice.Decline = tt
+fine-approved Choice.Online = tt
+fine-approved Choice.Offline = decided .0
+
+fine-decision : (c : Choice) (kind : ℕ) → Fine (decision c kind)
+unfolding decision
+fine-decision c kind =
+    if-ind Fine _ _ _ (λ e. decided .2)
+    (λ e. if-ind Fine _ _ _ (λ f. fine-online c) (λ f. if-ind Fine _ _ _ (λ g. fine-approved c) (λ g. tt)))
+
+pub cryptogram-way : (a : Asked) (t : Session) → CryptogramWay t (cryptogramRead a t)
+unfolding cryptogramRead
+cryptogram-way a t =
+    if-ind (CryptogramWay t) _ _ _ (λ e. go (decision (a .choice) (byteIn (stored t) 0x9F27 1 / 64)) (fine-decision (a .choice) (byteIn (stored t) 0x9F27 1 / 64)))
+    (λ e. failed reasonMissing (reason 4 (omega arith) (omega arith)))
+  where
+    go : (o : Option Outcome) → Fine o → CryptogramWay t (concluded t o)
+    go none f = failed reasonCryptogram (reason 8 (omega arith) (omega arith))
+    go (some o) f = decides o f
+
+-- ---- the call answer
+
+pub data AnswerWay (s : Session) (card buf : List ℕ) : Step → Type 0 where
+  refused : (n : ℕ) → AnswerWay s card buf (refuses s n buf)
+  unread : (n : ℕ) → Admitted s (length buf) → Reason n → AnswerWay s card buf (fails s n buf)
+  options : {st : Step} → Admitted s (length buf) → s .phase ≡ Phase.Options → reading.readAnswer Awaited.Options (stored s) card .reason ≡ 0
+      → OptionsWay (taken Awaited.Options s card) buf st → AnswerWay s card buf st
+  recorded : {st : Step} (p : Place) (r : Record) → Admitted s (length buf) → s .phase ≡ Phase.Record p → recordAt (locatorIn (stored s)) (p .number) ≡ Found.At r
+      → RecordWay p (taken (Awaited.Record (record { number = r .file })) s card) buf st → AnswerWay s card buf st
+  cryptogram : {q : Reply} (a : Asked) → Admitted s (length buf) → s .phase ≡ Phase.Cryptogram a → CryptogramWay (taken Awaited.Cryptogram s card) q
+      → AnswerWay s card buf (quiet q buf)
+
+module _ (s : Session) (card buf : List ℕ) (i : Admitted s (length buf)) where
+  step-options : s .phase ≡ Phase.Options → AnswerWay s card buf (optionsStep s card buf)
+  unfolding optionsStep
+  step-options q =
+      accepted-ind (AnswerWay s card buf) s _ _ _ (λ z. unread _ i (unread-reason Awaited.Options (stored s) card z))
+      (λ z. options i q z (options-way (taken Awaited.Options s card) buf))
+
+  step-record : (p : Place) → s .phase ≡ Phase.Record p → AnswerWay s card buf (recordStep p s card buf)
+  unfolding recordStep
+  step-record p q = go (recordAt (locatorIn (stored s)) (p .number)) refl
+    where
+      go : (x : Found) → recordAt (locatorIn (stored s)) (p .number) ≡ x → AnswerWay s card buf (recordFound p s card buf x)
+      go Found.Nothing e = unread reasonLocator i (reason 5 (omega arith) (omega arith))
+      go (Found.At r) e =
+          accepted-ind (AnswerWay s card buf) s _ _ _ (λ z. unread _ i (unread-reason (Awaited.Record (record { number = r .file })) (stored s) card z))
+          (λ z. recorded p r i q e (record-way p (taken (Awaited.Record (record { number = r .file })) s card) buf))
+
+  step-cryptogram : (a : Asked) → s .phase ≡ Phase.Cryptogram a → AnswerWay s card buf (quiet (cryptogramReply a s card) buf)
+  unfolding cryptogramReply
+  step-cryptogram a q =
+      accepted-ind (λ (r : Reply). AnswerWay s card buf (quiet r buf)) s _ _ _ (λ z. unread _ i (unread-reason Awaited.Cryptogram (stored s) card z))
+      (λ z. cryptogram a i q (cryptogram-way a (taken Awaited.Cryptogram s card)))
+
+  step-in : (p : Phase) → s .phase ≡ p → AnswerWay s card buf (answerIn p s card buf)
+  step-in Phase.Fresh q = refused refusedPhase
+  step-in Phase.Options q = step-options q
+  step-in (Phase.Record p) q = step-record p q
+  step-in (Phase.Cryptogram a) q = step-cryptogram a q
+  step-in (Phase.Ended e) q = refused refusedPhase
+
+pub answer-way : (s : Session) (card buf : List ℕ) → AnswerWay s card buf (answerStep s card buf)
+answer-way s card buf = admitted-ind (AnswerWay s card buf) s _ _ _ refused (λ i. step-in s card buf i (s .phase) refl)
+
+-- ---- the call start
+
+-- the session with the store that a start loaded
+abbrev pub loadedSession : Session → List ℕ → Session
+loadedSession s b = withStore s (withResults b noResults)
+
+pub data StartWay (s : Session) (bytes buf : List ℕ) : Step → Type 0 where
+  refused : (n : ℕ) → StartWay s bytes buf (refuses s n buf)
+  unlisted : (b : List ℕ) → Admitted s (length buf) → s .phase ≡ Phase.Fresh → load (stored s) bytes ≡ loaded b → StartWay s bytes buf (fails (loadedSession s b) reasonDataList buf)
+  asked : (b c : List ℕ) → Admitted s (length buf) → s .phase ≡ Phase.Fresh → load (stored s) bytes ≡ loaded b → processingOptions (stored (loadedSession s b)) ≡ some c
+      → StartWay s bytes buf (commands (loadedSession s b) Phase.Options c buf)
+
+pub start-way : (s : Session) (bytes buf : List ℕ) → StartWay s bytes buf (startStep s bytes buf)
+unfolding askOptions
+start-way s bytes buf = admitted-ind P s _ _ _ refused (λ i. go i (s .phase) refl)
+  where
+    P : Step → Type 0
+    P = StartWay s bytes buf
+
+    sent : (b : List ℕ) → Admitted s (length buf) → s .phase ≡ Phase.Fresh → load (stored s) bytes ≡ loaded b → (x : Option (List ℕ)) → processingOptions (stored (loadedSession s b)) ≡ x
+        → P (handOut (loadedSession s b) Phase.Options buf x)
+    sent b i q e none f = unlisted b i q e
+    sent b i q e (some c) f = asked b c i q e f
+
+    by : Admitted s (length buf) → s .phase ≡ Phase.Fresh → (x : Loaded) → load (stored s) bytes ≡ x → P (startLoaded s buf x)
+    by i q (refusal n) e = refused n
+    by i q (loaded b) e = sent b i q e (processingOptions (stored (loadedSession s b))) refl
+
+    go : Admitted s (length buf) → (p : Phase) → s .phase ≡ p → P (startIn p s bytes buf)
+    go i Phase.Fresh q = by i q (load (stored s) bytes) refl
+    go i Phase.Options q = refused refusedPhase
+    go i (Phase.Record p) q = refused refusedPhase
+    go i (Phase.Cryptogram a) q = refused refusedPhase
+    go i (Phase.Ended e) q = refused refusedPhase
+
+-- ---- link failed and stop
+
+pub data BrokenWay (s : Session) (n size : ℕ) : Reply → Type 0 where
+  refused : (m : ℕ) → BrokenWay s n size (refusedReply s m)
+  ended : Admitted s size → BrokenWay s n size (failsReply s n)
+
+pub broken-way : (s : Session) (n size : ℕ) → BrokenWay s n size (brokenOff s n size)
+broken-way s n size = admitted-ind (BrokenWay s n size) s _ _ _ refused (λ i. go i (s .phase))
+  where
+    go : Admitted s size → (p : Phase) → BrokenWay s n size (endsIn p s n)
+    go i Phase.Fresh = refused refusedPhase
+    go i Phase.Options = ended i
+    go i (Phase.Record p) = ended i
+    go i (Phase.Cryptogram a) = ended i
+    go i (Phase.Ended e) = refused refusedPhase
