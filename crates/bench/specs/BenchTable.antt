@@ -1,0 +1,127 @@
+-- The bench table's marked rows (document 01, "Bench table"), a field for each, over the definitions that the calls' promises cite.
+-- Assumes nothing.
+use mathlib.Core.Path.{_≡_}
+use mathlib.Core.List.{List, [], _∷_, _++_}
+use mathlib.Core.Option.{some}
+use Prim.Native.Nat.{ℕ, _≤_}
+use lib.ListN.{length, drop}
+use Rattle.dictionary.specs.Rows.{rows}
+use Rattle.store.specs.Place.{absent, present, valueOf}
+use Rattle.reading.specs.declared.Awaited.{Awaited}
+use Rattle.reading.specs.Answer.{Outcome, outcome, readBody}
+use Rattle.data_list.specs.Filling.{filled}
+use Rattle.analysis.specs.declared.choice.Choice.{Choice}
+use Rattle.analysis.specs.Action.{chosen}
+use Rattle.record.specs.declared.Answer.{Answer}
+use Rattle.record.specs.declared.Session.{Session}
+use Rattle.record.specs.Session.{freshSession, stored}
+use Rattle.session.specs.Steps.{Step, leastBuffer}
+use Rattle.session.specs.Start.{startStep}
+use Rattle.session.specs.Answer.{answerStep}
+
+-- ---- what the rows speak of
+
+-- the store that holds nothing
+abbrev pub nothing : List ℕ
+nothing = stored freshSession
+
+-- the body of an answer to a record command of file 1, read into it
+abbrev pub recordBody : List ℕ → Outcome
+recordBody s = readBody (Awaited.Record (record { number = 1 })) nothing s
+
+-- two objects are counted, and 9F08 is stored
+pub record Stored (o : Outcome) : Type 0 where
+  pub reason : o .reason ≡ 0
+  pub objects : o .objects ≡ 2
+  pub version : valueOf (o .store) 0x9F08 ≡ present (0x00 ∷ 0x02 ∷ [])
+
+-- a step hands out a command: its length, and its bytes at the front of the buffer
+pub record HandsOut (command buffer : List ℕ) (s : Step) : Type 0 where
+  pub answer : s .reply .answer ≡ Answer.Command (record { size = length command })
+  pub bytes : s .buffer ≡ command ++ drop (length command) buffer
+
+-- all that a start must bring, and no 9F38
+abbrev pub startBytes : List ℕ
+startBytes =
+    0x9A ∷ 0x03 ∷ 0x25 ∷ 0x11 ∷ 0x15 ∷
+    0x9C ∷ 0x01 ∷ 0x00 ∷
+    0x9F ∷ 0x02 ∷ 0x06 ∷ 0x00 ∷ 0x00 ∷ 0x00 ∷ 0x00 ∷ 0x12 ∷ 0x34 ∷
+    0x9F ∷ 0x09 ∷ 0x02 ∷ 0x00 ∷ 0x02 ∷
+    0x9F ∷ 0x1A ∷ 0x02 ∷ 0x00 ∷ 0x56 ∷
+    0x9F ∷ 0x35 ∷ 0x01 ∷ 0x22 ∷
+    0x9F ∷ 0x37 ∷ 0x04 ∷ 0x01 ∷ 0x02 ∷ 0x03 ∷ 0x04 ∷
+    0xDF ∷ 0x81 ∷ 0x20 ∷ 0x05 ∷ 0x00 ∷ 0x00 ∷ 0x00 ∷ 0x00 ∷ 0x00 ∷
+    0xDF ∷ 0x81 ∷ 0x21 ∷ 0x05 ∷ 0x00 ∷ 0x00 ∷ 0x00 ∷ 0x00 ∷ 0x00 ∷
+    0xDF ∷ 0x81 ∷ 0x22 ∷ 0x05 ∷ 0x00 ∷ 0x00 ∷ 0x00 ∷ 0x00 ∷ 0x00 ∷
+    0xDF ∷ 0x81 ∷ 0x23 ∷ 0x06 ∷ 0x00 ∷ 0x00 ∷ 0x00 ∷ 0x01 ∷ 0x00 ∷ 0x00 ∷
+    0xDF ∷ 0x81 ∷ 0x24 ∷ 0x06 ∷ 0x00 ∷ 0x00 ∷ 0x00 ∷ 0x02 ∷ 0x00 ∷ 0x00 ∷
+    []
+
+-- the start of a fresh session with them, and the card's answer to processing options after it
+abbrev pub started : List ℕ → Step
+started buffer = startStep freshSession startBytes buffer
+
+abbrev pub optionsAnswer : List ℕ
+optionsAnswer = 0x80 ∷ 0x06 ∷ 0x00 ∷ 0x80 ∷ 0x08 ∷ 0x01 ∷ 0x01 ∷ 0x00 ∷ 0x90 ∷ 0x00 ∷ []
+
+-- the two commands, whatever buffers are lent
+pub record Begins (first second : List ℕ) : Type 0 where
+  pub options : HandsOut (0x80 ∷ 0xA8 ∷ 0x00 ∷ 0x00 ∷ 0x02 ∷ 0x83 ∷ 0x00 ∷ 0x00 ∷ []) first (started first)
+  pub record-1 : HandsOut (0x00 ∷ 0xB2 ∷ 0x01 ∷ 0x0C ∷ 0x00 ∷ []) second (answerStep (started first .reply .session) optionsAnswer second)
+
+-- an amount and result bits as a data object list asks for them
+abbrev pub amount : List ℕ
+amount = 0x00 ∷ 0x00 ∷ 0x00 ∷ 0x00 ∷ 0x12 ∷ 0x34 ∷ []
+
+abbrev pub results : List ℕ
+results = 0x80 ∷ 0x00 ∷ 0x00 ∷ 0x80 ∷ 0x00 ∷ []
+
+pub record Fills (store : List ℕ) : Type 0 where
+  pub amount-2 : filled rows store (0x9F ∷ 0x02 ∷ 0x02 ∷ []) ≡ some (0x12 ∷ 0x34 ∷ [])
+  pub amount-7 : filled rows store (0x9F ∷ 0x02 ∷ 0x07 ∷ []) ≡ some (0x00 ∷ amount)
+  pub results-3 : filled rows store (0x95 ∷ 0x03 ∷ []) ≡ some (0x80 ∷ 0x00 ∷ 0x00 ∷ [])
+  pub results-6 : filled rows store (0x95 ∷ 0x06 ∷ []) ≡ some (results ++ (0x00 ∷ []))
+
+-- a code with no bit set, and the result bits that the choice is made on
+abbrev pub zeros : List ℕ
+zeros = 0x00 ∷ 0x00 ∷ 0x00 ∷ 0x00 ∷ 0x00 ∷ []
+
+abbrev pub oneBit : List ℕ
+oneBit = 0x80 ∷ 0x00 ∷ 0x00 ∷ 0x00 ∷ 0x00 ∷ []
+
+-- the terminal's codes are zero and there is no 9F0E
+pub record Plain (store : List ℕ) : Type 0 where
+  pub card-denial : valueOf store 0x9F0E ≡ absent
+  pub denial : valueOf store 0xDF8121 ≡ present zeros
+  pub online : valueOf store 0xDF8122 ≡ present zeros
+  pub default : valueOf store 0xDF8120 ≡ present zeros
+
+pub record Chooses (store : List ℕ) : Type 0 where
+  pub no-9F0F : valueOf store 0x9F35 ≡ present (0x22 ∷ []) → valueOf store 0x9F0F ≡ absent → chosen store oneBit ≡ Choice.Online
+  pub zero-9F0F : valueOf store 0x9F35 ≡ present (0x22 ∷ []) → valueOf store 0x9F0F ≡ present zeros → chosen store oneBit ≡ Choice.Offline
+  pub no-9F0D : valueOf store 0x9F35 ≡ present (0x23 ∷ []) → valueOf store 0x9F0D ≡ absent → chosen store oneBit ≡ Choice.Decline
+
+-- ---- the rows
+
+abbrev pub rowCount : ℕ
+rowCount = 9
+
+pub record BenchTable : Type 0 where
+  -- one object
+  pub empty : recordBody (0x70 ∷ 0x00 ∷ []) ≡ outcome 0 1 nothing
+  -- two objects, stored
+  pub version : Stored (recordBody (0x70 ∷ 0x05 ∷ 0x9F ∷ 0x08 ∷ 0x02 ∷ 0x00 ∷ 0x02 ∷ []))
+  -- reason 3: result bits are not the card's to set
+  pub results-sent : recordBody (0x70 ∷ 0x03 ∷ 0x95 ∷ 0x01 ∷ 0x00 ∷ []) ≡ outcome 3 2 nothing
+  -- accepted, nothing stored: a terminal's private object
+  pub private : recordBody (0x70 ∷ 0x05 ∷ 0xDF ∷ 0x81 ∷ 0x23 ∷ 0x01 ∷ 0x00 ∷ []) ≡ outcome 0 2 nothing
+  -- four levels, four objects
+  pub four-levels : recordBody (0x70 ∷ 0x06 ∷ 0xE1 ∷ 0x04 ∷ 0xE1 ∷ 0x02 ∷ 0xE1 ∷ 0x00 ∷ []) ≡ outcome 0 4 nothing
+  -- reason 2: a fifth level
+  pub five-levels : recordBody (0x70 ∷ 0x08 ∷ 0xE1 ∷ 0x06 ∷ 0xE1 ∷ 0x04 ∷ 0xE1 ∷ 0x02 ∷ 0xE1 ∷ 0x00 ∷ []) ≡ outcome 2 0 nothing
+  -- no 9F38, and the first record
+  pub begins : (first second : List ℕ) → leastBuffer ≤ length first → leastBuffer ≤ length second → Begins first second
+  -- filling
+  pub fills : (store : List ℕ) → valueOf store 0x9F02 ≡ present amount → valueOf store 0x95 ≡ present results → Fills store
+  -- the choice
+  pub chooses : (store : List ℕ) → Plain store → Chooses store

@@ -1,0 +1,140 @@
+// Every row of the bench table, run through the calls: a line for each.
+use reading::{Awaited, File};
+use record::{Reply, Session};
+
+// How many of the start bytes stand before the list 9F38.
+const PLAIN: usize = 85;
+
+fn main() {
+    record_rows();
+    options_rows();
+    result_rows();
+}
+
+// ---- start bytes
+
+// All that a start must bring, for a terminal type and a floor limit in units of 10,000; then a list 9F38
+// that asks for so many bytes of 9F02, which is 00 00 00 00 12 34.
+fn terminal(kind: u8, floor: u8, asked: u8) -> [u8; 91] {
+    [
+        0x9A, 0x03, 0x25, 0x11, 0x15, 0x9C, 0x01, 0x00, 0x9F, 0x02, 0x06, 0x00, 0x00, 0x00, 0x00, 0x12, 0x34, 0x9F,
+        0x09, 0x02, 0x00, 0x02, 0x9F, 0x1A, 0x02, 0x00, 0x56, 0x9F, 0x35, 0x01, kind, 0x9F, 0x37, 0x04, 0x01, 0x02,
+        0x03, 0x04, 0xDF, 0x81, 0x20, 0x05, 0x00, 0x00, 0x00, 0x00, 0x00, 0xDF, 0x81, 0x21, 0x05, 0x00, 0x00, 0x00,
+        0x00, 0x00, 0xDF, 0x81, 0x22, 0x05, 0x00, 0x00, 0x00, 0x00, 0x00, 0xDF, 0x81, 0x23, 0x06, 0x00, 0x00, 0x00,
+        floor, 0x00, 0x00, 0xDF, 0x81, 0x24, 0x06, 0x00, 0x00, 0x00, 0x02, 0x00, 0x00, 0x9F, 0x38, 0x03, 0x9F, 0x02,
+        asked,
+    ]
+}
+
+// A start of a fresh session with no 9F38.
+fn start_plain(kind: u8, floor: u8, command: &mut [u8]) -> Reply {
+    let bytes = terminal(kind, floor, 0);
+    session::start(record::fresh(), &bytes[..PLAIN], command)
+}
+
+// The session after it.
+fn started(kind: u8, floor: u8) -> Session {
+    let mut command = [0u8; 261];
+    let reply = start_plain(kind, floor, &mut command);
+    reply.session
+}
+
+// The session after one answer more.
+fn answered(session: Session, card: &[u8]) -> Session {
+    let mut command = [0u8; 261];
+    let reply = session::answer(session, card, &mut command);
+    reply.session
+}
+
+// The answer to the next command, shown with what follows it.
+fn show_answered(session: Session, card: &[u8]) {
+    let mut command = [0u8; 261];
+    let reply = session::answer(session, card, &mut command);
+    show::reply(reply, &command);
+}
+
+// ---- single answers to a record
+
+fn record_rows() {
+    record_row(b"\x70\x00\x90\x00");
+    record_row(b"\x70\x05\x9F\x08\x02\x00\x02\x90\x00");
+    record_row(b"\x70\x03\x95\x01\x00\x90\x00");
+    record_row(b"\x70\x05\xDF\x81\x23\x01\x00\x90\x00");
+    record_row(b"\x70\x07\xA5\x05\x9F\x08\x02\x00\x02\x90\x00");
+    record_row(b"\x70\x04\x82\x02\x19\x80\x90\x00");
+    record_row(b"\x70\x80\x00\x00\x90\x00");
+    record_row(b"\x70\x06\xE1\x04\xE1\x02\xE1\x00\x90\x00");
+    record_row(b"\x70\x08\xE1\x06\xE1\x04\xE1\x02\xE1\x00\x90\x00");
+}
+
+// The answer read into an empty store, and as the first of a session's two records.
+fn record_row(card: &[u8]) {
+    show::text(b"answer");
+    show::bytes(card);
+    show_reading(card);
+    let session = answered(started(0x22, 1), b"\x80\x06\x00\x80\x08\x01\x02\x00\x90\x00");
+    show_answered(session, card);
+}
+
+// What a reading into an empty store says and leaves.
+fn show_reading(card: &[u8]) {
+    let before = store::empty();
+    let read = reading::read_answer(before, Awaited::Record(File { number: 1 }), card);
+    let verdict = read.verdict;
+    let after = read.store;
+    show::text(b": reason ");
+    show::number(basics::wide(reading::number(verdict)));
+    show::text(b", objects ");
+    show::number(read.objects);
+    if check::same(&before.bytes, &after.bytes) {
+        show::text(b", store kept, ");
+    } else {
+        show::text(b", stored, ");
+    }
+}
+
+// ---- the first commands
+
+fn options_rows() {
+    let mut command = [0u8; 261];
+    let first = start_plain(0x22, 1, &mut command);
+    show::text(b"no 9F38: ");
+    show::reply(first, &command);
+    show::text(b"answer 80 06 00 80 08 01 01 00 90 00: ");
+    show_answered(first.session, b"\x80\x06\x00\x80\x08\x01\x01\x00\x90\x00");
+    show::text(b"9F02 asked at 2: ");
+    amount_row(2);
+    show::text(b"9F02 asked at 7: ");
+    amount_row(7);
+}
+
+// A start whose list asks for so many bytes of 9F02.
+fn amount_row(asked: u8) {
+    let mut command = [0u8; 261];
+    let bytes = terminal(0x22, 1, asked);
+    let reply = session::start(record::fresh(), &bytes, &mut command);
+    show::reply(reply, &command);
+}
+
+// ---- result bits and the choice
+
+fn result_rows() {
+    show::text(b"95 asked at 3: ");
+    result_row(0x22, 0, b"\x70\x14\x5F\x24\x03\x30\x12\x31\x5A\x08\x47\x61\x73\x90\x01\x01\x00\x10\x8C\x02\x95\x03\x90\x00");
+    show::text(b"95 asked at 6: ");
+    result_row(0x22, 0, b"\x70\x14\x5F\x24\x03\x30\x12\x31\x5A\x08\x47\x61\x73\x90\x01\x01\x00\x10\x8C\x02\x95\x06\x90\x00");
+    show::text(b"type 22, no 9F0F: ");
+    result_row(0x22, 1, b"\x70\x14\x5F\x24\x03\x30\x12\x31\x5A\x08\x47\x61\x73\x90\x01\x01\x00\x10\x8C\x02\x95\x05\x90\x00");
+    show::text(b"type 22, zero 9F0F: ");
+    result_row(0x22, 1, b"\x70\x1C\x5F\x24\x03\x30\x12\x31\x5A\x08\x47\x61\x73\x90\x01\x01\x00\x10\x8C\x02\x95\x05\x9F\x0F\x05\x00\x00\x00\x00\x00\x90\x00");
+    show::text(b"type 23, no 9F0D: ");
+    result_row(0x23, 1, b"\x70\x14\x5F\x24\x03\x30\x12\x31\x5A\x08\x47\x61\x73\x90\x01\x01\x00\x10\x8C\x02\x95\x05\x90\x00");
+    show::text(b"8C of 95 05: ");
+    result_row(0x22, 1, b"\x70\x14\x5F\x24\x03\x30\x12\x31\x5A\x08\x47\x61\x73\x90\x01\x01\x00\x10\x8C\x02\x95\x05\x90\x00");
+}
+
+// A session's only record, shown with the command for the cryptogram.
+fn result_row(kind: u8, floor: u8, card: &[u8]) {
+    let session = answered(started(kind, floor), b"\x80\x06\x00\x80\x08\x01\x01\x00\x90\x00");
+    show_answered(session, card);
+}
