@@ -1,8 +1,8 @@
 -- The rows of single answers, computed. Assumes nothing.
 use mathlib.Core.Path.{_≡_, refl}
-use mathlib.Core.List.{List, [], _∷_}
-use Rattle.basics.specs.Choice.{if, both, every}
-use Rattle.basics.specs.Number.{numberFrom, nibbles}
+use mathlib.Core.List.{[], _∷_}
+use Rattle.basics.specs.Choice.{if, both}
+use Rattle.basics.specs.Number.{numberFrom}
 use Rattle.tlv.specs.Tag.{tagSize, secondByte, thirdByte, tagAt, firstByte, isTemplate, isPrivate}
 use Rattle.tlv.specs.Length.{lengthAt}
 use Rattle.tlv.specs.Object.{headerOf}

@@ -13,7 +13,6 @@ use Rattle.data_list.specs.Filling.{filled}
 use Rattle.analysis.specs.declared.choice.Choice.{Choice}
 use Rattle.analysis.specs.Action.{chosen}
 use Rattle.record.specs.declared.Answer.{Answer}
-use Rattle.record.specs.declared.Session.{Session}
 use Rattle.record.specs.Session.{freshSession, stored}
 use Rattle.session.specs.Steps.{Step, leastBuffer}
 use Rattle.session.specs.Start.{startStep}

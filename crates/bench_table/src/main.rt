@@ -13,7 +13,7 @@ fn main() {
 
 // ---- start bytes
 
-// All that a start must bring, for a terminal type and a floor limit in units of 10,000; then a list 9F38
+// All that a start must bring, for a terminal type and a floor limit of so many hundreds; then a list 9F38
 // that asks for so many bytes of 9F02, which is 00 00 00 00 12 34.
 fn terminal(kind: u8, floor: u8, asked: u8) -> [u8; 91] {
     [

@@ -22,11 +22,12 @@ emv : (c : tie.After-enum-told3) → let a = c .before .before .before .before .
 emv c = is-emv _ (c .before .before .mode-in .ensures) (c .enum-told3 .given .1)
 
 -- past all three, the first record decides
-asked : (c : tie.After-record-at) (x : Found) → let a = c .before .before .before .before .before .before .before .before .before .before .before .before .before .before .before .before .before .before .before .before .before .before .args in c .record-at .result ≡ x → optionsRead (a .session) (a .command .now) ≡ askFound (a .session) 1 (a .command .now) x
+asked : (c : tie.After-record-at) (x : Found) → let a = c .before .before .before .before .before .before .before .before .before .before .before .before .before .before .before .before .before .before .before .before .before .before .args in c .record-at .result ≡ x
+    → optionsRead (a .session) (a .command .now) ≡ askFound (a .session) 1 (a .command .now) x
 asked c x e =
     let k = c .before in
     let v = k .before .before .before in
-    let m = k .before .before .before .before .before .before .before in
+    let m = v .before .before .before .before in
     options-ask _ _ x (there (m .before .before .before .before .before .before)) (emv m) (located-yes _ (v .value .ensures) (sym (k .before .before .check .ensures) ∙ k .enum-told5 .given .1) .0)
     (found-as (c .record-at .ensures) e _ 1 (v .value .ensures) refl)
 
@@ -34,12 +35,15 @@ returns : tie.Need-returns
 returns c = did-quiet (options-missing _ _ (is-missing _ (c .before .before .before .options-there .ensures) (c .before .enum-told2 .given .1))) (c .fails .ensures)
 
 returns-2 : tie.Need-returns-2
-returns-2 c = did-quiet (options-mode _ _ (there (c .before .before .before .before .before .before .before)) (is-stripe _ (c .before .before .before .mode-in .ensures) (c .before .enum-told4 .given .1))) (c .fails2 .ensures)
+returns-2 c =
+    let m = c .before .before .before in
+    did-quiet (options-mode _ _ (there (m .before .before .before .before)) (is-stripe _ (m .mode-in .ensures) (c .before .enum-told4 .given .1))) (c .fails2 .ensures)
 
 returns-3 : tie.Need-returns-3
 returns-3 c =
-    let m = c .before .before .before .before .before .before .before .before in
-    did-quiet (options-locator _ _ (there (m .before .before .before .before .before .before)) (emv m) (located-no _ (c .before .before .before .before .value .ensures) (sym (c .before .before .before .check .ensures) ∙ c .before .enum-told6 .given .1)))
+    let v = c .before .before .before .before in
+    let m = v .before .before .before .before in
+    did-quiet (options-locator _ _ (there (m .before .before .before .before .before .before)) (emv m) (located-no _ (v .value .ensures) (sym (c .before .before .before .check .ensures) ∙ c .before .enum-told6 .given .1)))
     (c .fails3 .ensures)
 
 returns-4 : tie.Need-returns-4
@@ -49,7 +53,9 @@ ask-record-requires : tie.Need-ask-record-requires
 ask-record-requires c κs = (search needs, found-there _ _ (c .before .before .before .before .record-at .ensures) (c .before .before .wanted .given .1) .0)
 
 returns-5 : tie.Need-returns-5
-returns-5 c = did-as (asked (c .before .before .before .before .before .before .before) (Found.At (c .before .before .before .before .before .wanted .given .0 .0)) (c .before .before .before .before .before .wanted .given .1)) (c .before .before .ask-record .ensures)
+returns-5 c =
+    let w = c .before .before .before .before .before in
+    did-as (asked (w .before .before) (Found.At (w .wanted .given .0 .0)) (w .wanted .given .1)) (c .before .before .ask-record .ensures)
 
 pub after-options-spec : {M : Type 1} → statement M
 after-options-spec =

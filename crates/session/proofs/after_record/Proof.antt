@@ -15,9 +15,10 @@ next : (c : tie.After-record-at) (x : Found) → let a = c .before .before .befo
     → recordRead (a .place) (a .session) (a .command .now) ≡ nextFound (a .session) (a .place .number + 1) (a .command .now) x
 unfolding recordRead
 next c x e =
-    let a = c .before .before .before .before .before .before .before .before .args in
+    let v = c .before in
+    let a = v .before .before .before .before .before .before .before .args in
     ap (nextFound (a .session) (a .place .number + 1) (a .command .now))
-    (found-as (c .record-at .ensures) e _ _ (c .before .value .ensures) (ap (λ (n : ℕ). n + 1) (c .before .before .before .before .before .wide .ensures .0)))
+    (found-as (c .record-at .ensures) e _ _ (v .value .ensures) (ap (λ (n : ℕ). n + 1) (v .before .before .before .before .wide .ensures .0)))
 
 returns : tie.Need-returns
 returns c = did-as (next (c .before .before .before .before .before .before) Found.Nothing (c .before .before .before .before .enum-told .given .1)) (c .before .before .after-records .ensures)
@@ -29,7 +30,9 @@ ask-record-requires : tie.Need-ask-record-requires
 ask-record-requires c κs = (search needs, found-there _ _ (c .before .before .before .before .record-at .ensures) (c .before .before .found .given .1) .0)
 
 returns-2 : tie.Need-returns-2
-returns-2 c = did-as (next (c .before .before .before .before .before .before .before) (Found.At (c .before .before .before .before .before .found .given .0 .0)) (c .before .before .before .before .before .found .given .1)) (c .before .before .ask-record .ensures)
+returns-2 c =
+    let f = c .before .before .before .before .before in
+    did-as (next (f .before .before) (Found.At (f .found .given .0 .0)) (f .found .given .1)) (c .before .before .ask-record .ensures)
 
 pub after-record-spec : {M : Type 1} → statement M
 after-record-spec =

@@ -17,10 +17,15 @@ returns : tie.Need-returns
 returns c = did-quiet (records-limit _ _ (is-above _ (c .before .before .before .limit-in .ensures) (c .before .enum-told2 .given .1))) (c .fails .ensures)
 
 returns-2 : tie.Need-returns-2
-returns-2 c = did-quiet (records-missing _ _ (within (c .before .before .before .before .before .before .before)) (is-missing _ (c .before .before .before .card-complete .ensures) (c .before .enum-told4 .given .1))) (c .fails2 .ensures)
+returns-2 c =
+    let k = c .before .before .before in
+    did-quiet (records-missing _ _ (within (k .before .before .before .before)) (is-missing _ (k .card-complete .ensures) (c .before .enum-told4 .given .1))) (c .fails2 .ensures)
 
 returns-3 : tie.Need-returns-3
-returns-3 c = did-as (records-analysed _ _ (within (c .before .before .before .before .before .before .before .before .before .before)) (is-complete _ (c .before .before .before .before .before .before .card-complete .ensures) (c .before .before .before .before .enum-told3 .given .1))) (c .before .before .analyse .ensures)
+returns-3 c =
+    let t = c .before .before .before .before in
+    let k = t .before .before in
+    did-as (records-analysed _ _ (within (k .before .before .before .before)) (is-complete _ (k .card-complete .ensures) (t .enum-told3 .given .1))) (c .before .before .analyse .ensures)
 
 pub after-records-spec : {M : Type 1} → statement M
 after-records-spec =

@@ -12,13 +12,20 @@ use Rattle.session.proofs.analyse.Statement.{statement}
 use Rattle.session.proofs.analyse.Tie as tie
 
 with-value-requires : tie.Need-with-value-requires
-with-value-requires c κs = (omega arith, omega (arith, results-fit, ap length (c .before .before .before .before .before .result-of .ensures) ∙ result-length (stored (c .before .before .before .before .before .before .before .before .before .before .before .args .session))))
+with-value-requires c κs =
+    let r = c .before .before .before .before .before in
+    (omega arith, omega (arith, results-fit, ap length (r .result-of .ensures) ∙ result-length (stored (r .before .before .before .before .before .before .args .session))))
 
 ask-cryptogram-requires : tie.Need-ask-cryptogram-requires
 ask-cryptogram-requires c κs = (search needs, omega (arith, ap (λ (s : Session). s .count) (c .before .with-store .ensures)))
 
 returns : tie.Need-returns
-returns c = did-as (analysed-as _ _ (c .before .before .before .before .before .before .before .before .before .before .before .result-of .ensures) (c .before .before .before .before .before .before .before .choice-for .ensures) (c .before .before .before .before .before .with-value .ensures) (c .before .before .before .before .with-store .ensures)) (c .before .before .ask-cryptogram .ensures)
+returns c =
+    let w = c .before .before .before .before in
+    let k = w .before in
+    let x = k .before .before in
+    let r = x .before .before .before .before in
+    did-as (analysed-as _ _ (r .result-of .ensures) (x .choice-for .ensures) (k .with-value .ensures) (w .with-store .ensures)) (c .before .before .ask-cryptogram .ensures)
 
 pub analyse-spec : {M : Type 1} → statement M
 analyse-spec =

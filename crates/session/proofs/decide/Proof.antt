@@ -32,7 +32,10 @@ returns-2 : tie.Need-returns-2
 returns-2 c = c .fails2 .ensures ∙ sym (concludes (c .before .before .before) none (decides-nothing _ (c .before .before .before .decision-for .ensures) (c .before .enum-told3 .given .1)))
 
 returns-3 : tie.Need-returns-3
-returns-3 c = c .ends .ensures ∙ sym (concludes (c .before .before .before .before) (some (c .before .before .d .given .0 .0 .outcome)) (decides-on _ (c .before .before .before .before .decision-for .ensures) (c .before .before .d .given .1)))
+returns-3 c =
+    let d = c .before .before in
+    let f = d .before .before in
+    c .ends .ensures ∙ sym (concludes f (some (d .d .given .0 .0 .outcome)) (decides-on _ (f .decision-for .ensures) (d .d .given .1)))
 
 pub decide-spec : {M : Type 1} → statement M
 decide-spec =

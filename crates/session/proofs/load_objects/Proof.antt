@@ -21,7 +21,11 @@ ask-options-requires : tie.Need-ask-options-requires
 ask-options-requires c κs = (search needs, omega (arith, ap (λ (s : Session). s .count) (c .before .with-store .ensures)))
 
 returns-2 : tie.Need-returns-2
-returns-2 c = did-as (loading-taken _ _ _ (c .before .before .before .before .before .before .before .before .before .before .load .ensures) (c .before .before .before .before .before .before .before .before .enum-told .given .1) (c .before .before .before .before .before .with-value .ensures) (c .before .before .before .before .with-store .ensures)) (c .before .before .ask-options .ensures)
+returns-2 c =
+    let w = c .before .before .before .before in
+    let k = w .before in
+    let t = k .before .before .before in
+    did-as (loading-taken _ _ _ (t .before .before .load .ensures) (t .enum-told .given .1) (k .with-value .ensures) (w .with-store .ensures)) (c .before .before .ask-options .ensures)
 
 pub load-objects-spec : {M : Type 1} → statement M
 load-objects-spec =

@@ -10,11 +10,20 @@ use Rattle.session.proofs.take_cryptogram.Tie as tie
 
 returns : tie.Need-returns
 unfolding cryptogramReply
-returns c = c .fails .ensures ∙ ap (failsReply (c .before .before .before .before .before .before .args .session)) (c .before .number .ensures) ∙ sym (accepted-no _ _ _ _ _ (c .before .before .before .read-answer .ensures) (c .before .before .match .keys2))
+returns c =
+    let n = c .before in
+    let r = n .before .before in
+    c .fails .ensures ∙ ap (failsReply (r .before .before .before .args .session)) (n .number .ensures)
+    ∙ sym (accepted-no _ _ _ _ _ (r .read-answer .ensures) (n .before .match .keys2))
 
 returns-2 : tie.Need-returns-2
 unfolding cryptogramReply
-returns-2 c = c .decide .ensures ∙ ap (cryptogramRead (c .before .before .before .before .before .before .before .before .args .asked)) (c .before .with-store .ensures) ∙ sym (accepted-yes _ _ _ _ _ (c .before .before .before .before .before .read-answer .ensures) (c .before .before .before .enum-told .given .1))
+returns-2 c =
+    let w = c .before in
+    let t = w .before .before in
+    let r = t .before .before in
+    c .decide .ensures ∙ ap (cryptogramRead (r .before .before .before .args .asked)) (w .with-store .ensures)
+    ∙ sym (accepted-yes _ _ _ _ _ (r .read-answer .ensures) (t .enum-told .given .1))
 
 pub take-cryptogram-spec : {M : Type 1} → statement M
 take-cryptogram-spec =

@@ -12,7 +12,11 @@ use Rattle.session.proofs.take_options.Tie as tie
 
 returns : tie.Need-returns
 unfolding optionsStep
-returns c = did-quiet (accepted-no _ _ _ _ _ (c .before .before .before .read-answer .ensures) (c .before .before .match .keys2)) (c .fails .ensures ∙ ap (failsReply (c .before .before .before .before .before .before .before .args .session)) (c .before .number .ensures))
+returns c =
+    let n = c .before in
+    let r = n .before .before in
+    did-quiet (accepted-no _ _ _ _ _ (r .read-answer .ensures) (n .before .match .keys2))
+    (c .fails .ensures ∙ ap (failsReply (r .before .before .before .before .args .session)) (n .number .ensures))
 
 after-options-requires : tie.Need-after-options-requires
 after-options-requires c κs = (search needs, omega (arith, ap (λ (s : Session). s .count) (c .before .with-store .ensures)))
@@ -20,9 +24,12 @@ after-options-requires c κs = (search needs, omega (arith, ap (λ (s : Session)
 returns-2 : tie.Need-returns-2
 unfolding optionsStep
 returns-2 c =
-    let a = c .before .before .before .before .before .before .before .before .before .before .before .before .args in
+    let w = c .before .before .before .before in
+    let t = w .before .before in
+    let r = t .before .before in
+    let a = r .before .before .before .before .args in
     did-as
-    (accepted-yes _ _ _ _ _ (c .before .before .before .before .before .before .before .before .read-answer .ensures) (c .before .before .before .before .before .before .enum-told .given .1) ∙ ap (λ (t : Session). optionsRead t (a .command .now)) (sym (c .before .before .before .before .with-store .ensures)))
+    (accepted-yes _ _ _ _ _ (r .read-answer .ensures) (t .enum-told .given .1) ∙ ap (λ (u : Session). optionsRead u (a .command .now)) (sym (w .with-store .ensures)))
     (c .before .before .after-options .ensures)
 
 pub take-options-spec : {M : Type 1} → statement M

@@ -16,28 +16,37 @@ asked : (c : tie.After-record-at) (x : Found) → let a = c .before .before .bef
     → recordStep (a .place) (a .session) (a .card .now) (a .command .now) ≡ recordFound (a .place) (a .session) (a .card .now) (a .command .now) x
 unfolding recordStep
 asked c x e =
-    let a = c .before .before .before .before .before .before .before .before .before .args in
-    ap (recordFound (a .place) (a .session) (a .card .now) (a .command .now)) (found-as (c .record-at .ensures) e _ _ (c .before .value .ensures) (c .before .before .before .before .before .wide .ensures .0))
+    let v = c .before in
+    let a = v .before .before .before .before .before .before .before .before .args in
+    ap (recordFound (a .place) (a .session) (a .card .now) (a .command .now))
+    (found-as (c .record-at .ensures) e _ _ (v .value .ensures) (v .before .before .before .before .wide .ensures .0))
 
 returns : tie.Need-returns
 returns c = did-quiet (asked (c .before .before .before) Found.Nothing (c .before .enum-told .given .1)) (c .fails .ensures)
 
 returns-2 : tie.Need-returns-2
 returns-2 c =
+    let n = c .before in
+    let r = n .before .before in
+    let f = r .before .before in
     did-quiet
-    (asked (c .before .before .before .before .before .before .before) (Found.At (c .before .before .before .before .before .found .given .0 .0)) (c .before .before .before .before .before .found .given .1) ∙ accepted-no _ _ _ _ _ (c .before .before .before .read-answer .ensures) (c .before .before .match2 .keys2))
-    (c .fails2 .ensures ∙ ap (failsReply (c .before .before .before .before .before .before .before .before .before .before .before .before .before .before .before .before .args .session)) (c .before .number .ensures))
+    (asked (f .before .before) (Found.At (f .found .given .0 .0)) (f .found .given .1) ∙ accepted-no _ _ _ _ _ (r .read-answer .ensures) (n .before .match2 .keys2))
+    (c .fails2 .ensures ∙ ap (failsReply (f .before .before .before .before .before .before .before .before .before .before .before .args .session)) (n .number .ensures))
 
 after-record-requires : tie.Need-after-record-requires
 after-record-requires c κs = (search needs, omega (arith, ap (λ (s : Session). s .count) (c .before .with-store .ensures)))
 
 returns-3 : tie.Need-returns-3
 returns-3 c =
-    let a = c .before .before .before .before .before .before .before .before .before .before .before .before .before .before .before .before .before .before .before .before .before .args in
+    let w = c .before .before .before .before in
+    let t = w .before .before in
+    let r = t .before .before in
+    let f = r .before .before in
+    let a = f .before .before .before .before .before .before .before .before .before .before .before .args in
     did-as
-    (asked (c .before .before .before .before .before .before .before .before .before .before .before .before) (Found.At (c .before .before .before .before .before .before .before .before .before .before .found .given .0 .0)) (c .before .before .before .before .before .before .before .before .before .before .found .given .1)
-    ∙ accepted-yes _ _ _ _ _ (c .before .before .before .before .before .before .before .before .read-answer .ensures) (c .before .before .before .before .before .before .enum-told2 .given .1)
-    ∙ ap (λ (t : Session). recordRead (a .place) t (a .command .now)) (sym (c .before .before .before .before .with-store .ensures)))
+    (asked (f .before .before) (Found.At (f .found .given .0 .0)) (f .found .given .1)
+    ∙ accepted-yes _ _ _ _ _ (r .read-answer .ensures) (t .enum-told2 .given .1)
+    ∙ ap (λ (u : Session). recordRead (a .place) u (a .command .now)) (sym (w .with-store .ensures)))
     (c .before .before .after-record .ensures)
 
 pub take-record-spec : {M : Type 1} → statement M

@@ -1,0 +1,158 @@
+// A walk through every outcome: each reply of each session, a line each.
+use record::{Answer, Phase, Reply};
+
+fn main() {
+    decisions();
+    card_reasons();
+    later_reasons();
+    broken_off();
+    refusals();
+    longest();
+}
+
+// ---- the steps of a session
+
+// All that a start must bring: a terminal type, and an amount of 12.34 and so many hundreds. The floor
+// limit is 100.00, the transaction limit 200.00.
+fn terminal(kind: u8, hundreds: u8) -> [u8; 85] {
+    [
+        0x9A, 0x03, 0x25, 0x11, 0x15, 0x9C, 0x01, 0x00, 0x9F, 0x02, 0x06, 0x00, 0x00, 0x00, hundreds, 0x12, 0x34, 0x9F,
+        0x09, 0x02, 0x00, 0x02, 0x9F, 0x1A, 0x02, 0x00, 0x56, 0x9F, 0x35, 0x01, kind, 0x9F, 0x37, 0x04, 0x01, 0x02,
+        0x03, 0x04, 0xDF, 0x81, 0x20, 0x05, 0x00, 0x00, 0x00, 0x00, 0x00, 0xDF, 0x81, 0x21, 0x05, 0x00, 0x00, 0x00,
+        0x00, 0x00, 0xDF, 0x81, 0x22, 0x05, 0x00, 0x00, 0x00, 0x00, 0x00, 0xDF, 0x81, 0x23, 0x06, 0x00, 0x00, 0x00,
+        0x01, 0x00, 0x00, 0xDF, 0x81, 0x24, 0x06, 0x00, 0x00, 0x00, 0x02, 0x00, 0x00,
+    ]
+}
+
+// A start of a fresh session, shown.
+fn begin(kind: u8, hundreds: u8) -> Reply {
+    let mut command = [0u8; 261];
+    let bytes = terminal(kind, hundreds);
+    let reply = session::start(record::fresh(), &bytes, &mut command);
+    show::reply(reply, &command);
+    reply
+}
+
+// The card's answer to a command, shown; nothing where no command was handed out.
+fn next(reply: Reply, card: &[u8]) -> Reply {
+    let last = reply.answer;
+    let Answer::Command(_) = last else {
+        return reply;
+    };
+    let mut command = [0u8; 261];
+    let after = session::answer(reply.session, card, &mut command);
+    show::reply(after, &command);
+    after
+}
+
+// A purchase with one record, to its outcome.
+fn purchase(kind: u8, hundreds: u8, options: &[u8], record: &[u8], cryptogram: &[u8]) {
+    let started = begin(kind, hundreds);
+    let asked = next(started, options);
+    let read = next(asked, record);
+    next(read, cryptogram);
+}
+
+// A purchase of 12.34 on a terminal of type 22, up to its record.
+fn reads(options: &[u8], record: &[u8]) {
+    purchase(0x22, 0, options, record, b"\x90\x00");
+}
+
+// ---- decisions
+
+fn decisions() {
+    let options = b"\x80\x06\x00\x80\x08\x01\x01\x00\x90\x00";
+    let online = b"\x70\x14\x5F\x24\x03\x30\x12\x31\x5A\x08\x47\x61\x73\x90\x01\x01\x00\x10\x8C\x02\x95\x05\x90\x00";
+    let offline = b"\x70\x1C\x5F\x24\x03\x30\x12\x31\x5A\x08\x47\x61\x73\x90\x01\x01\x00\x10\x8C\x02\x95\x05\x9F\x0F\x05\x00\x00\x00\x00\x00\x90\x00";
+    show::text(b"approved offline\n");
+    purchase(0x22, 0, options, offline, b"\x80\x0B\x40\x00\x01\x01\x02\x03\x04\x05\x06\x07\x08\x90\x00");
+    show::text(b"sent online\n");
+    purchase(0x22, 0, options, online, b"\x80\x0B\x80\x00\x01\x01\x02\x03\x04\x05\x06\x07\x08\x90\x00");
+    show::text(b"declined by the terminal\n");
+    purchase(0x23, 0, options, online, b"\x80\x0B\x00\x00\x01\x01\x02\x03\x04\x05\x06\x07\x08\x90\x00");
+    show::text(b"declined by the card\n");
+    purchase(0x22, 0, options, offline, b"\x80\x0B\x00\x00\x01\x01\x02\x03\x04\x05\x06\x07\x08\x90\x00");
+}
+
+// ---- reasons
+
+// Reasons 1 to 5 and 11: what the card answered to processing options and to the record.
+fn card_reasons() {
+    let options = b"\x80\x06\x00\x80\x08\x01\x01\x00\x90\x00";
+    show::text(b"reason 1\n");
+    reads(b"\x69\x85", b"\x90\x00");
+    show::text(b"reason 2\n");
+    reads(options, b"\x70\x80\x00\x00\x90\x00");
+    show::text(b"reason 3\n");
+    reads(options, b"\x70\x03\x95\x01\x00\x90\x00");
+    show::text(b"reason 4\n");
+    reads(options, b"\x70\x00\x90\x00");
+    show::text(b"reason 5\n");
+    reads(b"\x80\x06\x00\x80\x00\x01\x01\x00\x90\x00", b"\x90\x00");
+    show::text(b"reason 11\n");
+    reads(b"\x80\x06\x00\x00\x08\x01\x01\x00\x90\x00", b"\x90\x00");
+}
+
+// Reasons 6 to 8: the limit, the list of the cryptogram, and its type.
+fn later_reasons() {
+    let options = b"\x80\x06\x00\x80\x08\x01\x01\x00\x90\x00";
+    let record = b"\x70\x14\x5F\x24\x03\x30\x12\x31\x5A\x08\x47\x61\x73\x90\x01\x01\x00\x10\x8C\x02\x95\x05\x90\x00";
+    show::text(b"reason 6\n");
+    purchase(0x22, 2, options, record, b"\x90\x00");
+    show::text(b"reason 7\n");
+    reads(options, b"\x70\x13\x5F\x24\x03\x30\x12\x31\x5A\x08\x47\x61\x73\x90\x01\x01\x00\x10\x8C\x01\x95\x90\x00");
+    show::text(b"reason 8\n");
+    purchase(0x22, 0, options, record, b"\x80\x0B\x40\x00\x01\x01\x02\x03\x04\x05\x06\x07\x08\x90\x00");
+}
+
+// Reasons 9 and 10: the link fails, the terminal stops.
+fn broken_off() {
+    let mut command = [0u8; 261];
+    show::text(b"reason 9\n");
+    let linked = begin(0x22, 0);
+    let failed = session::link_failed(linked.session, &mut command);
+    show::reply(failed, &command);
+    show::text(b"reason 10\n");
+    let started = begin(0x22, 0);
+    let stopped = session::stop(started.session, &mut command);
+    show::reply(stopped, &command);
+}
+
+// ---- refusals
+
+fn refusals() {
+    let mut command = [0u8; 261];
+    show::text(b"a template in the start bytes\n");
+    show::reply(session::start(record::fresh(), b"\xE1\x00", &mut command), &command);
+    show::text(b"an answer to a fresh session\n");
+    show::reply(session::answer(record::fresh(), b"\x90\x00", &mut command), &command);
+    show::text(b"a command buffer of 260 bytes\n");
+    let mut short = [0u8; 260];
+    show::reply(session::start(record::fresh(), b"", &mut short), &short);
+    show::text(b"result bits in the start bytes\n");
+    show::reply(session::start(record::fresh(), b"\x95\x05\x00\x00\x00\x00\x00", &mut command), &command);
+    show::text(b"no start bytes\n");
+    show::reply(session::start(record::fresh(), b"", &mut command), &command);
+    show::text(b"a fresh session with a count of 1\n");
+    let broken = record::waiting(record::fresh(), Phase::Fresh, 1);
+    show::reply(session::start(broken, b"", &mut command), &command);
+}
+
+// ---- the longest session: 128 records
+
+fn longest() {
+    show::text(b"128 records\n");
+    let started = begin(0x22, 0);
+    let mut reply = next(started, b"\x80\x06\x00\x80\x08\x01\x80\x00\x90\x00");
+    let mut k: usize = 0;
+    while k < 127 {
+        reply = next(reply, b"\x70\x00\x90\x00");
+        k += 1;
+    }
+    reply = next(reply, b"\x70\x14\x5F\x24\x03\x30\x12\x31\x5A\x08\x47\x61\x73\x90\x01\x01\x00\x10\x8C\x02\x95\x05\x90\x00");
+    reply = next(reply, b"\x80\x0B\x80\x00\x01\x01\x02\x03\x04\x05\x06\x07\x08\x90\x00");
+    let session = reply.session;
+    show::text(b"commands handed out: ");
+    show::number(basics::wide(record::count(session)));
+    show::text(b"\n");
+}
