@@ -1,0 +1,430 @@
+-- Demand 3: from a session in any phase, the commands of any further calls are the front of what is left of the published order. One
+-- induction over the calls, each by the way its step went.
+-- Assumes nothing.
+use mathlib.Core.Path.{_≡_, refl, sym, ap, subst, _∙_}
+use mathlib.Core.Bool.{Bool, true, false}
+use mathlib.Core.Logic.{_⊎_, inl, inr}
+use mathlib.Core.List.{List, [], _∷_, _++_, map}
+use mathlib.Core.Option.{Option, some, none}
+use Prim.Native.Nat.{ℕ, _+_, _-_, _≤_}
+use native.Mathlib.Omega.{arith}
+use lib.ListN.{length, getD, take, drop, length-append, length-take, length-drop, length-map}
+use lib.Seq.{take-at, drop-at}
+use borrow.Author.Tests.{eq-eqb, ne-eqb}
+use Rattle.basics.specs.Choice.{if}
+use Rattle.basics.proofs.Laws.{if-ind, if-yes, if-no, bool-cases, both-yes, both-no-left, both-no-right}
+use Rattle.store.specs.Place.{bytesOf}
+use Rattle.locator.specs.declared.Record.{Record}
+use Rattle.locator.specs.declared.Found.{Found}
+use Rattle.locator.specs.Records.{records, total, accepts, recordAt}
+use Rattle.locator.specs.Command.{readRecord}
+use Rattle.locator.proofs.Laws.{record-split, record-inside, record-there, accepted-length}
+use Rattle.locator.proofs.Records.{records-length}
+use Rattle.reading.specs.declared.Awaited.{Awaited}
+use Rattle.reading.specs.Answer as reading
+use Rattle.data_list.proofs.Commands as list
+use Rattle.analysis.specs.Action.{resultOf}
+use Rattle.analysis.specs.Choice.{p1Of}
+use Rattle.record.specs.declared.Outcome.{Outcome}
+use Rattle.record.specs.declared.Place.{Place}
+use Rattle.record.specs.declared.Phase.{Phase}
+use Rattle.record.specs.declared.Session.{Session}
+use Rattle.record.specs.declared.Reply.{Reply}
+use Rattle.record.specs.Numbers.{reasonLink, reasonStopped}
+use Rattle.record.specs.Session.{stored, endsReply}
+use Rattle.record.specs.Ranges.{locatorIn, inRanges}
+use Rattle.record.specs.Clauses.{noResults}
+use Rattle.record.proofs.Phases.{store-size, on-fresh, on-options, on-record, count-most}
+use Rattle.session.specs.Steps as steps
+use Rattle.session.specs.Steps.{Step, quiet, refuses, withStore, withResults, admitted, endsIn, brokenOff}
+use Rattle.session.specs.Start.{startStep}
+use Rattle.session.specs.Answer.{answerIn, answerStep}
+use Rattle.session.proofs.Kept.{read-locator}
+use Rattle.session.proofs.Ways as ways
+use Rattle.session.proofs.Ways.{OptionsWay, RecordsWay, RecordWay, CryptogramWay, AnswerWay, answer-way, StartWay, start-way, analysedSession, choiceIn, loadedSession}
+use Rattle.session.proofs.Ranges.{start-keeps, answer-keeps, link-keeps, stop-keeps}
+use Rattle.trace.specs.Calls.{Call, start, answer, link-failed, stop, step, Made, made, play, final, isRefusal, isCommand, isOutcome, said, commandIn, commands, taken, lastOf, cardBytes, stillOut, oneIf, unansweredFrom, unanswered}
+use Rattle.trace.specs.Order.{broughtLocator, firstAnswer, acceptedLocator, Kind, options, record-command, closing, kindOf, published}
+use Rattle.trace.specs.Claim.{Proper, isFresh, isRunning, isEnded, noneTaken, lastCommand, lastOutcome, most}
+use Rattle.trace.proofs.Brought.{locator-brought}
+
+no : {P : Type 0} → false ≡ true → P
+no e = let z : _≡_ {A = ℕ} 0 1 = cc in absurd (omega arith)
+
+-- ---- the kinds of commands
+
+first-two : (c : List ℕ) (a b : ℕ) → take 2 c ≡ a ∷ b ∷ [] → (getD c 0 0 ≡ a) × (getD c 1 0 ≡ b)
+first-two [] a b e = (ap (λ (l : List ℕ). getD l 0 0) e, ap (λ (l : List ℕ). getD l 1 0) e)
+first-two (x ∷ []) a b e = (ap (λ (l : List ℕ). getD l 0 0) e, ap (λ (l : List ℕ). getD l 1 0) e)
+first-two (x ∷ y ∷ c) a b e = (ap (λ (l : List ℕ). getD l 0 0) e, ap (λ (l : List ℕ). getD l 1 0) e)
+
+kind-options : (c : List ℕ) → list.Proper 0xA8 c → kindOf c ≡ options
+unfolding kindOf
+kind-options c p = let t = first-two c 0x80 0xA8 (p .starts) in if-yes _ _ (both-yes _ _ (eq-eqb _ 0x80 (t .0)) (eq-eqb _ 0xA8 (t .1)))
+
+kind-closing : (c : List ℕ) → list.Proper 0xAE c → kindOf c ≡ closing
+unfolding kindOf
+kind-closing c p =
+    let t = first-two c 0x80 0xAE (p .starts) in
+    if-no _ _ (both-no-right _ _ (ne-eqb (getD c 1 0) 0xA8 (λ z. omega (arith, t .1))))
+    ∙ if-yes _ _ (both-yes _ _ (eq-eqb _ 0x80 (t .0)) (eq-eqb _ 0xAE (t .1)))
+
+abbrev reads : Record → Kind
+reads r = record-command (readRecord r)
+
+kind-record : (r : Record) → kindOf (readRecord r) ≡ reads r
+unfolding kindOf
+kind-record r = if-no _ _ (both-no-left _ _ (ne-eqb 0 0x80 (λ z. omega arith))) ∙ if-no _ _ (both-no-left _ _ (ne-eqb 0 0x80 (λ z. omega arith)))
+
+-- ---- the front of a list
+
+abbrev Front : List Kind → List Kind → Type 0
+Front [] ys = Unit {0}
+Front (x ∷ xs) [] = ⊥
+Front (x ∷ xs) (y ∷ ys) = (x ≡ y) × Front xs ys
+
+front-take : (xs ys : List Kind) → Front xs ys → xs ≡ take (length xs) ys
+front-take [] ys f = refl
+front-take (x ∷ xs) [] f = absurd f
+front-take (x ∷ xs) (y ∷ ys) f =
+    subst (λ (z : Kind). x ∷ xs ≡ z ∷ take (length xs) ys) (f .0) (ap (λ (l : List Kind). x ∷ l) (front-take xs ys (f .1)))
+
+front-length : (xs ys : List Kind) → Front xs ys → length xs ≤ length ys
+front-length [] ys f = omega arith
+front-length (x ∷ xs) [] f = absurd f
+front-length (x ∷ xs) (y ∷ ys) f = let h = front-length xs ys (f .1) in omega arith
+
+front-cons : (x y : Kind) (xs ys zs : List Kind) → ys ≡ y ∷ zs → x ≡ y → Front xs zs → Front (x ∷ xs) ys
+front-cons x y xs ys zs e k f = subst (Front (x ∷ xs)) (sym e) (k, f)
+
+-- nothing is sent once nothing is left
+none-left : (sent : List (List ℕ)) (r : List Kind) → Front (map kindOf sent) [] → Front (map kindOf sent) r × (length sent ≡ 0)
+none-left [] r f = (tt, refl)
+none-left (c ∷ sent) r f = absurd f
+
+-- ---- what is left of the published order in each phase: by the stored locator, or by the one that will be accepted
+
+abbrev rest : Phase → List ℕ → Option (List ℕ) → List Kind
+rest Phase.Fresh l a = published a
+rest Phase.Options l a = drop 1 (published a)
+rest (Phase.Record p) l a = map reads (drop (p .number) (records l)) ++ (closing ∷ [])
+rest (Phase.Cryptogram x) l a = []
+rest (Phase.Ended e) l a = []
+
+published-front : (a : Option (List ℕ)) → published a ≡ options ∷ drop 1 (published a)
+unfolding published
+published-front none = refl
+published-front (some l) = refl
+
+published-length : (a : Option (List ℕ)) → length (published a) ≡ most a
+unfolding published
+published-length none = refl
+published-length (some l) = simp (length-append, length-map) (omega (arith, records-length l))
+
+-- the record behind the k-th
+next-record : (l : List ℕ) (k : ℕ) (r : Record) → recordAt l (k + 1) ≡ Found.At r → drop k (records l) ≡ r ∷ drop (k + 1) (records l)
+next-record l k r e =
+    ap (drop k) (record-split l (k + 1) r e)
+    ∙ drop-at (take (k + 1 - 1) (records l)) (r ∷ drop (k + 1) (records l)) k
+    (length-take (k + 1 - 1) (records l) ∙ omega (arith, records-length l, record-inside l (k + 1) r e .1))
+
+empty : (x : List Record) → length x ≡ 0 → x ≡ []
+empty [] e = refl
+empty (r ∷ x) e = absurd (omega arith)
+
+no-record : (l : List ℕ) (k : ℕ) → accepts l ≡ true → recordAt l (k + 1) ≡ Found.Nothing → drop k (records l) ≡ []
+no-record l k a e = empty (drop k (records l)) (length-drop k (records l) ∙ omega (arith, records-length l, past))
+  where
+    past : k + 1 ≤ total l → ⊥
+    past h =
+        let w = record-there l (k + 1) (record { file = 0; number = 0 }) a (omega arith) h in
+        let z : _≡_ {A = ℕ} 0 1 = cc in omega arith
+
+-- ---- the last call taken, or what the session was before
+
+abbrev by : Bool → (Made → Bool) → Option Made → Bool
+by d g none = d
+by d g (some m) = g m
+
+by-last : (d e : Bool) (g : Made → Bool) (m : Made) (tk : List Made) → by d g (lastOf (m ∷ tk)) ≡ by e g (lastOf (m ∷ tk))
+unfolding lastOf
+by-last d e g m [] = refl
+by-last d e g m (x ∷ tk) = by-last d e g x tk
+
+by-front : (d e : Bool) (g : Made → Bool) (m : Made) (tk : List Made) → e ≡ g m → by e g (lastOf tk) ≡ by d g (lastOf (m ∷ tk))
+unfolding lastOf
+by-front d e g m [] q = q
+by-front d e g m (x ∷ tk) q = by-last e d g x tk
+
+running-is : (p : Phase) → isRunning p ≡ true → (isFresh p ≡ false) × (isEnded p ≡ false)
+running-is Phase.Fresh e = no e
+running-is Phase.Options e = (refl, refl)
+running-is (Phase.Record p) e = (refl, refl)
+running-is (Phase.Cryptogram a) e = (refl, refl)
+running-is (Phase.Ended x) e = no e
+
+-- ---- the claim from a session s on: the commands sent, the calls taken, the session at the end
+
+record Run (s : Session) (sent : List (List ℕ)) (tk : List Made) (f : Session) : Type 0 where
+  count : f .count ≡ s .count + length sent
+  fresh : isFresh (f .phase) ≡ by (isFresh (s .phase)) (λ m. false) (lastOf tk)
+  running : isRunning (f .phase) ≡ by (isRunning (s .phase)) (λ m. isCommand (said m)) (lastOf tk)
+  ended : isEnded (f .phase) ≡ by (isEnded (s .phase)) (λ m. isOutcome (said m)) (lastOf tk)
+  waiting : isRunning (f .phase) ≡ true → unansweredFrom (oneIf (isRunning (s .phase))) tk ≡ 1
+  calls : length tk + oneIf (isEnded (s .phase)) ≡ length sent + oneIf (isEnded (f .phase))
+  order : Front (map kindOf sent) (rest (s .phase) (locatorIn (stored s)) (firstAnswer tk))
+  ranges : inRanges f ≡ true
+
+no-calls : (s : Session) → inRanges s ≡ true → Run s [] [] s
+unfolding lastOf unansweredFrom
+no-calls s i =
+    record { count = omega arith; fresh = refl; running = refl; ended = refl; waiting = λ e. ap oneIf e; calls = omega arith; order = tt; ranges = i }
+
+-- a step takes the claim from the session that it leaves to the one before
+abbrev Goes : Session → Call → Step → Type 0
+Goes s c st =
+    (sent : List (List ℕ)) (tk : List Made) (f : Session) → Run (st .reply .session) sent tk f
+    → Run s (commandIn (st .reply .answer) (st .buffer) ++ sent) (if (isRefusal (st .reply .answer)) tk (made c st ∷ tk)) f
+
+goes-refused : (s : Session) (c : Call) (n : ℕ) (buf : List ℕ) → Goes s c (refuses s n buf)
+goes-refused s c n buf sent tk f r = subst (λ (x : List Made). Run s sent x f) (sym (if-yes _ _ refl)) r
+
+goes-ended : (s : Session) (c : Call) (b : List ℕ) (o : Outcome) (n : ℕ) (buf : List ℕ) → isEnded (s .phase) ≡ false → Goes s c (quiet (endsReply (withStore s b) o n) buf)
+unfolding unansweredFrom
+goes-ended s c b o n buf e sent tk f r =
+    subst (λ (x : List Made). Run s sent x f) (sym (if-no _ _ refl))
+    (record {
+      count = r .count;
+      fresh = r .fresh ∙ by-front (isFresh (s .phase)) false (λ x. false) m tk refl;
+      running = r .running ∙ by-front (isRunning (s .phase)) false (λ x. isCommand (said x)) m tk refl;
+      ended = r .ended ∙ by-front (isEnded (s .phase)) true (λ x. isOutcome (said x)) m tk refl;
+      waiting = λ q. absurd (omega (arith, r .calls, left .1, ap oneIf (running-is (f .phase) q .1)));
+      calls = omega (arith, r .calls, ap oneIf e);
+      order = left .0;
+      ranges = r .ranges;
+    })
+  where
+    m : Made
+    m = made c (quiet (endsReply (withStore s b) o n) buf)
+
+    left : Front (map kindOf sent) (rest (s .phase) (locatorIn (stored s)) (firstAnswer (m ∷ tk))) × (length sent ≡ 0)
+    left = none-left sent _ (r .order)
+
+-- with a command: what is left begins with it
+abbrev Next : Session → Call → List ℕ → Phase → List ℕ → List ℕ → Type 0
+Next s c b p x buf =
+    (sent : List (List ℕ)) (tk : List Made) → Front (map kindOf sent) (rest p (locatorIn b) (firstAnswer tk))
+    → Front (kindOf x ∷ map kindOf sent) (rest (s .phase) (locatorIn (stored s)) (firstAnswer (made c (steps.commands (withStore s b) p x buf) ∷ tk)))
+
+goes-sent : (s : Session) (c : Call) (b : List ℕ) (p : Phase) (x buf : List ℕ) → isEnded (s .phase) ≡ false → isRunning p ≡ true
+    → stillOut (cardBytes c) (oneIf (isRunning (s .phase))) ≡ 0 → Next s c b p x buf → Goes s c (steps.commands (withStore s b) p x buf)
+unfolding unansweredFrom
+goes-sent s c b p x buf e q z next sent tk f r =
+    subst (λ (y : List Made). Run s (take (length x) (x ++ drop (length x) buf) ∷ sent) y f) (sym (if-no _ _ refl))
+    (subst (λ (y : List ℕ). Run s (y ∷ sent) (m ∷ tk) f) (sym (take-at x (drop (length x) buf) (length x) refl))
+    (record {
+      count = omega (arith, r .count);
+      fresh = r .fresh ∙ by-front (isFresh (s .phase)) (isFresh p) (λ y. false) m tk (running-is p q .0);
+      running = r .running ∙ by-front (isRunning (s .phase)) (isRunning p) (λ y. isCommand (said y)) m tk q;
+      ended = r .ended ∙ by-front (isEnded (s .phase)) (isEnded p) (λ y. isOutcome (said y)) m tk (running-is p q .1);
+      waiting = λ w. ap (λ (k : ℕ). unansweredFrom k tk) (omega (arith, z, ap oneIf q)) ∙ r .waiting w;
+      calls = omega (arith, r .calls, ap oneIf e, ap oneIf (running-is p q .1));
+      order = next sent tk (r .order);
+      ranges = r .ranges;
+    }))
+  where
+    m : Made
+    m = made c (steps.commands (withStore s b) p x buf)
+
+-- ---- start
+
+start-goes : (s : Session) (bytes buf : List ℕ) → Goes s (start bytes buf) (startStep s bytes buf)
+unfolding firstAnswer
+start-goes s bytes buf = go (start-way s bytes buf)
+  where
+    go : {st : Step} → StartWay s bytes buf st → Goes s (start bytes buf) st
+    go (StartWay.refused n) = goes-refused s (start bytes buf) n buf
+    go (StartWay.unlisted b i q e) = goes-ended s (start bytes buf) (withResults b noResults) _ _ buf (ap isEnded q)
+    go (StartWay.asked b c i q e f) =
+        goes-sent s (start bytes buf) (withResults b noResults) Phase.Options c buf (ap isEnded q) refl (ap (λ (p : Phase). oneIf (isRunning p)) q)
+        (λ sent tk h. subst (λ (p : Phase). Front (kindOf c ∷ map kindOf sent) (rest p (locatorIn (stored s)) (firstAnswer tk))) (sym q)
+        (front-cons (kindOf c) options (map kindOf sent) (published (firstAnswer tk)) (drop 1 (published (firstAnswer tk))) (published-front (firstAnswer tk)) (kind-options c (list.options-proper (stored (loadedSession s b)) c f)) h))
+
+-- ---- answer
+
+module _ (s : Session) (card buf : List ℕ) where
+  abbrev call : Call
+  call = answer card buf
+
+  options-goes : inRanges s ≡ true → s .phase ≡ Phase.Options → reading.readAnswer Awaited.Options (stored s) card .reason ≡ 0
+      → {st : Step} → OptionsWay (ways.taken Awaited.Options s card) buf st → Goes s call st
+  unfolding firstAnswer published
+  options-goes i q z (OptionsWay.failed n r) = goes-ended s call _ _ n buf (ap isEnded q)
+  options-goes i q z (OptionsWay.first r m a e) =
+      goes-sent s call b (Phase.Record (record { number = 1 })) (readRecord r) buf (ap isEnded q) refl refl
+      (λ sent tk h. subst (λ (p : Phase). Front (kindOf (readRecord r) ∷ map kindOf sent) (rest p (locatorIn (stored s)) (if true (broughtLocator card) none))) (sym q)
+      (subst (λ (x : Option (List ℕ)). Front (kindOf (readRecord r) ∷ map kindOf sent) (drop 1 (published x))) (sym (if-yes _ _ refl ∙ here))
+      (front-cons (kindOf (readRecord r)) (reads r) (map kindOf sent) (drop 1 (published (some l))) (map reads (drop 1 (records l)) ++ (closing ∷ []))
+      (ap (λ (x : List Record). map reads x ++ (closing ∷ [])) (next-record l 0 r e)) (kind-record r) h)))
+    where
+      b : List ℕ
+      b = reading.readAnswer Awaited.Options (stored s) card .store
+
+      l : List ℕ
+      l = locatorIn b
+
+      here : broughtLocator card ≡ some l
+      here =
+          locator-brought (stored s) card (store-size s i) (ap bytesOf (on-options s i q .no-94)) z (omega (arith, accepted-length l a .1))
+
+  module _ (i : inRanges s ≡ true) (p : Place) (q : s .phase ≡ Phase.Record p) (w : Awaited) where
+    abbrev b : List ℕ
+    b = reading.readAnswer w (stored s) card .store
+
+    same : locatorIn b ≡ locatorIn (stored s)
+    same = ap bytesOf (read-locator w (stored s) card (store-size s i) (on-record s i p q .locator))
+
+    -- a claim on what is left of the read store's locator is one on what is left
+    left : (xs : List Kind) (a : Option (List ℕ)) → Front xs (rest (Phase.Record p) (locatorIn b) a) → Front xs (rest (s .phase) (locatorIn (stored s)) a)
+    left xs a h =
+        subst (λ (x : Phase). Front xs (rest x (locatorIn (stored s)) a)) (sym q) (subst (λ (l : List ℕ). Front xs (rest (Phase.Record p) l a)) same h)
+
+    records-goes : recordAt (locatorIn b) (p .number + 1) ≡ Found.Nothing → {st : Step} → RecordsWay (ways.taken w s card) buf st → Goes s call st
+    records-goes e (RecordsWay.failed n r) = goes-ended s call b _ n buf (ap isEnded q)
+    records-goes e RecordsWay.unlisted = goes-ended s call _ _ _ buf (ap isEnded q)
+    records-goes e (RecordsWay.asked c f g) =
+        goes-sent s call (withResults b (resultOf b)) _ c buf (ap isEnded q) refl refl
+        (λ sent tk h. left (kindOf c ∷ map kindOf sent) (firstAnswer (made call (steps.commands (analysedSession (ways.taken w s card)) (Phase.Cryptogram (record { choice = choiceIn (ways.taken w s card) })) c buf) ∷ tk))
+        (front-cons (kindOf c) closing (map kindOf sent) (map reads (drop (p .number) (records (locatorIn b))) ++ (closing ∷ [])) []
+        (ap (λ (x : List Record). map reads x ++ (closing ∷ [])) (no-record (locatorIn b) (p .number) (ap accepts same ∙ on-record s i p q .locator) e))
+        (kind-closing c (list.cryptogram-proper (stored (analysedSession (ways.taken w s card))) c (p1Of (choiceIn (ways.taken w s card))) g)) h))
+
+    record-goes : {st : Step} → RecordWay p (ways.taken w s card) buf st → Goes s call st
+    record-goes (RecordWay.next r e) =
+        goes-sent s call b (Phase.Record (record { number = p .number + 1 })) (readRecord r) buf (ap isEnded q) refl refl
+        (λ sent tk h. left (kindOf (readRecord r) ∷ map kindOf sent) (firstAnswer (made call (steps.commands (ways.taken w s card) (Phase.Record (record { number = p .number + 1 })) (readRecord r) buf) ∷ tk))
+        (front-cons (kindOf (readRecord r)) (reads r) (map kindOf sent) (map reads (drop (p .number) (records (locatorIn b))) ++ (closing ∷ []))
+        (map reads (drop (p .number + 1) (records (locatorIn b))) ++ (closing ∷ []))
+        (ap (λ (x : List Record). map reads x ++ (closing ∷ [])) (next-record (locatorIn b) (p .number) r e)) (kind-record r) h))
+    record-goes (RecordWay.last e v) = records-goes e v
+
+  cryptogram-goes : isEnded (s .phase) ≡ false → {y : Reply} → CryptogramWay (ways.taken Awaited.Cryptogram s card) y → Goes s call (quiet y buf)
+  cryptogram-goes e (CryptogramWay.failed n r) = goes-ended s call _ _ n buf e
+  cryptogram-goes e (CryptogramWay.decides o g) = goes-ended s call _ o _ buf e
+
+  -- an answer is refused while the session does not run
+  answer-off : isRunning (s .phase) ≡ false → isRefusal (answerStep s card buf .reply .answer) ≡ true
+  unfolding admitted
+  answer-off n = if-ind P _ _ _ (λ e. refl) (λ e. if-ind P _ _ _ (λ r. go (s .phase) n) (λ r. refl))
+    where
+      P : Step → Type 0
+      P st = isRefusal (st .reply .answer) ≡ true
+
+      go : (p : Phase) → isRunning p ≡ false → P (answerIn p s card buf)
+      go Phase.Fresh e = refl
+      go Phase.Options e = no (sym e)
+      go (Phase.Record p) e = no (sym e)
+      go (Phase.Cryptogram a) e = no (sym e)
+      go (Phase.Ended x) e = refl
+
+  answer-goes : Goes s call (answerStep s card buf)
+  answer-goes = go (answer-way s card buf) answer-off
+    where
+      runs : (isRunning (s .phase) ≡ false → false ≡ true) → (isRunning (s .phase) ≡ true) ⊎ (isRunning (s .phase) ≡ false) → isEnded (s .phase) ≡ false
+      runs o (inl y) = running-is (s .phase) y .1
+      runs o (inr n) = no (o n)
+
+      go : {st : Step} → AnswerWay s card buf st → (isRunning (s .phase) ≡ false → isRefusal (st .reply .answer) ≡ true) → Goes s call st
+      go (AnswerWay.refused n) o = goes-refused s call n buf
+      go (AnswerWay.unread n i r) o = goes-ended s call (stored s) _ n buf (runs o (bool-cases (isRunning (s .phase))))
+      go (AnswerWay.options i q z w) o = options-goes (i .ranges) q z w
+      go (AnswerWay.recorded p r i q e w) o = record-goes (i .ranges) p q (Awaited.Record (record { number = r .file })) w
+      go (AnswerWay.cryptogram a i q w) o = cryptogram-goes (ap isEnded q) w
+
+-- ---- link failed and stop
+
+broken-goes : (s : Session) (c : Call) (n : ℕ) (buf : List ℕ) → Goes s c (quiet (brokenOff s n (length buf)) buf)
+unfolding admitted
+broken-goes s c n buf =
+    if-ind P _ _ _ (λ e. goes-refused s c _ buf) (λ e. if-ind P _ _ _ (λ r. go (s .phase) refl) (λ r. goes-refused s c _ buf))
+  where
+    P : Reply → Type 0
+    P y = Goes s c (quiet y buf)
+
+    go : (p : Phase) → s .phase ≡ p → P (endsIn p s n)
+    go Phase.Fresh q = goes-refused s c _ buf
+    go Phase.Options q = goes-ended s c (stored s) _ n buf (ap isEnded q)
+    go (Phase.Record p) q = goes-ended s c (stored s) _ n buf (ap isEnded q)
+    go (Phase.Cryptogram a) q = goes-ended s c (stored s) _ n buf (ap isEnded q)
+    go (Phase.Ended x) q = goes-refused s c _ buf
+
+-- ---- every call, and every list of calls
+
+call-goes : (s : Session) (c : Call) → Goes s c (step s c)
+call-goes s (start bytes buf) = start-goes s bytes buf
+call-goes s (answer card buf) = answer-goes s card buf
+call-goes s (link-failed buf) = broken-goes s (link-failed buf) reasonLink buf
+call-goes s (stop buf) = broken-goes s (stop buf) reasonStopped buf
+
+call-keeps : (s : Session) (c : Call) → inRanges s ≡ true → inRanges (step s c .reply .session) ≡ true
+call-keeps s (start bytes buf) i = start-keeps s bytes buf i
+call-keeps s (answer card buf) i = answer-keeps s card buf i
+call-keeps s (link-failed buf) i = link-keeps s buf i
+call-keeps s (stop buf) i = stop-keeps s buf i
+
+runs-on : (s : Session) (cs : List Call) → inRanges s ≡ true → Run s (commands (play s cs)) (taken (play s cs)) (final s cs)
+unfolding play final commands taken
+runs-on s [] i = no-calls s i
+runs-on s (c ∷ cs) i = call-goes s c _ _ _ (runs-on (step s c .reply .session) cs (call-keeps s c i))
+
+-- ---- the claim, from a fresh session
+
+none-fresh : (o : Option Made) → by true (λ m. false) o ≡ noneTaken o
+none-fresh none = refl
+none-fresh (some m) = refl
+
+none-running : (o : Option Made) → by false (λ m. isCommand (said m)) o ≡ lastCommand o
+none-running none = refl
+none-running (some m) = refl
+
+none-ended : (o : Option Made) → by false (λ m. isOutcome (said m)) o ≡ lastOutcome o
+none-ended none = refl
+none-ended (some m) = refl
+
+most-one : (x : Bool) → oneIf x ≤ 1
+most-one true = omega arith
+most-one false = omega arith
+
+pub always : (s : Session) (cs : List Call) → s .phase ≡ Phase.Fresh → inRanges s ≡ true → Proper (play s cs) (final s cs)
+unfolding acceptedLocator unanswered
+always s cs q i =
+    record {
+      order = front-take (map kindOf (commands ms)) (published (firstAnswer (taken ms))) front ∙ ap (λ (n : ℕ). take n (published (firstAnswer (taken ms)))) number;
+      count = omega (arith, r .count, on-fresh s i q .count);
+      bound = omega (arith, front-length (map kindOf (commands ms)) (published (firstAnswer (taken ms))) front, number, published-length (firstAnswer (taken ms)));
+      never-over = few;
+      fresh = r .fresh ∙ ap (λ (p : Phase). by (isFresh p) (λ m. false) (lastOf (taken ms))) q ∙ none-fresh (lastOf (taken ms));
+      running = r .running ∙ ap (λ (p : Phase). by (isRunning p) (λ m. isCommand (said m)) (lastOf (taken ms))) q ∙ none-running (lastOf (taken ms));
+      ended = r .ended ∙ ap (λ (p : Phase). by (isEnded p) (λ m. isOutcome (said m)) (lastOf (taken ms))) q ∙ none-ended (lastOf (taken ms));
+      one-unanswered = λ w. subst (λ (p : Phase). unansweredFrom (oneIf (isRunning p)) (taken ms) ≡ 1) q (r .waiting w);
+      calls = all;
+      never-over-131 = omega (arith, all, few, most-one (isEnded (final s cs .phase)));
+    }
+  where
+    ms : List Made
+    ms = play s cs
+
+    r : Run s (commands (play s cs)) (taken (play s cs)) (final s cs)
+    r = runs-on s cs i
+
+    front : Front (map kindOf (commands ms)) (published (firstAnswer (taken ms)))
+    front = subst (λ (p : Phase). Front (map kindOf (commands ms)) (rest p (locatorIn (stored s)) (firstAnswer (taken ms)))) q (r .order)
+
+    number : length (map kindOf (commands ms)) ≡ length (commands ms)
+    number = length-map (commands ms) kindOf
+
+    few : length (commands ms) ≤ 130
+    few = omega (arith, count-most (final s cs) (r .ranges), r .count)
+
+    all : length (taken ms) ≡ length (commands ms) + oneIf (isEnded (final s cs .phase))
+    all = omega (arith, r .calls, ap (λ (p : Phase). oneIf (isEnded p)) q)

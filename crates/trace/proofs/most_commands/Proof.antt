@@ -1,0 +1,12 @@
+-- The claim is proofs/Trace's, for every list of calls.
+-- Assumes nothing.
+use mathlib.Core.Path.{refl}
+use Rattle.trace.proofs.Trace.{always}
+use Rattle.trace.proofs.most_commands.Statement.{statement}
+use Rattle.trace.proofs.most_commands.Tie as tie
+
+returns : tie.Need-returns
+returns c = (refl, always)
+
+pub most-commands-spec : {M : Type 1} → statement M
+most-commands-spec = tie.close (tie.spec returns)

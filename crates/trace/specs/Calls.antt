@@ -1,0 +1,116 @@
+-- A list of calls on one session (document 01, "What demand 3 counts"): what the host and the card put into each call, and what each call
+-- hands back. Bytes are any numbers: what holds of all lists of numbers holds of all lists of bytes.
+-- Assumes nothing.
+use mathlib.Core.Bool.{Bool, true, false}
+use mathlib.Core.List.{List, [], _∷_, _++_}
+use mathlib.Core.Option.{Option, some, none}
+use Prim.Native.Nat.{ℕ, _+_}
+use lib.ListN.{take}
+use Rattle.basics.specs.Choice.{if}
+use Rattle.record.specs.declared.Session.{Session}
+use Rattle.record.specs.declared.Answer.{Answer}
+use Rattle.session.specs.Steps.{Step, linkStep, stopStep}
+use Rattle.session.specs.Start.{startStep}
+use Rattle.session.specs.Answer.{answerStep}
+
+-- a call, with the bytes that come in and the command buffer that is lent
+pub data Call : Type 0 where
+  start : List ℕ → List ℕ → Call
+  answer : List ℕ → List ℕ → Call
+  link-failed : List ℕ → Call
+  stop : List ℕ → Call
+
+-- what a call does to a session
+abbrev pub step : Session → Call → Step
+step s (start bytes buf) = startStep s bytes buf
+step s (answer card buf) = answerStep s card buf
+step s (link-failed buf) = linkStep s buf
+step s (stop buf) = stopStep s buf
+
+-- a call that was made, and its step
+pub record Made : Type 0 where
+  pub call : Call
+  pub step : Step
+
+abbrev pub made : Call → Step → Made
+made c st = record { call = c; step = st }
+
+-- the calls of a list, each on the session that the call before it handed back
+unfoldable pub play : Session → List Call → List Made
+play s [] = []
+play s (c ∷ cs) = made c (step s c) ∷ play (step s c .reply .session) cs
+
+-- the session that the last call handed back
+unfoldable pub final : Session → List Call → Session
+final s [] = s
+final s (c ∷ cs) = final (step s c .reply .session) cs
+
+-- ---- what a call handed back
+
+abbrev pub isRefusal : Answer → Bool
+isRefusal (Answer.Command x) = false
+isRefusal (Answer.Outcome e) = false
+isRefusal (Answer.Refused r) = true
+
+abbrev pub isCommand : Answer → Bool
+isCommand (Answer.Command x) = true
+isCommand (Answer.Outcome e) = false
+isCommand (Answer.Refused r) = false
+
+abbrev pub isOutcome : Answer → Bool
+isOutcome (Answer.Command x) = false
+isOutcome (Answer.Outcome e) = true
+isOutcome (Answer.Refused r) = false
+
+abbrev pub said : Made → Answer
+said m = m .step .reply .answer
+
+abbrev pub refused : Made → Bool
+refused m = isRefusal (said m)
+
+-- a command is the front of its call's buffer, of the length handed back, as it stands when that call ends
+abbrev pub commandIn : Answer → List ℕ → List (List ℕ)
+commandIn (Answer.Command x) buf = take (x .size) buf ∷ []
+commandIn (Answer.Outcome e) buf = []
+commandIn (Answer.Refused r) buf = []
+
+-- the commands handed out, in order
+unfoldable pub commands : List Made → List (List ℕ)
+commands [] = []
+commands (m ∷ ms) = commandIn (said m) (m .step .buffer) ++ commands ms
+
+-- the calls that were not refused
+unfoldable pub taken : List Made → List Made
+taken [] = []
+taken (m ∷ ms) = if (refused m) (taken ms) (m ∷ taken ms)
+
+-- the last of a list, if there is one
+unfoldable pub lastOf : {A : Type 0} → List A → Option A
+lastOf [] = none
+lastOf (x ∷ []) = some x
+lastOf (x ∷ y ∷ l) = lastOf (y ∷ l)
+
+-- the card's bytes of an answer
+abbrev pub cardBytes : Call → Option (List ℕ)
+cardBytes (start bytes buf) = none
+cardBytes (answer card buf) = some card
+cardBytes (link-failed buf) = none
+cardBytes (stop buf) = none
+
+-- ---- unanswered (document 01's term): a command after which no answer that is not refused has come
+
+-- how many commands are unanswered after calls that were not refused: an answer leaves none of those before it unanswered
+abbrev pub stillOut : Option (List ℕ) → ℕ → ℕ
+stillOut none n = n
+stillOut (some card) n = 0
+
+abbrev pub oneIf : Bool → ℕ
+oneIf true = 1
+oneIf false = 0
+
+unfoldable pub unansweredFrom : ℕ → List Made → ℕ
+unansweredFrom n [] = n
+unansweredFrom n (m ∷ ms) = unansweredFrom (stillOut (cardBytes (m .call)) n + oneIf (isCommand (said m))) ms
+
+unfoldable pub unanswered : List Made → ℕ
+unanswered ms = unansweredFrom 0 (taken ms)

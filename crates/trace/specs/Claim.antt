@@ -1,0 +1,76 @@
+-- Demand 3 (document 01, "What demand 3 counts"): one claim about the whole list of calls, one field for each clause.
+-- Assumes nothing.
+use mathlib.Core.Path.{_≡_}
+use mathlib.Core.Bool.{Bool, true, false}
+use mathlib.Core.List.{List, map}
+use mathlib.Core.Option.{Option, some, none}
+use Prim.Native.Nat.{ℕ, _+_, _≤_}
+use lib.ListN.{length, take}
+use Rattle.locator.specs.Records.{total}
+use Rattle.record.specs.declared.Phase.{Phase}
+use Rattle.record.specs.declared.Session.{Session}
+use Rattle.trace.specs.Calls.{Made, commands, taken, said, isCommand, isOutcome, lastOf, unanswered, oneIf}
+use Rattle.trace.specs.Order.{kindOf, acceptedLocator, published}
+
+-- ---- what a session says of itself
+
+abbrev pub isFresh : Phase → Bool
+isFresh Phase.Fresh = true
+isFresh Phase.Options = false
+isFresh (Phase.Record p) = false
+isFresh (Phase.Cryptogram a) = false
+isFresh (Phase.Ended e) = false
+
+abbrev pub isRunning : Phase → Bool
+isRunning Phase.Fresh = false
+isRunning Phase.Options = true
+isRunning (Phase.Record p) = true
+isRunning (Phase.Cryptogram a) = true
+isRunning (Phase.Ended e) = false
+
+abbrev pub isEnded : Phase → Bool
+isEnded Phase.Fresh = false
+isEnded Phase.Options = false
+isEnded (Phase.Record p) = false
+isEnded (Phase.Cryptogram a) = false
+isEnded (Phase.Ended e) = true
+
+-- ---- what the last call that was not refused says
+
+abbrev pub noneTaken : Option Made → Bool
+noneTaken none = true
+noneTaken (some m) = false
+
+abbrev pub lastCommand : Option Made → Bool
+lastCommand none = false
+lastCommand (some m) = isCommand (said m)
+
+abbrev pub lastOutcome : Option Made → Bool
+lastOutcome none = false
+lastOutcome (some m) = isOutcome (said m)
+
+-- the most commands, by the accepted locator
+abbrev pub most : Option (List ℕ) → ℕ
+most none = 1
+most (some l) = 2 + total l
+
+-- ---- the claim after a list of calls that were made, the last of which left the session s
+
+pub record Proper (ms : List Made) (s : Session) : Type 0 where
+  -- the commands handed out are the first N of the published order
+  pub order : map kindOf (commands ms) ≡ take (length (commands ms)) (published (acceptedLocator ms))
+  -- N is the count that the session reports
+  pub count : s .count ≡ length (commands ms)
+  -- at most 1 while no locator is accepted, at most 2 + R after
+  pub bound : length (commands ms) ≤ most (acceptedLocator ms)
+  -- never over 130
+  pub never-over : length (commands ms) ≤ 130
+  -- fresh exactly when no call was taken; running exactly when the last one taken handed back a command; ended exactly when an outcome
+  pub fresh : isFresh (s .phase) ≡ noneTaken (lastOf (taken ms))
+  pub running : isRunning (s .phase) ≡ lastCommand (lastOf (taken ms))
+  pub ended : isEnded (s .phase) ≡ lastOutcome (lastOf (taken ms))
+  -- while it runs exactly one command is unanswered
+  pub one-unanswered : isRunning (s .phase) ≡ true → unanswered ms ≡ 1
+  -- the calls taken number N, and one more once the session has ended, so never over 131
+  pub calls : length (taken ms) ≡ length (commands ms) + oneIf (isEnded (s .phase))
+  pub never-over-131 : length (taken ms) ≤ 131
