@@ -11,6 +11,7 @@ use Rattle.record.specs.declared.Phase.{Phase}
 use Rattle.record.specs.declared.Session.{Session}
 use Rattle.record.specs.declared.Answer.{Answer}
 use Rattle.record.specs.declared.Reply.{Reply}
+use Rattle.record.specs.declared.Turn.{Turn}
 use Rattle.record.specs.Numbers.{outcomeFor}
 
 -- ---- records
@@ -18,6 +19,10 @@ use Rattle.record.specs.Numbers.{outcomeFor}
 -- the bytes of a session's store
 abbrev pub stored : Session → List ℕ
 stored s = s .store .bytes
+
+-- a session of these parts
+abbrev pub sessionOf : Phase → ℕ → List ℕ → Session
+sessionOf p n b = record { phase = p; count = n; store = record { bytes = b } }
 
 -- the store that holds nothing
 abbrev pub emptyStore : Store
@@ -60,3 +65,22 @@ failsReply s n = endsReply s (outcomeFor n) n
 -- a command of n bytes is handed out, and the session waits on its answer
 abbrev pub commandsReply : Session → ℕ → Reply
 commandsReply s n = record { session = s; answer = Answer.Command (record { size = n }) }
+
+-- ---- turns: a reply without the store
+
+-- a turn with the store that it left
+abbrev pub replyOf : Turn → List ℕ → Reply
+replyOf t b = record { session = sessionOf (t .phase) (t .count) b; answer = t .answer }
+
+-- a refusal leaves the phase and the count
+abbrev pub refusedTurn : Phase → ℕ → ℕ → Turn
+refusedTurn p k n = record { phase = p; count = k; answer = Answer.Refused (record { number = n }) }
+
+abbrev pub endsTurn : ℕ → Outcome → ℕ → Turn
+endsTurn k o n = record { phase = Phase.Ended (endOf o n); count = k; answer = Answer.Outcome (endOf o n) }
+
+abbrev pub failsTurn : ℕ → ℕ → Turn
+failsTurn k n = endsTurn k (outcomeFor n) n
+
+abbrev pub commandsTurn : Phase → ℕ → ℕ → Turn
+commandsTurn p k n = record { phase = p; count = k; answer = Answer.Command (record { size = n }) }

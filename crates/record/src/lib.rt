@@ -1,11 +1,12 @@
 // The session record by value: its phase, its count of commands handed out and its store; the reply of
-// a call; and the ranges that a record handed in must keep (`in_ranges`).
+// a call; and the ranges that a record handed in must keep (`in_ranges`, `keeps`).
 //
-// A record is built anew only by `fresh`, `waiting`, `ended` and `with_store`, and a reply only by
-// `refused`, `ends`, `fails` and `commands`: a new field is added there.
+// Inside a call the store is lent, and a turn stands for the reply without it. A record is built anew only
+// by `fresh`, `waiting` and `reply_of`, and a turn only by `refused`, `ends`, `fails` and `commands`: a new
+// field is added there.
 use analysis::choice::Choice;
 use dictionary::{
-    ROWS, ROW_5A, ROW_5F24, ROW_82, ROW_8C, ROW_94, ROW_95, ROW_9F10, ROW_9F26, ROW_9F27, ROW_9F35, ROW_9F36,
+    ROWS, ROW_5A, ROW_5F24, ROW_82, ROW_8C, ROW_94, ROW_95, ROW_9F10, ROW_9F26, ROW_9F27, ROW_9F35, ROW_9F36, SIZE,
 };
 use locator::Checked;
 use store::Store;
@@ -15,7 +16,7 @@ ghost use lib.ListN.{getD};
 ghost use Rattle.basics.specs.Choice.{every};
 ghost use Rattle.dictionary.specs.Rows.{rowAt, rowCount};
 ghost use Rattle.record.specs.Numbers.{outcomeNumber, goesWith, outcomeFor};
-ghost use Rattle.record.specs.Session.{freshSession, waitingSession, endedSession, storedSession, refusedReply, endsReply, failsReply, commandsReply};
+ghost use Rattle.record.specs.Session.{sessionOf, freshSession, waitingSession, replyOf, refusedTurn, endsTurn, failsTurn, commandsTurn};
 ghost use Rattle.record.specs.Held.{isZero};
 ghost use Rattle.record.specs.Ranges.{objectFits, allFit, isBrought, brought, unanswered as unansweredIn, emvMode, completed, running, freshRanges, optionsRanges, recordRanges, cryptogramRanges, endedRanges, inRanges};
 
@@ -77,6 +78,13 @@ pub enum Answer {
 
 pub struct Reply {
     pub session: Session,
+    pub answer: Answer,
+}
+
+// What a call hands back beside the store.
+pub struct Turn {
+    pub phase: Phase,
+    pub count: u8,
     pub answer: Answer,
 }
 
@@ -159,65 +167,61 @@ pub fn waiting(session: Session, phase: Phase, count: u8) -> Session
     }
 }
 
-// The session ended: count and store stay.
-pub fn ended(session: Session, end: End) -> Session
-    ensures { λ r. ⌜ r ≡ endedSession session end ⌝ }
+// A refusal leaves the phase and the count as they are.
+pub fn refused(phase: Phase, count: u8, number: u8) -> Turn
+    ensures { λ r. ⌜ r ≡ refusedTurn phase count number ⌝ }
 {
-    let store = session.store;
-    Session {
-        phase: Phase::Ended(end),
-        count: session.count,
-        store,
-    }
-}
-
-// The session with another store.
-pub fn with_store(session: Session, store: Store) -> Session
-    ensures { λ r. ⌜ r ≡ storedSession session store ⌝ }
-{
-    let phase = session.phase;
-    Session {
+    Turn {
         phase,
-        count: session.count,
-        store,
-    }
-}
-
-// A refusal hands the session back as it is.
-pub fn refused(session: Session, number: u8) -> Reply
-    ensures { λ r. ⌜ r ≡ refusedReply session number ⌝ }
-{
-    Reply {
-        session,
+        count,
         answer: Answer::Refused(Refusal { number }),
     }
 }
 
 // The session ends with an outcome and its reason.
-pub fn ends(session: Session, outcome: Outcome, reason: u8) -> Reply
-    ensures { λ r. ⌜ r ≡ endsReply session outcome reason ⌝ }
+pub fn ends(count: u8, outcome: Outcome, reason: u8) -> Turn
+    ensures { λ r. ⌜ r ≡ endsTurn count outcome reason ⌝ }
 {
     let end = End { outcome, reason };
-    Reply {
-        session: ended(session, end),
+    Turn {
+        phase: Phase::Ended(end),
+        count,
         answer: Answer::Outcome(end),
     }
 }
 
 // The session ends for a reason other than 0, with the outcome that goes with it.
-pub fn fails(session: Session, reason: u8) -> Reply
-    ensures { λ r. ⌜ r ≡ failsReply session reason ⌝ }
+pub fn fails(count: u8, reason: u8) -> Turn
+    ensures { λ r. ⌜ r ≡ failsTurn count reason ⌝ }
 {
-    ends(session, outcome_for(reason), reason)
+    ends(count, outcome_for(reason), reason)
 }
 
-// The session waits on the answer to a command of so many bytes.
-pub fn commands(session: Session, size: usize) -> Reply
-    ensures { λ r. ⌜ r ≡ commandsReply session size ⌝ }
+// The session waits, in a phase, on the answer to a command of so many bytes.
+pub fn commands(phase: Phase, count: u8, size: usize) -> Turn
+    ensures { λ r. ⌜ r ≡ commandsTurn phase count size ⌝ }
 {
-    Reply {
-        session,
+    Turn {
+        phase,
+        count,
         answer: Answer::Command(Issued { size }),
+    }
+}
+
+// The reply of a call: its turn, with the store that it left.
+pub fn reply_of(turn: Turn, store: Store) -> Reply
+    ensures { λ r. ⌜ r ≡ replyOf turn (store .bytes) ⌝ }
+{
+    let phase = turn.phase;
+    let count = turn.count;
+    let answer = turn.answer;
+    Reply {
+        session: Session {
+            phase,
+            count,
+            store,
+        },
+        answer,
     }
 }
 
@@ -225,17 +229,26 @@ pub fn commands(session: Session, size: usize) -> Reply
 pub fn in_ranges(session: Session) -> bool
     ensures { λ r. ⌜ r ≡ inRanges session ⌝ }
 {
-    let store = session.store;
-    let count = session.count;
     let phase = session.phase;
-    if !all_fit(&store.bytes) {
+    let store = session.store;
+    keeps(phase, session.count, &store.bytes)
+}
+
+// The same of a session's parts, with the store's bytes shared.
+pub fn keeps(phase: Phase, count: u8, bytes: &[u8]) -> bool
+    ensures { λ r. ⌜ r ≡ inRanges (sessionOf phase count (now (bytes .entry))) ⌝ }
+{
+    if bytes.len() != SIZE {
+        return false;
+    }
+    if !all_fit(bytes) {
         return false;
     }
     match phase {
-        Phase::Fresh => fresh_keeps(count, &store.bytes),
-        Phase::Options => options_keep(count, &store.bytes),
-        Phase::Record(place) => record_keeps(place, count, &store.bytes),
-        Phase::Cryptogram(_) => cryptogram_keeps(count, &store.bytes),
+        Phase::Fresh => fresh_keeps(count, bytes),
+        Phase::Options => options_keep(count, bytes),
+        Phase::Record(place) => record_keeps(place, count, bytes),
+        Phase::Cryptogram(_) => cryptogram_keeps(count, bytes),
         Phase::Ended(end) => ended_keeps(end, count),
     }
 }
