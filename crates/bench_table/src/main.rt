@@ -79,14 +79,14 @@ fn record_row(card: &[u8]) {
 // What a reading into an empty store says and leaves.
 fn show_reading(card: &[u8]) {
     let before = store::empty();
-    let read = reading::read_answer(before, Awaited::Record(File { number: 1 }), card);
+    let mut after = before.bytes;
+    let read = reading::read_answer(&mut after, Awaited::Record(File { number: 1 }), card);
     let verdict = read.verdict;
-    let after = read.store;
     show::text(b": reason ");
     show::number(basics::wide(reading::number(verdict)));
     show::text(b", objects ");
     show::number(read.objects);
-    if check::same(&before.bytes, &after.bytes) {
+    if check::same(&before.bytes, &after) {
         show::text(b", store kept, ");
     } else {
         show::text(b", stored, ");

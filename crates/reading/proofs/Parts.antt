@@ -16,7 +16,6 @@ use Rattle.tlv.specs.declared.Front.the-variants.{Object, Broken}
 use Rattle.tlv.specs.Object.{headerOf, valueIn}
 use Rattle.tlv.specs.Tree.{Forest, count, parse}
 use Rattle.tlv.proofs.Laws.{tail, tail-is}
-use Rattle.store.specs.declared.Store.{Store}
 use Rattle.reading.specs.declared.Awaited.{Awaited}
 use Rattle.reading.specs.declared.Awaited.the-variants.{Options, Record, Cryptogram}
 use Rattle.reading.specs.declared.Verdict.{Verdict}
@@ -29,16 +28,19 @@ use Rattle.reading.specs.Walk.{tally, Leaves}
 use Rattle.reading.specs.Answer.{numberOf, Outcome, outcome, Gives, made, Body, primitive, template, templateBody, frontBody, bodyOf, answerBit, templateTag, optionsParts, issuerPart, cryptogramParts, primitiveParts, templateParts, judged, takenParts, readTree, readBody, isRead, goodStatus, goodLength, readAnswer}
 use Rattle.reading.proofs.Walk.{whole-broken}
 
--- a reading that is made of parts gives the outcome of those parts
-pub gives : {r : Reading} (v : Verdict) (n : ℕ) (s : Store) {o : Outcome} → r ≡ made v n s → o ≡ outcome (numberOf v) n (s .bytes) → Gives r o
-gives v n s e f = record {
+-- a reading that is made of parts gives the outcome of those parts, with the store that its verdict leaves
+pub gives : {r : Reading} (v : Verdict) (n : ℕ) (left : Verdict → List ℕ) {o : Outcome} → r ≡ made v n → o ≡ outcome (numberOf v) n (left v) → Gives r (left (r .verdict)) o
+gives v n left e f = record {
   reason = ap (λ (x : Reading). numberOf (x .verdict)) e ∙ ap (λ (x : Outcome). x .reason) (sym f);
   objects = ap (λ (x : Reading). x .objects) e ∙ ap (λ (x : Outcome). x .objects) (sym f);
-  store = ap (λ (x : Reading). x .store .bytes) e ∙ ap (λ (x : Outcome). x .store) (sym f);
+  store = ap (λ (x : Reading). left (x .verdict)) e ∙ ap (λ (x : Outcome). x .store) (sym f);
 }
 
-pub regive : {r : Reading} {o p : Outcome} → o ≡ p → Gives r o → Gives r p
+pub regive : {r : Reading} {b : List ℕ} {o p : Outcome} → o ≡ p → Gives r b o → Gives r b p
 regive e g = record { reason = g .reason ∙ ap (λ (x : Outcome). x .reason) e; objects = g .objects ∙ ap (λ (x : Outcome). x .objects) e; store = g .store ∙ ap (λ (x : Outcome). x .store) e }
+
+pub restore : {r : Reading} {b c : List ℕ} {o : Outcome} → b ≡ c → Gives r c o → Gives r b o
+restore e g = record { reason = g .reason; objects = g .objects; store = e ∙ g .store }
 
 -- ---- objects that were taken
 

@@ -20,7 +20,6 @@ use Rattle.reading.specs.declared.Awaited.the-variants.{Options, Record,
 use Rattle.reading.specs.declared.Verdict.{Verdict}
 use Rattle.reading.specs.declared.Verdict.the-variants.{Accepted, BadStatus, Malformed, NotAllowed}
 use Rattle.reading.specs.declared.Reading.{Reading}
-use Rattle.store.specs.declared.Store.{Store}
 use Rattle.reading.specs.Taking.{Item, item, items, Work, work, takeAll}
 
 -- ---- the numbers of a reading
@@ -41,15 +40,22 @@ pub record Outcome : Type 0 where
 abbrev pub outcome : ℕ → ℕ → List ℕ → Outcome
 outcome r n b = record { reason = r; objects = n; store = b }
 
--- the value r is what the reading o gives
-pub record Gives (r : Reading) (o : Outcome) : Type 0 where
+-- the value r and the store b are what the reading o gives
+pub record Gives (r : Reading) (b : List ℕ) (o : Outcome) : Type 0 where
   pub reason : numberOf (r .verdict) ≡ o .reason
   pub objects : r .objects ≡ o .objects
-  pub store : r .store .bytes ≡ o .store
+  pub store : b ≡ o .store
+
+-- the store by the verdict: the working copy w where all was accepted, else b as it was
+abbrev pub storeAfter : List ℕ → List ℕ → Verdict → List ℕ
+storeAfter b w Accepted = w
+storeAfter b w BadStatus = b
+storeAfter b w Malformed = b
+storeAfter b w NotAllowed = b
 
 -- a reading of these parts
-abbrev pub made : Verdict → ℕ → Store → Reading
-made v n b = record { verdict = v; objects = n; store = b }
+abbrev pub made : Verdict → ℕ → Reading
+made v n = record { verdict = v; objects = n }
 
 -- ---- the body: one object with no byte behind it
 

@@ -1,11 +1,10 @@
 // Reading a card's answer into a store, whole or not at all.
 //
 // `read_answer` takes the whole answer with its status bytes, `read_body` the body alone. Inside, the
-// objects go into a working copy that is lent down the templates; the store that came in is handed back
-// unless every object was allowed.
+// objects go into one working copy that is lent down the templates; the store is written only where
+// every object was allowed.
 use dictionary::Found;
 use dictionary::SIZE;
-use store::Store;
 use tlv::Following;
 use tlv::Front;
 ghost use mathlib.Core.Path.{_≡_};
@@ -19,7 +18,7 @@ ghost use Rattle.tlv.specs.Tag.{isPrivate};
 ghost use Rattle.tlv.specs.Tree.{parse};
 ghost use Rattle.reading.specs.Taking.{item, allowed, byCard, mayStand, work, takeItem, takeNext, takeAll};
 ghost use Rattle.reading.specs.Walk.{Leaves, counted};
-ghost use Rattle.reading.specs.Answer.{Gives, numberOf, answerBit, templateTag, primitive, templateBody, optionsParts, issuerPart, cryptogramParts, takenParts, readTree, readBody, isRead, goodStatus, readAnswer, made};
+ghost use Rattle.reading.specs.Answer.{Gives, storeAfter, numberOf, answerBit, templateTag, primitive, templateBody, optionsParts, issuerPart, cryptogramParts, takenParts, readTree, readBody, isRead, goodStatus, readAnswer, made};
 
 // A record's file.
 pub struct File {
@@ -41,11 +40,10 @@ pub enum Verdict {
     NotAllowed,
 }
 
-// A reading: its verdict, how many objects it visited, templates included, and the store.
+// A reading: its verdict, and how many objects it visited, templates included.
 pub struct Reading {
     pub verdict: Verdict,
     pub objects: usize,
-    pub store: Store,
 }
 
 // How many objects were visited so far, and whether all were allowed.
@@ -61,45 +59,44 @@ pub enum Contents {
 }
 
 // The whole answer to the command that was handed out, status bytes included.
-pub fn read_answer(store: Store, awaited: Awaited, answer: &[u8]) -> Reading
-    ensures { λ r. ⌜ Gives r (readAnswer awaited (store .bytes) (now (answer .entry))) ⌝ }
+pub fn read_answer(store: &mut [u8; SIZE], awaited: Awaited, answer: &[u8]) -> Reading
+    requires { ⌜ length (now store) ≡ storeSize ⌝ }
+    ensures given { λ r. ⌜ Gives r (now (store .exit)) (readAnswer awaited (now (store .entry)) (now (answer .entry))) ⌝ }
+    ensures sized { λ _. ⌜ length (now (store .exit)) ≡ storeSize ⌝ }
+    ensures half { λ r. ⌜ 2 * r .objects ≤ length (now (answer .entry)) ⌝ }
 {
     let n = answer.len();
     if n < 2 {
-        return made(Verdict::Malformed, 0, store);
+        return made(Verdict::Malformed, 0);
     }
     if 258 < n {
-        return made(Verdict::Malformed, 0, store);
+        return made(Verdict::Malformed, 0);
     }
     if !is_good(answer) {
-        return made(Verdict::BadStatus, 0, store);
+        return made(Verdict::BadStatus, 0);
     }
     if !is_read(awaited) {
-        return made(Verdict::Accepted, 0, store);
+        return made(Verdict::Accepted, 0);
     }
     let e = n - 2;
     read_body(store, awaited, &answer[..e])
 }
 
-// The body of an answer: one object with no byte behind it.
-pub fn read_body(store: Store, awaited: Awaited, body: &[u8]) -> Reading
-    ensures given { λ r. ⌜ Gives r (readBody awaited (store .bytes) (now (body .entry))) ⌝ }
+// The body of an answer, read into a working copy, which is the store where all was accepted.
+pub fn read_body(store: &mut [u8; SIZE], awaited: Awaited, body: &[u8]) -> Reading
+    requires { ⌜ length (now store) ≡ storeSize ⌝ }
+    ensures given { λ r. ⌜ Gives r (now (store .exit)) (readBody awaited (now (store .entry)) (now (body .entry))) ⌝ }
+    ensures sized { λ _. ⌜ length (now (store .exit)) ≡ storeSize ⌝ }
     ensures half { λ r. ⌜ 2 * r .objects ≤ length (now (body .entry)) ⌝ }
 {
-    let front = tlv::head(body);
-    let Front::Object(h) = front else {
-        return made(Verdict::Malformed, 0, store);
+    let mut work = *store;
+    let reading = read_object(&mut work, awaited, body);
+    let verdict = reading.verdict;
+    let Verdict::Accepted = verdict else {
+        return reading;
     };
-    let start = h.start;
-    let e = start + h.len;
-    if e != body.len() {
-        return made(Verdict::Malformed, 0, store);
-    }
-    let value = &body[start..e];
-    if h.template {
-        return read_template(store, awaited, h.tag, value);
-    }
-    read_primitive(store, awaited, h.tag, value)
+    *store = work;
+    reading
 }
 
 // Document 01's number of a verdict; 0 where the answer gives no reason.
@@ -115,14 +112,10 @@ pub fn number(verdict: Verdict) -> u8
 }
 
 // A reading of these parts.
-fn made(verdict: Verdict, objects: usize, store: Store) -> Reading
-    ensures { λ r. ⌜ r ≡ made verdict objects store ⌝ }
+fn made(verdict: Verdict, objects: usize) -> Reading
+    ensures { λ r. ⌜ r ≡ made verdict objects ⌝ }
 {
-    Reading {
-        verdict,
-        objects,
-        store,
-    }
+    Reading { verdict, objects }
 }
 
 // Whether the two bytes at the end are 90 00.
@@ -171,13 +164,37 @@ fn template_tag(awaited: Awaited) -> u32
     }
 }
 
-// An answer that is a template: its contents go into a working copy.
-fn read_template(store: Store, awaited: Awaited, tag: u32, value: &[u8]) -> Reading
+// The body's one object, with no byte behind it, into a working copy.
+fn read_object(work: &mut [u8; SIZE], awaited: Awaited, body: &[u8]) -> Reading
+    requires { ⌜ length (now work) ≡ storeSize ⌝ }
+    ensures given { λ r. ⌜ Gives r (storeAfter (now (work .entry)) (now (work .exit)) (r .verdict)) (readBody awaited (now (work .entry)) (now (body .entry))) ⌝ }
+    ensures sized { λ _. ⌜ length (now (work .exit)) ≡ storeSize ⌝ }
+    ensures half { λ r. ⌜ 2 * r .objects ≤ length (now (body .entry)) ⌝ }
+{
+    let front = tlv::head(body);
+    let Front::Object(h) = front else {
+        return made(Verdict::Malformed, 0);
+    };
+    let start = h.start;
+    let e = start + h.len;
+    if e != body.len() {
+        return made(Verdict::Malformed, 0);
+    }
+    let value = &body[start..e];
+    if h.template {
+        return read_template(work, awaited, h.tag, value);
+    }
+    read_primitive(work, awaited, h.tag, value)
+}
+
+// An answer that is a template, by its contents.
+fn read_template(work: &mut [u8; SIZE], awaited: Awaited, tag: u32, value: &[u8]) -> Reading
+    requires { ⌜ length (now work) ≡ storeSize ⌝ }
     requires { ⌜ length (now value) + 2 < 2 ^ 64 ⌝ }
-    ensures given { λ r. ⌜ Gives r (readTree awaited (store .bytes) (templateBody tag (parse 3 (now (value .entry))))) ⌝ }
+    ensures given { λ r. ⌜ Gives r (storeAfter (now (work .entry)) (now (work .exit)) (r .verdict)) (readTree awaited (now (work .entry)) (templateBody tag (parse 3 (now (value .entry))))) ⌝ }
+    ensures sized { λ _. ⌜ length (now (work .exit)) ≡ storeSize ⌝ }
     ensures half { λ r. ⌜ 2 * r .objects ≤ 2 + length (now (value .entry)) ⌝ }
 {
-    let mut work = store.bytes;
     let bit = answer_bit(awaited);
     let contents = read(
         value,
@@ -188,83 +205,87 @@ fn read_template(store: Store, awaited: Awaited, tag: u32, value: &[u8]) -> Read
             objects: 1,
             good: true,
         },
-        &mut work,
+        work,
     );
     let Contents::Whole(t) = contents else {
-        return made(Verdict::Malformed, 0, store);
+        return made(Verdict::Malformed, 0);
     };
     let n = t.objects;
     if tag != template_tag(awaited) {
-        return made(Verdict::Malformed, n, store);
+        return made(Verdict::Malformed, n);
     }
     if !t.good {
-        return made(Verdict::NotAllowed, n, store);
+        return made(Verdict::NotAllowed, n);
     }
-    made(Verdict::Accepted, n, Store { bytes: work })
+    made(Verdict::Accepted, n)
 }
 
 // An answer that is a primitive object: 80, with its parts one behind the other.
-fn read_primitive(store: Store, awaited: Awaited, tag: u32, value: &[u8]) -> Reading
-    ensures given { λ r. ⌜ Gives r (readTree awaited (store .bytes) (some (primitive tag (now (value .entry))))) ⌝ }
+fn read_primitive(work: &mut [u8; SIZE], awaited: Awaited, tag: u32, value: &[u8]) -> Reading
+    requires { ⌜ length (now work) ≡ storeSize ⌝ }
+    ensures given { λ r. ⌜ Gives r (storeAfter (now (work .entry)) (now (work .exit)) (r .verdict)) (readTree awaited (now (work .entry)) (some (primitive tag (now (value .entry))))) ⌝ }
+    ensures sized { λ _. ⌜ length (now (work .exit)) ≡ storeSize ⌝ }
     ensures one { λ r. ⌜ r .objects ≡ 1 ⌝ }
 {
     if tag != 0x80 {
-        return made(Verdict::Malformed, 1, store);
+        return made(Verdict::Malformed, 1);
     }
     match awaited {
-        Awaited::Options => read_options(store, value),
-        Awaited::Record(_) => made(Verdict::Malformed, 1, store),
-        Awaited::Cryptogram => read_cryptogram(store, value),
+        Awaited::Options => read_options(work, value),
+        Awaited::Record(_) => made(Verdict::Malformed, 1),
+        Awaited::Cryptogram => read_cryptogram(work, value),
     }
 }
 
 // Two bytes for 82 and the rest for 94.
-fn read_options(store: Store, value: &[u8]) -> Reading
-    ensures given { λ r. ⌜ Gives r (takenParts Awaited.Options (store .bytes) 1 (optionsParts (now (value .entry)))) ⌝ }
+fn read_options(work: &mut [u8; SIZE], value: &[u8]) -> Reading
+    requires { ⌜ length (now work) ≡ storeSize ⌝ }
+    ensures given { λ r. ⌜ Gives r (storeAfter (now (work .entry)) (now (work .exit)) (r .verdict)) (takenParts Awaited.Options (now (work .entry)) 1 (optionsParts (now (value .entry)))) ⌝ }
+    ensures sized { λ _. ⌜ length (now (work .exit)) ≡ storeSize ⌝ }
     ensures one { λ r. ⌜ r .objects ≡ 1 ⌝ }
 {
     let n = value.len();
     if n < 6 {
-        return made(Verdict::Malformed, 1, store);
+        return made(Verdict::Malformed, 1);
     }
     if 250 < n {
-        return made(Verdict::Malformed, 1, store);
+        return made(Verdict::Malformed, 1);
     }
     if (n - 2) % 4 != 0 {
-        return made(Verdict::Malformed, 1, store);
+        return made(Verdict::Malformed, 1);
     }
-    let mut work = store.bytes;
     let bit = dictionary::OPTIONS;
-    let profile = take_next(true, 0x82, 0x77, bit, &value[..2], &mut work);
-    let locator = take_next(profile, 0x94, 0x77, bit, &value[2..], &mut work);
+    let profile = take_next(true, 0x82, 0x77, bit, &value[..2], work);
+    let locator = take_next(profile, 0x94, 0x77, bit, &value[2..], work);
     if !locator {
-        return made(Verdict::NotAllowed, 1, store);
+        return made(Verdict::NotAllowed, 1);
     }
-    made(Verdict::Accepted, 1, Store { bytes: work })
+    made(Verdict::Accepted, 1)
 }
 
 // 9F27, 9F36 and 9F26, and 9F10 if any bytes are left.
-fn read_cryptogram(store: Store, value: &[u8]) -> Reading
-    ensures given { λ r. ⌜ Gives r (takenParts Awaited.Cryptogram (store .bytes) 1 (cryptogramParts (now (value .entry)))) ⌝ }
+fn read_cryptogram(work: &mut [u8; SIZE], value: &[u8]) -> Reading
+    requires { ⌜ length (now work) ≡ storeSize ⌝ }
+    ensures given { λ r. ⌜ Gives r (storeAfter (now (work .entry)) (now (work .exit)) (r .verdict)) (takenParts Awaited.Cryptogram (now (work .entry)) 1 (cryptogramParts (now (value .entry)))) ⌝ }
+    ensures sized { λ _. ⌜ length (now (work .exit)) ≡ storeSize ⌝ }
     ensures one { λ r. ⌜ r .objects ≡ 1 ⌝ }
 {
     let n = value.len();
     if n < 11 {
-        return made(Verdict::Malformed, 1, store);
+        return made(Verdict::Malformed, 1);
     }
     if 43 < n {
-        return made(Verdict::Malformed, 1, store);
+        return made(Verdict::Malformed, 1);
     }
-    let mut work = store.bytes;
     let bit = dictionary::CRYPTOGRAM;
-    let kind = take_next(true, 0x9F27, 0x77, bit, &value[..1], &mut work);
-    let counter = take_next(kind, 0x9F36, 0x77, bit, &value[1..3], &mut work);
-    let cryptogram = take_next(counter, 0x9F26, 0x77, bit, &value[3..11], &mut work);
-    let issuer = take_rest(cryptogram, &value[11..], &mut work);
+    let kind = take_next(true, 0x9F27, 0x77, bit, &value[..1], work);
+    let counter = take_next(kind, 0x9F36, 0x77, bit, &value[1..3], work);
+    let cryptogram = take_next(counter, 0x9F26, 0x77, bit, &value[3..11], work);
+    let issuer = take_rest(cryptogram, &value[11..], work);
     if !issuer {
-        return made(Verdict::NotAllowed, 1, store);
+        return made(Verdict::NotAllowed, 1);
     }
-    made(Verdict::Accepted, 1, Store { bytes: work })
+    made(Verdict::Accepted, 1)
 }
 
 // 9F10, if any bytes are left.

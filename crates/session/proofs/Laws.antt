@@ -6,18 +6,17 @@ use mathlib.Core.Bool.{Bool, true, false}
 use mathlib.Core.List.{List, [], _∷_}
 use mathlib.Core.Option.{Option, some, none}
 use mathlib.Core.Logic.{⊎-elim}
-use Prim.Native.Nat.{ℕ, _+_, _/_, _≤_, _<_}
+use Prim.Native.Nat.{ℕ, _+_, _-_, _/_, _≤_, _<_}
 use native.Mathlib.Omega.{arith}
 use types.Run.{OneOf}
 use denote.Enum.Declared.{tagOf}
-use lib.ListN.{length}
+use lib.ListN.{length, take}
 use borrow.Author.Tests.{lt-ltb, le-ltb, eq-eqb, ne-eqb}
 use Rattle.basics.specs.Choice.{both}
-use Rattle.basics.proofs.Laws.{if-yes, if-no}
-use Rattle.dictionary.specs.Rows.{rows, rowAt}
+use Rattle.basics.proofs.Laws.{if-yes, if-no, if-ind}
+use Rattle.dictionary.specs.Rows.{rows, rowAt, storeSize}
 use Rattle.dictionary.specs.Named.{placeFound, placeOf}
 use Rattle.dictionary.proofs.Named.{at-94, at-95}
-use Rattle.store.specs.declared.Store.{Store}
 use Rattle.store.specs.Place.{bytesOf, valueAt, putAt}
 use Rattle.locator.specs.declared.Record.{Record}
 use Rattle.locator.specs.declared.Found.{Found}
@@ -27,10 +26,12 @@ use Rattle.data_list.specs.declared.Written.{Written}
 use Rattle.data_list.specs.declared.Written.the-variants.{Command, NoCommand}
 use Rattle.data_list.specs.declared.Command.{Command as Handed}
 use Rattle.data_list.specs.Commands.{written, bufferWith}
+use Rattle.reading.specs.declared.Awaited.{Awaited}
 use Rattle.reading.specs.declared.Verdict.{Verdict}
 use Rattle.reading.specs.declared.Verdict.the-variants.{Accepted, BadStatus, Malformed, NotAllowed}
 use Rattle.reading.specs.declared.Reading.{Reading}
 use Rattle.reading.specs.Answer as reading
+use Rattle.reading.specs.Taking.{Item}
 use Rattle.reading.proofs.Verdict.{the-type as verdict-type}
 use Rattle.analysis.specs.declared.choice.Choice.{Choice}
 use Rattle.analysis.specs.Action.{aboveLimit, resultOf, chosen}
@@ -40,15 +41,16 @@ use Rattle.record.specs.declared.Refusal.{Refusal}
 use Rattle.record.specs.declared.Phase.{Phase}
 use Rattle.record.specs.declared.Session.{Session}
 use Rattle.record.specs.declared.Reply.{Reply}
+use Rattle.record.specs.declared.Turn.{Turn}
 use Rattle.record.specs.Numbers.{refusedPhase, refusedBuffer, refusedRanges, reasonMissing, reasonLocator, reasonAboveLimit, reasonDataList, reasonMode}
-use Rattle.record.specs.Session.{stored, waitingSession, storedSession, failsReply, commandsReply}
+use Rattle.record.specs.Session.{stored, replyOf, failsReply, failsTurn, commandsTurn}
 use Rattle.record.specs.Held.{holds, byteIn}
 use Rattle.record.specs.Ranges.{emvMode, locatorIn, completed, inRanges}
 use Rattle.record.specs.Clauses.{noResults}
 use Rattle.record.proofs.Tags.{bytes-are}
+use Rattle.record.proofs.Phases.{store-size}
 use Rattle.record.proofs.Phase.{the-type as phase-type}
 use Rattle.terminal.specs.declared.Said.{Said}
-use Rattle.terminal.specs.declared.Loading.{Loading}
 use Rattle.terminal.specs.Terminal.{Loaded, Loads}
 use Rattle.terminal.proofs.Laws.{was-taken, was-refused}
 use Rattle.session.specs.declared.Needed.{Needed}
@@ -65,9 +67,17 @@ use Rattle.session.specs.Answer.{accepted, askFound, optionsRead, askCry
 pub did-as : {r : Reply} {b : List ℕ} {s t : Step} → s ≡ t → Did r b t → Did r b s
 did-as e d = record { reply = d .reply ∙ ap (λ (x : Step). x .reply) (sym e); buffer = d .buffer ∙ ap (λ (x : Step). x .buffer) (sym e) }
 
--- no command: the buffer stands as it was
-pub did-quiet : {r q : Reply} {b : List ℕ} {s : Step} → s ≡ quiet q b → r ≡ q → Did r b s
-did-quiet e p = did-as e (record { reply = p; buffer = refl })
+-- a turn by an equation, with the store b
+pub reply-as : {t u : Turn} (b : List ℕ) → t ≡ u → replyOf t b ≡ replyOf u b
+reply-as b e = ap (λ (x : Turn). replyOf x b) e
+
+-- no command: the buffer stands as it was, and the turn t is u, with the store b
+pub did-quiet : {t u : Turn} (b : List ℕ) {buf : List ℕ} {s : Step} → t ≡ u → s ≡ quiet (replyOf u b) buf → Did (replyOf t b) buf s
+did-quiet b e f = did-as f (record { reply = reply-as b e; buffer = refl })
+
+-- a session that keeps its ranges has a store of its size
+pub did-sized : {t : Turn} (b : List ℕ) {buf : List ℕ} {s : Step} → Did (replyOf t b) buf s → inRanges (s .reply .session) ≡ true → length b ≡ storeSize
+did-sized b d e = ap (λ (r : Reply). length (stored (r .session))) (d .reply) ∙ store-size _ e
 
 -- ---- the refusals that every call checks first
 
@@ -93,16 +103,42 @@ not-accepted BadStatus h e = omega arith
 not-accepted Malformed h e = omega arith
 not-accepted NotAllowed h e = omega arith
 
-module _ {A : Type 0} (s : Session) (r : Reading) (o : reading.Outcome) (failed : ℕ → A) (go : Session → A) (g : reading.Gives r o) where
-  pub accepted-yes : r .verdict ≡ Accepted → accepted s o failed go ≡ go (storedSession s (r .store))
-  unfolding accepted
-  accepted-yes e =
-      if-yes _ _ (eq-eqb (o .reason) 0 (sym (g .reason) ∙ ap reading.numberOf e)) ∙ ap (λ (b : List ℕ). go (withStore s b)) (sym (g .store))
+-- how a reading comes about: with the store as it was and a reason of at most 3, or with another store and none
+module _ (P : reading.Outcome → Type 0) (b : List ℕ) (same : (r n : ℕ) → r ≤ 3 → P (reading.outcome r n b)) (anew : (n : ℕ) (c : List ℕ) → P (reading.outcome 0 n c)) where
+  parts-ind : (a : Awaited) (n : ℕ) (x : Option (List Item)) → P (reading.takenParts a b n x)
+  parts-ind a n none = same 2 n (omega arith)
+  parts-ind a n (some is) = if-ind P _ _ _ (λ g. anew n _) (λ g. same 3 n (omega arith))
 
-  pub accepted-no : OneOf (1 ∷ 2 ∷ 3 ∷ []) (tagOf verdict-type (r .verdict)) → accepted s o failed go ≡ failed (reading.numberOf (r .verdict))
+  tree-ind : (a : Awaited) (x : Option reading.Body) → P (reading.readTree a b x)
+  tree-ind a none = same 2 0 (omega arith)
+  tree-ind a (some body) = parts-ind a (reading.bodyCount body) (reading.partsOf a body)
+
+  pub read-ind : (a : Awaited) (s : List ℕ) → P (reading.readAnswer a b s)
+  unfolding reading.readAnswer reading.readBody
+  read-ind a s =
+      if-ind P _ _ _
+      (λ l. if-ind P _ _ _
+      (λ t. if-ind P _ _ _ (λ r. tree-ind a (reading.bodyOf (take (length s - 2) s))) (λ r. same 0 0 (omega arith)))
+      (λ t. same 1 0 (omega arith)))
+      (λ l. same 2 0 (omega arith))
+
+-- a reading that gives a reason leaves the store as it was
+unread-store : (a : Awaited) (b s : List ℕ) → (reading.readAnswer a b s .reason ≡ 0 → ⊥) → reading.readAnswer a b s .store ≡ b
+unread-store a b s = read-ind (λ (o : reading.Outcome). (o .reason ≡ 0 → ⊥) → o .store ≡ b) b (λ r n h z. refl) (λ n c z. absurd (z refl)) a s
+
+-- the answer s, awaited as a and read as r, left the store d
+module _ {A : Type 0} (t : Session) (a : Awaited) (s : List ℕ) (failed : Session → ℕ → A) (go : Session → A) {r : Reading} {d : List ℕ}
+    (g : reading.Gives r d (reading.readAnswer a (stored t) s)) where
+  pub accepted-yes : r .verdict ≡ Accepted → accepted t (reading.readAnswer a (stored t) s) (failed t) go ≡ go (withStore t d)
+  unfolding accepted
+  accepted-yes e = if-yes _ _ (eq-eqb _ 0 (sym (g .reason) ∙ ap reading.numberOf e)) ∙ ap (λ (b : List ℕ). go (withStore t b)) (sym (g .store))
+
+  pub accepted-no : OneOf (1 ∷ 2 ∷ 3 ∷ []) (tagOf verdict-type (r .verdict))
+      → accepted t (reading.readAnswer a (stored t) s) (failed t) go ≡ failed (withStore t d) (reading.numberOf (r .verdict))
   unfolding accepted
   accepted-no h =
-      if-no _ _ (ne-eqb (o .reason) 0 (λ e. not-accepted (r .verdict) h (g .reason ∙ e))) ∙ ap failed (sym (g .reason))
+      let z : (reading.readAnswer a (stored t) s .reason ≡ 0 → ⊥) = λ e. not-accepted (r .verdict) h (g .reason ∙ e) in
+      if-no _ _ (ne-eqb _ 0 z) ∙ ap₂ (λ (b : List ℕ) (n : ℕ). failed (withStore t b) n) (sym (g .store ∙ unread-store a (stored t) s z)) (sym (g .reason))
 
 -- ---- what the code's two-case answers say of their tests
 
@@ -149,10 +185,10 @@ pub results-place : placeOf 0x95 ≡ 5
 unfolding placeOf
 results-place = ap placeFound at-95
 
--- the record with the bits stored
-pub results-stored : (s : Session) (b v : List ℕ) {k : Store} {t : Session} → k .bytes ≡ putAt rows b 5 v → t ≡ storedSession s k → withStore s (withResults b v) ≡ t
+-- the bits as they are stored
+pub results-stored : (b v : List ℕ) {k : List ℕ} → k ≡ putAt rows b 5 v → withResults b v ≡ k
 unfolding withResults
-results-stored s b v g h = ap (λ (n : ℕ). withStore s (putAt rows b n v)) results-place ∙ ap (withStore s) (sym g) ∙ sym h
+results-stored b v g = ap (λ (n : ℕ). putAt rows b n v) results-place ∙ sym g
 
 -- ---- start
 
@@ -165,13 +201,15 @@ not-fresh (Phase.Record p) s bytes buf h = refl
 not-fresh (Phase.Cryptogram a) s bytes buf h = refl
 not-fresh (Phase.Ended e) s bytes buf h = refl
 
-module _ (s : Session) (buf : List ℕ) {r : Loading} {b : List ℕ} where
-  pub loading-refused : {f : Refusal} (x : Loaded) → Loads r b x → r .said ≡ Said.Refused f → startLoaded s buf x ≡ refuses s (refusalNumber (r .said)) buf
-  loading-refused x g e = ap (startLoaded s buf) (was-refused x g e .0) ∙ ap (λ (d : Said). refuses s (refusalNumber d) buf) (sym e)
+-- the loading said r and left the store d
+module _ (s : Session) (buf : List ℕ) {r : Said} {d : List ℕ} where
+  pub loading-refused : {f : Refusal} (x : Loaded) → Loads r d (stored s) x → r ≡ Said.Refused f → startLoaded s buf x ≡ refuses (withStore s d) (refusalNumber r) buf
+  loading-refused x g e =
+      let w = was-refused x g e in
+      ap (startLoaded s buf) (w .0) ∙ ap₂ (λ (b : List ℕ) (y : Said). refuses (withStore s b) (refusalNumber y) buf) (sym (w .1)) (sym e)
 
-  pub loading-taken : {k : Store} {t : Session} (x : Loaded) → Loads r b x → r .said ≡ Said.Taken → k .bytes ≡ putAt rows (r .store .bytes) 5 noResults
-      → t ≡ storedSession s k → startLoaded s buf x ≡ askOptions t buf
-  loading-taken x g e f h = ap (startLoaded s buf) (was-taken x g e) ∙ ap (λ (u : Session). askOptions u buf) (results-stored s (r .store .bytes) noResults f h)
+  pub loading-taken : {k : List ℕ} (x : Loaded) → Loads r d (stored s) x → r ≡ Said.Taken → k ≡ putAt rows d 5 noResults → startLoaded s buf x ≡ askOptions (withStore s k) buf
+  loading-taken x g e f = ap (startLoaded s buf) (was-taken x g e) ∙ ap (λ (b : List ℕ). askOptions (withStore s b) buf) (results-stored d noResults f)
 
 -- ---- a record of the locator, by the row's value and a number
 
@@ -187,17 +225,18 @@ found-there v k {r} {w} f e =
 
 -- ---- a command that carries a filled list, by what was written
 
-module _ (s : Session) (p : Phase) (buf : List ℕ) {b : List ℕ} {r : Reply} {w : Written} where
-  pub handed-none : (x : Option (List ℕ)) → w ≡ written x → b ≡ bufferWith x buf → w ≡ NoCommand → r ≡ failsReply s reasonDataList → Did r b (handOut s p buf x)
-  handed-none none e f g h = record { reply = h; buffer = f }
+module _ (s : Session) (p : Phase) (buf : List ℕ) {b : List ℕ} {t : Turn} {w : Written} where
+  pub handed-none : (x : Option (List ℕ)) → w ≡ written x → b ≡ bufferWith x buf → w ≡ NoCommand
+      → t ≡ failsTurn (s .count) reasonDataList → Did (replyOf t (stored s)) b (handOut s p buf x)
+  handed-none none e f g h = record { reply = reply-as (stored s) h; buffer = f }
   handed-none (some c) e f g h = let z : _≡_ {A = ℕ} 0 1 = cc in absurd (omega arith)
 
   pub handed-some : {n : Handed} (x : Option (List ℕ)) → w ≡ written x → b ≡ bufferWith x buf → w ≡ Command n
-      → r ≡ commandsReply (waitingSession s p (s .count + 1)) (n .len) → Did r b (handOut s p buf x)
+      → t ≡ commandsTurn p (s .count + 1) (n .len) → Did (replyOf t (stored s)) b (handOut s p buf x)
   handed-some none e f g h = let z : _≡_ {A = ℕ} 0 1 = cc in absurd (omega arith)
   handed-some {n} (some c) e f g h =
       let z : n ≡ record { len = length c } = cc in
-      record { reply = h ∙ ap (λ (m : Handed). commandsReply (waitingSession s p (s .count + 1)) (m .len)) z; buffer = f }
+      record { reply = reply-as (stored s) (h ∙ ap (λ (m : Handed). commandsTurn p (s .count + 1) (m .len)) z); buffer = f }
 
 -- ---- after the processing options
 
@@ -239,12 +278,12 @@ module _ (s : Session) (buf : List ℕ) where
 -- ---- the result bits, found
 
 -- the bits as they are found, stored and chosen on
-pub analysed-as : (s : Session) (buf : List ℕ) {t : Session} {r : List ℕ} {k : Store} {x : Choice} → r ≡ resultOf (stored s) → x ≡ chosen (stored s) r
-    → k .bytes ≡ putAt rows (stored s) 5 r → t ≡ storedSession s k → analysed s buf ≡ askCryptogram t x buf
+pub analysed-as : (s : Session) (buf : List ℕ) {r k : List ℕ} {x : Choice} → r ≡ resultOf (stored s) → x ≡ chosen (stored s) r
+    → k ≡ putAt rows (stored s) 5 r → analysed s buf ≡ askCryptogram (withStore s k) x buf
 unfolding analysed
-analysed-as s buf {t} {r} {k} {x} e f g h =
-    ap₂ (λ (u : Session) (c : Choice). askCryptogram u c buf)
-    (ap (λ (y : List ℕ). withStore s (withResults (stored s) y)) (sym e) ∙ results-stored s (stored s) r g h)
+analysed-as s buf {r} e f g =
+    ap₂ (λ (b : List ℕ) (c : Choice). askCryptogram (withStore s b) c buf)
+    (ap (withResults (stored s)) (sym e) ∙ results-stored (stored s) r g)
     (ap (chosen (stored s)) (sym e) ∙ sym f)
 
 -- ---- the answer to the cryptogram

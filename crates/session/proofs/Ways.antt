@@ -4,9 +4,9 @@ use mathlib.Core.Path.{_≡_, refl}
 use mathlib.Core.Bool.{true}
 use mathlib.Core.List.{List}
 use mathlib.Core.Option.{Option, some, none}
-use Prim.Native.Nat.{ℕ, _+_, _-_, _/_, _≤_}
+use Prim.Native.Nat.{ℕ, _+_, _/_, _≤_}
 use native.Mathlib.Omega.{arith}
-use lib.ListN.{length, take}
+use lib.ListN.{length}
 use borrow.Author.Tests.{eqb-true, eqb-false, ltb-false}
 use Rattle.basics.proofs.Laws.{if-ind}
 use Rattle.locator.specs.declared.Record.{Record}
@@ -15,7 +15,6 @@ use Rattle.locator.specs.Records.{accepts, recordAt}
 use Rattle.locator.specs.Command.{readRecord}
 use Rattle.reading.specs.declared.Awaited.{Awaited}
 use Rattle.reading.specs.Answer as reading
-use Rattle.reading.specs.Taking.{Item}
 use Rattle.data_list.specs.Commands.{processingOptions, generateAc}
 use Rattle.analysis.specs.declared.choice.Choice.{Choice}
 use Rattle.analysis.specs.Choice.{p1Of}
@@ -36,6 +35,7 @@ use Rattle.terminal.specs.Terminal.{Loaded, refusal, loaded, load}
 use Rattle.session.specs.Steps.{Step, quiet, refuses, fails, commands, withStore, withResults, leastBuffer, admitted, handOut, endsIn, brokenOff}
 use Rattle.session.specs.Start.{askOptions, startLoaded, startIn, startStep}
 use Rattle.session.specs.Answer.{accepted, askFound, optionsRead, optionsStep, askCryptogram, analysed, recordsRead, nextFound, recordRead, recordFound, recordStep, onlineFor, approvedFor, decision, concluded, cryptogramRead, cryptogramReply, answerIn, answerStep}
+use Rattle.session.proofs.Laws.{read-ind}
 
 -- a reason that ends a session
 pub record Reason (n : ℕ) : Type 0 where
@@ -71,23 +71,8 @@ unfolding accepted
 accepted-ind P s o failed go f g = if-ind P _ _ _ (λ e. g (eqb-true (o .reason) 0 e)) (λ e. f (eqb-false (o .reason) 0 e))
 
 -- a reading's reason is 1 to 3, or none
-abbrev Few : reading.Outcome → Type 0
-Few o = o .reason ≤ 3
-
-few-parts : (a : Awaited) (b : List ℕ) (n : ℕ) (x : Option (List Item)) → Few (reading.takenParts a b n x)
-few-parts a b n none = omega arith
-few-parts a b n (some is) = if-ind Few _ _ _ (λ g. omega arith) (λ g. omega arith)
-
-few-tree : (a : Awaited) (b : List ℕ) (x : Option reading.Body) → Few (reading.readTree a b x)
-few-tree a b none = omega arith
-few-tree a b (some body) = few-parts a b (reading.bodyCount body) (reading.partsOf a body)
-
-few-reasons : (a : Awaited) (b s : List ℕ) → Few (reading.readAnswer a b s)
-unfolding reading.readAnswer reading.readBody
-few-reasons a b s =
-    if-ind Few _ _ _
-    (λ l. if-ind Few _ _ _ (λ t. if-ind Few _ _ _ (λ r. few-tree a b (reading.bodyOf (take (length s - 2) s))) (λ r. omega arith)) (λ t. omega arith))
-    (λ l. omega arith)
+few-reasons : (a : Awaited) (b s : List ℕ) → reading.readAnswer a b s .reason ≤ 3
+few-reasons a b s = read-ind (λ (o : reading.Outcome). o .reason ≤ 3) b (λ r n h. h) (λ n c. omega arith) a s
 
 unread-reason : (a : Awaited) (b s : List ℕ) → (reading.readAnswer a b s .reason ≡ 0 → ⊥) → Reason (reading.readAnswer a b s .reason)
 unread-reason a b s z = let f = few-reasons a b s in reason _ (omega arith) (omega arith)

@@ -3,21 +3,26 @@
 // Each call takes the session by value and a lent command buffer, and hands back the session and a
 // command, an outcome or a refusal. A command fills the front of the buffer; the bytes behind it, and
 // the whole buffer where no command comes, stay. A refusal changes nothing.
+//
+// `start_in`, `answer_in`, `link_failed_in` and `stop_in` are the same calls on a session's parts with the
+// store lent or shared: a turn is handed back, and the store is not copied.
 use analysis::choice::Choice;
 use data_list::Written;
-use dictionary::{ROW_82, ROW_94, ROW_95, ROW_9F26, ROW_9F27, ROW_9F36};
+use dictionary::{ROW_82, ROW_94, ROW_95, ROW_9F26, ROW_9F27, ROW_9F36, SIZE};
 use locator::{Checked, Found};
 use reading::{Awaited, File, Verdict};
-use record::{Asked, Outcome, Phase, Place, Reply, Session};
+use record::{Asked, Outcome, Phase, Place, Reply, Session, Turn};
 use terminal::Said;
 ghost use mathlib.Core.Path.{_≡_};
-ghost use Prim.Native.Nat.{_≤_, _<_};
+ghost use mathlib.Core.List.{List};
+ghost use Prim.Native.Nat.{ℕ, _≤_, _<_};
 ghost use lib.ListN.{length};
 ghost use Rattle.basics.specs.Choice.{both};
+ghost use Rattle.dictionary.specs.Rows.{storeSize};
 ghost use Rattle.locator.specs.Command.{readRecord};
 ghost use Rattle.analysis.specs.Action.{aboveLimit};
 ghost use Rattle.terminal.specs.Terminal.{load as loadOf};
-ghost use Rattle.record.specs.Session.{stored};
+ghost use Rattle.record.specs.Session.{sessionOf, replyOf};
 ghost use Rattle.record.specs.Held.{holds};
 ghost use Rattle.record.specs.Ranges.{emvMode, completed};
 ghost use Rattle.session.specs.Steps.{Did, commands as commandsStep, leastBuffer, brokenOff, linkStep, stopStep};
@@ -59,88 +64,127 @@ pub struct Decision {
 pub fn start(session: Session, terminal: &[u8], command: &mut [u8]) -> Reply
     ensures { λ r. ⌜ Did r (now (command .exit)) (startStep session (now (terminal .entry)) (now (command .entry))) ⌝ }
 {
-    if command.len() < LEAST_BUFFER {
-        return record::refused(session, record::REFUSED_BUFFER);
-    }
-    if !record::in_ranges(session) {
-        return record::refused(session, record::REFUSED_RANGES);
-    }
     let phase = session.phase;
-    let Phase::Fresh = phase else {
-        return record::refused(session, record::REFUSED_PHASE);
-    };
-    load_objects(session, terminal, command)
+    let mut store = session.store;
+    let turn = start_in(phase, session.count, &mut store.bytes, terminal, command);
+    record::reply_of(turn, store)
 }
 
 // Takes the card's answer to the command that was handed out last, status bytes included.
 pub fn answer(session: Session, card: &[u8], command: &mut [u8]) -> Reply
     ensures { λ r. ⌜ Did r (now (command .exit)) (answerStep session (now (card .entry)) (now (command .entry))) ⌝ }
 {
-    if command.len() < LEAST_BUFFER {
-        return record::refused(session, record::REFUSED_BUFFER);
-    }
-    if !record::in_ranges(session) {
-        return record::refused(session, record::REFUSED_RANGES);
-    }
     let phase = session.phase;
-    match phase {
-        Phase::Fresh => record::refused(session, record::REFUSED_PHASE),
-        Phase::Options => take_options(session, card, command),
-        Phase::Record(place) => take_record(place, session, card, command),
-        Phase::Cryptogram(asked) => take_cryptogram(asked, session, card),
-        Phase::Ended(_) => record::refused(session, record::REFUSED_PHASE),
-    }
+    let mut store = session.store;
+    let turn = answer_in(phase, session.count, &mut store.bytes, card, command);
+    record::reply_of(turn, store)
 }
 
 // The link to the card failed.
 pub fn link_failed(session: Session, command: &mut [u8]) -> Reply
     ensures { λ r. ⌜ Did r (now (command .exit)) (linkStep session (now (command .entry))) ⌝ }
 {
-    broken_off(session, record::REASON_LINK, command.len())
+    let phase = session.phase;
+    let store = session.store;
+    let turn = link_failed_in(phase, session.count, &store.bytes, command);
+    record::reply_of(turn, store)
 }
 
 // The terminal stops the session.
 pub fn stop(session: Session, command: &mut [u8]) -> Reply
     ensures { λ r. ⌜ Did r (now (command .exit)) (stopStep session (now (command .entry))) ⌝ }
 {
-    broken_off(session, record::REASON_STOPPED, command.len())
+    let phase = session.phase;
+    let store = session.store;
+    let turn = stop_in(phase, session.count, &store.bytes, command);
+    record::reply_of(turn, store)
+}
+
+// `start` on a session's parts, the store lent.
+pub fn start_in(phase: Phase, count: u8, store: &mut [u8; SIZE], terminal: &[u8], command: &mut [u8]) -> Turn
+    requires { ⌜ length (now store) ≡ storeSize ⌝ }
+    ensures did { λ r. ⌜ Did (replyOf r (now (store .exit))) (now (command .exit)) (startStep (sessionOf phase count (now (store .entry))) (now (terminal .entry)) (now (command .entry))) ⌝ }
+    ensures sized { λ _. ⌜ length (now (store .exit)) ≡ storeSize ⌝ }
+{
+    if command.len() < LEAST_BUFFER {
+        return record::refused(phase, count, record::REFUSED_BUFFER);
+    }
+    if !record::keeps(phase, count, &store[..]) {
+        return record::refused(phase, count, record::REFUSED_RANGES);
+    }
+    let Phase::Fresh = phase else {
+        return record::refused(phase, count, record::REFUSED_PHASE);
+    };
+    load_objects(count, store, terminal, command)
+}
+
+// `answer` on a session's parts, the store lent.
+pub fn answer_in(phase: Phase, count: u8, store: &mut [u8; SIZE], card: &[u8], command: &mut [u8]) -> Turn
+    requires { ⌜ length (now store) ≡ storeSize ⌝ }
+    ensures did { λ r. ⌜ Did (replyOf r (now (store .exit))) (now (command .exit)) (answerStep (sessionOf phase count (now (store .entry))) (now (card .entry)) (now (command .entry))) ⌝ }
+    ensures sized { λ _. ⌜ length (now (store .exit)) ≡ storeSize ⌝ }
+{
+    if command.len() < LEAST_BUFFER {
+        return record::refused(phase, count, record::REFUSED_BUFFER);
+    }
+    if !record::keeps(phase, count, &store[..]) {
+        return record::refused(phase, count, record::REFUSED_RANGES);
+    }
+    match phase {
+        Phase::Fresh => record::refused(phase, count, record::REFUSED_PHASE),
+        Phase::Options => take_options(count, store, card, command),
+        Phase::Record(place) => take_record(place, count, store, card, command),
+        Phase::Cryptogram(asked) => take_cryptogram(asked, count, store, card),
+        Phase::Ended(_) => record::refused(phase, count, record::REFUSED_PHASE),
+    }
+}
+
+// `link_failed` on a session's parts, the store shared.
+pub fn link_failed_in(phase: Phase, count: u8, bytes: &[u8], command: &mut [u8]) -> Turn
+    ensures { λ r. ⌜ Did (replyOf r (now (bytes .entry))) (now (command .exit)) (linkStep (sessionOf phase count (now (bytes .entry))) (now (command .entry))) ⌝ }
+{
+    broken_off(phase, count, bytes, record::REASON_LINK, command.len())
+}
+
+// `stop` on a session's parts, the store shared.
+pub fn stop_in(phase: Phase, count: u8, bytes: &[u8], command: &mut [u8]) -> Turn
+    ensures { λ r. ⌜ Did (replyOf r (now (bytes .entry))) (now (command .exit)) (stopStep (sessionOf phase count (now (bytes .entry))) (now (command .entry))) ⌝ }
+{
+    broken_off(phase, count, bytes, record::REASON_STOPPED, command.len())
 }
 
 // A running session ends for a reason; no command comes.
-fn broken_off(session: Session, reason: u8, size: usize) -> Reply
-    ensures { λ r. ⌜ r ≡ brokenOff session reason size ⌝ }
+fn broken_off(phase: Phase, count: u8, bytes: &[u8], reason: u8, size: usize) -> Turn
+    ensures { λ r. ⌜ replyOf r (now (bytes .entry)) ≡ brokenOff (sessionOf phase count (now (bytes .entry))) reason size ⌝ }
 {
     if size < LEAST_BUFFER {
-        return record::refused(session, record::REFUSED_BUFFER);
+        return record::refused(phase, count, record::REFUSED_BUFFER);
     }
-    if !record::in_ranges(session) {
-        return record::refused(session, record::REFUSED_RANGES);
+    if !record::keeps(phase, count, bytes) {
+        return record::refused(phase, count, record::REFUSED_RANGES);
     }
-    let phase = session.phase;
     match phase {
-        Phase::Fresh => record::refused(session, record::REFUSED_PHASE),
-        Phase::Options => record::fails(session, reason),
-        Phase::Record(_) => record::fails(session, reason),
-        Phase::Cryptogram(_) => record::fails(session, reason),
-        Phase::Ended(_) => record::refused(session, record::REFUSED_PHASE),
+        Phase::Fresh => record::refused(phase, count, record::REFUSED_PHASE),
+        Phase::Options => record::fails(count, reason),
+        Phase::Record(_) => record::fails(count, reason),
+        Phase::Cryptogram(_) => record::fails(count, reason),
+        Phase::Ended(_) => record::refused(phase, count, record::REFUSED_PHASE),
     }
 }
 
 // The terminal's objects are stored, and 95 with them, all zero.
-fn load_objects(session: Session, terminal: &[u8], command: &mut [u8]) -> Reply
-    requires { ⌜ (leastBuffer ≤ length (now command)) × (session .count < 255) ⌝ }
-    ensures { λ r. ⌜ Did r (now (command .exit)) (startLoaded session (now (command .entry)) (loadOf (stored session) (now (terminal .entry)))) ⌝ }
+fn load_objects(count: u8, store: &mut [u8; SIZE], terminal: &[u8], command: &mut [u8]) -> Turn
+    requires { ⌜ (leastBuffer ≤ length (now command)) × (count < 255) ⌝ }
+    requires { ⌜ length (now store) ≡ storeSize ⌝ }
+    ensures { λ r. ⌜ Did (replyOf r (now (store .exit))) (now (command .exit)) (startLoaded (sessionOf Phase.Fresh count (now (store .entry))) (now (command .entry)) (loadOf (now (store .entry)) (now (terminal .entry)))) ⌝ }
 {
-    let store = session.store;
-    let loading = terminal::load(store, terminal);
-    let said = loading.said;
+    let said = terminal::load(store, terminal);
     let Said::Taken = said else {
-        return record::refused(session, refusal_number(said));
+        return record::refused(Phase::Fresh, count, refusal_number(said));
     };
-    let loaded = loading.store;
     let zero = [0u8; 5];
-    let kept = store::with_value(loaded, ROW_95, &zero);
-    ask_options(record::with_store(session, kept), command)
+    store::put(store, ROW_95, &zero);
+    ask_options(count, &store[..], command)
 }
 
 // The number of a loading that is refused.
@@ -154,175 +198,162 @@ fn refusal_number(said: Said) -> u8
 }
 
 // The command for the processing options.
-fn ask_options(session: Session, command: &mut [u8]) -> Reply
-    requires { ⌜ (leastBuffer ≤ length (now command)) × (session .count < 255) ⌝ }
-    ensures { λ r. ⌜ Did r (now (command .exit)) (askOptions session (now (command .entry))) ⌝ }
+fn ask_options(count: u8, bytes: &[u8], command: &mut [u8]) -> Turn
+    requires { ⌜ (leastBuffer ≤ length (now command)) × (count < 255) ⌝ }
+    ensures { λ r. ⌜ Did (replyOf r (now (bytes .entry))) (now (command .exit)) (askOptions (sessionOf Phase.Fresh count (now (bytes .entry))) (now (command .entry))) ⌝ }
 {
-    let store = session.store;
-    let Written::Command(c) = data_list::processing_options(&store.bytes, command) else {
-        return record::fails(session, record::REASON_DATA_LIST);
+    let Written::Command(c) = data_list::processing_options(bytes, command) else {
+        return record::fails(count, record::REASON_DATA_LIST);
     };
-    let count = session.count;
-    let next = record::waiting(session, Phase::Options, count + 1);
-    record::commands(next, c.len)
+    record::commands(Phase::Options, count + 1, c.len)
 }
 
 // The answer to processing options.
-fn take_options(session: Session, card: &[u8], command: &mut [u8]) -> Reply
-    requires { ⌜ (leastBuffer ≤ length (now command)) × (session .count < 255) ⌝ }
-    ensures { λ r. ⌜ Did r (now (command .exit)) (optionsStep session (now (card .entry)) (now (command .entry))) ⌝ }
+fn take_options(count: u8, store: &mut [u8; SIZE], card: &[u8], command: &mut [u8]) -> Turn
+    requires { ⌜ (leastBuffer ≤ length (now command)) × (count < 255) ⌝ }
+    requires { ⌜ length (now store) ≡ storeSize ⌝ }
+    ensures { λ r. ⌜ Did (replyOf r (now (store .exit))) (now (command .exit)) (optionsStep (sessionOf Phase.Options count (now (store .entry))) (now (card .entry)) (now (command .entry))) ⌝ }
 {
-    let store = session.store;
     let read = reading::read_answer(store, Awaited::Options, card);
     let verdict = read.verdict;
     let Verdict::Accepted = verdict else {
-        return record::fails(session, reading::number(verdict));
+        return record::fails(count, reading::number(verdict));
     };
-    let kept = read.store;
-    after_options(record::with_store(session, kept), command)
+    after_options(count, &store[..], command)
 }
 
 // After the processing options: the first record is asked for.
-fn after_options(session: Session, command: &mut [u8]) -> Reply
-    requires { ⌜ (leastBuffer ≤ length (now command)) × (session .count < 255) ⌝ }
-    ensures { λ r. ⌜ Did r (now (command .exit)) (optionsRead session (now (command .entry))) ⌝ }
+fn after_options(count: u8, bytes: &[u8], command: &mut [u8]) -> Turn
+    requires { ⌜ (leastBuffer ≤ length (now command)) × (count < 255) ⌝ }
+    ensures { λ r. ⌜ Did (replyOf r (now (bytes .entry))) (now (command .exit)) (optionsRead (sessionOf Phase.Options count (now (bytes .entry))) (now (command .entry))) ⌝ }
 {
-    let store = session.store;
-    let Needed::Complete = options_there(&store.bytes) else {
-        return record::fails(session, record::REASON_MISSING);
+    let Needed::Complete = options_there(bytes) else {
+        return record::fails(count, record::REASON_MISSING);
     };
-    let Mode::Emv = mode_in(&store.bytes) else {
-        return record::fails(session, record::REASON_MODE);
+    let Mode::Emv = mode_in(bytes) else {
+        return record::fails(count, record::REASON_MODE);
     };
-    let entries = store::value(&store.bytes, ROW_94);
+    let entries = store::value(bytes, ROW_94);
     let Checked::Accepted(_) = locator::check(entries) else {
-        return record::fails(session, record::REASON_LOCATOR);
+        return record::fails(count, record::REASON_LOCATOR);
     };
     let Found::At(wanted) = locator::record_at(entries, 1) else {
-        return record::fails(session, record::REASON_LOCATOR);
+        return record::fails(count, record::REASON_LOCATOR);
     };
-    ask_record(session, wanted, 1, command)
+    ask_record(count, wanted, 1, command)
 }
 
-// The command for a record, the k-th that the locator names.
-fn ask_record(session: Session, wanted: locator::Record, k: u8, command: &mut [u8]) -> Reply
-    requires { ⌜ (leastBuffer ≤ length (now command)) × (session .count < 255) ⌝ }
+// The command for a record, the k-th that the locator names, whatever the phase and the store are.
+fn ask_record(count: u8, wanted: locator::Record, k: u8, command: &mut [u8]) -> Turn
+    requires { ⌜ (leastBuffer ≤ length (now command)) × (count < 255) ⌝ }
     requires { ⌜ wanted .file < 32 ⌝ }
-    ensures { λ r. ⌜ Did r (now (command .exit)) (commandsStep session (Phase.Record (record { number = k })) (readRecord wanted) (now (command .entry))) ⌝ }
+    ensures { λ r. ⌜ ((p : Phase) (b : List ℕ) → Did (replyOf r b) (now (command .exit)) (commandsStep (sessionOf p count b) (Phase.Record (record { number = k })) (readRecord wanted) (now (command .entry)))) ⌝ }
 {
     let size = locator::read_record(wanted, command);
-    let count = session.count;
-    let next = record::waiting(session, Phase::Record(Place { number: k }), count + 1);
-    record::commands(next, size)
+    record::commands(Phase::Record(Place { number: k }), count + 1, size)
 }
 
 // The answer to a record.
-fn take_record(place: Place, session: Session, card: &[u8], command: &mut [u8]) -> Reply
-    requires { ⌜ (leastBuffer ≤ length (now command)) × (session .count < 255) ⌝ }
-    ensures { λ r. ⌜ Did r (now (command .exit)) (recordStep place session (now (card .entry)) (now (command .entry))) ⌝ }
+fn take_record(place: Place, count: u8, store: &mut [u8; SIZE], card: &[u8], command: &mut [u8]) -> Turn
+    requires { ⌜ (leastBuffer ≤ length (now command)) × (count < 255) ⌝ }
+    requires { ⌜ length (now store) ≡ storeSize ⌝ }
+    ensures { λ r. ⌜ Did (replyOf r (now (store .exit))) (now (command .exit)) (recordStep place (sessionOf (Phase.Record place) count (now (store .entry))) (now (card .entry)) (now (command .entry))) ⌝ }
 {
-    let store = session.store;
     let k = basics::wide(place.number);
-    let found = locator::record_at(store::value(&store.bytes, ROW_94), k);
+    let found = locator::record_at(store::value(&store[..], ROW_94), k);
     let Found::At(asked) = found else {
-        return record::fails(session, record::REASON_LOCATOR);
+        return record::fails(count, record::REASON_LOCATOR);
     };
     let file = asked.file;
     let read = reading::read_answer(store, Awaited::Record(File { number: file }), card);
     let verdict = read.verdict;
     let Verdict::Accepted = verdict else {
-        return record::fails(session, reading::number(verdict));
+        return record::fails(count, reading::number(verdict));
     };
-    let kept = read.store;
-    after_record(place, record::with_store(session, kept), command)
+    after_record(place, count, store, command)
 }
 
 // After a record: the next one that the locator names, or the cryptogram.
-fn after_record(place: Place, session: Session, command: &mut [u8]) -> Reply
-    requires { ⌜ (leastBuffer ≤ length (now command)) × (session .count < 255) ⌝ }
-    ensures { λ r. ⌜ Did r (now (command .exit)) (recordRead place session (now (command .entry))) ⌝ }
+fn after_record(place: Place, count: u8, store: &mut [u8; SIZE], command: &mut [u8]) -> Turn
+    requires { ⌜ (leastBuffer ≤ length (now command)) × (count < 255) ⌝ }
+    requires { ⌜ length (now store) ≡ storeSize ⌝ }
+    ensures { λ r. ⌜ Did (replyOf r (now (store .exit))) (now (command .exit)) (recordRead place (sessionOf (Phase.Record place) count (now (store .entry))) (now (command .entry))) ⌝ }
 {
-    let store = session.store;
     let number = place.number;
     let k = basics::wide(number) + 1;
-    let found = locator::record_at(store::value(&store.bytes, ROW_94), k);
+    let found = locator::record_at(store::value(&store[..], ROW_94), k);
     let Found::At(wanted) = found else {
-        return after_records(session, command);
+        return after_records(count, store, command);
     };
-    ask_record(session, wanted, number + 1, command)
+    ask_record(count, wanted, number + 1, command)
 }
 
-// After the last record: the limit, what is needed, and then the cryptogram.
-fn after_records(session: Session, command: &mut [u8]) -> Reply
-    requires { ⌜ (leastBuffer ≤ length (now command)) × (session .count < 255) ⌝ }
-    ensures { λ r. ⌜ Did r (now (command .exit)) (recordsRead session (now (command .entry))) ⌝ }
+// After the last record, in whatever phase: the limit, what is needed, and then the cryptogram.
+fn after_records(count: u8, store: &mut [u8; SIZE], command: &mut [u8]) -> Turn
+    requires { ⌜ (leastBuffer ≤ length (now command)) × (count < 255) ⌝ }
+    requires { ⌜ length (now store) ≡ storeSize ⌝ }
+    ensures { λ r. ⌜ ((p : Phase) → Did (replyOf r (now (store .exit))) (now (command .exit)) (recordsRead (sessionOf p count (now (store .entry))) (now (command .entry)))) ⌝ }
 {
-    let store = session.store;
-    let Limit::Within = limit_in(&store.bytes) else {
-        return record::fails(session, record::REASON_ABOVE_LIMIT);
+    let Limit::Within = limit_in(&store[..]) else {
+        return record::fails(count, record::REASON_ABOVE_LIMIT);
     };
-    let Needed::Complete = card_complete(&store.bytes) else {
-        return record::fails(session, record::REASON_MISSING);
+    let Needed::Complete = card_complete(&store[..]) else {
+        return record::fails(count, record::REASON_MISSING);
     };
-    analyse(session, command)
+    analyse(count, store, command)
 }
 
 // The result bits are stored and the choice is made on them.
-fn analyse(session: Session, command: &mut [u8]) -> Reply
-    requires { ⌜ (leastBuffer ≤ length (now command)) × (session .count < 255) ⌝ }
-    ensures { λ r. ⌜ Did r (now (command .exit)) (analysed session (now (command .entry))) ⌝ }
+fn analyse(count: u8, store: &mut [u8; SIZE], command: &mut [u8]) -> Turn
+    requires { ⌜ (leastBuffer ≤ length (now command)) × (count < 255) ⌝ }
+    requires { ⌜ length (now store) ≡ storeSize ⌝ }
+    ensures { λ r. ⌜ ((p : Phase) → Did (replyOf r (now (store .exit))) (now (command .exit)) (analysed (sessionOf p count (now (store .entry))) (now (command .entry)))) ⌝ }
 {
-    let store = session.store;
-    let result = analysis::action::result_of(&store.bytes);
-    let choice = analysis::action::choice_for(&store.bytes, result);
-    let kept = store::with_value(store, ROW_95, &result);
-    ask_cryptogram(record::with_store(session, kept), choice, command)
+    let result = analysis::action::result_of(&store[..]);
+    let choice = analysis::action::choice_for(&store[..], result);
+    store::put(store, ROW_95, &result);
+    ask_cryptogram(choice, count, &store[..], command)
 }
 
 // The command for the cryptogram.
-fn ask_cryptogram(session: Session, choice: Choice, command: &mut [u8]) -> Reply
-    requires { ⌜ (leastBuffer ≤ length (now command)) × (session .count < 255) ⌝ }
-    ensures { λ r. ⌜ Did r (now (command .exit)) (askCryptogram session choice (now (command .entry))) ⌝ }
+fn ask_cryptogram(choice: Choice, count: u8, bytes: &[u8], command: &mut [u8]) -> Turn
+    requires { ⌜ (leastBuffer ≤ length (now command)) × (count < 255) ⌝ }
+    ensures { λ r. ⌜ ((p : Phase) → Did (replyOf r (now (bytes .entry))) (now (command .exit)) (askCryptogram (sessionOf p count (now (bytes .entry))) choice (now (command .entry)))) ⌝ }
 {
-    let store = session.store;
     let p1 = analysis::choice::p1(choice);
-    let Written::Command(c) = data_list::generate_ac(&store.bytes, p1, command) else {
-        return record::fails(session, record::REASON_DATA_LIST);
+    let Written::Command(c) = data_list::generate_ac(bytes, p1, command) else {
+        return record::fails(count, record::REASON_DATA_LIST);
     };
-    let count = session.count;
-    let next = record::waiting(session, Phase::Cryptogram(Asked { choice }), count + 1);
-    record::commands(next, c.len)
+    record::commands(Phase::Cryptogram(Asked { choice }), count + 1, c.len)
 }
 
 // The answer to the cryptogram: no command follows it.
-fn take_cryptogram(asked: Asked, session: Session, card: &[u8]) -> Reply
-    ensures { λ r. ⌜ r ≡ cryptogramReply asked session (now (card .entry)) ⌝ }
+fn take_cryptogram(asked: Asked, count: u8, store: &mut [u8; SIZE], card: &[u8]) -> Turn
+    requires { ⌜ length (now store) ≡ storeSize ⌝ }
+    ensures { λ r. ⌜ replyOf r (now (store .exit)) ≡ cryptogramReply asked (sessionOf (Phase.Cryptogram asked) count (now (store .entry))) (now (card .entry)) ⌝ }
 {
-    let store = session.store;
     let read = reading::read_answer(store, Awaited::Cryptogram, card);
     let verdict = read.verdict;
     let Verdict::Accepted = verdict else {
-        return record::fails(session, reading::number(verdict));
+        return record::fails(count, reading::number(verdict));
     };
-    let kept = read.store;
-    decide(asked, record::with_store(session, kept))
+    decide(asked, count, &store[..])
 }
 
 // The outcome, by the type of the cryptogram that came.
-fn decide(asked: Asked, session: Session) -> Reply
-    ensures { λ r. ⌜ r ≡ cryptogramRead asked session ⌝ }
+fn decide(asked: Asked, count: u8, bytes: &[u8]) -> Turn
+    ensures { λ r. ⌜ replyOf r (now (bytes .entry)) ≡ cryptogramRead asked (sessionOf (Phase.Cryptogram asked) count (now (bytes .entry))) ⌝ }
 {
-    let store = session.store;
-    let Needed::Complete = cryptogram_there(&store.bytes) else {
-        return record::fails(session, record::REASON_MISSING);
+    let Needed::Complete = cryptogram_there(bytes) else {
+        return record::fails(count, record::REASON_MISSING);
     };
-    let kind = record::byte_at(store::value(&store.bytes, ROW_9F27), 0) / 64;
+    let kind = record::byte_at(store::value(bytes, ROW_9F27), 0) / 64;
     let choice = asked.choice;
     let Decided::On(d) = decision_for(choice, kind) else {
-        return record::fails(session, record::REASON_CRYPTOGRAM);
+        return record::fails(count, record::REASON_CRYPTOGRAM);
     };
     let outcome = d.outcome;
-    record::ends(session, outcome, record::REASON_NONE)
+    record::ends(count, outcome, record::REASON_NONE)
 }
 
 // What a type of cryptogram decides, by what was asked for.

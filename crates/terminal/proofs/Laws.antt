@@ -29,24 +29,22 @@ use Rattle.record.specs.declared.Refusal.{Refusal}
 use Rattle.record.specs.Held.{holds, byteIn}
 use Rattle.record.specs.Ranges.{isBrought, brought, allFit}
 use Rattle.terminal.specs.declared.Said.{Said}
-use Rattle.terminal.specs.declared.Loading.{Loading}
 use Rattle.terminal.specs.Terminal.{Object, run, typeListed, settable, setFound, setObject, andThen, setAll, Loaded, refusal, loaded, whole, afterSetting, afterRun, mostBytes, load, Loads}
 use Rattle.terminal.proofs.Ways.{load-long}
 use Rattle.terminal.proofs.Fit.{put-fits}
 
 -- ---- the call's answer, read back
 
-pub was-taken : {r : Loading} {b : List ℕ} (x : Loaded) → Loads r b x → r .said ≡ Said.Taken → x ≡ loaded (r .store .bytes)
+pub was-taken : {r : Said} {b c : List ℕ} (x : Loaded) → Loads r c b x → r ≡ Said.Taken → x ≡ loaded c
 was-taken (refusal n) l e = let d = l .said in cc
-was-taken (loaded c) l e = ap loaded (sym (l .store))
+was-taken (loaded d) l e = ap loaded (sym (l .store))
 
-pub was-refused : {r : Loading} {b : List ℕ} {q : Refusal} (x : Loaded) → Loads r b x → r .said ≡ Said.Refused q
-    → (x ≡ refusal (q .number)) × (r .store .bytes ≡ b)
-was-refused {r} {b} {q} (refusal n) l e =
+pub was-refused : {r : Said} {b c : List ℕ} {q : Refusal} (x : Loaded) → Loads r c b x → r ≡ Said.Refused q → (x ≡ refusal (q .number)) × (c ≡ b)
+was-refused {r} {b} {c} {q} (refusal n) l e =
     let d = l .said in
     let z : record { number = n } ≡ q = cc in
     (ap (λ (y : Refusal). refusal (y .number)) z, l .store)
-was-refused (loaded c) l e = let d = l .said in let z : _≡_ {A = ℕ} 0 1 = cc in absurd (omega arith)
+was-refused (loaded d) l e = let d = l .said in let z : _≡_ {A = ℕ} 0 1 = cc in absurd (omega arith)
 
 -- ---- how a store comes to be loaded
 

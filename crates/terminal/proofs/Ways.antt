@@ -8,11 +8,9 @@ use Prim.Native.Nat.{ℕ, _≤_, _<_}
 use lib.ListN.{length}
 use borrow.Author.Tests.{le-leb, lt-leb}
 use Rattle.basics.proofs.Laws.{if-yes, if-no}
-use Rattle.store.specs.declared.Store.{Store}
 use Rattle.record.specs.Ranges.{brought}
 use Rattle.record.specs.Numbers.{refusedBytes, refusedObject, refusedAbsent}
 use Rattle.terminal.specs.declared.Said.{Said}
-use Rattle.terminal.specs.declared.Loading.{Loading}
 use Rattle.terminal.specs.Terminal.{Object, run, isRun, setRun, Loaded, refusal, loaded, afterSetting, afterRun, mostBytes, load, Loads}
 
 -- ---- the ways out
@@ -64,8 +62,8 @@ module _ (b s : List ℕ) where
 
 -- ---- the answer
 
-pub refuses : {r : Loading} {n : ℕ} (s : Store) {x : Loaded} → (r .said ≡ Said.Refused (record { number = n })) × (r .store ≡ s) → x ≡ refusal n → Loads r (s .bytes) x
-refuses {r} s e f = subst (Loads r (s .bytes)) (sym f) (record { said = e .0; store = ap (λ (t : Store). t .bytes) (e .1) })
+pub refuses : {r : Said} {n : ℕ} (b : List ℕ) {x : Loaded} → r ≡ Said.Refused (record { number = n }) → x ≡ refusal n → Loads r b b x
+refuses {r} b e f = subst (Loads r b b) (sym f) (record { said = e; store = refl })
 
-pub loads : {b c : List ℕ} {x : Loaded} → x ≡ loaded c → Loads (record { said = Said.Taken; store = record { bytes = c } }) b x
-loads {b} f = subst (Loads _ b) (sym f) (record { said = refl; store = refl })
+pub loads : {b c : List ℕ} {x : Loaded} → x ≡ loaded c → Loads Said.Taken c b x
+loads {b} f = subst (Loads _ _ b) (sym f) (record { said = refl; store = refl })

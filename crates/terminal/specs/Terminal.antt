@@ -19,7 +19,6 @@ use Rattle.store.specs.Place.{isThere, valueAt, putAt}
 use Rattle.record.specs.Ranges.{brought}
 use Rattle.record.specs.Numbers.{refusedBytes, refusedObject, refusedAbsent}
 use Rattle.terminal.specs.declared.Said.{Said}
-use Rattle.terminal.specs.declared.Loading.{Loading}
 
 -- ---- a run of whole primitive objects
 
@@ -143,9 +142,10 @@ abbrev pub leftOf : List ℕ → Loaded → List ℕ
 leftOf b (refusal n) = b
 leftOf b (loaded c) = c
 
-pub record Loads (r : Loading) (b : List ℕ) (x : Loaded) : Type 0 where
-  pub said : r .said ≡ saidOf x
-  pub store : r .store .bytes ≡ leftOf b x
+-- what is said, and the store c that is left of b
+pub record Loads (r : Said) (c b : List ℕ) (x : Loaded) : Type 0 where
+  pub said : r ≡ saidOf x
+  pub store : c ≡ leftOf b x
 
 -- ---- what holds of it, proved in proofs/ (Run, Laws, Twice, Examples) for all stores, bytes and objects
 --   unroll             run s ≡ nextObject run s: the number of objects allowed does not matter

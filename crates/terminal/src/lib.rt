@@ -1,12 +1,11 @@
 // The start bytes of a session into a store, or the refusal that they meet.
 //
 // `load` first finds whether the bytes are a run of whole primitive objects, then sets the objects one
-// after the other in a working copy, then sees that all that a start must bring is there. The store
-// that came in is handed back unless every step passed.
+// after the other in a working copy, then sees that all that a start must bring is there. The store is
+// written only where every step passed.
 use dictionary::Found;
 use dictionary::SIZE;
 use record::Refusal;
-use store::Store;
 use tlv::Front;
 ghost use mathlib.Core.Path.{_≡_};
 ghost use lib.ListN.{length};
@@ -19,46 +18,37 @@ pub enum Said {
     Refused(Refusal),
 }
 
-// A loading: what it says, and the store.
-pub struct Loading {
-    pub said: Said,
-    pub store: Store,
-}
-
 // The most start bytes.
 const MOST: usize = 1024;
 
 // The start bytes into a store.
-pub fn load(store: Store, terminal: &[u8]) -> Loading
-    ensures { λ r. ⌜ Loads r (store .bytes) (loadOf (store .bytes) (now (terminal .entry))) ⌝ }
+pub fn load(store: &mut [u8; SIZE], terminal: &[u8]) -> Said
+    requires { ⌜ length (now store) ≡ storeSize ⌝ }
+    ensures given { λ r. ⌜ Loads r (now (store .exit)) (now (store .entry)) (loadOf (now (store .entry)) (now (terminal .entry))) ⌝ }
+    ensures sized { λ _. ⌜ length (now (store .exit)) ≡ storeSize ⌝ }
 {
     if MOST < terminal.len() {
-        return refused(store, record::REFUSED_BYTES);
+        return refused(record::REFUSED_BYTES);
     }
     if !is_run(terminal) {
-        return refused(store, record::REFUSED_BYTES);
+        return refused(record::REFUSED_BYTES);
     }
-    let mut work = store.bytes;
+    let mut work = *store;
     if !set_objects(terminal, &mut work) {
-        return refused(store, record::REFUSED_OBJECT);
+        return refused(record::REFUSED_OBJECT);
     }
     if !record::all_brought(&work) {
-        return refused(store, record::REFUSED_ABSENT);
+        return refused(record::REFUSED_ABSENT);
     }
-    Loading {
-        said: Said::Taken,
-        store: Store { bytes: work },
-    }
+    *store = work;
+    Said::Taken
 }
 
-// A refusal hands the store back as it came.
-fn refused(store: Store, number: u8) -> Loading
-    ensures { λ r. ⌜ (r .said ≡ Said.Refused (record { number = number })) × (r .store ≡ store) ⌝ }
+// A refusal by its number.
+fn refused(number: u8) -> Said
+    ensures { λ r. ⌜ r ≡ Said.Refused (record { number = number }) ⌝ }
 {
-    Loading {
-        said: Said::Refused(Refusal { number }),
-        store,
-    }
+    Said::Refused(Refusal { number })
 }
 
 // The primitive object at the front; a template is none.

@@ -1,83 +1,36 @@
--- `reading::read_body` meets its contract. One object with no byte behind it, and then by its kind.
+-- `reading::read_body` meets its contract. The verdict decides between the working copy and the store as it was.
 -- Assumes nothing.
-use mathlib.Core.Path.{_≡_, refl, sym, ap, _∙_}
-use mathlib.Core.List.{List}
-use mathlib.Core.Option.{some}
-use Prim.Native.Nat.{ℕ, _+_, _*_, _≤_}
+use mathlib.Core.Path.{_≡_, refl, sym, ap}
+use mathlib.Core.Logic.{⊎-elim}
+use mathlib.Core.List.{List, [], _∷_}
+use Prim.Native.Nat.{ℕ}
 use native.Mathlib.Omega.{arith}
-use lib.ListN.{length, length-take, length-drop}
-use Rattle.tlv.specs.Tree.{parse}
-use Rattle.tlv.proofs.Laws.{HeaderFits, header-fits, contents-is}
-use Rattle.reading.specs.declared.Reading.{Reading}
+use types.Run.{OneOf}
+use denote.Enum.Declared.{tagOf}
+use Rattle.reading.specs.declared.Verdict.{Verdict}
 use Rattle.reading.specs.declared.Verdict.the-variants.{Accepted, BadStatus, Malformed, NotAllowed}
-use Rattle.reading.specs.Answer.{primitive, templateBody, readTree}
-use Rattle.reading.proofs.Parts.{gives, regive, body-read, body-broken, body-behind, body-template, body-primitive}
+use Rattle.reading.specs.Answer.{storeAfter}
+use Rattle.reading.proofs.Verdict.{the-type}
+use Rattle.reading.proofs.Parts.{restore}
 use borrow.Author.Needs.{needs}
 use Rattle.reading.proofs.read_body.Statement.{statement}
 use Rattle.reading.proofs.read_body.Tie as tie
 
+as-it-was : (b w : List ℕ) (v : Verdict) → OneOf (1 ∷ 2 ∷ 3 ∷ []) (tagOf the-type v) → b ≡ storeAfter b w v
+as-it-was b w Accepted h = absurd (⊎-elim (λ x. omega arith) (λ r. ⊎-elim (λ x. omega arith) (λ x. omega arith) r) h)
+as-it-was b w BadStatus h = refl
+as-it-was b w Malformed h = refl
+as-it-was b w NotAllowed h = refl
+
 returns : tie.Need-returns
 returns c =
-    let a = c .before .before .before .before .before .args in
-    let n : c .made .result .objects ≡ 0 = ap (λ (x : Reading). x .objects) (c .made .ensures) in
-    (gives Malformed 0 (a .store) (c .made .ensures) (body-read (a .awaited) (a .store .bytes) (a .body .now) (body-broken (a .body .now) (sym (c .before .before .before .head .ensures) ∙ c .before .enum-told .given .1))), omega arith)
-
-add-e : tie.Need-add-e
-add-e c =
-    let f = header-fits _ _ (sym (c .before .before .before .before .head .ensures) ∙ c .before .before .front .given .1) in omega arith
+    let r = c .before .read-object in
+    (restore (as-it-was _ _ (r .result .verdict) (c .match .keys2)) (r .ensures .0), (c .before .before .before .before .before .pre, r .ensures .1 .1))
 
 returns-2 : tie.Need-returns-2
 returns-2 c =
-    let a = c .before .before .before .before .before .before .before .before .args in
-    let f = c .before .before .before .before .front .given in
-    let e = sym (c .before .before .before .before .before .before .head .ensures) ∙ f .1 in
-    let n : c .made2 .result .objects ≡ 0 = ap (λ (x : Reading). x .objects) (c .made2 .ensures) in
-    (gives Malformed 0 (a .store) (c .made2 .ensures) (body-read (a .awaited) (a .store .bytes) (a .body .now) (body-behind (a .body .now) (f .0 .0) e (c .before .if1 .taken))), omega arith)
-
-returns-3 : tie.Need-returns-3
-returns-3 c =
-    let a = c .before .before .before .before .before .before .before .before .before .before .args in
-    let f = c .before .before .before .before .before .before .front .given in
-    let e = sym (c .before .before .before .before .before .before .before .before .head .ensures) ∙ f .1 in
-    let fit = header-fits _ _ e in
-    let r = c .read-template in
-    let h = rw (contents-is (a .body .now) (f .0 .0 .start) (f .0 .0 .len)) at (r .ensures .1) in
-    let l = simp (length-take, length-drop) at h in
-    let z : f .0 .0 .start + f .0 .0 .len ≡ length (a .body .now) = c .before .before .before .if1 .left in (
-      regive (ap (λ (v : List ℕ). readTree (a .awaited) (a .store .bytes) (templateBody (f .0 .0 .tag) (parse 3 v))) (contents-is (a .body .now) (f .0 .0 .start) (f .0 .0 .len))
-          ∙ sym (body-read (a .awaited) (a .store .bytes) (a .body .now) (body-template (a .body .now) (f .0 .0) e z (c .before .if2 .taken)))) (r .ensures .0),
-      omega arith,
-    )
-
-returns-4 : tie.Need-returns-4
-returns-4 c =
-    let a = c .before .before .before .before .before .before .before .before .before .before .args in
-    let f = c .before .before .before .before .before .before .front .given in
-    let e = sym (c .before .before .before .before .before .before .before .before .head .ensures) ∙ f .1 in
-    let fit = header-fits _ _ e in
-    let r = c .read-primitive in
-    let z : f .0 .0 .start + f .0 .0 .len ≡ length (a .body .now) = c .before .before .before .if1 .left in (
-      regive (ap (λ (v : List ℕ). readTree (a .awaited) (a .store .bytes) (some (primitive (f .0 .0 .tag) v))) (contents-is (a .body .now) (f .0 .0 .start) (f .0 .0 .len))
-          ∙ sym (body-read (a .awaited) (a .store .bytes) (a .body .now) (body-primitive (a .body .now) (f .0 .0) e z (c .before .if2 .left)))) (r .ensures .0),
-      omega arith,
-    )
+    let r = c .before .before .read-object in
+    (restore (sym (ap (storeAfter _ _) (c .enum-told .given .1))) (r .ensures .0), r .ensures .1)
 
 pub read-body-spec : {M : Type 1} → statement M
-read-body-spec =
-    tie.close
-    (tie.spec
-    (λ c κs. search needs)
-    (λ c. search needs)
-    (λ c. search needs)
-    (λ c κs. search needs)
-    returns
-    add-e
-    (λ c κs. search needs)
-    returns-2
-    (λ c. search needs)
-    (λ c. search needs)
-    (λ c. search needs)
-    (λ c κs. search needs)
-    returns-3
-    (λ c κs. search needs)
-    returns-4)
+read-body-spec = tie.close (tie.spec (λ c κs. search needs) (λ c. search needs) returns returns-2)

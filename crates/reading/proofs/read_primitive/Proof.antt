@@ -1,14 +1,10 @@
 -- `reading::read_primitive` meets its contract. By the tag, and then by the answer awaited.
 -- Assumes nothing.
-use mathlib.Core.Path.{_≡_, refl, sym, ap, _∙_}
-use mathlib.Core.List.{List}
-use mathlib.Core.Option.{Option}
-use Prim.Native.Nat.{ℕ}
+use mathlib.Core.Path.{sym, ap, _∙_}
 use Rattle.reading.specs.declared.Awaited.{Awaited}
 use Rattle.reading.specs.declared.Reading.{Reading}
-use Rattle.reading.specs.declared.Verdict.the-variants.{Accepted, BadStatus, Malformed, NotAllowed}
-use Rattle.reading.specs.Taking.{Item}
-use Rattle.reading.specs.Answer.{takenParts, primitiveParts}
+use Rattle.reading.specs.declared.Verdict.the-variants.{Malformed}
+use Rattle.reading.specs.Answer.{storeAfter, takenParts, primitiveParts}
 use Rattle.reading.proofs.Parts.{gives, regive, wrong-tag, as-options, as-cryptogram, as-record}
 use borrow.Author.Needs.{needs}
 use Rattle.reading.proofs.read_primitive.Statement.{statement}
@@ -16,30 +12,32 @@ use Rattle.reading.proofs.read_primitive.Tie as tie
 
 returns : tie.Need-returns
 returns c =
-    let a = c .before .before .before .args in
-    (gives Malformed 1 (a .store) (c .made .ensures) (ap (takenParts (a .awaited) (a .store .bytes) 1) (wrong-tag (a .tag) (a .value .now) (a .awaited) (c .before .if1 .taken))), ap (λ (x : Reading). x .objects) (c .made .ensures))
+    let st = c .before .before .before in
+    let a = st .args in
+    (gives Malformed 1 (storeAfter (a .work .now) _) (c .made .ensures) (ap (takenParts (a .awaited) (a .work .now) 1) (wrong-tag (a .tag) (a .value .now) (a .awaited) (c .before .if1 .taken))), (st .pre, ap (λ (x : Reading). x .objects) (c .made .ensures)))
 
 returns-2 : tie.Need-returns-2
 returns-2 c =
-    let a = c .before .before .before .before .before .args in (
-      regive (ap (takenParts _ (a .store .bytes) 1) (sym (as-options (a .tag) (a .value .now) (c .before .before .before .if1 .left)))
-          ∙ ap (λ (w : Awaited). takenParts w (a .store .bytes) 1 (primitiveParts w (a .tag) (a .value .now))) (sym (c .before .enum-told .given .1))) (c .read-options .ensures .0),
+    let a = c .before .before .before .before .before .before .args in (
+      regive (ap (takenParts _ (a .work .now) 1) (sym (as-options (a .tag) (a .value .now) (c .before .before .before .before .if1 .left)))
+          ∙ ap (λ (w : Awaited). takenParts w (a .work .now) 1 (primitiveParts w (a .tag) (a .value .now))) (sym (c .before .before .enum-told .given .1))) (c .read-options .ensures .0),
       c .read-options .ensures .1,
     )
 
 returns-3 : tie.Need-returns-3
 returns-3 c =
-    let a = c .before .before .before .before .before .args in (
-      gives Malformed 1 (a .store) (c .made2 .ensures)
-          (ap (λ (w : Awaited). takenParts w (a .store .bytes) 1 (primitiveParts w (a .tag) (a .value .now))) (c .before .enum-told2 .given .1) ∙ ap (takenParts _ (a .store .bytes) 1) (as-record (a .tag) (a .value .now) _)),
-      ap (λ (x : Reading). x .objects) (c .made2 .ensures),
+    let st = c .before .before .before .before .before in
+    let a = st .args in (
+      gives Malformed 1 (storeAfter (a .work .now) _) (c .made2 .ensures)
+          (ap (λ (w : Awaited). takenParts w (a .work .now) 1 (primitiveParts w (a .tag) (a .value .now))) (c .before .enum-told2 .given .1) ∙ ap (takenParts _ (a .work .now) 1) (as-record (a .tag) (a .value .now) _)),
+      (st .pre, ap (λ (x : Reading). x .objects) (c .made2 .ensures)),
     )
 
 returns-4 : tie.Need-returns-4
 returns-4 c =
-    let a = c .before .before .before .before .before .args in (
-      regive (ap (takenParts _ (a .store .bytes) 1) (sym (as-cryptogram (a .tag) (a .value .now) (c .before .before .before .if1 .left)))
-          ∙ ap (λ (w : Awaited). takenParts w (a .store .bytes) 1 (primitiveParts w (a .tag) (a .value .now))) (sym (c .before .enum-told3 .given .1))) (c .read-cryptogram .ensures .0),
+    let a = c .before .before .before .before .before .before .args in (
+      regive (ap (takenParts _ (a .work .now) 1) (sym (as-cryptogram (a .tag) (a .value .now) (c .before .before .before .before .if1 .left)))
+          ∙ ap (λ (w : Awaited). takenParts w (a .work .now) 1 (primitiveParts w (a .tag) (a .value .now))) (sym (c .before .before .enum-told3 .given .1))) (c .read-cryptogram .ensures .0),
       c .read-cryptogram .ensures .1,
     )
 

@@ -6,48 +6,51 @@ use mathlib.Core.Bool.{true}
 use Rattle.basics.specs.Choice.{both}
 use Rattle.locator.specs.declared.Found.{Found}
 use Rattle.record.proofs.Tags.{located-no, located-yes}
+use Rattle.record.specs.declared.Phase.{Phase}
+use Rattle.record.specs.declared.Session.{Session}
 use Rattle.record.specs.Held.{holds}
 use Rattle.record.specs.Ranges.{emvMode}
-use Rattle.record.specs.Session.{stored}
+use Rattle.record.specs.Session.{sessionOf}
 use Rattle.session.specs.Answer.{askFound, optionsRead}
 use Rattle.session.proofs.Laws.{did-as, did-quiet, is-complete, is-missing, is-emv, is-stripe, found-as, found-there, options-missing, options-mode, options-locator, options-ask}
 use Rattle.session.proofs.after_options.Statement.{statement}
 use Rattle.session.proofs.after_options.Tie as tie
 
+-- the session's parts as a record
+abbrev session : tie.After-options-there → Session
+session c = let a = c .before .before .before .args in sessionOf Phase.Options (a .count) (a .bytes .now)
+
 -- what holds past the first test, and past the second
-there : (c : tie.After-enum-told) → let a = c .before .before .before .before .before .before .before .before .args in both (holds (stored (a .session)) 0x82) (holds (stored (a .session)) 0x94) ≡ true
+there : (c : tie.After-enum-told) → let b = c .before .before .before .before .before .args .bytes .now in both (holds b 0x82) (holds b 0x94) ≡ true
 there c = is-complete _ (c .before .before .options-there .ensures) (c .enum-told .given .1)
 
-emv : (c : tie.After-enum-told3) → let a = c .before .before .before .before .before .before .before .before .before .before .before .before .before .before .args in emvMode (stored (a .session)) ≡ true
+emv : (c : tie.After-enum-told3) → emvMode (c .before .before .before .before .before .before .before .before .args .bytes .now) ≡ true
 emv c = is-emv _ (c .before .before .mode-in .ensures) (c .enum-told3 .given .1)
 
 -- past all three, the first record decides
-asked : (c : tie.After-record-at) (x : Found) → let a = c .before .before .before .before .before .before .before .before .before .before .before .before .before .before .before .before .before .before .before .before .before .before .args in c .record-at .result ≡ x
-    → optionsRead (a .session) (a .command .now) ≡ askFound (a .session) 1 (a .command .now) x
+asked : (c : tie.After-record-at) (x : Found) → let s = session (c .before .before .before .before .before .before .before .before .before .before) in let buf = c .before .before .before .before .before .before .before .before .before .before .before .before .before .args .command .now in c .record-at .result ≡ x
+    → optionsRead s buf ≡ askFound s 1 buf x
 asked c x e =
-    let k = c .before in
-    let v = k .before .before .before in
-    let m = v .before .before .before .before in
-    options-ask _ _ x (there (m .before .before .before .before .before .before)) (emv m) (located-yes _ (v .value .ensures) (sym (k .before .before .check .ensures) ∙ k .enum-told5 .given .1) .0)
+    let v = c .before .before .before .before in
+    let m = c .before .before .before .before .before in
+    options-ask (session (c .before .before .before .before .before .before .before .before .before .before)) _ x (there (m .before .before .before)) (emv m) (located-yes _ (v .value .ensures) (sym (c .before .before .before .check .ensures) ∙ c .before .enum-told5 .given .1) .0)
     (found-as (c .record-at .ensures) e _ 1 (v .value .ensures) refl)
 
 returns : tie.Need-returns
-returns c = did-quiet (options-missing _ _ (is-missing _ (c .before .before .before .options-there .ensures) (c .before .enum-told2 .given .1))) (c .fails .ensures)
+returns c = did-quiet _ (c .fails .ensures) (options-missing (session (c .before .before .before)) _ (is-missing _ (c .before .before .before .options-there .ensures) (c .before .enum-told2 .given .1)))
 
 returns-2 : tie.Need-returns-2
 returns-2 c =
-    let m = c .before .before .before in
-    did-quiet (options-mode _ _ (there (m .before .before .before .before)) (is-stripe _ (m .mode-in .ensures) (c .before .enum-told4 .given .1))) (c .fails2 .ensures)
+    did-quiet _ (c .fails2 .ensures) (options-mode (session (c .before .before .before .before .before .before)) _ (there (c .before .before .before .before)) (is-stripe _ (c .before .before .before .mode-in .ensures) (c .before .enum-told4 .given .1)))
 
 returns-3 : tie.Need-returns-3
 returns-3 c =
-    let v = c .before .before .before .before in
-    let m = v .before .before .before .before in
-    did-quiet (options-locator _ _ (there (m .before .before .before .before .before .before)) (emv m) (located-no _ (v .value .ensures) (sym (c .before .before .before .check .ensures) ∙ c .before .enum-told6 .given .1)))
-    (c .fails3 .ensures)
+    let m = c .before .before .before .before .before in
+    did-quiet _ (c .fails3 .ensures)
+    (options-locator (session (m .before .before .before .before .before)) _ (there (m .before .before .before)) (emv m) (located-no _ (c .before .before .before .before .value .ensures) (sym (c .before .before .before .check .ensures) ∙ c .before .enum-told6 .given .1)))
 
 returns-4 : tie.Need-returns-4
-returns-4 c = did-quiet (asked (c .before .before .before) Found.Nothing (c .before .enum-told7 .given .1)) (c .fails4 .ensures)
+returns-4 c = did-quiet _ (c .fails4 .ensures) (asked (c .before .before .before) Found.Nothing (c .before .enum-told7 .given .1))
 
 ask-record-requires : tie.Need-ask-record-requires
 ask-record-requires c κs = (search needs, found-there _ _ (c .before .before .before .before .record-at .ensures) (c .before .before .wanted .given .1) .0)
@@ -55,7 +58,7 @@ ask-record-requires c κs = (search needs, found-there _ _ (c .before .before .b
 returns-5 : tie.Need-returns-5
 returns-5 c =
     let w = c .before .before .before .before .before in
-    did-as (asked (w .before .before) (Found.At (w .wanted .given .0 .0)) (w .wanted .given .1)) (c .before .before .ask-record .ensures)
+    did-as (asked (w .before .before) (Found.At (w .wanted .given .0 .0)) (w .wanted .given .1)) (c .before .before .ask-record .ensures Phase.Options _)
 
 pub after-options-spec : {M : Type 1} → statement M
 after-options-spec =

@@ -4,28 +4,33 @@ use borrow.Author.Needs.{needs}
 use mathlib.Core.Path.{_≡_}
 use mathlib.Core.Bool.{false}
 use Rattle.analysis.specs.Action.{aboveLimit}
-use Rattle.record.specs.Session.{stored}
+use Rattle.record.specs.Session.{sessionOf}
 use Rattle.session.proofs.Laws.{did-as, did-quiet, is-complete, is-missing, is-above, is-within, records-limit, records-missing, records-analysed}
 use Rattle.session.proofs.after_records.Statement.{statement}
 use Rattle.session.proofs.after_records.Tie as tie
 
 -- what holds past the first test
-within : (c : tie.After-enum-told) → let a = c .before .before .before .before .before .before .before .before .args in aboveLimit (stored (a .session)) ≡ false
+within : (c : tie.After-enum-told) → aboveLimit (c .before .before .before .before .before .before .args .store .now) ≡ false
 within c = is-within _ (c .before .before .limit-in .ensures) (c .enum-told .given .1)
 
 returns : tie.Need-returns
-returns c = did-quiet (records-limit _ _ (is-above _ (c .before .before .before .limit-in .ensures) (c .before .enum-told2 .given .1))) (c .fails .ensures)
+returns c = λ p.
+    let a = c .before .before .before .before .before .before .before .args in
+    did-quiet _ (c .fails .ensures) (records-limit (sessionOf p (a .count) (a .store .now)) _ (is-above _ (c .before .before .before .limit-in .ensures) (c .before .enum-told2 .given .1)))
 
 returns-2 : tie.Need-returns-2
-returns-2 c =
+returns-2 c = λ p.
     let k = c .before .before .before in
-    did-quiet (records-missing _ _ (within (k .before .before .before .before)) (is-missing _ (k .card-complete .ensures) (c .before .enum-told4 .given .1))) (c .fails2 .ensures)
+    let a = k .before .before .before .before .before .before .before .before .before .args in
+    did-quiet _ (c .fails2 .ensures)
+    (records-missing (sessionOf p (a .count) (a .store .now)) _ (within (k .before .before .before)) (is-missing _ (k .card-complete .ensures) (c .before .enum-told4 .given .1)))
 
 returns-3 : tie.Need-returns-3
-returns-3 c =
-    let t = c .before .before .before .before in
-    let k = t .before .before in
-    did-as (records-analysed _ _ (within (k .before .before .before .before)) (is-complete _ (k .card-complete .ensures) (t .enum-told3 .given .1))) (c .before .before .analyse .ensures)
+returns-3 c = λ p.
+    let k = c .before .before .before .before .before .before .before in
+    let a = k .before .before .before .before .before .before .before .before .before .args in
+    did-as (records-analysed (sessionOf p (a .count) (a .store .now)) _ (within (k .before .before .before)) (is-complete _ (k .card-complete .ensures) (c .before .before .before .before .before .enum-told3 .given .1)))
+    (c .before .before .analyse .ensures p)
 
 pub after-records-spec : {M : Type 1} → statement M
 after-records-spec =

@@ -1,78 +1,14 @@
--- `session::answer` meets its contract: the two refusals by their laws; past them the record keeps its ranges and the phase decides.
+-- `session::answer` meets its contract: that of `answer_in`, with the store that it left.
 -- Assumes nothing.
 use borrow.Author.Needs.{needs}
-use borrow.Author.Tests.{not-true, not-false}
-use mathlib.Core.Path.{_≡_, sym, ap, _∙_}
-use mathlib.Core.Bool.{true}
-use native.Mathlib.Omega.{arith}
-use Rattle.record.specs.declared.Phase.{Phase}
-use Rattle.record.specs.Ranges.{inRanges}
-use Rattle.record.proofs.Phases.{count-most}
-use Rattle.session.specs.Answer.{answerIn, answerStep}
-use Rattle.session.proofs.Laws.{did-as, did-quiet, admitted-short, admitted-ranges, admitted-in}
+use mathlib.Core.Path.{_∙_}
 use Rattle.session.proofs.answer.Statement.{statement}
 use Rattle.session.proofs.answer.Tie as tie
 
--- past the refusals the record keeps its ranges, and the phase decides
-ranged : (c : tie.Else2) → inRanges (c .before .before .before .before .before .args .session) ≡ true
-ranged c = sym (c .before .in-ranges .ensures) ∙ not-false _ (c .if2 .left)
-
-by-phase : (c : tie.Else2) (p : Phase) → let a = c .before .before .before .before .before .args in a .session .phase ≡ p
-    → answerStep (a .session) (a .card .now) (a .command .now) ≡ answerIn p (a .session) (a .card .now) (a .command .now)
-by-phase c p e =
-    let a = c .before .before .before .before .before .args in
-    admitted-in _ _ _ _ (c .before .before .if1 .left) (ranged c) ∙ ap (λ (q : Phase). answerIn q (a .session) (a .card .now) (a .command .now)) e
-
 returns : tie.Need-returns
-returns c = did-quiet (admitted-short _ _ _ _ (c .before .if1 .taken)) (c .refused .ensures)
-
-returns-2 : tie.Need-returns-2
-returns-2 c = did-quiet (admitted-ranges _ _ _ _ (c .before .before .before .if1 .left) (sym (c .before .before .in-ranges .ensures) ∙ not-true _ (c .before .if2 .taken))) (c .refused2 .ensures)
-
-take-options-requires : tie.Need-take-options-requires
-take-options-requires c κs = (search needs, omega (arith, count-most _ (ranged (c .before .before .before))))
-
-take-record-requires : tie.Need-take-record-requires
-take-record-requires c κs = (search needs, omega (arith, count-most _ (ranged (c .before .before .before .before))))
-
-returns-3 : tie.Need-returns-3
-returns-3 c = did-quiet (by-phase (c .before .before .before) _ (c .before .enum-told .given .1)) (c .refused3 .ensures)
-
-returns-4 : tie.Need-returns-4
-returns-4 c = did-as (by-phase (c .before .before .before .before .before .before) _ (c .before .before .before .before .enum-told2 .given .1)) (c .before .before .take-options .ensures)
-
-returns-5 : tie.Need-returns-5
-returns-5 c = did-as (by-phase (c .before .before .before .before .before .before .before) _ (c .before .before .before .before .before .phase .given .1)) (c .before .before .take-record .ensures)
-
-returns-6 : tie.Need-returns-6
-returns-6 c = did-quiet (by-phase (c .before .before .before .before) _ (c .before .before .phase2 .given .1)) (c .take-cryptogram .ensures)
-
-returns-7 : tie.Need-returns-7
-returns-7 c = did-quiet (by-phase (c .before .before .before) _ (c .before .enum-told3 .given .1)) (c .refused4 .ensures)
+returns c =
+    let d = c .before .before .before .answer-in .ensures .0 in
+    record { reply = c .reply-of .ensures ∙ d .reply; buffer = d .buffer }
 
 pub answer-spec : {M : Type 1} → statement M
-answer-spec =
-    tie.close
-    (tie.spec
-    (λ c κs. search needs)
-    returns
-    (λ c κs. search needs)
-    (λ c κs. search needs)
-    returns-2
-    (λ c. search needs)
-    (λ c κs. search needs)
-    (λ c. search needs)
-    take-options-requires
-    (λ c. search needs)
-    take-record-requires
-    (λ c. search needs)
-    (λ c κs. search needs)
-    (λ c. search needs)
-    (λ c κs. search needs)
-    returns-3
-    (λ c. search needs)
-    returns-4
-    (λ c. search needs)
-    returns-5
-    returns-6
-    returns-7)
+answer-spec = tie.close (tie.spec (λ c κs. search needs) (λ c κs. search needs) (λ c. search needs) returns)

@@ -6,8 +6,7 @@ use Prim.Native.Nat.{ℕ}
 use Rattle.data_list.specs.Commands.{written, bufferWith, generateAc}
 use Rattle.analysis.specs.Choice.{p1Of}
 use Rattle.record.specs.declared.Phase.{Phase}
-use Rattle.record.specs.Session.{stored, commandsReply}
-use Rattle.record.specs.declared.Session.{Session}
+use Rattle.record.specs.Session.{sessionOf}
 use Rattle.session.specs.Answer.{askCryptogram}
 use Rattle.session.proofs.Laws.{handed-none, handed-some}
 use Rattle.session.proofs.ask_cryptogram.Statement.{statement}
@@ -15,25 +14,25 @@ use Rattle.session.proofs.ask_cryptogram.Tie as tie
 
 returns : tie.Need-returns
 unfolding askCryptogram
-returns c =
+returns c = λ q.
     let g = c .before .before .before .before .before in
-    let a = c .before .before .before .before .before .before .before .before .before .before .before .before .before .args in
-    let p = g .before .before .before .before .before .p1 .ensures in
-    handed-none (a .session) (Phase.Cryptogram (record { choice = a .choice })) (a .command .now) (generateAc (p1Of (a .choice)) (stored (a .session)))
-    (g .generate-ac .ensures .0 ∙ ap (λ (n : ℕ). written (generateAc n (stored (a .session)))) p)
-    (g .generate-ac .ensures .1 ∙ ap (λ (n : ℕ). bufferWith (generateAc n (stored (a .session))) (a .command .now)) p)
+    let a = c .before .before .before .before .before .before .before .before .before .before .args in
+    let p = c .before .before .before .before .before .before .before .p1 .ensures in
+    handed-none (sessionOf q (a .count) (a .bytes .now)) (Phase.Cryptogram (record { choice = a .choice })) (a .command .now) (generateAc (p1Of (a .choice)) (a .bytes .now))
+    (g .generate-ac .ensures .0 ∙ ap (λ (n : ℕ). written (generateAc n (a .bytes .now))) p)
+    (g .generate-ac .ensures .1 ∙ ap (λ (n : ℕ). bufferWith (generateAc n (a .bytes .now)) (a .command .now)) p)
     (c .before .enum-told .given .1) (c .fails .ensures)
 
 returns-2 : tie.Need-returns-2
 unfolding askCryptogram
-returns-2 c =
-    let g = c .before .before .before .before .before .before .before in
-    let a = c .before .before .before .before .before .before .before .before .before .before .before .before .before .before .before .args in
-    let p = g .before .before .before .before .before .p1 .ensures in
-    handed-some (a .session) (Phase.Cryptogram (record { choice = a .choice })) (a .command .now) (generateAc (p1Of (a .choice)) (stored (a .session)))
-    (g .generate-ac .ensures .0 ∙ ap (λ (n : ℕ). written (generateAc n (stored (a .session)))) p)
-    (g .generate-ac .ensures .1 ∙ ap (λ (n : ℕ). bufferWith (generateAc n (stored (a .session))) (a .command .now)) p)
-    (c .before .before .before .c .given .1) (c .commands .ensures ∙ ap (λ (x : Session). commandsReply x (c .before .before .before .c .given .0 .0 .len)) (c .before .waiting .ensures))
+returns-2 c = λ q.
+    let g = c .before .before .before .before .before .before in
+    let a = c .before .before .before .before .before .before .before .before .before .before .before .args in
+    let p = c .before .before .before .before .before .before .before .before .p1 .ensures in
+    handed-some (sessionOf q (a .count) (a .bytes .now)) (Phase.Cryptogram (record { choice = a .choice })) (a .command .now) (generateAc (p1Of (a .choice)) (a .bytes .now))
+    (g .generate-ac .ensures .0 ∙ ap (λ (n : ℕ). written (generateAc n (a .bytes .now))) p)
+    (g .generate-ac .ensures .1 ∙ ap (λ (n : ℕ). bufferWith (generateAc n (a .bytes .now)) (a .command .now)) p)
+    (c .before .before .c .given .1) (c .commands .ensures)
 
 pub ask-cryptogram-spec : {M : Type 1} → statement M
 ask-cryptogram-spec =
@@ -47,7 +46,6 @@ ask-cryptogram-spec =
     (λ c. search needs)
     returns
     (λ c. search needs)
-    (λ c κs. search needs)
     (λ c κs. search needs)
     (λ c. search needs)
     returns-2)

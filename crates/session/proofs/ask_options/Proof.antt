@@ -1,11 +1,9 @@
 -- `session::ask_options` meets its contract: what was written says which way `handOut` goes.
 -- Assumes nothing.
 use borrow.Author.Needs.{needs}
-use mathlib.Core.Path.{ap, _∙_}
 use Rattle.data_list.specs.Commands.{processingOptions}
-use Rattle.record.specs.Session.{stored, commandsReply}
-use Rattle.record.specs.declared.Session.{Session}
 use Rattle.record.specs.declared.Phase.{Phase}
+use Rattle.record.specs.Session.{sessionOf}
 use Rattle.session.specs.Start.{askOptions}
 use Rattle.session.proofs.Laws.{handed-none, handed-some}
 use Rattle.session.proofs.ask_options.Statement.{statement}
@@ -14,17 +12,16 @@ use Rattle.session.proofs.ask_options.Tie as tie
 returns : tie.Need-returns
 unfolding askOptions
 returns c =
-    let a = c .before .before .before .before .before .before .before .before .before .before .before .before .args in
+    let a = c .before .before .before .before .before .before .before .before .before .args in
     let g = c .before .before .before .before .before .processing-options .ensures in
-    handed-none (a .session) Phase.Options (a .command .now) (processingOptions (stored (a .session))) (g .0) (g .1) (c .before .enum-told .given .1) (c .fails .ensures)
+    handed-none (sessionOf Phase.Fresh (a .count) (a .bytes .now)) Phase.Options (a .command .now) (processingOptions (a .bytes .now)) (g .0) (g .1) (c .before .enum-told .given .1) (c .fails .ensures)
 
 returns-2 : tie.Need-returns-2
 unfolding askOptions
 returns-2 c =
-    let a = c .before .before .before .before .before .before .before .before .before .before .before .before .before .before .args in
-    let g = c .before .before .before .before .before .before .before .processing-options .ensures in
-    handed-some (a .session) Phase.Options (a .command .now) (processingOptions (stored (a .session))) (g .0) (g .1)
-    (c .before .before .before .c .given .1) (c .commands .ensures ∙ ap (λ (x : Session). commandsReply x (c .before .before .before .c .given .0 .0 .len)) (c .before .waiting .ensures))
+    let a = c .before .before .before .before .before .before .before .before .before .before .args in
+    let g = c .before .before .before .before .before .before .processing-options .ensures in
+    handed-some (sessionOf Phase.Fresh (a .count) (a .bytes .now)) Phase.Options (a .command .now) (processingOptions (a .bytes .now)) (g .0) (g .1) (c .before .before .c .given .1) (c .commands .ensures)
 
 pub ask-options-spec : {M : Type 1} → statement M
 ask-options-spec =
@@ -37,7 +34,6 @@ ask-options-spec =
     (λ c. search needs)
     returns
     (λ c. search needs)
-    (λ c κs. search needs)
     (λ c κs. search needs)
     (λ c. search needs)
     returns-2)

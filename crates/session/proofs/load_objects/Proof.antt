@@ -3,29 +3,26 @@
 use borrow.Author.Needs.{needs}
 use mathlib.Core.Path.{ap, _∙_}
 use native.Mathlib.Omega.{arith}
-use Rattle.record.specs.declared.Session.{Session}
-use Rattle.record.specs.Session.{refusedReply}
+use Rattle.record.specs.declared.Phase.{Phase}
+use Rattle.record.specs.Session.{sessionOf, refusedTurn}
 use Rattle.session.proofs.Laws.{did-as, did-quiet, results-fit, loading-refused, loading-taken}
 use Rattle.session.proofs.load_objects.Statement.{statement}
 use Rattle.session.proofs.load_objects.Tie as tie
 
 returns : tie.Need-returns
 returns c =
-    did-quiet (loading-refused _ _ _ (c .before .before .before .before .load .ensures) (c .before .before .enum-told2 .given .1))
-    (c .refused .ensures ∙ ap (refusedReply (c .before .before .before .before .before .before .before .before .args .session)) (c .before .refusal-number .ensures))
+    let a = c .before .before .before .before .before .before .before .before .args in
+    did-quiet _ (c .refused .ensures ∙ ap (refusedTurn Phase.Fresh (a .count)) (c .before .refusal-number .ensures))
+    (loading-refused (sessionOf Phase.Fresh (a .count) (a .store .now)) _ _ (c .before .before .before .before .load .ensures .0) (c .before .before .enum-told2 .given .1))
 
-with-value-requires : tie.Need-with-value-requires
-with-value-requires c κs = (omega arith, omega (arith, results-fit))
-
-ask-options-requires : tie.Need-ask-options-requires
-ask-options-requires c κs = (search needs, omega (arith, ap (λ (s : Session). s .count) (c .before .with-store .ensures)))
+put-requires : tie.Need-put-requires
+put-requires c κs = (c .before .before .before .before .load .ensures .1, (omega arith, omega (arith, results-fit)))
 
 returns-2 : tie.Need-returns-2
 returns-2 c =
-    let w = c .before .before .before .before in
-    let k = w .before in
-    let t = k .before .before .before in
-    did-as (loading-taken _ _ _ (t .before .before .load .ensures) (t .enum-told .given .1) (k .with-value .ensures) (w .with-store .ensures)) (c .before .before .ask-options .ensures)
+    let a = c .before .before .before .before .before .before .before .before .before .before .before .before .before .before .before .args in
+    did-as (loading-taken (sessionOf Phase.Fresh (a .count) (a .store .now)) _ _ (c .before .before .before .before .before .before .before .before .before .before .before .load .ensures .0) (c .before .before .before .before .before .before .before .before .before .enum-told .given .1) (c .before .before .before .before .before .before .put .ensures .0))
+    (c .before .before .ask-options .ensures)
 
 pub load-objects-spec : {M : Type 1} → statement M
 load-objects-spec =
@@ -38,8 +35,7 @@ load-objects-spec =
     (λ c κs. search needs)
     returns
     (λ c. search needs)
-    with-value-requires
+    put-requires
     (λ c κs. search needs)
-    ask-options-requires
     (λ c. search needs)
     returns-2)

@@ -1,57 +1,14 @@
--- `session::start` meets its contract: the two refusals by their laws; past them the record keeps its ranges and the phase decides.
+-- `session::start` meets its contract: that of `start_in`, with the store that it left.
 -- Assumes nothing.
 use borrow.Author.Needs.{needs}
-use borrow.Author.Tests.{not-true, not-false}
-use mathlib.Core.Path.{_≡_, refl, sym, ap, _∙_}
-use mathlib.Core.Bool.{true}
-use native.Mathlib.Omega.{arith}
-use Rattle.record.specs.declared.Phase.{Phase}
-use Rattle.record.specs.Ranges.{inRanges}
-use Rattle.record.proofs.Phases.{count-most}
-use Rattle.session.specs.Start.{startIn, startStep}
-use Rattle.session.proofs.Laws.{did-as, did-quiet, admitted-short, admitted-ranges, admitted-in, not-fresh}
+use mathlib.Core.Path.{_∙_}
 use Rattle.session.proofs.start.Statement.{statement}
 use Rattle.session.proofs.start.Tie as tie
 
--- past the refusals the record keeps its ranges, and the phase decides
-ranged : (c : tie.Else2) → inRanges (c .before .before .before .before .before .args .session) ≡ true
-ranged c = sym (c .before .in-ranges .ensures) ∙ not-false _ (c .if2 .left)
-
-by-phase : (c : tie.Else2) (p : Phase) → let a = c .before .before .before .before .before .args in a .session .phase ≡ p
-    → startStep (a .session) (a .terminal .now) (a .command .now) ≡ startIn p (a .session) (a .terminal .now) (a .command .now)
-by-phase c p e =
-    let a = c .before .before .before .before .before .args in
-    admitted-in _ _ _ _ (c .before .before .if1 .left) (ranged c) ∙ ap (λ (q : Phase). startIn q (a .session) (a .terminal .now) (a .command .now)) e
-
 returns : tie.Need-returns
-returns c = did-quiet (admitted-short _ _ _ _ (c .before .if1 .taken)) (c .refused .ensures)
-
-returns-2 : tie.Need-returns-2
-returns-2 c = did-quiet (admitted-ranges _ _ _ _ (c .before .before .before .if1 .left) (sym (c .before .before .in-ranges .ensures) ∙ not-true _ (c .before .if2 .taken))) (c .refused2 .ensures)
-
-returns-3 : tie.Need-returns-3
-returns-3 c =
-    let a = c .before .before .before .before .before .before .before .args in
-    did-quiet (by-phase (c .before .before) _ refl ∙ not-fresh (a .session .phase) (a .session) (a .terminal .now) (a .command .now) (c .before .match .keys2)) (c .refused3 .ensures)
-
-load-objects-requires : tie.Need-load-objects-requires
-load-objects-requires c κs = (search needs, omega (arith, count-most _ (ranged (c .before .before .before))))
-
-returns-4 : tie.Need-returns-4
-returns-4 c = did-as (by-phase (c .before .before .before .before .before .before) _ (c .before .before .before .before .enum-told .given .1)) (c .before .before .load-objects .ensures)
+returns c =
+    let d = c .before .before .before .start-in .ensures .0 in
+    record { reply = c .reply-of .ensures ∙ d .reply; buffer = d .buffer }
 
 pub start-spec : {M : Type 1} → statement M
-start-spec =
-    tie.close
-    (tie.spec
-    (λ c κs. search needs)
-    returns
-    (λ c κs. search needs)
-    (λ c κs. search needs)
-    returns-2
-    (λ c. search needs)
-    (λ c κs. search needs)
-    returns-3
-    load-objects-requires
-    (λ c. search needs)
-    returns-4)
+start-spec = tie.close (tie.spec (λ c κs. search needs) (λ c κs. search needs) (λ c. search needs) returns)

@@ -2,28 +2,29 @@
 -- Assumes nothing.
 use borrow.Author.Needs.{needs}
 use mathlib.Core.Path.{sym, ap, _∙_}
-use Rattle.record.specs.Session.{failsReply}
+use Rattle.reading.specs.declared.Awaited.{Awaited}
+use Rattle.record.specs.declared.Phase.{Phase}
+use Rattle.record.specs.Session.{sessionOf, failsReply, failsTurn}
 use Rattle.session.specs.Answer.{cryptogramRead, cryptogramReply}
-use Rattle.session.proofs.Laws.{accepted-yes, accepted-no}
+use Rattle.session.proofs.Laws.{reply-as, accepted-yes, accepted-no}
 use Rattle.session.proofs.take_cryptogram.Statement.{statement}
 use Rattle.session.proofs.take_cryptogram.Tie as tie
 
 returns : tie.Need-returns
 unfolding cryptogramReply
 returns c =
-    let n = c .before in
-    let r = n .before .before in
-    c .fails .ensures ∙ ap (failsReply (r .before .before .before .args .session)) (n .number .ensures)
-    ∙ sym (accepted-no _ _ _ _ _ (r .read-answer .ensures) (n .before .match .keys2))
+    let a = c .before .before .before .before .before .before .args in
+    reply-as _ (c .fails .ensures ∙ ap (failsTurn (a .count)) (c .before .number .ensures))
+    ∙ sym (accepted-no (sessionOf (Phase.Cryptogram (a .asked)) (a .count) (a .store .now)) Awaited.Cryptogram (a .card .now) failsReply (cryptogramRead (a .asked))
+    (c .before .before .before .read-answer .ensures .0) (c .before .before .match .keys2))
 
 returns-2 : tie.Need-returns-2
 unfolding cryptogramReply
 returns-2 c =
-    let w = c .before in
-    let t = w .before .before in
-    let r = t .before .before in
-    c .decide .ensures ∙ ap (cryptogramRead (r .before .before .before .args .asked)) (w .with-store .ensures)
-    ∙ sym (accepted-yes _ _ _ _ _ (r .read-answer .ensures) (t .enum-told .given .1))
+    let a = c .before .before .before .before .before .before .before .before .args in
+    c .decide .ensures
+    ∙ sym (accepted-yes (sessionOf (Phase.Cryptogram (a .asked)) (a .count) (a .store .now)) Awaited.Cryptogram (a .card .now) failsReply (cryptogramRead (a .asked))
+    (c .before .before .before .before .before .read-answer .ensures .0) (c .before .before .before .enum-told .given .1))
 
 pub take-cryptogram-spec : {M : Type 1} → statement M
 take-cryptogram-spec =
@@ -34,6 +35,5 @@ take-cryptogram-spec =
     (λ c κs. search needs)
     (λ c κs. search needs)
     returns
-    (λ c κs. search needs)
     (λ c κs. search needs)
     returns-2)
