@@ -1,0 +1,16 @@
+-- `record::is_brought` meets its contract: by the dictionary's column, and then by the length byte.
+-- Assumes nothing.
+use borrow.Author.Tests.{eq-eqb, ne-eqb}
+use mathlib.Core.Path.{sym}
+use Rattle.basics.proofs.Laws.{either-left, either-false}
+use Rattle.record.proofs.is_brought.Statement.{statement}
+use Rattle.record.proofs.is_brought.Tie as tie
+
+returns : tie.Need-returns
+returns c = sym (either-left _ _ (eq-eqb _ _ (c .if1 .taken)))
+
+returns-2 : tie.Need-returns-2
+returns-2 c = sym (either-false _ (ne-eqb _ _ (c .if1 .left)))
+
+pub is-brought-spec : {M : Type 1} → statement M
+is-brought-spec = tie.close (tie.spec returns returns-2)
