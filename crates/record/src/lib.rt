@@ -461,7 +461,7 @@ pub fn all_brought(bytes: &[u8]) -> bool
     let mut at = 0;
     let mut row = 0;
     while row < ROWS {
-        if !is_brought(musts[row], byte_at(bytes, at)) {
+        if !is_brought(musts[row], bytes, at) {
             return false;
         }
         at = at + basics::wide(greatests[row]) + 1;
@@ -470,29 +470,30 @@ pub fn all_brought(bytes: &[u8]) -> bool
     true
 }
 
-// A row's object is there, by its length byte, if a start must bring it.
-fn is_brought(must: u8, stored: u8) -> bool
-    ensures { λ r. ⌜ r ≡ either (eqb must optional) (not (eqb stored 0)) ⌝ }
+// A row's object is there, by the length byte of the place at `at`, if a start must bring it.
+fn is_brought(must: u8, bytes: &[u8], at: usize) -> bool
+    ensures { λ r. ⌜ r ≡ either (eqb must optional) (not (eqb (getD (now (bytes .entry)) at 0) 0)) ⌝ }
 {
     if must == 0 {
         return true;
     }
-    stored != 0
+    byte_at(bytes, at) != 0
 }
 
-// Every byte is zero. All are looked at, so that many are tested at once.
+// Every byte is zero: the greatest is. All are looked at, so that the compiler takes many at once.
 fn all_zero(v: &[u8]) -> bool
     ensures { λ r. ⌜ r ≡ every isZero (now (v .entry)) ⌝ }
 {
-    let mut others: usize = 0;
+    let mut most: u8 = 0;
     let mut i = 0;
     while i < v.len() {
-        if v[i] != 0 {
-            others += 1;
+        let b = v[i];
+        if most < b {
+            most = b;
         }
         i += 1;
     }
-    others == 0
+    most == 0
 }
 
 // The byte at place i, counted from 0; past the end it reads as 0.

@@ -18,7 +18,6 @@ use Rattle.record.proofs.all_brought.Statement.{statement}
 use Rattle.record.proofs.all_brought.Tie as tie
 use Rattle.record.proofs.all_brought.Reads as reads
 use Rattle.record.proofs.all_brought.Lts as lts
-use Rattle.record.proofs.byte_at.Reads as byte-at
 use Rattle.record.proofs.is_brought.Reads as is-brought
 use Rattle.dictionary.proofs.greatests.Reads as greatests
 use Rattle.dictionary.proofs.musts.Reads as musts
@@ -36,35 +35,35 @@ loop-holds c = (refl, refl)
 
 abbrev Claims : lts.Claims
 Claims =
-    ( greatests.Asked, greatests.Learnt, musts.Asked, musts.Learnt, byte-at.Asked, byte-at.Learnt, is-brought.Asked, is-brought.Learnt, wide.Asked, wide.Learnt )
+    ( greatests.Asked, greatests.Learnt, musts.Asked, musts.Learnt, is-brought.Asked, is-brought.Learnt, wide.Asked, wide.Learnt )
 
 -- where the place of the row at hand stands
 stood : (c : lts.After-wide Claims reads.Pre reads.Post Inv-loop μ-loop)
-    → Stands (c .before .before .before .before .before .loop .row) (c .before .before .before .before .before .loop .at) (c .wide .result)
+    → Stands (c .before .before .before .before .loop .row) (c .before .before .before .before .loop .at) (c .wide .result)
 stood c =
-    let lp = c .before .before .before .before .before .loop in
-    let gs = c .before .before .before .before .before .before .before .greatests in
+    let lp = c .before .before .before .before .loop in
+    let gs = c .before .before .before .before .before .before .greatests in
     stands (lp .row) (lp .at) (c .wide .result) (gs .result) (omega arith) (lp .inv .0) (gs .ensures) (c .wide .ensures .0)
 
 -- what is said by the length byte is said of the row's object
 told : (c : lts.After-is-brought Claims reads.Pre reads.Post Inv-loop μ-loop)
-    → isBrought (c .before .before .before .before .before .before .before .args .bytes .now) (rowAt (c .before .before .before .loop .row)) ≡ c .is-brought .result
+    → isBrought (c .before .before .before .before .before .before .args .bytes .now) (rowAt (c .before .before .loop .row)) ≡ c .is-brought .result
 told c =
-    let lp = c .before .before .before .loop in
-    let b = c .before .before .before .before .before .before .before .args .bytes .now in
-    let em = from-column (λ (x : Row). x .must) _ (lp .row) (c .before .before .before .before .musts .ensures) in
+    let lp = c .before .before .loop in
+    let b = c .before .before .before .before .before .before .args .bytes .now in
+    let em = from-column (λ (x : Row). x .must) _ (lp .row) (c .before .before .before .musts .ensures) in
     object-brought b (lp .row) (omega arith)
     ∙ sym (c .is-brought .ensures
-    ∙ ap₂ (λ (m n : ℕ). either (eqb m optional) (not (eqb n 0))) em (c .before .byte-at .ensures ∙ ap (λ (n : ℕ). getD b n 0) (lp .inv .0)))
+    ∙ ap₂ (λ (m n : ℕ). either (eqb m optional) (not (eqb n 0))) em (ap (λ (n : ℕ). getD b n 0) (lp .inv .0)))
 
 returns : tie.Need-returns Inv-loop μ-loop
 returns c =
-    let lp = c .before .before .before .before .loop in
+    let lp = c .before .before .before .loop in
     sym (lp .inv .1 ∙ every-no (isBrought _) rows blank (lp .row) (omega (arith, rows-length)) (told (c .before) ∙ not-true _ (c .if1 .taken)))
 
 loop-again : tie.Need-loop-again Inv-loop μ-loop
 loop-again c =
-    let lp = c .before .before .before .before .before .loop in
+    let lp = c .before .before .before .before .loop in
     ( stood c .next
     , lp .inv .1 ∙ every-yes (isBrought _) rows blank (lp .row) (omega (arith, rows-length)) (told (c .before .before) ∙ not-false _ (c .before .if1 .left)))
 
@@ -83,7 +82,6 @@ all-brought-spec =
     (λ c κs. tt)
     loop-holds
     (λ c. omega arith)
-    (λ c κs. tt)
     (λ c κs. tt)
     returns
     (λ c. omega arith)

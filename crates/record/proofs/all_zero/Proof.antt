@@ -1,14 +1,16 @@
--- `record::all_zero` meets its contract. The invariant: no byte before i is another, and the bytes from i on are zero.
+-- `record::all_zero` meets its contract. The invariant: all are zero if the greatest so far is and the bytes from i on are.
 -- Assumes nothing.
 use borrow.Author.Tests.{eq-eqb, ne-eqb}
 use mathlib.Core.Path.{_≡_, refl, sym, ap, _∙_}
 use mathlib.Core.Logic.{inl, inr}
-use Prim.Native.Nat.{ℕ, _+_, _-_, _≤_}
+use mathlib.Core.List.{List}
+use Prim.Native.Nat.{ℕ, _+_, _-_, _≤_, _<_}
 use native.Mathlib.Omega.{arith}
 use lib.Dec.{eqb}
-use lib.ListN.{length, drop}
+use lib.ListN.{length, getD, drop}
 use Rattle.basics.specs.Choice.{both, every}
 use Rattle.basics.proofs.Laws.{both-true, both-no-left, both-no-right}
+use Rattle.basics.proofs.Order.{equal-or-not}
 use Rattle.record.specs.Held.{isZero}
 use Rattle.record.proofs.Tests.{both-right-true}
 use Rattle.record.proofs.Every.{every-no, every-yes, every-done}
@@ -16,27 +18,38 @@ use Rattle.record.proofs.all_zero.Statement.{statement}
 use Rattle.record.proofs.all_zero.Tie as tie
 
 abbrev Inv-loop : tie.InvT-loop
-Inv-loop v others₀ i₀ others i = (others ≤ i) × (every isZero v ≡ both (eqb others 0) (every isZero (drop i v)))
+Inv-loop v most₀ i₀ most i = every isZero v ≡ both (eqb most 0) (every isZero (drop i v))
 
 abbrev μ-loop : tie.MeasureT-loop
-μ-loop v others₀ i₀ others i = length v - i
+μ-loop v most₀ i₀ most i = length v - i
+
+-- a byte that is no greater than the greatest so far changes nothing
+no-greater : (v : List ℕ) (i m : ℕ) → i < length v → getD v i 0 ≤ m → both (eqb m 0) (every isZero (drop i v)) ≡ both (eqb m 0) (every isZero (drop (i + 1) v))
+no-greater v i m h l =
+    elim (equal-or-not m 0) [
+      | inl e ↦ ap (both (eqb m 0)) (every-yes isZero v 0 i h (eq-eqb (getD v i 0) 0 (omega arith)))
+      | inr n ↦ both-no-left _ _ (ne-eqb m 0 n) ∙ sym (both-no-left _ _ (ne-eqb m 0 n))
+    ]
 
 loop-again : tie.Need-loop-again Inv-loop μ-loop
 loop-again c =
     let lp = c .before .before .before .loop in
     let v = c .before .before .before .before .args .v .now in
     elim (c .if1 .came) [
-      | inl w ↦ (omega arith, lp .inv .1 ∙ both-no-right _ _ (every-no isZero v 0 (lp .i) (omega arith) (ne-eqb _ _ (w .0 .taken)))
-        ∙ sym (both-no-left _ _ (ne-eqb (c .if1 .others) 0 (λ e. omega arith))))
-      | inr w ↦ (omega arith, lp .inv .1 ∙ ap (both (eqb (lp .others) 0)) (every-yes isZero v 0 (lp .i) (omega arith) (eq-eqb _ _ (w .0 .left)))
-        ∙ ap (λ (n : ℕ). both (eqb n 0) (every isZero (drop (lp .i + 1) v))) (sym (w .1)))
+      | inl w ↦
+        let lt : lp .most < getD v (lp .i) 0 = w .0 .taken in
+        let is : c .if1 .most ≡ getD v (lp .i) 0 = w .1 in
+        lp .inv ∙ both-no-right _ _ (every-no isZero v 0 (lp .i) (omega arith) (ne-eqb (getD v (lp .i) 0) 0 (λ e. omega arith)))
+        ∙ sym (both-no-left _ _ (ne-eqb (c .if1 .most) 0 (λ e. omega arith)))
+      | inr w ↦ lp .inv ∙ no-greater v (lp .i) (lp .most) (omega arith) (omega arith)
+        ∙ ap (λ (n : ℕ). both (eqb n 0) (every isZero (drop (lp .i + 1) v))) (sym (w .1))
     ]
 
 returns : tie.Need-returns Inv-loop μ-loop
 returns c =
     let lp = c .before .loop in
     let v = c .before .before .args .v .now in
-    sym (lp .inv .1 ∙ both-right-true _ (every-done isZero v 0 (lp .i) (omega arith)))
+    sym (lp .inv ∙ both-right-true _ (every-done isZero v 0 (lp .i) (omega arith)))
 
 pub all-zero-spec : {M : Type 1} → statement M
 all-zero-spec =
@@ -44,8 +57,7 @@ all-zero-spec =
     (tie.spec
     Inv-loop
     μ-loop
-    (λ c. (omega arith, sym (both-true _ refl)))
-    (λ c. omega arith)
+    (λ c. sym (both-true _ refl))
     (λ c. omega arith)
     (λ c. omega arith)
     (λ c. omega arith)
