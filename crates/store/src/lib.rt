@@ -86,14 +86,14 @@ pub fn value(bytes: &[u8], row: usize) -> &[u8]
     ensures { λ r. ⌜ now r ≡ bytesOf (valueAt rows (now (bytes .entry)) row) ⌝ }
 {
     let at = offset(row);
-    let start = at + 1;
+    let first = at + 1;
     let n = value_length(byte_in(bytes, at), row);
-    let e = start + n;
+    let e = first + n;
     if e <= bytes.len() {
-        return &bytes[start..e];
+        return &bytes[first..e];
     }
-    if start <= bytes.len() {
-        return &bytes[start..];
+    if first <= bytes.len() {
+        return &bytes[first..];
     }
     &bytes[..0]
 }
