@@ -9,9 +9,9 @@ ghost use mathlib.Core.Bool.{true};
 ghost use mathlib.Core.List.{map};
 ghost use Prim.Native.Nat.{_+_, _≤_, _<_};
 ghost use lib.ListN.{length, drop};
-ghost use Rattle.dictionary.specs.Rows.{rows, rowAt, find};
+ghost use Rattle.dictionary.specs.Rows.{Row, rows, rowAt, find};
 ghost use Rattle.dictionary.specs.Rule.{proper};
-ghost use Rattle.dictionary.specs.Form.{digitBytes, onlyFs, numeric, compressed, fitting, isDigits};
+ghost use Rattle.dictionary.specs.Form.{digitBytes, onlyFs, numeric, compressed, digitsFit, fitting, isDigits};
 ghost use Rattle.dictionary.specs.Named.{placeOf, usedTags};
 ghost use Rattle.dictionary.specs.TerminalType.{between, listed};
 
@@ -301,6 +301,31 @@ pub fn must(row: usize) -> u8
     0
 }
 
+// Columns as a whole, for a walk over all rows: an array that is read row by row is built anew each time.
+pub fn leasts() -> [u8; ROWS]
+    ensures { λ r. ⌜ r ≡ map (λ (x : Row). x .least) rows ⌝ }
+{
+    LEASTS
+}
+
+pub fn greatests() -> [u8; ROWS]
+    ensures { λ r. ⌜ r ≡ map (λ (x : Row). x .greatest) rows ⌝ }
+{
+    GREATESTS
+}
+
+pub fn forms() -> [u8; ROWS]
+    ensures { λ r. ⌜ r ≡ map (λ (x : Row). x .form) rows ⌝ }
+{
+    FORMS
+}
+
+pub fn musts() -> [u8; ROWS]
+    ensures { λ r. ⌜ r ≡ map (λ (x : Row). x .must) rows ⌝ }
+{
+    MUSTS
+}
+
 // Whether both digits of a byte are decimal.
 fn is_digits(b: u8) -> bool
     ensures { λ r. ⌜ r ≡ isDigits b ⌝ }
@@ -367,6 +392,19 @@ fn is_compressed(v: &[u8]) -> bool
     false
 }
 
+// Whether a value's digits are those of a form; the form b asks nothing.
+pub fn digits_fit(form: u8, v: &[u8]) -> bool
+    ensures { λ r. ⌜ r ≡ digitsFit form (now (v .entry)) ⌝ }
+{
+    if form == FORM_N {
+        return is_numeric(v);
+    }
+    if form == FORM_CN {
+        return is_compressed(v);
+    }
+    true
+}
+
 // Whether a value's length and digits fit a row.
 pub fn fits(row: usize, v: &[u8]) -> bool
     ensures { λ r. ⌜ r ≡ fitting (rowAt row) (now (v .entry)) ⌝ }
@@ -377,14 +415,7 @@ pub fn fits(row: usize, v: &[u8]) -> bool
     if greatest(row) < v.len() {
         return false;
     }
-    let form = form(row);
-    if form == FORM_N {
-        return is_numeric(v);
-    }
-    if form == FORM_CN {
-        return is_compressed(v);
-    }
-    true
+    digits_fit(form(row), v)
 }
 
 // Whether t lies from a to z, both included.

@@ -1,39 +1,97 @@
--- The object of a row fits by its length byte: 0 always, too large never, else by its value. Assumes nothing.
-use mathlib.Core.Path.{_≡_, refl, sym, ap, subst, _∙_}
-use mathlib.Core.Bool.{Bool, true, false}
-use mathlib.Core.List.{List}
-use Prim.Native.Nat.{ℕ, _+_, _≤_, _<_}
+-- The object of a row fits by what stands in its place: an absent one always, a length byte that is too large never, else by its length
+-- and its digits. Assumes nothing.
+use mathlib.Core.Path.{_≡_, refl, sym, ap, ap₂, _∙_}
+use mathlib.Core.Bool.{Bool, true, false, not}
+use mathlib.Core.List.{List, [], _∷_, map}
+use Prim.Native.Nat.{ℕ, _+_, _-_, _≤_, _<_}
 use native.Mathlib.Omega.{arith}
-use borrow.Author.Tests.{le-leb, lt-leb, ne-eqb}
-use mathlib.Core.Bool.{not}
-use Rattle.basics.proofs.Laws.{both-true, both-no-left}
-use Rattle.dictionary.specs.Rows.{Row, rows, rowAt, rowCount}
-use Rattle.dictionary.specs.Form.{fitting}
-use Rattle.store.specs.Place.{Value, absent, present, valueAt, bytesOf, isThere, lengthByte}
-use Rattle.store.proofs.Laws.{absent-is, there-is}
-use Rattle.record.specs.Ranges.{valueFits, objectFits}
-use Rattle.record.proofs.Tags.{row-found, value-is, length-is}
+use native.Mathlib.Numerals.{add-one}
+use borrow.Author.Tests.{le-leb, lt-leb}
+use lib.Dec.{leb, eqb}
+use lib.ListN.{length, getD, take, drop, length-take, length-drop}
+use Rattle.basics.specs.Choice.{both, either}
+use Rattle.basics.proofs.Laws.{both-yes, both-true, both-no-left}
+use Rattle.dictionary.specs.Rows.{Row, rows, blank, rowAt, rowCount, storeSize, optional}
+use Rattle.dictionary.specs.Form.{fitting, digitsFit}
+use Rattle.dictionary.proofs.Fit.{too-short, by-form}
+use Rattle.dictionary.proofs.Table.{column}
+use Rattle.store.specs.Place.{room, offsetIn, placeAt, valueAt, lengthByte}
+use Rattle.store.proofs.Laws.{zero-absent, held-bytes, there-is, length-byte-at}
+use Rattle.store.proofs.Places.{offset-next}
+use Rattle.store.proofs.Rows.{row-inside}
+use Rattle.record.specs.Ranges.{valueFits, placeFits, objectFits, isBrought}
+use Rattle.record.proofs.Tags.{rows-length, row-found, value-is, held-is, length-is}
+
+-- the value in a place that is not empty
+abbrev pub placed : List ℕ → List ℕ
+placed p = take (getD p 0 0 - 1) (drop 1 p)
 
 -- a value that is there fits by its bytes
-there-fits : (r : Row) (x : Value) → isThere x ≡ true → valueFits r x ≡ fitting r (bytesOf x)
-there-fits r absent e = cc
-there-fits r (present v) e = refl
+place-value : (x : Row) (p : List ℕ) → (getD p 0 0 ≡ 0 → ⊥) → getD p 0 0 ≤ room x → placeFits x p ≡ fitting x (placed p)
+unfolding placeFits
+place-value x [] ne l = absurd (ne refl)
+place-value x (n ∷ v) ne l = both-true _ (le-leb _ _ l) ∙ ap (valueFits x) (held-bytes n v ne)
 
-module _ (b : List ℕ) (k : ℕ) (h : k < rowCount) where
-  fits-in : (x : Bool) → valueFits (rowAt k) (valueAt rows b k) ≡ x → lengthByte rows b k ≤ rowAt k .greatest + 1 → objectFits b (rowAt k) ≡ x
-  unfolding objectFits
-  fits-in x e l =
-      let f = row-found k h in
-      both-true _ (le-leb _ _ (subst (λ (n : ℕ). n ≤ rowAt k .greatest + 1) (length-is b _ k f) l))
-      ∙ ap (valueFits (rowAt k)) (sym (value-is b _ k f)) ∙ e
+placed-length : (p : List ℕ) → getD p 0 0 ≤ length p → length (placed p) ≡ getD p 0 0 - 1
+placed-length p h = simp (length-take, length-drop) (omega arith)
 
-  pub fit-absent : lengthByte rows b k ≡ 0 → objectFits b (rowAt k) ≡ true
-  fit-absent e = fits-in true (ap (valueFits (rowAt k)) (absent-is rows b k e)) (omega arith)
+module _ (x : Row) (p : List ℕ) (er : room x ≡ length p) where
+  pub place-absent : getD p 0 0 ≡ 0 → placeFits x p ≡ true
+  unfolding placeFits
+  place-absent e = both-yes _ _ (le-leb (getD p 0 0) (room x) (omega arith)) (ap (valueFits x) (zero-absent p e))
 
-  pub fit-long : rowAt k .greatest + 1 < lengthByte rows b k → objectFits b (rowAt k) ≡ false
-  unfolding objectFits
-  fit-long l = both-no-left _ _ (lt-leb _ _ (subst (λ (n : ℕ). rowAt k .greatest + 1 < n) (length-is b _ k (row-found k h)) l))
+  pub place-long : length p < getD p 0 0 → placeFits x p ≡ false
+  unfolding placeFits
+  place-long l = both-no-left _ _ (lt-leb (getD p 0 0) (room x) (omega arith))
 
-  pub fit-value : (lengthByte rows b k ≡ 0 → ⊥) → lengthByte rows b k ≤ rowAt k .greatest + 1
-      → objectFits b (rowAt k) ≡ fitting (rowAt k) (bytesOf (valueAt rows b k))
-  fit-value ne l = fits-in _ (there-fits (rowAt k) (valueAt rows b k) (there-is rows b k ∙ ap not (ne-eqb _ _ ne))) l
+  pub place-short : (getD p 0 0 ≡ 0 → ⊥) → getD p 0 0 ≤ length p → getD p 0 0 - 1 < x .least → placeFits x p ≡ false
+  place-short ne l s =
+      let n = placed-length p l in
+      place-value x p ne (omega arith) ∙ too-short x (placed p) (omega arith)
+
+  pub place-digits : (getD p 0 0 ≡ 0 → ⊥) → getD p 0 0 ≤ length p → x .least ≤ getD p 0 0 - 1 → placeFits x p ≡ digitsFit (x .form) (placed p)
+  place-digits ne l s =
+      let n = placed-length p l in
+      place-value x p ne (omega arith) ∙ by-form x (placed p) (omega arith) (omega arith)
+
+-- the object of row k fits by its place
+pub object-place : (b : List ℕ) (k : ℕ) → k < rowCount → objectFits b (rowAt k) ≡ placeFits (rowAt k) (placeAt rows b k)
+unfolding objectFits placeFits valueAt lengthByte
+object-place b k h =
+    let f = row-found k h in
+    sym (ap₂ (λ (n : ℕ) (y : Bool). both (leb n (room (rowAt k))) y) (length-is b _ k f) (ap (valueFits (rowAt k)) (value-is b _ k f)))
+
+-- the object of row k is brought by its length byte
+pub object-brought : (b : List ℕ) (k : ℕ) → k < rowCount
+    → isBrought b (rowAt k) ≡ either (eqb (rowAt k .must) optional) (not (eqb (getD b (offsetIn rows k) 0) 0))
+unfolding isBrought
+object-brought b k h =
+    ap (either (eqb (rowAt k .must) optional))
+    (held-is b _ k (row-found k h) refl refl ∙ there-is rows b k ∙ ap (λ (n : ℕ). not (eqb n 0)) (length-byte-at rows b k))
+
+-- ---- a walk over the rows and their places
+
+-- the entry of a column that is held as an array
+pub from-column : (f : Row → ℕ) (l : List ℕ) (k : ℕ) → l ≡ map f rows → getD l k (f blank) ≡ f (rowAt k)
+from-column f l k e = ap (λ (x : List ℕ). getD x k (f blank)) e ∙ column f rows k
+
+-- row k's place, by where it starts and by the entry w of the greatest lengths: it lies inside, and the next one starts behind it
+pub record Stands (k at w : ℕ) : Type 0 where
+  pub inside : at + w + 1 ≤ storeSize
+  pub next : at + w + 1 ≡ offsetIn rows (k + 1)
+  pub whole : room (rowAt k) ≡ w + 1
+
+pub stands : (k at w : ℕ) (l : List ℕ) → k < rowCount → at ≡ offsetIn rows k → l ≡ map (λ (x : Row). x .greatest) rows → w ≡ getD l k 0 → Stands k at w
+stands k at w l h e c g =
+    let m : w ≡ rowAt k .greatest = g ∙ from-column (λ (x : Row). x .greatest) l k c in
+    let i = row-inside k h in
+    let n : offsetIn rows (k + 1) ≡ offsetIn rows k + room (rowAt k) =
+        ap (offsetIn rows) (add-one k) ∙ offset-next rows k (omega (arith, rows-length)) in
+    record { inside = omega arith; next = omega arith; whole = omega arith }
+
+-- the part of a store that is row k's place
+pub place-part : (b : List ℕ) (k at w : ℕ) → at ≡ offsetIn rows k → Stands k at w → take (at + w + 1 - at) (drop at b) ≡ placeAt rows b k
+unfolding placeAt
+place-part b k at w e s =
+    let n : at + w + 1 - at ≡ room (rowAt k) = omega (arith, s .whole) in
+    ap₂ (λ (i j : ℕ). take i (drop j b)) n e

@@ -5,12 +5,12 @@ use mathlib.Core.Bool.{Bool, true}
 use mathlib.Core.List.{List, [], _∷_}
 use Prim.Native.Nat.{ℕ, _+_}
 use lib.Dec.{eqb, leb}
-use lib.ListN.{length}
+use lib.ListN.{length, getD}
 use Rattle.basics.specs.Choice.{both, either, every}
 use Rattle.dictionary.specs.Rows.{Row, rows, optional, storeSize}
 use Rattle.dictionary.specs.Form.{fitting}
 use Rattle.dictionary.specs.TerminalType.{listed}
-use Rattle.store.specs.Place.{Value, absent, present, valueOf, room}
+use Rattle.store.specs.Place.{Value, absent, present, held, valueOf, room}
 use Rattle.locator.specs.Entry.{between}
 use Rattle.locator.specs.Records.{accepts, total}
 use Rattle.analysis.specs.Bits.{has}
@@ -28,6 +28,10 @@ use Rattle.record.specs.Held.{holds, lacks, bytesIn, filled, byteIn, isZ
 abbrev pub valueFits : Row → Value → Bool
 valueFits r absent = true
 valueFits r (present v) = fitting r v
+
+-- what stands in a row's place: its length byte lies in the row's room, and its value fits
+unfoldable pub placeFits : Row → List ℕ → Bool
+placeFits r p = both (leb (getD p 0 0) (room r)) (valueFits r (held p))
 
 -- the object of a row: its length byte lies in the row's room, and its value fits
 unfoldable pub objectFits : List ℕ → Row → Bool

@@ -12,13 +12,16 @@ use locator::Checked;
 use store::Store;
 ghost use mathlib.Core.Path.{_≡_};
 ghost use Prim.Native.Nat.{_<_};
-ghost use lib.ListN.{getD};
-ghost use Rattle.basics.specs.Choice.{every};
-ghost use Rattle.dictionary.specs.Rows.{rowAt, rowCount};
+ghost use mathlib.Core.Bool.{not};
+ghost use lib.Dec.{eqb};
+ghost use lib.ListN.{length, getD};
+ghost use Rattle.basics.specs.Choice.{either, every};
+ghost use Rattle.dictionary.specs.Rows.{Row, optional, storeSize};
+ghost use Rattle.store.specs.Place.{room};
 ghost use Rattle.record.specs.Numbers.{outcomeNumber, goesWith, outcomeFor};
 ghost use Rattle.record.specs.Session.{sessionOf, freshSession, waitingSession, replyOf, refusedTurn, endsTurn, failsTurn, commandsTurn};
 ghost use Rattle.record.specs.Held.{isZero};
-ghost use Rattle.record.specs.Ranges.{objectFits, allFit, isBrought, brought, unanswered as unansweredIn, emvMode, completed, running, freshRanges, optionsRanges, recordRanges, cryptogramRanges, endedRanges, inRanges};
+ghost use Rattle.record.specs.Ranges.{placeFits, allFit, brought, unanswered as unansweredIn, emvMode, completed, running, freshRanges, optionsRanges, recordRanges, cryptogramRanges, endedRanges, inRanges};
 
 // How a session ends.
 pub enum Outcome {
@@ -425,70 +428,85 @@ pub fn is_complete(bytes: &[u8]) -> bool
 
 // Every stored object fits its row.
 fn all_fit(bytes: &[u8]) -> bool
+    requires { ⌜ length (now bytes) ≡ storeSize ⌝ }
     ensures { λ r. ⌜ r ≡ allFit (now (bytes .entry)) ⌝ }
 {
+    let leasts = dictionary::leasts();
+    let greatests = dictionary::greatests();
+    let forms = dictionary::forms();
+    let mut at = 0;
     let mut row = 0;
     while row < ROWS {
-        if !row_fits(bytes, row) {
+        let next = at + basics::wide(greatests[row]) + 1;
+        if !place_fits(&bytes[at..next], leasts[row], forms[row]) {
             return false;
         }
+        at = next;
         row += 1;
     }
     true
 }
 
-// A row's object is absent, or its length byte, its length and its digits fit.
-fn row_fits(bytes: &[u8], row: usize) -> bool
-    requires { ⌜ row < rowCount ⌝ }
-    ensures { λ r. ⌜ r ≡ objectFits (now (bytes .entry)) (rowAt row) ⌝ }
+// A row's place holds nothing, or its length byte, the value's length and its digits fit.
+fn place_fits(place: &[u8], least: u8, form: u8) -> bool
+    requires { ⌜ 0 < length (now place) ⌝ }
+    ensures { λ r. ⌜ ((x : Row) → x .least ≡ least → x .form ≡ form → room x ≡ length (now (place .entry)) → r ≡ placeFits x (now (place .entry))) ⌝ }
 {
-    let stored = basics::wide(store::length_byte(bytes, row));
+    let stored = basics::wide(place[0]);
     if stored == 0 {
         return true;
     }
-    if dictionary::greatest(row) < stored - 1 {
+    if place.len() < stored {
         return false;
     }
-    dictionary::fits(row, store::value(bytes, row))
+    if stored - 1 < basics::wide(least) {
+        return false;
+    }
+    dictionary::digits_fit(form, &place[1..stored])
 }
 
 // Every object that a start must bring is there.
 pub fn all_brought(bytes: &[u8]) -> bool
     ensures { λ r. ⌜ r ≡ brought (now (bytes .entry)) ⌝ }
 {
+    let greatests = dictionary::greatests();
+    let musts = dictionary::musts();
+    let mut at = 0;
     let mut row = 0;
     while row < ROWS {
-        if !row_brought(bytes, row) {
+        if !is_brought(musts[row], bytes, at) {
             return false;
         }
+        at = at + basics::wide(greatests[row]) + 1;
         row += 1;
     }
     true
 }
 
-// A row's object is there if a start must bring it.
-fn row_brought(bytes: &[u8], row: usize) -> bool
-    requires { ⌜ row < rowCount ⌝ }
-    ensures { λ r. ⌜ r ≡ isBrought (now (bytes .entry)) (rowAt row) ⌝ }
+// A row's object is there, by the length byte of the place at `at`, if a start must bring it.
+fn is_brought(must: u8, bytes: &[u8], at: usize) -> bool
+    ensures { λ r. ⌜ r ≡ either (eqb must optional) (not (eqb (getD (now (bytes .entry)) at 0) 0)) ⌝ }
 {
-    if dictionary::must(row) == 0 {
+    if must == 0 {
         return true;
     }
-    store::is_there(bytes, row)
+    byte_at(bytes, at) != 0
 }
 
-// Every byte is zero.
+// Every byte is zero: the greatest is. All are looked at, so that the compiler takes many at once.
 fn all_zero(v: &[u8]) -> bool
     ensures { λ r. ⌜ r ≡ every isZero (now (v .entry)) ⌝ }
 {
+    let mut most: u8 = 0;
     let mut i = 0;
     while i < v.len() {
-        if v[i] != 0 {
-            return false;
+        let b = v[i];
+        if most < b {
+            most = b;
         }
         i += 1;
     }
-    true
+    most == 0
 }
 
 // The byte at place i, counted from 0; past the end it reads as 0.

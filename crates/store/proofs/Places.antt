@@ -26,6 +26,14 @@ ends [] k h = refl
 ends (r ∷ rs) zero h = absurd (omega arith)
 ends (r ∷ rs) (suc k) h = ap (λ (n : ℕ). room r + n) (ends rs k (omega arith))
 
+-- the next row's place starts behind a row's place
+pub offset-next : (table : List Row) (k : ℕ) → k < length table → offsetIn table (suc k) ≡ offsetIn table k + room (rowIn table k)
+unfolding offsetIn
+offset-next [] k h = absurd (omega arith)
+offset-next (r ∷ []) zero h = omega arith
+offset-next (r ∷ s ∷ rs) zero h = omega arith
+offset-next (r ∷ rs) (suc k) h = let ih = offset-next rs k (omega arith) in omega arith
+
 -- of two rows, the later one's place lies behind the earlier one's
 pub apart : (table : List Row) (j k : ℕ) → j < k → j < length table → offsetIn table j + room (rowIn table j) ≤ offsetIn table k
 unfolding offsetIn

@@ -6,10 +6,10 @@
 use dictionary::ROWS;
 use dictionary::SIZE;
 ghost use mathlib.Core.Path.{_≡_};
-ghost use Prim.Native.Nat.{_+_, _≤_, _<_};
-ghost use lib.ListN.{length, replicate};
+ghost use Prim.Native.Nat.{_+_, _-_, _≤_, _<_, min};
+ghost use lib.ListN.{length, getD, replicate};
 ghost use Rattle.dictionary.specs.Rows.{rows, rowAt, rowCount, storeSize};
-ghost use Rattle.store.specs.Place.{offsetIn, lengthByte, storedLength, valueAt, bytesOf, isThere, putAt};
+ghost use Rattle.store.specs.Place.{offsetIn, lengthByte, valueAt, bytesOf, isThere, putAt};
 
 pub struct Store {
     pub bytes: [u8; SIZE],
@@ -40,15 +40,21 @@ fn offset(row: usize) -> usize
     SIZE
 }
 
-// The length byte of a row's place as it stands: 0 where the object is absent, else its length + 1.
-pub fn length_byte(bytes: &[u8], row: usize) -> u8
-    ensures { λ r. ⌜ r ≡ lengthByte rows (now (bytes .entry)) row ⌝ }
+// The byte at a place, 0 past the end.
+fn byte_in(bytes: &[u8], at: usize) -> u8
+    ensures { λ r. ⌜ r ≡ getD (now (bytes .entry)) at 0 ⌝ }
 {
-    let at = offset(row);
     if at < bytes.len() {
         return bytes[at];
     }
     0
+}
+
+// The length byte of a row's place as it stands: 0 where the object is absent, else its length + 1.
+pub fn length_byte(bytes: &[u8], row: usize) -> u8
+    ensures { λ r. ⌜ r ≡ lengthByte rows (now (bytes .entry)) row ⌝ }
+{
+    byte_in(bytes, offset(row))
 }
 
 // Whether a row's object is there.
@@ -58,13 +64,13 @@ pub fn is_there(bytes: &[u8], row: usize) -> bool
     length_byte(bytes, row) != 0
 }
 
-// How many bytes a row's value has, 0 where the object is absent. A length byte that is too large for
-// its place counts as the greatest length.
-fn value_length(bytes: &[u8], row: usize) -> usize
-    ensures { λ r. ⌜ r ≡ storedLength rows (now (bytes .entry)) row ⌝ }
+// How many bytes a value has by its length byte, 0 where the object is absent. A length byte that is
+// too large for its place counts as the greatest length.
+fn value_length(stored: u8, row: usize) -> usize
+    ensures { λ r. ⌜ r ≡ min (stored - 1) (rowAt row .greatest) ⌝ }
     ensures { λ r. ⌜ r < 256 ⌝ }
 {
-    let stored = basics::wide(length_byte(bytes, row));
+    let stored = basics::wide(stored);
     let most = dictionary::greatest(row);
     if stored == 0 {
         return 0;
@@ -79,14 +85,15 @@ fn value_length(bytes: &[u8], row: usize) -> usize
 pub fn value(bytes: &[u8], row: usize) -> &[u8]
     ensures { λ r. ⌜ now r ≡ bytesOf (valueAt rows (now (bytes .entry)) row) ⌝ }
 {
-    let start = offset(row) + 1;
-    let n = value_length(bytes, row);
-    let e = start + n;
+    let at = offset(row);
+    let first = at + 1;
+    let n = value_length(byte_in(bytes, at), row);
+    let e = first + n;
     if e <= bytes.len() {
-        return &bytes[start..e];
+        return &bytes[first..e];
     }
-    if start <= bytes.len() {
-        return &bytes[start..];
+    if first <= bytes.len() {
+        return &bytes[first..];
     }
     &bytes[..0]
 }

@@ -1,36 +1,55 @@
--- `record::all_zero` meets its contract. The invariant: the bytes from here on decide.
+-- `record::all_zero` meets its contract. The invariant: all are zero if the greatest so far is and the bytes from i on are.
 -- Assumes nothing.
 use borrow.Author.Tests.{eq-eqb, ne-eqb}
-use mathlib.Core.Path.{_≡_, refl, sym, _∙_}
-use Prim.Native.Nat.{_-_}
+use mathlib.Core.Path.{_≡_, refl, sym, ap, _∙_}
+use mathlib.Core.Logic.{inl, inr}
+use mathlib.Core.List.{List}
+use Prim.Native.Nat.{ℕ, _+_, _-_, _≤_, _<_}
 use native.Mathlib.Omega.{arith}
-use lib.ListN.{length, drop}
-use Rattle.basics.specs.Choice.{every}
+use lib.Dec.{eqb}
+use lib.ListN.{length, getD, drop}
+use Rattle.basics.specs.Choice.{both, every}
+use Rattle.basics.proofs.Laws.{both-true, both-no-left, both-no-right}
+use Rattle.basics.proofs.Order.{equal-or-not}
 use Rattle.record.specs.Held.{isZero}
+use Rattle.record.proofs.Tests.{both-right-true}
 use Rattle.record.proofs.Every.{every-no, every-yes, every-done}
 use Rattle.record.proofs.all_zero.Statement.{statement}
 use Rattle.record.proofs.all_zero.Tie as tie
 
 abbrev Inv-loop : tie.InvT-loop
-Inv-loop v i₀ i = every isZero v ≡ every isZero (drop i v)
+Inv-loop v most₀ i₀ most i = every isZero v ≡ both (eqb most 0) (every isZero (drop i v))
 
 abbrev μ-loop : tie.MeasureT-loop
-μ-loop v i₀ i = length v - i
+μ-loop v most₀ i₀ most i = length v - i
 
-returns : tie.Need-returns Inv-loop μ-loop
-returns c =
-    let lp = c .before .before .before .loop in
-    sym (lp .inv ∙ every-no isZero _ 0 (lp .i) (omega arith) (ne-eqb _ _ (c .if1 .taken)))
+-- a byte that is no greater than the greatest so far changes nothing
+no-greater : (v : List ℕ) (i m : ℕ) → i < length v → getD v i 0 ≤ m → both (eqb m 0) (every isZero (drop i v)) ≡ both (eqb m 0) (every isZero (drop (i + 1) v))
+no-greater v i m h l =
+    elim (equal-or-not m 0) [
+      | inl e ↦ ap (both (eqb m 0)) (every-yes isZero v 0 i h (eq-eqb (getD v i 0) 0 (omega arith)))
+      | inr n ↦ both-no-left _ _ (ne-eqb m 0 n) ∙ sym (both-no-left _ _ (ne-eqb m 0 n))
+    ]
 
 loop-again : tie.Need-loop-again Inv-loop μ-loop
 loop-again c =
     let lp = c .before .before .before .loop in
-    lp .inv ∙ every-yes isZero _ 0 (lp .i) (omega arith) (eq-eqb _ _ (c .if1 .left))
+    let v = c .before .before .before .before .args .v .now in
+    elim (c .if1 .came) [
+      | inl w ↦
+        let lt : lp .most < getD v (lp .i) 0 = w .0 .taken in
+        let is : c .if1 .most ≡ getD v (lp .i) 0 = w .1 in
+        lp .inv ∙ both-no-right _ _ (every-no isZero v 0 (lp .i) (omega arith) (ne-eqb (getD v (lp .i) 0) 0 (λ e. omega arith)))
+        ∙ sym (both-no-left _ _ (ne-eqb (c .if1 .most) 0 (λ e. omega arith)))
+      | inr w ↦ lp .inv ∙ no-greater v (lp .i) (lp .most) (omega arith) (omega arith)
+        ∙ ap (λ (n : ℕ). both (eqb n 0) (every isZero (drop (lp .i + 1) v))) (sym (w .1))
+    ]
 
-returns-2 : tie.Need-returns-2 Inv-loop μ-loop
-returns-2 c =
+returns : tie.Need-returns Inv-loop μ-loop
+returns c =
     let lp = c .before .loop in
-    sym (lp .inv ∙ every-done isZero _ 0 (lp .i) (omega arith))
+    let v = c .before .before .args .v .now in
+    sym (lp .inv ∙ both-right-true _ (every-done isZero v 0 (lp .i) (omega arith)))
 
 pub all-zero-spec : {M : Type 1} → statement M
 all-zero-spec =
@@ -38,10 +57,9 @@ all-zero-spec =
     (tie.spec
     Inv-loop
     μ-loop
-    (λ c. refl)
+    (λ c. sym (both-true _ refl))
     (λ c. omega arith)
-    returns
     (λ c. omega arith)
     (λ c. omega arith)
     loop-again
-    returns-2)
+    returns)

@@ -3,13 +3,13 @@
 use borrow.Author.Needs.{needs}
 use mathlib.Core.Path.{_≡_, sym, ap, _∙_}
 use mathlib.Core.List.{List}
-use Prim.Native.Nat.{ℕ, _+_, _-_, _≤_, _<_}
+use Prim.Native.Nat.{ℕ, _+_, _-_, _≤_, _<_, min}
 use native.Mathlib.Omega.{arith}
-use lib.ListN.{length, take, drop, length-drop}
+use lib.ListN.{length, getD, take, drop, length-drop}
 use lib.Seq.{take-all}
-use Rattle.dictionary.specs.Rows.{rows}
+use Rattle.dictionary.specs.Rows.{rows, rowAt}
 use Rattle.store.specs.Place.{offsetIn, storedLength, bytesOf, valueAt}
-use Rattle.store.proofs.Laws.{value-bytes, no-place}
+use Rattle.store.proofs.Laws.{length-byte-at, value-bytes, no-place}
 use Rattle.store.proofs.value.Statement.{statement}
 use Rattle.store.proofs.value.Tie as tie
 
@@ -20,18 +20,27 @@ cut b k start m s l e =
     let h : offsetIn rows k < length b = omega arith in
     ap (λ (n : ℕ). take n (drop start b)) e ∙ ap (λ (n : ℕ). take (storedLength rows b k) (drop n b)) s ∙ sym (value-bytes rows b k h)
 
+-- the length that the byte at the place's start gives
+length-stored : (b : List ℕ) (k at n x : ℕ) → at ≡ offsetIn rows k → x ≡ getD b at 0 → n ≡ min (x - 1) (rowAt k .greatest) → n ≡ storedLength rows b k
+unfolding storedLength
+length-stored b k at n x ea ex en =
+    en ∙ ap (λ (m : ℕ). min (m - 1) (rowAt k .greatest)) (ex ∙ ap (λ (i : ℕ). getD b i 0) ea ∙ sym (length-byte-at rows b k))
+
 returns : tie.Need-returns
 returns c =
-    let a = c .before .before .before .before .before .args in
-    let o = c .before .before .before .offset in
+    let a = c .before .before .before .before .before .before .args in
+    let o = c .before .before .before .before .offset in
     let n = c .before .before .value-length in
+    let l = length-stored (a .bytes .now) (a .row) (o .result) (n .result) (c .before .before .before .byte-in .result) (o .ensures .0) (c .before .before .before .byte-in .ensures) (n .ensures .0) in
     cut (a .bytes .now) (a .row) (o .result + 1) (o .result + 1 + n .result - (o .result + 1)) (omega arith) (omega arith) (omega arith)
 
 returns-2 : tie.Need-returns-2
 returns-2 c =
-    let a = c .before .before .before .before .before .before .args in
+    let a = c .before .before .before .before .before .before .before .args in
     let b = a .bytes .now in
-    let o = c .before .before .before .before .offset in
+    let o = c .before .before .before .before .before .offset in
+    let m = c .before .before .before .value-length in
+    let l = length-stored b (a .row) (o .result) (m .result) (c .before .before .before .before .byte-in .result) (o .ensures .0) (c .before .before .before .before .byte-in .ensures) (m .ensures .0) in
     let n = storedLength rows b (a .row) in
     let s : length (drop (o .result + 1) b) ≤ length b - (o .result + 1) = simp length-drop (omega arith) in
     let t : length (drop (o .result + 1) b) ≤ n = simp length-drop (omega arith) in
@@ -39,7 +48,7 @@ returns-2 c =
 
 returns-3 : tie.Need-returns-3
 returns-3 c =
-    let a = c .before .before .before .before .before .before .args in
+    let a = c .before .before .before .before .before .before .before .args in
     let h : length (a .bytes .now) ≤ offsetIn rows (a .row) = omega arith in
     sym (ap bytesOf (no-place rows (a .bytes .now) (a .row) h))
 
@@ -49,6 +58,7 @@ value-spec =
     (tie.spec
     (λ c κs. search needs)
     (λ c. search needs)
+    (λ c κs. search needs)
     (λ c κs. search needs)
     (λ c. search needs)
     (λ c. search needs)

@@ -1,0 +1,13 @@
+-- `store::byte_in` meets its contract: past the end the definition reads 0 too.
+-- Assumes nothing.
+use borrow.Author.Needs.{needs}
+use mathlib.Core.Path.{sym}
+use lib.ListN.{List·getD-eq-default}
+use Rattle.store.proofs.byte_in.Statement.{statement}
+use Rattle.store.proofs.byte_in.Tie as tie
+
+returns-2 : tie.Need-returns-2
+returns-2 c = sym (List·getD-eq-default (c .before .args .bytes .now) 0 (c .if1 .left))
+
+pub byte-in-spec : {M : Type 1} → statement M
+byte-in-spec = tie.close (tie.spec (λ c. search needs) (λ c. search needs) returns-2)
