@@ -2,3 +2,4 @@ pub mod Read
 pub mod Number
 pub mod Back
 pub mod Loop
+pub mod Whole

@@ -9,7 +9,7 @@ use mathlib.Core.Option.{Option, some, none}
 use Prim.Native.Nat.{ℕ, suc, _+_, _*_, _-_, _≤_, _<_, min}
 use native.Mathlib.Omega.{arith}
 use lib.ListN.{length, take, drop, length-append, length-take, length-drop, take-append-drop}
-use lib.Seq.{take-at, drop-at, drop-drop, drop-length, take-append-add, drop-append-add, length-take-le}
+use lib.Seq.{take-at, drop-at, drop-drop, drop-length, take-length, take-append-add, drop-append-add, length-take-le}
 use lib.Dec.{eqb}
 use Rattle.basics.specs.Choice.{if}
 use Rattle.basics.proofs.Laws.{if-yes, if-no, bool-cases}
@@ -18,7 +18,7 @@ use Rattle.record.specs.declared.Session.{Session}
 use Rattle.record.specs.declared.Answer.{Answer}
 use Rattle.record.specs.declared.Reply.{Reply}
 use Rattle.record.specs.Session.{freshSession}
-use Rattle.session.specs.Steps.{Step}
+use Rattle.session.specs.Steps.{Step, Did}
 use Rattle.session.proofs.Calls.{answer-long}
 use Rattle.session.proofs.Long.{start-long}
 use Rattle.trace.specs.Calls.{Call, step, Made, made, play, final}
@@ -48,6 +48,62 @@ copied s kind n v buf h = elim (le-or-gt n 1025) [
   | inr p ↦ step-long s kind (take (min n 1025) v) (take n v) buf
     (omega (arith, length-take (min n 1025) v)) (omega (arith, length-take n v))
 ]
+
+-- the front of an array into which v was copied
+pub front-copied : (v w l rest : List ℕ) (n : ℕ) → length v ≡ n → l ≡ take (length v) v ++ w → take n (l ++ rest) ≡ v
+front-copied v w l rest n e f =
+    ap (λ (x : List ℕ). take n (x ++ rest)) (f ∙ ap (λ (x : List ℕ). x ++ w) (take-length v)) ∙ ap (take n) (append-assoc v w rest) ∙ take-at v (w ++ rest) n e
+
+-- a call made with n bytes of the copy x, and its buffer put in its place
+pub placed : {r : Reply} {b : List ℕ} (s : Session) (h : Header) (v x : List ℕ) (n : ℕ) → endOf h ≤ length v → n ≡ min (h .incoming) 1025
+    → take n x ≡ take n (drop headerSize v)
+    → Did r b (step s (callBy (h .kind) (take n x) (take (endOf h - bufferAt h) (drop (bufferAt h) v))))
+    → Did r (take (bufferAt h) v ++ (b ++ drop (endOf h - bufferAt h) (drop (bufferAt h) v))) (overBuffer v h (step s (callIn v h)))
+placed {r} {b} s h v x n i m e d =
+    record {
+      reply = d .reply ∙ ap (λ (y : Step). y .reply) same;
+      buffer = ap (λ (l : List ℕ). take (bufferAt h) v ++ (l ++ drop size (drop (bufferAt h) v))) (d .buffer ∙ ap (λ (y : Step). y .buffer) same)
+        ∙ ap (λ (l : List ℕ). take (bufferAt h) v ++ (step s (callIn v h) .buffer ++ l)) (drop-drop size (bufferAt h) v ∙ ap (λ (k : ℕ). drop k v) to);
+    }
+  where
+    size : ℕ
+    size = endOf h - bufferAt h
+
+    is-lent : size ≡ h .lent
+    is-lent = omega arith
+
+    to : bufferAt h + size ≡ endOf h
+    to = omega arith
+
+    same : step s (callBy (h .kind) (take n x) (take size (drop (bufferAt h) v))) ≡ step s (callIn v h)
+    same =
+        ap (λ (l : List ℕ). step s (callBy (h .kind) l (take size (drop (bufferAt h) v)))) (e ∙ ap (λ (k : ℕ). take k (drop headerSize v)) m)
+        ∙ copied s (h .kind) (h .incoming) (drop headerSize v) (take size (drop (bufferAt h) v)) (omega (arith, length-drop headerSize v))
+        ∙ ap (λ (k : ℕ). step s (callBy (h .kind) (take (h .incoming) (drop headerSize v)) (take k (drop (bufferAt h) v)))) is-lent
+
+reply-length : (r : Reply) → length (replyBytes r) ≡ replySize
+unfolding highFirst
+reply-length r = go (r .answer)
+  where
+    go : (a : Answer) → length (answerBytes a ++ (r .session .count ∷ [])) ≡ replySize
+    go (Answer.Command x) = refl
+    go (Answer.Outcome e) = refl
+    go (Answer.Refused x) = refl
+
+-- the call at the front is played: its header h, what it handed back, and the four bytes of its reply
+pub turned : {y : Reply} {p b q : List ℕ} (s : Session) (v r : List ℕ) (h : Header) → h ≡ headerIn v → Did y p (overBuffer v h (step s (callIn v h)))
+    → b ≡ replyBytes y → q ≡ take (length b) b ++ drop (length b) r → Turns (record { session = y .session; size = endOf h }) p q s v r
+turned {y} {p} {b} {q} s v r h e d f g =
+    let st = step s (callIn v (headerIn v)) in
+    let k : Did y p (overBuffer v (headerIn v) st) = subst (λ (x : Header). Did y p (overBuffer v x (step s (callIn v x)))) e d in
+    let n : length b ≡ replySize = ap length f ∙ reply-length y in
+    record {
+      session = ap (λ (x : Reply). x .session) (k .reply);
+      size = ap endOf e;
+      calls-after = k .buffer;
+      replies-after =
+        g ∙ ap (λ (l : List ℕ). l ++ drop (length b) r) (take-length b ∙ f ∙ ap replyBytes (k .reply)) ∙ ap (λ (m : ℕ). replyBytes (st .reply) ++ drop m r) n;
+    }
 
 -- ---- the call at the front of what is left
 
@@ -88,15 +144,6 @@ end-put c p at =
     ap (λ (l : List ℕ). take at c ++ (p ++ l)) (ap (λ (n : ℕ). drop n (drop at c)) (sym (length-drop at c)) ∙ drop-length (drop at c))
     ∙ ap (λ (l : List ℕ). take at c ++ l) (append-nil p)
 
-reply-length : (r : Reply) → length (replyBytes r) ≡ replySize
-unfolding highFirst
-reply-length r = go (r .answer)
-  where
-    go : (a : Answer) → length (answerBytes a ++ (r .session .count ∷ [])) ≡ replySize
-    go (Answer.Command x) = refl
-    go (Answer.Outcome e) = refl
-    go (Answer.Refused x) = refl
-
 -- ---- the loop: from the places `at` and `out`, playing the calls left gives what playing all gives
 
 pub record Going (c₀ r₀ : List ℕ) (all : List Call) (c r : List ℕ) (s : Session) (at out : ℕ) : Type 0 where
@@ -108,16 +155,17 @@ pub record Going (c₀ r₀ : List ℕ) (all : List Call) (c r : List ℕ) (s : 
   pub calls : leftIn c₀ (play freshSession all) ≡ take at c ++ leftIn (drop at c) (play s left)
   pub replies : repliesOf (play freshSession all) ++ drop (replySize * length all) r₀ ≡ take out r ++ (repliesOf (play s left) ++ drop (out + replySize * length left) r)
 
-pub going-start : (c r : List ℕ) (all : List Call) → callsOf c ≡ some all → replySize * length all ≤ length r → Going c r all c r freshSession 0 0
-going-start c r all e h =
+pub going-start : (c r : List ℕ) (all : List Call) (s : Session) → s ≡ freshSession → callsOf c ≡ some all → replySize * length all ≤ length r → Going c r all c r s 0 0
+going-start c r all s f e h =
+    let z : replySize * length all ≡ 0 + replySize * length all = omega arith in
     record {
       left = all;
       read = e;
       inside = omega arith;
       room = omega arith;
-      session = refl;
-      calls = refl;
-      replies = let z : replySize * length all ≡ 0 + replySize * length all = omega arith in ap (λ (n : ℕ). repliesOf (play freshSession all) ++ drop n r) z;
+      session = ap (λ (x : Session). final x all) (sym f);
+      calls = ap (λ (x : Session). leftIn c (play x all)) (sym f);
+      replies = ap (λ (x : Session). repliesOf (play x all) ++ drop (replySize * length all) r) (sym f) ∙ ap (λ (n : ℕ). repliesOf (play s all) ++ drop n r) z;
     }
 
 module _ (c₀ r₀ : List ℕ) (all : List Call) (c r : List ℕ) (s : Session) (at out : ℕ) (g : Going c₀ r₀ all c r s at out) (n : at < length c) where
@@ -142,7 +190,17 @@ module _ (c₀ r₀ : List ℕ) (all : List Call) (c r : List ℕ) (s : Session)
   pub going-room : out + replySize ≤ length r
   going-room = omega (arith, g .room, number)
 
-  module _ (t : Turn) (p q : List ℕ) (d : Turns t p q s v (drop out r)) (lp : length p ≡ length v) where
+  -- the call is played, with p and q in the places of what is left of the two slices
+  abbrev c′ : List ℕ → List ℕ
+  c′ p = take at c ++ (p ++ drop (length c - at) (drop at c))
+
+  abbrev r′ : List ℕ → List ℕ
+  r′ q = take out r ++ (q ++ drop (length r - out) (drop out r))
+
+  module _ (t : Turn) (p q : List ℕ) (d : Turns t p q s v (drop out r)) (lc : length (c′ p) ≡ length c) where
+    lp : length p ≡ length v
+    lp = omega (arith, ap length (end-put c p at), length-append (take at c) p, length-take-le at c (g .inside), length-drop at c)
+
     abbrev front-part : List ℕ
     front-part = take (bufferAt h) v ++ st .buffer
 
@@ -209,9 +267,9 @@ module _ (c₀ r₀ : List ℕ) (all : List Call) (c r : List ℕ) (s : Session)
         ∙ append-assoc (take out r) bytes _
         ∙ ap (λ (l : List ℕ). take out r ++ l) (sym (append-assoc bytes (repliesOf (play after rest)) (drop (out + (replySize + replySize * length rest)) r)))
 
-    pub going-turn : Going c₀ r₀ all (take at c ++ p) (take out r ++ q) (t .session) (at + t .size) (out + replySize)
+    turn-goes : Going c₀ r₀ all (take at c ++ p) (take out r ++ q) (t .session) (at + t .size) (out + replySize)
     unfolding play final leftIn repliesOf
-    going-turn =
+    turn-goes =
         let e : out + replySize * length (callIn v h ∷ rest) ≡ out + (replySize + replySize * length rest) = omega arith in
         record {
           left = rest;
@@ -226,6 +284,11 @@ module _ (c₀ r₀ : List ℕ) (all : List Call) (c r : List ℕ) (s : Session)
             g .replies ∙ ap (λ (x : List Call). take out r ++ (repliesOf (play s x) ++ drop (out + replySize * length x) r)) (front .is)
             ∙ ap (λ (n : ℕ). take out r ++ ((bytes ++ repliesOf (play after rest)) ++ drop n r)) e ∙ sym replies-on;
         }
+
+    pub going-turn : Going c₀ r₀ all (c′ p) (r′ q) (t .session) (at + t .size) (out + replySize)
+    going-turn =
+        subst (λ (x : List ℕ). Going c₀ r₀ all x (r′ q) (t .session) (at + t .size) (out + replySize)) (sym (end-put c p at))
+        (subst (λ (x : List ℕ). Going c₀ r₀ all (take at c ++ p) x (t .session) (at + t .size) (out + replySize)) (sym (end-put r q out)) turn-goes)
 
 pub going-end : (c₀ r₀ : List ℕ) (all : List Call) (c r : List ℕ) (s : Session) (at out : ℕ) → Going c₀ r₀ all c r s at out → length c ≤ at → Plays s c r c₀ r₀ all
 unfolding play final leftIn repliesOf

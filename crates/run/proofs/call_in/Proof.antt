@@ -1,3 +1,6 @@
+use mathlib.Core.Path.{_≡_, refl, sym, ap, subst, _∙_}
+use lib.Seq.{length-take-le}
+use Rattle.run.proofs.Loop.{placed}
 use borrow.Author.Needs.{needs}
 use Rattle.run.proofs.call_in.Statement.{statement}
 use Rattle.run.proofs.call_in.Tie as tie
@@ -29,7 +32,7 @@ array-share-prefix-incoming c = search needs
 
 -- src/lib.rt:228:32
 slice-aggregate-make : tie.Need-slice-aggregate-make
-slice-aggregate-make c = ?
+slice-aggregate-make c = sym (length-take-le (c .before .before .before .least .result) (c .before .first-bytes .result) (search needs))
 
 -- src/lib.rt:228:48
 sub-make : tie.Need-sub-make
@@ -53,7 +56,8 @@ same-length c = search needs
 
 -- src/lib.rt:220:1
 returns : tie.Need-returns
-returns c = ?
+returns c = let a = c .before .before .before .before .before .before .before .before .before .before .before .args in
+    placed (a .session) (a .header) (a .calls .now) (c .before .before .before .before .before .first-bytes .result) (c .before .before .before .before .before .before .before .least .result) (c .before .before .before .before .before .before .before .before .before .before .before .pre) (c .before .before .before .before .before .before .before .least .ensures) (c .before .before .before .before .before .first-bytes .ensures) (c .before .before .make .ensures)
 
 pub call-in-spec : {M : Type 1} → statement M
 call-in-spec =

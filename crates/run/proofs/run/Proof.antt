@@ -1,3 +1,11 @@
+use mathlib.Core.Path.{_≡_, refl, sym, ap, subst, _∙_}
+use native.Mathlib.Omega.{arith}
+use mathlib.Core.Option.{some}
+use lib.ListN.{length}
+use Rattle.run.specs.Encoding.{callsOf}
+use Rattle.run.specs.Playing.{listed}
+use Rattle.run.proofs.Back.{read-back}
+use Rattle.run.proofs.Whole.{counted-none, counted-some, ready, runs-none, runs-short, runs-played}
 use borrow.Author.Needs.{needs}
 use Rattle.run.proofs.run.Statement.{statement}
 use Rattle.run.proofs.run.Tie as tie
@@ -6,6 +14,10 @@ use Rattle.run.proofs.run.Lts as lts
 use Rattle.run.proofs.count_calls.Reads as count-calls-reads
 use Rattle.run.proofs.play_all.Reads as play-all-reads
 use Rattle.run.proofs.unplayed.Reads as unplayed-reads
+
+-- past the count the bytes are a list of so many calls
+counted : (c : tie.After-n) → let x = callsOf (c .before .before .before .before .before .before .args .calls .now) in (x ≡ some (listed x)) × (length (listed x) ≡ c .n .given .0 .0)
+counted c = counted-some _ _ (sym (c .before .before .count-calls .ensures) ∙ c .n .given .1)
 
 -- src/lib.rt:74:29
 count-calls-requires : tie.Need-count-calls-requires
@@ -29,7 +41,9 @@ same-length c = search needs
 
 -- src/lib.rt:75:9
 returns : tie.Need-returns
-returns c = ?
+returns c = let a = c .before .before .before .before .before .before .before .args in
+    (runs-none (a .calls .now) (a .replies .now) (c .unplayed .result) (c .unplayed .ensures)
+    (counted-none _ (sym (c .before .before .before .count-calls .ensures) ∙ c .before .enum-told .given .1)), read-back)
 
 -- src/lib.rt:78:9
 unplayed-requires-2 : tie.Need-unplayed-requires-2
@@ -41,11 +55,13 @@ same-length-2 c = search needs
 
 -- src/lib.rt:78:9
 returns-2 : tie.Need-returns-2
-returns-2 c = ?
+returns-2 c = let a = c .before .before .before .before .before .before .before .before .before .args in
+    let k = counted (c .before .before .before) in
+    (runs-short (a .calls .now) (a .replies .now) _ (k .0) (c .unplayed2 .result) (c .unplayed2 .ensures) (omega (arith, k .1)), read-back)
 
 -- src/lib.rt:80:9
 play-all-requires : tie.Need-play-all-requires
-play-all-requires c κs = ?
+play-all-requires c κs = let k = counted (c .before .before .before .before) in ready _ _ (k .0) (omega (arith, k .1))
 
 -- src/lib.rt:70:1
 same-length-3 : tie.Need-same-length-3
@@ -57,7 +73,9 @@ same-length-4 c = search needs
 
 -- src/lib.rt:70:1
 returns-3 : tie.Need-returns-3
-returns-3 c = ?
+returns-3 c = let a = c .before .before .before .before .before .before .before .before .before .before .before .before .before .before .before .args in
+    let k = counted (c .before .before .before .before .before .before .before .before .before) in
+    (runs-played (a .calls .now) (a .replies .now) _ (k .0) (c .before .before .before .before .play-all .result) _ _ (omega (arith, k .1)) (c .before .before .before .before .play-all .ensures), read-back)
 
 pub run-spec : {M : Type 1} → statement M
 run-spec =
