@@ -1,22 +1,20 @@
 -- Every list of calls whose lengths eight bytes hold is read back from its bytes: the header gives the lengths, and they cut out the call's
 -- own bytes and buffer.
 -- Assumes nothing.
-use mathlib.Core.Path.{_≡_, refl, sym, ap, subst, _∙_}
+use mathlib.Core.Path.{_≡_, refl, sym, ap, _∙_}
 use mathlib.Core.Bool.{true}
 use mathlib.Core.List.{List, [], _∷_, _++_, append-assoc}
-use mathlib.Core.Option.{Option, some}
-use Prim.Native.Nat.{ℕ, _+_, _≤_, _<_, _^_}
+use mathlib.Core.Option.{some}
+use Prim.Native.Nat.{ℕ, _+_, _<_, _^_}
 use native.Mathlib.Omega.{arith}
 use lib.ListN.{length, take, drop, length-append}
 use lib.Seq.{take-at, drop-at, drop-drop}
 use borrow.Author.Tests.{le-leb}
 use Rattle.basics.specs.Choice.{if, both, either}
 use Rattle.basics.specs.Number.{number}
-use Rattle.basics.proofs.Laws.{both-yes}
 use Rattle.trace.specs.Calls.{Call, start, answer, link-failed, stop}
 use Rattle.run.specs.declared.Header.{Header}
-use Rattle.run.specs.declared.Front.{Front}
-use Rattle.run.specs.Encoding.{highFirst, encodedAs, encodedCall, encoded, SizedCall, Sized, headerSize, bufferAt, endOf, headerIn, isKind, isWhole, frontIn, callBy, callIn, withCall, callsOf}
+use Rattle.run.specs.Encoding.{highFirst, encodedAs, encoded, Sized, headerSize, bufferAt, endOf, headerIn, isKind, callBy, callIn, withCall, callsOf}
 use Rattle.run.proofs.Read.{front-call, calls-end, calls-call}
 use Rattle.run.proofs.Number.{high-length, high-number}
 

@@ -2,16 +2,15 @@
 -- and its reply then stand where the rest of the list begins.
 -- Assumes nothing.
 use mathlib.Core.Path.{_≡_, refl, sym, ap, subst, _∙_}
-use mathlib.Core.Bool.{Bool, true, false}
+use mathlib.Core.Bool.{true}
 use mathlib.Core.Logic.{inl, inr}
 use mathlib.Core.List.{List, [], _∷_, _++_, append-nil, append-assoc}
 use mathlib.Core.Option.{Option, some, none}
-use Prim.Native.Nat.{ℕ, suc, _+_, _*_, _-_, _≤_, _<_, min}
+use Prim.Native.Nat.{ℕ, _+_, _*_, _-_, _≤_, _<_, min}
 use native.Mathlib.Omega.{arith}
 use lib.ListN.{length, take, drop, length-append, length-take, length-drop, take-append-drop}
 use lib.Seq.{take-at, drop-at, drop-drop, drop-length, take-length, take-append-add, drop-append-add, length-take-le}
 use lib.Dec.{eqb}
-use Rattle.basics.specs.Choice.{if}
 use Rattle.basics.proofs.Laws.{if-yes, if-no, bool-cases}
 use Rattle.basics.proofs.Order.{le-or-gt}
 use Rattle.record.specs.declared.Session.{Session}
@@ -21,12 +20,12 @@ use Rattle.record.specs.Session.{freshSession}
 use Rattle.session.specs.Steps.{Step, Did}
 use Rattle.session.proofs.Calls.{answer-long}
 use Rattle.session.proofs.Long.{start-long}
-use Rattle.trace.specs.Calls.{Call, step, Made, made, play, final}
+use Rattle.trace.specs.Calls.{Call, step, play, final}
 use Rattle.run.specs.declared.Header.{Header}
 use Rattle.run.specs.declared.Front.{Front}
 use Rattle.run.specs.declared.Turn.{Turn}
 use Rattle.run.specs.Encoding.{headerSize, bufferAt, endOf, headerIn, isWhole, frontIn, callBy, callIn, withCall, callsOf, highFirst}
-use Rattle.run.specs.Playing.{answerBytes, replyBytes, repliesOf, replySize, behindBuffer, leftIn, overBuffer, Plays, Turns}
+use Rattle.run.specs.Playing.{answerBytes, replyBytes, repliesOf, replySize, leftIn, overBuffer, Plays, Turns}
 use Rattle.run.proofs.Read.{front-whole, front-is, whole-end, calls-end, calls-malformed, calls-call}
 
 -- ---- the bytes that come in

@@ -2,7 +2,7 @@
 -- for each way out of a step.
 -- Assumes nothing.
 use mathlib.Core.Path.{_≡_, refl, sym, ap, subst, _∙_}
-use mathlib.Core.Bool.{Bool, true, false}
+use mathlib.Core.Bool.{true, false}
 use mathlib.Core.Logic.{inl, inr}
 use mathlib.Core.List.{List, [], _∷_}
 use mathlib.Core.Option.{Option, some, none}
@@ -11,7 +11,6 @@ use native.Mathlib.Omega.{arith}
 use lib.ListN.{length, drop, length-drop}
 use lib.Dec.{leb}
 use borrow.Author.Tests.{leb-true, le-leb, lt-leb}
-use Rattle.basics.specs.Choice.{if}
 use Rattle.basics.proofs.Laws.{if-ind, if-yes, if-no, both-yes, both-no-left, both-no-right, both-left, both-right}
 use Rattle.basics.proofs.Order.{le-or-gt}
 use Rattle.trace.specs.Calls.{Call}

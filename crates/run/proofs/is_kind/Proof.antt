@@ -1,34 +1,29 @@
+-- `is_kind`: one test of the definition for each test of the code.
+-- Assumes nothing.
 use mathlib.Core.Path.{sym, _∙_}
-use Rattle.basics.proofs.Laws.{both-true, either-no, either-false}
 use borrow.Author.Tests.{eq-eqb, ne-eqb}
+use Rattle.basics.proofs.Laws.{both-true, either-no, either-false}
 use Rattle.basics.specs.Choice.{both, either}
 use Rattle.run.specs.Encoding.{isKind}
 use Rattle.run.proofs.is_kind.Statement.{statement}
 use Rattle.run.proofs.is_kind.Tie as tie
-use Rattle.run.proofs.is_kind.Reads as reads
-use Rattle.run.proofs.is_kind.Lts as lts
 
--- src/lib.rt:143:9
 returns : tie.Need-returns
 unfolding isKind either both
 returns c = simp (eq-eqb _ _ (c .if1 .taken))
 
--- src/lib.rt:146:9
 returns-2 : tie.Need-returns-2
 unfolding isKind either both
 returns-2 c = simp (ne-eqb _ _ (c .before .if1 .left), eq-eqb _ _ (c .if2 .taken))
 
--- src/lib.rt:149:9
 returns-3 : tie.Need-returns-3
 unfolding isKind either both
 returns-3 c = simp (ne-eqb _ _ (c .before .before .if1 .left), ne-eqb _ _ (c .before .if2 .left), ne-eqb _ _ (c .if3 .taken))
 
--- src/lib.rt:152:9
 returns-4 : tie.Need-returns-4
 unfolding isKind either both
 returns-4 c = simp (ne-eqb _ _ (c .before .before .before .if1 .left), ne-eqb _ _ (c .before .before .if2 .left), eq-eqb _ _ (c .before .if3 .left), eq-eqb _ _ (c .if4 .taken))
 
--- src/lib.rt:139:1
 returns-5 : tie.Need-returns-5
 unfolding isKind
 returns-5 c = let first = c .before .before .before .if1 .left in

@@ -1,23 +1,20 @@
-use mathlib.Core.Path.{_≡_, refl, sym, ap, subst, _∙_}
-use native.Mathlib.Omega.{arith}
+-- `play_all`: playing the calls left from the two places gives what playing all gives (`Going`). What is left of the slice shrinks.
+-- Assumes nothing.
+use mathlib.Core.Path.{_≡_, refl, ap, subst, _∙_}
 use mathlib.Core.Bool.{true}
-use mathlib.Core.List.{List, _++_}
+use mathlib.Core.List.{List}
 use Prim.Native.Nat.{ℕ, _+_, _-_, _≤_, _<_}
+use native.Mathlib.Omega.{arith}
 use lib.ListN.{length, take, drop, length-take, length-drop}
 use borrow.Author.Needs.{needs}
-use Rattle.record.specs.declared.Session.{Session}
 use Rattle.tlv.proofs.Laws.{tail-is}
-use Rattle.run.specs.Encoding.{endOf, headerIn, isWhole, callsOf}
+use Rattle.run.specs.Encoding.{isWhole, callsOf}
 use Rattle.run.specs.Playing.{listed, Turns}
-use Rattle.run.proofs.Read.{whole-size, whole-end}
+use Rattle.run.proofs.Read.{whole-end}
 use Rattle.run.proofs.Whole.{ready-listed}
-use Rattle.run.proofs.Loop.{Going, going-start, going-whole, going-room, going-turn, going-end, end-put}
+use Rattle.run.proofs.Loop.{Going, going-start, going-whole, going-room, going-turn, going-end}
 use Rattle.run.proofs.play_all.Statement.{statement}
 use Rattle.run.proofs.play_all.Tie as tie
-use Rattle.run.proofs.play_all.Reads as reads
-use Rattle.run.proofs.play_all.Lts as lts
-use Rattle.record.proofs.fresh.Reads as fresh-reads
-use Rattle.run.proofs.one_call.Reads as one-call-reads
 
 abbrev Inv-loop : tie.InvT-loop
 Inv-loop calls₀ replies₀ session₀ at₀ out₀ calls replies session at out =
@@ -53,71 +50,37 @@ size-at c =
     let w = whole-end v (whole-at (c .before .before .before)) in
     (omega arith, omega (arith, length-drop (lp .at) (lp .calls), c .before .before .before .loop-test .taken))
 
--- src/lib.rt:186:9
-fresh-requires : tie.Need-fresh-requires Inv-loop μ-loop
-fresh-requires c κs = search needs
-
--- src/lib.rt:189:5
 loop-holds : tie.Need-loop-holds Inv-loop μ-loop
 loop-holds c = let k = ready-listed _ _ (c .before .before .before .pre) in (going-start _ _ _ _ (c .fresh .ensures) (k .0) (k .1), refl, refl)
 
--- src/lib.rt:190:38
-sub-one-call : tie.Need-sub-one-call Inv-loop μ-loop
-sub-one-call c = omega arith
-
--- src/lib.rt:190:38
-part-one-call-start : tie.Need-part-one-call-start Inv-loop μ-loop
-part-one-call-start c = omega arith
-
--- src/lib.rt:190:38
-part-one-call-end : tie.Need-part-one-call-end Inv-loop μ-loop
-part-one-call-end c = omega arith
-
--- src/lib.rt:190:56
 sub-one-call-2 : tie.Need-sub-one-call-2 Inv-loop μ-loop
 sub-one-call-2 c = let k = room-at (c .before) in omega arith
 
--- src/lib.rt:190:56
 part-one-call-start-2 : tie.Need-part-one-call-start-2 Inv-loop μ-loop
 part-one-call-start-2 c = let k = room-at (c .before) in omega arith
 
--- src/lib.rt:190:56
 part-one-call-end-2 : tie.Need-part-one-call-end-2 Inv-loop μ-loop
 part-one-call-end-2 c = let k = room-at (c .before) in omega arith
 
--- src/lib.rt:190:13
 one-call-requires : tie.Need-one-call-requires Inv-loop μ-loop
 one-call-requires c κs = let lp = c .before .before .before .loop in
     (ap isWhole (tail-is (lp .calls) (lp .at)) ∙ whole-at (c .before .before),
     omega (arith, length-take (length (lp .replies) - lp .out) (drop (lp .out) (lp .replies)), length-drop (lp .out) (lp .replies), room-at (c .before .before)))
 
--- src/lib.rt:192:9
 add-at : tie.Need-add-at Inv-loop μ-loop
 add-at c = let i = size-at (c .before .before .before .before .before .before) in omega arith
 
--- src/lib.rt:193:9
 add-out : tie.Need-add-out Inv-loop μ-loop
 add-out c = let k = room-at (c .before .before .before .before .before .before .before .before .before) in omega arith
 
--- src/lib.rt:189:5
 loop-less : tie.Need-loop-less Inv-loop μ-loop
 loop-less c = let i = size-at (c .before .before .before .before .before .before) in omega arith
 
--- src/lib.rt:189:5
 loop-again : tie.Need-loop-again Inv-loop μ-loop
 loop-again c = let lp = c .before .before .before .before .before .before .before .before .before .before .loop in
     let o = c .before .before .before .before .before .before .one-call in
     (going-turn _ _ _ _ _ _ _ _ (lp .inv .0) (c .before .before .before .before .before .before .before .before .before .loop-test .taken) (o .result) (o .last .1 .0) (o .last .1 .1 .0) (turned-at (c .before .before .before .before .before .before)) (omega arith), omega arith, omega arith)
 
--- src/lib.rt:182:1
-same-length : tie.Need-same-length Inv-loop μ-loop
-same-length c = omega arith
-
--- src/lib.rt:182:1
-same-length-2 : tie.Need-same-length-2 Inv-loop μ-loop
-same-length-2 c = omega arith
-
--- src/lib.rt:182:1
 returns : tie.Need-returns Inv-loop μ-loop
 returns c = going-end _ _ _ _ _ _ _ _ (c .before .loop .inv .0) (c .loop-test .left)
 
@@ -127,11 +90,11 @@ play-all-spec =
     (tie.spec
     Inv-loop
     μ-loop
-    fresh-requires
+    (λ c κs. search needs)
     loop-holds
-    sub-one-call
-    part-one-call-start
-    part-one-call-end
+    (λ c. omega arith)
+    (λ c. omega arith)
+    (λ c. omega arith)
     sub-one-call-2
     part-one-call-start-2
     part-one-call-end-2
@@ -140,6 +103,6 @@ play-all-spec =
     add-out
     loop-less
     loop-again
-    same-length
-    same-length-2
+    (λ c. omega arith)
+    (λ c. omega arith)
     returns)
