@@ -1,2 +1,3 @@
 pub mod Brought
 pub mod Trace
+pub mod Examples

@@ -12,7 +12,7 @@ use lib.ListN.{length, getD, take, drop, length-append, length-take, length-drop
 use lib.Seq.{take-at, drop-at}
 use borrow.Author.Tests.{eq-eqb, ne-eqb}
 use Rattle.basics.specs.Choice.{if}
-use Rattle.basics.proofs.Laws.{if-ind, if-yes, if-no, bool-cases, both-yes, both-no-left, both-no-right}
+use Rattle.basics.proofs.Laws.{if-ind, if-yes, if-no, bool-cases, either-left, both-yes, both-no-left, both-no-right}
 use Rattle.store.specs.Place.{bytesOf}
 use Rattle.locator.specs.declared.Record.{Record}
 use Rattle.locator.specs.declared.Found.{Found}
@@ -43,9 +43,9 @@ use Rattle.session.proofs.Kept.{read-locator}
 use Rattle.session.proofs.Ways as ways
 use Rattle.session.proofs.Ways.{OptionsWay, RecordsWay, RecordWay, CryptogramWay, AnswerWay, answer-way, StartWay, start-way, analysedSession, choiceIn, loadedSession}
 use Rattle.session.proofs.Ranges.{start-keeps, answer-keeps, link-keeps, stop-keeps}
-use Rattle.trace.specs.Calls.{Call, start, answer, link-failed, stop, step, Made, made, play, final, isRefusal, isCommand, isOutcome, said, commandIn, commands, taken, lastOf, cardBytes, stillOut, oneIf, unansweredFrom, unanswered}
-use Rattle.trace.specs.Order.{broughtLocator, firstAnswer, acceptedLocator, Kind, options, record-command, closing, kindOf, published}
-use Rattle.trace.specs.Claim.{Proper, isFresh, isRunning, isEnded, noneTaken, lastCommand, lastOutcome, most}
+use Rattle.trace.specs.Calls.{Call, start, answer, link-failed, stop, step, Made, made, play, final, isRefusal, isCommand, isOutcome, said, commandIn, commands, taken, lastOf, isAnswer, anAnswer, notAnswered, unanswered}
+use Rattle.trace.specs.Order.{broughtLocator, firstAnswer, acceptedLocator, Kind, options, record-command, cryptogram, kindOf, published}
+use Rattle.trace.specs.Claim.{Proper, isFresh, isRunning, isEnded, noneTaken, lastCommand, lastOutcome, most, oneIf}
 use Rattle.trace.proofs.Brought.{locator-brought}
 
 no : {P : Type 0} → false ≡ true → P
@@ -62,9 +62,9 @@ kind-options : (c : List ℕ) → list.Proper 0xA8 c → kindOf c ≡ options
 unfolding kindOf
 kind-options c p = let t = first-two c 0x80 0xA8 (p .starts) in if-yes _ _ (both-yes _ _ (eq-eqb _ 0x80 (t .0)) (eq-eqb _ 0xA8 (t .1)))
 
-kind-closing : (c : List ℕ) → list.Proper 0xAE c → kindOf c ≡ closing
+kind-cryptogram : (c : List ℕ) → list.Proper 0xAE c → kindOf c ≡ cryptogram
 unfolding kindOf
-kind-closing c p =
+kind-cryptogram c p =
     let t = first-two c 0x80 0xAE (p .starts) in
     if-no _ _ (both-no-right _ _ (ne-eqb (getD c 1 0) 0xA8 (λ z. omega (arith, t .1))))
     ∙ if-yes _ _ (both-yes _ _ (eq-eqb _ 0x80 (t .0)) (eq-eqb _ 0xAE (t .1)))
@@ -105,18 +105,18 @@ none-left (c ∷ sent) r f = absurd f
 -- ---- what is left of the published order in each phase: by the stored locator, or by the one that will be accepted
 
 abbrev rest : Phase → List ℕ → Option (List ℕ) → List Kind
-rest Phase.Fresh l a = published a
-rest Phase.Options l a = drop 1 (published a)
-rest (Phase.Record p) l a = map reads (drop (p .number) (records l)) ++ (closing ∷ [])
+rest Phase.Fresh l a = published cryptogram a
+rest Phase.Options l a = drop 1 (published cryptogram a)
+rest (Phase.Record p) l a = map reads (drop (p .number) (records l)) ++ (cryptogram ∷ [])
 rest (Phase.Cryptogram x) l a = []
 rest (Phase.Ended e) l a = []
 
-published-front : (a : Option (List ℕ)) → published a ≡ options ∷ drop 1 (published a)
+published-front : (a : Option (List ℕ)) → published cryptogram a ≡ options ∷ drop 1 (published cryptogram a)
 unfolding published
 published-front none = refl
 published-front (some l) = refl
 
-published-length : (a : Option (List ℕ)) → length (published a) ≡ most a
+published-length : (a : Option (List ℕ)) → length (published cryptogram a) ≡ most a
 unfolding published
 published-length none = refl
 published-length (some l) = simp (length-append, length-map) (omega (arith, records-length l))
@@ -163,6 +163,33 @@ running-is (Phase.Record p) e = (refl, refl)
 running-is (Phase.Cryptogram a) e = (refl, refl)
 running-is (Phase.Ended x) e = no e
 
+-- ---- unanswered: the command x that a running session waits on, and those that come after
+
+-- of these commands, one is out, the last
+abbrev OneOut : List (List ℕ) → List (List ℕ) → Type 0
+OneOut sent out = (length out ≡ 1) × (lastOf out ≡ lastOf sent)
+
+abbrev Waits : Bool → List (List ℕ) → List Made → Type 0
+Waits true sent tk = (x : List ℕ) → OneOut (x ∷ sent) (if (anAnswer tk) (notAnswered tk) (x ∷ notAnswered tk))
+Waits false sent tk = OneOut sent (notAnswered tk)
+
+-- no call: the command x is out
+no-answer : (b : Bool) → b ≡ true → Waits b [] []
+unfolding anAnswer notAnswered
+no-answer true e = λ x. subst (OneOut (x ∷ [])) (sym (if-no _ _ refl)) (refl, refl)
+no-answer false e = no e
+
+-- a call that hands out the command x leaves it as the one that is out: an answer, or on a session that does not run
+module _ (m : Made) (x : List ℕ) (sent : List (List ℕ)) (tk : List Made) (e : commandIn (said m) (m .step .buffer) ≡ x ∷ []) (w : Waits true sent tk) where
+  out-now : OneOut (x ∷ sent) (notAnswered (m ∷ tk))
+  unfolding notAnswered
+  out-now = subst (λ (c : List (List ℕ)). OneOut (x ∷ sent) (if (anAnswer tk) (notAnswered tk) (c ++ notAnswered tk))) (sym e) (w x)
+
+  one-more : (b : Bool) → (b ≡ true → isAnswer (m .call) ≡ true) → Waits b (x ∷ sent) (m ∷ tk)
+  unfolding anAnswer lastOf
+  one-more true a = λ y. subst (OneOut (y ∷ x ∷ sent)) (sym (if-yes _ _ (either-left _ _ (a refl)))) out-now
+  one-more false a = out-now
+
 -- ---- the claim from a session s on: the commands sent, the calls taken, the session at the end
 
 record Run (s : Session) (sent : List (List ℕ)) (tk : List Made) (f : Session) : Type 0 where
@@ -170,15 +197,15 @@ record Run (s : Session) (sent : List (List ℕ)) (tk : List Made) (f : Session)
   fresh : isFresh (f .phase) ≡ by (isFresh (s .phase)) (λ m. false) (lastOf tk)
   running : isRunning (f .phase) ≡ by (isRunning (s .phase)) (λ m. isCommand (said m)) (lastOf tk)
   ended : isEnded (f .phase) ≡ by (isEnded (s .phase)) (λ m. isOutcome (said m)) (lastOf tk)
-  waiting : isRunning (f .phase) ≡ true → unansweredFrom (oneIf (isRunning (s .phase))) tk ≡ 1
+  waiting : isRunning (f .phase) ≡ true → Waits (isRunning (s .phase)) sent tk
   calls : length tk + oneIf (isEnded (s .phase)) ≡ length sent + oneIf (isEnded (f .phase))
   order : Front (map kindOf sent) (rest (s .phase) (locatorIn (stored s)) (firstAnswer tk))
   ranges : inRanges f ≡ true
 
 no-calls : (s : Session) → inRanges s ≡ true → Run s [] [] s
-unfolding lastOf unansweredFrom
+unfolding lastOf
 no-calls s i =
-    record { count = omega arith; fresh = refl; running = refl; ended = refl; waiting = λ e. ap oneIf e; calls = omega arith; order = tt; ranges = i }
+    record { count = omega arith; fresh = refl; running = refl; ended = refl; waiting = no-answer (isRunning (s .phase)); calls = omega arith; order = tt; ranges = i }
 
 -- a step takes the claim from the session that it leaves to the one before
 abbrev Goes : Session → Call → Step → Type 0
@@ -190,7 +217,6 @@ goes-refused : (s : Session) (c : Call) (n : ℕ) (buf : List ℕ) → Goes s c 
 goes-refused s c n buf sent tk f r = subst (λ (x : List Made). Run s sent x f) (sym (if-yes _ _ refl)) r
 
 goes-ended : (s : Session) (c : Call) (b : List ℕ) (o : Outcome) (n : ℕ) (buf : List ℕ) → isEnded (s .phase) ≡ false → Goes s c (quiet (endsReply (withStore s b) o n) buf)
-unfolding unansweredFrom
 goes-ended s c b o n buf e sent tk f r =
     subst (λ (x : List Made). Run s sent x f) (sym (if-no _ _ refl))
     (record {
@@ -217,17 +243,16 @@ Next s c b p x buf =
     → Front (kindOf x ∷ map kindOf sent) (rest (s .phase) (locatorIn (stored s)) (firstAnswer (made c (steps.commands (withStore s b) p x buf) ∷ tk)))
 
 goes-sent : (s : Session) (c : Call) (b : List ℕ) (p : Phase) (x buf : List ℕ) → isEnded (s .phase) ≡ false → isRunning p ≡ true
-    → stillOut (cardBytes c) (oneIf (isRunning (s .phase))) ≡ 0 → Next s c b p x buf → Goes s c (steps.commands (withStore s b) p x buf)
-unfolding unansweredFrom
+    → (isRunning (s .phase) ≡ true → isAnswer c ≡ true) → Next s c b p x buf → Goes s c (steps.commands (withStore s b) p x buf)
 goes-sent s c b p x buf e q z next sent tk f r =
     subst (λ (y : List Made). Run s (take (length x) (x ++ drop (length x) buf) ∷ sent) y f) (sym (if-no _ _ refl))
-    (subst (λ (y : List ℕ). Run s (y ∷ sent) (m ∷ tk) f) (sym (take-at x (drop (length x) buf) (length x) refl))
+    (subst (λ (y : List ℕ). Run s (y ∷ sent) (m ∷ tk) f) (sym sent-bytes)
     (record {
       count = omega (arith, r .count);
       fresh = r .fresh ∙ by-front (isFresh (s .phase)) (isFresh p) (λ y. false) m tk (running-is p q .0);
       running = r .running ∙ by-front (isRunning (s .phase)) (isRunning p) (λ y. isCommand (said y)) m tk q;
       ended = r .ended ∙ by-front (isEnded (s .phase)) (isEnded p) (λ y. isOutcome (said y)) m tk (running-is p q .1);
-      waiting = λ w. ap (λ (k : ℕ). unansweredFrom k tk) (omega (arith, z, ap oneIf q)) ∙ r .waiting w;
+      waiting = λ w. one-more m x sent tk (ap (λ (y : List ℕ). y ∷ []) sent-bytes) (subst (λ (y : Bool). Waits y sent tk) q (r .waiting w)) (isRunning (s .phase)) z;
       calls = omega (arith, r .calls, ap oneIf e, ap oneIf (running-is p q .1));
       order = next sent tk (r .order);
       ranges = r .ranges;
@@ -235,6 +260,9 @@ goes-sent s c b p x buf e q z next sent tk f r =
   where
     m : Made
     m = made c (steps.commands (withStore s b) p x buf)
+
+    sent-bytes : take (length x) (x ++ drop (length x) buf) ≡ x
+    sent-bytes = take-at x (drop (length x) buf) (length x) refl
 
 -- ---- start
 
@@ -246,9 +274,9 @@ start-goes s bytes buf = go (start-way s bytes buf)
     go (StartWay.refused n) = goes-refused s (start bytes buf) n buf
     go (StartWay.unlisted b i q e) = goes-ended s (start bytes buf) (withResults b noResults) _ _ buf (ap isEnded q)
     go (StartWay.asked b c i q e f) =
-        goes-sent s (start bytes buf) (withResults b noResults) Phase.Options c buf (ap isEnded q) refl (ap (λ (p : Phase). oneIf (isRunning p)) q)
+        goes-sent s (start bytes buf) (withResults b noResults) Phase.Options c buf (ap isEnded q) refl (λ w. no (sym (ap isRunning q) ∙ w))
         (λ sent tk h. subst (λ (p : Phase). Front (kindOf c ∷ map kindOf sent) (rest p (locatorIn (stored s)) (firstAnswer tk))) (sym q)
-        (front-cons (kindOf c) options (map kindOf sent) (published (firstAnswer tk)) (drop 1 (published (firstAnswer tk))) (published-front (firstAnswer tk)) (kind-options c (list.options-proper (stored (loadedSession s b)) c f)) h))
+        (front-cons (kindOf c) options (map kindOf sent) (published cryptogram (firstAnswer tk)) (drop 1 (published cryptogram (firstAnswer tk))) (published-front (firstAnswer tk)) (kind-options c (list.options-proper (stored (loadedSession s b)) c f)) h))
 
 -- ---- answer
 
@@ -261,11 +289,11 @@ module _ (s : Session) (card buf : List ℕ) where
   unfolding firstAnswer published
   options-goes i q z (OptionsWay.failed n r) = goes-ended s call _ _ n buf (ap isEnded q)
   options-goes i q z (OptionsWay.first r m a e) =
-      goes-sent s call b (Phase.Record (record { number = 1 })) (readRecord r) buf (ap isEnded q) refl refl
+      goes-sent s call b (Phase.Record (record { number = 1 })) (readRecord r) buf (ap isEnded q) refl (λ w. refl)
       (λ sent tk h. subst (λ (p : Phase). Front (kindOf (readRecord r) ∷ map kindOf sent) (rest p (locatorIn (stored s)) (if true (broughtLocator card) none))) (sym q)
-      (subst (λ (x : Option (List ℕ)). Front (kindOf (readRecord r) ∷ map kindOf sent) (drop 1 (published x))) (sym (if-yes _ _ refl ∙ here))
-      (front-cons (kindOf (readRecord r)) (reads r) (map kindOf sent) (drop 1 (published (some l))) (map reads (drop 1 (records l)) ++ (closing ∷ []))
-      (ap (λ (x : List Record). map reads x ++ (closing ∷ [])) (next-record l 0 r e)) (kind-record r) h)))
+      (subst (λ (x : Option (List ℕ)). Front (kindOf (readRecord r) ∷ map kindOf sent) (drop 1 (published cryptogram x))) (sym (if-yes _ _ refl ∙ here))
+      (front-cons (kindOf (readRecord r)) (reads r) (map kindOf sent) (drop 1 (published cryptogram (some l))) (map reads (drop 1 (records l)) ++ (cryptogram ∷ []))
+      (ap (λ (x : List Record). map reads x ++ (cryptogram ∷ [])) (next-record l 0 r e)) (kind-record r) h)))
     where
       b : List ℕ
       b = reading.readAnswer Awaited.Options (stored s) card .store
@@ -293,19 +321,19 @@ module _ (s : Session) (card buf : List ℕ) where
     records-goes e (RecordsWay.failed n r) = goes-ended s call b _ n buf (ap isEnded q)
     records-goes e RecordsWay.unlisted = goes-ended s call _ _ _ buf (ap isEnded q)
     records-goes e (RecordsWay.asked c f g) =
-        goes-sent s call (withResults b (resultOf b)) _ c buf (ap isEnded q) refl refl
+        goes-sent s call (withResults b (resultOf b)) _ c buf (ap isEnded q) refl (λ w. refl)
         (λ sent tk h. left (kindOf c ∷ map kindOf sent) (firstAnswer (made call (steps.commands (analysedSession (ways.taken w s card)) (Phase.Cryptogram (record { choice = choiceIn (ways.taken w s card) })) c buf) ∷ tk))
-        (front-cons (kindOf c) closing (map kindOf sent) (map reads (drop (p .number) (records (locatorIn b))) ++ (closing ∷ [])) []
-        (ap (λ (x : List Record). map reads x ++ (closing ∷ [])) (no-record (locatorIn b) (p .number) (ap accepts same ∙ on-record s i p q .locator) e))
-        (kind-closing c (list.cryptogram-proper (stored (analysedSession (ways.taken w s card))) c (p1Of (choiceIn (ways.taken w s card))) g)) h))
+        (front-cons (kindOf c) cryptogram (map kindOf sent) (map reads (drop (p .number) (records (locatorIn b))) ++ (cryptogram ∷ [])) []
+        (ap (λ (x : List Record). map reads x ++ (cryptogram ∷ [])) (no-record (locatorIn b) (p .number) (ap accepts same ∙ on-record s i p q .locator) e))
+        (kind-cryptogram c (list.cryptogram-proper (stored (analysedSession (ways.taken w s card))) c (p1Of (choiceIn (ways.taken w s card))) g)) h))
 
     record-goes : {st : Step} → RecordWay p (ways.taken w s card) buf st → Goes s call st
     record-goes (RecordWay.next r e) =
-        goes-sent s call b (Phase.Record (record { number = p .number + 1 })) (readRecord r) buf (ap isEnded q) refl refl
+        goes-sent s call b (Phase.Record (record { number = p .number + 1 })) (readRecord r) buf (ap isEnded q) refl (λ w. refl)
         (λ sent tk h. left (kindOf (readRecord r) ∷ map kindOf sent) (firstAnswer (made call (steps.commands (ways.taken w s card) (Phase.Record (record { number = p .number + 1 })) (readRecord r) buf) ∷ tk))
-        (front-cons (kindOf (readRecord r)) (reads r) (map kindOf sent) (map reads (drop (p .number) (records (locatorIn b))) ++ (closing ∷ []))
-        (map reads (drop (p .number + 1) (records (locatorIn b))) ++ (closing ∷ []))
-        (ap (λ (x : List Record). map reads x ++ (closing ∷ [])) (next-record (locatorIn b) (p .number) r e)) (kind-record r) h))
+        (front-cons (kindOf (readRecord r)) (reads r) (map kindOf sent) (map reads (drop (p .number) (records (locatorIn b))) ++ (cryptogram ∷ []))
+        (map reads (drop (p .number + 1) (records (locatorIn b))) ++ (cryptogram ∷ []))
+        (ap (λ (x : List Record). map reads x ++ (cryptogram ∷ [])) (next-record (locatorIn b) (p .number) r e)) (kind-record r) h))
     record-goes (RecordWay.last e v) = records-goes e v
 
   cryptogram-goes : isEnded (s .phase) ≡ false → {y : Reply} → CryptogramWay (ways.taken Awaited.Cryptogram s card) y → Goes s call (quiet y buf)
@@ -399,14 +427,15 @@ pub always : (s : Session) (cs : List Call) → s .phase ≡ Phase.Fresh → inR
 unfolding acceptedLocator unanswered
 always s cs q i =
     record {
-      order = front-take (map kindOf (commands ms)) (published (firstAnswer (taken ms))) front ∙ ap (λ (n : ℕ). take n (published (firstAnswer (taken ms)))) number;
+      order = front-take (map kindOf (commands ms)) (published cryptogram (firstAnswer (taken ms))) front ∙ ap (λ (n : ℕ). take n (published cryptogram (firstAnswer (taken ms)))) number;
       count = omega (arith, r .count, on-fresh s i q .count);
-      bound = omega (arith, front-length (map kindOf (commands ms)) (published (firstAnswer (taken ms))) front, number, published-length (firstAnswer (taken ms)));
+      bound = omega (arith, front-length (map kindOf (commands ms)) (published cryptogram (firstAnswer (taken ms))) front, number, published-length (firstAnswer (taken ms)));
       never-over = few;
       fresh = r .fresh ∙ ap (λ (p : Phase). by (isFresh p) (λ m. false) (lastOf (taken ms))) q ∙ none-fresh (lastOf (taken ms));
       running = r .running ∙ ap (λ (p : Phase). by (isRunning p) (λ m. isCommand (said m)) (lastOf (taken ms))) q ∙ none-running (lastOf (taken ms));
       ended = r .ended ∙ ap (λ (p : Phase). by (isEnded p) (λ m. isOutcome (said m)) (lastOf (taken ms))) q ∙ none-ended (lastOf (taken ms));
-      one-unanswered = λ w. subst (λ (p : Phase). unansweredFrom (oneIf (isRunning p)) (taken ms) ≡ 1) q (r .waiting w);
+      one-unanswered = λ w. out w .0;
+      last-unanswered = λ w. out w .1;
       calls = all;
       never-over-131 = omega (arith, all, few, most-one (isEnded (final s cs .phase)));
     }
@@ -417,7 +446,7 @@ always s cs q i =
     r : Run s (commands (play s cs)) (taken (play s cs)) (final s cs)
     r = runs-on s cs i
 
-    front : Front (map kindOf (commands ms)) (published (firstAnswer (taken ms)))
+    front : Front (map kindOf (commands ms)) (published cryptogram (firstAnswer (taken ms)))
     front = subst (λ (p : Phase). Front (map kindOf (commands ms)) (rest p (locatorIn (stored s)) (firstAnswer (taken ms)))) q (r .order)
 
     number : length (map kindOf (commands ms)) ≡ length (commands ms)
@@ -425,6 +454,9 @@ always s cs q i =
 
     few : length (commands ms) ≤ 130
     few = omega (arith, count-most (final s cs) (r .ranges), r .count)
+
+    out : isRunning (final s cs .phase) ≡ true → OneOut (commands ms) (notAnswered (taken ms))
+    out w = subst (λ (p : Phase). Waits (isRunning p) (commands ms) (taken ms)) q (r .waiting w)
 
     all : length (taken ms) ≡ length (commands ms) + oneIf (isEnded (final s cs .phase))
     all = omega (arith, r .calls, ap (λ (p : Phase). oneIf (isEnded p)) q)

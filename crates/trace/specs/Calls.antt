@@ -4,9 +4,9 @@
 use mathlib.Core.Bool.{Bool, true, false}
 use mathlib.Core.List.{List, [], _∷_, _++_}
 use mathlib.Core.Option.{Option, some, none}
-use Prim.Native.Nat.{ℕ, _+_}
+use Prim.Native.Nat.{ℕ}
 use lib.ListN.{take}
-use Rattle.basics.specs.Choice.{if}
+use Rattle.basics.specs.Choice.{if, either}
 use Rattle.record.specs.declared.Session.{Session}
 use Rattle.record.specs.declared.Answer.{Answer}
 use Rattle.session.specs.Steps.{Step, linkStep, stopStep}
@@ -99,18 +99,21 @@ cardBytes (stop buf) = none
 
 -- ---- unanswered (document 01's term): a command after which no answer that is not refused has come
 
--- how many commands are unanswered after calls that were not refused: an answer leaves none of those before it unanswered
-abbrev pub stillOut : Option (List ℕ) → ℕ → ℕ
-stillOut none n = n
-stillOut (some card) n = 0
+abbrev pub isAnswer : Call → Bool
+isAnswer (start bytes buf) = false
+isAnswer (answer card buf) = true
+isAnswer (link-failed buf) = false
+isAnswer (stop buf) = false
 
-abbrev pub oneIf : Bool → ℕ
-oneIf true = 1
-oneIf false = 0
+-- an answer is among these calls
+unfoldable pub anAnswer : List Made → Bool
+anAnswer [] = false
+anAnswer (m ∷ ms) = either (isAnswer (m .call)) (anAnswer ms)
 
-unfoldable pub unansweredFrom : ℕ → List Made → ℕ
-unansweredFrom n [] = n
-unansweredFrom n (m ∷ ms) = unansweredFrom (stillOut (cardBytes (m .call)) n + oneIf (isCommand (said m))) ms
+-- of calls that were not refused, the commands that no answer comes after
+unfoldable pub notAnswered : List Made → List (List ℕ)
+notAnswered [] = []
+notAnswered (m ∷ ms) = if (anAnswer ms) (notAnswered ms) (commandIn (said m) (m .step .buffer) ++ notAnswered ms)
 
-unfoldable pub unanswered : List Made → ℕ
-unanswered ms = unansweredFrom 0 (taken ms)
+unfoldable pub unanswered : List Made → List (List ℕ)
+unanswered ms = notAnswered (taken ms)

@@ -9,8 +9,8 @@ use lib.ListN.{length, take}
 use Rattle.locator.specs.Records.{total}
 use Rattle.record.specs.declared.Phase.{Phase}
 use Rattle.record.specs.declared.Session.{Session}
-use Rattle.trace.specs.Calls.{Made, commands, taken, said, isCommand, isOutcome, lastOf, unanswered, oneIf}
-use Rattle.trace.specs.Order.{kindOf, acceptedLocator, published}
+use Rattle.trace.specs.Calls.{Made, commands, taken, said, isCommand, isOutcome, lastOf, unanswered}
+use Rattle.trace.specs.Order.{kindOf, cryptogram, acceptedLocator, published}
 
 -- ---- what a session says of itself
 
@@ -54,11 +54,15 @@ abbrev pub most : Option (List ℕ) → ℕ
 most none = 1
 most (some l) = 2 + total l
 
+abbrev pub oneIf : Bool → ℕ
+oneIf true = 1
+oneIf false = 0
+
 -- ---- the claim after a list of calls that were made, the last of which left the session s
 
 pub record Proper (ms : List Made) (s : Session) : Type 0 where
   -- the commands handed out are the first N of the published order
-  pub order : map kindOf (commands ms) ≡ take (length (commands ms)) (published (acceptedLocator ms))
+  pub order : map kindOf (commands ms) ≡ take (length (commands ms)) (published cryptogram (acceptedLocator ms))
   -- N is the count that the session reports
   pub count : s .count ≡ length (commands ms)
   -- at most 1 while no locator is accepted, at most 2 + R after
@@ -69,8 +73,9 @@ pub record Proper (ms : List Made) (s : Session) : Type 0 where
   pub fresh : isFresh (s .phase) ≡ noneTaken (lastOf (taken ms))
   pub running : isRunning (s .phase) ≡ lastCommand (lastOf (taken ms))
   pub ended : isEnded (s .phase) ≡ lastOutcome (lastOf (taken ms))
-  -- while it runs exactly one command is unanswered
-  pub one-unanswered : isRunning (s .phase) ≡ true → unanswered ms ≡ 1
+  -- while it runs exactly one command is unanswered, the last one handed out
+  pub one-unanswered : isRunning (s .phase) ≡ true → length (unanswered ms) ≡ 1
+  pub last-unanswered : isRunning (s .phase) ≡ true → lastOf (unanswered ms) ≡ lastOf (commands ms)
   -- the calls taken number N, and one more once the session has ended, so never over 131
   pub calls : length (taken ms) ≡ length (commands ms) + oneIf (isEnded (s .phase))
   pub never-over-131 : length (taken ms) ≤ 131

@@ -49,21 +49,20 @@ acceptedLocator ms = firstAnswer (taken ms)
 
 -- ---- published order
 
--- a command as it is compared: processing options by 80 A8 in front, the cryptogram, which closes the order, by 80 AE, a record command in all
--- its bytes
+-- a command as it is compared: processing options by 80 A8 in front, the cryptogram by 80 AE, a record command in all its bytes
 pub data Kind : Type 0 where
   options : Kind
   record-command : List ℕ → Kind
-  closing : Kind
+  cryptogram : Kind
 
 -- the two bytes in front of a command
 abbrev pub isFront : ℕ → ℕ → List ℕ → Bool
 isFront a b c = both (eqb (getD c 0 0) a) (eqb (getD c 1 0) b)
 
 unfoldable pub kindOf : List ℕ → Kind
-kindOf c = if (isFront 0x80 0xA8 c) options (if (isFront 0x80 0xAE c) closing (record-command c))
+kindOf c = if (isFront 0x80 0xA8 c) options (if (isFront 0x80 0xAE c) cryptogram (record-command c))
 
--- processing options alone while no locator is accepted; from then on each record command, entry by entry, and the closing one
-unfoldable pub published : Option (List ℕ) → List Kind
-published none = options ∷ []
-published (some l) = options ∷ (map (λ r. record-command (readRecord r)) (records l) ++ (closing ∷ []))
+-- processing options alone while no locator is accepted; from then on each record command, entry by entry, and the last command
+unfoldable pub published : Kind → Option (List ℕ) → List Kind
+published last none = options ∷ []
+published last (some l) = options ∷ (map (λ r. record-command (readRecord r)) (records l) ++ (last ∷ []))

@@ -1,0 +1,96 @@
+-- What playing a list of calls in bytes leaves: the session, both slices, and the claim over the calls that were played.
+-- Assumes nothing.
+use mathlib.Core.Path.{_≡_}
+use mathlib.Core.List.{List, [], _∷_, _++_}
+use mathlib.Core.Option.{Option, some, none}
+use Prim.Native.Nat.{ℕ, _*_, _≤_}
+use lib.Dec.{leb}
+use lib.ListN.{length, take, drop}
+use Rattle.basics.specs.Choice.{if}
+use Rattle.record.specs.declared.Session.{Session}
+use Rattle.record.specs.declared.Answer.{Answer}
+use Rattle.record.specs.declared.Reply.{Reply}
+use Rattle.record.specs.Numbers.{outcomeNumber}
+use Rattle.record.specs.Session.{freshSession}
+use Rattle.session.specs.Steps.{Step}
+use Rattle.trace.specs.Calls.{Call, step, Made, play, final}
+use Rattle.trace.specs.Claim.{Proper}
+use Rattle.run.specs.declared.Header.{Header}
+use Rattle.run.specs.declared.Said.{Said}
+use Rattle.run.specs.declared.Ran.{Ran}
+use Rattle.run.specs.declared.Turn.{Turn}
+use Rattle.run.specs.Encoding.{headerIn, bufferAt, endOf, callIn, callsOf, highFirst}
+
+-- ---- the replies
+
+-- 0 and a command's length, 1 with the outcome and the reason, or 2, 0 and the refusal's number
+abbrev pub answerBytes : Answer → List ℕ
+answerBytes (Answer.Command x) = 0 ∷ highFirst 2 (x .size)
+answerBytes (Answer.Outcome e) = 1 ∷ outcomeNumber (e .outcome) ∷ e .reason ∷ []
+answerBytes (Answer.Refused r) = 2 ∷ 0 ∷ r .number ∷ []
+
+-- and the session's count
+abbrev pub replyBytes : Reply → List ℕ
+replyBytes r = answerBytes (r .answer) ++ (r .session .count ∷ [])
+
+unfoldable pub repliesOf : List Made → List ℕ
+repliesOf [] = []
+repliesOf (m ∷ ms) = replyBytes (m .step .reply) ++ repliesOf ms
+
+abbrev pub replySize : ℕ
+replySize = 4
+
+-- ---- the slice of calls afterwards
+
+-- a call's header and the bytes that came in as they were, its buffer as its step left it, and then the rest
+abbrev pub behindBuffer : List ℕ → Header → List ℕ → List ℕ → List ℕ
+behindBuffer s h buf rest = take (bufferAt h) s ++ (buf ++ rest)
+
+unfoldable pub leftIn : List ℕ → List Made → List ℕ
+leftIn s [] = s
+leftIn s (m ∷ ms) = behindBuffer s (headerIn s) (m .step .buffer) (leftIn (drop (endOf (headerIn s)) s) ms)
+
+-- ---- a run
+
+-- the calls that are played: those that the bytes are read as, where there is room for their replies; else none
+abbrev pub playedOf : Option (List Call) → List ℕ → List Call
+playedOf none replies = []
+playedOf (some cs) replies = if (leb (replySize * length cs) (length replies)) cs []
+
+abbrev pub saidOf : Option (List Call) → List ℕ → Said
+saidOf none replies = Said.Malformed
+saidOf (some cs) replies = if (leb (replySize * length cs) (length replies)) Said.Played Said.TooShort
+
+-- the calls cs are played on a fresh session: the session s at the end, and both slices
+pub record Plays (s : Session) (calls′ replies′ calls replies : List ℕ) (cs : List Call) : Type 0 where
+  pub session : s ≡ final freshSession cs
+  pub calls-after : calls′ ≡ leftIn calls (play freshSession cs)
+  pub replies-after : replies′ ≡ repliesOf (play freshSession cs) ++ drop (replySize * length cs) replies
+
+-- what a run hands back and leaves, where cs are the calls that are played, and the claim over them
+pub record Runs (r : Ran) (calls′ replies′ calls replies : List ℕ) (cs : List Call) : Type 0 where
+  pub said : r .said ≡ saidOf (callsOf calls) replies
+  pub played : Plays (r .session) calls′ replies′ calls replies cs
+  pub claim : Proper (play freshSession cs) (r .session)
+
+-- ---- the parts of a run
+
+-- there is a list of calls, and room for its replies
+abbrev pub Ready : Option (List Call) → List ℕ → Type 0
+Ready none replies = ⊥
+Ready (some cs) replies = replySize * length cs ≤ length replies
+
+abbrev pub listed : Option (List Call) → List Call
+listed none = []
+listed (some cs) = cs
+
+-- a step of the call at the front of s, with its buffer in its place
+abbrev pub overBuffer : List ℕ → Header → Step → Step
+overBuffer s h st = record { reply = st .reply; buffer = behindBuffer s h (st .buffer) (drop (endOf h) s) }
+
+-- the call at the front of the calls is played
+pub record Turns (r : Turn) (calls′ replies′ : List ℕ) (s : Session) (calls replies : List ℕ) : Type 0 where
+  pub session : r .session ≡ step s (callIn calls (headerIn calls)) .reply .session
+  pub size : r .size ≡ endOf (headerIn calls)
+  pub calls-after : calls′ ≡ overBuffer calls (headerIn calls) (step s (callIn calls (headerIn calls))) .buffer
+  pub replies-after : replies′ ≡ replyBytes (step s (callIn calls (headerIn calls)) .reply) ++ drop replySize replies
