@@ -1,19 +1,20 @@
 -- What holds of every call over lent bytes: how it comes about, that a refusal leaves all lent bytes as they were, and that its word tells
 -- a command, an outcome and a refusal apart.
 -- Assumes nothing.
-use mathlib.Core.Path.{_≡_, refl, sym, ap, subst, subst⁻¹, _∙_}
+use mathlib.Core.Path.{_≡_, refl, sym, ap, subst⁻¹, _∙_}
+use mathlib.Core.Bool.{Bool, true, false}
 use mathlib.Core.List.{List}
 use mathlib.Core.Option.{Option, some, none}
 use Prim.Native.Nat.{ℕ, _≤_, _<_}
 use native.Mathlib.Omega.{arith}
 use lib.Dec.{ltb}
 use lib.ListN.{length}
-use borrow.Author.Tests.{lt-ltb, le-ltb}
-use Rattle.basics.proofs.Laws.{if-yes, if-no, if-ind}
+use Rattle.basics.specs.Choice.{if}
+use Rattle.basics.proofs.Laws.{if-ind}
 use Rattle.record.specs.declared.Answer.{Answer}
 use Rattle.record.specs.declared.Reply.{Reply}
 use Rattle.record.specs.declared.Session.{Session}
-use Rattle.record.specs.Numbers.{refusedBuffer, refusedRanges}
+use Rattle.record.specs.Numbers.{refusedBuffer}
 use Rattle.session.specs.Steps.{Step, Did, leastBuffer, linkStep, stopStep}
 use Rattle.session.specs.Start.{startStep}
 use Rattle.session.specs.Answer.{answerStep}
@@ -24,7 +25,8 @@ use Rattle.layout.specs.declared.Decoded.{Decoded}
 use Rattle.layout.specs.Layout.{written, decoded, handed}
 use Rattle.layout.specs.Word.{outcomes, refusals, refusalWord, outcomeWord, wordOf}
 use Rattle.layout.proofs.Laws.{written-back, command-length, command-below, outcome-below}
-use Rattle.host.specs.Hosted.{Hosted, DidOver, refuses, carries, stepped, hosted}
+use Rattle.host.specs.declared.Admission.{Admission}
+use Rattle.host.specs.Hosted.{Hosted, DidOver, refuses, carries, stepped, hosted, heldAdmission, admissionOf}
 
 -- ---- what bytes hold, as the code takes it apart
 
@@ -45,32 +47,41 @@ held-nothing (some s) d e h =
 -- ---- how a call comes about
 
 module _ (step : Session → List ℕ → Step) (l buf : List ℕ) where
-  pub hosted-short : length buf < leastBuffer → hosted step l buf ≡ refuses refusedBuffer l buf
-  unfolding hosted
-  hosted-short h = if-yes _ _ (lt-ltb _ _ h)
+  refused-by : (t : Bool) (x : Option Session) (w : ℕ) → if t (Admission.Refused (refusalWord refusedBuffer)) (heldAdmission (handed x .held)) ≡ Admission.Refused w
+      → DidOver w l buf (if t (refuses refusedBuffer l buf) (stepped step l buf x))
+  unfolding if
+  refused-by true x w e = record { word = cc; session = refl; buffer = refl }
+  refused-by false none w e = record { word = cc; session = refl; buffer = refl }
+  refused-by false (some s) w e = let z : _≡_ {A = ℕ} 0 1 = cc in absurd (omega arith)
 
-  pub hosted-nothing : leastBuffer ≤ length buf → decoded l ≡ none → hosted step l buf ≡ refuses refusedRanges l buf
-  unfolding hosted
-  hosted-nothing h e = if-no _ _ (le-ltb _ _ h) ∙ ap (stepped step l buf) e
+  taken-by : (t : Bool) (x : Option Session) → if t (Admission.Refused (refusalWord refusedBuffer)) (heldAdmission (handed x .held)) ≡ Admission.Taken
+      → if t (refuses refusedBuffer l buf) (stepped step l buf x) ≡ carries l (step (handed x .session) buf)
+  unfolding if
+  taken-by true x e = let z : _≡_ {A = ℕ} 0 1 = cc in absurd (omega arith)
+  taken-by false none e = let z : _≡_ {A = ℕ} 0 1 = cc in absurd (omega arith)
+  taken-by false (some s) e = refl
 
-  pub hosted-step : (s : Session) → leastBuffer ≤ length buf → decoded l ≡ some s → hosted step l buf ≡ carries l (step s buf)
-  unfolding hosted
-  hosted-step s h e = if-no _ _ (le-ltb _ _ h) ∙ ap (stepped step l buf) e
+  module _ (d : Decoded) (a : Admission) (e : d ≡ handed (decoded l)) (f : a ≡ admissionOf (d .held) (length buf)) where
+    same-admission : a ≡ admissionOf (handed (decoded l) .held) (length buf)
+    same-admission = f ∙ ap (λ (x : Decoded). admissionOf (x .held) (length buf)) e
 
-  -- a refusal by its word, nothing lent being touched
-  pub over-refused : (w n : ℕ) → w ≡ refusalWord n → hosted step l buf ≡ refuses n l buf → DidOver w l buf (hosted step l buf)
-  over-refused w n e h = subst⁻¹ (DidOver w l buf) h (record { word = e; session = refl; buffer = refl })
+    -- a call that is not taken gives its word, and touches nothing
+    pub over-refused : (w : ℕ) → a ≡ Admission.Refused w → DidOver w l buf (hosted step l buf)
+    unfolding hosted admissionOf
+    over-refused w g = refused-by (ltb (length buf) leastBuffer) (decoded l) w (sym same-admission ∙ g)
 
-  -- a step that was taken and written back
-  pub over-step : (w : ℕ) (l′ b : List ℕ) (r : Reply) (s : Session) → Did r b (step s buf) → (w ≡ wordOf (r .answer)) × (l′ ≡ written (r .session) l)
-      → hosted step l buf ≡ carries l (step s buf) → DidOver w l′ b (hosted step l buf)
-  over-step w l′ b r s d f h =
-      subst⁻¹ (DidOver w l′ b) h
-      (record
-      { word = f .0 ∙ ap (λ (x : Reply). wordOf (x .answer)) (d .reply)
-      ; session = f .1 ∙ ap (λ (x : Reply). written (x .session) l) (d .reply)
-      ; buffer = d .buffer
-      })
+    -- one that is taken is the record's own step, written back
+    pub over-step : (w : ℕ) (l′ b : List ℕ) (r : Reply) → a ≡ Admission.Taken → Did r b (step (d .session) buf)
+        → (w ≡ wordOf (r .answer)) × (l′ ≡ written (r .session) l) → DidOver w l′ b (hosted step l buf)
+    unfolding hosted admissionOf
+    over-step w l′ b r g did k =
+        subst⁻¹ (DidOver w l′ b)
+        (taken-by (ltb (length buf) leastBuffer) (decoded l) (sym same-admission ∙ g) ∙ ap (λ (x : Decoded). carries l (step (x .session) buf)) (sym e))
+        (record
+        { word = k .0 ∙ ap (λ (x : Reply). wordOf (x .answer)) (did .reply)
+        ; session = k .1 ∙ ap (λ (x : Reply). written (x .session) l) (did .reply)
+        ; buffer = did .buffer
+        })
 
 -- ---- words
 

@@ -11,8 +11,10 @@ use Rattle.record.specs.declared.Session.{Session}
 use Rattle.record.specs.Numbers.{refusedBuffer, refusedRanges}
 use Rattle.record.specs.Session.{freshSession}
 use Rattle.session.specs.Steps.{Step, leastBuffer}
+use Rattle.layout.specs.declared.Held.{Held}
 use Rattle.layout.specs.Layout.{recordSize, written, decoded}
 use Rattle.layout.specs.Word.{refusalWord, wordOf}
+use Rattle.host.specs.declared.Admission.{Admission}
 
 -- ---- what a call leaves
 
@@ -46,6 +48,14 @@ stepped step l buf (some s) = carries l (step s buf)
 -- the buffer's size (22), then the record (25), then the step
 unfoldable pub hosted : (Session → List ℕ → Step) → List ℕ → List ℕ → Hosted
 hosted step l buf = if (ltb (length buf) leastBuffer) (refuses refusedBuffer l buf) (stepped step l buf (decoded l))
+
+-- the first two as the code takes them apart
+abbrev pub heldAdmission : Held → Admission
+heldAdmission Held.Record = Admission.Taken
+heldAdmission Held.Nothing = Admission.Refused (refusalWord refusedRanges)
+
+unfoldable pub admissionOf : Held → ℕ → Admission
+admissionOf h size = if (ltb size leastBuffer) (Admission.Refused (refusalWord refusedBuffer)) (heldAdmission h)
 
 -- ---- opening and counting
 

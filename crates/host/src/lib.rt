@@ -13,7 +13,13 @@ ghost use Rattle.layout.specs.Word.{wordOf};
 ghost use Rattle.session.specs.Steps.{linkStep, stopStep};
 ghost use Rattle.session.specs.Start.{startStep};
 ghost use Rattle.session.specs.Answer.{answerStep};
-ghost use Rattle.host.specs.Hosted.{DidOver, Opened, hosted, countWord};
+ghost use Rattle.host.specs.Hosted.{DidOver, Opened, admissionOf, hosted, countWord};
+
+// Whether a call is taken, or the word of its refusal.
+pub enum Admission {
+    Taken,
+    Refused(u32),
+}
 
 // The count where the bytes hold no record.
 const NO_COUNT: u32 = 0xFFFFFFFF;
@@ -42,14 +48,11 @@ pub extern "C" fn emv_open(session: &mut [u8]) -> u32
 pub extern "C" fn emv_start(session: &mut [u8], terminal: &[u8], command: &mut [u8]) -> u32
     ensures { λ r. ⌜ DidOver r (now (session .exit)) (now (command .exit)) (hosted (λ (s : Session) b. startStep s (now (terminal .entry)) b) (now (session .entry)) (now (command .entry))) ⌝ }
 {
-    if command.len() < LEAST_BUFFER {
-        return layout::refusal_word(record::REFUSED_BUFFER);
-    }
     let read = layout::decode(session);
     let held = read.held;
-    let Held::Record = held else {
-        return layout::refusal_word(record::REFUSED_RANGES);
-    };
+    if let Admission::Refused(word) = admit(held, command.len()) {
+        return word;
+    }
     finish(session::start(read.session, terminal, command), session)
 }
 
@@ -58,14 +61,11 @@ pub extern "C" fn emv_start(session: &mut [u8], terminal: &[u8], command: &mut [
 pub extern "C" fn emv_answer(session: &mut [u8], card: &[u8], command: &mut [u8]) -> u32
     ensures { λ r. ⌜ DidOver r (now (session .exit)) (now (command .exit)) (hosted (λ (s : Session) b. answerStep s (now (card .entry)) b) (now (session .entry)) (now (command .entry))) ⌝ }
 {
-    if command.len() < LEAST_BUFFER {
-        return layout::refusal_word(record::REFUSED_BUFFER);
-    }
     let read = layout::decode(session);
     let held = read.held;
-    let Held::Record = held else {
-        return layout::refusal_word(record::REFUSED_RANGES);
-    };
+    if let Admission::Refused(word) = admit(held, command.len()) {
+        return word;
+    }
     finish(session::answer(read.session, card, command), session)
 }
 
@@ -74,14 +74,11 @@ pub extern "C" fn emv_answer(session: &mut [u8], card: &[u8], command: &mut [u8]
 pub extern "C" fn emv_link_failed(session: &mut [u8], command: &mut [u8]) -> u32
     ensures { λ r. ⌜ DidOver r (now (session .exit)) (now (command .exit)) (hosted linkStep (now (session .entry)) (now (command .entry))) ⌝ }
 {
-    if command.len() < LEAST_BUFFER {
-        return layout::refusal_word(record::REFUSED_BUFFER);
-    }
     let read = layout::decode(session);
     let held = read.held;
-    let Held::Record = held else {
-        return layout::refusal_word(record::REFUSED_RANGES);
-    };
+    if let Admission::Refused(word) = admit(held, command.len()) {
+        return word;
+    }
     finish(session::link_failed(read.session, command), session)
 }
 
@@ -90,14 +87,11 @@ pub extern "C" fn emv_link_failed(session: &mut [u8], command: &mut [u8]) -> u32
 pub extern "C" fn emv_stop(session: &mut [u8], command: &mut [u8]) -> u32
     ensures { λ r. ⌜ DidOver r (now (session .exit)) (now (command .exit)) (hosted stopStep (now (session .entry)) (now (command .entry))) ⌝ }
 {
-    if command.len() < LEAST_BUFFER {
-        return layout::refusal_word(record::REFUSED_BUFFER);
-    }
     let read = layout::decode(session);
     let held = read.held;
-    let Held::Record = held else {
-        return layout::refusal_word(record::REFUSED_RANGES);
-    };
+    if let Admission::Refused(word) = admit(held, command.len()) {
+        return word;
+    }
     finish(session::stop(read.session, command), session)
 }
 
@@ -112,6 +106,19 @@ pub extern "C" fn emv_count(session: &[u8]) -> u32
         return NO_COUNT;
     };
     basics::wide32(record::count(read.session))
+}
+
+// A buffer that is too short is refused before bytes that hold no record.
+fn admit(held: Held, size: usize) -> Admission
+    ensures { λ r. ⌜ r ≡ admissionOf held size ⌝ }
+{
+    if size < LEAST_BUFFER {
+        return Admission::Refused(layout::refusal_word(record::REFUSED_BUFFER));
+    }
+    match held {
+        Held::Record => Admission::Taken,
+        Held::Nothing => Admission::Refused(layout::refusal_word(record::REFUSED_RANGES)),
+    }
 }
 
 // Writes the reply's session in front of the lent bytes, and gives the word of its answer.
