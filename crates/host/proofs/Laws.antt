@@ -1,0 +1,134 @@
+-- What holds of every call over lent bytes: how it comes about, that a refusal leaves all lent bytes as they were, and that its word tells
+-- a command, an outcome and a refusal apart.
+-- Assumes nothing.
+use mathlib.Core.Path.{_≡_, refl, sym, ap, subst⁻¹, _∙_}
+use mathlib.Core.Bool.{Bool, true, false}
+use mathlib.Core.List.{List}
+use mathlib.Core.Option.{Option, some, none}
+use Prim.Native.Nat.{ℕ, _≤_, _<_}
+use native.Mathlib.Omega.{arith}
+use lib.Dec.{ltb}
+use lib.ListN.{length}
+use Rattle.basics.specs.Choice.{if}
+use Rattle.basics.proofs.Laws.{if-ind}
+use Rattle.record.specs.declared.Answer.{Answer}
+use Rattle.record.specs.declared.Reply.{Reply}
+use Rattle.record.specs.declared.Session.{Session}
+use Rattle.record.specs.Numbers.{refusedBuffer}
+use Rattle.session.specs.Steps.{Step, Did, leastBuffer, linkStep, stopStep}
+use Rattle.session.specs.Start.{startStep}
+use Rattle.session.specs.Answer.{answerStep}
+use Rattle.session.proofs.Calls.{Came, answer-came, start-came, link-came, stop-came}
+use Rattle.session.proofs.Sizes.{Small, SmallStep, answer-small, start-small, link-small, stop-small}
+use Rattle.layout.specs.declared.Held.{Held}
+use Rattle.layout.specs.declared.Decoded.{Decoded}
+use Rattle.layout.specs.Layout.{written, decoded, handed}
+use Rattle.layout.specs.Word.{outcomes, refusals, refusalWord, outcomeWord, wordOf}
+use Rattle.layout.proofs.Laws.{written-back, command-length, command-below, outcome-below}
+use Rattle.host.specs.declared.Admission.{Admission}
+use Rattle.host.specs.Hosted.{Hosted, DidOver, refuses, carries, stepped, hosted, heldAdmission, admissionOf}
+
+-- ---- what bytes hold, as the code takes it apart
+
+pub held-record : (x : Option Session) (d : Decoded) → d ≡ handed x → d .held ≡ Held.Record → x ≡ some (d .session)
+held-record none d e h =
+    let f : Held.Nothing ≡ Held.Record = sym (ap (λ (y : Decoded). y .held) e) ∙ h in
+    let z : _≡_ {A = ℕ} 0 1 = cc in
+    absurd (omega arith)
+held-record (some s) d e h = ap (λ (y : Decoded). some (y .session)) (sym e)
+
+pub held-nothing : (x : Option Session) (d : Decoded) → d ≡ handed x → d .held ≡ Held.Nothing → x ≡ none
+held-nothing none d e h = refl
+held-nothing (some s) d e h =
+    let f : Held.Record ≡ Held.Nothing = sym (ap (λ (y : Decoded). y .held) e) ∙ h in
+    let z : _≡_ {A = ℕ} 0 1 = cc in
+    absurd (omega arith)
+
+-- ---- how a call comes about
+
+module _ (step : Session → List ℕ → Step) (l buf : List ℕ) where
+  refused-by : (t : Bool) (x : Option Session) (w : ℕ) → if t (Admission.Refused (refusalWord refusedBuffer)) (heldAdmission (handed x .held)) ≡ Admission.Refused w
+      → DidOver w l buf (if t (refuses refusedBuffer l buf) (stepped step l buf x))
+  unfolding if
+  refused-by true x w e = record { word = cc; session = refl; buffer = refl }
+  refused-by false none w e = record { word = cc; session = refl; buffer = refl }
+  refused-by false (some s) w e = let z : _≡_ {A = ℕ} 0 1 = cc in absurd (omega arith)
+
+  taken-by : (t : Bool) (x : Option Session) → if t (Admission.Refused (refusalWord refusedBuffer)) (heldAdmission (handed x .held)) ≡ Admission.Taken
+      → if t (refuses refusedBuffer l buf) (stepped step l buf x) ≡ carries l (step (handed x .session) buf)
+  unfolding if
+  taken-by true x e = let z : _≡_ {A = ℕ} 0 1 = cc in absurd (omega arith)
+  taken-by false none e = let z : _≡_ {A = ℕ} 0 1 = cc in absurd (omega arith)
+  taken-by false (some s) e = refl
+
+  module _ (d : Decoded) (a : Admission) (e : d ≡ handed (decoded l)) (f : a ≡ admissionOf (d .held) (length buf)) where
+    same-admission : a ≡ admissionOf (handed (decoded l) .held) (length buf)
+    same-admission = f ∙ ap (λ (x : Decoded). admissionOf (x .held) (length buf)) e
+
+    -- a call that is not taken gives its word, and touches nothing
+    pub over-refused : (w : ℕ) → a ≡ Admission.Refused w → DidOver w l buf (hosted step l buf)
+    unfolding hosted admissionOf
+    over-refused w g = refused-by (ltb (length buf) leastBuffer) (decoded l) w (sym same-admission ∙ g)
+
+    -- one that is taken is the record's own step, written back
+    pub over-step : (w : ℕ) (l′ b : List ℕ) (r : Reply) → a ≡ Admission.Taken → Did r b (step (d .session) buf)
+        → (w ≡ wordOf (r .answer)) × (l′ ≡ written (r .session) l) → DidOver w l′ b (hosted step l buf)
+    unfolding hosted admissionOf
+    over-step w l′ b r g did k =
+        subst⁻¹ (DidOver w l′ b)
+        (taken-by (ltb (length buf) leastBuffer) (decoded l) (sym same-admission ∙ g) ∙ ap (λ (x : Decoded). carries l (step (x .session) buf)) (sym e))
+        (record
+        { word = k .0 ∙ ap (λ (x : Reply). wordOf (x .answer)) (did .reply)
+        ; session = k .1 ∙ ap (λ (x : Reply). written (x .session) l) (did .reply)
+        ; buffer = did .buffer
+        })
+
+-- ---- words
+
+-- what a word says of an answer: the three kinds are apart
+abbrev pub Tells : Answer → ℕ → Type 0
+Tells (Answer.Command c) w = (w ≡ c .size) × (w ≤ 261)
+Tells (Answer.Outcome e) w = (w ≡ outcomeWord e) × (outcomes ≤ w) × (w < refusals)
+Tells (Answer.Refused r) w = (w ≡ refusalWord (r .number)) × (refusals ≤ w)
+
+pub tells : (a : Answer) → Small a → Tells a (wordOf a)
+tells (Answer.Command c) h = let e = command-length (c .size) (omega arith) in (e, omega arith)
+tells (Answer.Outcome e) h = (refl, omega arith, outcome-below e (omega arith))
+tells (Answer.Refused r) h = (refl, omega arith)
+
+-- ---- a refusal leaves all lent bytes as they were
+
+pub record Kept (l buf : List ℕ) (h : Hosted) : Type 0 where
+  pub session : h .session ≡ l
+  pub buffer : h .buffer ≡ buf
+
+-- a step whose word is that of a refusal is one
+came-kept : {s : Session} {l buf : List ℕ} {st : Step} → decoded l ≡ some s → SmallStep st → Came s buf st → refusals ≤ wordOf (st .reply .answer) → Kept l buf (carries l st)
+came-kept {s} {l} e z (Came.refused n) h = record { session = written-back l s e; buffer = refl }
+came-kept e z (Came.ended b o n) h = absurd (omega (arith, outcome-below (record { outcome = o; reason = n }) (omega arith)))
+came-kept e z (Came.sent b p c k) h = absurd (omega (arith, command-below (length c)))
+
+module _ (step : Session → List ℕ → Step) (came : (s : Session) (b : List ℕ) → Came s b (step s b)) (small : (s : Session) (b : List ℕ) → SmallStep (step s b)) where
+  stepped-kept : (l buf : List ℕ) (x : Option Session) → decoded l ≡ x → refusals ≤ stepped step l buf x .word → Kept l buf (stepped step l buf x)
+  stepped-kept l buf none e h = record { session = refl; buffer = refl }
+  stepped-kept l buf (some s) e h = came-kept e (small s buf) (came s buf) h
+
+  refusal-kept : (l buf : List ℕ) → refusals ≤ hosted step l buf .word → Kept l buf (hosted step l buf)
+  unfolding hosted
+  refusal-kept l buf =
+      if-ind (λ (h : Hosted). refusals ≤ h .word → Kept l buf h) (ltb (length buf) leastBuffer) _ _ (λ t h. record { session = refl; buffer = refl })
+      (λ t. stepped-kept l buf (decoded l) refl)
+
+module _ (l bytes buf : List ℕ) where
+  pub start-kept : let h = hosted (λ s b. startStep s bytes b) l buf in refusals ≤ h .word → Kept l buf h
+  start-kept = refusal-kept (λ s b. startStep s bytes b) (λ s b. start-came s bytes b) (λ s b. start-small s bytes b) l buf
+
+  pub answer-kept : let h = hosted (λ s b. answerStep s bytes b) l buf in refusals ≤ h .word → Kept l buf h
+  answer-kept = refusal-kept (λ s b. answerStep s bytes b) (λ s b. answer-came s bytes b) (λ s b. answer-small s bytes b) l buf
+
+module _ (l buf : List ℕ) where
+  pub link-kept : refusals ≤ hosted linkStep l buf .word → Kept l buf (hosted linkStep l buf)
+  link-kept = refusal-kept linkStep link-came link-small l buf
+
+  pub stop-kept : refusals ≤ hosted stopStep l buf .word → Kept l buf (hosted stopStep l buf)
+  stop-kept = refusal-kept stopStep stop-came stop-small l buf

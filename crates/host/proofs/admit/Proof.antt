@@ -1,0 +1,31 @@
+-- `host::admit` meets its contract: the buffer's size first, then what the bytes hold.
+-- Assumes nothing.
+use borrow.Author.Needs.{needs}
+use borrow.Author.Tests.{lt-ltb, le-ltb}
+use mathlib.Core.Path.{sym, ap, _∙_}
+use Prim.Native.Nat.{ℕ}
+use Rattle.basics.proofs.Laws.{if-yes, if-no}
+use Rattle.host.specs.declared.Admission.{Admission}
+use Rattle.host.specs.Hosted.{heldAdmission, admissionOf}
+use Rattle.host.proofs.admit.Statement.{statement}
+use Rattle.host.proofs.admit.Tie as tie
+
+returns : tie.Need-returns
+unfolding admissionOf
+returns c = ap (λ (w : ℕ). Admission.Refused w) (c .refusal-word .ensures) ∙ sym (if-yes _ _ (lt-ltb _ _ (c .before .if1 .taken)))
+
+returns-2 : tie.Need-returns-2
+unfolding admissionOf
+returns-2 c = sym (if-no _ _ (le-ltb _ _ (c .before .before .if1 .left)) ∙ ap heldAdmission (c .enum-told .given .1))
+
+returns-3 : tie.Need-returns-3
+unfolding admissionOf
+returns-3 c =
+    let e = c .before in
+    ap (λ (w : ℕ). Admission.Refused w) (c .refusal-word2 .ensures)
+    ∙ sym (if-no _ _ (le-ltb _ _ (e .before .before .if1 .left)) ∙ ap heldAdmission (e .enum-told2 .given .1))
+
+pub admit-spec : {M : Type 1} → statement M
+admit-spec =
+    tie.close
+    (tie.spec (λ c κs. search needs) returns (λ c. search needs) (λ c. search needs) (λ c κs. search needs) returns-2 returns-3)

@@ -1,0 +1,73 @@
+-- A call over bytes that a host lends (docs/HOST.md): the session as a record in front of its bytes, the answer as one word.
+-- Assumes nothing.
+use mathlib.Core.Path.{_≡_}
+use mathlib.Core.List.{List}
+use mathlib.Core.Option.{Option, some, none}
+use Prim.Native.Nat.{ℕ}
+use lib.Dec.{leb, ltb}
+use lib.ListN.{length}
+use Rattle.basics.specs.Choice.{if}
+use Rattle.record.specs.declared.Session.{Session}
+use Rattle.record.specs.Numbers.{refusedBuffer, refusedRanges}
+use Rattle.record.specs.Session.{freshSession}
+use Rattle.session.specs.Steps.{Step, leastBuffer}
+use Rattle.layout.specs.declared.Held.{Held}
+use Rattle.layout.specs.Layout.{recordSize, written, decoded}
+use Rattle.layout.specs.Word.{refusalWord, wordOf}
+use Rattle.host.specs.declared.Admission.{Admission}
+
+-- ---- what a call leaves
+
+-- the word that is returned, and what stands in the two lent slices after
+pub record Hosted : Type 0 where
+  pub word : ℕ
+  pub session : List ℕ
+  pub buffer : List ℕ
+
+-- the returned word w, the session's bytes l and the buffer b are those of h
+pub record DidOver (w : ℕ) (l b : List ℕ) (h : Hosted) : Type 0 where
+  pub word : w ≡ h .word
+  pub session : l ≡ h .session
+  pub buffer : b ≡ h .buffer
+
+-- a refusal leaves all lent bytes as they were
+abbrev pub refuses : ℕ → List ℕ → List ℕ → Hosted
+refuses n l buf = record { word = refusalWord n; session = l; buffer = buf }
+
+-- a step: its answer's word, its session in front of the lent bytes, its buffer
+abbrev pub carries : List ℕ → Step → Hosted
+carries l st = record { word = wordOf (st .reply .answer); session = written (st .reply .session) l; buffer = st .buffer }
+
+-- ---- the four calls, by the step that each takes on a session and a buffer
+
+-- no record is refused as one that breaks its ranges
+abbrev pub stepped : (Session → List ℕ → Step) → List ℕ → List ℕ → Option Session → Hosted
+stepped step l buf none = refuses refusedRanges l buf
+stepped step l buf (some s) = carries l (step s buf)
+
+-- the buffer's size (22), then the record (25), then the step
+unfoldable pub hosted : (Session → List ℕ → Step) → List ℕ → List ℕ → Hosted
+hosted step l buf = if (ltb (length buf) leastBuffer) (refuses refusedBuffer l buf) (stepped step l buf (decoded l))
+
+-- the first two as the code takes them apart
+abbrev pub heldAdmission : Held → Admission
+heldAdmission Held.Record = Admission.Taken
+heldAdmission Held.Nothing = Admission.Refused (refusalWord refusedRanges)
+
+unfoldable pub admissionOf : Held → ℕ → Admission
+admissionOf h size = if (ltb size leastBuffer) (Admission.Refused (refusalWord refusedBuffer)) (heldAdmission h)
+
+-- ---- opening and counting
+
+-- a fresh record is written: 0, or 25 where the bytes are too few
+abbrev pub openWord : List ℕ → ℕ
+openWord l = if (leb recordSize (length l)) 0 (refusalWord refusedRanges)
+
+pub record Opened (w : ℕ) (before after : List ℕ) : Type 0 where
+  pub word : w ≡ openWord before
+  pub session : after ≡ written freshSession before
+
+-- the count of commands handed out; all 32 bits set where the bytes hold no record
+abbrev pub countWord : Option Session → ℕ
+countWord none = 0xFFFFFFFF
+countWord (some s) = s .count

@@ -1,0 +1,166 @@
+-- The layout is strict: what is encoded is read back, what was read is encoded as the bytes it was read from, and a word tells its kind.
+-- Assumes nothing.
+use mathlib.Core.Path.{_≡_, refl, sym, ap, _∙_}
+use mathlib.Core.Bool.{true, false}
+use mathlib.Core.List.{List, [], _∷_, _++_}
+use mathlib.Core.Logic.{inl, inr}
+use mathlib.Core.Option.{some, none}
+use Prim.Native.Nat.{ℕ, _≤_, _<_}
+use native.Mathlib.Omega.{arith}
+use lib.Dec.{eqb}
+use lib.ListN.{length, getD, drop, length-append, length-drop, take-append-drop}
+use lib.Seq.{take-at}
+use borrow.Author.Tests.{eq-eqb, eqb-true, le-leb, leb-true, lt-leb}
+use Rattle.basics.specs.Choice.{if}
+use Rattle.basics.proofs.Laws.{if-yes, if-no, if-ind, both-yes, both-left, both-right, both-no-left, both-no-right, bool-cases}
+use Rattle.dictionary.specs.Rows.{storeSize}
+use Rattle.analysis.specs.declared.choice.Choice.{Choice}
+use Rattle.analysis.specs.Choice.{p1Of}
+use Rattle.record.specs.declared.Outcome.{Outcome}
+use Rattle.record.specs.declared.End.{End}
+use Rattle.record.specs.declared.Phase.{Phase}
+use Rattle.record.specs.declared.Session.{Session}
+use Rattle.record.specs.Numbers.{outcomeNumber}
+use Rattle.record.specs.Session.{stored}
+use Rattle.layout.specs.declared.Code.{Code}
+use Rattle.layout.specs.Layout.{version, recordSize, choiceFrom, outcomeFrom, codeOf, phaseOf, sameCode, encoded, written, codeIn, sessionIn, holdsRecord, decoded}
+use Rattle.layout.specs.Word.{outcomes, refusals, commandWord, outcomeWord}
+
+-- ---- codes
+
+same-self : (c : Code) → sameCode c c ≡ true
+unfolding sameCode
+same-self c = both-yes _ _ (eq-eqb (c .number) (c .number) refl) (both-yes _ _ (eq-eqb (c .datum) (c .datum) refl) (eq-eqb (c .reason) (c .reason) refl))
+
+same-is : (a b : Code) → sameCode a b ≡ true → a ≡ b
+unfolding sameCode
+same-is a b e =
+    let n = eqb-true (a .number) (b .number) (both-left _ _ e) in
+    let d = eqb-true (a .datum) (b .datum) (both-left _ _ (both-right _ _ e)) in
+    let r = eqb-true (a .reason) (b .reason) (both-right _ _ (both-right _ _ e)) in
+    λ i. record { number = n i; datum = d i; reason = r i }
+
+choice-back : (c : Choice) → choiceFrom (p1Of c) ≡ c
+unfolding choiceFrom if
+choice-back Choice.Decline = refl
+choice-back Choice.Online = refl
+choice-back Choice.Offline = refl
+
+outcome-back : (o : Outcome) → outcomeFrom (outcomeNumber o) ≡ o
+unfolding outcomeFrom if
+outcome-back Outcome.Approved = refl
+outcome-back Outcome.OnlineRequest = refl
+outcome-back Outcome.Declined = refl
+outcome-back Outcome.Ended = refl
+outcome-back Outcome.SelectNext = refl
+
+-- a phase is read back from its code
+phase-back : (p : Phase) → phaseOf (codeOf p) ≡ p
+unfolding phaseOf if
+phase-back Phase.Fresh = refl
+phase-back Phase.Options = refl
+phase-back (Phase.Record p) = refl
+phase-back (Phase.Cryptogram a) = ap (λ (c : Choice). Phase.Cryptogram (record { choice = c })) (choice-back (a .choice))
+phase-back (Phase.Ended e) = ap (λ (o : Outcome). Phase.Ended (record { outcome = o; reason = e .reason })) (outcome-back (e .outcome))
+
+-- ---- which bytes are a record
+
+module _ (l : List ℕ) where
+  pub decoded-short : length l < recordSize → decoded l ≡ none
+  unfolding decoded holdsRecord
+  decoded-short h = if-no _ _ (both-no-left _ _ (lt-leb recordSize (length l) h))
+
+  pub decoded-version : eqb (getD l 0 0) version ≡ false → decoded l ≡ none
+  unfolding decoded holdsRecord
+  decoded-version e = if-no _ _ (both-no-right _ _ (both-no-left _ _ e))
+
+  pub decoded-code : sameCode (codeOf (phaseOf (codeIn l))) (codeIn l) ≡ false → decoded l ≡ none
+  unfolding decoded holdsRecord
+  decoded-code e = if-no _ _ (both-no-right _ _ (both-no-right _ _ e))
+
+  pub decoded-some : recordSize ≤ length l → eqb (getD l 0 0) version ≡ true → sameCode (codeOf (phaseOf (codeIn l))) (codeIn l) ≡ true
+      → decoded l ≡ some (sessionIn (phaseOf (codeIn l)) l)
+  unfolding decoded holdsRecord
+  decoded-some h v e = if-yes _ _ (both-yes _ _ (le-leb recordSize (length l) h) (both-yes _ _ v e))
+
+-- ---- the two laws
+
+-- a record in front of any bytes is read back; a session's store always has its size
+pub decode-encode : (s : Session) (rest : List ℕ) → length (stored s) ≡ storeSize → decoded (encoded s ++ rest) ≡ some s
+unfolding encoded
+decode-encode s rest z =
+    let p = phase-back (s .phase) in
+    decoded-some (encoded s ++ rest) (simp length-append (omega arith)) refl
+    (ap (λ (x : Phase). sameCode (codeOf x) (codeOf (s .phase))) p ∙ same-self (codeOf (s .phase)))
+    ∙ (λ i. some (record { phase = p i; count = s .count; store = record { bytes = take-at (stored s) rest storeSize z i } }))
+
+-- what the test of a record says of bytes
+record Known (l : List ℕ) : Type 0 where
+  enough : recordSize ≤ length l
+  first : getD l 0 0 ≡ version
+  code : codeOf (phaseOf (codeIn l)) ≡ codeIn l
+
+known : (l : List ℕ) → holdsRecord l ≡ true → Known l
+unfolding holdsRecord
+known l t =
+    let u = both-right _ _ t in
+    record { enough = leb-true recordSize (length l) (both-left _ _ t); first = eqb-true _ version (both-left _ _ u); code = same-is _ _ (both-right _ _ u) }
+
+encode-known : (l : List ℕ) → Known l → encoded (sessionIn (phaseOf (codeIn l)) l) ++ drop recordSize l ≡ l
+unfolding encoded
+encode-known [] k = absurd (omega (arith, k .enough))
+encode-known (_ ∷ []) k = absurd (omega (arith, k .enough))
+encode-known (_ ∷ _ ∷ []) k = absurd (omega (arith, k .enough))
+encode-known (_ ∷ _ ∷ _ ∷ []) k = absurd (omega (arith, k .enough))
+encode-known (_ ∷ _ ∷ _ ∷ _ ∷ []) k = absurd (omega (arith, k .enough))
+encode-known (v ∷ n ∷ d ∷ r ∷ c ∷ t) k =
+    let e = k .code in
+    λ i. sym (k .first) i ∷ e i .number ∷ e i .datum ∷ e i .reason ∷ c ∷ take-append-drop storeSize t i
+
+-- a session that was read is encoded as the bytes it was read from
+pub encode-decode : (l : List ℕ) (s : Session) → decoded l ≡ some s → encoded s ++ drop recordSize l ≡ l
+unfolding decoded
+encode-decode l s e = elim (bool-cases (holdsRecord l)) [
+  | inl t ↦
+      let f : some (sessionIn (phaseOf (codeIn l)) l) ≡ some s = sym (if-yes _ _ t) ∙ e in
+      let g : sessionIn (phaseOf (codeIn l)) l ≡ s = cc in
+      ap (λ (x : Session). encoded x ++ drop recordSize l) (sym g) ∙ encode-known l (known l t)
+  | inr t ↦
+      let f : none ≡ some s = sym (if-no _ _ t) ∙ e in
+      let z : _≡_ {A = ℕ} 0 1 = cc in
+      absurd (omega arith)
+]
+
+-- so writing it back changes nothing
+pub written-back : (l : List ℕ) (s : Session) → decoded l ≡ some s → written s l ≡ l
+unfolding written
+written-back l s e = if-ind (λ (x : List ℕ). x ≡ l) _ _ _ (λ t. encode-decode l s e) (λ t. refl)
+
+-- the lent bytes keep their number, and those behind the record stay
+pub written-length : (l : List ℕ) (s : Session) → length (stored s) ≡ storeSize → length (written s l) ≡ length l
+unfolding written encoded
+written-length l s z =
+    if-ind (λ (x : List ℕ). length x ≡ length l) _ _ _
+    (λ t. let h = leb-true recordSize (length l) t in simp (length-append, length-drop) (omega arith)) (λ t. refl)
+
+-- ---- words
+
+-- a command that a word can hold is its length, and below every outcome
+pub command-length : (n : ℕ) → n < outcomes → commandWord n ≡ n
+unfolding commandWord
+command-length n h = omega arith
+
+pub command-below : (n : ℕ) → commandWord n < outcomes
+unfolding commandWord
+command-below n = omega arith
+
+outcome-most : (o : Outcome) → outcomeNumber o ≤ 4
+outcome-most Outcome.Approved = omega arith
+outcome-most Outcome.OnlineRequest = omega arith
+outcome-most Outcome.Declined = omega arith
+outcome-most Outcome.Ended = omega arith
+outcome-most Outcome.SelectNext = omega arith
+
+-- an outcome whose reason is a byte lies below every refusal
+pub outcome-below : (e : End) → e .reason < 256 → outcomeWord e < refusals
+outcome-below e h = omega (arith, outcome-most (e .outcome))

@@ -1,0 +1,127 @@
+-- The session record as bytes (docs/HOST.md has the table by offset): a head of the layout's version, the code of the phase and the
+-- count of commands handed out, and behind it the store as it stands.
+-- Assumes nothing.
+use mathlib.Core.Path.{_≡_}
+use mathlib.Core.Bool.{Bool}
+use mathlib.Core.List.{List, _∷_, _++_}
+use mathlib.Core.Option.{Option, some, none}
+use Prim.Native.Nat.{ℕ, _+_}
+use lib.Dec.{eqb, leb}
+use lib.ListN.{length, getD, take, drop}
+use Rattle.basics.specs.Choice.{if, both}
+use Rattle.dictionary.specs.Rows.{storeSize}
+use Rattle.analysis.specs.declared.choice.Choice.{Choice}
+use Rattle.analysis.specs.Choice.{p1Of}
+use Rattle.record.specs.declared.Outcome.{Outcome}
+use Rattle.record.specs.declared.Phase.{Phase}
+use Rattle.record.specs.declared.Session.{Session}
+use Rattle.record.specs.Numbers.{outcomeNumber}
+use Rattle.record.specs.Session.{stored, freshSession}
+use Rattle.layout.specs.declared.Code.{Code}
+use Rattle.layout.specs.declared.Held.{Held}
+use Rattle.layout.specs.declared.Decoded.{Decoded}
+
+-- the layout's version, the first byte of every record
+abbrev pub version : ℕ
+version = 1
+
+-- the bytes in front of the store, and of the whole record
+abbrev pub headSize : ℕ
+headSize = 5
+
+abbrev pub recordSize : ℕ
+recordSize = headSize + storeSize
+
+-- ---- the code of a phase
+
+-- the phases by number
+abbrev pub onFresh : ℕ
+onFresh = 0
+
+abbrev pub onOptions : ℕ
+onOptions = 1
+
+abbrev pub onRecord : ℕ
+onRecord = 2
+
+abbrev pub onCryptogram : ℕ
+onCryptogram = 3
+
+abbrev pub onEnded : ℕ
+onEnded = 4
+
+-- what the head says of a phase: the record's number, the P1 asked for, or the outcome and its reason; 0 where there is none
+abbrev pub codeOf : Phase → Code
+codeOf Phase.Fresh = record { number = onFresh; datum = 0; reason = 0 }
+codeOf Phase.Options = record { number = onOptions; datum = 0; reason = 0 }
+codeOf (Phase.Record p) = record { number = onRecord; datum = p .number; reason = 0 }
+codeOf (Phase.Cryptogram a) = record { number = onCryptogram; datum = p1Of (a .choice); reason = 0 }
+codeOf (Phase.Ended e) = record { number = onEnded; datum = outcomeNumber (e .outcome); reason = e .reason }
+
+-- the way back: any code is read as some phase, and is that phase's code only where a phase has it
+unfoldable pub choiceFrom : ℕ → Choice
+choiceFrom p1 = if (eqb p1 0x40) Choice.Offline (if (eqb p1 0x80) Choice.Online Choice.Decline)
+
+unfoldable pub outcomeFrom : ℕ → Outcome
+outcomeFrom n =
+    if (eqb n 0) Outcome.Approved
+    (if (eqb n 1) Outcome.OnlineRequest
+    (if (eqb n 2) Outcome.Declined
+    (if (eqb n 3) Outcome.Ended
+    Outcome.SelectNext)))
+
+unfoldable pub phaseOf : Code → Phase
+phaseOf c =
+    if (eqb (c .number) onFresh) Phase.Fresh
+    (if (eqb (c .number) onOptions) Phase.Options
+    (if (eqb (c .number) onRecord) (Phase.Record (record { number = c .datum }))
+    (if (eqb (c .number) onCryptogram) (Phase.Cryptogram (record { choice = choiceFrom (c .datum) }))
+    (Phase.Ended (record { outcome = outcomeFrom (c .datum); reason = c .reason })))))
+
+-- two codes are the same
+unfoldable pub sameCode : Code → Code → Bool
+sameCode a b = both (eqb (a .number) (b .number)) (both (eqb (a .datum) (b .datum)) (eqb (a .reason) (b .reason)))
+
+-- ---- the record
+
+-- a session as bytes
+unfoldable pub encoded : Session → List ℕ
+encoded s = version ∷ codeOf (s .phase) .number ∷ codeOf (s .phase) .datum ∷ codeOf (s .phase) .reason ∷ s .count ∷ stored s
+
+-- the bytes l with a record in front: those behind it stay, and so do all where they are too few
+unfoldable pub written : Session → List ℕ → List ℕ
+written s l = if (leb recordSize (length l)) (encoded s ++ drop recordSize l) l
+
+-- the code in a head, and the session in a phase with the count and the store that the bytes have
+abbrev pub codeIn : List ℕ → Code
+codeIn l = record { number = getD l 1 0; datum = getD l 2 0; reason = getD l 3 0 }
+
+abbrev pub sessionIn : Phase → List ℕ → Session
+sessionIn p l = record { phase = p; count = getD l 4 0; store = record { bytes = take storeSize (drop headSize l) } }
+
+-- the bytes hold a record: enough of them, of this version, with the code of a phase
+unfoldable pub holdsRecord : List ℕ → Bool
+holdsRecord l = both (leb recordSize (length l)) (both (eqb (getD l 0 0) version) (sameCode (codeOf (phaseOf (codeIn l))) (codeIn l)))
+
+-- the session that bytes hold, none where they hold no record
+unfoldable pub decoded : List ℕ → Option Session
+decoded l = if (holdsRecord l) (some (sessionIn (phaseOf (codeIn l)) l)) none
+
+-- what holds of the two, proved in proofs/Laws:
+--   decode-encode    the record in front of any bytes is read back as it was
+--   encode-decode    a session that was read is encoded as the bytes it was read from
+
+-- ---- handed back
+
+-- writing says whether the bytes were enough
+pub record Wrote (s : Session) (before : List ℕ) (r : Bool) (after : List ℕ) : Type 0 where
+  pub enough : r ≡ leb recordSize (length before)
+  pub bytes : after ≡ written s before
+
+-- where there is no record a fresh session stands beside
+abbrev pub nothing : Decoded
+nothing = record { held = Held.Nothing; session = freshSession }
+
+abbrev pub handed : Option Session → Decoded
+handed none = nothing
+handed (some s) = record { held = Held.Record; session = s }

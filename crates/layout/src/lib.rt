@@ -1,0 +1,273 @@
+// The session record as bytes that a host lends, and a call's answer as one number.
+//
+// The record is a head and the store: a byte for the layout's version, the code of the phase, the count
+// of commands handed out, and then the store's bytes as they stand. `encode` writes it in front of the
+// lent bytes, `decode` takes it apart again: only bytes that some record is encoded as are a record.
+use analysis::choice::Choice;
+use dictionary::SIZE;
+use record::{Answer, Asked, End, Issued, Outcome, Phase, Place, Session};
+use store::Store;
+ghost use mathlib.Core.Path.{_≡_};
+ghost use Prim.Native.Nat.{_≤_};
+ghost use lib.ListN.{length};
+ghost use Rattle.layout.specs.Layout.{recordSize, choiceFrom, outcomeFrom, codeOf, phaseOf, codeIn, sameCode, sessionIn, nothing as nothingHeld, decoded, handed, Wrote};
+ghost use Rattle.layout.specs.Word.{commandWord, outcomeWord, refusalWord, wordOf};
+
+// The layout's version, the first byte of every record.
+const VERSION: u8 = 1;
+
+// How many bytes stand in front of the store.
+const HEAD: usize = 5;
+
+// How many bytes a record takes.
+pub const RECORD_SIZE: usize = HEAD + SIZE;
+
+// The phases by number.
+const ON_FRESH: u8 = 0;
+const ON_OPTIONS: u8 = 1;
+const ON_RECORD: u8 = 2;
+const ON_CRYPTOGRAM: u8 = 3;
+const ON_ENDED: u8 = 4;
+
+// What the head says of a phase: its number, and the bytes of what it holds, 0 where it holds nothing.
+pub struct Code {
+    pub number: u8,
+    pub datum: u8,
+    pub reason: u8,
+}
+
+pub enum Held {
+    Record,
+    Nothing,
+}
+
+// What bytes hold: a record, or nothing, with a fresh one beside it.
+pub struct Decoded {
+    pub held: Held,
+    pub session: Session,
+}
+
+// A command's length in a word: what a word can tell apart from an outcome.
+const MOST_LENGTH: usize = 65535;
+
+// In front of an outcome and its reason, and of a refusal's number.
+const OUTCOME: u32 = 65536;
+const REFUSAL: u32 = 131072;
+
+// How many bytes a host lends for a session.
+pub fn session_size() -> usize
+    ensures { λ r. ⌜ r ≡ recordSize ⌝ }
+{
+    RECORD_SIZE
+}
+
+// Writes a record in front of the bytes, and says whether there were enough.
+pub fn encode(session: Session, bytes: &mut [u8]) -> bool
+    ensures { λ r. ⌜ Wrote session (now (bytes .entry)) r (now (bytes .exit)) ⌝ }
+{
+    if bytes.len() < RECORD_SIZE {
+        return false;
+    }
+    let phase = session.phase;
+    let code = code_of(phase);
+    let store = session.store;
+    bytes[0] = VERSION;
+    bytes[1] = code.number;
+    bytes[2] = code.datum;
+    bytes[3] = code.reason;
+    bytes[4] = session.count;
+    bytes::copy(&store.bytes, &mut bytes[HEAD..RECORD_SIZE]);
+    true
+}
+
+// Takes apart the record in front of the bytes.
+pub fn decode(bytes: &[u8]) -> Decoded
+    ensures { λ r. ⌜ r ≡ handed (decoded (now (bytes .entry))) ⌝ }
+{
+    if bytes.len() < RECORD_SIZE {
+        return nothing();
+    }
+    if bytes[0] != VERSION {
+        return nothing();
+    }
+    let code = code_in(bytes);
+    let phase = phase_of(code);
+    if !is_same(code_of(phase), code) {
+        return nothing();
+    }
+    Decoded {
+        held: Held::Record,
+        session: session_in(phase, bytes),
+    }
+}
+
+// A call's answer as a word: the command's length, or an outcome with its reason, or a refusal's number.
+pub fn word(answer: Answer) -> u32
+    ensures { λ r. ⌜ r ≡ wordOf answer ⌝ }
+{
+    match answer {
+        Answer::Command(issued) => command_word(issued),
+        Answer::Outcome(end) => outcome_word(end),
+        Answer::Refused(refusal) => refusal_word(refusal.number),
+    }
+}
+
+// A refusal by its number.
+pub fn refusal_word(number: u8) -> u32
+    ensures { λ r. ⌜ r ≡ refusalWord number ⌝ }
+{
+    REFUSAL + basics::wide32(number)
+}
+
+// A command by its length; no call hands out one that is cut here.
+fn command_word(issued: Issued) -> u32
+    ensures { λ r. ⌜ r ≡ commandWord (issued .size) ⌝ }
+{
+    let size = issued.size;
+    if MOST_LENGTH < size {
+        return MOST_LENGTH as u32;
+    }
+    size as u32
+}
+
+// An outcome with its reason.
+fn outcome_word(end: End) -> u32
+    ensures { λ r. ⌜ r ≡ outcomeWord end ⌝ }
+{
+    let outcome = end.outcome;
+    OUTCOME + basics::wide32(record::outcome_number(outcome)) * 256 + basics::wide32(end.reason)
+}
+
+// No record, with a fresh session beside it.
+fn nothing() -> Decoded
+    ensures { λ r. ⌜ r ≡ nothingHeld ⌝ }
+{
+    Decoded {
+        held: Held::Nothing,
+        session: record::fresh(),
+    }
+}
+
+// The session in a phase, with the count and the store of enough bytes.
+fn session_in(phase: Phase, bytes: &[u8]) -> Session
+    requires { ⌜ recordSize ≤ length (now bytes) ⌝ }
+    ensures { λ r. ⌜ r ≡ sessionIn phase (now (bytes .entry)) ⌝ }
+{
+    let mut stored = [0u8; SIZE];
+    bytes::copy(&bytes[HEAD..RECORD_SIZE], &mut stored);
+    Session {
+        phase,
+        count: bytes[4],
+        store: Store { bytes: stored },
+    }
+}
+
+// The three bytes that enough bytes have for the code.
+fn code_in(bytes: &[u8]) -> Code
+    requires { ⌜ recordSize ≤ length (now bytes) ⌝ }
+    ensures { λ r. ⌜ r ≡ codeIn (now (bytes .entry)) ⌝ }
+{
+    Code {
+        number: bytes[1],
+        datum: bytes[2],
+        reason: bytes[3],
+    }
+}
+
+// The code of a phase.
+fn code_of(phase: Phase) -> Code
+    ensures { λ r. ⌜ r ≡ codeOf phase ⌝ }
+{
+    match phase {
+        Phase::Fresh => Code {
+            number: ON_FRESH,
+            datum: 0,
+            reason: 0,
+        },
+        Phase::Options => Code {
+            number: ON_OPTIONS,
+            datum: 0,
+            reason: 0,
+        },
+        Phase::Record(place) => Code {
+            number: ON_RECORD,
+            datum: place.number,
+            reason: 0,
+        },
+        Phase::Cryptogram(asked) => {
+            let choice = asked.choice;
+            Code {
+                number: ON_CRYPTOGRAM,
+                datum: analysis::choice::p1(choice),
+                reason: 0,
+            }
+        }
+        Phase::Ended(end) => {
+            let outcome = end.outcome;
+            Code {
+                number: ON_ENDED,
+                datum: record::outcome_number(outcome),
+                reason: end.reason,
+            }
+        }
+    }
+}
+
+// The phase that a code says, the nearest one where no phase has that code.
+fn phase_of(code: Code) -> Phase
+    ensures { λ r. ⌜ r ≡ phaseOf code ⌝ }
+{
+    let number = code.number;
+    if number == ON_FRESH {
+        return Phase::Fresh;
+    }
+    if number == ON_OPTIONS {
+        return Phase::Options;
+    }
+    if number == ON_RECORD {
+        return Phase::Record(Place { number: code.datum });
+    }
+    if number == ON_CRYPTOGRAM {
+        return Phase::Cryptogram(Asked { choice: choice_from(code.datum) });
+    }
+    Phase::Ended(End { outcome: outcome_from(code.datum), reason: code.reason })
+}
+
+// Whether two codes are the same.
+fn is_same(a: Code, b: Code) -> bool
+    ensures { λ r. ⌜ r ≡ sameCode a b ⌝ }
+{
+    if a.number != b.number {
+        return false;
+    }
+    if a.datum != b.datum {
+        return false;
+    }
+    a.reason == b.reason
+}
+
+// The choice that P1 of the command asks for; a decline where no choice has that P1.
+fn choice_from(p1: u8) -> Choice
+    ensures { λ r. ⌜ r ≡ choiceFrom p1 ⌝ }
+{
+    if p1 == 0x40 {
+        return Choice::Offline;
+    }
+    if p1 == 0x80 {
+        return Choice::Online;
+    }
+    Choice::Decline
+}
+
+// The outcome of a number; the last one where no outcome has that number.
+fn outcome_from(number: u8) -> Outcome
+    ensures { λ r. ⌜ r ≡ outcomeFrom number ⌝ }
+{
+    match number {
+        0 => Outcome::Approved,
+        1 => Outcome::OnlineRequest,
+        2 => Outcome::Declined,
+        3 => Outcome::Ended,
+        _ => Outcome::SelectNext,
+    }
+}

@@ -1,0 +1,96 @@
+/* The EMV-mode session for a host in C: target/staticlib/libhost.a, built by `rt staticlib host`.
+ * docs/HOST.md has the record's layout, the words and how to embed it.
+ *
+ * The session lies in bytes that the host lends to every call. No call keeps anything between calls,
+ * allocates, or does input or output. Lent slices must not overlap. */
+#ifndef TRIPODMOON_H
+#define TRIPODMOON_H
+
+#include <stddef.h>
+#include <stdint.h>
+
+#ifdef __cplusplus
+extern "C" {
+#endif
+
+/* Sizes in bytes. EMV_SESSION_SIZE is what emv_session_size gives for version 1 of the layout. */
+#define EMV_SESSION_SIZE 948u
+#define EMV_LEAST_BUFFER 261u
+#define EMV_MOST_TERMINAL 1024u
+
+/* A word: a command's length, or an outcome with its reason, or a refusal. */
+#define EMV_OUTCOMES 0x00010000u
+#define EMV_REFUSALS 0x00020000u
+#define EMV_IS_COMMAND(word) ((word) < EMV_OUTCOMES)
+#define EMV_IS_OUTCOME(word) ((word) >= EMV_OUTCOMES && (word) < EMV_REFUSALS)
+#define EMV_IS_REFUSAL(word) ((word) >= EMV_REFUSALS)
+#define EMV_OUTCOME(word) (((word) >> 8) & 0xFFu)
+#define EMV_REASON(word) ((word) & 0xFFu)
+#define EMV_REFUSAL(word) ((word) & 0xFFu)
+
+/* Outcomes. */
+#define EMV_APPROVED 0u
+#define EMV_ONLINE_REQUEST 1u
+#define EMV_DECLINED 2u
+#define EMV_ENDED 3u
+#define EMV_SELECT_NEXT 4u
+
+/* Reasons: 0 with approved, online request and declined, 6 with select next, the others with ended. */
+#define EMV_REASON_NONE 0u
+#define EMV_REASON_STATUS 1u
+#define EMV_REASON_MALFORMED 2u
+#define EMV_REASON_NOT_ALLOWED 3u
+#define EMV_REASON_MISSING 4u
+#define EMV_REASON_LOCATOR 5u
+#define EMV_REASON_ABOVE_LIMIT 6u
+#define EMV_REASON_DATA_LIST 7u
+#define EMV_REASON_CRYPTOGRAM 8u
+#define EMV_REASON_LINK 9u
+#define EMV_REASON_STOPPED 10u
+#define EMV_REASON_MODE 11u
+
+/* Refusals: the call was not taken, and all lent bytes are as they were. */
+#define EMV_REFUSED_BYTES 20u  /* start bytes over 1,024, or not a run of whole primitive objects */
+#define EMV_REFUSED_PHASE 21u  /* a start on a session that is not fresh, another call on one that is not running */
+#define EMV_REFUSED_BUFFER 22u /* the command buffer is under 261 bytes */
+#define EMV_REFUSED_OBJECT 23u /* a start object that may not be set, does not fit or comes twice */
+#define EMV_REFUSED_ABSENT 24u /* an object that a start must bring is absent */
+#define EMV_REFUSED_RANGES 25u /* the session's bytes are too few, hold no record, or a record that breaks its ranges */
+
+/* What emv_count gives where the bytes hold no record. */
+#define EMV_NO_COUNT 0xFFFFFFFFu
+
+/* How many bytes to lend for a session. */
+size_t emv_session_size(void);
+
+/* Writes a fresh session into the front of the bytes, whatever they held: 0.
+ * Refusal: 25, too few bytes. */
+uint32_t emv_open(uint8_t *session, size_t session_len);
+
+/* Starts a fresh session with the terminal's objects, a run of tag, length and value.
+ * Gives a command or an outcome. Refusals in order: 22, 25, 21, 20, 23, 24. */
+uint32_t emv_start(uint8_t *session, size_t session_len, const uint8_t *terminal, size_t terminal_len,
+                   uint8_t *command, size_t command_len);
+
+/* Takes the card's answer to the command that was handed out last, with its two status bytes.
+ * Gives the next command or an outcome. Refusals in order: 22, 25, 21. */
+uint32_t emv_answer(uint8_t *session, size_t session_len, const uint8_t *card, size_t card_len,
+                    uint8_t *command, size_t command_len);
+
+/* The link to the card failed: a running session ends with reason 9.
+ * The buffer's length is checked and its bytes stay. Refusals in order: 22, 25, 21. */
+uint32_t emv_link_failed(uint8_t *session, size_t session_len, uint8_t *command, size_t command_len);
+
+/* The terminal stops the session: a running one ends with reason 10.
+ * The buffer's length is checked and its bytes stay. Refusals in order: 22, 25, 21. */
+uint32_t emv_stop(uint8_t *session, size_t session_len, uint8_t *command, size_t command_len);
+
+/* How many commands the session has handed out, 0 to 255; EMV_NO_COUNT where the bytes hold no record.
+ * The record's ranges are not tested: a count of a record in its ranges is at most 130. */
+uint32_t emv_count(const uint8_t *session, size_t session_len);
+
+#ifdef __cplusplus
+}
+#endif
+
+#endif

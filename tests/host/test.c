@@ -1,0 +1,261 @@
+/* Runs the C calls: whole purchases with every command byte, each refusal, and that lent bytes stay.
+ * Prints `ok`, or the first line that fails. */
+#include <stdio.h>
+#include <stdlib.h>
+#include <string.h>
+
+#include "../../include/tripodmoon.h"
+
+#define CHECK(fact) check((fact) != 0, #fact, __LINE__)
+#define BYTES(text) (const uint8_t *)(text), sizeof(text) - 1
+#define BEHIND 16u
+#define OUTCOME_OF(outcome, reason) (EMV_OUTCOMES + (outcome) * 256u + (reason))
+#define REFUSED(number) (EMV_REFUSALS + (number))
+
+static void check(int holds, const char *fact, int line)
+{
+    if (!holds) {
+        printf("line %d: %s\n", line, fact);
+        exit(1);
+    }
+}
+
+/* The lent bytes, with more behind them than a call needs. */
+static uint8_t session[EMV_SESSION_SIZE + BEHIND];
+static uint8_t command[EMV_LEAST_BUFFER + BEHIND];
+static uint8_t session_before[sizeof session];
+static uint8_t command_before[sizeof command];
+
+static void remember(void)
+{
+    memcpy(session_before, session, sizeof session);
+    memcpy(command_before, command, sizeof command);
+}
+
+static int all_stays(void)
+{
+    return memcmp(session_before, session, sizeof session) == 0 && memcmp(command_before, command, sizeof command) == 0;
+}
+
+/* What holds after every call: the bytes behind the record stay, those behind a command too, and with no command the whole buffer. */
+static uint32_t after(uint32_t word)
+{
+    size_t n = EMV_IS_COMMAND(word) ? word : 0;
+    CHECK(n <= EMV_LEAST_BUFFER);
+    CHECK(memcmp(session + EMV_SESSION_SIZE, session_before + EMV_SESSION_SIZE, BEHIND) == 0);
+    CHECK(memcmp(command + n, command_before + n, sizeof command - n) == 0);
+    if (EMV_IS_REFUSAL(word))
+        CHECK(all_stays());
+    return word;
+}
+
+static uint32_t start(const uint8_t *bytes, size_t n)
+{
+    remember();
+    return after(emv_start(session, sizeof session, bytes, n, command, sizeof command));
+}
+
+static uint32_t answer(const uint8_t *bytes, size_t n)
+{
+    remember();
+    return after(emv_answer(session, sizeof session, bytes, n, command, sizeof command));
+}
+
+static uint32_t link_failed(void)
+{
+    remember();
+    return after(emv_link_failed(session, sizeof session, command, sizeof command));
+}
+
+static uint32_t stop(void)
+{
+    remember();
+    return after(emv_stop(session, sizeof session, command, sizeof command));
+}
+
+static uint32_t count(void)
+{
+    return emv_count(session, sizeof session);
+}
+
+/* The word is a command of exactly these bytes. */
+static int commands(uint32_t word, const uint8_t *bytes, size_t n)
+{
+    return word == n && memcmp(command, bytes, n) == 0;
+}
+
+static void reopen(void)
+{
+    size_t i;
+    for (i = 0; i < sizeof session; i++)
+        session[i] = (uint8_t)(i * 7 + 1);
+    for (i = 0; i < sizeof command; i++)
+        command[i] = (uint8_t)(i * 5 + 3);
+    remember();
+    CHECK(emv_open(session, sizeof session) == 0);
+    CHECK(memcmp(session + EMV_SESSION_SIZE, session_before + EMV_SESSION_SIZE, BEHIND) == 0);
+}
+
+/* All that a start must bring: type 22, an amount of 12.34, floor limit 100.00, transaction limit 200.00, action codes of zeros. */
+#define TYPE_AT 30
+static uint8_t terminal[] = {
+    0x9A, 0x03, 0x25, 0x11, 0x15, 0x9C, 0x01, 0x00, 0x9F, 0x02, 0x06, 0x00, 0x00, 0x00, 0x00, 0x12, 0x34, 0x9F,
+    0x09, 0x02, 0x00, 0x02, 0x9F, 0x1A, 0x02, 0x00, 0x56, 0x9F, 0x35, 0x01, 0x22, 0x9F, 0x37, 0x04, 0x01, 0x02,
+    0x03, 0x04, 0xDF, 0x81, 0x20, 0x05, 0x00, 0x00, 0x00, 0x00, 0x00, 0xDF, 0x81, 0x21, 0x05, 0x00, 0x00, 0x00,
+    0x00, 0x00, 0xDF, 0x81, 0x22, 0x05, 0x00, 0x00, 0x00, 0x00, 0x00, 0xDF, 0x81, 0x23, 0x06, 0x00, 0x00, 0x00,
+    0x01, 0x00, 0x00, 0xDF, 0x81, 0x24, 0x06, 0x00, 0x00, 0x00, 0x02, 0x00, 0x00,
+};
+
+#define OPTIONS "\x80\x06\x00\x80\x08\x01\x01\x00\x90\x00"
+#define RECORD_ONLINE "\x70\x14\x5F\x24\x03\x30\x12\x31\x5A\x08\x47\x61\x73\x90\x01\x01\x00\x10\x8C\x02\x95\x05\x90\x00"
+#define RECORD_OFFLINE \
+    "\x70\x1C\x5F\x24\x03\x30\x12\x31\x5A\x08\x47\x61\x73\x90\x01\x01\x00\x10\x8C\x02\x95\x05\x9F\x0F\x05\x00\x00\x00\x00\x00\x90\x00"
+#define CRYPTOGRAM(type) "\x80\x0B" type "\x00\x01\x01\x02\x03\x04\x05\x06\x07\x08\x90\x00"
+
+/* A start and the answer to processing options: the first record is asked for. */
+static void begin(uint8_t type)
+{
+    reopen();
+    CHECK(count() == 0);
+    terminal[TYPE_AT] = type;
+    CHECK(commands(start(terminal, sizeof terminal), BYTES("\x80\xA8\x00\x00\x02\x83\x00\x00")));
+    CHECK(count() == 1);
+    CHECK(commands(answer(BYTES(OPTIONS)), BYTES("\x00\xB2\x01\x0C\x00")));
+    CHECK(count() == 2);
+}
+
+static void purchases(void)
+{
+    begin(0x22);
+    CHECK(commands(answer(BYTES(RECORD_OFFLINE)), BYTES("\x80\xAE\x40\x00\x05\x80\x00\x00\x00\x00\x00")));
+    CHECK(count() == 3);
+    CHECK(answer(BYTES(CRYPTOGRAM("\x40"))) == OUTCOME_OF(EMV_APPROVED, EMV_REASON_NONE));
+    CHECK(count() == 3);
+
+    begin(0x22);
+    CHECK(commands(answer(BYTES(RECORD_ONLINE)), BYTES("\x80\xAE\x80\x00\x05\x80\x00\x00\x00\x00\x00")));
+    CHECK(answer(BYTES(CRYPTOGRAM("\x80"))) == OUTCOME_OF(EMV_ONLINE_REQUEST, EMV_REASON_NONE));
+
+    begin(0x23);
+    CHECK(commands(answer(BYTES(RECORD_ONLINE)), BYTES("\x80\xAE\x00\x00\x05\x80\x00\x00\x00\x00\x00")));
+    CHECK(answer(BYTES(CRYPTOGRAM("\x00"))) == OUTCOME_OF(EMV_DECLINED, EMV_REASON_NONE));
+}
+
+static void reasons(void)
+{
+    uint32_t word;
+    begin(0x22);
+    CHECK(answer(BYTES("\x70\x80\x00\x00\x90\x00")) == OUTCOME_OF(EMV_ENDED, EMV_REASON_MALFORMED));
+    begin(0x22);
+    CHECK(answer(BYTES("\x70\x03\x95\x01\x00\x90\x00")) == OUTCOME_OF(EMV_ENDED, EMV_REASON_NOT_ALLOWED));
+    begin(0x22);
+    CHECK(link_failed() == OUTCOME_OF(EMV_ENDED, EMV_REASON_LINK));
+    begin(0x22);
+    CHECK(stop() == OUTCOME_OF(EMV_ENDED, EMV_REASON_STOPPED));
+    CHECK(stop() == REFUSED(EMV_REFUSED_PHASE));
+    terminal[14] = 0x02; /* 212.34, above the limit of 200.00 */
+    begin(0x22);
+    word = answer(BYTES(RECORD_ONLINE));
+    terminal[14] = 0x00;
+    CHECK(EMV_IS_OUTCOME(word) && EMV_OUTCOME(word) == EMV_SELECT_NEXT && EMV_REASON(word) == EMV_REASON_ABOVE_LIMIT);
+}
+
+/* The head of a record of each phase, by its offsets. */
+static int head(uint8_t phase, uint8_t datum, uint8_t reason, uint8_t n)
+{
+    return session[0] == 1 && session[1] == phase && session[2] == datum && session[3] == reason && session[4] == n;
+}
+
+static void layout(void)
+{
+    size_t i;
+    CHECK(emv_session_size() == EMV_SESSION_SIZE);
+    reopen();
+    CHECK(head(0, 0, 0, 0));
+    for (i = 5; i < EMV_SESSION_SIZE; i++)
+        CHECK(session[i] == 0);
+    terminal[TYPE_AT] = 0x22;
+    (void)start(terminal, sizeof terminal);
+    CHECK(head(1, 0, 0, 1));
+    (void)answer(BYTES(OPTIONS));
+    CHECK(head(2, 1, 0, 2));
+    (void)answer(BYTES(RECORD_OFFLINE));
+    CHECK(head(3, 0x40, 0, 3));
+    (void)answer(BYTES(CRYPTOGRAM("\xC0")));
+    CHECK(head(4, EMV_ENDED, EMV_REASON_CRYPTOGRAM, 3));
+}
+
+static void refusals(void)
+{
+    static uint8_t long_start[EMV_MOST_TERMINAL + 1];
+    reopen();
+    CHECK(start(BYTES("\xE1\x00")) == REFUSED(EMV_REFUSED_BYTES));
+    CHECK(start(long_start, sizeof long_start) == REFUSED(EMV_REFUSED_BYTES));
+    CHECK(start(BYTES("\x95\x05\x00\x00\x00\x00\x00")) == REFUSED(EMV_REFUSED_OBJECT));
+    CHECK(start(BYTES("")) == REFUSED(EMV_REFUSED_ABSENT));
+    CHECK(answer(BYTES("\x90\x00")) == REFUSED(EMV_REFUSED_PHASE));
+    CHECK(link_failed() == REFUSED(EMV_REFUSED_PHASE));
+    CHECK(stop() == REFUSED(EMV_REFUSED_PHASE));
+    CHECK(commands(start(terminal, sizeof terminal), BYTES("\x80\xA8\x00\x00\x02\x83\x00\x00")));
+    CHECK(start(terminal, sizeof terminal) == REFUSED(EMV_REFUSED_PHASE));
+}
+
+/* Each call with so many bytes of session and buffer gives this refusal, and leaves all bytes. */
+static void all_refuse(size_t session_len, size_t command_len, uint32_t word)
+{
+    remember();
+    CHECK(emv_start(session, session_len, terminal, sizeof terminal, command, command_len) == word);
+    CHECK(emv_answer(session, session_len, BYTES(OPTIONS), command, command_len) == word);
+    CHECK(emv_link_failed(session, session_len, command, command_len) == word);
+    CHECK(emv_stop(session, session_len, command, command_len) == word);
+    CHECK(all_stays());
+}
+
+/* One byte of a fresh record changed: none of the calls takes it. */
+static void no_record(size_t at, uint8_t value)
+{
+    reopen();
+    session[at] = value;
+    CHECK(count() == EMV_NO_COUNT);
+    all_refuse(sizeof session, sizeof command, REFUSED(EMV_REFUSED_RANGES));
+    all_refuse(sizeof session, EMV_LEAST_BUFFER - 1, REFUSED(EMV_REFUSED_BUFFER));
+}
+
+static void lent_bytes(void)
+{
+    reopen();
+    all_refuse(sizeof session, EMV_LEAST_BUFFER - 1, REFUSED(EMV_REFUSED_BUFFER));
+    all_refuse(EMV_SESSION_SIZE - 1, sizeof command, REFUSED(EMV_REFUSED_RANGES));
+    all_refuse(EMV_SESSION_SIZE - 1, EMV_LEAST_BUFFER - 1, REFUSED(EMV_REFUSED_BUFFER));
+    all_refuse(0, sizeof command, REFUSED(EMV_REFUSED_RANGES));
+    CHECK(emv_open(session, EMV_SESSION_SIZE - 1) == REFUSED(EMV_REFUSED_RANGES));
+    CHECK(all_stays());
+    CHECK(emv_count(session, EMV_SESSION_SIZE - 1) == EMV_NO_COUNT);
+    no_record(0, 0); /* no version */
+    no_record(0, 2); /* another version */
+    no_record(1, 5); /* no phase */
+    no_record(2, 1); /* a fresh record with a number */
+    no_record(3, 1); /* a fresh record with a reason */
+
+    reopen(); /* a record that breaks its ranges */
+    session[4] = 1;
+    CHECK(count() == 1);
+    all_refuse(sizeof session, sizeof command, REFUSED(EMV_REFUSED_RANGES));
+    reopen();
+    session[EMV_SESSION_SIZE - 1] = 1;
+    all_refuse(sizeof session, sizeof command, REFUSED(EMV_REFUSED_RANGES));
+
+    reopen(); /* exactly enough of both */
+    CHECK(emv_start(session, EMV_SESSION_SIZE, terminal, sizeof terminal, command, EMV_LEAST_BUFFER) == 8);
+}
+
+int main(void)
+{
+    layout();
+    purchases();
+    reasons();
+    refusals();
+    lent_bytes();
+    printf("ok\n");
+    return 0;
+}
