@@ -9,6 +9,7 @@
 //! - `data_list`, `locator`, `analysis`: data object lists, the file locator, result bits and choice
 //! - `session`: the session record, its ranges and its steps
 
+#![no_std]
 #![forbid(unsafe_code)]
 
 pub mod analysis;
