@@ -1,7 +1,7 @@
 //! Links libhost.a, from target/staticlib at the repository's root or from where TRIPODMOON_LIB says.
 
-use std::env;
 use std::path::{Path, PathBuf};
+use std::{env, process};
 
 fn main() {
     println!("cargo:rerun-if-env-changed=TRIPODMOON_LIB");
@@ -13,12 +13,14 @@ fn main() {
         }
     };
     let library = folder.join("libhost.a");
-    assert!(
-        library.is_file(),
-        "{} is not there: run `rt staticlib host` at the repository's root, \
-         or set TRIPODMOON_LIB to libhost.a or its folder",
-        library.display()
-    );
+    if !library.is_file() {
+        eprintln!(
+            "{} is not there: run `rt staticlib host` at the repository's root, \
+             or set TRIPODMOON_LIB to libhost.a or its folder",
+            library.display()
+        );
+        process::exit(1);
+    }
     println!("cargo:rerun-if-changed={}", library.display());
     println!("cargo:rustc-link-search=native={}", folder.display());
     println!("cargo:rustc-link-lib=static=host");
