@@ -60,7 +60,12 @@ pub fn answer(rng: &mut Rng, session: &[u8], faults: bool) -> Vec<u8> {
             let length = rng.pick(&[254, 255, 256, 257, 258]);
             body = long_record(rng, length);
         }
-        Some(17) => body.extend(objects::broken(rng)),
+        Some(17) if rng.one_in(2) => body.extend(objects::broken(rng)),
+        Some(17) => {
+            body.clear();
+            let tag = rng.pick(&[0x70, 0x77, 0x80]);
+            objects::put_refused_length(rng, &mut body, tag);
+        }
         Some(18) => {
             // Another outer tag.
             if let Some(first) = body.first_mut() {
@@ -138,7 +143,7 @@ fn record(rng: &mut Rng, store: &Store, k: u32, fault: Option<usize>) -> Vec<u8>
     let mut total = 0;
     let mut add = |rng: &mut Rng, object: Object, value: &[u8]| {
         let encoded = objects::object(rng, object.row().tag, value);
-        if total + encoded.len() <= 250 {
+        if total + encoded.len() <= 253 {
             total += encoded.len();
             list.push(encoded);
         }
@@ -201,7 +206,8 @@ fn cryptogram(rng: &mut Rng, store: &Store, asked: u8, fault: Option<usize>) -> 
     }
     let counter = rng.bytes(2);
     let cryptogram = rng.bytes(8);
-    let length = rng.pick(&[0, 0, 1, 7, 18, 31, 32]);
+    let some = rng.within(0..=32);
+    let length = rng.pick(&[0, 0, 1, 31, 32, some]);
     let data = rng.bytes(length);
     if fault.is_none() && rng.one_in(2) || fault == Some(0) {
         let mut value = [information, counter, cryptogram, data].concat();
@@ -372,7 +378,14 @@ fn fault_in_objects(
         }
         7 => {
             // A broken object inside, alone or in a template.
-            let inner = objects::broken(rng).to_vec();
+            let mut inner = Vec::new();
+            if rng.one_in(3) {
+                let other = rng.pick(&UNKNOWN);
+                let tag = rng.pick(&[0x57, 0x9F10, 0xDF8120, 0xE1, other]);
+                objects::put_refused_length(rng, &mut inner, tag);
+            } else {
+                inner.extend(objects::broken(rng));
+            }
             if rng.one_in(2) {
                 let tag = rng.pick(&TEMPLATES);
                 objects::object(rng, tag, &inner)

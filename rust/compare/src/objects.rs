@@ -66,6 +66,37 @@ pub fn put_object(rng: &mut Rng, out: &mut Vec<u8>, tag: u32, value: &[u8]) {
     out.extend(value);
 }
 
+/// Appends an object whose length has a form that is refused, with the bytes it seems to ask for.
+pub fn put_refused_length(rng: &mut Rng, out: &mut Vec<u8>, tag: u32) {
+    put_tag(out, tag);
+    let length = rng.below(6);
+    match rng.below(5) {
+        0 => {
+            // 80 as a plain length.
+            out.push(0x80);
+            out.extend(rng.bytes(128));
+        }
+        1 => {
+            // The indefinite form.
+            out.push(0x80);
+            out.extend([0x50, 0x00, 0x00, 0x00]);
+        }
+        2 => {
+            out.extend([0x83, 0x00, 0x00, length as u8]);
+            out.extend(rng.bytes(length));
+        }
+        3 => {
+            out.extend([0x84, 0x00, 0x00, 0x00, length as u8]);
+            out.extend(rng.bytes(length));
+        }
+        _ => {
+            let first = rng.pick(&[0x83, 0x85, 0xFF]);
+            out.extend([first, length as u8]);
+            out.extend(rng.bytes(length));
+        }
+    }
+}
+
 /// An encoded object.
 pub fn object(rng: &mut Rng, tag: u32, value: &[u8]) -> Vec<u8> {
     let mut out = Vec::with_capacity(value.len() + 6);

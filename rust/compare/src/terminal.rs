@@ -140,6 +140,10 @@ fn fault_in_objects(rng: &mut Rng, list: &mut Vec<(u32, Vec<u8>)>, fault: usize)
 /// Puts a fault in the encoded bytes.
 fn fault_in_bytes(rng: &mut Rng, bytes: &mut Vec<u8>, fault: usize) {
     match fault {
+        8 if rng.one_in(3) => {
+            let tag = rng.pick(&UNKNOWN);
+            objects::put_refused_length(rng, bytes, tag);
+        }
         8 => bytes.extend(objects::broken(rng)),
         9 | 10 => {
             // Near 1,024 bytes in all.
