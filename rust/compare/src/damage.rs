@@ -156,11 +156,8 @@ fn other_phase(rng: &mut Rng, record: &mut [u8]) {
         0 => (0, 0, 0),
         1 => (0, 0, 1),
         2 => {
-            let k = if rng.one_in(5) {
-                rng.below(130) as u32
-            } else {
-                rng.within(1..=records as usize) as u32
-            };
+            let inside = rng.within(1..=records as usize) as u32;
+            let k = rng.pick(&[inside, inside, inside, 0, records, records + 1]);
             (k as u8, 0, k as u8 + 1)
         }
         3 => (rng.pick(&[0x00, 0x40, 0x80]), 0, records as u8 + 2),
