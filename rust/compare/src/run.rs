@@ -255,7 +255,10 @@ impl<A: Side, B: Side> Pair<'_, A, B> {
         same("session bytes", &self.session, &self.session_other)?;
         self.same_count()?;
         self.kept(word, buffer)?;
-        let asked = (call == 1 && self.before.get(1) == Some(&3)).then(|| self.before[2]);
+        let asked = match *self.before.as_slice() {
+            [_, 3, p1, ..] if call == 1 => Some(p1),
+            _ => None,
+        };
         coverage.count(call, word, &self.session, &self.buffer, asked);
         Ok(())
     }
@@ -464,7 +467,7 @@ fn run_caught(
         Ok(Ok(())) => Ok(()),
         Ok(Err(difference)) => Err(describe(seed, &difference)),
         Err(_) => Err(format!(
-            "seed {seed}: a side panicked; replay with: compare --seed {seed}"
+            "seed {seed}: a panic; replay with: compare --seed {seed}"
         )),
     }
 }

@@ -10,7 +10,7 @@ use std::env;
 const SESSIONS: u64 = if cfg!(debug_assertions) {
     20_000
 } else {
-    250_000
+    200_000
 };
 
 #[test]
