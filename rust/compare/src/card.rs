@@ -1,0 +1,404 @@
+//! Answers of a card, good and bad, for the phase that a session is in.
+
+use crate::damage;
+use crate::objects::{self, TEMPLATES, UNKNOWN};
+use crate::rng::Rng;
+use model::dictionary::{Object, Setter};
+use model::locator;
+use model::store::{self, Store};
+
+/// The objects that the last record must have brought.
+const NEEDED: [Object; 3] = [Object::ExpirationDate, Object::Pan, Object::Cdol1];
+
+/// Templates may nest so deep inside the outer one.
+const INNER_LEVELS: usize = 3;
+
+/// An answer to a session with these bytes; with `faults` it mostly breaks a rule.
+pub fn answer(rng: &mut Rng, session: &[u8], faults: bool) -> Vec<u8> {
+    let phase = match session.get(1) {
+        Some(&phase @ 1..=3) => phase,
+        _ => rng.within(1..=3) as u8,
+    };
+    let detail = session.get(2).copied().unwrap_or(0);
+    let empty = [0; model::STORE_SIZE];
+    let store: &Store = session
+        .get(5..)
+        .and_then(<[u8]>::first_chunk)
+        .unwrap_or(&empty);
+    let fault = faults.then(|| rng.below(20));
+    let in_objects = fault.filter(|&fault| fault < 9);
+    let mut body = match phase {
+        1 => options(rng, store, in_objects),
+        2 => record(rng, store, u32::from(detail), in_objects),
+        _ => cryptogram(rng, store, detail, in_objects),
+    };
+    let mut status = [0x90, 0x00];
+    match fault {
+        Some(9..=12) => damage::bytes(rng, &mut body),
+        Some(13) => {
+            status = rng.pick(&[
+                [0x69, 0x85],
+                [0x6A, 0x83],
+                [0x90, 0x01],
+                [0x00, 0x90],
+                [0x62, 0x83],
+                [0x90, 0x80],
+                [0x80, 0x00],
+            ]);
+        }
+        Some(14) => {
+            // Any length.
+            let length = rng.within(0..=300);
+            body.resize(length, 0x00);
+        }
+        Some(15) => {
+            let length = rng.below(12);
+            body = rng.bytes(length);
+        }
+        Some(16) => {
+            // Near the longest answer.
+            let length = rng.pick(&[254, 255, 256, 257, 258]);
+            body = long_record(rng, length);
+        }
+        Some(17) if rng.one_in(2) => body.extend(objects::broken(rng)),
+        Some(17) => {
+            body.clear();
+            let tag = rng.pick(&[0x70, 0x77, 0x80]);
+            objects::put_refused_length(rng, &mut body, tag);
+        }
+        Some(18) => {
+            // Another outer tag.
+            if let Some(first) = body.first_mut() {
+                *first = rng.pick(&[0x70, 0x77, 0x80, 0x81, 0x61, 0xA5, 0x57, 0xF7]);
+            }
+        }
+        _ => {}
+    }
+    body.extend(status);
+    if fault == Some(19) {
+        match rng.below(4) {
+            0 => body.truncate(rng.within(0..=3)),
+            1 => {
+                body.pop();
+            }
+            _ => damage::bytes(rng, &mut body),
+        }
+    }
+    body
+}
+
+/// A record of this length: template 70 with one unknown object.
+fn long_record(rng: &mut Rng, length: usize) -> Vec<u8> {
+    let inner = length - 4;
+    let mut body = vec![0x70, 0x82, (inner >> 8) as u8, inner as u8];
+    body.extend([rng.pick(&[0x50, 0xC1]), 0x81, (inner - 3) as u8]);
+    body.resize(length, rng.byte());
+    body
+}
+
+/// The answer to GET PROCESSING OPTIONS.
+fn options(rng: &mut Rng, store: &Store, fault: Option<usize>) -> Vec<u8> {
+    let profile = objects::good_value(rng, Object::InterchangeProfile);
+    let mut locator = objects::good_value(rng, Object::FileLocator);
+    if fault.is_none() && rng.one_in(2) || fault == Some(0) {
+        if fault == Some(0) {
+            let length = rng.pick(&[0, 1, 2, 3, 5, 7, 244, 248, 250, 252]);
+            locator.resize(length, 0x08);
+        }
+        let value = [profile, locator].concat();
+        return objects::object(rng, 0x80, &value);
+    }
+    let mut list = vec![
+        objects::object(rng, 0x82, &profile),
+        objects::object(rng, 0x94, &locator),
+    ];
+    if locator.len() < 200 {
+        noise(rng, store, &mut list);
+    }
+    shuffle(rng, &mut list);
+    if rng.one_in(20) {
+        // In a template 77 of its own.
+        let inner = list.remove(0);
+        let wrapped = objects::object(rng, 0x77, &inner);
+        list.push(wrapped);
+    }
+    if fault == Some(1) {
+        list.remove(rng.below(list.len()));
+    } else if let Some(fault) = fault {
+        fault_in_objects(rng, store, &mut list, 0x77, fault);
+    }
+    objects::object(rng, 0x77, &list.concat())
+}
+
+/// The answer to READ RECORD for the k-th record.
+fn record(rng: &mut Rng, store: &Store, k: u32, fault: Option<usize>) -> Vec<u8> {
+    let locator = in_store(store, Object::FileLocator).unwrap_or_default();
+    let read = |k| locator::record(locator, k).is_some_and(|record| record.is_read());
+    if !read(k) && rng.one_in(2) {
+        let length = rng.pick(&[0, 1, 5, 60, 256]);
+        return rng.bytes(length);
+    }
+    let last = (k + 1..=128).take(40).all(|later| !read(later));
+    let mut list = Vec::new();
+    let mut total = 0;
+    let mut add = |rng: &mut Rng, object: Object, value: &[u8]| {
+        let encoded = objects::object(rng, object.row().tag, value);
+        if total + encoded.len() <= 253 {
+            total += encoded.len();
+            list.push(encoded);
+        }
+    };
+    for object in NEEDED {
+        let wanted = if last { rng.percent(97) } else { rng.one_in(3) };
+        if wanted && !store::has_value(store, object) {
+            if rng.one_in(12) && object != Object::ExpirationDate {
+                add(rng, object, &[]);
+            }
+            let value = objects::good_value(rng, object);
+            add(rng, object, &value);
+        }
+    }
+    let rate = rng.pick(&[2, 3, 6, 12]);
+    for object in objects::of_setter(Setter::Card70) {
+        let code = matches!(
+            object,
+            Object::IssuerActionDefault | Object::IssuerActionOnline
+        );
+        let wanted = rng.one_in(if code { 2 } else { rate });
+        if wanted && !NEEDED.contains(&object) && !store::has_value(store, object) {
+            if object == Object::Track2 && rng.one_in(3) {
+                add(rng, object, &[]);
+            }
+            if object != Object::Track2 || rng.percent(80) {
+                let value = objects::good_value(rng, object);
+                add(rng, object, &value);
+            }
+        }
+    }
+    if total < 180 {
+        noise(rng, store, &mut list);
+    }
+    if rng.one_in(2) {
+        shuffle(rng, &mut list);
+    }
+    if rng.one_in(25) && !list.is_empty() {
+        // In a template 70 of its own.
+        let inner = list.remove(0);
+        let wrapped = objects::object(rng, 0x70, &inner);
+        list.push(wrapped);
+    }
+    if let Some(fault) = fault {
+        fault_in_objects(rng, store, &mut list, 0x70, fault);
+    }
+    objects::object(rng, 0x70, &list.concat())
+}
+
+/// The answer to GENERATE AC.
+fn cryptogram(rng: &mut Rng, store: &Store, asked: u8, fault: Option<usize>) -> Vec<u8> {
+    let mut information = objects::good_value(rng, Object::CryptogramInformation);
+    if rng.percent(60) {
+        let fitting: &[u8] = match asked {
+            0x00 => &[0x00],
+            0x40 => &[0x00, 0x40, 0x40, 0x80],
+            _ => &[0x00, 0x80, 0x80],
+        };
+        information = vec![rng.pick(fitting)];
+    }
+    let counter = rng.bytes(2);
+    let cryptogram = rng.bytes(8);
+    let some = rng.within(0..=32);
+    let length = rng.pick(&[0, 0, 1, 31, 32, some]);
+    let data = rng.bytes(length);
+    if fault.is_none() && rng.one_in(2) || fault == Some(0) {
+        let mut value = [information, counter, cryptogram, data].concat();
+        if fault == Some(0) {
+            let length = rng.pick(&[0, 1, 9, 10, 11, 42, 43, 44, 45, 60]);
+            value.resize(length, 0x40);
+        }
+        return objects::object(rng, 0x80, &value);
+    }
+    let mut list = vec![
+        objects::object(rng, 0x9F27, &information),
+        objects::object(rng, 0x9F36, &counter),
+        objects::object(rng, 0x9F26, &cryptogram),
+    ];
+    noise(rng, store, &mut list);
+    shuffle(rng, &mut list);
+    if rng.one_in(2) {
+        if rng.one_in(6) {
+            let empty = objects::object(rng, 0x9F10, &[]);
+            list.push(empty);
+        }
+        let data = objects::object(rng, 0x9F10, &data);
+        list.push(data);
+    }
+    if fault == Some(1) {
+        list.remove(rng.below(list.len()));
+    } else if let Some(fault) = fault {
+        fault_in_objects(rng, store, &mut list, 0x77, fault);
+    }
+    objects::object(rng, 0x77, &list.concat())
+}
+
+/// The value of an object in a store whose length bytes may be wrong.
+fn in_store(store: &Store, object: Object) -> Option<&[u8]> {
+    let place = object.row().place;
+    let length = usize::from(store[place]).checked_sub(1)?;
+    store.get(place + 1..place + 1 + length)
+}
+
+fn shuffle(rng: &mut Rng, list: &mut [Vec<u8>]) {
+    for i in (1..list.len()).rev() {
+        list.swap(i, rng.below(i + 1));
+    }
+}
+
+/// Adds objects that are skipped or allowed: unknown tags, private terminal tags, nested templates.
+fn noise(rng: &mut Rng, store: &Store, list: &mut Vec<Vec<u8>>) {
+    if !rng.one_in(3) {
+        return;
+    }
+    for _ in 0..rng.pick(&[1, 1, 2, 3, 8]) {
+        let added = match rng.below(4) {
+            0 => nested(rng, store, INNER_LEVELS),
+            1 => private(rng),
+            _ => unknown(rng),
+        };
+        let at = rng.within(0..=list.len());
+        list.insert(at, added);
+    }
+}
+
+/// An object of unknown tag.
+fn unknown(rng: &mut Rng) -> Vec<u8> {
+    let length = if rng.one_in(12) {
+        rng.below(60)
+    } else {
+        rng.below(6)
+    };
+    let value = rng.bytes(length);
+    let tag = rng.pick(&UNKNOWN);
+    objects::object(rng, tag, &value)
+}
+
+/// A private tag of the terminal, of any length.
+fn private(rng: &mut Rng) -> Vec<u8> {
+    let length = rng.below(8);
+    let value = rng.bytes(length);
+    let tag = 0xDF8120 + rng.below(5) as u32;
+    objects::object(rng, tag, &value)
+}
+
+/// A template with objects in it, nesting at most `levels` deep, itself counted.
+fn nested(rng: &mut Rng, store: &Store, levels: usize) -> Vec<u8> {
+    let tag = if rng.one_in(3) {
+        rng.pick(&[0x70, 0x77])
+    } else {
+        rng.pick(&TEMPLATES)
+    };
+    let mut content = Vec::new();
+    if levels > 1 && rng.percent(60) {
+        content.extend(nested(rng, store, levels - 1));
+    }
+    if rng.one_in(2) {
+        content.extend(unknown(rng));
+    }
+    if rng.one_in(4) {
+        content.extend(private(rng));
+    }
+    if tag == 0x70 && rng.one_in(3) {
+        let object = rng.pick(&[
+            Object::Track2,
+            Object::PanSequenceNumber,
+            Object::IssuerCountry,
+        ]);
+        if !store::has_value(store, object) {
+            let value = objects::good_value(rng, object);
+            objects::put_object(rng, &mut content, object.row().tag, &value);
+        }
+    }
+    objects::object(rng, tag, &content)
+}
+
+/// Puts a fault among the objects of an answer in the template `outer`.
+fn fault_in_objects(
+    rng: &mut Rng,
+    store: &Store,
+    list: &mut Vec<Vec<u8>>,
+    outer: u32,
+    fault: usize,
+) {
+    let added = match fault {
+        0 | 1 => {
+            // A known object of any kind, with a value that fits.
+            let object = rng.pick(&Object::ALL);
+            let value = objects::good_value(rng, object);
+            objects::object(rng, object.row().tag, &value)
+        }
+        2 | 3 => {
+            // A wrong length or digit in an object that the card may set.
+            let setters: &[Setter] = match outer {
+                0x70 => &[Setter::Card70],
+                _ => &[Setter::Card77, Setter::Cryptogram77],
+            };
+            let setter = rng.pick(setters);
+            let candidates: Vec<Object> = objects::of_setter(setter).collect();
+            let object = rng.pick(&candidates);
+            let value = objects::odd_value(rng, object);
+            objects::object(rng, object.row().tag, &value)
+        }
+        4 => {
+            // An object again.
+            match list.len() {
+                0 => objects::object(rng, 0x95, &[0; 5]),
+                n => list[rng.below(n)].clone(),
+            }
+        }
+        5 => {
+            // An object of the card in another template.
+            let object = rng.pick(&Object::ALL);
+            let value = objects::good_value(rng, object);
+            let inner = objects::object(rng, object.row().tag, &value);
+            let other = rng.pick(&TEMPLATES);
+            let tag = rng.pick(&[0x70, 0x77, other]);
+            objects::object(rng, tag, &inner)
+        }
+        6 => {
+            // Four or five levels in all, with something in the innermost.
+            let mut inner = match rng.below(3) {
+                0 => Vec::new(),
+                1 => unknown(rng),
+                _ => private(rng),
+            };
+            for _ in 0..rng.within(3..=4) {
+                let tag = rng.pick(&TEMPLATES);
+                inner = objects::object(rng, tag, &inner);
+            }
+            inner
+        }
+        7 => {
+            // A broken object inside, alone or in a template.
+            let mut inner = Vec::new();
+            if rng.one_in(3) {
+                let other = rng.pick(&UNKNOWN);
+                let tag = rng.pick(&[0x57, 0x9F10, 0xDF8120, 0xE1, other]);
+                objects::put_refused_length(rng, &mut inner, tag);
+            } else {
+                inner.extend(objects::broken(rng));
+            }
+            if rng.one_in(2) {
+                let tag = rng.pick(&TEMPLATES);
+                objects::object(rng, tag, &inner)
+            } else {
+                inner
+            }
+        }
+        _ => nested(rng, store, 5),
+    };
+    let at = if rng.one_in(2) {
+        list.len()
+    } else {
+        rng.within(0..=list.len())
+    };
+    list.insert(at, added);
+}

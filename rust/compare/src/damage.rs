@@ -1,0 +1,239 @@
+//! Damage to bytes, damage to session records, and records built from nothing.
+
+use crate::objects;
+use crate::rng::Rng;
+use model::dictionary::{Object, Setter, REQUIRED_AT_START, ROWS};
+use model::{locator, SESSION_SIZE};
+
+/// Flips, cuts, inserts, appends or replaces some bytes.
+pub fn bytes(rng: &mut Rng, bytes: &mut Vec<u8>) {
+    for _ in 0..rng.pick(&[1, 1, 1, 2, 3]) {
+        if bytes.is_empty() {
+            bytes.push(rng.byte());
+            continue;
+        }
+        let at = rng.below(bytes.len());
+        match rng.below(7) {
+            0 | 1 => bytes[at] ^= 1 << rng.below(8),
+            2 => bytes.truncate(at),
+            3 => bytes.insert(at, rng.byte()),
+            4 => {
+                let length = rng.within(1..=4);
+                bytes.extend(rng.bytes(length));
+            }
+            5 => {
+                bytes.remove(at);
+            }
+            _ => bytes[at] = rng.pick(&[0x00, 0x80, 0x81, 0x82, 0x83, 0xFF, 0x7F, 0x01]),
+        }
+    }
+}
+
+/// Offset of an object's place in a session record.
+fn place(object: Object) -> usize {
+    5 + object.row().place
+}
+
+/// Puts a value at its place in a session record.
+fn put(record: &mut [u8], object: Object, value: &[u8]) {
+    let place = place(object);
+    let length = value.len().min(usize::from(object.row().most));
+    record[place] = length as u8 + 1;
+    record[place + 1..][..length].copy_from_slice(&value[..length]);
+}
+
+/// The number of records of the locator that a session record holds.
+fn records(record: &[u8]) -> Option<u32> {
+    let place = place(Object::FileLocator);
+    let length = usize::from(record[place]).checked_sub(1)?;
+    locator::records(record.get(place + 1..place + 1 + length)?)
+}
+
+/// Fills the bytes that are free: the places of absent objects and those behind values.
+fn fill_free(rng: &mut Rng, record: &mut [u8]) {
+    for row in &ROWS {
+        let used = usize::from(record[5 + row.place]).max(1);
+        let end = 1 + usize::from(row.most);
+        if used < end {
+            rng.fill(&mut record[5 + row.place..][used..end]);
+        }
+    }
+}
+
+/// Damages a session record, or changes it within its ranges. The slice holds a whole record.
+pub fn record(rng: &mut Rng, record: &mut [u8]) {
+    let object = rng.pick(&Object::ALL);
+    let at = place(object);
+    let most = object.row().most;
+    match rng.below(18) {
+        0 => {
+            for _ in 0..rng.within(1..=3) {
+                record[rng.below(SESSION_SIZE)] ^= 1 << rng.below(8);
+            }
+        }
+        1 => {
+            let at = rng.below(5);
+            record[at] = if rng.one_in(2) {
+                rng.byte()
+            } else {
+                rng.below(6) as u8
+            };
+        }
+        2 => record[4] = record[4].wrapping_add(rng.pick(&[1, 2, 127, 128, 255])),
+        3 => record[2] = rng.pick(&[0, 1, 2, 3, 4, 5, 0x40, 0x80, 0xC0, 128, 129, 255]),
+        4 => {
+            let some = rng.byte();
+            record[at] = rng.pick(&[
+                0,
+                1,
+                object.row().least,
+                object.row().least + 1,
+                most + 1,
+                most.wrapping_add(2),
+                some,
+                255,
+            ]);
+        }
+        5 => {
+            // A wrong nibble.
+            let byte = at + 1 + rng.below(usize::from(most));
+            record[byte] = rng.pick(&[0xA0, 0x0A, 0xFF, 0xF1, 0x9B]);
+        }
+        6 | 7 => fill_free(rng, record),
+        8 | 9 => {
+            let value = objects::good_value(rng, object);
+            put(record, object, &value);
+        }
+        10 => {
+            let value = objects::odd_value(rng, object);
+            put(record, object, &value);
+        }
+        11 => record[at] = 0,
+        12 => {
+            let at = place(Object::VerificationResults);
+            record[at + 1 + rng.below(5)] ^= 1 << rng.below(8);
+        }
+        13 => {
+            let at = place(Object::FileLocator);
+            let used = usize::from(record[at]).max(2) - 1;
+            record[at + 1 + rng.below(used.min(248))] ^= 1 << rng.below(8);
+        }
+        14 => {
+            // One of the objects that decide the ranges absent, empty or there.
+            let object = rng.pick(&[
+                Object::InterchangeProfile,
+                Object::FileLocator,
+                Object::VerificationResults,
+                Object::ExpirationDate,
+                Object::Pan,
+                Object::Cdol1,
+                Object::IssuerApplicationData,
+                Object::Cryptogram,
+                Object::CryptogramInformation,
+                Object::TransactionCounter,
+                Object::TerminalType,
+            ]);
+            if rng.one_in(2) {
+                record[place(object)] = rng.below(2) as u8;
+            } else {
+                let value = objects::good_value(rng, object);
+                put(record, object, &value);
+            }
+        }
+        15 => {
+            record[place(Object::TerminalType) + 1] =
+                rng.pick(&[0x10, 0x17, 0x27, 0x31, 0x33, 0x37, 0x00]);
+        }
+        _ => other_phase(rng, record),
+    }
+}
+
+/// Gives a record another phase, mostly with the numbers that go with it.
+fn other_phase(rng: &mut Rng, record: &mut [u8]) {
+    let records = records(record).unwrap_or(1);
+    let phase = rng.below(5) as u8;
+    let (detail, reason, count) = match phase {
+        0 => (0, 0, 0),
+        1 => (0, 0, 1),
+        2 => {
+            let inside = rng.within(1..=records as usize) as u32;
+            let k = rng.pick(&[inside, inside, inside, 0, records, records + 1]);
+            (k as u8, 0, k as u8 + 1)
+        }
+        3 => (rng.pick(&[0x00, 0x40, 0x80]), 0, records as u8 + 2),
+        _ => {
+            let outcome = rng.below(5) as u8;
+            let reason = match outcome {
+                0..=2 => 0,
+                4 => 6,
+                _ => rng.within(1..=11) as u8,
+            };
+            let reason = if rng.one_in(4) {
+                rng.below(14) as u8
+            } else {
+                reason
+            };
+            (outcome, reason, rng.pick(&[0, 1, 3, 129, 130, 131]))
+        }
+    };
+    record[1..5].copy_from_slice(&[phase, detail, reason, count]);
+    if rng.one_in(6) {
+        record[4] = rng.byte();
+    }
+}
+
+/// A session record built from nothing, mostly within its ranges.
+pub fn built_record(rng: &mut Rng) -> Vec<u8> {
+    let mut bytes = vec![0; SESSION_SIZE];
+    bytes[0] = 1;
+    let phase = rng.below(5);
+    if phase == 0 {
+        return bytes;
+    }
+    let running = phase < 4;
+    for object in Object::ALL {
+        let wanted = match object.row().setter {
+            _ if REQUIRED_AT_START.contains(&object) => running || rng.one_in(2),
+            Setter::Session => running || rng.one_in(2),
+            Setter::Start | Setter::Card70 => rng.one_in(2),
+            Setter::Card77 => phase >= 2,
+            Setter::Cryptogram77 => !running && rng.one_in(2),
+        };
+        if wanted {
+            let value = objects::good_value(rng, object);
+            put(&mut bytes, object, &value);
+        }
+    }
+    if phase == 1 || phase == 2 {
+        put(&mut bytes, Object::VerificationResults, &[0; 5]);
+    }
+    if phase == 3 {
+        for object in [Object::ExpirationDate, Object::Pan, Object::Cdol1] {
+            let value = objects::good_value(rng, object);
+            put(&mut bytes, object, &value);
+        }
+    }
+    if rng.one_in(2) {
+        fill_free(rng, &mut bytes);
+    }
+    let records = records(&bytes).unwrap_or(1);
+    let (detail, reason, count) = match phase {
+        1 => (0, 0, 1),
+        2 => {
+            let k = rng.within(1..=records as usize) as u8;
+            (k, 0, k + 1)
+        }
+        3 => (rng.pick(&[0x00, 0x40, 0x80]), 0, records as u8 + 2),
+        _ => rng.pick(&[
+            (0, 0, 3),
+            (1, 0, 130),
+            (2, 0, 5),
+            (3, 1, 1),
+            (3, 11, 1),
+            (4, 6, 2),
+            (3, 7, 0),
+        ]),
+    };
+    bytes[1..5].copy_from_slice(&[phase as u8, detail, reason, count]);
+    bytes
+}

@@ -1,0 +1,17 @@
+//! Differential test: sessions drawn from a seed, each call made on the model and on the static library.
+//!
+//! After each call the reply word, the whole command buffer, the count and the whole session slice
+//! must be equal. `rng`, `objects`, `terminal`, `card`, `damage` and `play` draw the sessions; `run`
+//! makes the calls and counts what occurred.
+
+#![forbid(unsafe_code)]
+
+pub mod card;
+pub mod damage;
+pub mod objects;
+pub mod play;
+pub mod rng;
+pub mod run;
+pub mod side;
+pub mod step;
+pub mod terminal;

@@ -1,0 +1,485 @@
+//! Makes every call on both sides and compares all that comes back.
+
+use crate::play::Play;
+use crate::side::Side;
+use crate::step::{Hex, Step};
+use model::dictionary::{Object, ROWS};
+use model::SESSION_SIZE;
+use std::fmt::Write as _;
+use std::panic::{self, AssertUnwindSafe};
+use std::sync::atomic::{AtomicBool, Ordering};
+use std::thread;
+
+/// What occurred in some sessions.
+#[derive(Clone, Debug, PartialEq, Eq)]
+pub struct Coverage {
+    /// Sessions run.
+    pub sessions: u64,
+    /// Calls made on each side.
+    pub calls: u64,
+    /// Sessions that reached GENERATE AC.
+    pub reached_cryptogram: u64,
+    /// Outcomes 0 to 4.
+    pub outcomes: [u64; 5],
+    /// Reasons 0 to 11.
+    pub reasons: [u64; 12],
+    /// Refusals 20 to 25, for start, answer, link failed and stop.
+    pub refusals: [[u64; 6]; 4],
+    /// Refusals 25 of open.
+    pub refused_open: u64,
+    /// GENERATE AC with P1 00, 40, 80.
+    pub choices: [u64; 3],
+    /// Bits of 95 that were set on GENERATE AC: byte 1 b8, byte 2 b8 to b5, byte 4 b8.
+    pub result_bits: [u64; 6],
+    /// Types of cryptogram (top two bits) in ended sessions, for each choice asked.
+    pub types: [[u64; 4]; 3],
+    /// Objects held when a session ended.
+    pub held: [u64; ROWS.len()],
+    /// Sessions that handed out 130 commands.
+    pub longest: u64,
+}
+
+impl Default for Coverage {
+    fn default() -> Coverage {
+        Coverage {
+            sessions: 0,
+            calls: 0,
+            reached_cryptogram: 0,
+            outcomes: [0; 5],
+            reasons: [0; 12],
+            refusals: [[0; 6]; 4],
+            refused_open: 0,
+            choices: [0; 3],
+            result_bits: [0; 6],
+            types: [[0; 4]; 3],
+            held: [0; ROWS.len()],
+            longest: 0,
+        }
+    }
+}
+
+impl Coverage {
+    /// Adds the counts of other sessions.
+    pub fn add(&mut self, other: &Coverage) {
+        fn all(to: &mut [u64], from: &[u64]) {
+            to.iter_mut().zip(from).for_each(|(to, from)| *to += from);
+        }
+        self.sessions += other.sessions;
+        self.calls += other.calls;
+        self.reached_cryptogram += other.reached_cryptogram;
+        self.refused_open += other.refused_open;
+        self.longest += other.longest;
+        all(&mut self.outcomes, &other.outcomes);
+        all(&mut self.reasons, &other.reasons);
+        all(
+            self.refusals.as_flattened_mut(),
+            other.refusals.as_flattened(),
+        );
+        all(&mut self.choices, &other.choices);
+        all(&mut self.result_bits, &other.result_bits);
+        all(self.types.as_flattened_mut(), other.types.as_flattened());
+        all(&mut self.held, &other.held);
+    }
+
+    /// What should occur and never did.
+    pub fn missing(&self) -> Vec<String> {
+        let mut missing = Vec::new();
+        let mut need = |count: u64, what: String| {
+            if count == 0 {
+                missing.push(what);
+            }
+        };
+        for (i, &count) in self.outcomes.iter().enumerate() {
+            need(count, format!("outcome {i}"));
+        }
+        for (i, &count) in self.reasons.iter().enumerate() {
+            need(count, format!("reason {i}"));
+        }
+        for (call, refusals) in CALLS.iter().zip(&self.refusals) {
+            for (i, &count) in refusals.iter().enumerate() {
+                if *call == "start" || matches!(i, 1 | 2 | 5) {
+                    need(count, format!("refusal {} of {call}", 20 + i));
+                }
+            }
+        }
+        need(self.refused_open, "refusal 25 of open".into());
+        for (i, &count) in self.choices.iter().enumerate() {
+            need(count, format!("P1 {:02X}", i * 0x40));
+        }
+        for (i, &count) in self.result_bits.iter().enumerate() {
+            need(count, format!("result bit {i}"));
+        }
+        for (choice, types) in self.types.iter().enumerate() {
+            for (i, &count) in types.iter().enumerate() {
+                need(count, format!("type {i} with P1 {:02X}", choice * 0x40));
+            }
+        }
+        for (row, &count) in ROWS.iter().zip(&self.held) {
+            need(count, format!("object {:X} held", row.tag));
+        }
+        need(self.longest, "a session of 130 commands".into());
+        missing
+    }
+
+    /// The counts as text.
+    pub fn report(&self) -> String {
+        let mut out = String::new();
+        let part = 100.0 * self.reached_cryptogram as f64 / self.sessions.max(1) as f64;
+        let _ = writeln!(
+            out,
+            "sessions {}  calls {}  reached GENERATE AC {} ({part:.0} %)  of 130 commands {}",
+            self.sessions, self.calls, self.reached_cryptogram, self.longest
+        );
+        let _ = writeln!(out, "outcomes 0-4: {:?}", self.outcomes);
+        let _ = writeln!(out, "reasons 0-11: {:?}", self.reasons);
+        for (call, refusals) in CALLS.iter().zip(&self.refusals) {
+            let _ = writeln!(out, "refusals 20-25 of {call}: {refusals:?}");
+        }
+        let _ = writeln!(out, "refusal 25 of open: {}", self.refused_open);
+        let _ = writeln!(out, "P1 00, 40, 80: {:?}", self.choices);
+        let _ = writeln!(out, "cryptogram types by P1: {:?}", self.types);
+        let _ = writeln!(
+            out,
+            "bits of 95 (byte 1 b8, byte 2 b8-b5, byte 4 b8): {:?}",
+            self.result_bits
+        );
+        let held: Vec<String> = ROWS
+            .iter()
+            .zip(&self.held)
+            .map(|(row, count)| format!("{:X} {count}", row.tag))
+            .collect();
+        let _ = writeln!(out, "objects held at the end: {}", held.join(", "));
+        out
+    }
+
+    /// Counts what a call did. `asked` is P1 of the session that got an answer on GENERATE AC.
+    fn count(&mut self, call: usize, word: u32, session: &[u8], command: &[u8], asked: Option<u8>) {
+        self.calls += 1;
+        let [_, kind, high, low] = word.to_be_bytes();
+        match kind {
+            0 if command.starts_with(&[0x80, 0xAE]) && session[1] == 3 => {
+                self.choices[usize::from(command[2] >> 6)] += 1;
+                let at = 5 + Object::VerificationResults.row().place + 1;
+                let bits = &session[at..at + 5];
+                for (i, (byte, bit)) in [
+                    (0, 0x80),
+                    (1, 0x80),
+                    (1, 0x40),
+                    (1, 0x20),
+                    (1, 0x10),
+                    (3, 0x80),
+                ]
+                .into_iter()
+                .enumerate()
+                {
+                    self.result_bits[i] += u64::from(bits[byte] & bit != 0);
+                }
+            }
+            1 => {
+                self.outcomes[usize::from(high)] += 1;
+                self.reasons[usize::from(low)] += 1;
+                for (row, held) in ROWS.iter().zip(&mut self.held) {
+                    *held += u64::from(session[5 + row.place] != 0);
+                }
+                let information = 5 + Object::CryptogramInformation.row().place;
+                if let (Some(p1), 2) = (asked, session[information]) {
+                    self.types[usize::from(p1 >> 6)][usize::from(session[information + 1] >> 6)] +=
+                        1;
+                }
+                self.longest += u64::from(session[4] == 130);
+            }
+            2 => self.refusals[call][usize::from(low - 20)] += 1,
+            _ => {}
+        }
+    }
+}
+
+/// The calls that hand back a reply.
+const CALLS: [&str; 4] = ["start", "answer", "link_failed", "stop"];
+
+/// A session in which the two sides differ.
+#[derive(Clone, Debug)]
+pub struct Difference {
+    /// What differs.
+    pub what: String,
+    /// The steps up to it, the last one included.
+    pub steps: Vec<Step>,
+}
+
+/// Two sides with a session each, kept equal.
+struct Pair<'a, A: Side, B: Side> {
+    model: &'a A,
+    other: &'a B,
+    session: Vec<u8>,
+    session_other: Vec<u8>,
+    before: Vec<u8>,
+    buffer: Vec<u8>,
+    buffer_other: Vec<u8>,
+    verbose: bool,
+}
+
+impl<A: Side, B: Side> Pair<'_, A, B> {
+    /// Makes one step on both sides; an error says what differs.
+    fn step(&mut self, step: &Step, coverage: &mut Coverage) -> Result<(), String> {
+        let (call, buffer): (usize, &[u8]) = match step {
+            Step::Set(bytes) => {
+                self.session.clone_from(bytes);
+                self.session_other.clone_from(bytes);
+                return self.same_count();
+            }
+            Step::Open => return self.open(coverage),
+            Step::Start { buffer, .. } => (0, buffer),
+            Step::Answer { buffer, .. } => (1, buffer),
+            Step::LinkFailed { buffer } => (2, buffer),
+            Step::Stop { buffer } => (3, buffer),
+        };
+        self.before.clone_from(&self.session);
+        self.buffer.clear();
+        self.buffer.extend(buffer);
+        self.buffer_other.clear();
+        self.buffer_other.extend(buffer);
+        let word = make(self.model, step, &mut self.session, &mut self.buffer);
+        let word_other = make(
+            self.other,
+            step,
+            &mut self.session_other,
+            &mut self.buffer_other,
+        );
+        if self.verbose {
+            print_reply(word, &self.buffer, &self.session);
+        }
+        if word != word_other {
+            return Err(format!("reply: model {word:08X}, other {word_other:08X}"));
+        }
+        same("command buffer", &self.buffer, &self.buffer_other)?;
+        same("session bytes", &self.session, &self.session_other)?;
+        self.same_count()?;
+        self.kept(word, buffer)?;
+        let asked = match *self.before.as_slice() {
+            [_, 3, p1, ..] if call == 1 => Some(p1),
+            _ => None,
+        };
+        coverage.count(call, word, &self.session, &self.buffer, asked);
+        Ok(())
+    }
+
+    fn open(&mut self, coverage: &mut Coverage) -> Result<(), String> {
+        let word = self.model.open(&mut self.session);
+        let word_other = self.other.open(&mut self.session_other);
+        if self.verbose {
+            print_reply(word, &[], &self.session);
+        }
+        if word != word_other {
+            return Err(format!("reply: model {word:08X}, other {word_other:08X}"));
+        }
+        same("session bytes", &self.session, &self.session_other)?;
+        coverage.calls += 1;
+        coverage.refused_open += u64::from(word != 0);
+        self.same_count()
+    }
+
+    /// The count that both sides report.
+    fn same_count(&self) -> Result<(), String> {
+        let count = self.model.count(&self.session);
+        let count_other = self.other.count(&self.session_other);
+        if count != count_other {
+            return Err(format!("count: model {count:X}, other {count_other:X}"));
+        }
+        Ok(())
+    }
+
+    /// What holds of every call, whatever the model says: which bytes stay.
+    fn kept(&self, word: u32, buffer: &[u8]) -> Result<(), String> {
+        let written = if word < 0x0001_0000 { word as usize } else { 0 };
+        same(
+            "buffer behind the command",
+            &self.buffer[written..],
+            &buffer[written..],
+        )?;
+        let changed = if word < 0x0002_0000 { SESSION_SIZE } else { 0 };
+        same(
+            "session bytes that stay",
+            &self.session[changed..],
+            &self.before[changed..],
+        )
+    }
+}
+
+/// Makes a call on one side.
+fn make(side: &impl Side, step: &Step, session: &mut [u8], buffer: &mut [u8]) -> u32 {
+    match step {
+        Step::Start { terminal, .. } => side.start(session, terminal, buffer),
+        Step::Answer { card, .. } => side.answer(session, card, buffer),
+        Step::LinkFailed { .. } => side.link_failed(session, buffer),
+        Step::Stop { .. } => side.stop(session, buffer),
+        Step::Open => side.open(session),
+        Step::Set(_) => 0,
+    }
+}
+
+/// Compares bytes; an error names the first that differs.
+fn same(what: &str, model: &[u8], other: &[u8]) -> Result<(), String> {
+    if model == other {
+        return Ok(());
+    }
+    let at = model
+        .iter()
+        .zip(other)
+        .position(|(a, b)| a != b)
+        .unwrap_or(0);
+    let end = (at + 16).min(model.len()).min(other.len());
+    Err(format!(
+        "{what}, from byte {at}: model {}, other {}",
+        Hex(&model[at..end]),
+        Hex(&other[at..end])
+    ))
+}
+
+fn print_reply(word: u32, buffer: &[u8], session: &[u8]) {
+    let command = match word {
+        0..=0xFFFF => &buffer[..(word as usize).min(buffer.len())],
+        _ => &[],
+    };
+    let head = &session[..session.len().min(5)];
+    println!("  -> {word:08X} {}  head {}", Hex(command), Hex(head));
+}
+
+/// Runs the session of a seed on both sides. With `verbose` each step and reply is printed.
+pub fn run_seed(
+    model: &impl Side,
+    other: &impl Side,
+    seed: u64,
+    coverage: &mut Coverage,
+    verbose: bool,
+) -> Result<(), Difference> {
+    let mut play = Play::new(seed);
+    run(
+        model,
+        other,
+        |session| play.next(session),
+        coverage,
+        verbose,
+    )
+}
+
+/// Runs given steps on both sides.
+pub fn run_steps(
+    model: &impl Side,
+    other: &impl Side,
+    steps: &[Step],
+    coverage: &mut Coverage,
+) -> Result<(), Difference> {
+    let mut steps = steps.iter().cloned();
+    run(model, other, |_| steps.next(), coverage, true)
+}
+
+fn run(
+    model: &impl Side,
+    other: &impl Side,
+    mut next: impl FnMut(&[u8]) -> Option<Step>,
+    coverage: &mut Coverage,
+    verbose: bool,
+) -> Result<(), Difference> {
+    let mut pair = Pair {
+        model,
+        other,
+        session: Vec::new(),
+        session_other: Vec::new(),
+        before: Vec::new(),
+        buffer: Vec::new(),
+        buffer_other: Vec::new(),
+        verbose,
+    };
+    let mut steps = Vec::new();
+    let choices = coverage.choices;
+    while let Some(step) = next(&pair.session) {
+        if verbose {
+            println!("{step}");
+        }
+        let result = pair.step(&step, coverage);
+        steps.push(step);
+        if let Err(what) = result {
+            return Err(Difference { what, steps });
+        }
+    }
+    coverage.sessions += 1;
+    coverage.reached_cryptogram += u64::from(coverage.choices != choices);
+    Ok(())
+}
+
+/// Runs `sessions` sessions of the seeds from `first` on, on all cores. An error tells the first difference found.
+pub fn run_many(
+    model: &impl Side,
+    other: &impl Side,
+    sessions: u64,
+    first: u64,
+) -> Result<Coverage, String> {
+    if model.session_size() != other.session_size() {
+        return Err("the session sizes differ".into());
+    }
+    let threads = thread::available_parallelism().map_or(1, |n| n.get() as u64);
+    let failed = AtomicBool::new(false);
+    let parts: Vec<Result<Coverage, String>> = thread::scope(|scope| {
+        let workers: Vec<_> = (0..threads)
+            .map(|thread| {
+                let failed = &failed;
+                scope.spawn(move || {
+                    let mut coverage = Coverage::default();
+                    for i in (thread..sessions).step_by(threads as usize) {
+                        if failed.load(Ordering::Relaxed) {
+                            break;
+                        }
+                        let seed = first.wrapping_add(i);
+                        if let Err(text) = run_caught(model, other, seed, &mut coverage) {
+                            failed.store(true, Ordering::Relaxed);
+                            return Err(text);
+                        }
+                    }
+                    Ok(coverage)
+                })
+            })
+            .collect();
+        workers
+            .into_iter()
+            .map(|worker| {
+                worker
+                    .join()
+                    .unwrap_or_else(|_| Err("a worker failed".into()))
+            })
+            .collect()
+    });
+    let mut coverage = Coverage::default();
+    for part in parts {
+        coverage.add(&part?);
+    }
+    Ok(coverage)
+}
+
+/// Runs one seed; a difference or a panic comes back as text with the seed and the steps.
+fn run_caught(
+    model: &impl Side,
+    other: &impl Side,
+    seed: u64,
+    coverage: &mut Coverage,
+) -> Result<(), String> {
+    let run = || run_seed(model, other, seed, coverage, false);
+    match panic::catch_unwind(AssertUnwindSafe(run)) {
+        Ok(Ok(())) => Ok(()),
+        Ok(Err(difference)) => Err(describe(seed, &difference)),
+        Err(_) => Err(format!(
+            "seed {seed}: a panic; replay with: compare --seed {seed}"
+        )),
+    }
+}
+
+/// A difference as text: the seed, what differs, and the steps for `compare --steps FILE`.
+fn describe(seed: u64, difference: &Difference) -> String {
+    let mut out = format!(
+        "seed {seed}: {}\nreplay with: compare --seed {seed}\nor put these lines in a file for: compare --steps FILE\n",
+        difference.what
+    );
+    for step in &difference.steps {
+        let _ = writeln!(out, "{step}");
+    }
+    out
+}

@@ -1,0 +1,95 @@
+//! A plain Rust model of one contactless session in EMV mode, written from document 01.
+//!
+//! The seven calls take lent bytes and give the result words of docs/HOST.md, so that a reply, a
+//! command buffer, a count and the session's bytes can be compared byte for byte with the library.
+//!
+//! - `tlv`: one object at the front of some bytes
+//! - `dictionary`, `store`: the known tags, and one fixed place for each
+//! - `reading`: a card's answer into a store, whole or not at all
+//! - `data_list`, `locator`, `analysis`: data object lists, the file locator, result bits and choice
+//! - `session`: the session record, its ranges and its steps
+
+#![no_std]
+#![forbid(unsafe_code)]
+
+pub mod analysis;
+pub mod data_list;
+pub mod dictionary;
+pub mod locator;
+pub mod reading;
+pub mod session;
+pub mod store;
+pub mod tlv;
+
+pub use dictionary::STORE_SIZE;
+pub use session::{COMMAND_SIZE, SESSION_SIZE};
+
+use session::{Reason, Refusal, Reply, Session};
+use store::Store;
+
+/// What `count` gives where the bytes hold no record.
+pub const NO_COUNT: u32 = 0xFFFF_FFFF;
+
+/// The result word of a call (docs/HOST.md).
+fn word(reply: Result<Reply, Refusal>) -> u32 {
+    match reply {
+        Ok(Reply::Command(length)) => length as u32,
+        Ok(Reply::Outcome(outcome, reason)) => {
+            0x0001_0000 | (outcome as u32) << 8 | u32::from(reason)
+        }
+        Err(refusal) => 0x0002_0000 | refusal as u32,
+    }
+}
+
+/// Bytes that a session record needs.
+pub fn session_size() -> usize {
+    SESSION_SIZE
+}
+
+/// Writes a fresh record: 0, or refusal 25 if the bytes are too few.
+pub fn open(session: &mut [u8]) -> u32 {
+    match session::open(session) {
+        Ok(()) => 0,
+        Err(refusal) => word(Err(refusal)),
+    }
+}
+
+/// Starts a fresh session with the terminal's objects.
+pub fn start(session: &mut [u8], terminal: &[u8], command: &mut [u8]) -> u32 {
+    word(Session::load(session, command).and_then(|session| session.start(terminal, command)))
+}
+
+/// Takes a card's answer with its two status bytes.
+pub fn answer(session: &mut [u8], card: &[u8], command: &mut [u8]) -> u32 {
+    word(Session::load(session, command).and_then(|session| session.answer(card, command)))
+}
+
+/// Ends a running session because the link failed.
+pub fn link_failed(session: &mut [u8], command: &mut [u8]) -> u32 {
+    word(Session::load(session, command).and_then(|session| session.give_up(Reason::LinkFailed)))
+}
+
+/// Ends a running session because it is stopped.
+pub fn stop(session: &mut [u8], command: &mut [u8]) -> u32 {
+    word(Session::load(session, command).and_then(|session| session.give_up(Reason::Stopped)))
+}
+
+/// The count of commands handed out, or `NO_COUNT` where the bytes hold no record.
+pub fn count(session: &[u8]) -> u32 {
+    session::count(session).map_or(NO_COUNT, u32::from)
+}
+
+/// Reads one record's answer, status bytes included, into a store that keeps its ranges.
+///
+/// Gives the reason (0 if none) and the number of objects visited. Of files 11 to 30 only the status is read.
+pub fn read_record(store: &mut Store, file: u8, answer: &[u8]) -> (u8, u32) {
+    let record = locator::Record { file, number: 1 };
+    match reading::body(answer) {
+        Err(reason) => (reason as u8, 0),
+        Ok(_) if !record.is_read() => (0, 0),
+        Ok(body) => {
+            let (result, count) = reading::read(store, reading::AnswerTo::Record, body);
+            (result.map_or_else(|reason| reason as u8, |()| 0), count)
+        }
+    }
+}

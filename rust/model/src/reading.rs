@@ -1,0 +1,147 @@
+//! Reading a card's answer into a store, whole or not at all (document 01, "Reading an answer").
+
+use crate::dictionary::{Object, Setter};
+use crate::session::Reason;
+use crate::store::{self, Store};
+use crate::tlv::{self, Tag};
+
+/// Templates nest this deep, the outer one counted.
+const LEVELS: u32 = 4;
+
+/// The command that an answer belongs to.
+#[derive(Clone, Copy, Debug, PartialEq, Eq)]
+pub enum AnswerTo {
+    /// GET PROCESSING OPTIONS.
+    Options,
+    /// READ RECORD of a file that is read (1 to 10).
+    Record,
+    /// GENERATE AC.
+    Cryptogram,
+}
+
+/// What a reading gives: nothing or the reason it ended with, and how many objects it visited.
+pub type Reading = (Result<(), Reason>, u32);
+
+/// The answer without its status bytes. The length is tested first, then the status.
+pub fn body(answer: &[u8]) -> Result<&[u8], Reason> {
+    if !(2..=258).contains(&answer.len()) {
+        return Err(Reason::Malformed);
+    }
+    answer.strip_suffix(&[0x90, 0x00]).ok_or(Reason::Status)
+}
+
+/// Reads the body of an answer into the store. After a reason the store is as before.
+///
+/// The count is 0 for a malformed body, else the number of objects of the tree, templates included.
+pub fn read(store: &mut Store, answer_to: AnswerTo, body: &[u8]) -> Reading {
+    let Some((tag, value, [])) = tlv::split_object(body) else {
+        return (Err(Reason::Malformed), 0);
+    };
+    if tag.is_template() {
+        read_template(store, answer_to, tag, value)
+    } else if tag.number == 0x80 {
+        (read_format_1(store, answer_to, value), 1)
+    } else {
+        (Err(Reason::Malformed), 1)
+    }
+}
+
+/// Reads an answer that is one template.
+fn read_template(store: &mut Store, answer_to: AnswerTo, outer: Tag, contents: &[u8]) -> Reading {
+    let mut walk = Walk {
+        store: *store,
+        answer_to,
+        allowed: true,
+        count: 1,
+    };
+    if walk.contents(outer, contents, LEVELS - 1).is_none() {
+        return (Err(Reason::Malformed), 0);
+    }
+    let wanted = match answer_to {
+        AnswerTo::Options | AnswerTo::Cryptogram => 0x77,
+        AnswerTo::Record => 0x70,
+    };
+    if outer.number != wanted {
+        return (Err(Reason::Malformed), walk.count);
+    }
+    if !walk.allowed {
+        return (Err(Reason::NotAllowed), walk.count);
+    }
+    *store = walk.store;
+    (Ok(()), walk.count)
+}
+
+/// Reads an answer of tag 80: the values stand one behind the other.
+fn read_format_1(store: &mut Store, answer_to: AnswerTo, value: &[u8]) -> Result<(), Reason> {
+    match answer_to {
+        AnswerTo::Options => {
+            if !(6..=250).contains(&value.len()) || value.len() % 4 != 2 {
+                return Err(Reason::Malformed);
+            }
+            let (profile, locator) = value.split_at(2);
+            store::put(store, Object::InterchangeProfile, profile);
+            store::put(store, Object::FileLocator, locator);
+        }
+        AnswerTo::Cryptogram => {
+            if !(11..=43).contains(&value.len()) {
+                return Err(Reason::Malformed);
+            }
+            store::put(store, Object::CryptogramInformation, &value[..1]);
+            store::put(store, Object::TransactionCounter, &value[1..3]);
+            store::put(store, Object::Cryptogram, &value[3..11]);
+            if value.len() > 11 {
+                store::put(store, Object::IssuerApplicationData, &value[11..]);
+            }
+        }
+        AnswerTo::Record => return Err(Reason::Malformed),
+    }
+    Ok(())
+}
+
+/// The walk over the objects of a template, with a working copy of the store.
+struct Walk {
+    store: Store,
+    answer_to: AnswerTo,
+    allowed: bool,
+    count: u32,
+}
+
+impl Walk {
+    /// Takes the objects of a template in order; none if the bytes are malformed.
+    ///
+    /// `levels` is how many more templates may nest inside this one.
+    /// A not allowed object does not stop the walk: a malformed one behind it decides.
+    fn contents(&mut self, around: Tag, mut bytes: &[u8], levels: u32) -> Option<()> {
+        while !bytes.is_empty() {
+            let (tag, value, rest) = tlv::split_object(bytes)?;
+            self.count += 1;
+            if tag.is_template() {
+                self.contents(tag, value, levels.checked_sub(1)?)?;
+            } else if self.allowed {
+                self.allowed = self.primitive(around, tag, value);
+            }
+            bytes = rest;
+        }
+        Some(())
+    }
+
+    /// Skips or stores one primitive object; false if it is not allowed.
+    fn primitive(&mut self, around: Tag, tag: Tag, value: &[u8]) -> bool {
+        let Some(object) = Object::of_tag(tag.number) else {
+            return true;
+        };
+        let row = object.row();
+        let template = match row.setter {
+            Setter::Card70 => 0x70,
+            Setter::Card77 => 0x77,
+            Setter::Cryptogram77 if self.answer_to == AnswerTo::Cryptogram => 0x77,
+            Setter::Cryptogram77 => return false,
+            Setter::Start | Setter::Session => return tag.is_private(),
+        };
+        if around.number != template || !row.fits(value) || store::has_value(&self.store, object) {
+            return false;
+        }
+        store::put(&mut self.store, object, value);
+        true
+    }
+}

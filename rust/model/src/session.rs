@@ -1,0 +1,467 @@
+//! The session record, its ranges, and the steps of the four calls.
+
+use crate::analysis::{self, Choice};
+use crate::data_list;
+use crate::dictionary::{self, Object, Setter, REQUIRED_AT_START, STORE_SIZE};
+use crate::locator;
+use crate::reading::{self, AnswerTo};
+use crate::store::{self, Store};
+use crate::tlv;
+
+/// Bytes in front of the store: version, phase, two bytes of detail, count.
+const HEAD_SIZE: usize = 5;
+
+/// Bytes of a session record.
+pub const SESSION_SIZE: usize = HEAD_SIZE + STORE_SIZE;
+
+/// The longest command.
+pub const COMMAND_SIZE: usize = 261;
+
+/// Version of the record's layout.
+const VERSION: u8 = 1;
+
+/// Why a running session ends early (document 01, reasons 1 to 11).
+#[derive(Clone, Copy, Debug, PartialEq, Eq)]
+#[repr(u8)]
+pub enum Reason {
+    /// Status bytes other than 90 00.
+    Status = 1,
+    /// Malformed answer.
+    Malformed = 2,
+    /// Object not allowed.
+    NotAllowed = 3,
+    /// Object missing.
+    Missing = 4,
+    /// File locator.
+    Locator = 5,
+    /// Amount above transaction limit.
+    Limit = 6,
+    /// Data object list.
+    DataList = 7,
+    /// Cryptogram type.
+    CryptogramType = 8,
+    /// Link failed.
+    LinkFailed = 9,
+    /// Stopped.
+    Stopped = 10,
+    /// Not EMV mode.
+    NotEmvMode = 11,
+}
+
+impl Reason {
+    /// The outcome that goes with the reason.
+    fn outcome(self) -> Outcome {
+        match self {
+            Reason::Limit => Outcome::SelectNext,
+            _ => Outcome::Ended,
+        }
+    }
+}
+
+/// How a session ends.
+#[derive(Clone, Copy, Debug, PartialEq, Eq)]
+#[repr(u8)]
+pub enum Outcome {
+    /// Approved offline.
+    Approved = 0,
+    /// Online request.
+    OnlineRequest = 1,
+    /// Declined.
+    Declined = 2,
+    /// Ended with a reason.
+    Ended = 3,
+    /// Select next, with reason 6.
+    SelectNext = 4,
+}
+
+/// A call that is refused changes nothing (document 01, refusals 20 to 25).
+#[derive(Clone, Copy, Debug, PartialEq, Eq)]
+#[repr(u8)]
+pub enum Refusal {
+    /// Start bytes too long or not a run of whole primitive objects.
+    StartBytes = 20,
+    /// Call not in order.
+    Order = 21,
+    /// Command buffer too short.
+    Buffer = 22,
+    /// A start object that is not allowed.
+    StartObject = 23,
+    /// An object that a start must bring is absent.
+    StartMissing = 24,
+    /// The bytes hold no session record within its ranges.
+    Record = 25,
+}
+
+/// What a call hands back when it is not refused.
+#[derive(Clone, Copy, Debug, PartialEq, Eq)]
+pub enum Reply {
+    /// A command of this length fills the front of the buffer.
+    Command(usize),
+    /// The session has ended; reason 0 goes with approved, online request and declined.
+    Outcome(Outcome, u8),
+}
+
+/// Where a session stands.
+#[derive(Clone, Copy, Debug, PartialEq, Eq)]
+enum Phase {
+    Fresh,
+    /// Waiting on the answer to GET PROCESSING OPTIONS.
+    Options,
+    /// Waiting on the k-th record.
+    Record(u8),
+    /// Waiting on the answer to GENERATE AC.
+    Cryptogram(Choice),
+    Ended {
+        outcome: u8,
+        reason: u8,
+    },
+}
+
+/// A session record in lent bytes: the decoded head, and the store in place.
+pub struct Session<'a> {
+    head: &'a mut [u8; HEAD_SIZE],
+    store: &'a mut Store,
+    phase: Phase,
+    count: u8,
+}
+
+/// Decodes the head of a record, or none if the bytes hold no record (docs/HOST.md, record layout).
+fn decode(head: &[u8; HEAD_SIZE]) -> Option<(Phase, u8)> {
+    let &[version, phase, detail, reason, count] = head;
+    if version != VERSION {
+        return None;
+    }
+    let phase = match (phase, detail, reason) {
+        (0, 0, 0) => Phase::Fresh,
+        (1, 0, 0) => Phase::Options,
+        (2, k, 0) => Phase::Record(k),
+        (3, p1, 0) => Phase::Cryptogram(Choice::of_p1(p1)?),
+        (4, outcome @ 0..=4, reason) => Phase::Ended { outcome, reason },
+        _ => return None,
+    };
+    Some((phase, count))
+}
+
+/// Writes a fresh record over the front of `bytes`.
+pub fn open(bytes: &mut [u8]) -> Result<(), Refusal> {
+    let record: &mut [u8; SESSION_SIZE] = bytes.first_chunk_mut().ok_or(Refusal::Record)?;
+    record.fill(0);
+    record[0] = VERSION;
+    Ok(())
+}
+
+/// The count of commands handed out, or none if the bytes hold no record.
+pub fn count(bytes: &[u8]) -> Option<u8> {
+    let record: &[u8; SESSION_SIZE] = bytes.first_chunk()?;
+    decode(record.first_chunk()?).map(|(_, count)| count)
+}
+
+impl<'a> Session<'a> {
+    /// The session in `bytes`, once the refusals that all calls share are ruled out.
+    ///
+    /// The length of the command buffer is tested first, then the record and its ranges.
+    pub fn load(bytes: &'a mut [u8], command: &[u8]) -> Result<Session<'a>, Refusal> {
+        if command.len() < COMMAND_SIZE {
+            return Err(Refusal::Buffer);
+        }
+        let (head, rest) = bytes.split_first_chunk_mut().ok_or(Refusal::Record)?;
+        let store = rest.first_chunk_mut().ok_or(Refusal::Record)?;
+        let (phase, count) = decode(head).ok_or(Refusal::Record)?;
+        let session = Session {
+            head,
+            store,
+            phase,
+            count,
+        };
+        if session.in_range() {
+            Ok(session)
+        } else {
+            Err(Refusal::Record)
+        }
+    }
+
+    /// The ranges of a session record (document 01, "Session ranges").
+    fn in_range(&self) -> bool {
+        let store = &*self.store;
+        match self.phase {
+            Phase::Fresh => self.count == 0 && *store == [0; STORE_SIZE],
+            Phase::Ended { outcome, reason } => {
+                let outcome_goes = match reason {
+                    0 => outcome <= 2,
+                    6 => outcome == 4,
+                    1..=11 => outcome == 3,
+                    _ => false,
+                };
+                self.count <= 130 && outcome_goes && store::fits(store)
+            }
+            Phase::Options => {
+                self.count == 1
+                    && store::fits(store)
+                    && running(store)
+                    && results_zero(store)
+                    && !store::has(store, Object::InterchangeProfile)
+                    && !store::has(store, Object::FileLocator)
+            }
+            Phase::Record(k) => {
+                store::fits(store)
+                    && running(store)
+                    && results_zero(store)
+                    && records_of_emv_card(store).is_some_and(|records| {
+                        (1..=records).contains(&u32::from(k))
+                            && u32::from(self.count) == 1 + u32::from(k)
+                    })
+            }
+            Phase::Cryptogram(_) => {
+                store::fits(store)
+                    && running(store)
+                    && records_of_emv_card(store)
+                        .is_some_and(|records| u32::from(self.count) == 2 + records)
+                    && holds_record_data(store)
+            }
+        }
+    }
+
+    /// Start: takes the terminal's objects and asks for the processing options.
+    pub fn start(mut self, terminal: &[u8], command: &mut [u8]) -> Result<Reply, Refusal> {
+        if self.phase != Phase::Fresh {
+            return Err(Refusal::Order);
+        }
+        *self.store = read_start(terminal)?;
+        let reply = self.ask_options(command);
+        Ok(self.finish(reply))
+    }
+
+    /// Answer: takes the card's answer to the command handed out last.
+    pub fn answer(mut self, answer: &[u8], command: &mut [u8]) -> Result<Reply, Refusal> {
+        let reply = match self.phase {
+            Phase::Fresh | Phase::Ended { .. } => return Err(Refusal::Order),
+            Phase::Options => self.take_options(answer, command),
+            Phase::Record(k) => self.take_record(u32::from(k), answer, command),
+            Phase::Cryptogram(asked) => self.take_cryptogram(asked, answer),
+        };
+        Ok(self.finish(reply))
+    }
+
+    /// Link failed and stop: end a running session with their reason.
+    pub fn give_up(self, reason: Reason) -> Result<Reply, Refusal> {
+        match self.phase {
+            Phase::Fresh | Phase::Ended { .. } => Err(Refusal::Order),
+            _ => Ok(self.finish(Err(reason))),
+        }
+    }
+
+    /// Ends the session if a reason was met, and writes the head of the record.
+    fn finish(mut self, reply: Result<Reply, Reason>) -> Reply {
+        let reply = reply.unwrap_or_else(|reason| Reply::Outcome(reason.outcome(), reason as u8));
+        if let Reply::Outcome(outcome, reason) = reply {
+            self.phase = Phase::Ended {
+                outcome: outcome as u8,
+                reason,
+            };
+        } else {
+            self.count += 1;
+        }
+        let (phase, detail, reason) = match self.phase {
+            Phase::Fresh => (0, 0, 0),
+            Phase::Options => (1, 0, 0),
+            Phase::Record(k) => (2, k, 0),
+            Phase::Cryptogram(choice) => (3, choice.p1(), 0),
+            Phase::Ended { outcome, reason } => (4, outcome, reason),
+        };
+        *self.head = [VERSION, phase, detail, reason, self.count];
+        reply
+    }
+
+    /// GET PROCESSING OPTIONS: 80 A8 00 00 Lc, 83 length filled 9F38, 00.
+    fn ask_options(&mut self, command: &mut [u8]) -> Result<Reply, Reason> {
+        let list = store::get(self.store, Object::Pdol).unwrap_or_default();
+        let length = data_list::filled_length(list)
+            .filter(|&length| length <= 252)
+            .ok_or(Reason::DataList)?;
+        let front = if length <= 127 { 7 } else { 8 };
+        let lc = (front - 5 + length) as u8;
+        command[..6].copy_from_slice(&[0x80, 0xA8, 0x00, 0x00, lc, 0x83]);
+        if length <= 127 {
+            command[6] = length as u8;
+        } else {
+            command[6..8].copy_from_slice(&[0x81, length as u8]);
+        }
+        data_list::fill(self.store, list, &mut command[front..][..length]);
+        command[front + length] = 0x00;
+        self.phase = Phase::Options;
+        Ok(Reply::Command(front + length + 1))
+    }
+
+    /// The answer to GET PROCESSING OPTIONS; then the first record.
+    fn take_options(&mut self, answer: &[u8], command: &mut [u8]) -> Result<Reply, Reason> {
+        let body = reading::body(answer)?;
+        reading::read(self.store, AnswerTo::Options, body).0?;
+        let (Some(&[_, profile]), Some(locator)) = (
+            store::get_fixed(self.store, Object::InterchangeProfile),
+            store::get(self.store, Object::FileLocator),
+        ) else {
+            return Err(Reason::Missing);
+        };
+        if profile & 0x80 == 0 {
+            return Err(Reason::NotEmvMode);
+        }
+        locator::records(locator).ok_or(Reason::Locator)?;
+        self.ask_record(1, command)
+    }
+
+    /// READ RECORD for the k-th record: 00 B2 record, file x 8 + 4, 00.
+    fn ask_record(&mut self, k: u32, command: &mut [u8]) -> Result<Reply, Reason> {
+        let record = self.record(k)?;
+        command[..5].copy_from_slice(&[0x00, 0xB2, record.number, record.file << 3 | 0x04, 0x00]);
+        self.phase = Phase::Record(k as u8);
+        Ok(Reply::Command(5))
+    }
+
+    /// The k-th record of the accepted locator.
+    fn record(&self, k: u32) -> Result<locator::Record, Reason> {
+        store::get(self.store, Object::FileLocator)
+            .and_then(|locator| locator::record(locator, k))
+            .ok_or(Reason::Locator)
+    }
+
+    /// The answer to READ RECORD; then the next record, or GENERATE AC after the last.
+    fn take_record(&mut self, k: u32, answer: &[u8], command: &mut [u8]) -> Result<Reply, Reason> {
+        let body = reading::body(answer)?;
+        if self.record(k)?.is_read() {
+            reading::read(self.store, AnswerTo::Record, body).0?;
+        }
+        let locator = store::get(self.store, Object::FileLocator).unwrap_or_default();
+        if locator::record(locator, k + 1).is_some() {
+            self.ask_record(k + 1, command)
+        } else {
+            self.ask_cryptogram(command)
+        }
+    }
+
+    /// After the last record: limit, missing objects, result bits, choice, then GENERATE AC.
+    fn ask_cryptogram(&mut self, command: &mut [u8]) -> Result<Reply, Reason> {
+        if store::get(self.store, Object::AmountAuthorised)
+            > store::get(self.store, Object::TransactionLimit)
+        {
+            return Err(Reason::Limit);
+        }
+        if !holds_record_data(self.store) {
+            return Err(Reason::Missing);
+        }
+        let bits = analysis::result_bits(self.store);
+        store::put(self.store, Object::VerificationResults, &bits);
+        let choice = analysis::choice(self.store, &bits);
+
+        let list = store::get(self.store, Object::Cdol1).unwrap_or_default();
+        let length = data_list::filled_length(list)
+            .filter(|length| (1..=255).contains(length))
+            .ok_or(Reason::DataList)?;
+        command[..5].copy_from_slice(&[0x80, 0xAE, choice.p1(), 0x00, length as u8]);
+        data_list::fill(self.store, list, &mut command[5..][..length]);
+        command[5 + length] = 0x00;
+        self.phase = Phase::Cryptogram(choice);
+        Ok(Reply::Command(5 + length + 1))
+    }
+
+    /// The answer to GENERATE AC; its type against the choice asked for gives the outcome.
+    fn take_cryptogram(&mut self, asked: Choice, answer: &[u8]) -> Result<Reply, Reason> {
+        let body = reading::body(answer)?;
+        reading::read(self.store, AnswerTo::Cryptogram, body).0?;
+        let Some(&[information]) = store::get_fixed(self.store, Object::CryptogramInformation)
+        else {
+            return Err(Reason::Missing);
+        };
+        if !store::has(self.store, Object::TransactionCounter)
+            || !store::has(self.store, Object::Cryptogram)
+        {
+            return Err(Reason::Missing);
+        }
+        let outcome = match (information >> 6, asked) {
+            (0b00, _) => Outcome::Declined,
+            (0b10, Choice::Offline | Choice::Online) => Outcome::OnlineRequest,
+            (0b01, Choice::Offline) => Outcome::Approved,
+            _ => return Err(Reason::CryptogramType),
+        };
+        Ok(Reply::Outcome(outcome, 0))
+    }
+}
+
+/// Reads the start bytes into an empty store, and sets 95 to zero.
+fn read_start(terminal: &[u8]) -> Result<Store, Refusal> {
+    if terminal.len() > 1024 {
+        return Err(Refusal::StartBytes);
+    }
+    let mut store = [0; STORE_SIZE];
+    let mut allowed = true;
+    let mut rest = terminal;
+    while !rest.is_empty() {
+        let (tag, value, behind) = tlv::split_object(rest)
+            .filter(|(tag, _, _)| !tag.is_template())
+            .ok_or(Refusal::StartBytes)?;
+        if let Some(object) = Object::of_tag(tag.number) {
+            let row = object.row();
+            if row.setter == Setter::Start
+                && row.fits(value)
+                && !store::has(&store, object)
+                && (object != Object::TerminalType || dictionary::terminal_type_listed(value[0]))
+            {
+                store::put(&mut store, object, value);
+            } else {
+                allowed = false;
+            }
+        }
+        rest = behind;
+    }
+    if !allowed {
+        return Err(Refusal::StartObject);
+    }
+    if !REQUIRED_AT_START
+        .iter()
+        .all(|&object| store::has(&store, object))
+    {
+        return Err(Refusal::StartMissing);
+    }
+    store::put(&mut store, Object::VerificationResults, &[0; 5]);
+    Ok(store)
+}
+
+/// What every running session holds and does not hold.
+fn running(store: &Store) -> bool {
+    let type_listed = store::get(store, Object::TerminalType)
+        .is_some_and(|value| dictionary::terminal_type_listed(value[0]));
+    let cryptogram_absent = [
+        Object::IssuerApplicationData,
+        Object::Cryptogram,
+        Object::CryptogramInformation,
+        Object::TransactionCounter,
+    ]
+    .iter()
+    .all(|&object| !store::has(store, object));
+    type_listed
+        && cryptogram_absent
+        && store::has(store, Object::VerificationResults)
+        && REQUIRED_AT_START
+            .iter()
+            .all(|&object| store::has(store, object))
+}
+
+/// Whether 95 is there and zero.
+fn results_zero(store: &Store) -> bool {
+    store::get(store, Object::VerificationResults) == Some(&[0; 5])
+}
+
+/// The number of records, if 82 has byte 2 b8 set and the locator keeps the rules.
+fn records_of_emv_card(store: &Store) -> Option<u32> {
+    let &[_, profile] = store::get_fixed(store, Object::InterchangeProfile)?;
+    if profile & 0x80 == 0 {
+        return None;
+    }
+    locator::records(store::get(store, Object::FileLocator)?)
+}
+
+/// Whether 5F24, 5A and 8C are there and not empty.
+fn holds_record_data(store: &Store) -> bool {
+    [Object::ExpirationDate, Object::Pan, Object::Cdol1]
+        .iter()
+        .all(|&object| store::has_value(store, object))
+}

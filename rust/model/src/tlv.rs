@@ -1,0 +1,67 @@
+//! One object at the front of some bytes (document 01, "Reading an answer").
+
+/// A tag: its bytes as a number, and whether it marks a template.
+#[derive(Clone, Copy, Debug, PartialEq, Eq)]
+pub struct Tag {
+    /// The tag's bytes as a number, first byte highest.
+    pub number: u32,
+    first: u8,
+}
+
+impl Tag {
+    /// Bit b6 of the first byte marks a template.
+    pub fn is_template(self) -> bool {
+        self.first & 0x20 != 0
+    }
+
+    /// Private class: the two top bits of the first byte are set.
+    pub fn is_private(self) -> bool {
+        self.first & 0xC0 == 0xC0
+    }
+}
+
+/// Splits a tag of 1 to 3 bytes off the front. 00 as first byte, 80 as second and a fourth byte are refused.
+pub fn split_tag(bytes: &[u8]) -> Option<(Tag, &[u8])> {
+    let (&first, rest) = bytes.split_first()?;
+    let mut number = u32::from(first);
+    if first == 0x00 {
+        return None;
+    }
+    if first & 0x1F != 0x1F {
+        return Some((Tag { number, first }, rest));
+    }
+    let (&second, rest) = rest.split_first()?;
+    number = number << 8 | u32::from(second);
+    if second == 0x80 {
+        return None;
+    }
+    if second & 0x80 == 0 {
+        return Some((Tag { number, first }, rest));
+    }
+    let (&third, rest) = rest.split_first()?;
+    number = number << 8 | u32::from(third);
+    if third & 0x80 != 0 {
+        return None;
+    }
+    Some((Tag { number, first }, rest))
+}
+
+/// Splits a length off the front: 00-7F, 81 with one byte, 82 with two, any value in them.
+fn split_length(bytes: &[u8]) -> Option<(usize, &[u8])> {
+    match *bytes {
+        [n @ 0..=0x7F, ref rest @ ..] => Some((usize::from(n), rest)),
+        [0x81, n, ref rest @ ..] => Some((usize::from(n), rest)),
+        [0x82, high, low, ref rest @ ..] => {
+            Some((usize::from(u16::from_be_bytes([high, low])), rest))
+        }
+        _ => None,
+    }
+}
+
+/// Splits one whole object off the front: its tag, its value, the bytes behind it.
+pub fn split_object(bytes: &[u8]) -> Option<(Tag, &[u8], &[u8])> {
+    let (tag, rest) = split_tag(bytes)?;
+    let (length, rest) = split_length(rest)?;
+    let (value, rest) = rest.split_at_checked(length)?;
+    Some((tag, value, rest))
+}

@@ -1,0 +1,174 @@
+//! Helpers that the tests share.
+#![allow(dead_code)]
+
+use model::dictionary::Object;
+use model::store::{self, Store};
+use model::SESSION_SIZE;
+
+/// Bytes of a hexadecimal text; blanks are passed over.
+pub fn hex(text: &str) -> Vec<u8> {
+    let digits: Vec<u32> = text
+        .chars()
+        .filter(|c| !c.is_whitespace())
+        .map(|c| c.to_digit(16).expect("a hexadecimal digit"))
+        .collect();
+    assert!(digits.len().is_multiple_of(2));
+    digits
+        .chunks(2)
+        .map(|pair| (pair[0] * 16 + pair[1]) as u8)
+        .collect()
+}
+
+/// The objects of an ordinary start, each as one text.
+pub const START: [&str; 12] = [
+    "9A 03 250615",
+    "9C 01 00",
+    "9F02 06 000000001234",
+    "9F09 02 0002",
+    "9F1A 02 0056",
+    "9F35 01 22",
+    "9F37 04 11223344",
+    "DF8120 05 0000000000",
+    "DF8121 05 0000000000",
+    "DF8122 05 0000000000",
+    "DF8123 06 000000010000",
+    "DF8124 06 000000100000",
+];
+
+/// An ordinary start with some objects put in place of those of the same tag, or added.
+pub fn start_with(changes: &[&str]) -> Vec<u8> {
+    let tag = |object: &str| object.split(' ').next().map(str::to_owned);
+    let mut objects: Vec<&str> = START.to_vec();
+    for change in changes {
+        match objects.iter_mut().find(|object| tag(object) == tag(change)) {
+            Some(object) => *object = change,
+            None => objects.push(change),
+        }
+    }
+    hex(&objects.concat())
+}
+
+/// An ordinary start without one object.
+pub fn start_without(tag: &str) -> Vec<u8> {
+    let objects: Vec<&str> = START
+        .iter()
+        .copied()
+        .filter(|object| !object.starts_with(tag))
+        .collect();
+    assert_eq!(objects.len(), START.len() - 1);
+    hex(&objects.concat())
+}
+
+pub fn refused(number: u32) -> u32 {
+    0x0002_0000 + number
+}
+
+pub fn outcome(outcome: u32, reason: u32) -> u32 {
+    0x0001_0000 + outcome * 256 + reason
+}
+
+pub fn ended(reason: u32) -> u32 {
+    outcome(3, reason)
+}
+
+/// A session with its buffer. Every call tests that bytes which must stay do stay.
+pub struct Host {
+    pub session: Vec<u8>,
+    pub buffer: Vec<u8>,
+}
+
+impl Host {
+    pub fn open() -> Host {
+        let mut session = vec![0xAA; SESSION_SIZE + 3];
+        assert_eq!(model::open(&mut session), 0);
+        assert_eq!(session[SESSION_SIZE..], [0xAA; 3]);
+        Host {
+            session,
+            buffer: vec![0x5C; 264],
+        }
+    }
+
+    pub fn started(changes: &[&str]) -> Host {
+        let mut host = Host::open();
+        assert!(host.start(&start_with(changes)) < 0x10000);
+        host
+    }
+
+    /// A session past the processing options, with the locator given.
+    pub fn reading(changes: &[&str], locator: &str) -> Host {
+        let mut host = Host::started(changes);
+        let locator = hex(locator);
+        let mut answer = vec![0x80, locator.len() as u8 + 2, 0x00, 0x80];
+        answer.extend(&locator);
+        answer.extend([0x90, 0x00]);
+        assert!(host.answer(&answer) < 0x10000);
+        host
+    }
+
+    /// A session on GENERATE AC; `record` is the content of its one record.
+    pub fn generating(changes: &[&str], record: &str) -> Host {
+        let mut host = Host::reading(changes, "08010100");
+        let word = host.record(record);
+        assert!(word < 0x10000, "{word:x}");
+        host
+    }
+
+    /// Answers with a record of this content.
+    pub fn record(&mut self, content: &str) -> u32 {
+        let content = hex(content);
+        let mut answer = vec![0x70, 0x81, content.len() as u8];
+        answer.extend(content);
+        answer.extend([0x90, 0x00]);
+        self.answer(&answer)
+    }
+
+    fn call(&mut self, call: impl FnOnce(&mut [u8], &mut [u8]) -> u32) -> u32 {
+        let (session, buffer) = (self.session.clone(), self.buffer.clone());
+        let word = call(&mut self.session, &mut self.buffer);
+        let kept_from = if word < 0x10000 { word as usize } else { 0 };
+        assert_eq!(self.buffer[kept_from..], buffer[kept_from..]);
+        if word >= 0x20000 {
+            assert_eq!(self.session, session);
+        }
+        let behind = SESSION_SIZE.min(session.len());
+        assert_eq!(self.session[behind..], session[behind..]);
+        word
+    }
+
+    pub fn start(&mut self, terminal: &[u8]) -> u32 {
+        self.call(|session, buffer| model::start(session, terminal, buffer))
+    }
+
+    pub fn answer(&mut self, card: &[u8]) -> u32 {
+        self.call(|session, buffer| model::answer(session, card, buffer))
+    }
+
+    pub fn answer_hex(&mut self, card: &str) -> u32 {
+        self.answer(&hex(card))
+    }
+
+    pub fn link_failed(&mut self) -> u32 {
+        self.call(model::link_failed)
+    }
+
+    pub fn stop(&mut self) -> u32 {
+        self.call(model::stop)
+    }
+
+    pub fn count(&self) -> u32 {
+        model::count(&self.session)
+    }
+
+    /// The command of the length given.
+    pub fn command(&self, word: u32) -> &[u8] {
+        &self.buffer[..word as usize]
+    }
+
+    pub fn store(&self) -> &Store {
+        self.session[5..].first_chunk().expect("a whole store")
+    }
+
+    pub fn get(&self, object: Object) -> Option<&[u8]> {
+        store::get(self.store(), object)
+    }
+}

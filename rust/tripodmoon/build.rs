@@ -1,0 +1,37 @@
+//! Links libhost.a, from target/staticlib at the repository's root or from where TRIPODMOON_LIB says.
+
+use std::path::{Path, PathBuf};
+use std::{env, process};
+
+fn main() {
+    println!("cargo:rerun-if-env-changed=TRIPODMOON_LIB");
+    let folder = match env::var_os("TRIPODMOON_LIB") {
+        Some(path) => folder_of(PathBuf::from(path)),
+        None => {
+            let here = env::var_os("CARGO_MANIFEST_DIR").expect("cargo sets CARGO_MANIFEST_DIR");
+            Path::new(&here).join("../../target/staticlib")
+        }
+    };
+    let library = folder.join("libhost.a");
+    if !library.is_file() {
+        eprintln!(
+            "{} is not there: run `rt staticlib host` at the repository's root, \
+             or set TRIPODMOON_LIB to libhost.a or its folder",
+            library.display()
+        );
+        process::exit(1);
+    }
+    println!("cargo:rerun-if-changed={}", library.display());
+    println!("cargo:rustc-link-search=native={}", folder.display());
+    println!("cargo:rustc-link-lib=static=host");
+    // DEP_HOST_LIBRARY for the crates that depend on this one.
+    println!("cargo:library={}", library.display());
+}
+
+/// TRIPODMOON_LIB names the library or its folder.
+fn folder_of(path: PathBuf) -> PathBuf {
+    match path.parent() {
+        Some(parent) if path.is_file() => parent.to_path_buf(),
+        _ => path,
+    }
+}

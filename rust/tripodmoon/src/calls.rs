@@ -1,0 +1,112 @@
+//! The library's seven calls over slices, with their result words as they are (docs/HOST.md).
+//!
+//! Each slice passes as its pointer and its length, so the calls are safe for slices of any length.
+//! [`Session`](crate::Session) takes the words apart.
+
+#![allow(unsafe_code)]
+
+/// What [`count`] gives where the bytes hold no record.
+pub const NO_COUNT: u32 = 0xFFFF_FFFF;
+
+extern "C" {
+    fn emv_session_size() -> usize;
+    fn emv_open(session: *mut u8, session_len: usize) -> u32;
+    fn emv_start(
+        session: *mut u8,
+        session_len: usize,
+        terminal: *const u8,
+        terminal_len: usize,
+        command: *mut u8,
+        command_len: usize,
+    ) -> u32;
+    fn emv_answer(
+        session: *mut u8,
+        session_len: usize,
+        card: *const u8,
+        card_len: usize,
+        command: *mut u8,
+        command_len: usize,
+    ) -> u32;
+    fn emv_link_failed(
+        session: *mut u8,
+        session_len: usize,
+        command: *mut u8,
+        command_len: usize,
+    ) -> u32;
+    fn emv_stop(session: *mut u8, session_len: usize, command: *mut u8, command_len: usize) -> u32;
+    fn emv_count(session: *const u8, session_len: usize) -> u32;
+}
+
+/// Bytes that a session record needs.
+pub fn session_size() -> usize {
+    // SAFETY: the call takes nothing and reads no memory of the host.
+    unsafe { emv_session_size() }
+}
+
+/// Writes a fresh record: 0, or refusal 25 if the bytes are too few.
+pub fn open(session: &mut [u8]) -> u32 {
+    // SAFETY: pointer and length are those of one slice lent for writing.
+    unsafe { emv_open(session.as_mut_ptr(), session.len()) }
+}
+
+/// Starts a fresh session.
+pub fn start(session: &mut [u8], terminal: &[u8], command: &mut [u8]) -> u32 {
+    // SAFETY: each pointer and length are those of one slice; those lent for writing overlap nothing.
+    unsafe {
+        emv_start(
+            session.as_mut_ptr(),
+            session.len(),
+            terminal.as_ptr(),
+            terminal.len(),
+            command.as_mut_ptr(),
+            command.len(),
+        )
+    }
+}
+
+/// Takes a card's answer with its two status bytes.
+pub fn answer(session: &mut [u8], card: &[u8], command: &mut [u8]) -> u32 {
+    // SAFETY: each pointer and length are those of one slice; those lent for writing overlap nothing.
+    unsafe {
+        emv_answer(
+            session.as_mut_ptr(),
+            session.len(),
+            card.as_ptr(),
+            card.len(),
+            command.as_mut_ptr(),
+            command.len(),
+        )
+    }
+}
+
+/// Ends a running session because the link failed.
+pub fn link_failed(session: &mut [u8], command: &mut [u8]) -> u32 {
+    // SAFETY: each pointer and length are those of one slice; both are lent for writing, so they do not overlap.
+    unsafe {
+        emv_link_failed(
+            session.as_mut_ptr(),
+            session.len(),
+            command.as_mut_ptr(),
+            command.len(),
+        )
+    }
+}
+
+/// Ends a running session because the host stops it.
+pub fn stop(session: &mut [u8], command: &mut [u8]) -> u32 {
+    // SAFETY: each pointer and length are those of one slice; both are lent for writing, so they do not overlap.
+    unsafe {
+        emv_stop(
+            session.as_mut_ptr(),
+            session.len(),
+            command.as_mut_ptr(),
+            command.len(),
+        )
+    }
+}
+
+/// The count of commands handed out, or [`NO_COUNT`] where the bytes hold no record.
+pub fn count(session: &[u8]) -> u32 {
+    // SAFETY: pointer and length are those of one slice, which the call only reads.
+    unsafe { emv_count(session.as_ptr(), session.len()) }
+}

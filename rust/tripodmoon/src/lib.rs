@@ -1,0 +1,224 @@
+//! Safe wrapper over the static library of the payment kernel session.
+//!
+//! A [`Session`] owns the 948 bytes of one session record. The host opens it, starts it with the
+//! terminal's objects, sends each command it is handed to the card, and brings each answer back,
+//! until an outcome comes:
+//!
+//! ```
+//! use tripodmoon::{Reply, Session, COMMAND_SIZE};
+//!
+//! let mut session = Session::new();
+//! let mut buffer = [0; COMMAND_SIZE];
+//! // An empty start lacks the objects that a start must bring.
+//! assert_eq!(session.start(&[], &mut buffer), Reply::Refused(24));
+//! assert_eq!(session.count(), Some(0));
+//! ```
+//!
+//! A refused call changes neither session nor buffer. The buffer must have at least 261 bytes; a
+//! shorter one is refused with number 22, never written past its end.
+//!
+//! The record is plain bytes without pointers: [`Session::as_bytes`] and [`Session::from_bytes`]
+//! keep a session across power loss. Bytes that hold no record, or one outside its ranges, are
+//! refused with number 25 at the next call.
+//!
+//! The C calls, the result words and the record's layout are described in docs/HOST.md, the rules
+//! of the session in document 01.
+
+#![no_std]
+
+pub mod calls;
+
+use core::fmt;
+
+/// Bytes of a session record.
+pub const SESSION_SIZE: usize = 948;
+
+/// The longest command, and so the least length of a command buffer.
+pub const COMMAND_SIZE: usize = 261;
+
+/// How a session ends.
+#[derive(Clone, Copy, Debug, PartialEq, Eq)]
+pub enum Outcome {
+    /// The card approved offline.
+    Approved,
+    /// The transaction goes online.
+    OnlineRequest,
+    /// Declined.
+    Declined,
+    /// Ended; the reason says why.
+    Ended,
+    /// Select the next application (reason 6).
+    SelectNext,
+}
+
+impl Outcome {
+    /// The outcome of its number in a result word.
+    fn of_number(number: u8) -> Option<Outcome> {
+        Some(match number {
+            0 => Outcome::Approved,
+            1 => Outcome::OnlineRequest,
+            2 => Outcome::Declined,
+            3 => Outcome::Ended,
+            4 => Outcome::SelectNext,
+            _ => return None,
+        })
+    }
+}
+
+impl fmt::Display for Outcome {
+    fn fmt(&self, f: &mut fmt::Formatter<'_>) -> fmt::Result {
+        f.write_str(match self {
+            Outcome::Approved => "approved",
+            Outcome::OnlineRequest => "online request",
+            Outcome::Declined => "declined",
+            Outcome::Ended => "ended",
+            Outcome::SelectNext => "select next",
+        })
+    }
+}
+
+/// What a call hands back. `'b` is the time the command buffer is lent for.
+#[derive(Clone, Copy, Debug, PartialEq, Eq)]
+pub enum Reply<'b> {
+    /// A command to send to the card: the front of the lent buffer.
+    Command(&'b [u8]),
+    /// The session has ended.
+    Outcome {
+        /// How it ended.
+        outcome: Outcome,
+        /// 0 with approved, online request and declined; else 1 to 11 (see [`reason_text`]).
+        reason: u8,
+    },
+    /// The call was refused, 20 to 25 (see [`refusal_text`]); session and buffer are as before.
+    Refused(u8),
+}
+
+/// What a reason means; 0 is no reason.
+pub fn reason_text(reason: u8) -> &'static str {
+    match reason {
+        0 => "none",
+        1 => "status bytes other than 90 00",
+        2 => "malformed answer",
+        3 => "object not allowed",
+        4 => "object missing",
+        5 => "file locator",
+        6 => "amount above transaction limit",
+        7 => "data object list",
+        8 => "cryptogram type",
+        9 => "link failed",
+        10 => "stopped",
+        11 => "not EMV mode",
+        _ => "unknown reason",
+    }
+}
+
+/// What a refusal means.
+pub fn refusal_text(number: u8) -> &'static str {
+    match number {
+        20 => "start bytes over 1,024 or not a run of whole primitive objects",
+        21 => "call not in order",
+        22 => "command buffer under 261 bytes",
+        23 => "start object not allowed",
+        24 => "an object that a start must bring is absent",
+        25 => "no session record within its ranges",
+        _ => "unknown refusal",
+    }
+}
+
+/// One session: its record of 948 bytes.
+#[derive(Clone, PartialEq, Eq)]
+pub struct Session {
+    bytes: [u8; SESSION_SIZE],
+}
+
+impl Session {
+    /// A fresh session.
+    ///
+    /// # Panics
+    ///
+    /// If the linked library has another record size than [`SESSION_SIZE`].
+    pub fn new() -> Session {
+        assert_eq!(
+            calls::session_size(),
+            SESSION_SIZE,
+            "libhost.a has another record size"
+        );
+        let mut session = Session {
+            bytes: [0; SESSION_SIZE],
+        };
+        let word = calls::open(&mut session.bytes);
+        assert_eq!(word, 0, "libhost.a refused to open a session");
+        session
+    }
+
+    /// The session whose record was kept with [`Session::as_bytes`].
+    ///
+    /// Any bytes are taken; the next call is refused with 25 if they hold no record within its ranges.
+    pub fn from_bytes(bytes: [u8; SESSION_SIZE]) -> Session {
+        Session { bytes }
+    }
+
+    /// The record's bytes, to keep.
+    pub fn as_bytes(&self) -> &[u8; SESSION_SIZE] {
+        &self.bytes
+    }
+
+    /// Starts a fresh session with the terminal's objects; hands out GET PROCESSING OPTIONS.
+    pub fn start<'b>(&mut self, terminal: &[u8], command: &'b mut [u8]) -> Reply<'b> {
+        let word = calls::start(&mut self.bytes, terminal, command);
+        reply(word, command)
+    }
+
+    /// Takes the card's answer, with its two status bytes, to the command handed out last.
+    pub fn answer<'b>(&mut self, card: &[u8], command: &'b mut [u8]) -> Reply<'b> {
+        let word = calls::answer(&mut self.bytes, card, command);
+        reply(word, command)
+    }
+
+    /// Ends a running session because the link to the card failed.
+    pub fn link_failed<'b>(&mut self, command: &'b mut [u8]) -> Reply<'b> {
+        let word = calls::link_failed(&mut self.bytes, command);
+        reply(word, command)
+    }
+
+    /// Ends a running session because the host stops it.
+    pub fn stop<'b>(&mut self, command: &'b mut [u8]) -> Reply<'b> {
+        let word = calls::stop(&mut self.bytes, command);
+        reply(word, command)
+    }
+
+    /// The count of commands handed out, or none where the bytes hold no record.
+    pub fn count(&self) -> Option<u8> {
+        u8::try_from(calls::count(&self.bytes)).ok()
+    }
+}
+
+impl Default for Session {
+    fn default() -> Session {
+        Session::new()
+    }
+}
+
+impl fmt::Debug for Session {
+    /// The record holds card data, so only phase and count are written.
+    fn fmt(&self, f: &mut fmt::Formatter<'_>) -> fmt::Result {
+        f.debug_struct("Session")
+            .field("phase", &self.bytes[1])
+            .field("count", &self.bytes[4])
+            .finish_non_exhaustive()
+    }
+}
+
+/// Takes a result word apart (docs/HOST.md). Bits 24 to 31 are kept for a later use and passed over.
+fn reply(word: u32, command: &[u8]) -> Reply<'_> {
+    let [_, kind, high, low] = word.to_be_bytes();
+    match kind {
+        0 => Reply::Command(&command[..usize::from(u16::from_be_bytes([high, low]))]),
+        1 => Reply::Outcome {
+            outcome: Outcome::of_number(high).expect("libhost.a gave an unknown outcome"),
+            reason: low,
+        },
+        2 => Reply::Refused(low),
+        _ => panic!("libhost.a gave an unknown result word"),
+    }
+}
