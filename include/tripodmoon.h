@@ -18,12 +18,13 @@ extern "C" {
 #define EMV_LEAST_BUFFER 261u
 #define EMV_MOST_TERMINAL 1024u
 
-/* A word: a command's length, or an outcome with its reason, or a refusal. */
+/* A word: a command's length, or an outcome with its reason, or a refusal. Bits 16 to 23 tell which;
+ * bits 24 to 31 are 0, and are kept for a later use with an outcome. */
 #define EMV_OUTCOMES 0x00010000u
 #define EMV_REFUSALS 0x00020000u
-#define EMV_IS_COMMAND(word) ((word) < EMV_OUTCOMES)
-#define EMV_IS_OUTCOME(word) ((word) >= EMV_OUTCOMES && (word) < EMV_REFUSALS)
-#define EMV_IS_REFUSAL(word) ((word) >= EMV_REFUSALS)
+#define EMV_IS_COMMAND(word) ((((word) >> 16) & 0xFFu) == 0u)
+#define EMV_IS_OUTCOME(word) ((((word) >> 16) & 0xFFu) == 1u)
+#define EMV_IS_REFUSAL(word) ((((word) >> 16) & 0xFFu) == 2u)
 #define EMV_OUTCOME(word) (((word) >> 8) & 0xFFu)
 #define EMV_REASON(word) ((word) & 0xFFu)
 #define EMV_REFUSAL(word) ((word) & 0xFFu)

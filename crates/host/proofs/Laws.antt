@@ -77,10 +77,10 @@ module _ (step : Session → List ℕ → Step) (l buf : List ℕ) where
     over-step w l′ b r g did k =
         subst⁻¹ (DidOver w l′ b)
         (taken-by (ltb (length buf) leastBuffer) (decoded l) (sym same-admission ∙ g) ∙ ap (λ (x : Decoded). carries l (step (x .session) buf)) (sym e))
-        (record
-        { word = k .0 ∙ ap (λ (x : Reply). wordOf (x .answer)) (did .reply)
-        ; session = k .1 ∙ ap (λ (x : Reply). written (x .session) l) (did .reply)
-        ; buffer = did .buffer
+        (record {
+          word = k .0 ∙ ap (λ (x : Reply). wordOf (x .answer)) (did .reply);
+          session = k .1 ∙ ap (λ (x : Reply). written (x .session) l) (did .reply);
+          buffer = did .buffer;
         })
 
 -- ---- words

@@ -11,17 +11,17 @@ use Rattle.host.proofs.emv_open.Tie as tie
 returns : tie.Need-returns
 returns c =
     let k = c .before .before .before in
-    record
-    { word = sym (if-yes _ _ (sym (k .encode .ensures .enough) ∙ c .if1 .taken))
-    ; session = k .encode .ensures .bytes ∙ ap (λ (s : Session). written s (c .before .before .before .before .before .before .before .args .session .now)) (k .before .before .fresh .ensures)
+    record {
+      word = sym (if-yes _ _ (sym (k .encode .ensures .enough) ∙ c .if1 .taken));
+      session = k .encode .ensures .bytes ∙ ap (λ (s : Session). written s (c .before .before .before .before .before .before .before .args .session .now)) (k .before .before .fresh .ensures);
     }
 
 returns-2 : tie.Need-returns-2
 returns-2 c =
     let k = c .before .before .before .before in
-    record
-    { word = c .refusal-word .ensures ∙ sym (if-no _ _ (sym (k .encode .ensures .enough) ∙ c .before .if1 .left))
-    ; session = k .encode .ensures .bytes ∙ ap (λ (s : Session). written s (c .before .before .before .before .before .before .before .before .args .session .now)) (k .before .before .fresh .ensures)
+    record {
+      word = c .refusal-word .ensures ∙ sym (if-no _ _ (sym (k .encode .ensures .enough) ∙ c .before .if1 .left));
+      session = k .encode .ensures .bytes ∙ ap (λ (s : Session). written s (c .before .before .before .before .before .before .before .before .args .session .now)) (k .before .before .fresh .ensures);
     }
 
 pub emv-open-spec : {M : Type 1} → statement M

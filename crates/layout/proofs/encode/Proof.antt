@@ -40,12 +40,12 @@ returns-2 c =
     let o = k .before .before .before .before .before .before in
     let a = o .before .before .before in
     let f = le-leb _ _ (o .before .if1 .left) in
-    record
-    { enough = sym f
-    ; bytes =
-        put-record (a .args .bytes .now) (stored (a .args .session)) (k .copy .last .1 .0) 1 (o .code-of .result .number) (o .code-of .result .datum) (o .code-of .result .reason) (a .args .session .count)
-        (o .before .if1 .left) (sized a) (k .copy .ensures .1)
-        ∙ (rw (o .code-of .ensures) refl ∙ sym (if-yes _ _ f))
+    record {
+      enough = sym f;
+      bytes =
+          put-record (a .args .bytes .now) (stored (a .args .session)) (k .copy .last .1 .0) 1 (o .code-of .result .number) (o .code-of .result .datum) (o .code-of .result .reason) (a .args .session .count)
+          (o .before .if1 .left) (sized a) (k .copy .ensures .1)
+          ∙ (rw (o .code-of .ensures) refl ∙ sym (if-yes _ _ f));
     }
 
 pub encode-spec : {M : Type 1} → statement M
