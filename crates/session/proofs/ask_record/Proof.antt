@@ -18,7 +18,7 @@ returns c = λ p b.
     let w = wrote-yes _ _ (a .wanted) (a .command .now) (c .before .before .before .read-record .ensures) (omega arith) (s .pre .1) in
     record {
       reply = reply-as b (c .commands .ensures ∙ ap (commandsTurn (Phase.Record (record { number = a .k })) (a .count + 1)) (w .0));
-      buffer = w .1
+      buffer = w .1;
     }
 
 pub ask-record-spec : {M : Type 1} → statement M
