@@ -4,7 +4,7 @@ use mathlib.Core.Path.{_≡_, refl, sym, ap, _∙_}
 use mathlib.Core.Bool.{true, false}
 use mathlib.Core.List.{List, [], _∷_, _++_}
 use mathlib.Core.Logic.{inl, inr}
-use mathlib.Core.Option.{some, none}
+use mathlib.Core.Option.{Option, some, none}
 use Prim.Native.Nat.{ℕ, _≤_, _<_}
 use native.Mathlib.Omega.{arith}
 use lib.Dec.{eqb}
@@ -21,9 +21,11 @@ use Rattle.record.specs.declared.End.{End}
 use Rattle.record.specs.declared.Phase.{Phase}
 use Rattle.record.specs.declared.Session.{Session}
 use Rattle.record.specs.Numbers.{outcomeNumber}
-use Rattle.record.specs.Session.{stored}
+use Rattle.record.specs.Session.{stored, sessionOf}
 use Rattle.layout.specs.declared.Code.{Code}
-use Rattle.layout.specs.Layout.{version, recordSize, choiceFrom, outcomeFrom, codeOf, phaseOf, sameCode, encoded, written, codeIn, sessionIn, holdsRecord, decoded}
+use Rattle.layout.specs.declared.Head.{Head}
+use Rattle.layout.specs.declared.Held.{Held}
+use Rattle.layout.specs.Layout.{version, recordSize, choiceFrom, outcomeFrom, codeOf, phaseOf, sameCode, encoded, written, codeIn, sessionIn, holdsRecord, decoded, heldOf, storeOf}
 use Rattle.layout.specs.Word.{outcomes, refusals, commandWord, outcomeWord}
 
 -- ---- codes
@@ -116,6 +118,30 @@ encode-known (_ ∷ _ ∷ _ ∷ _ ∷ []) k = absurd (omega (arith, k .enough))
 encode-known (v ∷ n ∷ d ∷ r ∷ c ∷ t) k =
     let e = k .code in
     λ i. sym (k .first) i ∷ e i .number ∷ e i .datum ∷ e i .reason ∷ c ∷ take-append-drop storeSize t i
+
+-- ---- what is said of bytes, as callers take it apart
+
+pub held-none : (x : Option Session) → heldOf x ≡ Held.Nothing → x ≡ none
+held-none none e = refl
+held-none (some s) e = let z : _≡_ {A = ℕ} 0 1 = cc in absurd (omega arith)
+
+-- bytes that hold a record are enough, and hold the session of their head and store
+pub held-some : (l : List ℕ) (h : Head) → heldOf (decoded l) ≡ Held.Record h → (recordSize ≤ length l) × (decoded l ≡ some (sessionIn (phaseOf (codeIn l)) l))
+unfolding decoded
+held-some l h e = elim (bool-cases (holdsRecord l)) [
+  | inl t ↦ (known l t .enough, if-yes _ _ t)
+  | inr t ↦
+      let f : Held.Nothing ≡ Held.Record h = sym (ap heldOf (if-no _ _ t)) ∙ e in
+      let z : _≡_ {A = ℕ} 0 1 = cc in
+      absurd (omega arith)
+]
+
+-- the session that was read is the one of the head that is said and the store that is left
+pub was-record : (x : Option Session) (h : Head) (b c : List ℕ) → heldOf x ≡ Held.Record h → c ≡ storeOf x b → x ≡ some (sessionOf (h .phase) (h .count) c)
+was-record none h b c e f = let z : _≡_ {A = ℕ} 0 1 = cc in absurd (omega arith)
+was-record (some s) h b c e f =
+    let g : record { phase = s .phase; count = s .count } ≡ h = cc in
+    λ i. some (sessionOf (g i .phase) (g i .count) (sym f i))
 
 -- a session that was read is encoded as the bytes it was read from
 pub encode-decode : (l : List ℕ) (s : Session) → decoded l ≡ some s → encoded s ++ drop recordSize l ≡ l

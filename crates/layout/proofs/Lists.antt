@@ -4,7 +4,7 @@ use mathlib.Core.Path.{_≡_, ap, _∙_}
 use mathlib.Core.List.{List, [], _∷_, _++_, append-nil}
 use Prim.Native.Nat.{ℕ, _≤_}
 use native.Mathlib.Omega.{arith}
-use lib.ListN.{length, set, take, drop, replicate, length-set, length-take, length-drop, drop-of-length-le}
+use lib.ListN.{length, set, take, drop, length-set, length-take, length-drop, drop-of-length-le}
 use lib.Seq.{take-all, take-length}
 use borrow.Rule.Slice.PartMut.{putMid, same-len-mid}
 use Rattle.dictionary.specs.Rows.{storeSize}
@@ -33,10 +33,11 @@ put-record (_ ∷ _ ∷ _ ∷ _ ∷ _ ∷ l) b m v n d r k h e f =
     let g : m ≡ b = f ∙ rw (z, take-length) (append-nil b) in
     ap (λ (x : List ℕ). v ∷ n ∷ d ∷ r ∷ k ∷ (x ++ drop storeSize l)) g
 
--- the store of a list that is long enough, copied over zeros
-pub take-store : (l m : List ℕ) → recordSize ≤ length l
-    → m ≡ take (length (take storeSize (drop headSize l))) (take storeSize (drop headSize l)) ++ drop (length (take storeSize (drop headSize l))) (replicate storeSize 0)
+-- the store of a list that is long enough, copied over another
+pub take-store : (l z m : List ℕ) → recordSize ≤ length l → length z ≡ storeSize
+    → m ≡ take (length (take storeSize (drop headSize l))) (take storeSize (drop headSize l)) ++ drop (length (take storeSize (drop headSize l))) z
     → m ≡ take storeSize (drop headSize l)
-take-store l m h f =
+take-store l z m h n f =
     let e : storeSize ≡ length (take storeSize (drop headSize l)) = simp (length-take, length-drop) (omega arith) in
-    f ∙ rw (← e) (rw (take-all storeSize (take storeSize (drop headSize l)) (omega arith)) (append-nil _))
+    let g : drop storeSize z ≡ [] = drop-of-length-le z {i = storeSize} (omega arith) in
+    f ∙ rw (← e, g) (rw (take-all storeSize (take storeSize (drop headSize l)) (omega arith)) (append-nil _))

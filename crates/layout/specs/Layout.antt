@@ -16,10 +16,9 @@ use Rattle.record.specs.declared.Outcome.{Outcome}
 use Rattle.record.specs.declared.Phase.{Phase}
 use Rattle.record.specs.declared.Session.{Session}
 use Rattle.record.specs.Numbers.{outcomeNumber}
-use Rattle.record.specs.Session.{stored, freshSession}
+use Rattle.record.specs.Session.{stored, sessionOf}
 use Rattle.layout.specs.declared.Code.{Code}
 use Rattle.layout.specs.declared.Held.{Held}
-use Rattle.layout.specs.declared.Decoded.{Decoded}
 
 -- the layout's version, the first byte of every record
 abbrev pub version : ℕ
@@ -97,7 +96,7 @@ abbrev pub codeIn : List ℕ → Code
 codeIn l = record { number = getD l 1 0; datum = getD l 2 0; reason = getD l 3 0 }
 
 abbrev pub sessionIn : Phase → List ℕ → Session
-sessionIn p l = record { phase = p; count = getD l 4 0; store = record { bytes = take storeSize (drop headSize l) } }
+sessionIn p l = sessionOf p (getD l 4 0) (take storeSize (drop headSize l))
 
 -- the bytes hold a record: enough of them, of this version, with the code of a phase
 unfoldable pub holdsRecord : List ℕ → Bool
@@ -118,10 +117,17 @@ pub record Wrote (s : Session) (before : List ℕ) (r : Bool) (after : List ℕ)
   pub enough : r ≡ leb recordSize (length before)
   pub bytes : after ≡ written s before
 
--- where there is no record a fresh session stands beside
-abbrev pub nothing : Decoded
-nothing = record { held = Held.Nothing; session = freshSession }
+-- what is said of the bytes: the session's phase and count, or that there is no record
+abbrev pub heldOf : Option Session → Held
+heldOf none = Held.Nothing
+heldOf (some s) = Held.Record (record { phase = s .phase; count = s .count })
 
-abbrev pub handed : Option Session → Decoded
-handed none = nothing
-handed (some s) = record { held = Held.Record; session = s }
+-- the lent store: the session's, or as it was where there is no record
+abbrev pub storeOf : Option Session → List ℕ → List ℕ
+storeOf none b = b
+storeOf (some s) b = stored s
+
+-- what reading the bytes l says, and what it leaves in a lent store
+pub record Decodes (r : Held) (l before after : List ℕ) : Type 0 where
+  pub held : r ≡ heldOf (decoded l)
+  pub store : after ≡ storeOf (decoded l) before

@@ -2,15 +2,17 @@
 //
 // The record is a head and the store: a byte for the layout's version, the code of the phase, the count
 // of commands handed out, and then the store's bytes as they stand. `encode` writes it in front of the
-// lent bytes, `decode` takes it apart again: only bytes that some record is encoded as are a record.
+// lent bytes, `decode` takes it apart again: only bytes that some record is encoded as are a record. Both
+// lend the store, which is the largest part.
 use analysis::choice::Choice;
 use dictionary::SIZE;
-use record::{Answer, Asked, End, Issued, Outcome, Phase, Place, Session};
-use store::Store;
+use record::{Answer, Asked, End, Issued, Outcome, Phase, Place};
 ghost use mathlib.Core.Path.{_≡_};
 ghost use Prim.Native.Nat.{_≤_};
 ghost use lib.ListN.{length};
-ghost use Rattle.layout.specs.Layout.{recordSize, choiceFrom, outcomeFrom, codeOf, phaseOf, codeIn, sameCode, sessionIn, nothing as nothingHeld, decoded, handed, Wrote};
+ghost use Rattle.dictionary.specs.Rows.{storeSize};
+ghost use Rattle.record.specs.Session.{sessionOf};
+ghost use Rattle.layout.specs.Layout.{recordSize, choiceFrom, outcomeFrom, codeOf, phaseOf, codeIn, sameCode, decoded, heldOf, Wrote, Decodes};
 ghost use Rattle.layout.specs.Word.{commandWord, outcomeWord, refusalWord, wordOf};
 
 // The layout's version, the first byte of every record.
@@ -36,15 +38,16 @@ pub struct Code {
     pub reason: u8,
 }
 
-pub enum Held {
-    Record,
-    Nothing,
+// The phase and the count that a record's head has.
+pub struct Head {
+    pub phase: Phase,
+    pub count: u8,
 }
 
-// What bytes hold: a record, or nothing, with a fresh one beside it.
-pub struct Decoded {
-    pub held: Held,
-    pub session: Session,
+// What bytes hold: a record, or nothing.
+pub enum Held {
+    Record(Head),
+    Nothing,
 }
 
 // A command's length in a word: what a word can tell apart from an outcome.
@@ -61,44 +64,53 @@ pub fn session_size() -> usize
     RECORD_SIZE
 }
 
-// Writes a record in front of the bytes, and says whether there were enough.
-pub fn encode(session: Session, bytes: &mut [u8]) -> bool
-    ensures { λ r. ⌜ Wrote session (now (bytes .entry)) r (now (bytes .exit)) ⌝ }
+// Writes the record of these parts in front of the bytes, and says whether there were enough.
+pub fn encode(phase: Phase, count: u8, store: &[u8; SIZE], bytes: &mut [u8]) -> bool
+    requires { ⌜ length (now store) ≡ storeSize ⌝ }
+    ensures { λ r. ⌜ Wrote (sessionOf phase count (now (store .entry))) (now (bytes .entry)) r (now (bytes .exit)) ⌝ }
 {
     if bytes.len() < RECORD_SIZE {
         return false;
     }
-    let phase = session.phase;
     let code = code_of(phase);
-    let store = session.store;
     bytes[0] = VERSION;
     bytes[1] = code.number;
     bytes[2] = code.datum;
     bytes[3] = code.reason;
-    bytes[4] = session.count;
-    bytes::copy(&store.bytes, &mut bytes[HEAD..RECORD_SIZE]);
+    bytes[4] = count;
+    bytes::copy(&store[..], &mut bytes[HEAD..RECORD_SIZE]);
     true
 }
 
-// Takes apart the record in front of the bytes.
-pub fn decode(bytes: &[u8]) -> Decoded
-    ensures { λ r. ⌜ r ≡ handed (decoded (now (bytes .entry))) ⌝ }
+// Takes apart the record in front of the bytes: its store goes into the one that is lent.
+pub fn decode(bytes: &[u8], store: &mut [u8; SIZE]) -> Held
+    requires { ⌜ length (now store) ≡ storeSize ⌝ }
+    ensures { λ r. ⌜ Decodes r (now (bytes .entry)) (now (store .entry)) (now (store .exit)) ⌝ }
+{
+    let held = head_in(bytes);
+    let Held::Record(_) = held else {
+        return held;
+    };
+    bytes::copy(&bytes[HEAD..RECORD_SIZE], store);
+    held
+}
+
+// What the head in front of the bytes says.
+pub fn head_in(bytes: &[u8]) -> Held
+    ensures { λ r. ⌜ r ≡ heldOf (decoded (now (bytes .entry))) ⌝ }
 {
     if bytes.len() < RECORD_SIZE {
-        return nothing();
+        return Held::Nothing;
     }
     if bytes[0] != VERSION {
-        return nothing();
+        return Held::Nothing;
     }
     let code = code_in(bytes);
     let phase = phase_of(code);
     if !is_same(code_of(phase), code) {
-        return nothing();
+        return Held::Nothing;
     }
-    Decoded {
-        held: Held::Record,
-        session: session_in(phase, bytes),
-    }
+    Held::Record(Head { phase, count: bytes[4] })
 }
 
 // A call's answer as a word: the command's length, or an outcome with its reason, or a refusal's number.
@@ -136,30 +148,6 @@ fn outcome_word(end: End) -> u32
 {
     let outcome = end.outcome;
     OUTCOME + basics::wide32(record::outcome_number(outcome)) * 256 + basics::wide32(end.reason)
-}
-
-// No record, with a fresh session beside it.
-fn nothing() -> Decoded
-    ensures { λ r. ⌜ r ≡ nothingHeld ⌝ }
-{
-    Decoded {
-        held: Held::Nothing,
-        session: record::fresh(),
-    }
-}
-
-// The session in a phase, with the count and the store of enough bytes.
-fn session_in(phase: Phase, bytes: &[u8]) -> Session
-    requires { ⌜ recordSize ≤ length (now bytes) ⌝ }
-    ensures { λ r. ⌜ r ≡ sessionIn phase (now (bytes .entry)) ⌝ }
-{
-    let mut stored = [0u8; SIZE];
-    bytes::copy(&bytes[HEAD..RECORD_SIZE], &mut stored);
-    Session {
-        phase,
-        count: bytes[4],
-        store: Store { bytes: stored },
-    }
 }
 
 // The three bytes that enough bytes have for the code.

@@ -6,45 +6,37 @@ use mathlib.Core.Path.{_≡_, refl, sym, _∙_}
 use native.Mathlib.Omega.{arith}
 use lib.ListN.{length, length-set, length-take, length-drop}
 use Rattle.basics.proofs.Laws.{if-yes, if-no}
-use Rattle.dictionary.specs.Rows.{storeSize}
-use Rattle.record.specs.Session.{stored}
 use Rattle.layout.specs.Layout.{encoded, written}
 use Rattle.layout.proofs.Lists.{headed-length, put-record}
 use Rattle.layout.proofs.encode.Statement.{statement}
 use Rattle.layout.proofs.encode.Tie as tie
-
--- the array has the store's size: stated at the entry, where the search finds it
-sized : (a : tie.Start) → length (stored (a .args .session)) ≡ storeSize
-sized a = search needs
 
 returns : tie.Need-returns
 unfolding written
 returns c = let f = lt-leb _ _ (c .if1 .taken) in record { enough = sym f; bytes = sym (if-no _ _ f) }
 
 copy-requires : tie.Need-copy-requires
-copy-requires c κs =
-    let z = sized (c .before .before .before .before .before .before .before .before) in
-    simp (length-take, length-drop, length-set) (omega arith)
+copy-requires c κs = let a = c .before .before .before .before .before in let z = a .pre in simp (length-take, length-drop, length-set) (omega arith)
 
 same-length : tie.Need-same-length
 same-length c =
     let k = c .before .before in
-    let o = k .before .before .before .before .before .before in
+    let o = k .before .before .before in
     let a = o .before .before .before in
-    headed-length (a .args .bytes .now) (k .copy .last .1 .0) 1 (o .code-of .result .number) (o .code-of .result .datum) (o .code-of .result .reason) (a .args .session .count) (c .before .bytes .given .0)
+    headed-length (a .args .bytes .now) (k .copy .last .1 .0) 1 (o .code-of .result .number) (o .code-of .result .datum) (o .code-of .result .reason) (a .args .count) (c .before .bytes .given .0)
 
 returns-2 : tie.Need-returns-2
 unfolding written encoded
 returns-2 c =
     let k = c .before .before in
-    let o = k .before .before .before .before .before .before in
+    let o = k .before .before .before in
     let a = o .before .before .before in
     let f = le-leb _ _ (o .before .if1 .left) in
     record {
       enough = sym f;
       bytes =
-          put-record (a .args .bytes .now) (stored (a .args .session)) (k .copy .last .1 .0) 1 (o .code-of .result .number) (o .code-of .result .datum) (o .code-of .result .reason) (a .args .session .count)
-          (o .before .if1 .left) (sized a) (k .copy .ensures .1)
+          put-record (a .args .bytes .now) (a .args .store .now) (k .copy .last .1 .0) 1 (o .code-of .result .number) (o .code-of .result .datum) (o .code-of .result .reason) (a .args .count)
+          (o .before .if1 .left) (a .pre) (k .copy .ensures .1)
           ∙ (rw (o .code-of .ensures) refl ∙ sym (if-yes _ _ f));
     }
 
