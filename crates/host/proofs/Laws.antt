@@ -14,74 +14,72 @@ use Rattle.basics.proofs.Laws.{if-ind}
 use Rattle.record.specs.declared.Answer.{Answer}
 use Rattle.record.specs.declared.Reply.{Reply}
 use Rattle.record.specs.declared.Session.{Session}
-use Rattle.record.specs.Numbers.{refusedBuffer}
+use Rattle.record.specs.Numbers.{refusedBuffer, refusedRanges}
+use Rattle.record.specs.Session.{sessionOf}
 use Rattle.session.specs.Steps.{Step, Did, leastBuffer, linkStep, stopStep}
 use Rattle.session.specs.Start.{startStep}
 use Rattle.session.specs.Answer.{answerStep}
 use Rattle.session.proofs.Calls.{Came, answer-came, start-came, link-came, stop-came}
 use Rattle.session.proofs.Sizes.{Small, SmallStep, answer-small, start-small, link-small, stop-small}
+use Rattle.layout.specs.declared.Head.{Head}
 use Rattle.layout.specs.declared.Held.{Held}
-use Rattle.layout.specs.declared.Decoded.{Decoded}
-use Rattle.layout.specs.Layout.{written, decoded, handed}
+use Rattle.layout.specs.Layout.{written, decoded, heldOf, storeOf}
 use Rattle.layout.specs.Word.{outcomes, refusals, refusalWord, outcomeWord, wordOf}
 use Rattle.layout.proofs.Laws.{written-back, command-length, command-below, outcome-below}
 use Rattle.host.specs.declared.Admission.{Admission}
-use Rattle.host.specs.Hosted.{Hosted, DidOver, refuses, carries, stepped, hosted, heldAdmission, admissionOf}
+use Rattle.host.specs.Hosted.{Hosted, DidOver, refuses, carries, stepped, hosted, heldAdmission, Admits, countWord}
 
 -- ---- what bytes hold, as the code takes it apart
 
-pub held-record : (x : Option Session) (d : Decoded) → d ≡ handed x → d .held ≡ Held.Record → x ≡ some (d .session)
-held-record none d e h =
-    let f : Held.Nothing ≡ Held.Record = sym (ap (λ (y : Decoded). y .held) e) ∙ h in
-    let z : _≡_ {A = ℕ} 0 1 = cc in
-    absurd (omega arith)
-held-record (some s) d e h = ap (λ (y : Decoded). some (y .session)) (sym e)
+pub admits-record : (x : Option Session) (h : Head) → heldOf x ≡ Held.Record h → heldAdmission x ≡ Admission.Taken h
+admits-record none h e = let z : _≡_ {A = ℕ} 0 1 = cc in absurd (omega arith)
+admits-record (some s) h e = cc
 
-pub held-nothing : (x : Option Session) (d : Decoded) → d ≡ handed x → d .held ≡ Held.Nothing → x ≡ none
-held-nothing none d e h = refl
-held-nothing (some s) d e h =
-    let f : Held.Record ≡ Held.Nothing = sym (ap (λ (y : Decoded). y .held) e) ∙ h in
-    let z : _≡_ {A = ℕ} 0 1 = cc in
-    absurd (omega arith)
+pub admits-nothing : (x : Option Session) → heldOf x ≡ Held.Nothing → heldAdmission x ≡ Admission.Refused (refusalWord refusedRanges)
+admits-nothing none e = refl
+admits-nothing (some s) e = let z : _≡_ {A = ℕ} 0 1 = cc in absurd (omega arith)
+
+pub counts-record : (x : Option Session) (h : Head) → heldOf x ≡ Held.Record h → countWord x ≡ h .count
+counts-record none h e = let z : _≡_ {A = ℕ} 0 1 = cc in absurd (omega arith)
+counts-record (some s) h e = let g : record { phase = s .phase; count = s .count } ≡ h = cc in ap (λ (y : Head). y .count) g
 
 -- ---- how a call comes about
 
 module _ (step : Session → List ℕ → Step) (l buf : List ℕ) where
-  refused-by : (t : Bool) (x : Option Session) (w : ℕ) → if t (Admission.Refused (refusalWord refusedBuffer)) (heldAdmission (handed x .held)) ≡ Admission.Refused w
-      → DidOver w l buf (if t (refuses refusedBuffer l buf) (stepped step l buf x))
+  abbrev Come : Bool → Option Session → Hosted
+  Come t x = if t (refuses refusedBuffer l buf) (stepped step l buf x)
+
+  refused-by : (t : Bool) (x : Option Session) (w : ℕ) → if t (Admission.Refused (refusalWord refusedBuffer)) (heldAdmission x) ≡ Admission.Refused w → DidOver w l buf (Come t x)
   unfolding if
   refused-by true x w e = record { word = cc; session = refl; buffer = refl }
   refused-by false none w e = record { word = cc; session = refl; buffer = refl }
   refused-by false (some s) w e = let z : _≡_ {A = ℕ} 0 1 = cc in absurd (omega arith)
 
-  taken-by : (t : Bool) (x : Option Session) → if t (Admission.Refused (refusalWord refusedBuffer)) (heldAdmission (handed x .held)) ≡ Admission.Taken
-      → if t (refuses refusedBuffer l buf) (stepped step l buf x) ≡ carries l (step (handed x .session) buf)
+  taken-by : (t : Bool) (x : Option Session) (h : Head) (b c : List ℕ) → if t (Admission.Refused (refusalWord refusedBuffer)) (heldAdmission x) ≡ Admission.Taken h
+      → c ≡ if t b (storeOf x b) → Come t x ≡ carries l (step (sessionOf (h .phase) (h .count) c) buf)
   unfolding if
-  taken-by true x e = let z : _≡_ {A = ℕ} 0 1 = cc in absurd (omega arith)
-  taken-by false none e = let z : _≡_ {A = ℕ} 0 1 = cc in absurd (omega arith)
-  taken-by false (some s) e = refl
+  taken-by true x h b c e f = let z : _≡_ {A = ℕ} 0 1 = cc in absurd (omega arith)
+  taken-by false none h b c e f = let z : _≡_ {A = ℕ} 0 1 = cc in absurd (omega arith)
+  taken-by false (some s) h b c e f =
+      let g : record { phase = s .phase; count = s .count } ≡ h = cc in
+      λ i. carries l (step (sessionOf (g i .phase) (g i .count) (sym f i)) buf)
 
-  module _ (d : Decoded) (a : Admission) (e : d ≡ handed (decoded l)) (f : a ≡ admissionOf (d .held) (length buf)) where
-    same-admission : a ≡ admissionOf (handed (decoded l) .held) (length buf)
-    same-admission = f ∙ ap (λ (x : Decoded). admissionOf (x .held) (length buf)) e
+  -- a call that is not taken gives its word, and touches nothing
+  pub over-refused : {a : Admission} {b c : List ℕ} (w : ℕ) → Admits a l (length buf) b c → a ≡ Admission.Refused w → DidOver w l buf (hosted step l buf)
+  unfolding hosted
+  over-refused w f g = refused-by (ltb (length buf) leastBuffer) (decoded l) w (sym (f .admission) ∙ g)
 
-    -- a call that is not taken gives its word, and touches nothing
-    pub over-refused : (w : ℕ) → a ≡ Admission.Refused w → DidOver w l buf (hosted step l buf)
-    unfolding hosted admissionOf
-    over-refused w g = refused-by (ltb (length buf) leastBuffer) (decoded l) w (sym same-admission ∙ g)
-
-    -- one that is taken is the record's own step, written back
-    pub over-step : (w : ℕ) (l′ b : List ℕ) (r : Reply) → a ≡ Admission.Taken → Did r b (step (d .session) buf)
-        → (w ≡ wordOf (r .answer)) × (l′ ≡ written (r .session) l) → DidOver w l′ b (hosted step l buf)
-    unfolding hosted admissionOf
-    over-step w l′ b r g did k =
-        subst⁻¹ (DidOver w l′ b)
-        (taken-by (ltb (length buf) leastBuffer) (decoded l) (sym same-admission ∙ g) ∙ ap (λ (x : Decoded). carries l (step (x .session) buf)) (sym e))
-        (record {
-          word = k .0 ∙ ap (λ (x : Reply). wordOf (x .answer)) (did .reply);
-          session = k .1 ∙ ap (λ (x : Reply). written (x .session) l) (did .reply);
-          buffer = did .buffer;
-        })
+  -- one that is taken is the step on the record's session, written back
+  pub over-step : {a : Admission} {b c : List ℕ} (h : Head) (w : ℕ) (l′ b′ : List ℕ) (r : Reply) → Admits a l (length buf) b c → a ≡ Admission.Taken h
+      → Did r b′ (step (sessionOf (h .phase) (h .count) c) buf) → (w ≡ wordOf (r .answer)) × (l′ ≡ written (r .session) l) → DidOver w l′ b′ (hosted step l buf)
+  unfolding hosted
+  over-step {a} {b} {c} h w l′ b′ r f g did k =
+      subst⁻¹ (DidOver w l′ b′) (taken-by (ltb (length buf) leastBuffer) (decoded l) h b c (sym (f .admission) ∙ g) (f .store))
+      (record {
+        word = k .0 ∙ ap (λ (x : Reply). wordOf (x .answer)) (did .reply);
+        session = k .1 ∙ ap (λ (x : Reply). written (x .session) l) (did .reply);
+        buffer = did .buffer;
+      })
 
 -- ---- words
 

@@ -11,8 +11,7 @@ use Rattle.record.specs.declared.Session.{Session}
 use Rattle.record.specs.Numbers.{refusedBuffer, refusedRanges}
 use Rattle.record.specs.Session.{freshSession}
 use Rattle.session.specs.Steps.{Step, leastBuffer}
-use Rattle.layout.specs.declared.Held.{Held}
-use Rattle.layout.specs.Layout.{recordSize, written, decoded}
+use Rattle.layout.specs.Layout.{recordSize, written, decoded, storeOf}
 use Rattle.layout.specs.Word.{refusalWord, wordOf}
 use Rattle.host.specs.declared.Admission.{Admission}
 
@@ -49,13 +48,14 @@ stepped step l buf (some s) = carries l (step s buf)
 unfoldable pub hosted : (Session → List ℕ → Step) → List ℕ → List ℕ → Hosted
 hosted step l buf = if (ltb (length buf) leastBuffer) (refuses refusedBuffer l buf) (stepped step l buf (decoded l))
 
--- the first two as the code takes them apart
-abbrev pub heldAdmission : Held → Admission
-heldAdmission Held.Record = Admission.Taken
-heldAdmission Held.Nothing = Admission.Refused (refusalWord refusedRanges)
+-- the first two as the code takes them apart: a call is taken on the head of a record, or its refusal's word is given
+abbrev pub heldAdmission : Option Session → Admission
+heldAdmission none = Admission.Refused (refusalWord refusedRanges)
+heldAdmission (some s) = Admission.Taken (record { phase = s .phase; count = s .count })
 
-unfoldable pub admissionOf : Held → ℕ → Admission
-admissionOf h size = if (ltb size leastBuffer) (Admission.Refused (refusalWord refusedBuffer)) (heldAdmission h)
+pub record Admits (r : Admission) (l : List ℕ) (size : ℕ) (before after : List ℕ) : Type 0 where
+  pub admission : r ≡ if (ltb size leastBuffer) (Admission.Refused (refusalWord refusedBuffer)) (heldAdmission (decoded l))
+  pub store : after ≡ if (ltb size leastBuffer) before (storeOf (decoded l) before)
 
 -- ---- opening and counting
 

@@ -3,21 +3,25 @@
 // The session lies in bytes that the host lends to every call, as the record of `layout`; nothing is
 // kept between calls. A call gives one word: a command's length, an outcome with its reason, or a
 // refusal, which leaves all lent bytes as they were. docs/HOST.md has the layout and the words.
-use layout::Held;
-use record::Reply;
+use dictionary::SIZE;
+use layout::{Head, Held};
+use record::{Phase, Turn};
 use session::LEAST_BUFFER;
 ghost use mathlib.Core.Path.{_≡_};
+ghost use lib.ListN.{length};
+ghost use Rattle.dictionary.specs.Rows.{storeSize};
 ghost use Rattle.record.specs.declared.Session.{Session};
+ghost use Rattle.record.specs.Session.{sessionOf};
 ghost use Rattle.layout.specs.Layout.{recordSize, written, decoded};
 ghost use Rattle.layout.specs.Word.{wordOf};
 ghost use Rattle.session.specs.Steps.{linkStep, stopStep};
 ghost use Rattle.session.specs.Start.{startStep};
 ghost use Rattle.session.specs.Answer.{answerStep};
-ghost use Rattle.host.specs.Hosted.{DidOver, Opened, admissionOf, hosted, countWord};
+ghost use Rattle.host.specs.Hosted.{DidOver, Opened, Admits, hosted, countWord};
 
-// Whether a call is taken, or the word of its refusal.
+// Whether a call is taken, on the record of a head, or the word of its refusal.
 pub enum Admission {
-    Taken,
+    Taken(Head),
     Refused(u32),
 }
 
@@ -37,7 +41,8 @@ pub extern "C" fn emv_session_size() -> usize
 pub extern "C" fn emv_open(session: &mut [u8]) -> u32
     ensures { λ r. ⌜ Opened r (now (session .entry)) (now (session .exit)) ⌝ }
 {
-    if layout::encode(record::fresh(), session) {
+    let store = store::empty();
+    if layout::encode(Phase::Fresh, 0, &store.bytes, session) {
         return 0;
     }
     layout::refusal_word(record::REFUSED_RANGES)
@@ -48,12 +53,16 @@ pub extern "C" fn emv_open(session: &mut [u8]) -> u32
 pub extern "C" fn emv_start(session: &mut [u8], terminal: &[u8], command: &mut [u8]) -> u32
     ensures { λ r. ⌜ DidOver r (now (session .exit)) (now (command .exit)) (hosted (λ (s : Session) b. startStep s (now (terminal .entry)) b) (now (session .entry)) (now (command .entry))) ⌝ }
 {
-    let read = layout::decode(session);
-    let held = read.held;
-    if let Admission::Refused(word) = admit(held, command.len()) {
-        return word;
+    let mut store = [0u8; SIZE];
+    let admission = admit(session, command.len(), &mut store);
+    match admission {
+        Admission::Refused(word) => word,
+        Admission::Taken(head) => {
+            let phase = head.phase;
+            let turn = session::start_in(phase, head.count, &mut store, terminal, command);
+            finish(turn, &store, session)
+        }
     }
-    finish(session::start(read.session, terminal, command), session)
 }
 
 // Takes the card's answer to the command that was handed out last, status bytes included.
@@ -61,12 +70,16 @@ pub extern "C" fn emv_start(session: &mut [u8], terminal: &[u8], command: &mut [
 pub extern "C" fn emv_answer(session: &mut [u8], card: &[u8], command: &mut [u8]) -> u32
     ensures { λ r. ⌜ DidOver r (now (session .exit)) (now (command .exit)) (hosted (λ (s : Session) b. answerStep s (now (card .entry)) b) (now (session .entry)) (now (command .entry))) ⌝ }
 {
-    let read = layout::decode(session);
-    let held = read.held;
-    if let Admission::Refused(word) = admit(held, command.len()) {
-        return word;
+    let mut store = [0u8; SIZE];
+    let admission = admit(session, command.len(), &mut store);
+    match admission {
+        Admission::Refused(word) => word,
+        Admission::Taken(head) => {
+            let phase = head.phase;
+            let turn = session::answer_in(phase, head.count, &mut store, card, command);
+            finish(turn, &store, session)
+        }
     }
-    finish(session::answer(read.session, card, command), session)
 }
 
 // The link to the card failed.
@@ -74,12 +87,16 @@ pub extern "C" fn emv_answer(session: &mut [u8], card: &[u8], command: &mut [u8]
 pub extern "C" fn emv_link_failed(session: &mut [u8], command: &mut [u8]) -> u32
     ensures { λ r. ⌜ DidOver r (now (session .exit)) (now (command .exit)) (hosted linkStep (now (session .entry)) (now (command .entry))) ⌝ }
 {
-    let read = layout::decode(session);
-    let held = read.held;
-    if let Admission::Refused(word) = admit(held, command.len()) {
-        return word;
+    let mut store = [0u8; SIZE];
+    let admission = admit(session, command.len(), &mut store);
+    match admission {
+        Admission::Refused(word) => word,
+        Admission::Taken(head) => {
+            let phase = head.phase;
+            let turn = session::link_failed_in(phase, head.count, &store, command);
+            finish(turn, &store, session)
+        }
     }
-    finish(session::link_failed(read.session, command), session)
 }
 
 // The terminal stops the session.
@@ -87,12 +104,16 @@ pub extern "C" fn emv_link_failed(session: &mut [u8], command: &mut [u8]) -> u32
 pub extern "C" fn emv_stop(session: &mut [u8], command: &mut [u8]) -> u32
     ensures { λ r. ⌜ DidOver r (now (session .exit)) (now (command .exit)) (hosted stopStep (now (session .entry)) (now (command .entry))) ⌝ }
 {
-    let read = layout::decode(session);
-    let held = read.held;
-    if let Admission::Refused(word) = admit(held, command.len()) {
-        return word;
+    let mut store = [0u8; SIZE];
+    let admission = admit(session, command.len(), &mut store);
+    match admission {
+        Admission::Refused(word) => word,
+        Admission::Taken(head) => {
+            let phase = head.phase;
+            let turn = session::stop_in(phase, head.count, &store, command);
+            finish(turn, &store, session)
+        }
     }
-    finish(session::stop(read.session, command), session)
 }
 
 // How many commands the session has handed out; NO_COUNT where the bytes hold no record.
@@ -100,32 +121,37 @@ pub extern "C" fn emv_stop(session: &mut [u8], command: &mut [u8]) -> u32
 pub extern "C" fn emv_count(session: &[u8]) -> u32
     ensures { λ r. ⌜ r ≡ countWord (decoded (now (session .entry))) ⌝ }
 {
-    let read = layout::decode(session);
-    let held = read.held;
-    let Held::Record = held else {
+    let held = layout::head_in(session);
+    let Held::Record(head) = held else {
         return NO_COUNT;
     };
-    basics::wide32(record::count(read.session))
+    basics::wide32(head.count)
 }
 
-// A buffer that is too short is refused before bytes that hold no record.
-fn admit(held: Held, size: usize) -> Admission
-    ensures { λ r. ⌜ r ≡ admissionOf held size ⌝ }
+// A buffer that is too short is refused before bytes that hold no record. The record's store goes into
+// the one that is lent.
+fn admit(session: &[u8], size: usize, store: &mut [u8; SIZE]) -> Admission
+    requires { ⌜ length (now store) ≡ storeSize ⌝ }
+    ensures admitted { λ r. ⌜ Admits r (now (session .entry)) size (now (store .entry)) (now (store .exit)) ⌝ }
+    ensures sized { λ _. ⌜ length (now (store .exit)) ≡ storeSize ⌝ }
 {
     if size < LEAST_BUFFER {
         return Admission::Refused(layout::refusal_word(record::REFUSED_BUFFER));
     }
+    let held = layout::decode(session, store);
     match held {
-        Held::Record => Admission::Taken,
+        Held::Record(head) => Admission::Taken(head),
         Held::Nothing => Admission::Refused(layout::refusal_word(record::REFUSED_RANGES)),
     }
 }
 
-// Writes the reply's session in front of the lent bytes, and gives the word of its answer.
-fn finish(reply: Reply, session: &mut [u8]) -> u32
-    ensures { λ r. ⌜ (r ≡ wordOf (reply .answer)) × (now (session .exit) ≡ written (reply .session) (now (session .entry))) ⌝ }
+// Writes the record of a turn and a store in front of the lent bytes, and gives the word of its answer.
+fn finish(turn: Turn, store: &[u8; SIZE], session: &mut [u8]) -> u32
+    requires { ⌜ length (now store) ≡ storeSize ⌝ }
+    ensures { λ r. ⌜ (r ≡ wordOf (turn .answer)) × (now (session .exit) ≡ written (sessionOf (turn .phase) (turn .count) (now (store .entry))) (now (session .entry))) ⌝ }
 {
-    layout::encode(reply.session, session);
-    let answer = reply.answer;
+    let phase = turn.phase;
+    layout::encode(phase, turn.count, store, session);
+    let answer = turn.answer;
     layout::word(answer)
 }

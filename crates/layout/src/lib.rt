@@ -85,7 +85,8 @@ pub fn encode(phase: Phase, count: u8, store: &[u8; SIZE], bytes: &mut [u8]) -> 
 // Takes apart the record in front of the bytes: its store goes into the one that is lent.
 pub fn decode(bytes: &[u8], store: &mut [u8; SIZE]) -> Held
     requires { ⌜ length (now store) ≡ storeSize ⌝ }
-    ensures { λ r. ⌜ Decodes r (now (bytes .entry)) (now (store .entry)) (now (store .exit)) ⌝ }
+    ensures read { λ r. ⌜ Decodes r (now (bytes .entry)) (now (store .entry)) (now (store .exit)) ⌝ }
+    ensures sized { λ _. ⌜ length (now (store .exit)) ≡ storeSize ⌝ }
 {
     let held = head_in(bytes);
     let Held::Record(_) = held else {

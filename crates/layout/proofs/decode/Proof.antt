@@ -4,7 +4,7 @@ use borrow.Author.Needs.{needs}
 use mathlib.Core.Path.{_≡_, refl, sym, ap, _∙_}
 use mathlib.Core.Option.{Option}
 use native.Mathlib.Omega.{arith}
-use lib.ListN.{length}
+use lib.ListN.{length, length-take, length-drop}
 use Rattle.record.specs.declared.Session.{Session}
 use Rattle.layout.specs.Layout.{recordSize, decoded, storeOf}
 use Rattle.layout.proofs.Laws.{held-none, held-some}
@@ -15,11 +15,12 @@ use Rattle.layout.proofs.decode.Tie as tie
 returns : tie.Need-returns
 returns c =
     let h = c .before .before in
-    let a = h .before .before .args in
-    record {
-      held = h .head-in .ensures;
-      store = sym (ap (λ (x : Option Session). storeOf x (a .store .now)) (held-none (decoded (a .bytes .now)) (sym (h .head-in .ensures) ∙ c .enum-told2 .given .1)));
-    }
+    let a = h .before .before in
+    ( record {
+        held = h .head-in .ensures;
+        store = sym (ap (λ (x : Option Session). storeOf x (a .args .store .now)) (held-none (decoded (a .args .bytes .now)) (sym (h .head-in .ensures) ∙ c .enum-told2 .given .1)));
+      }
+    , a .pre )
 
 part-copy-end : tie.Need-part-copy-end
 part-copy-end c =
@@ -33,11 +34,9 @@ returns-2 c =
     let a = h .before .before in
     let l = a .args .bytes .now in
     let k = held-some l _ (sym (h .head-in .ensures) ∙ t .enum-told .given .1) in
-    record {
-      held = h .head-in .ensures;
-      store = take-store l (a .args .store .now) (c .copy .last .1 .0) (k .0) (a .pre) (c .copy .ensures .1)
-          ∙ sym (ap (λ (x : Option Session). storeOf x (a .args .store .now)) (k .1));
-    }
+    let s = take-store l (a .args .store .now) (c .copy .last .1 .0) (k .0) (a .pre) (c .copy .ensures .1) in
+    ( record { held = h .head-in .ensures; store = s ∙ sym (ap (λ (x : Option Session). storeOf x (a .args .store .now)) (k .1)) }
+    , ap length s ∙ simp (length-take, length-drop) (omega (arith, k .0)) )
 
 pub decode-spec : {M : Type 1} → statement M
 decode-spec =
