@@ -2,16 +2,11 @@
 -- Assumes nothing.
 use borrow.Author.Needs.{needs}
 use borrow.Author.Tests.{lt-ltb, le-ltb}
-use mathlib.Core.Path.{_≡_, sym, ap, _∙_}
-use mathlib.Core.Option.{Option, some, none}
+use mathlib.Core.Path.{sym, ap, _∙_}
 use Prim.Native.Nat.{ℕ}
 use Rattle.basics.proofs.Laws.{if-yes, if-no}
-use Rattle.record.specs.declared.Session.{Session}
-use Rattle.layout.specs.declared.Head.{Head}
-use Rattle.layout.specs.declared.Held.{Held}
-use Rattle.layout.specs.Layout.{decoded, heldOf}
+use Rattle.layout.specs.Layout.{decoded}
 use Rattle.host.specs.declared.Admission.{Admission}
-use Rattle.host.specs.Hosted.{heldAdmission}
 use Rattle.host.proofs.Laws.{admits-record, admits-nothing}
 use Rattle.host.proofs.admit.Statement.{statement}
 use Rattle.host.proofs.admit.Tie as tie

@@ -1,12 +1,12 @@
 -- `layout::decode` meets its contract: nothing is touched where there is no record; else the store is copied whole.
 -- Assumes nothing.
 use borrow.Author.Needs.{needs}
-use mathlib.Core.Path.{_≡_, refl, sym, ap, _∙_}
+use mathlib.Core.Path.{sym, ap, _∙_}
 use mathlib.Core.Option.{Option}
 use native.Mathlib.Omega.{arith}
 use lib.ListN.{length, length-take, length-drop}
 use Rattle.record.specs.declared.Session.{Session}
-use Rattle.layout.specs.Layout.{recordSize, decoded, storeOf}
+use Rattle.layout.specs.Layout.{decoded, storeOf}
 use Rattle.layout.proofs.Laws.{held-none, held-some}
 use Rattle.layout.proofs.Lists.{take-store}
 use Rattle.layout.proofs.decode.Statement.{statement}

@@ -2,9 +2,9 @@
 -- Assumes nothing.
 use borrow.Author.Needs.{needs}
 use borrow.Author.Tests.{lt-leb, le-leb}
-use mathlib.Core.Path.{_≡_, refl, sym, _∙_}
+use mathlib.Core.Path.{refl, sym, _∙_}
 use native.Mathlib.Omega.{arith}
-use lib.ListN.{length, length-set, length-take, length-drop}
+use lib.ListN.{length-set, length-take, length-drop}
 use Rattle.basics.proofs.Laws.{if-yes, if-no}
 use Rattle.layout.specs.Layout.{encoded, written}
 use Rattle.layout.proofs.Lists.{headed-length, put-record}
