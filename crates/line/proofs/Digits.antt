@@ -1,4 +1,4 @@
--- What a decoding has reached (`Going`) and its laws: the start, one byte more, and the three ways out; and the laws of a decimal number.
+-- What a decoding has reached (`Decoding`) and its laws: the start, one byte more, and the three ways out; and the laws of a decimal number.
 -- Assumes nothing.
 use mathlib.Core.Path.{_≡_, refl, sym, ap, _∙_}
 use mathlib.Core.Bool.{Bool, true, false}
@@ -78,11 +78,12 @@ spelled-byte [] v d e = cc
 spelled-byte (a ∷ []) v d e = cc
 spelled-byte (a ∷ b ∷ s) v d e =
     if-no _ _ (d (omega arith))
-    ∙ elim (bool-cases (isPair a b))
-      [ inl p ↦ let q : byteOf a b ≡ Pair.Byte v = sym (if-yes _ _ p) ∙ e in
-                let w : record { byte = digitOf a * 16 + digitOf b } ≡ v = cc in
-                if-yes _ _ p ∙ ap (λ (x : Value). after (x .byte ∷ []) (spelled s)) w
-      | inr p ↦ cc (if-no (byteOf a b) Pair.Broken p) ]
+    ∙ elim (bool-cases (isPair a b)) [
+      | inl p ↦ let q : byteOf a b ≡ Pair.Byte v = sym (if-yes _ _ p) ∙ e in
+          let w : record { byte = digitOf a * 16 + digitOf b } ≡ v = cc in
+          if-yes _ _ p ∙ ap (λ (x : Value). after (x .byte ∷ []) (spelled s)) w
+      | inr p ↦ cc (if-no (byteOf a b) Pair.Broken p)
+    ]
 
 pub pair-length : (s : List ℕ) (v : Value) → pairOf s ≡ Pair.Byte v → 2 ≤ length s
 unfolding pairOf
@@ -93,15 +94,15 @@ pair-length (a ∷ b ∷ s) v e = omega arith
 -- ---- a decoding
 
 -- n bytes of s are in the front of the lent bytes, the rest of s is still to decode, and the lent bytes behind are as they were
-pub record Going (s entry : List ℕ) (n : ℕ) (rest out : List ℕ) : Type 0 where
+pub record Decoding (s entry : List ℕ) (n : ℕ) (rest out : List ℕ) : Type 0 where
   pub room : n ≤ length out
   pub size : length out ≡ length entry
   pub behind : drop n out ≡ drop n entry
   pub trimmed : Trimmed rest
   pub carried : spelled s ≡ after (take n out) (spelled rest)
 
-pub going-start : (s out : List ℕ) → Going s out 0 (past (of Blank) s) out
-going-start s out = record { room = omega arith; size = refl; behind = refl; trimmed = past-first (of Blank) s; carried = spelled-past s }
+pub decoding-start : (s out : List ℕ) → Decoding s out 0 (past (of Blank) s) out
+decoding-start s out = record { room = omega arith; size = refl; behind = refl; trimmed = past-first (of Blank) s; carried = spelled-past s }
 
 -- the first n lent bytes as a spelling, and what it reports
 front-of : List ℕ → ℕ → ℕ → Spelling
@@ -114,7 +115,7 @@ reported entry out n p h k r e =
     let l = length-take-le n out h in
     rw e (record { report = rw l; lent = rw (l, ← k) (sym (take-append-drop n out)) })
 
-module _ (s entry : List ℕ) (n : ℕ) (rest out : List ℕ) (g : Going s entry n rest out) where
+module _ (s entry : List ℕ) (n : ℕ) (rest out : List ℕ) (g : Decoding s entry n rest out) where
   -- nothing more is spelled
   closed : (p : ℕ) → spelled rest ≡ stopped p → Decodes (record { size = n; problem = p }) out (within (length entry) (spelled s)) entry
   unfolding within front-of
@@ -123,33 +124,33 @@ module _ (s entry : List ℕ) (n : ℕ) (rest out : List ℕ) (g : Going s entry
       let q : spelled s ≡ front-of out n p = g .carried ∙ rw e (ap (λ (b : List ℕ). record { bytes = b; problem = p }) (append-nil _)) in
       reported entry out n p (g .room) (g .behind) _ (rw q (if-yes _ _ (le-leb (length (take n out)) (length entry) (omega arith))))
 
-  pub going-ends : length rest ≡ 0 → Decodes (record { size = n; problem = 0 }) out (within (length entry) (spelled s)) entry
+  pub decoding-ends : length rest ≡ 0 → Decodes (record { size = n; problem = 0 }) out (within (length entry) (spelled s)) entry
   unfolding spelled
-  going-ends e = closed 0 (rw (none-of rest e))
+  decoding-ends e = closed 0 (rw (none-of rest e))
 
-  pub going-breaks : 0 < length rest → pairOf rest ≡ Pair.Broken → Decodes (record { size = n; problem = hexProblem }) out (within (length entry) (spelled s)) entry
-  going-breaks h e = closed hexProblem (spelled-broken rest h (g .trimmed) e)
+  pub decoding-breaks : 0 < length rest → pairOf rest ≡ Pair.Broken → Decodes (record { size = n; problem = hexProblem }) out (within (length entry) (spelled s)) entry
+  decoding-breaks h e = closed hexProblem (spelled-broken rest h (g .trimmed) e)
 
   module _ (v : Value) (e : pairOf rest ≡ Pair.Byte v) where
     next : spelled s ≡ after (take n out) (after (v .byte ∷ []) (spelled (drop 2 rest)))
     next = g .carried ∙ ap (after (take n out)) (spelled-byte rest v (g .trimmed) e)
 
-    pub going-full : length out ≤ n → Decodes (record { size = n; problem = roomProblem }) out (within (length entry) (spelled s)) entry
+    pub decoding-full : length out ≤ n → Decodes (record { size = n; problem = roomProblem }) out (within (length entry) (spelled s)) entry
     unfolding within front-of
-    going-full h =
+    decoding-full h =
         let l = length-take-le n out (g .room) in
         let over : length entry < length (take n out ++ (v .byte ∷ spelled (drop 2 rest) .bytes)) = simp length-append (omega arith) in
         let cut : take (length entry) (take n out ++ (v .byte ∷ spelled (drop 2 rest) .bytes)) ≡ take n out = take-at (take n out) _ (length entry) (omega arith) in
         reported entry out n roomProblem (g .room) (g .behind) _ (rw next (if-no _ _ (lt-leb _ _ over) ∙ ap (λ (b : List ℕ). record { bytes = b; problem = roomProblem }) cut))
 
-    pub going-on : n < length out → Going s entry (n + 1) (past (of Blank) (drop 2 rest)) (set out n (v .byte))
-    going-on h = record {
-        room = rw length-set (omega arith);
-        size = rw length-set (g .size);
-        behind = rw (drop-set-lt (n + 1) out n (v .byte) (omega arith)) (sym (drop-drop 1 n out) ∙ ap (drop 1) (g .behind) ∙ drop-drop 1 n entry);
-        trimmed = past-first (of Blank) (drop 2 rest);
-        carried = next ∙ rw (add-one, take-suc-set, ← spelled-past (drop 2 rest)) (ap (λ (b : List ℕ). record { bytes = b; problem = spelled (drop 2 rest) .problem }) (sym (append-assoc (take n out) (v .byte ∷ []) _)))
-      }
+    pub decoding-on : n < length out → Decoding s entry (n + 1) (past (of Blank) (drop 2 rest)) (set out n (v .byte))
+    decoding-on h = record {
+      room = rw length-set (omega arith);
+      size = rw length-set (g .size);
+      behind = rw (drop-set-lt (n + 1) out n (v .byte) (omega arith)) (sym (drop-drop 1 n out) ∙ ap (drop 1) (g .behind) ∙ drop-drop 1 n entry);
+      trimmed = past-first (of Blank) (drop 2 rest);
+      carried = next ∙ rw (add-one, take-suc-set, ← spelled-past (drop 2 rest)) (ap (λ (b : List ℕ). record { bytes = b; problem = spelled (drop 2 rest) .problem }) (sym (append-assoc (take n out) (v .byte ∷ []) _)));
+    }
 
 -- ---- a decimal number
 
@@ -194,11 +195,11 @@ module _ (w : List ℕ) (n i : ℕ) (r : Reading w n i) where
     pub reading-on : d < 10 → n * 10 + d ≤ 4096 → Reading w (n * 10 + d) (i + 1)
     unfolding every
     reading-on k l = record {
-        within = omega arith;
-        small = l;
-        digits = r .digits ∙ rw (add-one, drop-cons w i 0) (both-true _ (lt-ltb (digitOf (getD w i 0)) 10 (omega arith)));
-        number = on
-      }
+      within = omega arith;
+      small = l;
+      digits = r .digits ∙ rw (add-one, drop-cons w i 0) (both-true _ (lt-ltb (digitOf (getD w i 0)) 10 (omega arith)));
+      number = on;
+    }
 
   pub sized-is : 0 < length w → length w ≤ i → sized w ≡ Line.Buffer (record { bytes = n })
   unfolding sized every decimalFrom

@@ -71,8 +71,8 @@ enum Word {
 // Kinds of characters.
 enum Kind {
     Blank,
-    Dark,
-    Plain,
+    NotBlank,
+    NotHash,
 }
 
 // Two characters read as a byte.
@@ -120,8 +120,8 @@ fn is_of(kind: Kind, c: u8) -> bool
 {
     match kind {
         Kind::Blank => is_blank(c),
-        Kind::Dark => !is_blank(c),
-        Kind::Plain => c != b'#',
+        Kind::NotBlank => !is_blank(c),
+        Kind::NotHash => c != b'#',
     }
 }
 
@@ -156,7 +156,7 @@ fn run(s: &[u8], kind: Kind) -> usize
 fn uncommented(s: &[u8]) -> &[u8]
     ensures { λ r. ⌜ now r ≡ uncommentedOf (now (s .entry)) ⌝ }
 {
-    let n = run(s, Kind::Plain);
+    let n = run(s, Kind::NotHash);
     &s[..n]
 }
 
@@ -173,7 +173,7 @@ fn first_word(s: &[u8]) -> &[u8]
     ensures { λ r. ⌜ now r ≡ wordOf (now (s .entry)) ⌝ }
 {
     let t = past_blanks(s);
-    let n = run(t, Kind::Dark);
+    let n = run(t, Kind::NotBlank);
     &t[..n]
 }
 
@@ -182,7 +182,7 @@ fn behind_word(s: &[u8]) -> &[u8]
     ensures { λ r. ⌜ now r ≡ behind (now (s .entry)) ⌝ }
 {
     let t = past_blanks(s);
-    let n = run(t, Kind::Dark);
+    let n = run(t, Kind::NotBlank);
     &t[n..]
 }
 

@@ -1,4 +1,4 @@
--- `line::decode` meets its contract. The invariant is `Going`: n bytes are in their place, the rest is still to decode.
+-- `line::decode` meets its contract. The invariant is `Decoding`: n bytes are in their place, the rest is still to decode.
 -- Assumes nothing.
 use borrow.Author.Needs.{needs}
 use mathlib.Core.Path.{_≡_, sym, ap, _∙_}
@@ -9,13 +9,13 @@ use Rattle.line.specs.declared.Kind.{Kind}
 use Rattle.line.specs.declared.Pair.{Pair}
 use Rattle.line.specs.Text.{of, past}
 use Rattle.line.specs.Digits.{pairOf}
-use Rattle.line.proofs.Digits.{Going, going-start, going-on, going-full, going-breaks, going-ends, pair-length}
+use Rattle.line.proofs.Digits.{Decoding, decoding-start, decoding-on, decoding-full, decoding-breaks, decoding-ends, pair-length}
 use Rattle.line.proofs.Text.{tail-is, past-length}
 use Rattle.line.proofs.decode.Statement.{statement}
 use Rattle.line.proofs.decode.Tie as tie
 
 abbrev Inv-loop : tie.InvT-loop
-Inv-loop s out₀ rest₀ n₀ out rest n = Going s out₀ n rest out
+Inv-loop s out₀ rest₀ n₀ out rest n = Decoding s out₀ n rest out
 
 abbrev μ-loop : tie.MeasureT-loop
 μ-loop s out₀ rest₀ n₀ out rest n = length rest
@@ -25,17 +25,17 @@ byte-read : (c : tie.After-pair Inv-loop μ-loop) → pairOf (c .before .before 
 byte-read c = sym (c .before .before .pair-at .ensures) ∙ c .pair .given .1
 
 loop-holds : tie.Need-loop-holds Inv-loop μ-loop
-loop-holds c = rw (c .past-blanks .ensures) (going-start _ _)
+loop-holds c = rw (c .past-blanks .ensures) (decoding-start _ _)
 
 returns : tie.Need-returns Inv-loop μ-loop
 returns c =
     let lp = c .before .before .before .before .loop in
-    going-breaks _ _ _ _ _ (lp .inv) (omega arith) (sym (c .before .before .pair-at .ensures) ∙ c .enum-told .given .1)
+    decoding-breaks _ _ _ _ _ (lp .inv) (omega arith) (sym (c .before .before .pair-at .ensures) ∙ c .enum-told .given .1)
 
 returns-2 : tie.Need-returns-2 Inv-loop μ-loop
 returns-2 c =
     let lp = c .before .before .before .before .before .before .loop in
-    going-full _ _ _ _ _ (lp .inv) _ (byte-read (c .before .before)) (c .if1 .taken)
+    decoding-full _ _ _ _ _ (lp .inv) _ (byte-read (c .before .before)) (c .if1 .taken)
 
 inside : (c : tie.Else1 Inv-loop μ-loop) → 2 ≤ length (c .before .before .before .before .before .before .loop .rest .now)
 inside c = pair-length _ _ (byte-read (c .before .before))
@@ -58,10 +58,10 @@ loop-less c =
 loop-again : tie.Need-loop-again Inv-loop μ-loop
 loop-again c =
     let lp = c .before .before .before .before .before .before .before .before .loop in
-    rw (left c) (going-on _ _ _ _ _ (lp .inv) _ (byte-read (c .before .before .before .before)) (c .before .before .if1 .left))
+    rw (left c) (decoding-on _ _ _ _ _ (lp .inv) _ (byte-read (c .before .before .before .before)) (c .before .before .if1 .left))
 
 returns-3 : tie.Need-returns-3 Inv-loop μ-loop
-returns-3 c = going-ends _ _ _ _ _ (c .before .loop .inv) (c .loop-test .left)
+returns-3 c = decoding-ends _ _ _ _ _ (c .before .loop .inv) (c .loop-test .left)
 
 pub decode-spec : {M : Type 1} → statement M
 decode-spec =

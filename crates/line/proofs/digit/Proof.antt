@@ -24,24 +24,30 @@ returns c =
 returns-2 : tie.Need-returns-2
 unfolding digitOf
 returns-2 c =
-    let k = ends _ 65 (c .before .before .before .before .args .c) 70 (c .before .is-between2 .ensures) (c .if2 .taken) in
-    (sym (if-no _ _ (sym (c .before .before .before .is-between .ensures) ∙ c .before .before .if1 .left)
-    ∙ if-yes _ _ (sym (c .before .is-between2 .ensures) ∙ c .if2 .taken)), omega arith)
+    let k = ends _ 65 (c .before .before .before .before .args .c) 70 (c .before .is-between2 .ensures) (c .if2 .taken) in (
+      sym (if-no _ _ (sym (c .before .before .before .is-between .ensures) ∙ c .before .before .if1 .left)
+          ∙ if-yes _ _ (sym (c .before .is-between2 .ensures) ∙ c .if2 .taken)),
+      omega arith,
+    )
 
 returns-3 : tie.Need-returns-3
 unfolding digitOf
 returns-3 c =
-    let k = ends _ 97 (c .before .before .before .before .before .before .args .c) 102 (c .before .is-between3 .ensures) (c .if3 .taken) in
-    (sym (if-no _ _ (sym (c .before .before .before .before .before .is-between .ensures) ∙ c .before .before .before .before .if1 .left)
-    ∙ if-no _ _ (sym (c .before .before .before .is-between2 .ensures) ∙ c .before .before .if2 .left)
-    ∙ if-yes _ _ (sym (c .before .is-between3 .ensures) ∙ c .if3 .taken)), omega arith)
+    let k = ends _ 97 (c .before .before .before .before .before .before .args .c) 102 (c .before .is-between3 .ensures) (c .if3 .taken) in (
+      sym (if-no _ _ (sym (c .before .before .before .before .before .is-between .ensures) ∙ c .before .before .before .before .if1 .left)
+          ∙ if-no _ _ (sym (c .before .before .before .is-between2 .ensures) ∙ c .before .before .if2 .left)
+          ∙ if-yes _ _ (sym (c .before .is-between3 .ensures) ∙ c .if3 .taken)),
+      omega arith,
+    )
 
 returns-4 : tie.Need-returns-4
 unfolding digitOf
-returns-4 c =
-    (sym (if-no _ _ (sym (c .before .before .before .before .before .is-between .ensures) ∙ c .before .before .before .before .if1 .left)
-    ∙ if-no _ _ (sym (c .before .before .before .is-between2 .ensures) ∙ c .before .before .if2 .left)
-    ∙ if-no _ _ (sym (c .before .is-between3 .ensures) ∙ c .if3 .left)), omega arith)
+returns-4 c = (
+  sym (if-no _ _ (sym (c .before .before .before .before .before .is-between .ensures) ∙ c .before .before .before .before .if1 .left)
+      ∙ if-no _ _ (sym (c .before .before .before .is-between2 .ensures) ∙ c .before .before .if2 .left)
+      ∙ if-no _ _ (sym (c .before .is-between3 .ensures) ∙ c .if3 .left)),
+  omega arith,
+)
 
 pub digit-spec : {M : Type 1} → statement M
 digit-spec =

@@ -43,7 +43,7 @@ returns-6 c = says-as (by-word (c .before .before .before) _ (c .before .enum-to
 
 returns-7 : tie.Need-returns-7
 unfolding said
-returns-7 c = 
+returns-7 c =
     let e = c .before .size-line .ensures in
     let w = c .before .before .first-word2 .ensures in
     let t = c .before .before .before .behind-word2 .ensures in
