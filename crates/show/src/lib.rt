@@ -1,5 +1,5 @@
-// Writes what the programs show to standard output: bytes in hexadecimal, numbers and replies.
-use record::{Answer, Reply};
+// Writes what the programs show to standard output: bytes in hexadecimal, numbers, replies and data objects.
+use record::{Answer, End, Outcome, Reply};
 
 // Text, as it is.
 pub fn text(s: &[u8]) {
@@ -65,4 +65,203 @@ fn digit(n: u8) -> u8 {
         return n + 55;
     }
     48
+}
+
+// ---- in words
+
+// A reply in words, with the count of commands handed out, and a new line.
+pub fn reply_in_words(reply: Reply, buffer: &[u8]) {
+    let answer = reply.answer;
+    match answer {
+        Answer::Command(issued) => {
+            command(issued.size, buffer);
+        }
+        Answer::Outcome(end) => {
+            ending(end);
+        }
+        Answer::Refused(refusal) => {
+            text(b"refused ");
+            numbered(refusal.number);
+            refusal_words(refusal.number);
+        }
+    }
+    let session = reply.session;
+    text(b", count ");
+    number(basics::wide(record::count(session)));
+    text(b"\n");
+}
+
+// An outcome and its reason, each by its number and in words.
+fn ending(end: End) {
+    let outcome = end.outcome;
+    text(b"outcome ");
+    numbered(record::outcome_number(outcome));
+    outcome_words(outcome);
+    text(b", reason ");
+    numbered(end.reason);
+    reason_words(end.reason);
+}
+
+// A number and a space.
+fn numbered(n: u8) {
+    number(basics::wide(n));
+    text(b" ");
+}
+
+fn outcome_words(outcome: Outcome) {
+    match outcome {
+        Outcome::Approved => text(b"approved"),
+        Outcome::OnlineRequest => text(b"online request"),
+        Outcome::Declined => text(b"declined"),
+        Outcome::Ended => text(b"ended"),
+        Outcome::SelectNext => text(b"select next"),
+    }
+}
+
+fn reason_words(reason: u8) {
+    match reason {
+        0 => text(b"none"),
+        1 => text(b"status bytes other than 90 00"),
+        2 => text(b"malformed answer"),
+        3 => text(b"object not allowed"),
+        4 => text(b"object missing"),
+        5 => text(b"file locator"),
+        6 => text(b"amount above transaction limit"),
+        7 => text(b"data object list"),
+        8 => text(b"cryptogram type"),
+        9 => text(b"link failed"),
+        10 => text(b"stopped"),
+        11 => text(b"not EMV mode"),
+        _ => text(b"unknown"),
+    }
+}
+
+fn refusal_words(number: u8) {
+    match number {
+        20 => text(b"start bytes are not whole primitive objects"),
+        21 => text(b"wrong phase"),
+        22 => text(b"command buffer under 261 bytes"),
+        23 => text(b"start object not allowed"),
+        24 => text(b"start object missing"),
+        25 => text(b"session record out of its ranges"),
+        _ => text(b"unknown"),
+    }
+}
+
+// ---- objects
+
+// The objects that a store holds: tag, name and value, a line each.
+pub fn objects(store: &[u8]) {
+    let mut row: usize = 0;
+    while row < dictionary::ROWS {
+        if store::is_there(store, row) {
+            object(dictionary::tag(row), store::value(store, row));
+        }
+        row += 1;
+    }
+}
+
+// One object, and a new line.
+fn object(number: u32, value: &[u8]) {
+    tag(number);
+    text(b" ");
+    name(number);
+    text(b":");
+    bytes(value);
+    if value.len() == 0 {
+        text(b" empty");
+    }
+    text(b"\n");
+}
+
+// A tag in hexadecimal digits.
+fn tag(number: u32) {
+    if 65535 < number {
+        io::write_all(1, &pair((number / 65536 % 256) as u8));
+    }
+    if 255 < number {
+        io::write_all(1, &pair((number / 256 % 256) as u8));
+    }
+    io::write_all(1, &pair((number % 256) as u8));
+}
+
+// The name of a data object (Book C-2, Annex A).
+fn name(tag: u32) {
+    if tag < 0x100 {
+        short_name(tag);
+    } else if tag < 0x9F07 {
+        date_name(tag);
+    } else if tag < 0x9F26 {
+        card_name(tag);
+    } else if tag < 0x10000 {
+        terminal_name(tag);
+    } else {
+        reader_name(tag);
+    }
+}
+
+fn short_name(tag: u32) {
+    match tag {
+        0x57 => text(b"Track 2 Equivalent Data"),
+        0x5A => text(b"Application PAN"),
+        0x82 => text(b"Application Interchange Profile"),
+        0x8C => text(b"CDOL1"),
+        0x94 => text(b"Application File Locator"),
+        0x95 => text(b"Terminal Verification Results"),
+        0x9A => text(b"Transaction Date"),
+        0x9C => text(b"Transaction Type"),
+        _ => text(b"unknown"),
+    }
+}
+
+fn date_name(tag: u32) {
+    match tag {
+        0x5F24 => text(b"Application Expiration Date"),
+        0x5F25 => text(b"Application Effective Date"),
+        0x5F28 => text(b"Issuer Country Code"),
+        0x5F2A => text(b"Transaction Currency Code"),
+        0x5F34 => text(b"Application PAN Sequence Number"),
+        0x9F02 => text(b"Amount, Authorized (Numeric)"),
+        0x9F03 => text(b"Amount, Other (Numeric)"),
+        _ => text(b"unknown"),
+    }
+}
+
+fn card_name(tag: u32) {
+    match tag {
+        0x9F07 => text(b"Application Usage Control"),
+        0x9F08 => text(b"Application Version Number (Card)"),
+        0x9F09 => text(b"Application Version Number (Reader)"),
+        0x9F0D => text(b"Issuer Action Code - Default"),
+        0x9F0E => text(b"Issuer Action Code - Denial"),
+        0x9F0F => text(b"Issuer Action Code - Online"),
+        0x9F10 => text(b"Issuer Application Data"),
+        0x9F1A => text(b"Terminal Country Code"),
+        _ => text(b"unknown"),
+    }
+}
+
+fn terminal_name(tag: u32) {
+    match tag {
+        0x9F26 => text(b"Application Cryptogram"),
+        0x9F27 => text(b"Cryptogram Information Data"),
+        0x9F33 => text(b"Terminal Capabilities"),
+        0x9F35 => text(b"Terminal Type"),
+        0x9F36 => text(b"Application Transaction Counter"),
+        0x9F37 => text(b"Unpredictable Number"),
+        0x9F38 => text(b"PDOL"),
+        0x9F40 => text(b"Additional Terminal Capabilities"),
+        _ => text(b"unknown"),
+    }
+}
+
+fn reader_name(tag: u32) {
+    match tag {
+        0xDF8120 => text(b"Terminal Action Code - Default"),
+        0xDF8121 => text(b"Terminal Action Code - Denial"),
+        0xDF8122 => text(b"Terminal Action Code - Online"),
+        0xDF8123 => text(b"Reader Contactless Floor Limit"),
+        0xDF8124 => text(b"Reader Contactless Transaction Limit (No On-device CVM)"),
+        _ => text(b"unknown"),
+    }
 }

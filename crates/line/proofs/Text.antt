@@ -1,0 +1,94 @@
+-- The front part of a text whose characters pass a test, the text behind it, and texts that are the same.
+-- Assumes nothing.
+use mathlib.Core.Path.{_≡_, refl, ap, ap₂, _∙_}
+use mathlib.Core.Bool.{Bool, true, false}
+use mathlib.Core.List.{List, [], _∷_}
+use mathlib.Core.Logic.{inl, inr}
+use Prim.Native.Nat.{ℕ, _+_, _-_, _≤_, _<_}
+use native.Mathlib.Nat.{le-refl}
+use native.Mathlib.Numerals.{add-one}
+use native.Mathlib.Omega.{arith}
+use lib.Dec.{eqb}
+use lib.ListN.{length, getD, take, drop, length-drop, drop-of-length-le}
+use lib.Seq.{drop-cons, take-all}
+use borrow.Author.Tests.{eqb-true}
+use Rattle.basics.specs.Choice.{if, both}
+use Rattle.basics.proofs.Laws.{if-yes, if-no, if-ind, bool-cases, both-left, both-right}
+use Rattle.line.specs.Text.{front, past, alike}
+
+-- the end of a text as a part of its slice
+pub tail-is : (s : List ℕ) (n : ℕ) → take (length s - n) (drop n s) ≡ drop n s
+tail-is s n = take-all (length s - n) (drop n s) (simp length-drop (le-refl _))
+
+module _ (f : ℕ → Bool) where
+  -- the front part and the text behind it, by the part's length
+  front-take : (s : List ℕ) → take (length (front f s)) s ≡ front f s
+  unfolding front if
+  front-take [] = refl
+  front-take (c ∷ s) = go (f c) (front-take s)
+    where
+      go : (x : Bool) → take (length (front f s)) s ≡ front f s → take (length (if x (c ∷ front f s) [])) (c ∷ s) ≡ if x (c ∷ front f s) []
+      go true ih = ap (λ (t : List ℕ). c ∷ t) ih
+      go false ih = refl
+
+  past-drop : (s : List ℕ) → drop (length (front f s)) s ≡ past f s
+  unfolding front past if
+  past-drop [] = refl
+  past-drop (c ∷ s) = go (f c) (past-drop s)
+    where
+      go : (x : Bool) → drop (length (front f s)) s ≡ past f s → drop (length (if x (c ∷ front f s) [])) (c ∷ s) ≡ if x (past f s) (c ∷ s)
+      go true ih = ih
+      go false ih = refl
+
+  pub front-is : (s : List ℕ) (n : ℕ) → n ≡ length (front f s) → take n s ≡ front f s
+  front-is s n e = rw e (front-take s)
+
+  pub past-is : (s : List ℕ) (n : ℕ) → n ≡ length (front f s) → take (length s - n) (drop n s) ≡ past f s
+  past-is s n e = tail-is s n ∙ rw e (past-drop s)
+
+  pub past-length : (s : List ℕ) → length (past f s) ≤ length s
+  past-length s = rw (← past-drop s, length-drop) (omega arith)
+
+  -- the text behind it begins with a character that does not pass
+  pub past-first : (s : List ℕ) → 0 < length (past f s) → f (getD (past f s) 0 0) ≡ false
+  unfolding past
+  past-first [] h = absurd (omega arith)
+  past-first (c ∷ s) h =
+      if-ind (λ (t : List ℕ). 0 < length t → f (getD t 0 0) ≡ false) (f c) (past f s) (c ∷ s) (λ e k. past-first s k) (λ e k. e) h
+
+  -- the part's length, a character at a time
+  module _ (s : List ℕ) (i : ℕ) where
+    pub front-stops : i < length s → f (getD s i 0) ≡ false → i + length (front f (drop i s)) ≡ i
+    unfolding front
+    front-stops h e = rw (drop-cons s i 0) (ap (λ (t : List ℕ). i + length t) (if-no _ _ e) ∙ omega arith)
+
+    pub front-goes-on : i < length s → f (getD s i 0) ≡ true → i + length (front f (drop i s)) ≡ i + 1 + length (front f (drop (i + 1) s))
+    unfolding front
+    front-goes-on h e = rw (add-one, drop-cons s i 0) (ap (λ (t : List ℕ). i + length t) (if-yes _ _ e) ∙ omega arith)
+
+    pub front-ends : length s ≤ i → i + length (front f (drop i s)) ≡ i
+    unfolding front
+    front-ends h = rw (drop-of-length-le s h) (omega arith)
+
+-- ---- the same text
+
+alike-eq : (s t : List ℕ) → alike s t ≡ true → s ≡ t
+unfolding alike
+alike-eq [] [] e = refl
+alike-eq [] (y ∷ t) e = cc
+alike-eq (x ∷ s) [] e = cc
+alike-eq (x ∷ s) (y ∷ t) e =
+    ap₂ (λ (a : ℕ) (u : List ℕ). a ∷ u) (eqb-true x y (both-left _ _ e)) (alike-eq s t (both-right _ _ e))
+
+pub unlike-length : (s t : List ℕ) → (length s ≡ length t → ⊥) → alike s t ≡ false
+unlike-length s t h =
+    elim (bool-cases (alike s t)) [ inl e ↦ absurd (h (ap length (alike-eq s t e))) | inr e ↦ e ]
+
+module _ (s t : List ℕ) (i : ℕ) where
+  pub alike-at : i < length s → i < length t → alike (drop i s) (drop i t) ≡ both (eqb (getD s i 0) (getD t i 0)) (alike (drop (i + 1) s) (drop (i + 1) t))
+  unfolding alike
+  alike-at h k = rw (add-one, drop-cons s i 0, drop-cons t i 0)
+
+  pub alike-ends : length s ≤ i → length t ≤ i → alike (drop i s) (drop i t) ≡ true
+  unfolding alike
+  alike-ends h k = rw (drop-of-length-le s h, drop-of-length-le t k)

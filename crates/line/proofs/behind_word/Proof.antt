@@ -1,0 +1,24 @@
+-- `line::behind_word` meets its contract. What stands behind the first word.
+-- Assumes nothing.
+use borrow.Author.Needs.{needs}
+use mathlib.Core.Path.{ap, _∙_}
+use Rattle.line.specs.Text.{of, past}
+use Rattle.line.specs.declared.Kind.{Kind}
+use Rattle.line.proofs.Text.{past-is}
+use Rattle.line.proofs.behind_word.Statement.{statement}
+use Rattle.line.proofs.behind_word.Tie as tie
+
+returns : tie.Need-returns
+returns c =
+    past-is _ _ _ (c .before .run .ensures .0) ∙ ap (past (of Kind.NotBlank)) (c .before .before .past-blanks .ensures)
+
+pub behind-word-spec : {M : Type 1} → statement M
+behind-word-spec =
+    tie.close
+    (tie.spec
+    (λ c κs. search needs)
+    (λ c κs. search needs)
+    (λ c. search needs)
+    (λ c. search needs)
+    (λ c. search needs)
+    returns)

@@ -1,0 +1,48 @@
+-- The text of a line as characters: its comment, its blanks and its words.
+-- Assumes nothing.
+use mathlib.Core.Bool.{Bool, true, false, not}
+use mathlib.Core.List.{List, [], _∷_}
+use Prim.Native.Nat.{ℕ}
+use lib.Dec.{eqb}
+use Rattle.basics.specs.Choice.{if, both, either}
+use Rattle.line.specs.declared.Kind.{Kind}
+use Rattle.line.specs.declared.Kind.the-variants.{Blank, NotBlank, NotHash}
+
+-- a blank is a space, a tab or a carriage return
+unfoldable pub isBlank : ℕ → Bool
+isBlank c = either (eqb c 32) (either (eqb c 9) (eqb c 13))
+
+-- kinds of characters: a blank, no blank, and no '#'
+abbrev pub of : Kind → ℕ → Bool
+of Blank c = isBlank c
+of NotBlank c = not (isBlank c)
+of NotHash c = not (eqb c 35)
+
+-- the longest part at the front whose characters all pass a test
+unfoldable pub front : (ℕ → Bool) → List ℕ → List ℕ
+front f [] = []
+front f (c ∷ s) = if (f c) (c ∷ front f s) []
+
+-- what stands behind that part
+unfoldable pub past : (ℕ → Bool) → List ℕ → List ℕ
+past f [] = []
+past f (c ∷ s) = if (f c) (past f s) (c ∷ s)
+
+-- a line without its comment: what stands before the first '#'
+abbrev pub uncommented : List ℕ → List ℕ
+uncommented s = front (of NotHash) s
+
+-- the first word: the characters from the first that is no blank up to the next blank
+abbrev pub wordOf : List ℕ → List ℕ
+wordOf s = front (of NotBlank) (past (of Blank) s)
+
+-- what stands behind the first word
+abbrev pub behind : List ℕ → List ℕ
+behind s = past (of NotBlank) (past (of Blank) s)
+
+-- two texts are the same
+unfoldable pub alike : List ℕ → List ℕ → Bool
+alike [] [] = true
+alike [] (b ∷ t) = false
+alike (a ∷ s) [] = false
+alike (a ∷ s) (b ∷ t) = both (eqb a b) (alike s t)

@@ -1,0 +1,361 @@
+// One line of a text file of calls: `parse` says which call it asks for and puts the call's bytes into
+// the front of a lent slice.
+//
+//     start HEX      answer HEX      link-failed      stop      buffer N
+//
+// Blanks (space, tab, carriage return) may stand around words and between the bytes of HEX; a byte is
+// two hexadecimal digits side by side, small or capital. `#` starts a comment to the line's end. N is
+// a decimal number, at most 4,096. A line with no word is blank.
+ghost use mathlib.Core.Path.{_≡_};
+ghost use Prim.Native.Nat.{_≤_};
+ghost use lib.ListN.{length};
+ghost use Rattle.line.specs.Text.{of, front, past, uncommented as uncommentedOf, wordOf, behind, alike};
+ghost use Rattle.line.specs.Digits.{between, digitOf, pairOf, spelled, within, Decodes, sized};
+ghost use Rattle.line.specs.Line.{named, alone as aloneAs, startLine, answerLine, meaning, Says};
+
+// How many bytes a call brings: the front of the lent slice.
+pub struct Bytes {
+    pub size: usize,
+}
+
+// A length asked for the command buffer.
+pub struct Size {
+    pub bytes: usize,
+}
+
+// What is wrong with a line.
+pub struct Problem {
+    pub number: u8,
+}
+
+pub enum Line {
+    Blank,
+    Start(Bytes),
+    Answer(Bytes),
+    LinkFailed,
+    Stop,
+    Buffer(Size),
+    Wrong(Problem),
+}
+
+// The numbers of the problems.
+pub const LONG: u8 = 1;
+
+pub const WORD: u8 = 2;
+
+pub const HEX: u8 = 3;
+
+pub const ROOM: u8 = 4;
+
+pub const BEHIND: u8 = 5;
+
+pub const NUMBER: u8 = 6;
+
+// The most characters of a line, its end not counted.
+pub const MOST: usize = 8192;
+
+// The longest command buffer.
+pub const LONGEST: usize = 4096;
+
+// The word in front of a line.
+enum Word {
+    Absent,
+    Start,
+    Answer,
+    LinkFailed,
+    Stop,
+    Buffer,
+    Unknown,
+}
+
+// Kinds of characters.
+enum Kind {
+    Blank,
+    NotBlank,
+    NotHash,
+}
+
+// Two characters read as a byte.
+struct Value {
+    byte: u8,
+}
+
+enum Pair {
+    Byte(Value),
+    Broken,
+}
+
+// How many bytes were decoded, and the number of the problem that stopped it, 0 for none.
+struct Decoded {
+    size: usize,
+    problem: u8,
+}
+
+// What a line says. The bytes of a start or an answer stand in the front of `out`.
+pub fn parse(line: &[u8], out: &mut [u8]) -> Line
+    ensures { λ r. ⌜ Says r (now (out .exit)) (meaning (now (line .entry)) (now (out .entry))) ⌝ }
+{
+    if MOST < line.len() {
+        return Line::Wrong(Problem { number: LONG });
+    }
+    let text = uncommented(line);
+    let rest = behind_word(text);
+    let word = word_named(first_word(text));
+    match word {
+        Word::Absent => Line::Blank,
+        Word::Start => start_line(decode(rest, out)),
+        Word::Answer => answer_line(decode(rest, out)),
+        Word::LinkFailed => alone(rest, Line::LinkFailed),
+        Word::Stop => alone(rest, Line::Stop),
+        Word::Buffer => alone(behind_word(rest), size_line(first_word(rest))),
+        Word::Unknown => Line::Wrong(Problem { number: WORD }),
+    }
+}
+
+// ---- characters and words
+
+// Whether a character is of a kind: a blank; no blank; or no `#`.
+fn is_of(kind: Kind, c: u8) -> bool
+    ensures { λ r. ⌜ r ≡ of kind c ⌝ }
+{
+    match kind {
+        Kind::Blank => is_blank(c),
+        Kind::NotBlank => !is_blank(c),
+        Kind::NotHash => c != b'#',
+    }
+}
+
+// A space, a tab or a carriage return.
+fn is_blank(c: u8) -> bool
+    ensures { λ r. ⌜ r ≡ of Kind.Blank c ⌝ }
+{
+    if c == b' ' {
+        return true;
+    }
+    if c == b'\t' {
+        return true;
+    }
+    c == b'\r'
+}
+
+// How many characters at the front are of a kind.
+fn run(s: &[u8], kind: Kind) -> usize
+    ensures { λ r. ⌜ (r ≡ length (front (of kind) (now (s .entry)))) × (r ≤ length (now (s .entry))) ⌝ }
+{
+    let mut i = 0;
+    while i < s.len() {
+        if !is_of(kind, s[i]) {
+            return i;
+        }
+        i += 1;
+    }
+    i
+}
+
+// The line up to its comment.
+fn uncommented(s: &[u8]) -> &[u8]
+    ensures { λ r. ⌜ now r ≡ uncommentedOf (now (s .entry)) ⌝ }
+{
+    let n = run(s, Kind::NotHash);
+    &s[..n]
+}
+
+// The text from its first character that is no blank.
+fn past_blanks(s: &[u8]) -> &[u8]
+    ensures { λ r. ⌜ now r ≡ past (of Kind.Blank) (now (s .entry)) ⌝ }
+{
+    let n = run(s, Kind::Blank);
+    &s[n..]
+}
+
+// The first word of a text.
+fn first_word(s: &[u8]) -> &[u8]
+    ensures { λ r. ⌜ now r ≡ wordOf (now (s .entry)) ⌝ }
+{
+    let t = past_blanks(s);
+    let n = run(t, Kind::NotBlank);
+    &t[..n]
+}
+
+// What stands behind the first word.
+fn behind_word(s: &[u8]) -> &[u8]
+    ensures { λ r. ⌜ now r ≡ behind (now (s .entry)) ⌝ }
+{
+    let t = past_blanks(s);
+    let n = run(t, Kind::NotBlank);
+    &t[n..]
+}
+
+// The same characters.
+fn same(a: &[u8], b: &[u8]) -> bool
+    ensures { λ r. ⌜ r ≡ alike (now (a .entry)) (now (b .entry)) ⌝ }
+{
+    if a.len() != b.len() {
+        return false;
+    }
+    let mut i = 0;
+    while i < a.len() {
+        if a[i] != b[i] {
+            return false;
+        }
+        i += 1;
+    }
+    true
+}
+
+// Which word it is.
+fn word_named(w: &[u8]) -> Word
+    ensures { λ r. ⌜ r ≡ named (now (w .entry)) ⌝ }
+{
+    if same(w, b"") {
+        return Word::Absent;
+    }
+    if same(w, b"start") {
+        return Word::Start;
+    }
+    if same(w, b"answer") {
+        return Word::Answer;
+    }
+    if same(w, b"link-failed") {
+        return Word::LinkFailed;
+    }
+    if same(w, b"stop") {
+        return Word::Stop;
+    }
+    if same(w, b"buffer") {
+        return Word::Buffer;
+    }
+    Word::Unknown
+}
+
+// ---- what stands behind a word
+
+// A line behind whose words only blanks may stand.
+fn alone(rest: &[u8], line: Line) -> Line
+    ensures { λ r. ⌜ r ≡ aloneAs (now (rest .entry)) line ⌝ }
+{
+    if past_blanks(rest).len() == 0 {
+        return line;
+    }
+    Line::Wrong(Problem { number: BEHIND })
+}
+
+// A start with the bytes that were decoded.
+fn start_line(d: Decoded) -> Line
+    ensures { λ r. ⌜ r ≡ startLine d ⌝ }
+{
+    if d.problem == 0 {
+        return Line::Start(Bytes { size: d.size });
+    }
+    Line::Wrong(Problem { number: d.problem })
+}
+
+// An answer with the bytes that were decoded.
+fn answer_line(d: Decoded) -> Line
+    ensures { λ r. ⌜ r ≡ answerLine d ⌝ }
+{
+    if d.problem == 0 {
+        return Line::Answer(Bytes { size: d.size });
+    }
+    Line::Wrong(Problem { number: d.problem })
+}
+
+// The length that a word asks for.
+fn size_line(w: &[u8]) -> Line
+    ensures { λ r. ⌜ r ≡ sized (now (w .entry)) ⌝ }
+{
+    if w.len() == 0 {
+        return Line::Wrong(Problem { number: NUMBER });
+    }
+    let mut n: usize = 0;
+    let mut i = 0;
+    while i < w.len() {
+        let d = basics::wide(digit(w[i]));
+        if 10 <= d {
+            return Line::Wrong(Problem { number: NUMBER });
+        }
+        n = n * 10 + d;
+        if LONGEST < n {
+            return Line::Wrong(Problem { number: NUMBER });
+        }
+        i += 1;
+    }
+    Line::Buffer(Size { bytes: n })
+}
+
+// Decodes pairs of hexadecimal digits with blanks between them into the front of `out`, up to the first
+// that is no pair or that finds no room.
+fn decode(s: &[u8], out: &mut [u8]) -> Decoded
+    ensures { λ r. ⌜ Decodes r (now (out .exit)) (within (length (now (out .entry))) (spelled (now (s .entry)))) (now (out .entry)) ⌝ }
+{
+    let mut rest = past_blanks(s);
+    let mut n: usize = 0;
+    while rest.len() != 0 {
+        let pair = pair_at(rest);
+        let Pair::Byte(value) = pair else {
+            return Decoded {
+                size: n,
+                problem: HEX,
+            };
+        };
+        if out.len() <= n {
+            return Decoded {
+                size: n,
+                problem: ROOM,
+            };
+        }
+        out[n] = value.byte;
+        n += 1;
+        rest = past_blanks(&rest[2..]);
+    }
+    Decoded {
+        size: n,
+        problem: 0,
+    }
+}
+
+// The first two characters as a byte.
+fn pair_at(s: &[u8]) -> Pair
+    ensures { λ r. ⌜ r ≡ pairOf (now (s .entry)) ⌝ }
+{
+    if s.len() < 2 {
+        return Pair::Broken;
+    }
+    let high = digit(s[0]);
+    let low = digit(s[1]);
+    if 16 <= high {
+        return Pair::Broken;
+    }
+    if 16 <= low {
+        return Pair::Broken;
+    }
+    Pair::Byte(Value {
+        byte: high * 16 + low,
+    })
+}
+
+// The value of a hexadecimal digit, and 16 for any other character.
+fn digit(c: u8) -> u8
+    ensures { λ r. ⌜ (r ≡ digitOf c) × (r ≤ 16) ⌝ }
+{
+    if is_between(48, c, 57) {
+        return c - 48;
+    }
+    if is_between(65, c, 70) {
+        return c - 55;
+    }
+    if is_between(97, c, 102) {
+        return c - 87;
+    }
+    16
+}
+
+// Whether a character lies between two others, both counted in.
+fn is_between(low: u8, c: u8, high: u8) -> bool
+    ensures { λ r. ⌜ r ≡ between low c high ⌝ }
+{
+    if c < low {
+        return false;
+    }
+    c <= high
+}

@@ -1,0 +1,27 @@
+-- One row to a turn of the loop. Assumes nothing.
+use Prim.Native.Nat.{_-_}
+use borrow.Author.Needs.{needs}
+use Rattle.show.proofs.objects.Statement.{statement}
+use Rattle.show.proofs.objects.Tie as tie
+
+abbrev Inv-loop : tie.InvT-loop
+Inv-loop store row₀ row = Unit {0}
+
+abbrev μ-loop : tie.MeasureT-loop
+μ-loop store row₀ row = 36 - row
+
+pub objects-spec : {M : Type 1} → statement M
+objects-spec =
+    tie.close
+    (tie.spec
+    Inv-loop
+    μ-loop
+    (λ c. search needs)
+    (λ c κs. search needs)
+    (λ c κs. search needs)
+    (λ c κs. search needs)
+    (λ c κs. search needs)
+    (λ c. search needs)
+    (λ c. search needs)
+    (λ c. search needs)
+    (λ c. search needs))
