@@ -1,5 +1,5 @@
-/* Prints the deepest stack of each call over a purchase: the stack below is painted, the call made, and the paint that is left counted.
- * Link with -static or -Wl,-z,now, so that no symbol is looked up within a call. */
+/* Prints the deepest stack of each call over a purchase, and fails where one is over 4 KiB and two stores: the stack below is painted, the
+ * call made, and the paint that is left counted. Link with -static or -Wl,-z,now, so that no symbol is looked up within a call. */
 #include <stdio.h>
 #include <stdlib.h>
 #include <string.h>
@@ -8,6 +8,8 @@
 
 #define DEPTH 65536u
 #define PAINT 0xA5u
+#define HEAD 5u
+#define MOST (4096u + 2u * (EMV_SESSION_SIZE - HEAD))
 #define BYTES(text) (const uint8_t *)(text), sizeof(text) - 1
 
 static uint8_t session[EMV_SESSION_SIZE];
@@ -93,6 +95,6 @@ int main(void)
     measure("open", call_open, BYTES(""), 0);
     measure("start", call_start, BYTES(TERMINAL), 8);
     measure("stop", call_stop, BYTES(""), EMV_OUTCOMES + EMV_ENDED * 256u + EMV_REASON_STOPPED);
-    printf("%6lu  deepest\n", (unsigned long)deepest);
-    return 0;
+    printf("%6lu  deepest, of %lu at most\n", (unsigned long)deepest, (unsigned long)MOST);
+    return deepest <= MOST ? 0 : 1;
 }

@@ -60,7 +60,7 @@ default = 2
 abbrev pub noPair : Pair
 noPair = record { card = []; terminal = [] }
 
--- the card's code for a stage: an absent one is zeros for denial and ones for the others
+-- the card's code for a stage: an absent one is zeros for denial and ones for the others (Book C-2's ones end in FC; document 01 decides)
 unfoldable pub cardCode : ℕ → Value → List ℕ
 cardCode stage absent = if (eqb stage denial) (0 ∷ 0 ∷ 0 ∷ 0 ∷ 0 ∷ []) (0xFF ∷ 0xFF ∷ 0xFF ∷ 0xFF ∷ 0xFF ∷ [])
 cardCode stage (present s) = front 5 s

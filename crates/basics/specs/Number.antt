@@ -19,6 +19,6 @@ unfoldable pub nibbles : List ℕ → List ℕ
 nibbles [] = []
 nibbles (b ∷ s) = b / 16 ∷ b % 16 ∷ nibbles s
 
--- bit n of a byte by its weight (1, 2, 4, .. 128) is set
+-- the bit of weight 1, 2, 4, .. 128 of a byte is set
 abbrev pub hasBit : ℕ → ℕ → Bool
 hasBit b weight = eqb (b / weight % 2) 1

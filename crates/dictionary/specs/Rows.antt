@@ -133,7 +133,8 @@ rowIn table k = getD table k blank
 abbrev pub rowAt : ℕ → Row
 rowAt k = rowIn rows k
 
--- how many rows there are, and the size of a store with room for every row at its greatest length at once
+-- how many rows there are, and the size of a store with room for every row at its greatest length at once (`rows-length` and `rows-size` in
+-- the store's proofs compute both)
 abbrev pub rowCount : ℕ
 rowCount = 36
 

@@ -1,4 +1,4 @@
--- One entry of the file locator, tag 94 (document 01, "Commands and steps", Locator; Book C-2, A.1.15): the file and the
+-- One entry of the file locator, tag 94 (document 01, "Commands and steps", Locator; Book C-2, A.1.15; Book 3, the application file locator): the file and the
 -- records that its four bytes name, and the rules that they keep.
 -- Assumes nothing.
 use mathlib.Core.Bool.{Bool}

@@ -106,11 +106,12 @@ optionsParts v =
     (some (item 0x77 0x82 (take 2 v) ∷ item 0x77 0x94 (drop 2 v) ∷ []))
     none
 
--- under 80, cryptogram: 9F27, 9F36, 9F26, and 9F10 if any bytes are left
+-- what is left of a cryptogram's body is 9F10, if anything is
 unfoldable pub issuerPart : List ℕ → List Item
 issuerPart [] = []
 issuerPart (a ∷ v) = item 0x77 0x9F10 (a ∷ v) ∷ []
 
+-- under 80, cryptogram: 9F27, 9F36, 9F26, and 9F10 if any bytes are left; 11 to 43 in all
 unfoldable pub cryptogramParts : List ℕ → Option (List Item)
 cryptogramParts v =
     if (both (leb 11 (length v)) (leb (length v) 43))
@@ -123,6 +124,7 @@ primitiveParts Options t v = if (eqb t 0x80) (optionsParts v) none
 primitiveParts (Record f) t v = none
 primitiveParts Cryptogram t v = if (eqb t 0x80) (cryptogramParts v) none
 
+-- what a template brings: its primitive objects at every level, or none where the outer tag is wrong
 unfoldable pub templateParts : Awaited → ℕ → Forest → Option (List Item)
 templateParts a t f = if (eqb t (templateTag a)) (some (items t f)) none
 
@@ -136,10 +138,12 @@ partsOf a (template t f) = templateParts a t f
 abbrev pub judged : List ℕ → ℕ → Work → Outcome
 judged b n w = if (w .good) (outcome 0 n (w .store)) (outcome 3 n b)
 
+-- a wrong outer tag or body is reason 2, its count the tree's; else the objects are taken in order
 abbrev pub takenParts : Awaited → List ℕ → ℕ → Option (List Item) → Outcome
 takenParts a b n none = outcome 2 n b
 takenParts a b n (some is) = judged b n (takeAll (answerBit a) (work true b) is)
 
+-- a malformed encoding is reason 2 with count 0
 abbrev pub readTree : Awaited → List ℕ → Option Body → Outcome
 readTree a b none = outcome 2 0 b
 readTree a b (some body) = takenParts a b (bodyCount body) (partsOf a body)

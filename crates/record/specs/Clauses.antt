@@ -1,4 +1,5 @@
--- Session ranges, clause by clause (document 01, "Calls and their numbers"): what holds of a record that passes the test of Ranges.antt.
+-- Session ranges, clause by clause (document 01, "Calls and their numbers"): a record passes the test of
+-- Ranges.antt exactly when these hold of it (`clauses` and `clauses-pass` in proofs/Laws).
 -- Assumes nothing.
 use mathlib.Core.Path.{_≡_}
 use mathlib.Core.Bool.{true}

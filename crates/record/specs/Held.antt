@@ -1,4 +1,5 @@
--- What a store holds of a tag: there, absent, not empty, its bytes one by one.
+-- What a store holds of a tag: there, absent, not empty, its bytes one by one (document 01, "Dictionary": one of length 0 is present and
+-- empty).
 -- Assumes nothing.
 use mathlib.Core.Bool.{Bool, not}
 use mathlib.Core.List.{List}

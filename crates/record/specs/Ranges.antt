@@ -57,7 +57,7 @@ cryptogramTags = 0x9F10 ∷ 0x9F26 ∷ 0x9F27 ∷ 0x9F36 ∷ []
 unfoldable pub unanswered : List ℕ → Bool
 unanswered b = every (lacks b) cryptogramTags
 
--- 95, all that a start must bring, with a listed terminal type
+-- 95, all that a start must bring, with a listed terminal type, and none of 9F10, 9F26, 9F27 and 9F36
 unfoldable pub running : List ℕ → Bool
 running b = both (holds b 0x95) (both (brought b) (both (listed (byteIn b 0x9F35 1)) (unanswered b)))
 
@@ -107,7 +107,8 @@ recordRanges p n b =
     (both (between 1 (p .number) (recordsIn b))
     (eqb n (1 + p .number))))))
 
--- on the cryptogram: EMV mode, what it needs is there, an accepted locator, 2 + R commands
+-- on the cryptogram: EMV mode, what it needs is there, an accepted locator, 2 + R commands; that it holds one of the three choices is the
+-- phase's type
 unfoldable pub cryptogramRanges : ℕ → List ℕ → Bool
 cryptogramRanges n b =
     both (running b)

@@ -90,18 +90,19 @@ recordStep p s card buf = recordFound p s card buf (recordAt (locatorIn (stored 
 
 -- ---- the answer to the cryptogram
 
--- the decision, by what was asked for and the top two bits of 9F27: 00 declined always; 10 online if 40 or 80 was asked;
--- 01 approved if 40 was asked; else none
+-- a cryptogram of type 10 (ARQC): online if 40 or 80 was asked
 abbrev pub onlineFor : Choice → Option Outcome
 onlineFor Choice.Decline = none
 onlineFor Choice.Online = some Outcome.OnlineRequest
 onlineFor Choice.Offline = some Outcome.OnlineRequest
 
+-- one of type 01 (TC): approved if 40 was asked
 abbrev pub approvedFor : Choice → Option Outcome
 approvedFor Choice.Decline = none
 approvedFor Choice.Online = none
 approvedFor Choice.Offline = some Outcome.Approved
 
+-- the decision, by what was asked for and the type in the top two bits of 9F27: 00 (AAC) declined always, then the two above; else none
 unfoldable pub decision : Choice → ℕ → Option Outcome
 decision c kind = if (eqb kind 0) (some Outcome.Declined) (if (eqb kind 2) (onlineFor c) (if (eqb kind 1) (approvedFor c) none))
 

@@ -71,7 +71,7 @@ isRun (some os) = true
 unfoldable pub typeListed : ℕ → List ℕ → Bool
 typeListed t v = if (eqb t 0x9F35) (listed (getD v 0 0)) true
 
--- a known object that a start may set, of a length and digits that fit, not there yet
+-- a known object that a start may set, of a length and digits that fit, not there yet; a terminal type is listed
 unfoldable pub settable : List ℕ → ℕ → Object → Bool
 settable b k o =
     both (hasBit (rowAt k .setters) start) (both (fitting (rowAt k) (o .value))

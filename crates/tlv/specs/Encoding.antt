@@ -1,4 +1,4 @@
--- The shortest encoding of a tree: what a card that wastes no byte would send.
+-- The shortest encoding of a tree (Book 3, annex B): each length in as few bytes as it needs.
 -- Assumes nothing.
 use mathlib.Core.Path.{_≡_}
 use mathlib.Core.Bool.{Bool, true, false}

@@ -35,7 +35,7 @@ broughtLocator card = bodyLocator (bodyOf (take (length card - 2) card))
 
 -- ---- accepted locator: that of the first answer that is not refused, if the rules give that answer no reason
 
--- an answer that no reason is given hands back a command
+-- an answer for which the rules give no reason hands back a command; `play` takes what a call hands back from its step function
 abbrev pub acceptedBy : Made → Option (List ℕ) → Option (List ℕ) → Option (List ℕ)
 acceptedBy m none later = later
 acceptedBy m (some card) later = if (isCommand (said m)) (broughtLocator card) none
