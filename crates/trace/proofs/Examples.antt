@@ -1,30 +1,95 @@
--- Document 01's own example of the published order, computed: the bench's locator 08 01 01 00, from the card's bytes to the three commands.
+-- Worked lists of calls, computed: what the step functions hand out and where they leave the session; and document 01's own example of the
+-- published order, from the card's bytes to the three commands.
 -- Assumes nothing.
 use mathlib.Core.Path.{_≡_, refl}
-use mathlib.Core.List.{[], _∷_}
+use mathlib.Core.List.{List, [], _∷_}
 use mathlib.Core.Option.{some}
-use Rattle.basics.specs.Choice.{if, both}
-use Rattle.basics.specs.Number.{numberFrom}
-use Rattle.tlv.specs.Tag.{tagSize, tagAt, firstByte, isTemplate, isPrivate}
+use Prim.Native.Nat.{ℕ}
+use lib.ListN.{length, replicate}
+use Rattle.basics.specs.Choice.{if, both, either, every}
+use Rattle.basics.specs.Number.{numberFrom, nibbles}
+use Rattle.tlv.specs.Tag.{tagSize, secondByte, thirdByte, tagAt, firstByte, isTemplate, isPrivate}
 use Rattle.tlv.specs.Length.{lengthAt}
 use Rattle.tlv.specs.Object.{headerOf}
-use Rattle.locator.specs.Records.{entries, run, recordsOf}
-use Rattle.reading.specs.Answer.{bodyOf}
+use Rattle.tlv.specs.Encoding.{lengthBytes}
+use Rattle.dictionary.specs.Rows.{rows, past, find}
+use Rattle.dictionary.specs.Named.{placeOf}
+use Rattle.dictionary.specs.Form.{numeric, digitsFit, fitting}
+use Rattle.dictionary.specs.TerminalType.{listed}
+use Rattle.store.specs.Place.{offsetIn, placeAt, held, valueAt, putAt, valueIn, lengthByte}
+use Rattle.locator.specs.Entry.{keeps}
+use Rattle.locator.specs.Records.{entries as entriesOf, whole, run as runOf, recordsOf, sumOf, accepts, nth, kth, recordAt}
+use Rattle.reading.specs.Taking.{mayStand, allowed, takeItem, takeNext, takeAll}
+use Rattle.reading.specs.Answer.{bodyOf, optionsParts, primitiveParts, readBody, isRead, goodStatus, goodLength, readAnswer}
+use Rattle.data_list.specs.Entries.{along, entriesBy, entries}
+use Rattle.data_list.specs.Filling.{fillingOf, filledBy}
+use Rattle.data_list.specs.Commands.{optionsOf, processingOptions}
+use Rattle.record.specs.declared.Phase.{Phase}
+use Rattle.record.specs.Numbers.{goesWith, outcomeFor, reasonLink}
+use Rattle.record.specs.Held.{lengthIn}
+use Rattle.record.specs.Ranges.{isBrought, brought, unanswered, running, optionsRanges, inRanges, allFit, objectFits, freshRanges, endedRanges}
+use Rattle.record.specs.Session.{freshSession, endOf}
+use Rattle.terminal.specs.Terminal.{withObject, primitiveOf, runBy, run, typeListed, settable, setObject, setAll, load}
+use Rattle.session.specs.Steps.{withResults, admitted}
+use Rattle.session.specs.Start.{askOptions}
+use Rattle.session.specs.Answer.{accepted, optionsRead, optionsStep}
+use Rattle.trace.specs.Calls.{Call, start, answer, link-failed, stop, play, final, commands, taken}
 use Rattle.trace.specs.Order.{broughtLocator, options, record-command, cryptogram, published}
 
--- the answer 80 06 00 80 08 01 01 00 90 00 brings the locator 08 01 01 00
-pub brought : broughtLocator (0x80 ∷ 0x06 ∷ 0x00 ∷ 0x80 ∷ 0x08 ∷ 0x01 ∷ 0x01 ∷ 0x00 ∷ 0x90 ∷ 0x00 ∷ []) ≡ some (0x08 ∷ 0x01 ∷ 0x01 ∷ 0x00 ∷ [])
+-- ---- lists of calls
+
+-- all that a start must bring, and no 9F38
+abbrev startBytes : List ℕ
+startBytes =
+    0x9A ∷ 0x03 ∷ 0x25 ∷ 0x11 ∷ 0x15 ∷ 0x9C ∷ 0x01 ∷ 0x00 ∷ 0x9F ∷ 0x02 ∷ 0x06 ∷ 0x00 ∷ 0x00 ∷ 0x00 ∷ 0x00 ∷ 0x12 ∷ 0x34 ∷
+    0x9F ∷ 0x09 ∷ 0x02 ∷ 0x00 ∷ 0x02 ∷ 0x9F ∷ 0x1A ∷ 0x02 ∷ 0x00 ∷ 0x56 ∷ 0x9F ∷ 0x35 ∷ 0x01 ∷ 0x22 ∷ 0x9F ∷ 0x37 ∷ 0x04 ∷ 0x01 ∷ 0x02 ∷ 0x03 ∷ 0x04 ∷
+    0xDF ∷ 0x81 ∷ 0x20 ∷ 0x05 ∷ 0x00 ∷ 0x00 ∷ 0x00 ∷ 0x00 ∷ 0x00 ∷ 0xDF ∷ 0x81 ∷ 0x21 ∷ 0x05 ∷ 0x00 ∷ 0x00 ∷ 0x00 ∷ 0x00 ∷ 0x00 ∷
+    0xDF ∷ 0x81 ∷ 0x22 ∷ 0x05 ∷ 0x00 ∷ 0x00 ∷ 0x00 ∷ 0x00 ∷ 0x00 ∷ 0xDF ∷ 0x81 ∷ 0x23 ∷ 0x06 ∷ 0x00 ∷ 0x00 ∷ 0x00 ∷ 0x01 ∷ 0x00 ∷ 0x00 ∷
+    0xDF ∷ 0x81 ∷ 0x24 ∷ 0x06 ∷ 0x00 ∷ 0x00 ∷ 0x00 ∷ 0x02 ∷ 0x00 ∷ 0x00 ∷ []
+
+-- 82 of 00 80 and the locator 08 01 01 00
+abbrev optionsAnswer : List ℕ
+optionsAnswer = 0x80 ∷ 0x06 ∷ 0x00 ∷ 0x80 ∷ 0x08 ∷ 0x01 ∷ 0x01 ∷ 0x00 ∷ 0x90 ∷ 0x00 ∷ []
+
+abbrev lent : List ℕ
+lent = replicate 261 0
+
+abbrev optionsCommand : List ℕ
+optionsCommand = 0x80 ∷ 0xA8 ∷ 0x00 ∷ 0x00 ∷ 0x02 ∷ 0x83 ∷ 0x00 ∷ 0x00 ∷ []
+
+abbrev recordCommand : List ℕ
+recordCommand = 0x00 ∷ 0xB2 ∷ 0x01 ∷ 0x0C ∷ 0x00 ∷ []
+
+-- a start and the answer to processing options: processing options and the first record are handed out
+pub begins : commands (play freshSession (start startBytes lent ∷ answer optionsAnswer lent ∷ [])) ≡ optionsCommand ∷ recordCommand ∷ []
+unfolding commands play final taken admitted endedRanges outcomeFor inRanges allFit objectFits lengthIn lengthByte freshRanges optionsRanges running unanswered askOptions processingOptions optionsOf filledBy fillingOf entries entriesBy along lengthBytes optionsStep accepted optionsRead recordAt kth nth accepts whole entriesOf keeps sumOf recordsOf runOf readAnswer goodLength goodStatus isRead readBody bodyOf primitiveParts optionsParts takeAll takeNext takeItem allowed mayStand withResults placeOf load run runBy withObject primitiveOf headerOf tagAt tagSize secondByte thirdByte lengthAt firstByte isTemplate isPrivate numberFrom if both either every rows past find settable setObject setAll fitting digitsFit numeric nibbles typeListed listed offsetIn placeAt held valueAt putAt valueIn brought isBrought
+begins = refl
+
+-- a stop before the start, a start with a buffer of one byte and a second start are refused and change nothing
+abbrev interrupted : List Call
+interrupted = stop lent ∷ start startBytes (0x00 ∷ []) ∷ start startBytes lent ∷ start startBytes lent ∷ answer optionsAnswer lent ∷ []
+
+pub refused-between : (commands (play freshSession interrupted) ≡ optionsCommand ∷ recordCommand ∷ []) × (length (taken (play freshSession interrupted)) ≡ 2)
+unfolding commands play final taken admitted endedRanges outcomeFor inRanges allFit objectFits lengthIn lengthByte freshRanges optionsRanges running unanswered askOptions processingOptions optionsOf filledBy fillingOf entries entriesBy along lengthBytes optionsStep accepted optionsRead recordAt kth nth accepts whole entriesOf keeps sumOf recordsOf runOf readAnswer goodLength goodStatus isRead readBody bodyOf primitiveParts optionsParts takeAll takeNext takeItem allowed mayStand withResults placeOf load run runBy withObject primitiveOf headerOf tagAt tagSize secondByte thirdByte lengthAt firstByte isTemplate isPrivate numberFrom if both either every rows past find settable setObject setAll fitting digitsFit numeric nibbles typeListed listed offsetIn placeAt held valueAt putAt valueIn brought isBrought
+refused-between = (refl, refl)
+
+-- the link fails on processing options: the session has ended with reason 9, and a later answer is refused
+abbrev torn : List Call
+torn = start startBytes lent ∷ link-failed lent ∷ answer optionsAnswer lent ∷ []
+
+pub link-fails : (commands (play freshSession torn) ≡ optionsCommand ∷ []) × (length (taken (play freshSession torn)) ≡ 2)
+    × (final freshSession torn .phase ≡ Phase.Ended (endOf (outcomeFor reasonLink) reasonLink))
+unfolding commands play final taken admitted endedRanges goesWith outcomeFor inRanges allFit objectFits lengthIn lengthByte freshRanges optionsRanges running unanswered askOptions processingOptions optionsOf filledBy fillingOf entries entriesBy along lengthBytes optionsStep accepted optionsRead recordAt kth nth accepts whole entriesOf keeps sumOf recordsOf runOf readAnswer goodLength goodStatus isRead readBody bodyOf primitiveParts optionsParts takeAll takeNext takeItem allowed mayStand withResults placeOf load run runBy withObject primitiveOf headerOf tagAt tagSize secondByte thirdByte lengthAt firstByte isTemplate isPrivate numberFrom if both either every rows past find settable setObject setAll fitting digitsFit numeric nibbles typeListed listed offsetIn placeAt held valueAt putAt valueIn brought isBrought
+link-fails = (refl, refl, refl)
+
+-- ---- the published order
+
+-- the answer brings the locator 08 01 01 00
+pub brings : broughtLocator optionsAnswer ≡ some (0x08 ∷ 0x01 ∷ 0x01 ∷ 0x00 ∷ [])
 unfolding broughtLocator bodyOf headerOf tagAt tagSize lengthAt firstByte isTemplate isPrivate numberFrom if both
-brought = refl
+brings = refl
 
 -- processing options, 00 B2 01 0C 00, cryptogram
-pub order : published cryptogram (some (0x08 ∷ 0x01 ∷ 0x01 ∷ 0x00 ∷ [])) ≡ options ∷ record-command (0x00 ∷ 0xB2 ∷ 0x01 ∷ 0x0C ∷ 0x00 ∷ []) ∷ cryptogram ∷ []
-unfolding published entries recordsOf run
+pub order : published cryptogram (some (0x08 ∷ 0x01 ∷ 0x01 ∷ 0x00 ∷ [])) ≡ options ∷ record-command recordCommand ∷ cryptogram ∷ []
+unfolding published entriesOf recordsOf runOf
 order = refl
-
--- two entries, 10 02 03 00 08 01 01 00: an entry's records upwards, entry by entry from the front
-pub two-entries : published cryptogram (some (0x10 ∷ 0x02 ∷ 0x03 ∷ 0x00 ∷ 0x08 ∷ 0x01 ∷ 0x01 ∷ 0x00 ∷ []))
-    ≡ options ∷ record-command (0x00 ∷ 0xB2 ∷ 0x02 ∷ 0x14 ∷ 0x00 ∷ []) ∷ record-command (0x00 ∷ 0xB2 ∷ 0x03 ∷ 0x14 ∷ 0x00 ∷ [])
-    ∷ record-command (0x00 ∷ 0xB2 ∷ 0x01 ∷ 0x0C ∷ 0x00 ∷ []) ∷ cryptogram ∷ []
-unfolding published entries recordsOf run
-two-entries = refl
