@@ -57,6 +57,12 @@ abbrev pub playedOf : Option (List Call) → List ℕ → List Call
 playedOf none replies = []
 playedOf (some cs) replies = if (leb (replySize * length cs) (length replies)) cs []
 
+-- what is said, by its number: 0 played, 1 no list of calls, 2 too little room for the replies
+abbrev pub saidNumber : Said → ℕ
+saidNumber Said.Played = 0
+saidNumber Said.Malformed = 1
+saidNumber Said.TooShort = 2
+
 abbrev pub saidOf : Option (List Call) → List ℕ → Said
 saidOf none replies = Said.Malformed
 saidOf (some cs) replies = if (leb (replySize * length cs) (length replies)) Said.Played Said.TooShort

@@ -23,7 +23,7 @@ ghost use Rattle.record.specs.Session.{freshSession};
 ghost use Rattle.session.specs.Steps.{Did};
 ghost use Rattle.trace.specs.Calls.{Call, step as stepOf};
 ghost use Rattle.run.specs.Encoding.{headerSize, endOf, isKind, headerIn, isWhole, frontIn, callBy, callIn, callsOf, countedOf, Sized, encoded};
-ghost use Rattle.run.specs.Playing.{replyBytes, overBuffer, Plays, Turns, Runs, playedOf, Ready, listed};
+ghost use Rattle.run.specs.Playing.{replyBytes, overBuffer, Plays, Turns, Runs, playedOf, saidNumber, Ready, listed};
 
 // What a run says: all calls were played, the bytes are no list of calls, or `replies` is too short for
 // the replies. In the last two cases nothing is played and nothing is written.
@@ -65,6 +65,17 @@ pub struct Turn {
 }
 
 const HEADER: usize = 17;
+
+// The number of what a run says.
+pub fn said_number(said: Said) -> u8
+    ensures { λ r. ⌜ r ≡ saidNumber said ⌝ }
+{
+    match said {
+        Said::Played => 0,
+        Said::Malformed => 1,
+        Said::TooShort => 2,
+    }
+}
 
 // Plays the calls that stand in `calls`.
 pub fn run(calls: &mut [u8], replies: &mut [u8]) -> Ran
