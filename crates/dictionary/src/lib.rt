@@ -13,7 +13,7 @@ ghost use Rattle.dictionary.specs.Rows.{Row, rows, rowAt, find};
 ghost use Rattle.dictionary.specs.Rule.{proper};
 ghost use Rattle.dictionary.specs.Form.{digitBytes, onlyFs, numeric, compressed, digitsFit, fitting, isDigits};
 ghost use Rattle.dictionary.specs.Named.{placeOf, usedTags};
-ghost use Rattle.dictionary.specs.TerminalType.{between, listed};
+ghost use Rattle.dictionary.specs.TerminalType.{listed};
 
 // How many rows there are.
 pub const ROWS: usize = 36;
@@ -418,25 +418,15 @@ pub fn fits(row: usize, v: &[u8]) -> bool
     digits_fit(form(row), v)
 }
 
-// Whether t lies from a to z, both included.
-fn is_between(a: u8, z: u8, t: u8) -> bool
-    ensures { λ r. ⌜ r ≡ between a z t ⌝ }
-{
-    if a <= t {
-        return t <= z;
-    }
-    false
-}
-
 // Whether a terminal type is one of those that the session takes.
 pub fn is_listed(kind: u8) -> bool
     ensures { λ r. ⌜ r ≡ listed kind ⌝ }
 {
-    if is_between(0x11, 0x16, kind) {
+    if basics::is_between(0x11, kind, 0x16) {
         return true;
     }
-    if is_between(0x21, 0x26, kind) {
+    if basics::is_between(0x21, kind, 0x26) {
         return true;
     }
-    is_between(0x34, 0x36, kind)
+    basics::is_between(0x34, kind, 0x36)
 }

@@ -14,7 +14,7 @@ use Rattle.basics.proofs.Laws.{if-ind}
 use Rattle.record.specs.declared.Answer.{Answer}
 use Rattle.record.specs.declared.Reply.{Reply}
 use Rattle.record.specs.declared.Session.{Session}
-use Rattle.record.specs.Numbers.{refusedBuffer, refusedRanges}
+use Rattle.basics.specs.Reason.{refusedBuffer, refusedRanges}
 use Rattle.record.specs.Session.{sessionOf}
 use Rattle.session.specs.Steps.{Step, Did, leastBuffer, linkStep, stopStep}
 use Rattle.session.specs.Start.{startStep}

@@ -45,7 +45,7 @@ pub extern "C" fn emv_open(session: &mut [u8]) -> u32
     if layout::encode(Phase::Fresh, 0, &store.bytes, session) {
         return 0;
     }
-    layout::refusal_word(record::REFUSED_RANGES)
+    layout::refusal_word(basics::REFUSED_RANGES)
 }
 
 // Starts a session with the objects that the terminal brings.
@@ -136,12 +136,12 @@ fn admit(session: &[u8], size: usize, store: &mut [u8; SIZE]) -> Admission
     ensures sized { λ _. ⌜ length (now (store .exit)) ≡ storeSize ⌝ }
 {
     if size < LEAST_BUFFER {
-        return Admission::Refused(layout::refusal_word(record::REFUSED_BUFFER));
+        return Admission::Refused(layout::refusal_word(basics::REFUSED_BUFFER));
     }
     let held = layout::decode(session, store);
     match held {
         Held::Record(head) => Admission::Taken(head),
-        Held::Nothing => Admission::Refused(layout::refusal_word(record::REFUSED_RANGES)),
+        Held::Nothing => Admission::Refused(layout::refusal_word(basics::REFUSED_RANGES)),
     }
 }
 

@@ -22,10 +22,6 @@ roomProblem = 4
 abbrev pub numberProblem : ℕ
 numberProblem = 6
 
--- a character lies between two others, both counted in
-abbrev pub between : ℕ → ℕ → ℕ → Bool
-between low c high = both (leb low c) (leb c high)
-
 -- the value of a hexadecimal digit '0' to '9', 'A' to 'F', 'a' to 'f'; 16 for any other character
 unfoldable pub digitOf : ℕ → ℕ
 digitOf c =

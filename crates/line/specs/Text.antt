@@ -39,10 +39,3 @@ wordOf s = front (of NotBlank) (past (of Blank) s)
 -- what stands behind the first word
 abbrev pub behind : List ℕ → List ℕ
 behind s = past (of NotBlank) (past (of Blank) s)
-
--- two texts are the same
-unfoldable pub alike : List ℕ → List ℕ → Bool
-alike [] [] = true
-alike [] (b ∷ t) = false
-alike (a ∷ s) [] = false
-alike (a ∷ s) (b ∷ t) = both (eqb a b) (alike s t)

@@ -13,7 +13,8 @@ use Rattle.locator.specs.declared.Checked.{Checked}
 use Rattle.locator.specs.declared.Checked.the-variants.{Accepted, Rejected}
 use Rattle.locator.specs.declared.Found.{Found}
 use Rattle.locator.specs.declared.Found.the-variants.{At, Nothing}
-use Rattle.locator.specs.Entry.{entryOf, fileOf, countOf, between, keeps}
+use Rattle.locator.specs.Entry.{entryOf, fileOf, countOf, keeps}
+use Rattle.basics.specs.Number.{between}
 
 -- the entries, four bytes each, from the front; one to three bytes behind the last are no entry
 unfoldable pub entries : List ℕ → List Entry

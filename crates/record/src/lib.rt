@@ -91,28 +91,6 @@ pub struct Turn {
     pub answer: Answer,
 }
 
-// Why a call is refused.
-pub const REFUSED_BYTES: u8 = 20;
-pub const REFUSED_PHASE: u8 = 21;
-pub const REFUSED_BUFFER: u8 = 22;
-pub const REFUSED_OBJECT: u8 = 23;
-pub const REFUSED_ABSENT: u8 = 24;
-pub const REFUSED_RANGES: u8 = 25;
-
-// Why a session ends.
-pub const REASON_NONE: u8 = 0;
-pub const REASON_STATUS: u8 = 1;
-pub const REASON_MALFORMED: u8 = 2;
-pub const REASON_NOT_ALLOWED: u8 = 3;
-pub const REASON_MISSING: u8 = 4;
-pub const REASON_LOCATOR: u8 = 5;
-pub const REASON_ABOVE_LIMIT: u8 = 6;
-pub const REASON_DATA_LIST: u8 = 7;
-pub const REASON_CRYPTOGRAM: u8 = 8;
-pub const REASON_LINK: u8 = 9;
-pub const REASON_STOPPED: u8 = 10;
-pub const REASON_MODE: u8 = 11;
-
 // The most commands that a session hands out.
 const MOST: u8 = 130;
 
@@ -133,7 +111,7 @@ pub fn outcome_number(outcome: Outcome) -> u8
 pub fn outcome_for(reason: u8) -> Outcome
     ensures { λ r. ⌜ r ≡ outcomeFor reason ⌝ }
 {
-    if reason == REASON_ABOVE_LIMIT {
+    if reason == basics::REASON_ABOVE_LIMIT {
         return Outcome::SelectNext;
     }
     Outcome::Ended
@@ -353,10 +331,10 @@ pub fn reason_goes(outcome: Outcome, reason: u8) -> bool
     ensures { λ r. ⌜ r ≡ goesWith outcome reason ⌝ }
 {
     match outcome {
-        Outcome::Approved => reason == REASON_NONE,
-        Outcome::OnlineRequest => reason == REASON_NONE,
-        Outcome::Declined => reason == REASON_NONE,
-        Outcome::SelectNext => reason == REASON_ABOVE_LIMIT,
+        Outcome::Approved => reason == basics::REASON_NONE,
+        Outcome::OnlineRequest => reason == basics::REASON_NONE,
+        Outcome::Declined => reason == basics::REASON_NONE,
+        Outcome::SelectNext => reason == basics::REASON_ABOVE_LIMIT,
         Outcome::Ended => ends_session(reason),
     }
 }
@@ -365,13 +343,13 @@ pub fn reason_goes(outcome: Outcome, reason: u8) -> bool
 fn ends_session(reason: u8) -> bool
     ensures { λ r. ⌜ r ≡ goesWith Outcome.Ended reason ⌝ }
 {
-    if reason < REASON_STATUS {
+    if reason < basics::REASON_STATUS {
         return false;
     }
-    if REASON_MODE < reason {
+    if basics::REASON_MODE < reason {
         return false;
     }
-    reason != REASON_ABOVE_LIMIT
+    reason != basics::REASON_ABOVE_LIMIT
 }
 
 // What every running session holds and lacks.
@@ -384,7 +362,7 @@ fn runs(bytes: &[u8]) -> bool
     if !all_brought(bytes) {
         return false;
     }
-    if !dictionary::is_listed(byte_at(store::value(bytes, ROW_9F35), 0)) {
+    if !dictionary::is_listed(basics::byte_at(store::value(bytes, ROW_9F35), 0)) {
         return false;
     }
     is_unanswered(bytes)
@@ -410,7 +388,7 @@ fn is_unanswered(bytes: &[u8]) -> bool
 pub fn is_emv(bytes: &[u8]) -> bool
     ensures { λ r. ⌜ r ≡ emvMode (now (bytes .entry)) ⌝ }
 {
-    byte_at(store::value(bytes, ROW_82), 1) / 128 % 2 == 1
+    basics::byte_at(store::value(bytes, ROW_82), 1) / 128 % 2 == 1
 }
 
 // The expiry date, the account number and the list of the cryptogram's data are there, none empty.
@@ -490,7 +468,7 @@ fn is_brought(must: u8, bytes: &[u8], at: usize) -> bool
     if must == 0 {
         return true;
     }
-    byte_at(bytes, at) != 0
+    basics::byte_at(bytes, at) != 0
 }
 
 // Every byte is zero: the greatest is. All are looked at, so that the compiler takes many at once.
@@ -507,14 +485,4 @@ fn all_zero(v: &[u8]) -> bool
         i += 1;
     }
     most == 0
-}
-
-// The byte at place i, counted from 0; past the end it reads as 0.
-pub fn byte_at(v: &[u8], i: usize) -> u8
-    ensures { λ r. ⌜ r ≡ getD (now (v .entry)) i 0 ⌝ }
-{
-    if i < v.len() {
-        return v[i];
-    }
-    0
 }

@@ -31,7 +31,7 @@ use Rattle.record.specs.declared.Refusal.{Refusal}
 use Rattle.record.specs.declared.Answer.{Answer}
 use Rattle.record.specs.declared.Session.{Session}
 use Rattle.record.specs.declared.Reply.{Reply}
-use Rattle.record.specs.Numbers.{reasonLink, reasonStopped}
+use Rattle.basics.specs.Reason.{reasonLink, reasonStopped}
 use Rattle.record.specs.Session.{stored, endsReply, failsReply}
 use Rattle.record.specs.Ranges.{locatorIn}
 use Rattle.record.proofs.Stored.{empty-lacks}

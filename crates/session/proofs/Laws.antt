@@ -42,7 +42,7 @@ use Rattle.record.specs.declared.Phase.{Phase}
 use Rattle.record.specs.declared.Session.{Session}
 use Rattle.record.specs.declared.Reply.{Reply}
 use Rattle.record.specs.declared.Turn.{Turn}
-use Rattle.record.specs.Numbers.{refusedPhase, refusedBuffer, refusedRanges, reasonMissing, reasonLocator, reasonAboveLimit, reasonDataList, reasonMode}
+use Rattle.basics.specs.Reason.{refusedPhase, refusedBuffer, refusedRanges, reasonMissing, reasonLocator, reasonAboveLimit, reasonDataList, reasonMode}
 use Rattle.record.specs.Session.{stored, replyOf, failsReply, failsTurn, commandsTurn}
 use Rattle.record.specs.Held.{holds, byteIn}
 use Rattle.record.specs.Ranges.{emvMode, locatorIn, completed, inRanges}

@@ -21,7 +21,7 @@ use Rattle.record.specs.declared.Place.{Place}
 use Rattle.record.specs.declared.Asked.{Asked}
 use Rattle.record.specs.declared.Phase.{Phase}
 use Rattle.record.specs.declared.Session.{Session}
-use Rattle.record.specs.Numbers.{refusedPhase, reasonNone, reasonMissing, reasonLocator, reasonAboveLimit, reasonCryptogram, reasonMode}
+use Rattle.basics.specs.Reason.{refusedPhase, reasonNone, reasonMissing, reasonLocator, reasonAboveLimit, reasonCryptogram, reasonMode}
 use Rattle.record.specs.declared.Reply.{Reply}
 use Rattle.record.specs.Session.{stored, endsReply, failsReply}
 use Rattle.record.specs.Held.{holds, byteIn}

@@ -107,13 +107,13 @@ pub fn start_in(phase: Phase, count: u8, store: &mut [u8; SIZE], terminal: &[u8]
     ensures sized { λ _. ⌜ length (now (store .exit)) ≡ storeSize ⌝ }
 {
     if command.len() < LEAST_BUFFER {
-        return record::refused(phase, count, record::REFUSED_BUFFER);
+        return record::refused(phase, count, basics::REFUSED_BUFFER);
     }
     if !record::keeps(phase, count, &store[..]) {
-        return record::refused(phase, count, record::REFUSED_RANGES);
+        return record::refused(phase, count, basics::REFUSED_RANGES);
     }
     let Phase::Fresh = phase else {
-        return record::refused(phase, count, record::REFUSED_PHASE);
+        return record::refused(phase, count, basics::REFUSED_PHASE);
     };
     load_objects(count, store, terminal, command)
 }
@@ -125,17 +125,17 @@ pub fn answer_in(phase: Phase, count: u8, store: &mut [u8; SIZE], card: &[u8], c
     ensures sized { λ _. ⌜ length (now (store .exit)) ≡ storeSize ⌝ }
 {
     if command.len() < LEAST_BUFFER {
-        return record::refused(phase, count, record::REFUSED_BUFFER);
+        return record::refused(phase, count, basics::REFUSED_BUFFER);
     }
     if !record::keeps(phase, count, &store[..]) {
-        return record::refused(phase, count, record::REFUSED_RANGES);
+        return record::refused(phase, count, basics::REFUSED_RANGES);
     }
     match phase {
-        Phase::Fresh => record::refused(phase, count, record::REFUSED_PHASE),
+        Phase::Fresh => record::refused(phase, count, basics::REFUSED_PHASE),
         Phase::Options => take_options(count, store, card, command),
         Phase::Record(place) => take_record(place, count, store, card, command),
         Phase::Cryptogram(asked) => take_cryptogram(asked, count, store, card),
-        Phase::Ended(_) => record::refused(phase, count, record::REFUSED_PHASE),
+        Phase::Ended(_) => record::refused(phase, count, basics::REFUSED_PHASE),
     }
 }
 
@@ -143,14 +143,14 @@ pub fn answer_in(phase: Phase, count: u8, store: &mut [u8; SIZE], card: &[u8], c
 pub fn link_failed_in(phase: Phase, count: u8, bytes: &[u8], command: &mut [u8]) -> Turn
     ensures { λ r. ⌜ Did (replyOf r (now (bytes .entry))) (now (command .exit)) (linkStep (sessionOf phase count (now (bytes .entry))) (now (command .entry))) ⌝ }
 {
-    broken_off(phase, count, bytes, record::REASON_LINK, command.len())
+    broken_off(phase, count, bytes, basics::REASON_LINK, command.len())
 }
 
 // `stop` on a session's parts, the store shared.
 pub fn stop_in(phase: Phase, count: u8, bytes: &[u8], command: &mut [u8]) -> Turn
     ensures { λ r. ⌜ Did (replyOf r (now (bytes .entry))) (now (command .exit)) (stopStep (sessionOf phase count (now (bytes .entry))) (now (command .entry))) ⌝ }
 {
-    broken_off(phase, count, bytes, record::REASON_STOPPED, command.len())
+    broken_off(phase, count, bytes, basics::REASON_STOPPED, command.len())
 }
 
 // A running session ends for a reason; no command comes.
@@ -158,17 +158,17 @@ fn broken_off(phase: Phase, count: u8, bytes: &[u8], reason: u8, size: usize) ->
     ensures { λ r. ⌜ replyOf r (now (bytes .entry)) ≡ brokenOff (sessionOf phase count (now (bytes .entry))) reason size ⌝ }
 {
     if size < LEAST_BUFFER {
-        return record::refused(phase, count, record::REFUSED_BUFFER);
+        return record::refused(phase, count, basics::REFUSED_BUFFER);
     }
     if !record::keeps(phase, count, bytes) {
-        return record::refused(phase, count, record::REFUSED_RANGES);
+        return record::refused(phase, count, basics::REFUSED_RANGES);
     }
     match phase {
-        Phase::Fresh => record::refused(phase, count, record::REFUSED_PHASE),
+        Phase::Fresh => record::refused(phase, count, basics::REFUSED_PHASE),
         Phase::Options => record::fails(count, reason),
         Phase::Record(_) => record::fails(count, reason),
         Phase::Cryptogram(_) => record::fails(count, reason),
-        Phase::Ended(_) => record::refused(phase, count, record::REFUSED_PHASE),
+        Phase::Ended(_) => record::refused(phase, count, basics::REFUSED_PHASE),
     }
 }
 
@@ -203,7 +203,7 @@ fn ask_options(count: u8, bytes: &[u8], command: &mut [u8]) -> Turn
     ensures { λ r. ⌜ Did (replyOf r (now (bytes .entry))) (now (command .exit)) (askOptions (sessionOf Phase.Fresh count (now (bytes .entry))) (now (command .entry))) ⌝ }
 {
     let Written::Command(c) = data_list::processing_options(bytes, command) else {
-        return record::fails(count, record::REASON_DATA_LIST);
+        return record::fails(count, basics::REASON_DATA_LIST);
     };
     record::commands(Phase::Options, count + 1, c.len)
 }
@@ -228,17 +228,17 @@ fn after_options(count: u8, bytes: &[u8], command: &mut [u8]) -> Turn
     ensures { λ r. ⌜ Did (replyOf r (now (bytes .entry))) (now (command .exit)) (optionsRead (sessionOf Phase.Options count (now (bytes .entry))) (now (command .entry))) ⌝ }
 {
     let Needed::Complete = options_there(bytes) else {
-        return record::fails(count, record::REASON_MISSING);
+        return record::fails(count, basics::REASON_MISSING);
     };
     let Mode::Emv = mode_in(bytes) else {
-        return record::fails(count, record::REASON_MODE);
+        return record::fails(count, basics::REASON_MODE);
     };
     let entries = store::value(bytes, ROW_94);
     let Checked::Accepted(_) = locator::check(entries) else {
-        return record::fails(count, record::REASON_LOCATOR);
+        return record::fails(count, basics::REASON_LOCATOR);
     };
     let Found::At(wanted) = locator::record_at(entries, 1) else {
-        return record::fails(count, record::REASON_LOCATOR);
+        return record::fails(count, basics::REASON_LOCATOR);
     };
     ask_record(count, wanted, 1, command)
 }
@@ -262,7 +262,7 @@ fn take_record(place: Place, count: u8, store: &mut [u8; SIZE], card: &[u8], com
     let k = basics::wide(place.number);
     let found = locator::record_at(store::value(&store[..], ROW_94), k);
     let Found::At(asked) = found else {
-        return record::fails(count, record::REASON_LOCATOR);
+        return record::fails(count, basics::REASON_LOCATOR);
     };
     let file = asked.file;
     let read = reading::read_answer(store, Awaited::Record(File { number: file }), card);
@@ -295,10 +295,10 @@ fn after_records(count: u8, store: &mut [u8; SIZE], command: &mut [u8]) -> Turn
     ensures { λ r. ⌜ ((p : Phase) → Did (replyOf r (now (store .exit))) (now (command .exit)) (recordsRead (sessionOf p count (now (store .entry))) (now (command .entry)))) ⌝ }
 {
     let Limit::Within = limit_in(&store[..]) else {
-        return record::fails(count, record::REASON_ABOVE_LIMIT);
+        return record::fails(count, basics::REASON_ABOVE_LIMIT);
     };
     let Needed::Complete = card_complete(&store[..]) else {
-        return record::fails(count, record::REASON_MISSING);
+        return record::fails(count, basics::REASON_MISSING);
     };
     analyse(count, store, command)
 }
@@ -322,7 +322,7 @@ fn ask_cryptogram(choice: Choice, count: u8, bytes: &[u8], command: &mut [u8]) -
 {
     let p1 = analysis::choice::p1(choice);
     let Written::Command(c) = data_list::generate_ac(bytes, p1, command) else {
-        return record::fails(count, record::REASON_DATA_LIST);
+        return record::fails(count, basics::REASON_DATA_LIST);
     };
     record::commands(Phase::Cryptogram(Asked { choice }), count + 1, c.len)
 }
@@ -345,15 +345,15 @@ fn decide(asked: Asked, count: u8, bytes: &[u8]) -> Turn
     ensures { λ r. ⌜ replyOf r (now (bytes .entry)) ≡ cryptogramRead asked (sessionOf (Phase.Cryptogram asked) count (now (bytes .entry))) ⌝ }
 {
     let Needed::Complete = cryptogram_there(bytes) else {
-        return record::fails(count, record::REASON_MISSING);
+        return record::fails(count, basics::REASON_MISSING);
     };
-    let kind = record::byte_at(store::value(bytes, ROW_9F27), 0) / 64;
+    let kind = basics::byte_at(store::value(bytes, ROW_9F27), 0) / 64;
     let choice = asked.choice;
     let Decided::On(d) = decision_for(choice, kind) else {
-        return record::fails(count, record::REASON_CRYPTOGRAM);
+        return record::fails(count, basics::REASON_CRYPTOGRAM);
     };
     let outcome = d.outcome;
-    record::ends(count, outcome, record::REASON_NONE)
+    record::ends(count, outcome, basics::REASON_NONE)
 }
 
 // What a type of cryptogram decides, by what was asked for.

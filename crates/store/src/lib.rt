@@ -40,21 +40,11 @@ fn offset(row: usize) -> usize
     SIZE
 }
 
-// The byte at a place, 0 past the end.
-fn byte_in(bytes: &[u8], at: usize) -> u8
-    ensures { λ r. ⌜ r ≡ getD (now (bytes .entry)) at 0 ⌝ }
-{
-    if at < bytes.len() {
-        return bytes[at];
-    }
-    0
-}
-
 // The length byte of a row's place as it stands: 0 where the object is absent, else its length + 1.
 pub fn length_byte(bytes: &[u8], row: usize) -> u8
     ensures { λ r. ⌜ r ≡ lengthByte rows (now (bytes .entry)) row ⌝ }
 {
-    byte_in(bytes, offset(row))
+    basics::byte_at(bytes, offset(row))
 }
 
 // Whether a row's object is there.
@@ -87,7 +77,7 @@ pub fn value(bytes: &[u8], row: usize) -> &[u8]
 {
     let at = offset(row);
     let first = at + 1;
-    let n = value_length(byte_in(bytes, at), row);
+    let n = value_length(basics::byte_at(bytes, at), row);
     let e = first + n;
     if e <= bytes.len() {
         return &bytes[first..e];

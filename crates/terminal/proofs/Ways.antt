@@ -9,7 +9,7 @@ use lib.ListN.{length}
 use borrow.Author.Tests.{le-leb, lt-leb}
 use Rattle.basics.proofs.Laws.{if-yes, if-no}
 use Rattle.record.specs.Ranges.{brought}
-use Rattle.record.specs.Numbers.{refusedBytes, refusedObject, refusedAbsent}
+use Rattle.basics.specs.Reason.{refusedBytes, refusedObject, refusedAbsent}
 use Rattle.terminal.specs.declared.Said.{Said}
 use Rattle.terminal.specs.Terminal.{Object, run, isRun, setRun, Loaded, refusal, loaded, afterSetting, afterRun, mostBytes, load, Loads}
 

@@ -28,17 +28,17 @@ pub fn load(store: &mut [u8; SIZE], terminal: &[u8]) -> Said
     ensures sized { λ _. ⌜ length (now (store .exit)) ≡ storeSize ⌝ }
 {
     if MOST < terminal.len() {
-        return refused(record::REFUSED_BYTES);
+        return refused(basics::REFUSED_BYTES);
     }
     if !is_run(terminal) {
-        return refused(record::REFUSED_BYTES);
+        return refused(basics::REFUSED_BYTES);
     }
     let mut work = *store;
     if !set_objects(terminal, &mut work) {
-        return refused(record::REFUSED_OBJECT);
+        return refused(basics::REFUSED_OBJECT);
     }
     if !record::all_brought(&work) {
-        return refused(record::REFUSED_ABSENT);
+        return refused(basics::REFUSED_ABSENT);
     }
     *store = work;
     Said::Taken
@@ -147,5 +147,5 @@ fn is_type_listed(tag: u32, v: &[u8]) -> bool
     if tag != 0x9F35 {
         return true;
     }
-    dictionary::is_listed(record::byte_at(v, 0))
+    dictionary::is_listed(basics::byte_at(v, 0))
 }

@@ -25,7 +25,8 @@ use Rattle.data_list.specs.Entries.{along, entriesBy, entries}
 use Rattle.data_list.specs.Filling.{fillingOf, filledBy}
 use Rattle.data_list.specs.Commands.{optionsOf, processingOptions}
 use Rattle.record.specs.declared.Phase.{Phase}
-use Rattle.record.specs.Numbers.{goesWith, outcomeFor, reasonLink}
+use Rattle.record.specs.Numbers.{goesWith, outcomeFor}
+use Rattle.basics.specs.Reason.{reasonLink}
 use Rattle.record.specs.Held.{lengthIn}
 use Rattle.record.specs.Ranges.{isBrought, brought, unanswered, running, optionsRanges, inRanges, allFit, objectFits, freshRanges, endedRanges}
 use Rattle.record.specs.Session.{freshSession, endOf}

@@ -9,7 +9,7 @@ use lib.Dec.{eqb}
 use Rattle.basics.specs.Choice.{both}
 use Rattle.basics.proofs.Laws.{both-true, both-yes, both-no-left, both-no-right}
 use Rattle.dictionary.proofs.Named.{at-95}
-use Rattle.locator.specs.Entry.{between}
+use Rattle.basics.specs.Number.{between}
 use Rattle.locator.specs.Records.{accepts}
 use Rattle.record.specs.Held.{zeroed}
 use Rattle.record.specs.Ranges.{emvMode, locatorIn, recordsIn, recordRanges}

@@ -6,7 +6,7 @@ use mathlib.Core.Path.{_≡_, refl, sym, ap, _∙_}
 use mathlib.Core.Bool.{true}
 use native.Mathlib.Omega.{arith}
 use Rattle.record.specs.declared.Phase.{Phase}
-use Rattle.record.specs.Numbers.{refusedPhase}
+use Rattle.basics.specs.Reason.{refusedPhase}
 use Rattle.record.specs.Session.{sessionOf, refusedTurn}
 use Rattle.record.specs.Ranges.{inRanges}
 use Rattle.record.proofs.Phases.{count-most}

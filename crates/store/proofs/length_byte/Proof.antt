@@ -12,7 +12,7 @@ use Rattle.store.proofs.length_byte.Tie as tie
 returns : tie.Need-returns
 returns c =
     let a = c .before .before .before .args in
-    c .byte-in .ensures ∙ ap (λ (n : ℕ). getD (a .bytes .now) n 0) (c .before .offset .ensures .0) ∙ sym (length-byte-at rows (a .bytes .now) (a .row))
+    c .byte-at .ensures ∙ ap (λ (n : ℕ). getD (a .bytes .now) n 0) (c .before .offset .ensures .0) ∙ sym (length-byte-at rows (a .bytes .now) (a .row))
 
 pub length-byte-spec : {M : Type 1} → statement M
 length-byte-spec = tie.close (tie.spec (λ c κs. search needs) (λ c κs. search needs) returns)

@@ -31,7 +31,7 @@ returns c =
     let a = c .before .before .before .before .before .before .args in
     let o = c .before .before .before .before .offset in
     let n = c .before .before .value-length in
-    let l = length-stored (a .bytes .now) (a .row) (o .result) (n .result) (c .before .before .before .byte-in .result) (o .ensures .0) (c .before .before .before .byte-in .ensures) (n .ensures .0) in
+    let l = length-stored (a .bytes .now) (a .row) (o .result) (n .result) (c .before .before .before .byte-at .result) (o .ensures .0) (c .before .before .before .byte-at .ensures) (n .ensures .0) in
     cut (a .bytes .now) (a .row) (o .result + 1) (o .result + 1 + n .result - (o .result + 1)) (omega arith) (omega arith) (omega arith)
 
 returns-2 : tie.Need-returns-2
@@ -40,7 +40,7 @@ returns-2 c =
     let b = a .bytes .now in
     let o = c .before .before .before .before .before .offset in
     let m = c .before .before .before .value-length in
-    let l = length-stored b (a .row) (o .result) (m .result) (c .before .before .before .before .byte-in .result) (o .ensures .0) (c .before .before .before .before .byte-in .ensures) (m .ensures .0) in
+    let l = length-stored b (a .row) (o .result) (m .result) (c .before .before .before .before .byte-at .result) (o .ensures .0) (c .before .before .before .before .byte-at .ensures) (m .ensures .0) in
     let n = storedLength rows b (a .row) in
     let s : length (drop (o .result + 1) b) ≤ length b - (o .result + 1) = simp length-drop (omega arith) in
     let t : length (drop (o .result + 1) b) ≤ n = simp length-drop (omega arith) in

@@ -1,10 +1,10 @@
--- `record::byte_at` meets its contract: past the end the definition reads 0 too.
+-- `basics::byte_at` meets its contract: past the end the definition reads 0 too.
 -- Assumes nothing.
 use borrow.Author.Needs.{needs}
 use mathlib.Core.Path.{sym}
 use lib.ListN.{List·getD-eq-default}
-use Rattle.record.proofs.byte_at.Statement.{statement}
-use Rattle.record.proofs.byte_at.Tie as tie
+use Rattle.basics.proofs.byte_at.Statement.{statement}
+use Rattle.basics.proofs.byte_at.Tie as tie
 
 returns-2 : tie.Need-returns-2
 returns-2 c = sym (List·getD-eq-default (c .before .args .v .now) 0 (c .if1 .left))

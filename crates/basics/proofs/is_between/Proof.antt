@@ -1,10 +1,10 @@
--- `line::is_between` meets its contract. By the test of the lower end.
+-- `basics::is_between` meets its contract. By the test of the lower end.
 -- Assumes nothing.
 use mathlib.Core.Path.{sym}
 use borrow.Author.Tests.{le-leb, lt-leb}
 use Rattle.basics.proofs.Laws.{both-true, both-no-left}
-use Rattle.line.proofs.is_between.Statement.{statement}
-use Rattle.line.proofs.is_between.Tie as tie
+use Rattle.basics.proofs.is_between.Statement.{statement}
+use Rattle.basics.proofs.is_between.Tie as tie
 
 returns : tie.Need-returns
 returns c = sym (both-no-left _ _ (lt-leb _ _ (c .if1 .taken)))
