@@ -7,6 +7,7 @@ use Prim.Native.Nat.{ℕ, zero, suc, _+_, _%_}
 use lib.Dec.{eqb}
 use lib.ListN.{length}
 use Rattle.basics.specs.Choice.{if, both, every}
+use Rattle.basics.specs.Reason.{reasonNone, reasonLocator}
 use Rattle.locator.specs.declared.Entry.{Entry}
 use Rattle.locator.specs.declared.Record.{Record}
 use Rattle.locator.specs.declared.Checked.{Checked}
@@ -62,6 +63,11 @@ accepts s = both (whole s) (both (every keeps (entries s)) (between 1 (total s) 
 -- what a check of a locator says: R if it is accepted
 unfoldable pub checked : List ℕ → Checked
 checked s = if (accepts s) (Accepted (record { records = total s })) Rejected
+
+-- the number of a check's answer (document 01, "Calls and their numbers"): 0 where it gives no reason, else 5, a locator that breaks its rules
+abbrev pub checkedNumber : Checked → ℕ
+checkedNumber (Accepted e) = reasonNone
+checkedNumber Rejected = reasonLocator
 
 -- the record at a place of a list, places counted from 0
 unfoldable pub nth : ℕ → List Record → Found
