@@ -7,6 +7,7 @@ use Prim.Native.Nat.{ℕ, _+_, _*_, _-_}
 use lib.Dec.{ltb, leb}
 use lib.ListN.{length, take, drop}
 use Rattle.basics.specs.Choice.{if, both, every}
+use Rattle.basics.specs.Number.{between}
 use Rattle.line.specs.declared.Decoded.{Decoded}
 use Rattle.line.specs.declared.Line.{Line}
 use Rattle.line.specs.declared.Pair.{Pair}

@@ -10,8 +10,6 @@ ghost use mathlib.Core.Path.{_≡_};
 ghost use Prim.Native.Nat.{_≤_};
 ghost use lib.ListN.{length};
 ghost use Rattle.line.specs.Text.{of, front, past, uncommented as uncommentedOf, wordOf, behind};
-ghost use Rattle.basics.specs.Alike.{alike};
-ghost use Rattle.basics.specs.Number.{between};
 ghost use Rattle.line.specs.Digits.{digitOf, pairOf, spelled, within, Decodes, sized};
 ghost use Rattle.line.specs.Line.{named, alone as aloneAs, startLine, answerLine, meaning, Says};
 
