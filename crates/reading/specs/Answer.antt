@@ -9,6 +9,7 @@ use Prim.Native.Nat.{ℕ, _+_, _-_, _%_}
 use lib.Dec.{ltb, leb, eqb}
 use lib.ListN.{length, getD, take, drop}
 use Rattle.basics.specs.Choice.{if, both, either}
+use Rattle.basics.specs.Reason.{reasonNone, reasonStatus, reasonMalformed, reasonNotAllowed}
 use Rattle.tlv.specs.declared.Header.{Header}
 use Rattle.tlv.specs.declared.Front.{Front}
 use Rattle.tlv.specs.declared.Front.the-variants.{Object, Broken}
@@ -26,10 +27,10 @@ use Rattle.reading.specs.Taking.{Item, item, items, Work, work, takeAll}
 
 -- document 01's number of each verdict; 0 where the answer gives no reason
 abbrev pub numberOf : Verdict → ℕ
-numberOf Accepted = 0
-numberOf BadStatus = 1
-numberOf Malformed = 2
-numberOf NotAllowed = 3
+numberOf Accepted = reasonNone
+numberOf BadStatus = reasonStatus
+numberOf Malformed = reasonMalformed
+numberOf NotAllowed = reasonNotAllowed
 
 -- what a reading gives: the reason's number, how many objects it visited, and the store
 pub record Outcome : Type 0 where
@@ -136,16 +137,16 @@ partsOf a (template t f) = templateParts a t f
 
 -- after the objects: the store as they left it if all were allowed, else as it was
 abbrev pub judged : List ℕ → ℕ → Work → Outcome
-judged b n w = if (w .good) (outcome 0 n (w .store)) (outcome 3 n b)
+judged b n w = if (w .good) (outcome reasonNone n (w .store)) (outcome reasonNotAllowed n b)
 
 -- a wrong outer tag or body is reason 2, its count the tree's; else the objects are taken in order
 abbrev pub takenParts : Awaited → List ℕ → ℕ → Option (List Item) → Outcome
-takenParts a b n none = outcome 2 n b
+takenParts a b n none = outcome reasonMalformed n b
 takenParts a b n (some is) = judged b n (takeAll (answerBit a) (work true b) is)
 
 -- a malformed encoding is reason 2 with count 0
 abbrev pub readTree : Awaited → List ℕ → Option Body → Outcome
-readTree a b none = outcome 2 0 b
+readTree a b none = outcome reasonMalformed 0 b
 readTree a b (some body) = takenParts a b (bodyCount body) (partsOf a body)
 
 -- the body of an answer, into the store b
@@ -170,5 +171,5 @@ goodLength s = both (leb 2 (length s)) (leb (length s) 258)
 unfoldable pub readAnswer : Awaited → List ℕ → List ℕ → Outcome
 readAnswer a b s =
     if (goodLength s)
-    (if (goodStatus s) (if (isRead a) (readBody a b (take (length s - 2) s)) (outcome 0 0 b)) (outcome 1 0 b))
-    (outcome 2 0 b)
+    (if (goodStatus s) (if (isRead a) (readBody a b (take (length s - 2) s)) (outcome reasonNone 0 b)) (outcome reasonStatus 0 b))
+    (outcome reasonMalformed 0 b)

@@ -4,7 +4,7 @@
 use mathlib.Core.Path.{_≡_, refl, sym, ap, ap₂, subst, _∙_}
 use mathlib.Core.Bool.{Bool, true, false, not}
 use mathlib.Core.Logic.{_⊎_, inl, inr}
-use mathlib.Core.List.{List, [], _∷_, _++_, append-assoc}
+use mathlib.Core.List.{List, [], _∷_, _++_, append-assoc, append-nil}
 use Prim.Native.Nat.{ℕ, zero, suc, _+_, _-_, _≤_, _<_, min}
 use native.Mathlib.Nat.{add-zero}
 use native.Mathlib.Numerals.{add-one}
@@ -261,3 +261,8 @@ by-row table b t k e = ap (valueFound table b) e
 pub unknown-absent : (table : List Row) (b : List ℕ) (t : ℕ) → find table t ≡ Unknown → valueIn table b t ≡ absent
 unfolding valueIn
 unknown-absent table b t e = ap (valueFound table b) e
+
+-- ---- a store copied whole
+
+pub copied : (a b d : List ℕ) → length a ≡ length b → d ≡ take (length a) a ++ drop (length a) b → d ≡ a
+copied a b d l e = let h : length b ≤ length a = omega arith in e ∙ rw (take-length a, drop-of-length-le b h) (append-nil a)
