@@ -82,16 +82,6 @@ pub fn generate_ac(store: &[u8], p1: u8, buffer: &mut [u8]) -> Written
     close(0xAE, p1, buffer, 5 + n)
 }
 
-// Document 01's number of what a call wrote; 0 where it gives no reason.
-pub fn number(written: Written) -> u8
-    ensures { λ r. ⌜ r ≡ writtenNumber written ⌝ }
-{
-    match written {
-        Written::Command(_) => basics::REASON_NONE,
-        Written::NoCommand => basics::REASON_DATA_LIST,
-    }
-}
-
 // Writes the tag 83 and the length of n filled bytes at place 5; the place behind them.
 fn options_head(n: usize, buffer: &mut [u8]) -> usize
     requires { ⌜ (n < 256) × (261 ≤ length (now buffer)) ⌝ }

@@ -66,16 +66,6 @@ pub fn check(locator: &[u8]) -> Checked
     Checked::Accepted(Extent { records: total })
 }
 
-// Document 01's number of a check's answer; 0 where it gives no reason.
-pub fn number(checked: Checked) -> u8
-    ensures { λ r. ⌜ r ≡ checkedNumber checked ⌝ }
-{
-    match checked {
-        Checked::Accepted(_) => basics::REASON_NONE,
-        Checked::Rejected => basics::REASON_LOCATOR,
-    }
-}
-
 // The k-th record of an accepted locator, k from 1; nothing for any other k or locator.
 pub fn record_at(locator: &[u8], k: usize) -> Found
     ensures { λ r. ⌜ r ≡ recordAt (now (locator .entry)) k ⌝ }

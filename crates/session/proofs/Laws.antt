@@ -2,17 +2,17 @@
 -- The proofs of the code cite these and leave the steps shut.
 -- Assumes nothing.
 use mathlib.Core.Path.{_≡_, refl, sym, ap, ap₂, _∙_}
-use mathlib.Core.Bool.{Bool, true, false}
+use mathlib.Core.Bool.{Bool, true, false, not}
 use mathlib.Core.List.{List, [], _∷_}
 use mathlib.Core.Option.{Option, some, none}
 use mathlib.Core.Logic.{⊎-elim}
-use Prim.Native.Nat.{ℕ, _+_, _-_, _/_, _≤_, _<_}
+use Prim.Native.Nat.{ℕ, suc, _+_, _-_, _/_, _≤_, _<_}
 use native.Mathlib.Omega.{arith}
 use types.Run.{OneOf}
 use denote.Enum.Declared.{tagOf}
 use lib.ListN.{length, take}
-use borrow.Author.Tests.{lt-ltb, le-ltb, eq-eqb, ne-eqb}
-use Rattle.basics.specs.Choice.{both}
+use borrow.Author.Tests.{lt-ltb, le-ltb, eq-eqb, ne-eqb, not-true, not-false}
+use Rattle.basics.specs.Choice.{if, both}
 use Rattle.basics.proofs.Laws.{if-yes, if-no, if-ind}
 use Rattle.dictionary.specs.Rows.{rows, rowAt, storeSize}
 use Rattle.dictionary.specs.Named.{placeFound, placeOf}
@@ -36,13 +36,14 @@ use Rattle.reading.proofs.Verdict.{the-type as verdict-type}
 use Rattle.analysis.specs.declared.choice.Choice.{Choice}
 use Rattle.analysis.specs.Action.{aboveLimit, resultOf, chosen}
 use Rattle.record.specs.declared.Outcome.{Outcome}
+use Rattle.record.specs.declared.End.{End}
 use Rattle.record.specs.declared.Asked.{Asked}
 use Rattle.record.specs.declared.Refusal.{Refusal}
 use Rattle.record.specs.declared.Phase.{Phase}
 use Rattle.record.specs.declared.Session.{Session}
 use Rattle.record.specs.declared.Reply.{Reply}
 use Rattle.record.specs.declared.Turn.{Turn}
-use Rattle.basics.specs.Reason.{refusedPhase, refusedBuffer, refusedRanges, reasonMissing, reasonLocator, reasonAboveLimit, reasonDataList, reasonMode}
+use Rattle.basics.specs.Reason.{refusedPhase, refusedBuffer, refusedRanges, reasonNone, reasonMissing, reasonLocator, reasonAboveLimit, reasonDataList, reasonCryptogram, reasonMode, unless}
 use Rattle.record.specs.Session.{stored, replyOf, failsReply, failsTurn, commandsTurn}
 use Rattle.record.specs.Held.{holds, byteIn}
 use Rattle.record.specs.Ranges.{emvMode, locatorIn, completed, inRanges}
@@ -60,7 +61,7 @@ use Rattle.session.specs.declared.Decided.{Decided}
 use Rattle.session.specs.declared.Decision.{Decision}
 use Rattle.session.specs.Steps.{Step, Did, quiet, refuses, fails, withStore, withResults, leastBuffer, admitted, handOut}
 use Rattle.session.specs.Start.{askOptions, startLoaded, startIn, refusalNumber}
-use Rattle.session.specs.Answer.{accepted, askFound, optionsRead, askCryptogram, analysed, recordsRead, decision, concluded, cryptogramRead, neededOf, modeOf, limitFor, decidedOf}
+use Rattle.session.specs.Answer.{accepted, askFound, optionsRead, askCryptogram, analysed, recordsRead, decision, concluded, cryptogramRead, neededNumber, modeNumber, limitNumber, decidedEnd, endFor}
 
 -- ---- a step by an equation
 
@@ -142,37 +143,44 @@ module _ {A : Type 0} (t : Session) (a : Awaited) (s : List ℕ) (failed : Sessi
 
 -- ---- what the code's two-case answers say of their tests
 
-pub is-complete : {x : Needed} (b : Bool) → x ≡ neededOf b → x ≡ Needed.Complete → b ≡ true
-is-complete true e f = refl
-is-complete false e f = let z : _≡_ {A = ℕ} 0 1 = cc in absurd (omega arith)
+-- the test passed where its number is none, and failed where it is another
+passed : {n : ℕ} (m : ℕ) (b : Bool) → n ≡ unless b (suc m) → n ≡ reasonNone → b ≡ true
+unfolding if
+passed m true e f = refl
+passed m false e f = absurd (omega arith)
 
-pub is-missing : {x : Needed} (b : Bool) → x ≡ neededOf b → x ≡ Needed.Missing → b ≡ false
-is-missing true e f = let z : _≡_ {A = ℕ} 0 1 = cc in absurd (omega arith)
-is-missing false e f = refl
+failed : {n : ℕ} (m : ℕ) (b : Bool) → n ≡ unless b m → (n ≡ reasonNone → ⊥) → b ≡ false
+unfolding if
+failed m true e f = absurd (f e)
+failed m false e f = refl
 
-pub is-emv : {x : Mode} (b : Bool) → x ≡ modeOf b → x ≡ Mode.Emv → b ≡ true
-is-emv true e f = refl
-is-emv false e f = let z : _≡_ {A = ℕ} 0 1 = cc in absurd (omega arith)
+pub is-complete : {x : Needed} (b : Bool) → neededNumber x ≡ unless b reasonMissing → x ≡ Needed.Complete → b ≡ true
+is-complete b e f = passed 3 b e (ap neededNumber f)
 
-pub is-stripe : {x : Mode} (b : Bool) → x ≡ modeOf b → x ≡ Mode.Stripe → b ≡ false
-is-stripe true e f = let z : _≡_ {A = ℕ} 0 1 = cc in absurd (omega arith)
-is-stripe false e f = refl
+pub is-missing : {x : Needed} (b : Bool) → neededNumber x ≡ unless b reasonMissing → x ≡ Needed.Missing → b ≡ false
+is-missing b e f = failed reasonMissing b e (λ z. omega (arith, ap neededNumber f))
 
-pub is-above : {x : Limit} (b : Bool) → x ≡ limitFor b → x ≡ Limit.Above → b ≡ true
-is-above true e f = refl
-is-above false e f = let z : _≡_ {A = ℕ} 0 1 = cc in absurd (omega arith)
+pub is-emv : {x : Mode} (b : Bool) → modeNumber x ≡ unless b reasonMode → x ≡ Mode.Emv → b ≡ true
+is-emv b e f = passed 10 b e (ap modeNumber f)
 
-pub is-within : {x : Limit} (b : Bool) → x ≡ limitFor b → x ≡ Limit.Within → b ≡ false
-is-within true e f = let z : _≡_ {A = ℕ} 0 1 = cc in absurd (omega arith)
-is-within false e f = refl
+pub is-stripe : {x : Mode} (b : Bool) → modeNumber x ≡ unless b reasonMode → x ≡ Mode.Stripe → b ≡ false
+is-stripe b e f = failed reasonMode b e (λ z. omega (arith, ap modeNumber f))
 
-pub decides-nothing : {x : Decided} (o : Option Outcome) → x ≡ decidedOf o → x ≡ Decided.Nothing → o ≡ none
+pub is-above : {x : Limit} (b : Bool) → limitNumber x ≡ unless (not b) reasonAboveLimit → x ≡ Limit.Above → b ≡ true
+is-above b e f = not-false _ (failed reasonAboveLimit (not b) e (λ z. omega (arith, ap limitNumber f)))
+
+pub is-within : {x : Limit} (b : Bool) → limitNumber x ≡ unless (not b) reasonAboveLimit → x ≡ Limit.Within → b ≡ false
+is-within b e f = not-true _ (passed 5 (not b) e (ap limitNumber f))
+
+pub decides-nothing : {x : Decided} (o : Option Outcome) → decidedEnd x ≡ endFor o → x ≡ Decided.Nothing → o ≡ none
 decides-nothing none e f = refl
-decides-nothing (some o) e f = let z : _≡_ {A = ℕ} 0 1 = cc in absurd (omega arith)
+decides-nothing (some o) e f =
+    let z : _≡_ {A = ℕ} reasonCryptogram reasonNone = ap (λ (y : End). y .reason) (sym (ap decidedEnd f) ∙ e) in absurd (omega arith)
 
-pub decides-on : {x : Decided} {d : Decision} (o : Option Outcome) → x ≡ decidedOf o → x ≡ Decided.On d → o ≡ some (d .outcome)
-decides-on none e f = let z : _≡_ {A = ℕ} 0 1 = cc in absurd (omega arith)
-decides-on {x} {d} (some o) e f = let z : record { outcome = o } ≡ d = cc in ap (λ (y : Decision). some (y .outcome)) z
+pub decides-on : {x : Decided} {d : Decision} (o : Option Outcome) → decidedEnd x ≡ endFor o → x ≡ Decided.On d → o ≡ some (d .outcome)
+decides-on none e f =
+    let z : _≡_ {A = ℕ} reasonNone reasonCryptogram = ap (λ (y : End). y .reason) (sym (ap decidedEnd f) ∙ e) in absurd (omega arith)
+decides-on {x} {d} (some o) e f = ap (λ (y : End). some (y .outcome)) (sym e ∙ ap decidedEnd f)
 
 -- ---- the result bits
 

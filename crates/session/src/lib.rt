@@ -8,16 +8,19 @@
 // store lent or shared: a turn is handed back, and the store is not copied.
 use analysis::choice::Choice;
 use data_list::Written;
-use dictionary::{ROW_82, ROW_94, ROW_95, ROW_9F26, ROW_9F27, ROW_9F36, SIZE};
+use dictionary::{ROW_82, ROW_94, ROW_95, ROW_9F26, ROW_9F27, ROW_9F36};
 use locator::{Checked, Found};
 use reading::{Awaited, File, Verdict};
 use record::{Asked, Outcome, Phase, Place, Reply, Session, Turn};
+use store::Store;
 use terminal::Said;
 ghost use mathlib.Core.Path.{_≡_};
+ghost use mathlib.Core.Bool.{not};
 ghost use mathlib.Core.List.{List};
 ghost use Prim.Native.Nat.{ℕ, _≤_, _<_};
 ghost use lib.ListN.{length};
 ghost use Rattle.basics.specs.Choice.{both};
+ghost use Rattle.basics.specs.Reason.{reasonMissing, reasonAboveLimit, reasonMode, unless};
 ghost use Rattle.dictionary.specs.Rows.{storeSize};
 ghost use Rattle.locator.specs.Command.{readRecord};
 ghost use Rattle.analysis.specs.Action.{aboveLimit};
@@ -27,7 +30,7 @@ ghost use Rattle.record.specs.Held.{holds};
 ghost use Rattle.record.specs.Ranges.{emvMode, completed};
 ghost use Rattle.session.specs.Steps.{Did, commands as commandsStep, leastBuffer, brokenOff, linkStep, stopStep};
 ghost use Rattle.session.specs.Start.{askOptions, startLoaded, startStep, refusalNumber};
-ghost use Rattle.session.specs.Answer.{optionsRead, optionsStep, askCryptogram, analysed, recordsRead, recordRead, recordStep, decision, cryptogramRead, cryptogramReply, answerStep, neededOf, modeOf, limitFor, decidedOf};
+ghost use Rattle.session.specs.Answer.{optionsRead, optionsStep, askCryptogram, analysed, recordsRead, recordRead, recordStep, decision, cryptogramRead, cryptogramReply, answerStep, neededNumber, modeNumber, limitNumber, decidedEnd, endFor};
 
 // The least command buffer.
 pub const LEAST_BUFFER: usize = 261;
@@ -65,9 +68,10 @@ pub fn start(session: Session, terminal: &[u8], command: &mut [u8]) -> Reply
     ensures { λ r. ⌜ Did r (now (command .exit)) (startStep session (now (terminal .entry)) (now (command .entry))) ⌝ }
 {
     let phase = session.phase;
-    let mut store = session.store;
-    let turn = start_in(phase, session.count, &mut store.bytes, terminal, command);
-    record::reply_of(turn, store)
+    let store = session.store;
+    let mut bytes = store.bytes;
+    let turn = start_in(phase, session.count, &mut bytes, terminal, command);
+    record::reply_of(turn, Store { bytes })
 }
 
 // Takes the card's answer to the command that was handed out last, status bytes included.
@@ -75,9 +79,10 @@ pub fn answer(session: Session, card: &[u8], command: &mut [u8]) -> Reply
     ensures { λ r. ⌜ Did r (now (command .exit)) (answerStep session (now (card .entry)) (now (command .entry))) ⌝ }
 {
     let phase = session.phase;
-    let mut store = session.store;
-    let turn = answer_in(phase, session.count, &mut store.bytes, card, command);
-    record::reply_of(turn, store)
+    let store = session.store;
+    let mut bytes = store.bytes;
+    let turn = answer_in(phase, session.count, &mut bytes, card, command);
+    record::reply_of(turn, Store { bytes })
 }
 
 // The link to the card failed.
@@ -101,7 +106,7 @@ pub fn stop(session: Session, command: &mut [u8]) -> Reply
 }
 
 // `start` on a session's parts, the store lent.
-pub fn start_in(phase: Phase, count: u8, store: &mut [u8; SIZE], terminal: &[u8], command: &mut [u8]) -> Turn
+pub fn start_in(phase: Phase, count: u8, store: &mut [u8], terminal: &[u8], command: &mut [u8]) -> Turn
     requires { ⌜ length (now store) ≡ storeSize ⌝ }
     ensures did { λ r. ⌜ Did (replyOf r (now (store .exit))) (now (command .exit)) (startStep (sessionOf phase count (now (store .entry))) (now (terminal .entry)) (now (command .entry))) ⌝ }
     ensures sized { λ _. ⌜ length (now (store .exit)) ≡ storeSize ⌝ }
@@ -119,7 +124,7 @@ pub fn start_in(phase: Phase, count: u8, store: &mut [u8; SIZE], terminal: &[u8]
 }
 
 // `answer` on a session's parts, the store lent.
-pub fn answer_in(phase: Phase, count: u8, store: &mut [u8; SIZE], card: &[u8], command: &mut [u8]) -> Turn
+pub fn answer_in(phase: Phase, count: u8, store: &mut [u8], card: &[u8], command: &mut [u8]) -> Turn
     requires { ⌜ length (now store) ≡ storeSize ⌝ }
     ensures did { λ r. ⌜ Did (replyOf r (now (store .exit))) (now (command .exit)) (answerStep (sessionOf phase count (now (store .entry))) (now (card .entry)) (now (command .entry))) ⌝ }
     ensures sized { λ _. ⌜ length (now (store .exit)) ≡ storeSize ⌝ }
@@ -173,7 +178,7 @@ fn broken_off(phase: Phase, count: u8, bytes: &[u8], reason: u8, size: usize) ->
 }
 
 // The terminal's objects are stored, and 95 with them, all zero.
-fn load_objects(count: u8, store: &mut [u8; SIZE], terminal: &[u8], command: &mut [u8]) -> Turn
+fn load_objects(count: u8, store: &mut [u8], terminal: &[u8], command: &mut [u8]) -> Turn
     requires { ⌜ (leastBuffer ≤ length (now command)) × (count < 255) ⌝ }
     requires { ⌜ length (now store) ≡ storeSize ⌝ }
     ensures { λ r. ⌜ Did (replyOf r (now (store .exit))) (now (command .exit)) (startLoaded (sessionOf Phase.Fresh count (now (store .entry))) (now (command .entry)) (loadOf (now (store .entry)) (now (terminal .entry)))) ⌝ }
@@ -209,7 +214,7 @@ fn ask_options(count: u8, bytes: &[u8], command: &mut [u8]) -> Turn
 }
 
 // The answer to processing options.
-fn take_options(count: u8, store: &mut [u8; SIZE], card: &[u8], command: &mut [u8]) -> Turn
+fn take_options(count: u8, store: &mut [u8], card: &[u8], command: &mut [u8]) -> Turn
     requires { ⌜ (leastBuffer ≤ length (now command)) × (count < 255) ⌝ }
     requires { ⌜ length (now store) ≡ storeSize ⌝ }
     ensures { λ r. ⌜ Did (replyOf r (now (store .exit))) (now (command .exit)) (optionsStep (sessionOf Phase.Options count (now (store .entry))) (now (card .entry)) (now (command .entry))) ⌝ }
@@ -254,7 +259,7 @@ fn ask_record(count: u8, wanted: locator::Record, k: u8, command: &mut [u8]) -> 
 }
 
 // The answer to a record.
-fn take_record(place: Place, count: u8, store: &mut [u8; SIZE], card: &[u8], command: &mut [u8]) -> Turn
+fn take_record(place: Place, count: u8, store: &mut [u8], card: &[u8], command: &mut [u8]) -> Turn
     requires { ⌜ (leastBuffer ≤ length (now command)) × (count < 255) ⌝ }
     requires { ⌜ length (now store) ≡ storeSize ⌝ }
     ensures { λ r. ⌜ Did (replyOf r (now (store .exit))) (now (command .exit)) (recordStep place (sessionOf (Phase.Record place) count (now (store .entry))) (now (card .entry)) (now (command .entry))) ⌝ }
@@ -274,7 +279,7 @@ fn take_record(place: Place, count: u8, store: &mut [u8; SIZE], card: &[u8], com
 }
 
 // After a record: the next one that the locator names, or the cryptogram.
-fn after_record(place: Place, count: u8, store: &mut [u8; SIZE], command: &mut [u8]) -> Turn
+fn after_record(place: Place, count: u8, store: &mut [u8], command: &mut [u8]) -> Turn
     requires { ⌜ (leastBuffer ≤ length (now command)) × (count < 255) ⌝ }
     requires { ⌜ length (now store) ≡ storeSize ⌝ }
     ensures { λ r. ⌜ Did (replyOf r (now (store .exit))) (now (command .exit)) (recordRead place (sessionOf (Phase.Record place) count (now (store .entry))) (now (command .entry))) ⌝ }
@@ -289,7 +294,7 @@ fn after_record(place: Place, count: u8, store: &mut [u8; SIZE], command: &mut [
 }
 
 // After the last record, in whatever phase: the limit, what is needed, and then the cryptogram.
-fn after_records(count: u8, store: &mut [u8; SIZE], command: &mut [u8]) -> Turn
+fn after_records(count: u8, store: &mut [u8], command: &mut [u8]) -> Turn
     requires { ⌜ (leastBuffer ≤ length (now command)) × (count < 255) ⌝ }
     requires { ⌜ length (now store) ≡ storeSize ⌝ }
     ensures { λ r. ⌜ ((p : Phase) → Did (replyOf r (now (store .exit))) (now (command .exit)) (recordsRead (sessionOf p count (now (store .entry))) (now (command .entry)))) ⌝ }
@@ -304,7 +309,7 @@ fn after_records(count: u8, store: &mut [u8; SIZE], command: &mut [u8]) -> Turn
 }
 
 // The result bits are stored and the choice is made on them.
-fn analyse(count: u8, store: &mut [u8; SIZE], command: &mut [u8]) -> Turn
+fn analyse(count: u8, store: &mut [u8], command: &mut [u8]) -> Turn
     requires { ⌜ (leastBuffer ≤ length (now command)) × (count < 255) ⌝ }
     requires { ⌜ length (now store) ≡ storeSize ⌝ }
     ensures { λ r. ⌜ ((p : Phase) → Did (replyOf r (now (store .exit))) (now (command .exit)) (analysed (sessionOf p count (now (store .entry))) (now (command .entry)))) ⌝ }
@@ -328,7 +333,7 @@ fn ask_cryptogram(choice: Choice, count: u8, bytes: &[u8], command: &mut [u8]) -
 }
 
 // The answer to the cryptogram: no command follows it.
-fn take_cryptogram(asked: Asked, count: u8, store: &mut [u8; SIZE], card: &[u8]) -> Turn
+fn take_cryptogram(asked: Asked, count: u8, store: &mut [u8], card: &[u8]) -> Turn
     requires { ⌜ length (now store) ≡ storeSize ⌝ }
     ensures { λ r. ⌜ replyOf r (now (store .exit)) ≡ cryptogramReply asked (sessionOf (Phase.Cryptogram asked) count (now (store .entry))) (now (card .entry)) ⌝ }
 {
@@ -358,7 +363,7 @@ fn decide(asked: Asked, count: u8, bytes: &[u8]) -> Turn
 
 // What a type of cryptogram decides, by what was asked for.
 fn decision_for(choice: Choice, kind: u8) -> Decided
-    ensures { λ r. ⌜ r ≡ decidedOf (decision choice kind) ⌝ }
+    ensures { λ r. ⌜ decidedEnd r ≡ endFor (decision choice kind) ⌝ }
 {
     if kind == 0 {
         return Decided::On(Decision { outcome: Outcome::Declined });
@@ -382,7 +387,7 @@ fn decision_for(choice: Choice, kind: u8) -> Decided
 
 // 82 and 94 are there.
 fn options_there(bytes: &[u8]) -> Needed
-    ensures { λ r. ⌜ r ≡ neededOf (both (holds (now (bytes .entry)) 0x82) (holds (now (bytes .entry)) 0x94)) ⌝ }
+    ensures { λ r. ⌜ neededNumber r ≡ unless (both (holds (now (bytes .entry)) 0x82) (holds (now (bytes .entry)) 0x94)) reasonMissing ⌝ }
 {
     if store::is_there(bytes, ROW_82) {
         if store::is_there(bytes, ROW_94) {
@@ -394,7 +399,7 @@ fn options_there(bytes: &[u8]) -> Needed
 
 // The mode that 82 tells.
 fn mode_in(bytes: &[u8]) -> Mode
-    ensures { λ r. ⌜ r ≡ modeOf (emvMode (now (bytes .entry))) ⌝ }
+    ensures { λ r. ⌜ modeNumber r ≡ unless (emvMode (now (bytes .entry))) reasonMode ⌝ }
 {
     if record::is_emv(bytes) {
         return Mode::Emv;
@@ -404,7 +409,7 @@ fn mode_in(bytes: &[u8]) -> Mode
 
 // The amount against the limit in force.
 fn limit_in(bytes: &[u8]) -> Limit
-    ensures { λ r. ⌜ r ≡ limitFor (aboveLimit (now (bytes .entry))) ⌝ }
+    ensures { λ r. ⌜ limitNumber r ≡ unless (not (aboveLimit (now (bytes .entry)))) reasonAboveLimit ⌝ }
 {
     if analysis::action::above_limit(bytes) {
         return Limit::Above;
@@ -414,7 +419,7 @@ fn limit_in(bytes: &[u8]) -> Limit
 
 // 5F24, 5A and 8C are there, none empty.
 fn card_complete(bytes: &[u8]) -> Needed
-    ensures { λ r. ⌜ r ≡ neededOf (completed (now (bytes .entry))) ⌝ }
+    ensures { λ r. ⌜ neededNumber r ≡ unless (completed (now (bytes .entry))) reasonMissing ⌝ }
 {
     if record::is_complete(bytes) {
         return Needed::Complete;
@@ -424,7 +429,7 @@ fn card_complete(bytes: &[u8]) -> Needed
 
 // 9F27, 9F36 and 9F26 are there.
 fn cryptogram_there(bytes: &[u8]) -> Needed
-    ensures { λ r. ⌜ r ≡ neededOf (both (holds (now (bytes .entry)) 0x9F27) (both (holds (now (bytes .entry)) 0x9F36) (holds (now (bytes .entry)) 0x9F26))) ⌝ }
+    ensures { λ r. ⌜ neededNumber r ≡ unless (both (holds (now (bytes .entry)) 0x9F27) (both (holds (now (bytes .entry)) 0x9F36) (holds (now (bytes .entry)) 0x9F26))) reasonMissing ⌝ }
 {
     if store::is_there(bytes, ROW_9F27) {
         if store::is_there(bytes, ROW_9F36) {
