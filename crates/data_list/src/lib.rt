@@ -191,13 +191,8 @@ fn write_entry(entry: Entry, store: &[u8], buffer: &mut [u8], at: usize)
         repeat(0, n, buffer, at);
         return;
     }
-    write_value(
-        dictionary::form(row),
-        n,
-        store::value(store, row),
-        buffer,
-        at,
-    );
+    let attributes = dictionary::attributes_of(row);
+    write_value(attributes.form, n, store::value(store, row), buffer, at);
 }
 
 // Writes a value as the n bytes asked.
