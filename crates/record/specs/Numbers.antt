@@ -5,6 +5,7 @@ use Prim.Native.Nat.{ℕ}
 use lib.Dec.{eqb}
 use Rattle.basics.specs.Choice.{if, both}
 use Rattle.basics.specs.Number.{between}
+use Rattle.basics.specs.Reason.{reasonNone, reasonStatus, reasonAboveLimit, reasonMode}
 use Rattle.record.specs.declared.Outcome.{Outcome}
 
 -- ---- outcomes

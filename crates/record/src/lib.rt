@@ -6,7 +6,7 @@
 // field is added there.
 use analysis::choice::Choice;
 use dictionary::{
-    ROWS, ROW_5A, ROW_5F24, ROW_82, ROW_8C, ROW_94, ROW_95, ROW_9F10, ROW_9F26, ROW_9F27, ROW_9F35, ROW_9F36, SIZE,
+    Attributes, ROWS, ROW_5A, ROW_5F24, ROW_82, ROW_8C, ROW_94, ROW_95, ROW_9F10, ROW_9F26, ROW_9F27, ROW_9F35, ROW_9F36, SIZE,
 };
 use locator::Checked;
 use store::Store;
@@ -15,8 +15,9 @@ ghost use Prim.Native.Nat.{_<_};
 ghost use mathlib.Core.Bool.{not};
 ghost use lib.Dec.{eqb};
 ghost use lib.ListN.{length, getD};
-ghost use Rattle.basics.specs.Choice.{either, every};
+ghost use Rattle.basics.specs.Choice.{both, either, every};
 ghost use Rattle.dictionary.specs.Rows.{Row, optional, storeSize};
+ghost use Rattle.dictionary.specs.Packing.{attributesOf};
 ghost use Rattle.store.specs.Place.{room};
 ghost use Rattle.record.specs.Numbers.{outcomeNumber, goesWith, outcomeFor};
 ghost use Rattle.record.specs.Session.{sessionOf, freshSession, waitingSession, replyOf, refusedTurn, endsTurn, failsTurn, commandsTurn};
@@ -222,21 +223,19 @@ pub fn keeps(phase: Phase, count: u8, bytes: &[u8]) -> bool
     if bytes.len() != SIZE {
         return false;
     }
-    if !all_fit(bytes) {
-        return false;
-    }
     match phase {
         Phase::Fresh => fresh_keeps(count, bytes),
         Phase::Options => options_keep(count, bytes),
         Phase::Record(place) => record_keeps(place, count, bytes),
         Phase::Cryptogram(_) => cryptogram_keeps(count, bytes),
-        Phase::Ended(end) => ended_keeps(end, count),
+        Phase::Ended(end) => ended_keeps(end, count, bytes),
     }
 }
 
-// Fresh: no command was handed out and the store is all zeros.
+// Fresh: no command was handed out and the store is all zeros, so that every object fits.
 fn fresh_keeps(count: u8, bytes: &[u8]) -> bool
-    ensures { λ r. ⌜ r ≡ freshRanges count (now (bytes .entry)) ⌝ }
+    requires { ⌜ length (now bytes) ≡ storeSize ⌝ }
+    ensures { λ r. ⌜ r ≡ both (allFit (now (bytes .entry))) (freshRanges count (now (bytes .entry))) ⌝ }
 {
     if count != 0 {
         return false;
@@ -246,7 +245,8 @@ fn fresh_keeps(count: u8, bytes: &[u8]) -> bool
 
 // Waiting on processing options: nothing of their answer is there yet.
 fn options_keep(count: u8, bytes: &[u8]) -> bool
-    ensures { λ r. ⌜ r ≡ optionsRanges count (now (bytes .entry)) ⌝ }
+    requires { ⌜ length (now bytes) ≡ storeSize ⌝ }
+    ensures { λ r. ⌜ r ≡ both (allFit (now (bytes .entry))) (optionsRanges count (now (bytes .entry))) ⌝ }
 {
     if !runs(bytes) {
         return false;
@@ -265,7 +265,8 @@ fn options_keep(count: u8, bytes: &[u8]) -> bool
 
 // Waiting on a record that the stored locator names.
 fn record_keeps(place: Place, count: u8, bytes: &[u8]) -> bool
-    ensures { λ r. ⌜ r ≡ recordRanges place count (now (bytes .entry)) ⌝ }
+    requires { ⌜ length (now bytes) ≡ storeSize ⌝ }
+    ensures { λ r. ⌜ r ≡ both (allFit (now (bytes .entry))) (recordRanges place count (now (bytes .entry))) ⌝ }
 {
     if !runs(bytes) {
         return false;
@@ -293,7 +294,8 @@ fn record_keeps(place: Place, count: u8, bytes: &[u8]) -> bool
 
 // Waiting on the cryptogram: every record was asked for, and what the choice needs is there.
 fn cryptogram_keeps(count: u8, bytes: &[u8]) -> bool
-    ensures { λ r. ⌜ r ≡ cryptogramRanges count (now (bytes .entry)) ⌝ }
+    requires { ⌜ length (now bytes) ≡ storeSize ⌝ }
+    ensures { λ r. ⌜ r ≡ both (allFit (now (bytes .entry))) (cryptogramRanges count (now (bytes .entry))) ⌝ }
 {
     if !runs(bytes) {
         return false;
@@ -316,9 +318,13 @@ fn cryptogram_keeps(count: u8, bytes: &[u8]) -> bool
 }
 
 // Ended: a count that a session can reach, and a reason with its outcome.
-fn ended_keeps(end: End, count: u8) -> bool
-    ensures { λ r. ⌜ r ≡ endedRanges end count ⌝ }
+fn ended_keeps(end: End, count: u8, bytes: &[u8]) -> bool
+    requires { ⌜ length (now bytes) ≡ storeSize ⌝ }
+    ensures { λ r. ⌜ r ≡ both (allFit (now (bytes .entry))) (endedRanges end count) ⌝ }
 {
+    if !all_keep(bytes, false) {
+        return false;
+    }
     if MOST < count {
         return false;
     }
@@ -352,14 +358,15 @@ fn ends_session(reason: u8) -> bool
     reason != basics::REASON_ABOVE_LIMIT
 }
 
-// What every running session holds and lacks.
+// What every running session holds and lacks; every object fits.
 fn runs(bytes: &[u8]) -> bool
-    ensures { λ r. ⌜ r ≡ running (now (bytes .entry)) ⌝ }
+    requires { ⌜ length (now bytes) ≡ storeSize ⌝ }
+    ensures { λ r. ⌜ r ≡ both (allFit (now (bytes .entry))) (running (now (bytes .entry))) ⌝ }
 {
-    if !store::is_there(bytes, ROW_95) {
+    if !all_keep(bytes, true) {
         return false;
     }
-    if !all_brought(bytes) {
+    if !store::is_there(bytes, ROW_95) {
         return false;
     }
     if !dictionary::is_listed(basics::byte_at(store::value(bytes, ROW_9F35), 0)) {
@@ -404,19 +411,18 @@ pub fn is_complete(bytes: &[u8]) -> bool
     store::value(bytes, ROW_8C).len() != 0
 }
 
-// Every stored object fits its row.
-fn all_fit(bytes: &[u8]) -> bool
+// Every stored object fits its row; where `asked`, what a start must bring is there too. One walk for both.
+fn all_keep(bytes: &[u8], asked: bool) -> bool
     requires { ⌜ length (now bytes) ≡ storeSize ⌝ }
-    ensures { λ r. ⌜ r ≡ allFit (now (bytes .entry)) ⌝ }
+    ensures { λ r. ⌜ r ≡ both (allFit (now (bytes .entry))) (either (not asked) (brought (now (bytes .entry)))) ⌝ }
 {
-    let leasts = dictionary::leasts();
-    let greatests = dictionary::greatests();
-    let forms = dictionary::forms();
+    let codes = dictionary::codes();
     let mut at = 0;
     let mut row = 0;
     while row < ROWS {
-        let next = at + basics::wide(greatests[row]) + 1;
-        if !place_fits(&bytes[at..next], leasts[row], forms[row]) {
+        let a = dictionary::unpacked(codes[row]);
+        let next = at + a.greatest + 1;
+        if !place_keeps(&bytes[at..next], a, asked) {
             return false;
         }
         at = next;
@@ -425,37 +431,41 @@ fn all_fit(bytes: &[u8]) -> bool
     true
 }
 
-// A row's place holds nothing, or its length byte, the value's length and its digits fit.
-fn place_fits(place: &[u8], least: u8, form: u8) -> bool
+// A row's place holds nothing, and need not where that is asked; or its length byte, the value's length and its
+// digits fit.
+fn place_keeps(place: &[u8], a: Attributes, asked: bool) -> bool
     requires { ⌜ 0 < length (now place) ⌝ }
-    ensures { λ r. ⌜ ((x : Row) → x .least ≡ least → x .form ≡ form → room x ≡ length (now (place .entry)) → r ≡ placeFits x (now (place .entry))) ⌝ }
+    ensures { λ r. ⌜ ((x : Row) → a ≡ attributesOf x → room x ≡ length (now (place .entry)) → r ≡ both (placeFits x (now (place .entry))) (either (not asked) (either (eqb (x .must) optional) (not (eqb (getD (now (place .entry)) 0 0) 0))))) ⌝ }
 {
     let stored = basics::wide(place[0]);
     if stored == 0 {
+        if asked {
+            return a.must == 0;
+        }
         return true;
     }
     if place.len() < stored {
         return false;
     }
-    if stored - 1 < basics::wide(least) {
+    if stored - 1 < a.least {
         return false;
     }
-    dictionary::digits_fit(form, &place[1..stored])
+    dictionary::digits_fit(a.form, &place[1..stored])
 }
 
 // Every object that a start must bring is there.
 pub fn all_brought(bytes: &[u8]) -> bool
     ensures { λ r. ⌜ r ≡ brought (now (bytes .entry)) ⌝ }
 {
-    let greatests = dictionary::greatests();
-    let musts = dictionary::musts();
+    let codes = dictionary::codes();
     let mut at = 0;
     let mut row = 0;
     while row < ROWS {
-        if !is_brought(musts[row], bytes, at) {
+        let a = dictionary::unpacked(codes[row]);
+        if !is_brought(a.must, bytes, at) {
             return false;
         }
-        at = at + basics::wide(greatests[row]) + 1;
+        at = at + a.greatest + 1;
         row += 1;
     }
     true
