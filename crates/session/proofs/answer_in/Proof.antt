@@ -24,7 +24,7 @@ by-phase : (c : tie.Else2) (p : Phase) → let a = c .before .before .before .be
     → answerStep (sessionOf (a .phase) (a .count) (a .store .now)) (a .card .now) (a .command .now) ≡ answerIn p (sessionOf p (a .count) (a .store .now)) (a .card .now) (a .command .now)
 by-phase c p e =
     let a = c .before .before .before .before .before .before .before .args in
-    admitted-in _ _ _ _ (c .before .before .before .before .if1 .left) (ranged c) ∙ ap (λ (q : Phase). answerIn q (sessionOf q (a .count) (a .store .now)) (a .card .now) (a .command .now)) e
+    admitted-in _ _ _ _ (c .before .before .before .if1 .left) (ranged c) ∙ ap (λ (q : Phase). answerIn q (sessionOf q (a .count) (a .store .now)) (a .card .now) (a .command .now)) e
 
 kept : (c : tie.Else2) → let a = c .before .before .before .before .before .before .before .args in inRanges (answerStep (sessionOf (a .phase) (a .count) (a .store .now)) (a .card .now) (a .command .now) .reply .session) ≡ true
 kept c = let a = c .before .before .before .before .before .before .before .args in answer-keeps _ (a .card .now) (a .command .now) (ranged c)
@@ -34,7 +34,7 @@ returns c = (did-quiet _ (c .refused .ensures) (admitted-short _ _ _ _ (c .befor
 
 returns-2 : tie.Need-returns-2
 returns-2 c =
-    (did-quiet _ (c .refused2 .ensures) (admitted-ranges _ _ _ _ (c .before .before .before .before .before .if1 .left) (sym (c .before .before .keeps .ensures) ∙ not-true _ (c .before .if2 .taken))), search needs)
+    (did-quiet _ (c .refused2 .ensures) (admitted-ranges _ _ _ _ (c .before .before .before .before .if1 .left) (sym (c .before .before .keeps .ensures) ∙ not-true _ (c .before .if2 .taken))), search needs)
 
 take-options-requires : tie.Need-take-options-requires
 take-options-requires c κs = ((search needs, omega (arith, count-most _ (ranged (c .before .before .before .before)))), search needs)
@@ -49,18 +49,18 @@ returns-3 c =
 
 returns-4 : tie.Need-returns-4
 returns-4 c =
-    let d = did-as (by-phase (c .before .before .before .before .before .before .before) _ (c .before .before .before .before .before .enum-told2 .given .1)) (c .before .before .take-options .ensures) in
-    (d, did-sized _ d (kept (c .before .before .before .before .before .before .before)))
+    let d = did-as (by-phase (c .before .before .before .before .before .before .before .before .before) _ (c .before .before .before .before .before .before .before .enum-told2 .given .1)) (c .before .before .before .before .take-options .ensures) in
+    (d, did-sized _ d (kept (c .before .before .before .before .before .before .before .before .before)))
 
 returns-5 : tie.Need-returns-5
 returns-5 c =
-    let d = did-as (by-phase (c .before .before .before .before .before .before .before .before) _ (c .before .before .before .before .before .before .phase .given .1)) (c .before .before .take-record .ensures) in
-    (d, did-sized _ d (kept (c .before .before .before .before .before .before .before .before)))
+    let d = did-as (by-phase (c .before .before .before .before .before .before .before .before .before .before) _ (c .before .before .before .before .before .before .before .before .phase .given .1)) (c .before .before .before .before .take-record .ensures) in
+    (d, did-sized _ d (kept (c .before .before .before .before .before .before .before .before .before .before)))
 
 returns-6 : tie.Need-returns-6
 returns-6 c =
-    let d = did-as (by-phase (c .before .before .before .before .before) _ (c .before .before .before .phase2 .given .1)) (record { reply = c .take-cryptogram .ensures; buffer = refl }) in
-    (d, did-sized _ d (kept (c .before .before .before .before .before)))
+    let d = did-as (by-phase (c .before .before .before .before .before .before .before) _ (c .before .before .before .before .before .phase2 .given .1)) (record { reply = c .before .before .take-cryptogram .ensures; buffer = refl }) in
+    (d, did-sized _ d (kept (c .before .before .before .before .before .before .before)))
 
 returns-7 : tie.Need-returns-7
 returns-7 c =
@@ -75,6 +75,7 @@ answer-in-spec =
     returns
     (λ c κs. search needs)
     (λ c κs. search needs)
+    (λ c. search needs)
     returns-2
     (λ c. search needs)
     (λ c κs. search needs)
@@ -86,10 +87,15 @@ answer-in-spec =
     (λ c κs. search needs)
     (λ c. search needs)
     (λ c κs. search needs)
+    (λ c. search needs)
     returns-3
+    (λ c. search needs)
     (λ c. search needs)
     returns-4
     (λ c. search needs)
+    (λ c. search needs)
     returns-5
+    (λ c. search needs)
     returns-6
+    (λ c. search needs)
     returns-7)
