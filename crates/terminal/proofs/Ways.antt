@@ -3,12 +3,11 @@
 -- Assumes nothing.
 use mathlib.Core.Path.{_≡_, refl, sym, ap, subst, _∙_}
 use mathlib.Core.Bool.{true, false}
-use mathlib.Core.List.{List, _++_, append-nil}
+use mathlib.Core.List.{List}
 use mathlib.Core.Option.{Option, some, none}
 use Prim.Native.Nat.{ℕ, _≤_, _<_}
 use native.Mathlib.Omega.{arith}
-use lib.ListN.{length, take, drop, drop-of-length-le}
-use lib.Seq.{take-length}
+use lib.ListN.{length}
 use borrow.Author.Tests.{le-leb, lt-leb}
 use Rattle.basics.proofs.Laws.{if-yes, if-no}
 use Rattle.record.specs.Ranges.{brought}
@@ -72,10 +71,6 @@ pub loads : {b c : List ℕ} {x : Loaded} → x ≡ loaded c → Loads Said.Take
 loads {b} f = subst (Loads _ _ b) (sym f) (record { said = refl; store = refl })
 
 -- ---- the working copy
-
--- bytes copied over as many others
-pub copied : (s d : List ℕ) {m : List ℕ} → length s ≡ length d → m ≡ take (length s) s ++ drop (length s) d → m ≡ s
-copied s d e f = f ∙ rw (take-length s, drop-of-length-le d {i = length s} (omega arith)) (append-nil s)
 
 -- what a run sets in a copy it sets in the store
 pub in-copy : {b d : List ℕ} (s : List ℕ) {x : Option (List ℕ)} → d ≡ b → setRun d (run s) ≡ x → setRun b (run s) ≡ x

@@ -8,14 +8,15 @@ use Prim.Native.Nat.{ℕ}
 use lib.ListN.{length, take, drop, replicate, length-replicate}
 use Rattle.dictionary.specs.Rows.{storeSize}
 use Rattle.terminal.specs.Terminal.{loaded}
-use Rattle.terminal.proofs.Ways.{refuses, loads, copied, in-copy, load-long, load-broken, load-object, load-absent, load-taken}
+use Rattle.store.proofs.Laws.{copied}
+use Rattle.terminal.proofs.Ways.{refuses, loads, in-copy, load-long, load-broken, load-object, load-absent, load-taken}
 use Rattle.terminal.proofs.Setting.{was-set, was-not}
 use Rattle.terminal.proofs.load.Statement.{statement}
 use Rattle.terminal.proofs.load.Tie as tie
 
 -- a store copied over as many zeros
 same : (s : List ℕ) {m : List ℕ} → length s ≡ storeSize → m ≡ take (length s) s ++ drop (length s) (replicate storeSize 0) → m ≡ s
-same s e = copied s (replicate storeSize 0) (e ∙ sym (length-replicate {A = ℕ} storeSize 0))
+same s e = copied s (replicate storeSize 0) _ (e ∙ sym (length-replicate {A = ℕ} storeSize 0))
 
 returns : tie.Need-returns
 returns c =
@@ -73,7 +74,7 @@ same-length-3 c =
     let k = c .before .before in
     let so = k .before .before .before .before .before .before .before in
     let st = so .before .before .before .before .before .before .before .before .before .before .before in
-    ap length (copied (so .set-objects .last .1 .0) (st .args .store .now) (so .set-objects .ensures .1 ∙ sym (st .pre)) (k .copy2 .ensures .1)) ∙ so .set-objects .ensures .1 ∙ sym (st .pre)
+    ap length (copied (so .set-objects .last .1 .0) (st .args .store .now) _ (so .set-objects .ensures .1 ∙ sym (st .pre)) (k .copy2 .ensures .1)) ∙ so .set-objects .ensures .1 ∙ sym (st .pre)
 
 returns-5 : tie.Need-returns-5
 returns-5 c =
@@ -84,7 +85,7 @@ returns-5 c =
     let r = k .before .before .before .before in
     let st = r .before .before .before .before in
     let a = st .args in
-    let e = copied (so .set-objects .last .1 .0) (a .store .now) (so .set-objects .ensures .1 ∙ sym (st .pre)) (k2 .copy2 .ensures .1) in (
+    let e = copied (so .set-objects .last .1 .0) (a .store .now) _ (so .set-objects .ensures .1 ∙ sym (st .pre)) (k2 .copy2 .ensures .1) in (
       loads
           (load-taken (a .store .now) (a .terminal .now) (r .before .if1 .left) _
           (in-copy (a .terminal .now) (same (a .store .now) (st .pre) (k .copy .ensures .1)) (was-set _ (so .set-objects .ensures .0) (not-false _ (n .before .before .before .if3 .left))))
