@@ -80,10 +80,12 @@ module _ (step : Session → List ℕ → Step) (l buf : List ℕ) where
     over-record = taken-by (ltb (length buf) leastBuffer) (decoded l) h refl (sym f ∙ g) .0
 
     -- and it is the step on their session: the store that it left in its place, and its head before that
-    pub over-step : (w : ℕ) (l′ b′ c : List ℕ) (t : Turn) → Did (replyOf t c) b′ (step (sessionOf (h .phase) (h .count) (take storeSize (drop headSize l))) buf) → length c ≡ storeSize
+    pub over-step : (w : ℕ) (l′ b′ c : List ℕ) (t : Turn) → Did (replyOf t c) b′ (step (sessionOf (h .phase) (h .count) (take storeSize (drop headSize l))) buf) → length c ≡ length (take storeSize (drop headSize l))
         → (w ≡ wordOf (t .answer)) × (l′ ≡ headed (t .phase) (t .count) (putMid headSize storeSize l c)) → DidOver w l′ b′ (hosted step l buf)
     unfolding hosted
-    over-step w l′ b′ c t did z k =
+    over-step w l′ b′ c t did m k =
+        let r = over-record in
+        let z : length c ≡ storeSize = m ∙ simp (length-take, length-drop) (omega arith) in
         subst⁻¹ (DidOver w l′ b′) (taken-by (ltb (length buf) leastBuffer) (decoded l) h refl (sym f ∙ g) .1)
         (record {
           word = k .0 ∙ ap (λ (x : Reply). wordOf (x .answer)) (did .reply);
@@ -96,8 +98,7 @@ module _ (step : Session → List ℕ → Step) (l buf : List ℕ) where
         → Did (replyOf t (take storeSize (drop headSize l))) b′ (step (sessionOf (h .phase) (h .count) (take storeSize (drop headSize l))) buf)
         → (w ≡ wordOf (t .answer)) × (l′ ≡ headed (t .phase) (t .count) l) → DidOver w l′ b′ (hosted step l buf)
     over-kept w l′ b′ t did k =
-        let r = over-record in
-        over-step w l′ b′ (take storeSize (drop headSize l)) t did (simp (length-take, length-drop) (omega arith))
+        over-step w l′ b′ (take storeSize (drop headSize l)) t did refl
         (k .0, k .1 ∙ ap (headed (t .phase) (t .count)) (sym (put-same headSize storeSize l)))
 
 -- ---- words

@@ -76,10 +76,6 @@ reply-as b e = ap (λ (x : Turn). replyOf x b) e
 pub did-quiet : {t u : Turn} (b : List ℕ) {buf : List ℕ} {s : Step} → t ≡ u → s ≡ quiet (replyOf u b) buf → Did (replyOf t b) buf s
 did-quiet b e f = did-as f (record { reply = reply-as b e; buffer = refl })
 
--- a session that keeps its ranges has a store of its size
-pub did-sized : {t : Turn} (b : List ℕ) {buf : List ℕ} {s : Step} → Did (replyOf t b) buf s → inRanges (s .reply .session) ≡ true → length b ≡ storeSize
-did-sized b d e = ap (λ (r : Reply). length (stored (r .session))) (d .reply) ∙ store-size _ e
-
 -- ---- the refusals that every call checks first
 
 module _ {A : Type 0} (s : Session) (size : ℕ) (refused : ℕ → A) (step : A) where

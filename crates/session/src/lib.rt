@@ -107,9 +107,7 @@ pub fn stop(session: Session, command: &mut [u8]) -> Reply
 
 // `start` on a session's parts, the store lent.
 pub fn start_in(phase: Phase, count: u8, store: &mut [u8], terminal: &[u8], command: &mut [u8]) -> Turn
-    requires { ⌜ length (now store) ≡ storeSize ⌝ }
-    ensures did { λ r. ⌜ Did (replyOf r (now (store .exit))) (now (command .exit)) (startStep (sessionOf phase count (now (store .entry))) (now (terminal .entry)) (now (command .entry))) ⌝ }
-    ensures sized { λ _. ⌜ length (now (store .exit)) ≡ storeSize ⌝ }
+    ensures { λ r. ⌜ Did (replyOf r (now (store .exit))) (now (command .exit)) (startStep (sessionOf phase count (now (store .entry))) (now (terminal .entry)) (now (command .entry))) ⌝ }
 {
     if command.len() < LEAST_BUFFER {
         return record::refused(phase, count, basics::REFUSED_BUFFER);
@@ -125,9 +123,7 @@ pub fn start_in(phase: Phase, count: u8, store: &mut [u8], terminal: &[u8], comm
 
 // `answer` on a session's parts, the store lent.
 pub fn answer_in(phase: Phase, count: u8, store: &mut [u8], card: &[u8], command: &mut [u8]) -> Turn
-    requires { ⌜ length (now store) ≡ storeSize ⌝ }
-    ensures did { λ r. ⌜ Did (replyOf r (now (store .exit))) (now (command .exit)) (answerStep (sessionOf phase count (now (store .entry))) (now (card .entry)) (now (command .entry))) ⌝ }
-    ensures sized { λ _. ⌜ length (now (store .exit)) ≡ storeSize ⌝ }
+    ensures { λ r. ⌜ Did (replyOf r (now (store .exit))) (now (command .exit)) (answerStep (sessionOf phase count (now (store .entry))) (now (card .entry)) (now (command .entry))) ⌝ }
 {
     if command.len() < LEAST_BUFFER {
         return record::refused(phase, count, basics::REFUSED_BUFFER);

@@ -1,8 +1,6 @@
 -- `host::emv_start` meets its contract: a call that is not taken by its law; else the step on the record's session, whose store is lent in its place.
 -- Assumes nothing.
 use borrow.Author.Needs.{needs}
-use native.Mathlib.Omega.{arith}
-use lib.ListN.{length-take, length-drop}
 use Rattle.session.specs.Start.{startStep}
 use Rattle.host.proofs.Laws.{over-refused, over-record, over-step}
 use Rattle.host.proofs.emv_start.Statement.{statement}
@@ -13,12 +11,6 @@ part-start-in-end c =
     let a = c .before .before .before .before .before .before .before .before .args in
     over-record (λ s b. startStep s (a .terminal .now) b) (a .session .now) (a .command .now) (c .before .admission2 .given .0 .0) (c .before .before .before .admit .ensures) (c .before .admission2 .given .1)
 
-start-in-requires : tie.Need-start-in-requires
-start-in-requires c κs =
-    let a = c .before .before .before .before .before .before .before .before .before .before .args in
-    let r = over-record (λ s b. startStep s (a .terminal .now) b) (a .session .now) (a .command .now) (c .before .before .before .admission2 .given .0 .0) (c .before .before .before .before .before .admit .ensures) (c .before .before .before .admission2 .given .1) in
-    simp (length-take, length-drop) (omega arith)
-
 returns : tie.Need-returns
 returns c = let a = c .before .before .before .before .before .before .before .before .args in over-refused (λ s b. startStep s (a .terminal .now) b) (a .session .now) (a .command .now) _ (c .before .before .before .admit .ensures) (c .before .admission .given .1)
 
@@ -26,7 +18,7 @@ returns-2 : tie.Need-returns-2
 returns-2 c =
     let a = c .before .before .before .before .before .before .before .before .before .before .before .before .before .before .before .before .before .before .before .args in
     over-step (λ s b. startStep s (a .terminal .now) b) (a .session .now) (a .command .now) (c .before .before .before .before .before .before .before .before .before .before .before .before .admission2 .given .0 .0) (c .before .before .before .before .before .before .before .before .before .before .before .before .before .before .admit .ensures) (c .before .before .before .before .before .before .before .before .before .before .before .before .admission2 .given .1) _ _ _
-    (c .before .before .before .before .before .before .before .before .start-in .last .1 .1 .0) (c .before .before .before .before .before .before .before .before .start-in .result) (c .before .before .before .before .before .before .before .before .start-in .ensures .0) (c .before .before .before .before .before .before .before .before .start-in .ensures .1) (c .before .before .finish .ensures)
+    (c .before .before .before .before .before .before .before .before .start-in .last .1 .1 .0) (c .before .before .before .before .before .before .before .before .start-in .result) (c .before .before .before .before .before .before .before .before .start-in .ensures) (c .before .before .before .before .before .before .before .session .given .0) (c .before .before .finish .ensures)
 
 pub emv-start-spec : {M : Type 1} → statement M
 emv-start-spec =
@@ -38,7 +30,7 @@ emv-start-spec =
     (λ c. search needs)
     (λ c. search needs)
     part-start-in-end
-    start-in-requires
+    (λ c κs. search needs)
     (λ c κs. search needs)
     (λ c. search needs)
     returns

@@ -7,7 +7,7 @@ use Rattle.session.proofs.answer.Tie as tie
 
 returns : tie.Need-returns
 returns c =
-    let d = c .before .before .before .before .answer-in .ensures .0 in
+    let d = c .before .before .before .before .answer-in .ensures in
     record { reply = c .reply-of .ensures ∙ d .reply; buffer = d .buffer }
 
 pub answer-spec : {M : Type 1} → statement M
