@@ -1,17 +1,10 @@
 -- Values handed over as a flag and bytes, their first bytes one by one. Assumes nothing.
 use mathlib.Core.Bool.{Bool, true, false}
 use mathlib.Core.List.{List, [], _∷_}
-use mathlib.Core.Logic.{inl, inr}
-use mathlib.Core.Path.{_≡_, refl, ap, ap₂}
-use Prim.Native.Nat.{ℕ, zero, suc, _+_, _<_}
-use native.Mathlib.Numerals.{add-one}
+use mathlib.Core.Path.{_≡_, refl, ap}
+use Prim.Native.Nat.{ℕ, zero, suc}
 use native.Mathlib.Omega.{arith}
-use lib.Dec.{eqb}
-use lib.ListN.{length, getD, drop}
-use lib.Seq.{drop-cons}
-use borrow.Author.Tests.{eq-eqb, eqb-true}
-use Rattle.basics.proofs.Laws.{bool-cases, both-yes, both-left, both-right}
-use Rattle.basics.specs.Choice.{both}
+use lib.ListN.{length, getD}
 use Rattle.store.specs.Place.{absent, present}
 use Rattle.analysis.specs.Value.{given, front}
 

@@ -14,7 +14,6 @@ use Rattle.record.specs.declared.Phase.{Phase}
 use Rattle.record.specs.Session.{sessionOf}
 use Rattle.layout.specs.Layout.{headSize, recordSize, headOf, encoded, written, headed}
 
-
 -- five bytes set one by one in front of a list that has them
 pub set-head : (l : List ℕ) (v n d r k : ℕ) → headSize ≤ length l → set (set (set (set (set l 0 v) 1 n) 2 d) 3 r) 4 k ≡ (v ∷ n ∷ d ∷ r ∷ k ∷ []) ++ drop headSize l
 set-head [] v n d r k h = absurd (omega arith)

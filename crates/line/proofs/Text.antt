@@ -1,21 +1,17 @@
 -- The front part of a text whose characters pass a test, and the text behind it.
 -- Assumes nothing.
-use mathlib.Core.Path.{_≡_, refl, ap, ap₂, _∙_}
+use mathlib.Core.Path.{_≡_, refl, ap, _∙_}
 use mathlib.Core.Bool.{Bool, true, false}
 use mathlib.Core.List.{List, [], _∷_}
-use mathlib.Core.Logic.{inl, inr}
 use Prim.Native.Nat.{ℕ, _+_, _-_, _≤_, _<_}
 use native.Mathlib.Nat.{le-refl}
 use native.Mathlib.Numerals.{add-one}
 use native.Mathlib.Omega.{arith}
-use lib.Dec.{eqb}
 use lib.ListN.{length, getD, take, drop, length-drop, drop-of-length-le}
 use lib.Seq.{drop-cons, take-all}
-use borrow.Author.Tests.{eqb-true}
-use Rattle.basics.specs.Choice.{if, both}
-use Rattle.basics.proofs.Laws.{if-yes, if-no, if-ind, bool-cases, both-left, both-right}
+use Rattle.basics.specs.Choice.{if}
+use Rattle.basics.proofs.Laws.{if-yes, if-no, if-ind}
 use Rattle.line.specs.Text.{front, past}
-use Rattle.basics.specs.Alike.{alike}
 
 -- the end of a text as a part of its slice
 pub tail-is : (s : List ℕ) (n : ℕ) → take (length s - n) (drop n s) ≡ drop n s

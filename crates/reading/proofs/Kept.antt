@@ -1,20 +1,18 @@
 -- What a reading leaves of a store: one induction over the objects that are put, and from it that rows only ever gain a value where they
 -- held none, that rows not named are untouched, and that the store keeps its size.
 -- Assumes nothing.
-use mathlib.Core.Path.{_≡_, refl, sym, ap, subst, _∙_}
-use mathlib.Core.Bool.{Bool, true, false, not}
+use mathlib.Core.Path.{_≡_, refl, sym, ap, _∙_}
+use mathlib.Core.Bool.{true, not}
 use mathlib.Core.Logic.{_⊎_, inl, inr}
 use mathlib.Core.List.{List, [], _∷_}
 use mathlib.Core.Option.{Option, some, none}
-use Prim.Native.Nat.{ℕ, _-_, _≤_, _<_}
+use Prim.Native.Nat.{ℕ, _-_, _<_}
 use native.Mathlib.Omega.{arith}
 use lib.ListN.{length, take}
 use borrow.Author.Tests.{eqb-true}
-use Rattle.basics.specs.Choice.{if, both}
 use Rattle.basics.specs.Number.{hasBit}
 use Rattle.basics.proofs.Laws.{if-ind, both-left, both-right}
 use Rattle.basics.proofs.Order.{equal-or-not}
-use Rattle.tlv.specs.Tag.{isPrivate}
 use Rattle.dictionary.specs.declared.Found.{Found}
 use Rattle.dictionary.specs.declared.Found.the-variants.{At, Unknown}
 use Rattle.dictionary.specs.Rows.{rows, rowAt, find, rowCount, storeSize}
@@ -25,8 +23,8 @@ use Rattle.store.specs.Place.{Value, bytesOf, valueAt, isFree, putAt}
 use Rattle.store.proofs.Laws.{Fits, put-length, put-other}
 use Rattle.store.proofs.Rows.{rows-length, fits-row}
 use Rattle.reading.specs.declared.Awaited.{Awaited}
-use Rattle.reading.specs.Taking.{Item, byCard, mayStand, mayCome, allowed, Work, work, takeKnown, takeFound, takeItem, takeNext, takeAll}
-use Rattle.reading.specs.Answer.{Outcome, outcome, Body, answerBit, bodyOf, bodyCount, partsOf, judged, takenParts, readTree, readBody, isRead, goodStatus, goodLength, readAnswer}
+use Rattle.reading.specs.Taking.{Item, byCard, mayCome, allowed, Work, work, takeKnown, takeFound, takeItem, takeNext, takeAll}
+use Rattle.reading.specs.Answer.{Outcome, Body, answerBit, bodyOf, bodyCount, partsOf, takenParts, readTree, readBody, readAnswer}
 
 -- an object that is put into row k of the store b, in an answer
 pub record Put (answer : ℕ) (b : List ℕ) (k : ℕ) (i : Item) : Type 0 where

@@ -2,9 +2,9 @@
 use mathlib.Core.Path.{_≡_, refl, sym, ap, ap₂, _∙_}
 use mathlib.Core.Bool.{Bool, true, false, not}
 use mathlib.Core.List.{List, [], _∷_, _++_}
-use Prim.Native.Nat.{ℕ, _+_, _≤_, _<_}
+use Prim.Native.Nat.{ℕ, _+_}
 use lib.ListN.{length}
-use Rattle.basics.specs.Choice.{if, both}
+use Rattle.basics.specs.Choice.{both}
 use Rattle.basics.proofs.Laws.{if-yes, if-no, both-true, both-right, both-no-left}
 use Rattle.tlv.specs.Tag.{isPrivate}
 use Rattle.dictionary.specs.declared.Found.{Found}
@@ -12,7 +12,7 @@ use Rattle.dictionary.specs.declared.Found.the-variants.{At, Unknown}
 use Rattle.dictionary.specs.Rows.{Row, rows, rowAt, find}
 use Rattle.dictionary.specs.Form.{fitting}
 use Rattle.store.specs.Place.{isFree, putIf}
-use Rattle.reading.specs.Taking.{Item, item, byCard, mayCome, allowed, Work, work, takeKnown, takeFound, takeItem, takeNext, takeAll}
+use Rattle.reading.specs.Taking.{Item, byCard, mayCome, allowed, Work, work, takeKnown, takeFound, takeItem, takeNext, takeAll}
 
 -- ---- one object
 

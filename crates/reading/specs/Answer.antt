@@ -2,19 +2,18 @@
 -- the encoding, the outer tag and body, the objects. The store is whole or as it was.
 -- Assumes nothing.
 use mathlib.Core.Path.{_≡_}
-use mathlib.Core.Bool.{Bool, true, false}
-use mathlib.Core.List.{List, [], _∷_, _++_}
+use mathlib.Core.Bool.{Bool, true}
+use mathlib.Core.List.{List, [], _∷_}
 use mathlib.Core.Option.{Option, some, none}
 use Prim.Native.Nat.{ℕ, _+_, _-_, _%_}
-use lib.Dec.{ltb, leb, eqb}
+use lib.Dec.{leb, eqb}
 use lib.ListN.{length, getD, take, drop}
-use Rattle.basics.specs.Choice.{if, both, either}
+use Rattle.basics.specs.Choice.{if, both}
 use Rattle.basics.specs.Reason.{reasonNone, reasonStatus, reasonMalformed, reasonNotAllowed}
-use Rattle.tlv.specs.declared.Header.{Header}
 use Rattle.tlv.specs.declared.Front.{Front}
 use Rattle.tlv.specs.declared.Front.the-variants.{Object, Broken}
 use Rattle.tlv.specs.Object.{headerOf, valueIn}
-use Rattle.tlv.specs.Tree.{Forest, end, leaf, node, count, parse}
+use Rattle.tlv.specs.Tree.{Forest, end, count, parse}
 use Rattle.dictionary.specs.Rows.{options, record′, cryptogram}
 use Rattle.reading.specs.declared.Awaited.{Awaited}
 use Rattle.reading.specs.declared.Awaited.the-variants.{Options, Record, Cryptogram}

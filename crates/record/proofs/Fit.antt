@@ -115,7 +115,7 @@ stands k at a h e r =
     let m : a .greatest ≡ rowAt k .greatest = ap (λ (x : Attributes). x .greatest) r in
     let i = row-inside k h in
     let n : offsetIn rows (k + 1) ≡ offsetIn rows k + room (rowAt k) =
-        ap (offsetIn rows) (add-one k) ∙ offset-next rows k (omega (arith, rows-length)) in
+    ap (offsetIn rows) (add-one k) ∙ offset-next rows k (omega (arith, rows-length)) in
     record { inside = omega arith; next = omega arith; whole = omega arith }
 
 -- the part of a store that is row k's place

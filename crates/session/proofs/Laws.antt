@@ -14,7 +14,7 @@ use lib.ListN.{length, take}
 use borrow.Author.Tests.{lt-ltb, le-ltb, eq-eqb, ne-eqb, not-true, not-false}
 use Rattle.basics.specs.Choice.{if, both}
 use Rattle.basics.proofs.Laws.{if-yes, if-no, if-ind}
-use Rattle.dictionary.specs.Rows.{rows, rowAt, storeSize}
+use Rattle.dictionary.specs.Rows.{rows, rowAt}
 use Rattle.dictionary.specs.Named.{placeFound, placeOf}
 use Rattle.dictionary.proofs.Named.{at-94, at-95}
 use Rattle.store.specs.Place.{bytesOf, valueAt, putAt}
@@ -49,7 +49,6 @@ use Rattle.record.specs.Held.{holds, byteIn}
 use Rattle.record.specs.Ranges.{emvMode, locatorIn, completed, inRanges}
 use Rattle.record.specs.Clauses.{noResults}
 use Rattle.record.proofs.Tags.{bytes-are}
-use Rattle.record.proofs.Phases.{store-size}
 use Rattle.record.proofs.Phase.{the-type as phase-type}
 use Rattle.terminal.specs.declared.Said.{Said}
 use Rattle.terminal.specs.Terminal.{Loaded, Loads}

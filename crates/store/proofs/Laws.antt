@@ -1,7 +1,7 @@
 -- What a put leaves, for every table and every store that is large enough for it: its own row holds the value, every other place
 -- is untouched, puts of two rows commute. A put is a run of stores at a place, and the places lie apart.
 -- Assumes nothing.
-use mathlib.Core.Path.{_≡_, refl, sym, ap, ap₂, subst, _∙_}
+use mathlib.Core.Path.{_≡_, refl, sym, ap, ap₂, _∙_}
 use mathlib.Core.Bool.{Bool, true, false, not}
 use mathlib.Core.Logic.{_⊎_, inl, inr}
 use mathlib.Core.List.{List, [], _∷_, _++_, append-assoc, append-nil}
@@ -10,13 +10,13 @@ use native.Mathlib.Nat.{add-zero}
 use native.Mathlib.Numerals.{add-one}
 use native.Mathlib.Omega.{arith}
 use lib.Dec.{eqb}
-use lib.ListN.{length, getD, take, drop, set, replicate, length-append, length-take, length-drop, length-set, drop-of-length-le, List·getD-eq-default}
-use lib.Seq.{drop-cons, take-at, drop-at, take-all, take-take, drop-drop, take-append-le, drop-append-le, drop-append-add, length-take-le, getD-take, getD-drop, sets, sets-eq, length-sets, set-comm, drop-set-add, drop-set-lt, take-set-le, take-suc-set, take-length, append-snoc, paste}
-use borrow.Author.Tests.{eq-eqb, ne-eqb, eqb-true}
+use lib.ListN.{length, getD, take, drop, set, replicate, length-take, drop-of-length-le, List·getD-eq-default}
+use lib.Seq.{drop-cons, take-at, drop-at, take-all, take-take, length-take-le, getD-take, getD-drop, sets, sets-eq, length-sets, set-comm, drop-set-add, drop-set-lt, take-set-le, take-suc-set, take-length, append-snoc, paste}
+use borrow.Author.Tests.{eq-eqb, ne-eqb}
 use Rattle.basics.specs.Choice.{if}
-use Rattle.basics.proofs.Laws.{if-yes, if-no, if-ind}
+use Rattle.basics.proofs.Laws.{if-yes, if-no}
 use Rattle.basics.proofs.Order.{le-or-gt, sides}
-use Rattle.dictionary.specs.Rows.{Row, blank, rowIn, find}
+use Rattle.dictionary.specs.Rows.{Row, rowIn, find}
 use Rattle.dictionary.specs.declared.Found.the-variants.{At, Unknown}
 use Rattle.store.specs.Place.{Value, absent, present, bytesOf, isThere, room, offsetIn, sizeOf, placeAt, held, valueAt, lengthByte, storedLength, writtenAt, putAt, putAll, emptyOf, valueFound, valueIn}
 use Rattle.store.proofs.Places.{inside, ends, apart}

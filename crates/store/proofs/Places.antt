@@ -1,7 +1,7 @@
 -- Where places lie, for every table: each inside the store, each behind the ones before it. By induction over the rows.
 -- Assumes nothing.
-use mathlib.Core.Path.{_≡_, refl, sym, ap, _∙_}
-use mathlib.Core.Bool.{Bool, true}
+use mathlib.Core.Path.{_≡_, refl, ap}
+use mathlib.Core.Bool.{true}
 use mathlib.Core.List.{List, [], _∷_}
 use Prim.Native.Nat.{ℕ, zero, suc, _+_, _*_, _≤_, _<_}
 use native.Mathlib.Omega.{arith}
@@ -9,7 +9,7 @@ use lib.Dec.{leb}
 use lib.ListN.{length, getD}
 use borrow.Author.Tests.{leb-true}
 use Rattle.basics.proofs.Table.{at}
-use Rattle.dictionary.specs.Rows.{Row, rows, blank, rowIn, rowAt}
+use Rattle.dictionary.specs.Rows.{Row, rows, blank, rowIn}
 use Rattle.store.specs.Place.{room, offsetIn, sizeOf, storable}
 
 -- a row's place lies inside the store

@@ -11,7 +11,7 @@ use borrow.Author.Tests.{eq-eqb, ne-eqb, leb-true}
 use Rattle.basics.specs.Choice.{both, every}
 use Rattle.basics.proofs.Table.{at}
 use Rattle.dictionary.specs.Rows.{rows, blank, rowAt}
-use Rattle.store.specs.Place.{room, offsetIn, sizeOf, storable, bytesOf, valueAt, storedLength, isFree}
+use Rattle.store.specs.Place.{offsetIn, sizeOf, storable, bytesOf, valueAt, storedLength, isFree}
 use Rattle.store.proofs.Places.{inside, ends, short, spans, span-at}
 use Rattle.store.proofs.Laws.{Fits, value-bytes, length-byte-at}
 

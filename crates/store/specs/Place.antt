@@ -6,7 +6,7 @@ use mathlib.Core.List.{List, [], _∷_, _++_}
 use Prim.Native.Nat.{ℕ, zero, suc, _+_, _-_, min}
 use lib.Dec.{leb, eqb}
 use lib.ListN.{length, getD, take, drop, replicate}
-use Rattle.basics.specs.Choice.{if, both, every}
+use Rattle.basics.specs.Choice.{if, every}
 use Rattle.dictionary.specs.Rows.{Row, rows, rowIn, rowAt, find}
 use Rattle.store.specs.declared.Span.{Span}
 use Rattle.dictionary.specs.declared.Found.{Found}

@@ -62,8 +62,8 @@ stays answer w is v l n e =
     all-holds (λ b. held b ≡ v) any answer
     (λ b k i m q p h. ap bytesOf (put-other rows b k (i .value) (fits-row b k (i .value) m (p .row) (fits-length (rowAt k) (i .value) (p .fits) .1)) 4
     (λ z. let f = eqb-true _ 0 (p .free) in
-          let g : length (held b) ≡ 0 = ap (λ (j : ℕ). length (bytesOf (valueAt rows b j))) z ∙ f in
-          omega (arith, ap length h))) ∙ h) w is (all-any is) (l, e) .1
+    let g : length (held b) ≡ 0 = ap (λ (j : ℕ). length (bytesOf (valueAt rows b j))) z ∙ f in
+    omega (arith, ap length h))) ∙ h) w is (all-any is) (l, e) .1
 
 -- what stands in a template that its row names
 stands : (around : ℕ) → mayStand (rowAt 4) around ≡ true → around ≡ 0x77
@@ -122,7 +122,7 @@ module _ (answer : ℕ) (b : List ℕ) (i : Item) (is : List Item) (l : length b
           let y : rowAt 4 .least ≤ length (i .value) = subst (λ (j : ℕ). rowAt j .least ≤ length (i .value)) q (fits-length (rowAt k) (i .value) (both-right _ _ here-fits) .0) in
           let n : 0 < length (i .value) = omega (arith, row-94 .2) in
           let here : held (putAt rows b k (i .value)) ≡ i .value =
-            subst (λ (j : ℕ). bytesOf (valueAt rows (putAt rows b k (i .value)) j) ≡ i .value) q (ap bytesOf (put-get rows b k (i .value) fit)) in
+          subst (λ (j : ℕ). bytesOf (valueAt rows (putAt rows b k (i .value)) j) ≡ i .value) q (ap bytesOf (put-get rows b k (i .value) fit)) in
           if-yes _ _ (both-yes _ _ (eq-eqb (i .tag) 0x94 t) (both-yes _ _ (eq-eqb (i .around) 0x77 (stands (i .around) s)) (lt-ltb 0 (length (i .value)) n)))
           ∙ ap some (sym (stays answer (work true (putAt rows b k (i .value))) is (i .value) size n here))
 

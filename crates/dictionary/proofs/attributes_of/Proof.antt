@@ -1,7 +1,7 @@
 -- `dictionary::attributes_of` meets its contract: the row's number taken apart, and past the last row the number 0.
 -- Assumes nothing.
 use borrow.Author.Needs.{needs}
-use mathlib.Core.Path.{_≡_, ap, _∙_}
+use mathlib.Core.Path.{ap, _∙_}
 use native.Mathlib.Omega.{arith}
 use Rattle.dictionary.specs.Rows.{rows}
 use Rattle.dictionary.specs.Packing.{attributesOf, codeOf, attributesIn}

@@ -1,5 +1,4 @@
 -- `dictionary::codes` meets its contract: the array is the rows' numbers. Assumes nothing.
-use borrow.Author.Needs.{needs}
 use mathlib.Core.Path.{refl}
 use Rattle.dictionary.specs.Rows.{rows}
 use Rattle.dictionary.proofs.codes.Statement.{statement}

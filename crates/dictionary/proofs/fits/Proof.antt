@@ -1,8 +1,7 @@
 -- `dictionary::fits` meets its contract. Least length, greatest length, and then the form, each the row's.
 -- Assumes nothing.
 use borrow.Author.Needs.{needs}
-use mathlib.Core.Path.{_≡_, sym, ap, _∙_}
-use Prim.Native.Nat.{ℕ, _≤_, _<_}
+use mathlib.Core.Path.{sym, ap, _∙_}
 use native.Mathlib.Omega.{arith}
 use lib.ListN.{length}
 use Rattle.dictionary.specs.declared.Attributes.{Attributes}

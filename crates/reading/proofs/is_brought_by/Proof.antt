@@ -1,7 +1,7 @@
 -- `reading::is_brought_by` meets its contract. Each test is that of the answer's weight.
 -- Assumes nothing.
 use borrow.Author.Needs.{needs}
-use mathlib.Core.Path.{_≡_, sym, ap}
+use mathlib.Core.Path.{sym, ap}
 use Prim.Native.Nat.{ℕ}
 use Rattle.basics.specs.Number.{hasBit}
 use Rattle.reading.proofs.is_brought_by.Statement.{statement}

@@ -1,7 +1,7 @@
 -- `reading::may_come` meets its contract. One test after the other, in the definition's order.
 -- Assumes nothing.
 use borrow.Author.Needs.{needs}
-use mathlib.Core.Path.{_≡_, sym, ap, _∙_}
+use mathlib.Core.Path.{sym, ap, _∙_}
 use borrow.Author.Tests.{eq-eqb, ne-eqb, not-true, not-false}
 use Rattle.basics.specs.Number.{hasBit}
 use Rattle.basics.proofs.Laws.{both-true, both-no-left}

@@ -1,7 +1,7 @@
 -- `reading::take_object` meets its contract. One law for each way the object goes.
 -- Assumes nothing.
 use borrow.Author.Needs.{needs}
-use mathlib.Core.Path.{_≡_, sym, ap, _∙_}
+use mathlib.Core.Path.{sym, ap, _∙_}
 use native.Mathlib.Omega.{arith}
 use borrow.Author.Tests.{not-true, not-false}
 use Rattle.dictionary.specs.Rows.{rows, rowAt}

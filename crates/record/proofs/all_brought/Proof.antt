@@ -35,7 +35,7 @@ unfolding brought offsetIn rows
 loop-holds c = (refl, refl)
 
 abbrev Claims : lts.Claims
-Claims = ( codes.Asked, codes.Learnt, unpacked.Asked, unpacked.Learnt, is-brought.Asked, is-brought.Learnt )
+Claims = (codes.Asked, codes.Learnt, unpacked.Asked, unpacked.Learnt, is-brought.Asked, is-brought.Learnt)
 
 -- what the row at hand says, and where its place stands
 read : (c : lts.After-unpacked Claims reads.Pre reads.Post Inv-loop μ-loop) → c .unpacked .result ≡ attributesOf (rowAt (c .before .before .loop .row))
@@ -62,9 +62,10 @@ returns c =
 
 loop-again : tie.Need-loop-again Inv-loop μ-loop
 loop-again c =
-    let lp = c .before .before .before .before .before .loop in
-    ( stood (c .before .before .before) .next
-    , lp .inv .1 ∙ every-yes (isBrought _) rows blank (lp .row) (omega (arith, rows-length)) (told (c .before .before) ∙ not-false _ (c .before .if1 .left)))
+    let lp = c .before .before .before .before .before .loop in (
+      stood (c .before .before .before) .next,
+      lp .inv .1 ∙ every-yes (isBrought _) rows blank (lp .row) (omega (arith, rows-length)) (told (c .before .before) ∙ not-false _ (c .before .if1 .left)),
+    )
 
 returns-2 : tie.Need-returns-2 Inv-loop μ-loop
 returns-2 c =

@@ -34,7 +34,7 @@ unfolding offsetIn rows
 loop-holds c = let a = c .before .before .args in (refl, all-keeps (a .asked) (a .bytes .now))
 
 abbrev Claims : lts.Claims
-Claims = ( codes.Asked, codes.Learnt, unpacked.Asked, unpacked.Learnt, place-keeps.Asked, place-keeps.Learnt )
+Claims = (codes.Asked, codes.Learnt, unpacked.Asked, unpacked.Learnt, place-keeps.Asked, place-keeps.Learnt)
 
 -- what the row at hand says, and where its place stands
 read : (c : lts.After-unpacked Claims reads.Pre reads.Post Inv-loop μ-loop) → c .unpacked .result ≡ attributesOf (rowAt (c .before .before .loop .row))
@@ -68,9 +68,10 @@ returns c =
 loop-again : tie.Need-loop-again Inv-loop μ-loop
 loop-again c =
     let l = c .before .before .before .before .before .before in
-    let lp = l .loop in
-    ( stood (c .before .before .before .before) .next
-    , lp .inv .1 ∙ every-yes (objectKeeps (l .before .before .before .args .asked) _) rows blank (lp .row) (omega (arith, rows-length)) (told (c .before) ∙ not-false _ (c .if1 .left)))
+    let lp = l .loop in (
+      stood (c .before .before .before .before) .next,
+      lp .inv .1 ∙ every-yes (objectKeeps (l .before .before .before .args .asked) _) rows blank (lp .row) (omega (arith, rows-length)) (told (c .before) ∙ not-false _ (c .if1 .left)),
+    )
 
 returns-2 : tie.Need-returns-2 Inv-loop μ-loop
 returns-2 c =

@@ -2,16 +2,14 @@
 -- Assumes nothing.
 use borrow.Author.Needs.{needs}
 use borrow.Author.Tests.{eq-eqb, ne-eqb}
-use mathlib.Core.Path.{_≡_, sym, ap, ap₂, _∙_}
+use mathlib.Core.Path.{sym, ap, ap₂, _∙_}
 use mathlib.Core.Bool.{not}
 use Prim.Native.Nat.{ℕ, _-_}
 use native.Mathlib.Omega.{arith}
 use lib.Dec.{eqb}
 use lib.ListN.{getD, take, drop}
-use Rattle.basics.specs.Choice.{either}
 use Rattle.basics.proofs.Laws.{both-yes, both-true, both-no-left, either-left, either-right, either-false}
 use Rattle.dictionary.specs.declared.Attributes.{Attributes}
-use Rattle.dictionary.specs.Rows.{optional}
 use Rattle.dictionary.specs.Form.{digitsFit}
 use Rattle.record.proofs.Tests.{both-right-true, either-right-false}
 use Rattle.record.proofs.Fit.{place-absent, place-long, place-short, place-digits}

@@ -1,7 +1,7 @@
 -- `store::put` meets its contract. What is written lies in the row's place.
 -- Assumes nothing.
 use borrow.Author.Needs.{needs}
-use mathlib.Core.Path.{_≡_, ap, _∙_}
+use mathlib.Core.Path.{ap, _∙_}
 use native.Mathlib.Omega.{arith}
 use lib.ListN.{length}
 use Rattle.dictionary.specs.Rows.{rows}
