@@ -42,13 +42,6 @@ pub fn wide32(x: u8) -> u32
     x as u32
 }
 
-// A 16-bit number as a size.
-pub fn wide16(x: u16) -> usize
-    ensures { λ r. ⌜ r ≡ x ⌝ }
-{
-    x as usize
-}
-
 // The byte at place i, counted from 0; past the end it reads as 0.
 pub fn byte_at(v: &[u8], i: usize) -> u8
     ensures { λ r. ⌜ r ≡ getD (now (v .entry)) i 0 ⌝ }
