@@ -1,19 +1,12 @@
--- Values handed over as a flag and bytes, their first bytes one by one, and when they are the same. Assumes nothing.
+-- Values handed over as a flag and bytes, their first bytes one by one. Assumes nothing.
 use mathlib.Core.Bool.{Bool, true, false}
 use mathlib.Core.List.{List, [], _∷_}
-use mathlib.Core.Logic.{inl, inr}
-use mathlib.Core.Path.{_≡_, refl, ap, ap₂}
-use Prim.Native.Nat.{ℕ, zero, suc, _+_, _<_}
-use native.Mathlib.Numerals.{add-one}
+use mathlib.Core.Path.{_≡_, refl, ap}
+use Prim.Native.Nat.{ℕ, zero, suc}
 use native.Mathlib.Omega.{arith}
-use lib.Dec.{eqb}
-use lib.ListN.{length, getD, drop}
-use lib.Seq.{drop-cons}
-use borrow.Author.Tests.{eq-eqb, eqb-true}
-use Rattle.basics.proofs.Laws.{bool-cases, both-yes, both-left, both-right}
-use Rattle.basics.specs.Choice.{both}
+use lib.ListN.{length, getD}
 use Rattle.store.specs.Place.{absent, present}
-use Rattle.analysis.specs.Value.{given, alike, front}
+use Rattle.analysis.specs.Value.{given, front}
 
 pub given-there : (t : Bool) (s : List ℕ) → t ≡ true → given t s ≡ present s
 given-there t s e = ap (λ (b : Bool). given b s) e
@@ -49,27 +42,3 @@ pub front-six : (s : List ℕ) → front 6 s ≡ getD s 0 0 ∷ getD s 1 0 ∷ g
 unfolding front
 front-six [] = refl
 front-six (a ∷ s) = ap (λ (t : List ℕ). a ∷ t) (front-five s)
-
--- ---- the same bytes
-
-pub alike-refl : (s : List ℕ) → alike s s ≡ true
-unfolding alike
-alike-refl [] = refl
-alike-refl (x ∷ s) = both-yes _ _ (eq-eqb x x refl) (alike-refl s)
-
-pub alike-eq : (s t : List ℕ) → alike s t ≡ true → s ≡ t
-unfolding alike
-alike-eq [] [] e = refl
-alike-eq [] (y ∷ t) e = cc
-alike-eq (x ∷ s) [] e = cc
-alike-eq (x ∷ s) (y ∷ t) e =
-    ap₂ (λ (a : ℕ) (u : List ℕ). a ∷ u) (eqb-true x y (both-left _ _ e)) (alike-eq s t (both-right _ _ e))
-
-pub unlike-length : (s t : List ℕ) → (length s ≡ length t → ⊥) → alike s t ≡ false
-unlike-length s t h =
-    elim (bool-cases (alike s t)) [ inl e ↦ absurd (h (ap length (alike-eq s t e))) | inr e ↦ e ]
-
--- from place i on: the bytes there, and from the next place on
-pub alike-at : (s t : List ℕ) (i : ℕ) → i < length s → i < length t → alike (drop i s) (drop i t) ≡ both (eqb (getD s i 0) (getD t i 0)) (alike (drop (i + 1) s) (drop (i + 1) t))
-unfolding alike
-alike-at s t i h k = rw (add-one, drop-cons s i 0, drop-cons t i 0)

@@ -9,7 +9,7 @@ use Rattle.basics.specs.Choice.{if, both, either}
 use Rattle.analysis.specs.Bits.{has, worth}
 use Rattle.analysis.specs.Digits.{oneOf, laterThan, amountOf}
 use Rattle.store.specs.Place.{Value, absent, present}
-use Rattle.analysis.specs.Value.{alike}
+use Rattle.basics.specs.Alike.{alike}
 use Rattle.analysis.specs.declared.restrictions.Country.{Country}
 use Rattle.analysis.specs.declared.restrictions.Country.the-variants.{Home, Abroad, Untold}
 

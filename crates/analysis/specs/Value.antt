@@ -1,23 +1,14 @@
--- Values as the rules take them: one that may be absent handed over as a flag and bytes, two compared, the first bytes of one.
+-- Values as the rules take them: one that may be absent handed over as a flag and bytes, the first bytes of one.
 -- Assumes nothing.
 use mathlib.Core.Bool.{Bool, true, false}
 use mathlib.Core.List.{List, [], _∷_}
 use Prim.Native.Nat.{ℕ, zero, suc}
-use lib.Dec.{eqb}
-use Rattle.basics.specs.Choice.{both}
 use Rattle.store.specs.Place.{Value, absent, present}
 
 -- a value as a flag and bytes, which count only where the flag is set
 abbrev pub given : Bool → List ℕ → Value
 given true s = present s
 given false s = absent
-
--- two values are the same bytes
-unfoldable pub alike : List ℕ → List ℕ → Bool
-alike [] [] = true
-alike [] (y ∷ t) = false
-alike (x ∷ s) [] = false
-alike (x ∷ s) (y ∷ t) = both (eqb x y) (alike s t)
 
 -- the first n bytes, with zeros past the end
 unfoldable pub front : ℕ → List ℕ → List ℕ

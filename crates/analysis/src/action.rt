@@ -144,5 +144,5 @@ fn codes_in(bytes: &[u8], stage: usize, card: usize, terminal: usize) -> Pair
 fn byte_in(bytes: &[u8], row: usize) -> u8
     ensures { λ r. ⌜ r ≡ getD (bytesOf (valueAt rows (now (bytes .entry)) row)) 0 0 ⌝ }
 {
-    byte::at(store::value(bytes, row), 0)
+    basics::byte_at(store::value(bytes, row), 0)
 }

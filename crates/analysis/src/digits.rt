@@ -39,9 +39,9 @@ fn six_digits(s: &[u8], i: usize) -> u64
     requires { ⌜ i ≤ 3 ⌝ }
     ensures { λ r. ⌜ (r ≡ decimal (getD (now (s .entry)) i 0 ∷ getD (now (s .entry)) (i + 1) 0 ∷ getD (now (s .entry)) (i + 2) 0 ∷ [])) × (r ≤ 1666665) ⌝ }
 {
-    two_digits(byte::at(s, i)) * 10000
-        + two_digits(byte::at(s, i + 1)) * 100
-        + two_digits(byte::at(s, i + 2))
+    two_digits(basics::byte_at(s, i)) * 10000
+        + two_digits(basics::byte_at(s, i + 1)) * 100
+        + two_digits(basics::byte_at(s, i + 2))
 }
 
 // The two digits of a byte.

@@ -30,7 +30,7 @@ pub fn other_version(there: bool, card: &[u8], reader: &[u8]) -> bool
     ensures { λ r. ⌜ r ≡ otherVersion (given there (now (card .entry))) (now (reader .entry)) ⌝ }
 {
     if there {
-        return !byte::same(card, reader);
+        return !basics::same(card, reader);
     }
     false
 }
@@ -91,7 +91,7 @@ pub fn country_of(there: bool, issuer: &[u8], terminal: &[u8]) -> Country
     if !there {
         return Country::Untold;
     }
-    if byte::same(issuer, terminal) {
+    if basics::same(issuer, terminal) {
         return Country::Home;
     }
     Country::Abroad

@@ -1,3 +1,4 @@
 pub mod Laws
 pub mod Order
 pub mod Table
+pub mod Alike

@@ -1,2 +1,4 @@
 pub mod Choice
 pub mod Number
+pub mod Alike
+pub mod Reason

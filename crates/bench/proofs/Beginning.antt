@@ -18,7 +18,7 @@ use Rattle.dictionary.specs.TerminalType.{listed}
 use Rattle.store.specs.Place.{offsetIn, placeAt, held, valueAt, putAt, valueIn, lengthByte}
 use Rattle.locator.specs.Entry.{keeps}
 use Rattle.locator.specs.Records.{entries as entriesOf, whole, run as runOf, recordsOf, sumOf, accepts, nth, kth, recordAt}
-use Rattle.reading.specs.Taking.{mayStand, allowed, takeItem, takeNext, takeAll}
+use Rattle.reading.specs.Taking.{mayStand, mayCome, allowed, takeItem, takeNext, takeAll}
 use Rattle.reading.specs.Answer.{bodyOf, optionsParts, primitiveParts, readBody, isRead, goodStatus, goodLength, readAnswer}
 use Rattle.data_list.specs.Entries.{along, entriesBy, entries}
 use Rattle.data_list.specs.Filling.{fillingOf, filledBy}
@@ -64,7 +64,7 @@ unfolding askOptions processingOptions optionsOf filledBy fillingOf entries entr
 asks buf = refl
 
 reads : (buf : List ℕ) → HandsOut (0x00 ∷ 0xB2 ∷ 0x01 ∷ 0x0C ∷ 0x00 ∷ []) buf (optionsStep waiting optionsAnswer buf)
-unfolding optionsStep accepted optionsRead recordAt kth nth accepts whole entriesOf keeps sumOf recordsOf runOf readAnswer goodLength goodStatus isRead readBody bodyOf primitiveParts optionsParts takeAll takeNext takeItem allowed mayStand withResults placeOf load run runBy withObject primitiveOf headerOf tagAt tagSize secondByte thirdByte lengthAt firstByte isTemplate isPrivate numberFrom if both either every rows past find settable setObject setAll fitting digitsFit numeric nibbles typeListed listed offsetIn placeAt held valueAt putAt valueIn brought isBrought
+unfolding optionsStep accepted optionsRead recordAt kth nth accepts whole entriesOf keeps sumOf recordsOf runOf readAnswer goodLength goodStatus isRead readBody bodyOf primitiveParts optionsParts takeAll takeNext takeItem allowed mayCome mayStand withResults placeOf load run runBy withObject primitiveOf headerOf tagAt tagSize secondByte thirdByte lengthAt firstByte isTemplate isPrivate numberFrom if both either every rows past find settable setObject setAll fitting digitsFit numeric nibbles typeListed listed offsetIn placeAt held valueAt putAt valueIn brought isBrought
 reads buf = record { answer = refl; bytes = refl }
 
 -- a step by an equation

@@ -10,7 +10,7 @@ use Rattle.tlv.specs.Tree.{count, nextOf, withLeaf, withNode, parseBy, parse}
 use Rattle.dictionary.specs.Rows.{rows, past, find}
 use Rattle.dictionary.specs.Form.{digitsFit, fitting}
 use Rattle.store.specs.Place.{offsetIn, placeAt, held, valueAt, putAt, valueIn}
-use Rattle.reading.specs.Taking.{items, mayStand, allowed, takeItem, takeNext, takeAll}
+use Rattle.reading.specs.Taking.{items, mayStand, mayCome, allowed, takeItem, takeNext, takeAll}
 use Rattle.reading.specs.Answer.{outcome, bodyOf, templateParts, readBody}
 use Rattle.bench.specs.BenchTable.{nothing, recordBody, Stored}
 
@@ -31,9 +31,9 @@ unfolding readBody bodyOf headerOf tagAt tagSize secondByte thirdByte lengthAt f
 private = refl
 
 pub results-sent : recordBody (0x70 ∷ 0x03 ∷ 0x95 ∷ 0x01 ∷ 0x00 ∷ []) ≡ outcome 3 2 nothing
-unfolding readBody bodyOf headerOf tagAt tagSize lengthAt firstByte isTemplate isPrivate numberFrom if both parse parseBy nextOf withLeaf count templateParts items takeAll takeNext takeItem rows past find allowed
+unfolding readBody bodyOf headerOf tagAt tagSize lengthAt firstByte isTemplate isPrivate numberFrom if both parse parseBy nextOf withLeaf count templateParts items takeAll takeNext takeItem rows past find allowed mayCome
 results-sent = refl
 
 pub version : Stored (recordBody (0x70 ∷ 0x05 ∷ 0x9F ∷ 0x08 ∷ 0x02 ∷ 0x00 ∷ 0x02 ∷ []))
-unfolding readBody bodyOf headerOf tagAt tagSize secondByte lengthAt firstByte isTemplate isPrivate numberFrom if both parse parseBy nextOf withLeaf count templateParts items takeAll takeNext takeItem rows past find allowed mayStand fitting digitsFit offsetIn placeAt held valueAt putAt valueIn
+unfolding readBody bodyOf headerOf tagAt tagSize secondByte lengthAt firstByte isTemplate isPrivate numberFrom if both parse parseBy nextOf withLeaf count templateParts items takeAll takeNext takeItem rows past find allowed mayCome mayStand fitting digitsFit offsetIn placeAt held valueAt putAt valueIn
 version = record { reason = refl; objects = refl; version = refl }

@@ -23,7 +23,7 @@ use Rattle.data_list.specs.declared.Written.{Written}
 use Rattle.data_list.specs.declared.Measured.the-variants.{Total, Unfit}
 use Rattle.data_list.specs.Entries.{total, measured, Room}
 use Rattle.data_list.specs.Filling.{fillingOf, filledBy, filled}
-use Rattle.data_list.specs.Commands.{command, optionsHead, optionsData, optionsOf, processingOptions, cryptogramOf, generateAc, handed, written, bufferWith}
+use Rattle.data_list.specs.Commands.{command, optionsHead, optionsData, optionsOf, processingOptions, cryptogramOf, generateAc, handed, written, writtenNumber, listReason, bufferWith}
 use Rattle.data_list.specs.Buffer.{over}
 use Rattle.data_list.proofs.Buffer.{over-there, over-cover}
 use Rattle.data_list.proofs.Entries.{whole}
@@ -158,10 +158,20 @@ module _ (ins p1 : ℕ) (b w : List ℕ) (end : ℕ) (h : 5 + length w < length 
       let d : take (end - 5) (drop 5 y) ≡ w = rw (l, p) (over-there b 5 w f) in
       q ∙ rw (d, p) (over-cover b 5 w f (command ins p1 w) k ∙ ap (λ (n : ℕ). command ins p1 w ++ drop n b) m)
 
--- what a call states of its result and of the whole buffer, where there is no command, and where there is one
-pub none-written : (x : Option (List ℕ)) (b : List ℕ) → x ≡ none → (written none ≡ written x) × (b ≡ bufferWith x b)
-none-written x b e = (ap written (sym e), ap (λ (y : Option (List ℕ)). bufferWith y b) (sym e))
+-- the number of what is handed back is the reason that the list gives
+pub written-number : (x : Option (List ℕ)) → writtenNumber (written x) ≡ listReason x
+written-number none = refl
+written-number (some c) = refl
+
+-- what a call states of its result, of the whole buffer and of the reason, where there is no command, and where there is one
+pub none-written : (x : Option (List ℕ)) (b : List ℕ) → x ≡ none
+    → (written none ≡ written x) × ((b ≡ bufferWith x b) × (writtenNumber (written none) ≡ listReason x))
+none-written x b e =
+    let s = ap written (sym e) in
+    (s, (ap (λ (y : Option (List ℕ)). bufferWith y b) (sym e), ap writtenNumber s ∙ written-number x))
 
 pub some-written : (x : Option (List ℕ)) (c b z : List ℕ) (r : Written) → x ≡ some c → r ≡ written (some c) → z ≡ bufferWith (some c) b
-    → (r ≡ written x) × (z ≡ bufferWith x b)
-some-written x c b z r e p q = (p ∙ ap written (sym e), q ∙ ap (λ (y : Option (List ℕ)). bufferWith y b) (sym e))
+    → (r ≡ written x) × ((z ≡ bufferWith x b) × (writtenNumber r ≡ listReason x))
+some-written x c b z r e p q =
+    let s = p ∙ ap written (sym e) in
+    (s, (q ∙ ap (λ (y : Option (List ℕ)). bufferWith y b) (sym e), ap writtenNumber s ∙ written-number x))

@@ -6,6 +6,7 @@ use Prim.Native.Nat.{ℕ}
 use lib.Dec.{leb}
 use lib.ListN.{length, drop}
 use Rattle.basics.specs.Choice.{if, both}
+use Rattle.basics.specs.Reason.{reasonNone, reasonDataList}
 use Rattle.tlv.specs.Encoding.{lengthBytes}
 use Rattle.dictionary.specs.Rows.{rows}
 use Rattle.store.specs.Place.{bytesOf, valueOf}
@@ -57,6 +58,16 @@ handed n = Command (record { len = n })
 abbrev pub written : Option (List ℕ) → Written
 written none = NoCommand
 written (some c) = handed (length c)
+
+-- the number of what is handed back (document 01, "Calls and their numbers"): 0 with a command, else 7, a list that is broken or fills to no command
+abbrev pub writtenNumber : Written → ℕ
+writtenNumber (Command c) = reasonNone
+writtenNumber NoCommand = reasonDataList
+
+-- the reason that a list gives: none where it makes a command
+abbrev pub listReason : Option (List ℕ) → ℕ
+listReason none = reasonDataList
+listReason (some c) = reasonNone
 
 -- a command fills the front of the buffer; bytes behind it, and the whole buffer where there is no command, stay
 abbrev pub bufferWith : Option (List ℕ) → List ℕ → List ℕ

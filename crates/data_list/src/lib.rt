@@ -11,7 +11,7 @@ ghost use lib.ListN.{length, take, drop, replicate};
 ghost use Rattle.dictionary.specs.Rows.{rows};
 ghost use Rattle.data_list.specs.Entries.{entryAt, entries, measured, Room};
 ghost use Rattle.data_list.specs.Filling.{cut, padding, padded, fitted, entryBytes, filled};
-ghost use Rattle.data_list.specs.Commands.{command, optionsHead, processingOptions, generateAc, handed, written, bufferWith};
+ghost use Rattle.data_list.specs.Commands.{command, optionsHead, processingOptions, generateAc, handed, written, writtenNumber, listReason, bufferWith};
 ghost use Rattle.data_list.specs.Buffer.{over, overFilled};
 
 // A command at the front of the buffer: how many bytes it has.
@@ -48,6 +48,7 @@ pub fn processing_options(store: &[u8], buffer: &mut [u8]) -> Written
     requires { ⌜ 261 ≤ length (now buffer) ⌝ }
     ensures said { λ r. ⌜ r ≡ written (processingOptions (now (store .entry))) ⌝ }
     ensures kept { λ _. ⌜ now (buffer .exit) ≡ bufferWith (processingOptions (now (store .entry))) (now (buffer .entry)) ⌝ }
+    ensures reason { λ r. ⌜ writtenNumber r ≡ listReason (processingOptions (now (store .entry))) ⌝ }
 {
     let list = store::value(store, dictionary::ROW_9F38);
     let measured = measure(list);
@@ -67,6 +68,7 @@ pub fn generate_ac(store: &[u8], p1: u8, buffer: &mut [u8]) -> Written
     requires { ⌜ 261 ≤ length (now buffer) ⌝ }
     ensures said { λ r. ⌜ r ≡ written (generateAc p1 (now (store .entry))) ⌝ }
     ensures kept { λ _. ⌜ now (buffer .exit) ≡ bufferWith (generateAc p1 (now (store .entry))) (now (buffer .entry)) ⌝ }
+    ensures reason { λ r. ⌜ writtenNumber r ≡ listReason (generateAc p1 (now (store .entry))) ⌝ }
 {
     let list = store::value(store, dictionary::ROW_8C);
     let measured = measure(list);
@@ -189,13 +191,8 @@ fn write_entry(entry: Entry, store: &[u8], buffer: &mut [u8], at: usize)
         repeat(0, n, buffer, at);
         return;
     }
-    write_value(
-        dictionary::form(row),
-        n,
-        store::value(store, row),
-        buffer,
-        at,
-    );
+    let attributes = dictionary::attributes_of(row);
+    write_value(attributes.form, n, store::value(store, row), buffer, at);
 }
 
 // Writes a value as the n bytes asked.

@@ -3,4 +3,5 @@ pub mod Find
 pub mod Rule
 pub mod Digits
 pub mod Fit
+pub mod Packing
 pub mod Named

@@ -1,7 +1,7 @@
--- Columns of a table: what an array of one column's numbers says of its rows. Assumes nothing.
-use mathlib.Core.Path.{_≡_, sym, _∙_}
+-- Columns of a table: what an array of a number for each row says of the rows. Assumes nothing.
+use mathlib.Core.Path.{_≡_, sym}
 use mathlib.Core.List.{List, map}
-use Prim.Native.Nat.{ℕ, _≤_, _<_}
+use Prim.Native.Nat.{ℕ, _≤_}
 use native.Mathlib.Omega.{arith}
 use lib.ListN.{length, getD, List·getD-map, List·getD-eq-default}
 use Rattle.dictionary.specs.Rows.{Row, rows, blank, rowIn, rowAt}
@@ -11,6 +11,6 @@ pub column : (f : Row → ℕ) (table : List Row) (k : ℕ) → getD (map f tabl
 column f table k = List·getD-map f table k blank
 
 -- past the last row
-pub beyond : (f : Row → ℕ) (k : ℕ) → 36 ≤ k → f blank ≡ f (rowAt k)
+pub beyond : {A : Type 0} (f : Row → A) (k : ℕ) → 36 ≤ k → f blank ≡ f (rowAt k)
 unfolding rows
 beyond f k h = let l : length rows ≤ k = omega arith in sym (mathlib.Core.Path.ap f (List·getD-eq-default rows blank l))

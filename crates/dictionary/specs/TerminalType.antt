@@ -2,12 +2,8 @@
 -- Assumes nothing.
 use mathlib.Core.Bool.{Bool}
 use Prim.Native.Nat.{ℕ}
-use lib.Dec.{leb}
-use Rattle.basics.specs.Choice.{both, either}
-
--- from a to z, both included
-abbrev pub between : ℕ → ℕ → ℕ → Bool
-between a z t = both (leb a t) (leb t z)
+use Rattle.basics.specs.Choice.{either}
+use Rattle.basics.specs.Number.{between}
 
 unfoldable pub listed : ℕ → Bool
-listed t = either (between 0x11 0x16 t) (either (between 0x21 0x26 t) (between 0x34 0x36 t))
+listed t = either (between 0x11 t 0x16) (either (between 0x21 t 0x26) (between 0x34 t 0x36))

@@ -2,8 +2,8 @@
 // set it, the templates that may stand directly around it, the answers that may bring it, and whether
 // a start must bring it. Rows stand in rising order of their tags.
 //
-// `lookup` finds a tag's row; one function for each column answers for a row, and 0 past the last row;
-// `fits` says whether a value's length and digits are allowed.
+// `lookup` finds a tag's row; `tag` and `attributes_of` answer for a row, with zeros past the last row; `fits` says
+// whether a value's length and digits are allowed.
 ghost use mathlib.Core.Path.{_≡_};
 ghost use mathlib.Core.Bool.{true};
 ghost use mathlib.Core.List.{map};
@@ -12,8 +12,9 @@ ghost use lib.ListN.{length, drop};
 ghost use Rattle.dictionary.specs.Rows.{Row, rows, rowAt, find};
 ghost use Rattle.dictionary.specs.Rule.{proper};
 ghost use Rattle.dictionary.specs.Form.{digitBytes, onlyFs, numeric, compressed, digitsFit, fitting, isDigits};
+ghost use Rattle.dictionary.specs.Packing.{codeOf, attributesOf, attributesIn};
 ghost use Rattle.dictionary.specs.Named.{placeOf, usedTags};
-ghost use Rattle.dictionary.specs.TerminalType.{between, listed};
+ghost use Rattle.dictionary.specs.TerminalType.{listed};
 
 // How many rows there are.
 pub const ROWS: usize = 36;
@@ -110,55 +111,87 @@ pub const ROW_DF8123: usize = 34;
 
 pub const ROW_DF8124: usize = 35;
 
-// The table, a column to an array: an array of numbers that is read once costs a few moves, a row to a
-// struct would be built anew at every access.
+// The table: the tags, and what their rows say. An array of numbers that is read once costs a few moves, a row
+// to a struct would be built anew at every access.
 const TAGS: [u32; ROWS] = [
     0x57, 0x5A, 0x82, 0x8C, 0x94, 0x95, 0x9A, 0x9C, 0x5F24, 0x5F25, 0x5F28, 0x5F2A,
     0x5F34, 0x9F02, 0x9F03, 0x9F07, 0x9F08, 0x9F09, 0x9F0D, 0x9F0E, 0x9F0F, 0x9F10, 0x9F1A, 0x9F26,
     0x9F27, 0x9F33, 0x9F35, 0x9F36, 0x9F37, 0x9F38, 0x9F40, 0xDF8120, 0xDF8121, 0xDF8122, 0xDF8123, 0xDF8124,
 ];
 
-const LEASTS: [u8; ROWS] = [
-    0, 0, 2, 0, 4, 5, 3, 1, 3, 3, 2, 2,
-    1, 6, 6, 2, 2, 2, 5, 5, 5, 0, 2, 8,
-    1, 3, 1, 2, 4, 0, 5, 5, 5, 5, 6, 6,
+// What each row says beside its tag, in one number: the least length, and above it a unit for each further
+// column. `unpacked` takes it apart.
+const GREATEST: u32 = 256;
+const FORM: u32 = 65536;
+const SETTERS: u32 = 262144;
+const TEMPLATES: u32 = 2097152;
+const ANSWERS: u32 = 134217728;
+const MUST: u32 = 2147483648;
+
+// The forms as the table has them.
+const B: u32 = 0;
+const N: u32 = FORM;
+const CN: u32 = 2 * FORM;
+
+// The kinds of rows: the card's, in a record, in processing options or with the cryptogram alone; the
+// start's, one that a start must bring; the session's.
+const OF_RECORD: u32 = 2 * SETTERS + TEMPLATES + 7 * ANSWERS;
+const OF_OPTIONS: u32 = 2 * SETTERS + 2 * TEMPLATES + 7 * ANSWERS;
+const OF_CRYPTOGRAM: u32 = 2 * SETTERS + 2 * TEMPLATES + 4 * ANSWERS;
+const OF_START: u32 = SETTERS;
+const MUST_START: u32 = SETTERS + MUST;
+const OF_SESSION: u32 = 4 * SETTERS;
+
+const CODES: [u32; ROWS] = [
+    0 +  19 * GREATEST + B  + OF_RECORD,     // 57
+    0 +  10 * GREATEST + CN + OF_RECORD,     // 5A
+    2 +   2 * GREATEST + B  + OF_OPTIONS,    // 82
+    0 + 250 * GREATEST + B  + OF_RECORD,     // 8C
+    4 + 248 * GREATEST + B  + OF_OPTIONS,    // 94
+    5 +   5 * GREATEST + B  + OF_SESSION,    // 95
+    3 +   3 * GREATEST + N  + MUST_START,    // 9A
+    1 +   1 * GREATEST + N  + MUST_START,    // 9C
+    3 +   3 * GREATEST + N  + OF_RECORD,     // 5F24
+    3 +   3 * GREATEST + N  + OF_RECORD,     // 5F25
+    2 +   2 * GREATEST + N  + OF_RECORD,     // 5F28
+    2 +   2 * GREATEST + N  + OF_START,      // 5F2A
+    1 +   1 * GREATEST + N  + OF_RECORD,     // 5F34
+    6 +   6 * GREATEST + N  + MUST_START,    // 9F02
+    6 +   6 * GREATEST + N  + OF_START,      // 9F03
+    2 +   2 * GREATEST + B  + OF_RECORD,     // 9F07
+    2 +   2 * GREATEST + B  + OF_RECORD,     // 9F08
+    2 +   2 * GREATEST + B  + MUST_START,    // 9F09
+    5 +   5 * GREATEST + B  + OF_RECORD,     // 9F0D
+    5 +   5 * GREATEST + B  + OF_RECORD,     // 9F0E
+    5 +   5 * GREATEST + B  + OF_RECORD,     // 9F0F
+    0 +  32 * GREATEST + B  + OF_CRYPTOGRAM, // 9F10
+    2 +   2 * GREATEST + N  + MUST_START,    // 9F1A
+    8 +   8 * GREATEST + B  + OF_CRYPTOGRAM, // 9F26
+    1 +   1 * GREATEST + B  + OF_CRYPTOGRAM, // 9F27
+    3 +   3 * GREATEST + B  + OF_START,      // 9F33
+    1 +   1 * GREATEST + N  + MUST_START,    // 9F35
+    2 +   2 * GREATEST + B  + OF_CRYPTOGRAM, // 9F36
+    4 +   4 * GREATEST + B  + MUST_START,    // 9F37
+    0 + 240 * GREATEST + B  + OF_START,      // 9F38
+    5 +   5 * GREATEST + B  + OF_START,      // 9F40
+    5 +   5 * GREATEST + B  + MUST_START,    // DF8120
+    5 +   5 * GREATEST + B  + MUST_START,    // DF8121
+    5 +   5 * GREATEST + B  + MUST_START,    // DF8122
+    6 +   6 * GREATEST + N  + MUST_START,    // DF8123
+    6 +   6 * GREATEST + N  + MUST_START,    // DF8124
 ];
 
-const GREATESTS: [u8; ROWS] = [
-    19, 10, 2, 250, 248, 5, 3, 1, 3, 3, 2, 2,
-    1, 6, 6, 2, 2, 2, 5, 5, 5, 32, 2, 8,
-    1, 3, 1, 2, 4, 240, 5, 5, 5, 5, 6, 6,
-];
-
-const FORMS: [u8; ROWS] = [
-    0, 2, 0, 0, 0, 0, 1, 1, 1, 1, 1, 1,
-    1, 1, 1, 0, 0, 0, 0, 0, 0, 0, 1, 0,
-    0, 0, 1, 0, 0, 0, 0, 0, 0, 0, 1, 1,
-];
-
-const SETTERS: [u8; ROWS] = [
-    2, 2, 2, 2, 2, 4, 1, 1, 2, 2, 2, 1,
-    2, 1, 1, 2, 2, 1, 2, 2, 2, 2, 1, 2,
-    2, 1, 1, 2, 1, 1, 1, 1, 1, 1, 1, 1,
-];
-
-const TEMPLATES: [u8; ROWS] = [
-    1, 1, 2, 1, 2, 0, 0, 0, 1, 1, 1, 0,
-    1, 0, 0, 1, 1, 0, 1, 1, 1, 2, 0, 2,
-    2, 0, 0, 2, 0, 0, 0, 0, 0, 0, 0, 0,
-];
-
-const ANSWERS: [u8; ROWS] = [
-    7, 7, 7, 7, 7, 0, 0, 0, 7, 7, 7, 0,
-    7, 0, 0, 7, 7, 0, 7, 7, 7, 4, 0, 4,
-    4, 0, 0, 4, 0, 0, 0, 0, 0, 0, 0, 0,
-];
-
-const MUSTS: [u8; ROWS] = [
-    0, 0, 0, 0, 0, 0, 1, 1, 0, 0, 0, 0,
-    0, 1, 0, 0, 0, 1, 0, 0, 0, 0, 1, 0,
-    0, 0, 1, 0, 1, 0, 0, 1, 1, 1, 1, 1,
-];
+// What a row says beside its tag: the lengths, the form, and the sets of bits; `must` is 1 where a start
+// must bring the object, else 0.
+pub struct Attributes {
+    pub least: usize,
+    pub greatest: usize,
+    pub form: u8,
+    pub setters: u8,
+    pub templates: u8,
+    pub answers: u8,
+    pub must: u8,
+}
 
 // Where a tag stands in the table.
 pub enum Found {
@@ -231,99 +264,36 @@ pub fn tag(row: usize) -> u32
     0
 }
 
-// The least length of a row's value.
-pub fn least(row: usize) -> usize
-    ensures { λ r. ⌜ r ≡ rowAt row .least ⌝ }
+// What a row says; nothing past the last row.
+pub fn attributes_of(row: usize) -> Attributes
+    ensures { λ r. ⌜ r ≡ attributesOf (rowAt row) ⌝ }
 {
     if row < ROWS {
-        return basics::wide(LEASTS[row]);
+        return unpacked(CODES[row]);
     }
-    0
+    unpacked(0)
 }
 
-// The greatest length of a row's value.
-pub fn greatest(row: usize) -> usize
-    ensures { λ r. ⌜ r ≡ rowAt row .greatest ⌝ }
+// The whole table, for a walk over all rows: an array that is read row by row is built anew each time.
+pub fn codes() -> [u32; ROWS]
+    ensures { λ r. ⌜ r ≡ map codeOf rows ⌝ }
 {
-    if row < ROWS {
-        return basics::wide(GREATESTS[row]);
+    CODES
+}
+
+// A row's number taken apart.
+pub fn unpacked(code: u32) -> Attributes
+    ensures { λ r. ⌜ r ≡ attributesIn code ⌝ }
+{
+    Attributes {
+        least: (code % 256) as usize,
+        greatest: (code / GREATEST % 256) as usize,
+        form: (code / FORM % 4) as u8,
+        setters: (code / SETTERS % 8) as u8,
+        templates: (code / TEMPLATES % 64) as u8,
+        answers: (code / ANSWERS % 16) as u8,
+        must: (code / MUST % 2) as u8,
     }
-    0
-}
-
-// The form of a row's value.
-pub fn form(row: usize) -> u8
-    ensures { λ r. ⌜ r ≡ rowAt row .form ⌝ }
-{
-    if row < ROWS {
-        return FORMS[row];
-    }
-    0
-}
-
-// Who may set a row's object.
-pub fn setters(row: usize) -> u8
-    ensures { λ r. ⌜ r ≡ rowAt row .setters ⌝ }
-{
-    if row < ROWS {
-        return SETTERS[row];
-    }
-    0
-}
-
-// The templates that may stand directly around a row's object.
-pub fn templates(row: usize) -> u8
-    ensures { λ r. ⌜ r ≡ rowAt row .templates ⌝ }
-{
-    if row < ROWS {
-        return TEMPLATES[row];
-    }
-    0
-}
-
-// The answers that may bring a row's object.
-pub fn answers(row: usize) -> u8
-    ensures { λ r. ⌜ r ≡ rowAt row .answers ⌝ }
-{
-    if row < ROWS {
-        return ANSWERS[row];
-    }
-    0
-}
-
-// 1 where a start must bring a row's object, else 0.
-pub fn must(row: usize) -> u8
-    ensures { λ r. ⌜ r ≡ rowAt row .must ⌝ }
-{
-    if row < ROWS {
-        return MUSTS[row];
-    }
-    0
-}
-
-// Columns as a whole, for a walk over all rows: an array that is read row by row is built anew each time.
-pub fn leasts() -> [u8; ROWS]
-    ensures { λ r. ⌜ r ≡ map (λ (x : Row). x .least) rows ⌝ }
-{
-    LEASTS
-}
-
-pub fn greatests() -> [u8; ROWS]
-    ensures { λ r. ⌜ r ≡ map (λ (x : Row). x .greatest) rows ⌝ }
-{
-    GREATESTS
-}
-
-pub fn forms() -> [u8; ROWS]
-    ensures { λ r. ⌜ r ≡ map (λ (x : Row). x .form) rows ⌝ }
-{
-    FORMS
-}
-
-pub fn musts() -> [u8; ROWS]
-    ensures { λ r. ⌜ r ≡ map (λ (x : Row). x .must) rows ⌝ }
-{
-    MUSTS
 }
 
 // Whether both digits of a byte are decimal.
@@ -405,38 +375,28 @@ pub fn digits_fit(form: u8, v: &[u8]) -> bool
     true
 }
 
-// Whether a value's length and digits fit a row.
-pub fn fits(row: usize, v: &[u8]) -> bool
-    ensures { λ r. ⌜ r ≡ fitting (rowAt row) (now (v .entry)) ⌝ }
+// Whether a value's length and digits fit a row of these attributes.
+pub fn fits(attributes: Attributes, v: &[u8]) -> bool
+    ensures { λ r. ⌜ ((x : Row) → attributes ≡ attributesOf x → r ≡ fitting x (now (v .entry))) ⌝ }
 {
-    if v.len() < least(row) {
+    if v.len() < attributes.least {
         return false;
     }
-    if greatest(row) < v.len() {
+    if attributes.greatest < v.len() {
         return false;
     }
-    digits_fit(form(row), v)
-}
-
-// Whether t lies from a to z, both included.
-fn is_between(a: u8, z: u8, t: u8) -> bool
-    ensures { λ r. ⌜ r ≡ between a z t ⌝ }
-{
-    if a <= t {
-        return t <= z;
-    }
-    false
+    digits_fit(attributes.form, v)
 }
 
 // Whether a terminal type is one of those that the session takes.
 pub fn is_listed(kind: u8) -> bool
     ensures { λ r. ⌜ r ≡ listed kind ⌝ }
 {
-    if is_between(0x11, 0x16, kind) {
+    if basics::is_between(0x11, kind, 0x16) {
         return true;
     }
-    if is_between(0x21, 0x26, kind) {
+    if basics::is_between(0x21, kind, 0x26) {
         return true;
     }
-    is_between(0x34, 0x36, kind)
+    basics::is_between(0x34, kind, 0x36)
 }

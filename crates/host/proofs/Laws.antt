@@ -8,14 +8,17 @@ use mathlib.Core.Option.{Option, some, none}
 use Prim.Native.Nat.{ℕ, _≤_, _<_}
 use native.Mathlib.Omega.{arith}
 use lib.Dec.{ltb}
-use lib.ListN.{length}
+use lib.ListN.{length, take, drop, length-take, length-drop}
+use borrow.Rule.Slice.PartMut.{putMid, put-same}
 use Rattle.basics.specs.Choice.{if}
 use Rattle.basics.proofs.Laws.{if-ind}
 use Rattle.record.specs.declared.Answer.{Answer}
 use Rattle.record.specs.declared.Reply.{Reply}
 use Rattle.record.specs.declared.Session.{Session}
-use Rattle.record.specs.Numbers.{refusedBuffer, refusedRanges}
-use Rattle.record.specs.Session.{sessionOf}
+use Rattle.record.specs.declared.Turn.{Turn}
+use Rattle.dictionary.specs.Rows.{storeSize}
+use Rattle.basics.specs.Reason.{refusedBuffer, refusedRanges}
+use Rattle.record.specs.Session.{sessionOf, replyOf}
 use Rattle.session.specs.Steps.{Step, Did, leastBuffer, linkStep, stopStep}
 use Rattle.session.specs.Start.{startStep}
 use Rattle.session.specs.Answer.{answerStep}
@@ -23,11 +26,12 @@ use Rattle.session.proofs.Calls.{Came, answer-came, start-came, link-came, stop
 use Rattle.session.proofs.Sizes.{Small, SmallStep, answer-small, start-small, link-small, stop-small}
 use Rattle.layout.specs.declared.Head.{Head}
 use Rattle.layout.specs.declared.Held.{Held}
-use Rattle.layout.specs.Layout.{written, decoded, heldOf, storeOf}
+use Rattle.layout.specs.Layout.{headSize, recordSize, written, headed, decoded, heldOf}
 use Rattle.layout.specs.Word.{outcomes, refusals, refusalWord, outcomeWord, wordOf}
-use Rattle.layout.proofs.Laws.{written-back, command-length, command-below, outcome-below}
+use Rattle.layout.proofs.Lists.{put-head}
+use Rattle.layout.proofs.Laws.{held-store, written-back, command-length, command-below, outcome-below}
 use Rattle.host.specs.declared.Admission.{Admission}
-use Rattle.host.specs.Hosted.{Hosted, DidOver, refuses, carries, stepped, hosted, heldAdmission, Admits, countWord}
+use Rattle.host.specs.Hosted.{Hosted, DidOver, refuses, carries, stepped, hosted, heldAdmission, admissionOf, countWord}
 
 -- ---- what bytes hold, as the code takes it apart
 
@@ -55,31 +59,47 @@ module _ (step : Session → List ℕ → Step) (l buf : List ℕ) where
   refused-by false none w e = record { word = cc; session = refl; buffer = refl }
   refused-by false (some s) w e = let z : _≡_ {A = ℕ} 0 1 = cc in absurd (omega arith)
 
-  taken-by : (t : Bool) (x : Option Session) (h : Head) (b c : List ℕ) → if t (Admission.Refused (refusalWord refusedBuffer)) (heldAdmission x) ≡ Admission.Taken h
-      → c ≡ if t b (storeOf x b) → Come t x ≡ carries l (step (sessionOf (h .phase) (h .count) c) buf)
+  taken-by : (t : Bool) (x : Option Session) (h : Head) → decoded l ≡ x → if t (Admission.Refused (refusalWord refusedBuffer)) (heldAdmission x) ≡ Admission.Taken h
+      → (recordSize ≤ length l) × (Come t x ≡ carries l (step (sessionOf (h .phase) (h .count) (take storeSize (drop headSize l))) buf))
   unfolding if
-  taken-by true x h b c e f = let z : _≡_ {A = ℕ} 0 1 = cc in absurd (omega arith)
-  taken-by false none h b c e f = let z : _≡_ {A = ℕ} 0 1 = cc in absurd (omega arith)
-  taken-by false (some s) h b c e f =
+  taken-by true x h d e = let z : _≡_ {A = ℕ} 0 1 = cc in absurd (omega arith)
+  taken-by false none h d e = let z : _≡_ {A = ℕ} 0 1 = cc in absurd (omega arith)
+  taken-by false (some s) h d e =
       let g : record { phase = s .phase; count = s .count } ≡ h = cc in
-      λ i. carries l (step (sessionOf (g i .phase) (g i .count) (sym f i)) buf)
+      let k = held-store l s d in
+      (k .0, λ i. carries l (step (sessionOf (g i .phase) (g i .count) (k .1 i)) buf))
 
   -- a call that is not taken gives its word, and touches nothing
-  pub over-refused : {a : Admission} {b c : List ℕ} (w : ℕ) → Admits a l (length buf) b c → a ≡ Admission.Refused w → DidOver w l buf (hosted step l buf)
+  pub over-refused : {a : Admission} (w : ℕ) → a ≡ admissionOf l (length buf) → a ≡ Admission.Refused w → DidOver w l buf (hosted step l buf)
   unfolding hosted
-  over-refused w f g = refused-by (ltb (length buf) leastBuffer) (decoded l) w (sym (f .admission) ∙ g)
+  over-refused w f g = refused-by (ltb (length buf) leastBuffer) (decoded l) w (sym f ∙ g)
 
-  -- one that is taken is the step on the record's session, written back
-  pub over-step : {a : Admission} {b c : List ℕ} (h : Head) (w : ℕ) (l′ b′ : List ℕ) (r : Reply) → Admits a l (length buf) b c → a ≡ Admission.Taken h
-      → Did r b′ (step (sessionOf (h .phase) (h .count) c) buf) → (w ≡ wordOf (r .answer)) × (l′ ≡ written (r .session) l) → DidOver w l′ b′ (hosted step l buf)
-  unfolding hosted
-  over-step {a} {b} {c} h w l′ b′ r f g did k =
-      subst⁻¹ (DidOver w l′ b′) (taken-by (ltb (length buf) leastBuffer) (decoded l) h b c (sym (f .admission) ∙ g) (f .store))
-      (record {
-        word = k .0 ∙ ap (λ (x : Reply). wordOf (x .answer)) (did .reply);
-        session = k .1 ∙ ap (λ (x : Reply). written (x .session) l) (did .reply);
-        buffer = did .buffer;
-      })
+  module _ {a : Admission} (h : Head) (f : a ≡ admissionOf l (length buf)) (g : a ≡ Admission.Taken h) where
+    -- the bytes of one that is taken hold a record
+    pub over-record : recordSize ≤ length l
+    over-record = taken-by (ltb (length buf) leastBuffer) (decoded l) h refl (sym f ∙ g) .0
+
+    -- and it is the step on their session: the store that it left in its place, and its head before that
+    pub over-step : (w : ℕ) (l′ b′ c : List ℕ) (t : Turn) → Did (replyOf t c) b′ (step (sessionOf (h .phase) (h .count) (take storeSize (drop headSize l))) buf) → length c ≡ length (take storeSize (drop headSize l))
+        → (w ≡ wordOf (t .answer)) × (l′ ≡ headed (t .phase) (t .count) (putMid headSize storeSize l c)) → DidOver w l′ b′ (hosted step l buf)
+    unfolding hosted
+    over-step w l′ b′ c t did m k =
+        let r = over-record in
+        let z : length c ≡ storeSize = m ∙ simp (length-take, length-drop) (omega arith) in
+        subst⁻¹ (DidOver w l′ b′) (taken-by (ltb (length buf) leastBuffer) (decoded l) h refl (sym f ∙ g) .1)
+        (record {
+          word = k .0 ∙ ap (λ (x : Reply). wordOf (x .answer)) (did .reply);
+          session = k .1 ∙ put-head l c (t .phase) (t .count) over-record z ∙ ap (λ (x : Reply). written (x .session) l) (did .reply);
+          buffer = did .buffer;
+        })
+
+    -- the same of a call that only looks at the store
+    pub over-kept : (w : ℕ) (l′ b′ : List ℕ) (t : Turn)
+        → Did (replyOf t (take storeSize (drop headSize l))) b′ (step (sessionOf (h .phase) (h .count) (take storeSize (drop headSize l))) buf)
+        → (w ≡ wordOf (t .answer)) × (l′ ≡ headed (t .phase) (t .count) l) → DidOver w l′ b′ (hosted step l buf)
+    over-kept w l′ b′ t did k =
+        over-step w l′ b′ (take storeSize (drop headSize l)) t did refl
+        (k .0, k .1 ∙ ap (headed (t .phase) (t .count)) (sym (put-same headSize storeSize l)))
 
 -- ---- words
 

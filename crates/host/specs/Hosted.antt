@@ -8,10 +8,10 @@ use lib.Dec.{leb, ltb}
 use lib.ListN.{length}
 use Rattle.basics.specs.Choice.{if}
 use Rattle.record.specs.declared.Session.{Session}
-use Rattle.record.specs.Numbers.{refusedBuffer, refusedRanges}
+use Rattle.basics.specs.Reason.{refusedBuffer, refusedRanges}
 use Rattle.record.specs.Session.{freshSession}
 use Rattle.session.specs.Steps.{Step, leastBuffer}
-use Rattle.layout.specs.Layout.{recordSize, written, decoded, storeOf}
+use Rattle.layout.specs.Layout.{recordSize, written, decoded}
 use Rattle.layout.specs.Word.{refusalWord, wordOf}
 use Rattle.host.specs.declared.Admission.{Admission}
 
@@ -53,9 +53,8 @@ abbrev pub heldAdmission : Option Session → Admission
 heldAdmission none = Admission.Refused (refusalWord refusedRanges)
 heldAdmission (some s) = Admission.Taken (record { phase = s .phase; count = s .count })
 
-pub record Admits (r : Admission) (l : List ℕ) (size : ℕ) (before after : List ℕ) : Type 0 where
-  pub admission : r ≡ if (ltb size leastBuffer) (Admission.Refused (refusalWord refusedBuffer)) (heldAdmission (decoded l))
-  pub store : after ≡ if (ltb size leastBuffer) before (storeOf (decoded l) before)
+abbrev pub admissionOf : List ℕ → ℕ → Admission
+admissionOf l size = if (ltb size leastBuffer) (Admission.Refused (refusalWord refusedBuffer)) (heldAdmission (decoded l))
 
 -- ---- opening and counting
 

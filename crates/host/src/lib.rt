@@ -1,23 +1,19 @@
 // The calls for a host in C: numbers and byte slices only.
 //
-// The session lies in bytes that the host lends to every call, as the record of `layout`; nothing is
-// kept between calls. A call gives one word: a command's length, an outcome with its reason, or a
+// The session lies in bytes that the host lends to every call, as the record of `layout`; a call works on
+// the store in its place, and nothing is kept between calls. A call gives one word: a command's length, an outcome with its reason, or a
 // refusal, which leaves all lent bytes as they were. docs/HOST.md has the layout and the words.
-use dictionary::SIZE;
-use layout::{Head, Held};
+use layout::{Head, Held, HEAD, RECORD_SIZE};
 use record::{Phase, Turn};
 use session::LEAST_BUFFER;
 ghost use mathlib.Core.Path.{_≡_};
-ghost use lib.ListN.{length};
-ghost use Rattle.dictionary.specs.Rows.{storeSize};
 ghost use Rattle.record.specs.declared.Session.{Session};
-ghost use Rattle.record.specs.Session.{sessionOf};
-ghost use Rattle.layout.specs.Layout.{recordSize, written, decoded};
+ghost use Rattle.layout.specs.Layout.{recordSize, decoded, headed};
 ghost use Rattle.layout.specs.Word.{wordOf};
 ghost use Rattle.session.specs.Steps.{linkStep, stopStep};
 ghost use Rattle.session.specs.Start.{startStep};
 ghost use Rattle.session.specs.Answer.{answerStep};
-ghost use Rattle.host.specs.Hosted.{DidOver, Opened, Admits, hosted, countWord};
+ghost use Rattle.host.specs.Hosted.{DidOver, Opened, admissionOf, hosted, countWord};
 
 // Whether a call is taken, on the record of a head, or the word of its refusal.
 pub enum Admission {
@@ -45,7 +41,7 @@ pub extern "C" fn emv_open(session: &mut [u8]) -> u32
     if layout::encode(Phase::Fresh, 0, &store.bytes, session) {
         return 0;
     }
-    layout::refusal_word(record::REFUSED_RANGES)
+    layout::refusal_word(basics::REFUSED_RANGES)
 }
 
 // Starts a session with the objects that the terminal brings.
@@ -53,14 +49,13 @@ pub extern "C" fn emv_open(session: &mut [u8]) -> u32
 pub extern "C" fn emv_start(session: &mut [u8], terminal: &[u8], command: &mut [u8]) -> u32
     ensures { λ r. ⌜ DidOver r (now (session .exit)) (now (command .exit)) (hosted (λ (s : Session) b. startStep s (now (terminal .entry)) b) (now (session .entry)) (now (command .entry))) ⌝ }
 {
-    let mut store = [0u8; SIZE];
-    let admission = admit(session, command.len(), &mut store);
+    let admission = admit(session, command.len());
     match admission {
         Admission::Refused(word) => word,
         Admission::Taken(head) => {
             let phase = head.phase;
-            let turn = session::start_in(phase, head.count, &mut store, terminal, command);
-            finish(turn, &store, session)
+            let turn = session::start_in(phase, head.count, &mut session[HEAD..RECORD_SIZE], terminal, command);
+            finish(turn, session)
         }
     }
 }
@@ -70,14 +65,13 @@ pub extern "C" fn emv_start(session: &mut [u8], terminal: &[u8], command: &mut [
 pub extern "C" fn emv_answer(session: &mut [u8], card: &[u8], command: &mut [u8]) -> u32
     ensures { λ r. ⌜ DidOver r (now (session .exit)) (now (command .exit)) (hosted (λ (s : Session) b. answerStep s (now (card .entry)) b) (now (session .entry)) (now (command .entry))) ⌝ }
 {
-    let mut store = [0u8; SIZE];
-    let admission = admit(session, command.len(), &mut store);
+    let admission = admit(session, command.len());
     match admission {
         Admission::Refused(word) => word,
         Admission::Taken(head) => {
             let phase = head.phase;
-            let turn = session::answer_in(phase, head.count, &mut store, card, command);
-            finish(turn, &store, session)
+            let turn = session::answer_in(phase, head.count, &mut session[HEAD..RECORD_SIZE], card, command);
+            finish(turn, session)
         }
     }
 }
@@ -87,14 +81,13 @@ pub extern "C" fn emv_answer(session: &mut [u8], card: &[u8], command: &mut [u8]
 pub extern "C" fn emv_link_failed(session: &mut [u8], command: &mut [u8]) -> u32
     ensures { λ r. ⌜ DidOver r (now (session .exit)) (now (command .exit)) (hosted linkStep (now (session .entry)) (now (command .entry))) ⌝ }
 {
-    let mut store = [0u8; SIZE];
-    let admission = admit(session, command.len(), &mut store);
+    let admission = admit(session, command.len());
     match admission {
         Admission::Refused(word) => word,
         Admission::Taken(head) => {
             let phase = head.phase;
-            let turn = session::link_failed_in(phase, head.count, &store, command);
-            finish(turn, &store, session)
+            let turn = session::link_failed_in(phase, head.count, &session[HEAD..RECORD_SIZE], command);
+            finish(turn, session)
         }
     }
 }
@@ -104,14 +97,13 @@ pub extern "C" fn emv_link_failed(session: &mut [u8], command: &mut [u8]) -> u32
 pub extern "C" fn emv_stop(session: &mut [u8], command: &mut [u8]) -> u32
     ensures { λ r. ⌜ DidOver r (now (session .exit)) (now (command .exit)) (hosted stopStep (now (session .entry)) (now (command .entry))) ⌝ }
 {
-    let mut store = [0u8; SIZE];
-    let admission = admit(session, command.len(), &mut store);
+    let admission = admit(session, command.len());
     match admission {
         Admission::Refused(word) => word,
         Admission::Taken(head) => {
             let phase = head.phase;
-            let turn = session::stop_in(phase, head.count, &store, command);
-            finish(turn, &store, session)
+            let turn = session::stop_in(phase, head.count, &session[HEAD..RECORD_SIZE], command);
+            finish(turn, session)
         }
     }
 }
@@ -128,30 +120,27 @@ pub extern "C" fn emv_count(session: &[u8]) -> u32
     basics::wide32(head.count)
 }
 
-// A buffer that is too short is refused before bytes that hold no record. The record's store goes into
-// the one that is lent.
-fn admit(session: &[u8], size: usize, store: &mut [u8; SIZE]) -> Admission
-    requires { ⌜ length (now store) ≡ storeSize ⌝ }
-    ensures admitted { λ r. ⌜ Admits r (now (session .entry)) size (now (store .entry)) (now (store .exit)) ⌝ }
-    ensures sized { λ _. ⌜ length (now (store .exit)) ≡ storeSize ⌝ }
+// A buffer that is too short is refused before bytes that hold no record.
+fn admit(session: &[u8], size: usize) -> Admission
+    ensures { λ r. ⌜ r ≡ admissionOf (now (session .entry)) size ⌝ }
 {
     if size < LEAST_BUFFER {
-        return Admission::Refused(layout::refusal_word(record::REFUSED_BUFFER));
+        return Admission::Refused(layout::refusal_word(basics::REFUSED_BUFFER));
     }
-    let held = layout::decode(session, store);
+    let held = layout::head_in(session);
     match held {
         Held::Record(head) => Admission::Taken(head),
-        Held::Nothing => Admission::Refused(layout::refusal_word(record::REFUSED_RANGES)),
+        Held::Nothing => Admission::Refused(layout::refusal_word(basics::REFUSED_RANGES)),
     }
 }
 
-// Writes the record of a turn and a store in front of the lent bytes, and gives the word of its answer.
-fn finish(turn: Turn, store: &[u8; SIZE], session: &mut [u8]) -> u32
-    requires { ⌜ length (now store) ≡ storeSize ⌝ }
-    ensures { λ r. ⌜ (r ≡ wordOf (turn .answer)) × (now (session .exit) ≡ written (sessionOf (turn .phase) (turn .count) (now (store .entry))) (now (session .entry))) ⌝ }
+// Writes the head of a turn in front of the lent bytes, whose store the call left in its place, and gives the
+// word of its answer.
+fn finish(turn: Turn, session: &mut [u8]) -> u32
+    ensures { λ r. ⌜ (r ≡ wordOf (turn .answer)) × (now (session .exit) ≡ headed (turn .phase) (turn .count) (now (session .entry))) ⌝ }
 {
     let phase = turn.phase;
-    layout::encode(phase, turn.count, store, session);
+    layout::put_head(phase, turn.count, session);
     let answer = turn.answer;
     layout::word(answer)
 }

@@ -8,7 +8,7 @@ use mathlib.Core.Option.{Option, some, none}
 use Prim.Native.Nat.{ℕ, _≤_, _<_}
 use native.Mathlib.Omega.{arith}
 use lib.Dec.{eqb}
-use lib.ListN.{length, getD, drop, length-append, length-drop, take-append-drop}
+use lib.ListN.{length, getD, take, drop, length-append, length-drop, take-append-drop}
 use lib.Seq.{take-at}
 use borrow.Author.Tests.{eq-eqb, eqb-true, le-leb, leb-true, lt-leb}
 use Rattle.basics.specs.Choice.{if}
@@ -25,7 +25,7 @@ use Rattle.record.specs.Session.{stored, sessionOf}
 use Rattle.layout.specs.declared.Code.{Code}
 use Rattle.layout.specs.declared.Head.{Head}
 use Rattle.layout.specs.declared.Held.{Held}
-use Rattle.layout.specs.Layout.{version, recordSize, choiceFrom, outcomeFrom, codeOf, phaseOf, sameCode, encoded, written, codeIn, sessionIn, holdsRecord, decoded, heldOf, storeOf}
+use Rattle.layout.specs.Layout.{version, headSize, recordSize, choiceFrom, outcomeFrom, codeOf, phaseOf, sameCode, encoded, written, codeIn, sessionIn, holdsRecord, decoded, heldOf, storeOf}
 use Rattle.layout.specs.Word.{outcomes, refusals, commandWord, outcomeWord}
 
 -- ---- codes
@@ -135,6 +135,14 @@ held-some l h e = elim (bool-cases (holdsRecord l)) [
       let z : _≡_ {A = ℕ} 0 1 = cc in
       absurd (omega arith)
 ]
+
+-- the store of the session that bytes hold is theirs behind the head
+pub held-store : (l : List ℕ) (s : Session) → decoded l ≡ some s → (recordSize ≤ length l) × (stored s ≡ take storeSize (drop headSize l))
+held-store l s e =
+    let h = held-some l (record { phase = s .phase; count = s .count }) (ap heldOf e) in
+    let f : some s ≡ some (sessionIn (phaseOf (codeIn l)) l) = sym e ∙ h .1 in
+    let g : s ≡ sessionIn (phaseOf (codeIn l)) l = cc in
+    (h .0, ap stored g)
 
 -- the session that was read is the one of the head that is said and the store that is left
 pub was-record : (x : Option Session) (h : Head) (b c : List ℕ) → heldOf x ≡ Held.Record h → c ≡ storeOf x b → x ≡ some (sessionOf (h .phase) (h .count) c)

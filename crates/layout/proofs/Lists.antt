@@ -1,37 +1,59 @@
--- The lists behind `encode` and `decode`: five bytes set one by one and a store copied behind them, and a store copied out again.
+-- The lists behind `encode`, `put_head` and `decode`: five bytes set one by one, a store behind them, and a store copied out again.
 -- Assumes nothing.
-use mathlib.Core.Path.{_≡_, ap, _∙_}
+use mathlib.Core.Path.{_≡_, refl, sym, ap, _∙_}
 use mathlib.Core.List.{List, [], _∷_, _++_, append-nil}
-use Prim.Native.Nat.{ℕ, _≤_}
+use Prim.Native.Nat.{ℕ, _≤_, _<_}
 use native.Mathlib.Omega.{arith}
-use lib.ListN.{length, set, take, drop, length-set, length-take, length-drop, drop-of-length-le}
-use lib.Seq.{take-all, take-length}
+use lib.ListN.{length, set, take, drop, length-append, length-take, length-drop, drop-of-length-le}
+use lib.Seq.{take-all, drop-at, drop-drop, length-take-le}
+use borrow.Author.Tests.{le-leb, lt-leb, leb-true}
 use borrow.Rule.Slice.PartMut.{putMid, same-len-mid}
+use Rattle.basics.proofs.Laws.{if-yes, if-no, if-ind}
 use Rattle.dictionary.specs.Rows.{storeSize}
-use Rattle.layout.specs.Layout.{headSize, recordSize}
+use Rattle.record.specs.declared.Phase.{Phase}
+use Rattle.record.specs.Session.{sessionOf}
+use Rattle.layout.specs.Layout.{headSize, recordSize, headOf, encoded, written, headed}
 
--- the bytes of a head in front of a list that has room for them
-abbrev pub headed : List ℕ → ℕ → ℕ → ℕ → ℕ → ℕ → List ℕ
-headed l v n d r k = set (set (set (set (set l 0 v) 1 n) 2 d) 3 r) 4 k
+-- five bytes set one by one in front of a list that has them
+pub set-head : (l : List ℕ) (v n d r k : ℕ) → headSize ≤ length l → set (set (set (set (set l 0 v) 1 n) 2 d) 3 r) 4 k ≡ (v ∷ n ∷ d ∷ r ∷ k ∷ []) ++ drop headSize l
+set-head [] v n d r k h = absurd (omega arith)
+set-head (_ ∷ []) v n d r k h = absurd (omega arith)
+set-head (_ ∷ _ ∷ []) v n d r k h = absurd (omega arith)
+set-head (_ ∷ _ ∷ _ ∷ []) v n d r k h = absurd (omega arith)
+set-head (_ ∷ _ ∷ _ ∷ _ ∷ []) v n d r k h = absurd (omega arith)
+set-head (_ ∷ _ ∷ _ ∷ _ ∷ _ ∷ l) v n d r k h = refl
 
--- a middle of the same length put into it leaves the list's length
-pub headed-length : (l m : List ℕ) (v n d r k : ℕ) → length m ≡ length (take storeSize (drop headSize (headed l v n d r k)))
-    → length (putMid headSize storeSize (headed l v n d r k) m) ≡ length l
-headed-length l m v n d r k e = same-len-mid headSize storeSize (headed l v n d r k) m e ∙ simp length-set
+module _ (l : List ℕ) (p : Phase) (n : ℕ) where
+  pub headed-yes : recordSize ≤ length l → headed p n l ≡ headOf p n ++ drop headSize l
+  unfolding headed
+  headed-yes h = if-yes _ _ (le-leb recordSize (length l) h)
 
--- a head and a store over the front of a list
-pub put-record : (l b m : List ℕ) (v n d r k : ℕ) → recordSize ≤ length l → length b ≡ storeSize
-    → m ≡ take (length b) b ++ drop (length b) (take storeSize (drop headSize (headed l v n d r k)))
-    → putMid headSize storeSize (headed l v n d r k) m ≡ (v ∷ n ∷ d ∷ r ∷ k ∷ b) ++ drop recordSize l
-put-record [] b m v n d r k h e f = absurd (omega arith)
-put-record (_ ∷ []) b m v n d r k h e f = absurd (omega arith)
-put-record (_ ∷ _ ∷ []) b m v n d r k h e f = absurd (omega arith)
-put-record (_ ∷ _ ∷ _ ∷ []) b m v n d r k h e f = absurd (omega arith)
-put-record (_ ∷ _ ∷ _ ∷ _ ∷ []) b m v n d r k h e f = absurd (omega arith)
-put-record (_ ∷ _ ∷ _ ∷ _ ∷ _ ∷ l) b m v n d r k h e f =
-    let z : drop (length b) (take storeSize l) ≡ [] = drop-of-length-le (take storeSize l) {i = length b} (simp length-take (omega arith)) in
-    let g : m ≡ b = f ∙ rw (z, take-length) (append-nil b) in
-    ap (λ (x : List ℕ). v ∷ n ∷ d ∷ r ∷ k ∷ (x ++ drop storeSize l)) g
+  pub headed-no : length l < recordSize → headed p n l ≡ l
+  unfolding headed
+  headed-no h = if-no _ _ (lt-leb recordSize (length l) h)
+
+  pub headed-length : length (headed p n l) ≡ length l
+  unfolding headed
+  headed-length =
+      if-ind (λ (x : List ℕ). length x ≡ length l) _ _ _
+      (λ t. let h = leb-true recordSize (length l) t in simp (length-append, length-drop) (omega arith)) (λ t. refl)
+
+-- a head and then the store behind it, or the store and then the head before it: the record of a session, and what lay behind it
+module _ (l b : List ℕ) (p : Phase) (n : ℕ) (h : recordSize ≤ length l) (e : length b ≡ storeSize) where
+  record-is : headOf p n ++ (b ++ drop storeSize (drop headSize l)) ≡ written (sessionOf p n b) l
+  unfolding written encoded
+  record-is = ap (λ (x : List ℕ). headOf p n ++ (b ++ x)) (drop-drop storeSize headSize l) ∙ sym (if-yes _ _ (le-leb recordSize (length l) h))
+
+  pub put-store : putMid headSize storeSize (headed p n l) b ≡ written (sessionOf p n b) l
+  put-store = ap (λ (x : List ℕ). putMid headSize storeSize x b) (headed-yes l p n h) ∙ record-is
+
+  pub put-head : headed p n (putMid headSize storeSize l b) ≡ written (sessionOf p n b) l
+  put-head =
+      let size : length b ≡ length (take storeSize (drop headSize l)) = simp (length-take, length-drop) (omega arith) in
+      let enough : recordSize ≤ length (putMid headSize storeSize l b) = rw (same-len-mid headSize storeSize l b size) h in
+      headed-yes (putMid headSize storeSize l b) p n enough
+      ∙ ap (λ (x : List ℕ). headOf p n ++ x) (drop-at (take headSize l) (b ++ drop storeSize (drop headSize l)) headSize (length-take-le headSize l (omega arith)))
+      ∙ record-is
 
 -- the store of a list that is long enough, copied over another
 pub take-store : (l z m : List ℕ) → recordSize ≤ length l → length z ≡ storeSize

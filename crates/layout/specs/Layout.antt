@@ -3,7 +3,7 @@
 -- Assumes nothing.
 use mathlib.Core.Path.{_≡_}
 use mathlib.Core.Bool.{Bool}
-use mathlib.Core.List.{List, _∷_, _++_}
+use mathlib.Core.List.{List, [], _∷_, _++_}
 use mathlib.Core.Option.{Option, some, none}
 use Prim.Native.Nat.{ℕ, _+_}
 use lib.Dec.{eqb, leb}
@@ -83,13 +83,21 @@ sameCode a b = both (eqb (a .number) (b .number)) (both (eqb (a .datum) (b .datu
 
 -- ---- the record
 
+-- the head: the version, the code of the phase, the count
+abbrev pub headOf : Phase → ℕ → List ℕ
+headOf p n = version ∷ codeOf p .number ∷ codeOf p .datum ∷ codeOf p .reason ∷ n ∷ []
+
 -- a session as bytes
 unfoldable pub encoded : Session → List ℕ
-encoded s = version ∷ codeOf (s .phase) .number ∷ codeOf (s .phase) .datum ∷ codeOf (s .phase) .reason ∷ s .count ∷ stored s
+encoded s = headOf (s .phase) (s .count) ++ stored s
 
 -- the bytes l with a record in front: those behind it stay, and so do all where they are too few
 unfoldable pub written : Session → List ℕ → List ℕ
 written s l = if (leb recordSize (length l)) (encoded s ++ drop recordSize l) l
+
+-- the bytes l with a head in front: those behind it stay, and so do all where they are too few for a record
+unfoldable pub headed : Phase → ℕ → List ℕ → List ℕ
+headed p n l = if (leb recordSize (length l)) (headOf p n ++ drop headSize l) l
 
 -- the code in a head, and the session in a phase with the count and the store that the bytes have
 abbrev pub codeIn : List ℕ → Code

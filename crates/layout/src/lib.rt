@@ -3,7 +3,8 @@
 // The record is a head and the store: a byte for the layout's version, the code of the phase, the count
 // of commands handed out, and then the store's bytes as they stand. `encode` writes it in front of the
 // lent bytes, `decode` takes it apart again: only bytes that some record is encoded as are a record. Both
-// lend the store, which is the largest part.
+// lend the store, which is the largest part; `head_in` and `put_head` read and write the head alone, for a
+// caller that works on the store in its place.
 use analysis::choice::Choice;
 use dictionary::SIZE;
 use record::{Answer, Asked, End, Issued, Outcome, Phase, Place};
@@ -12,14 +13,14 @@ ghost use Prim.Native.Nat.{_≤_};
 ghost use lib.ListN.{length};
 ghost use Rattle.dictionary.specs.Rows.{storeSize};
 ghost use Rattle.record.specs.Session.{sessionOf};
-ghost use Rattle.layout.specs.Layout.{recordSize, choiceFrom, outcomeFrom, codeOf, phaseOf, codeIn, sameCode, decoded, heldOf, Wrote, Decodes};
+ghost use Rattle.layout.specs.Layout.{recordSize, choiceFrom, outcomeFrom, codeOf, phaseOf, codeIn, sameCode, headed, decoded, heldOf, Wrote, Decodes};
 ghost use Rattle.layout.specs.Word.{commandWord, outcomeWord, refusalWord, wordOf};
 
 // The layout's version, the first byte of every record.
 const VERSION: u8 = 1;
 
 // How many bytes stand in front of the store.
-const HEAD: usize = 5;
+pub const HEAD: usize = 5;
 
 // How many bytes a record takes.
 pub const RECORD_SIZE: usize = HEAD + SIZE;
@@ -72,14 +73,24 @@ pub fn encode(phase: Phase, count: u8, store: &[u8; SIZE], bytes: &mut [u8]) -> 
     if bytes.len() < RECORD_SIZE {
         return false;
     }
+    put_head(phase, count, bytes);
+    bytes::copy(&store[..], &mut bytes[HEAD..RECORD_SIZE]);
+    true
+}
+
+// Writes the head of a record in front of the bytes, whose store stays; too few bytes stay as they are.
+pub fn put_head(phase: Phase, count: u8, bytes: &mut [u8])
+    ensures { λ _. ⌜ now (bytes .exit) ≡ headed phase count (now (bytes .entry)) ⌝ }
+{
+    if bytes.len() < RECORD_SIZE {
+        return;
+    }
     let code = code_of(phase);
     bytes[0] = VERSION;
     bytes[1] = code.number;
     bytes[2] = code.datum;
     bytes[3] = code.reason;
     bytes[4] = count;
-    bytes::copy(&store[..], &mut bytes[HEAD..RECORD_SIZE]);
-    true
 }
 
 // Takes apart the record in front of the bytes: its store goes into the one that is lent.

@@ -4,7 +4,8 @@ use mathlib.Core.List.{List, [], _∷_}
 use Prim.Native.Nat.{ℕ}
 use Rattle.basics.specs.Choice.{if, both, either, every}
 use Rattle.line.specs.declared.Line.{Line}
-use Rattle.line.specs.Text.{isBlank, front, past, alike}
+use Rattle.line.specs.Text.{isBlank, front, past}
+use Rattle.basics.specs.Alike.{alike}
 use Rattle.line.specs.Digits.{digitOf, spelled, within, decimalFrom, sized}
 use Rattle.line.specs.Line.{named, wrong, alone, answerLine, said, meaning, plain}
 

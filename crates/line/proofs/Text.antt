@@ -1,20 +1,17 @@
--- The front part of a text whose characters pass a test, the text behind it, and texts that are the same.
+-- The front part of a text whose characters pass a test, and the text behind it.
 -- Assumes nothing.
-use mathlib.Core.Path.{_≡_, refl, ap, ap₂, _∙_}
+use mathlib.Core.Path.{_≡_, refl, ap, _∙_}
 use mathlib.Core.Bool.{Bool, true, false}
 use mathlib.Core.List.{List, [], _∷_}
-use mathlib.Core.Logic.{inl, inr}
 use Prim.Native.Nat.{ℕ, _+_, _-_, _≤_, _<_}
 use native.Mathlib.Nat.{le-refl}
 use native.Mathlib.Numerals.{add-one}
 use native.Mathlib.Omega.{arith}
-use lib.Dec.{eqb}
 use lib.ListN.{length, getD, take, drop, length-drop, drop-of-length-le}
 use lib.Seq.{drop-cons, take-all}
-use borrow.Author.Tests.{eqb-true}
-use Rattle.basics.specs.Choice.{if, both}
-use Rattle.basics.proofs.Laws.{if-yes, if-no, if-ind, bool-cases, both-left, both-right}
-use Rattle.line.specs.Text.{front, past, alike}
+use Rattle.basics.specs.Choice.{if}
+use Rattle.basics.proofs.Laws.{if-yes, if-no, if-ind}
+use Rattle.line.specs.Text.{front, past}
 
 -- the end of a text as a part of its slice
 pub tail-is : (s : List ℕ) (n : ℕ) → take (length s - n) (drop n s) ≡ drop n s
@@ -69,26 +66,3 @@ module _ (f : ℕ → Bool) where
     pub front-ends : length s ≤ i → i + length (front f (drop i s)) ≡ i
     unfolding front
     front-ends h = rw (drop-of-length-le s h) (omega arith)
-
--- ---- the same text
-
-alike-eq : (s t : List ℕ) → alike s t ≡ true → s ≡ t
-unfolding alike
-alike-eq [] [] e = refl
-alike-eq [] (y ∷ t) e = cc
-alike-eq (x ∷ s) [] e = cc
-alike-eq (x ∷ s) (y ∷ t) e =
-    ap₂ (λ (a : ℕ) (u : List ℕ). a ∷ u) (eqb-true x y (both-left _ _ e)) (alike-eq s t (both-right _ _ e))
-
-pub unlike-length : (s t : List ℕ) → (length s ≡ length t → ⊥) → alike s t ≡ false
-unlike-length s t h =
-    elim (bool-cases (alike s t)) [ inl e ↦ absurd (h (ap length (alike-eq s t e))) | inr e ↦ e ]
-
-module _ (s t : List ℕ) (i : ℕ) where
-  pub alike-at : i < length s → i < length t → alike (drop i s) (drop i t) ≡ both (eqb (getD s i 0) (getD t i 0)) (alike (drop (i + 1) s) (drop (i + 1) t))
-  unfolding alike
-  alike-at h k = rw (add-one, drop-cons s i 0, drop-cons t i 0)
-
-  pub alike-ends : length s ≤ i → length t ≤ i → alike (drop i s) (drop i t) ≡ true
-  unfolding alike
-  alike-ends h k = rw (drop-of-length-le s h, drop-of-length-le t k)

@@ -7,6 +7,7 @@ use Prim.Native.Nat.{ℕ, _+_, _*_, _-_}
 use lib.Dec.{ltb, leb}
 use lib.ListN.{length, take, drop}
 use Rattle.basics.specs.Choice.{if, both, every}
+use Rattle.basics.specs.Number.{between}
 use Rattle.line.specs.declared.Decoded.{Decoded}
 use Rattle.line.specs.declared.Line.{Line}
 use Rattle.line.specs.declared.Pair.{Pair}
@@ -21,10 +22,6 @@ roomProblem = 4
 
 abbrev pub numberProblem : ℕ
 numberProblem = 6
-
--- a character lies between two others, both counted in
-abbrev pub between : ℕ → ℕ → ℕ → Bool
-between low c high = both (leb low c) (leb c high)
 
 -- the value of a hexadecimal digit '0' to '9', 'A' to 'F', 'a' to 'f'; 16 for any other character
 unfoldable pub digitOf : ℕ → ℕ

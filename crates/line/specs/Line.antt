@@ -11,7 +11,8 @@ use Rattle.line.specs.declared.Kind.the-variants.{Blank}
 use Rattle.line.specs.declared.Line.{Line}
 use Rattle.line.specs.declared.Word.{Word}
 use Rattle.line.specs.declared.Word.the-variants.{Absent, Start, Answer, LinkFailed, Stop, Buffer, Unknown}
-use Rattle.line.specs.Text.{of, past, uncommented, wordOf, behind, alike}
+use Rattle.line.specs.Text.{of, past, uncommented, wordOf, behind}
+use Rattle.basics.specs.Alike.{alike}
 use Rattle.line.specs.Digits.{Spelling, spelled, within, decoded, placed, sized}
 
 -- a word and its characters

@@ -1,10 +1,10 @@
 -- The text of a line as characters: its comment, its blanks and its words.
 -- Assumes nothing.
-use mathlib.Core.Bool.{Bool, true, false, not}
+use mathlib.Core.Bool.{Bool, not}
 use mathlib.Core.List.{List, [], _∷_}
 use Prim.Native.Nat.{ℕ}
 use lib.Dec.{eqb}
-use Rattle.basics.specs.Choice.{if, both, either}
+use Rattle.basics.specs.Choice.{if, either}
 use Rattle.line.specs.declared.Kind.{Kind}
 use Rattle.line.specs.declared.Kind.the-variants.{Blank, NotBlank, NotHash}
 
@@ -39,10 +39,3 @@ wordOf s = front (of NotBlank) (past (of Blank) s)
 -- what stands behind the first word
 abbrev pub behind : List ℕ → List ℕ
 behind s = past (of NotBlank) (past (of Blank) s)
-
--- two texts are the same
-unfoldable pub alike : List ℕ → List ℕ → Bool
-alike [] [] = true
-alike [] (b ∷ t) = false
-alike (a ∷ s) [] = false
-alike (a ∷ s) (b ∷ t) = both (eqb a b) (alike s t)

@@ -9,8 +9,8 @@
 ghost use mathlib.Core.Path.{_≡_};
 ghost use Prim.Native.Nat.{_≤_};
 ghost use lib.ListN.{length};
-ghost use Rattle.line.specs.Text.{of, front, past, uncommented as uncommentedOf, wordOf, behind, alike};
-ghost use Rattle.line.specs.Digits.{between, digitOf, pairOf, spelled, within, Decodes, sized};
+ghost use Rattle.line.specs.Text.{of, front, past, uncommented as uncommentedOf, wordOf, behind};
+ghost use Rattle.line.specs.Digits.{digitOf, pairOf, spelled, within, Decodes, sized};
 ghost use Rattle.line.specs.Line.{named, alone as aloneAs, startLine, answerLine, meaning, Says};
 
 // How many bytes a call brings: the front of the lent slice.
@@ -186,43 +186,26 @@ fn behind_word(s: &[u8]) -> &[u8]
     &t[n..]
 }
 
-// The same characters.
-fn same(a: &[u8], b: &[u8]) -> bool
-    ensures { λ r. ⌜ r ≡ alike (now (a .entry)) (now (b .entry)) ⌝ }
-{
-    if a.len() != b.len() {
-        return false;
-    }
-    let mut i = 0;
-    while i < a.len() {
-        if a[i] != b[i] {
-            return false;
-        }
-        i += 1;
-    }
-    true
-}
-
 // Which word it is.
 fn word_named(w: &[u8]) -> Word
     ensures { λ r. ⌜ r ≡ named (now (w .entry)) ⌝ }
 {
-    if same(w, b"") {
+    if basics::same(w, b"") {
         return Word::Absent;
     }
-    if same(w, b"start") {
+    if basics::same(w, b"start") {
         return Word::Start;
     }
-    if same(w, b"answer") {
+    if basics::same(w, b"answer") {
         return Word::Answer;
     }
-    if same(w, b"link-failed") {
+    if basics::same(w, b"link-failed") {
         return Word::LinkFailed;
     }
-    if same(w, b"stop") {
+    if basics::same(w, b"stop") {
         return Word::Stop;
     }
-    if same(w, b"buffer") {
+    if basics::same(w, b"buffer") {
         return Word::Buffer;
     }
     Word::Unknown
@@ -338,24 +321,14 @@ fn pair_at(s: &[u8]) -> Pair
 fn digit(c: u8) -> u8
     ensures { λ r. ⌜ (r ≡ digitOf c) × (r ≤ 16) ⌝ }
 {
-    if is_between(48, c, 57) {
+    if basics::is_between(48, c, 57) {
         return c - 48;
     }
-    if is_between(65, c, 70) {
+    if basics::is_between(65, c, 70) {
         return c - 55;
     }
-    if is_between(97, c, 102) {
+    if basics::is_between(97, c, 102) {
         return c - 87;
     }
     16
-}
-
-// Whether a character lies between two others, both counted in.
-fn is_between(low: u8, c: u8, high: u8) -> bool
-    ensures { λ r. ⌜ r ≡ between low c high ⌝ }
-{
-    if c < low {
-        return false;
-    }
-    c <= high
 }

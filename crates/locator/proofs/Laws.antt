@@ -11,14 +11,16 @@ use lib.Dec.{leb}
 use lib.ListN.{length, getD, take, drop, length-drop}
 use borrow.Author.Tests.{leb-true, leb-false, eqb-true, le-leb, lt-leb, lt-ltb, le-ltb, eq-eqb}
 use Rattle.basics.specs.Choice.{every}
+use Rattle.basics.specs.Reason.{reasonLocator, unless}
 use Rattle.basics.proofs.Laws.{if-yes, if-no, bool-cases, both-yes, both-left, both-right, both-no-left, both-no-right}
+use Rattle.locator.specs.declared.Checked.{Checked}
 use Rattle.locator.specs.declared.Checked.the-variants.{Accepted, Rejected}
 use Rattle.locator.specs.declared.Extent.{Extent}
 use Rattle.locator.specs.declared.Entry.{Entry}
 use Rattle.locator.specs.declared.Found.the-variants.{At, Nothing}
 use Rattle.locator.specs.declared.Record.{Record}
 use Rattle.locator.specs.Entry.{fileOf, countOf, keeps}
-use Rattle.locator.specs.Records.{entries, whole, sumOf, records, total, accepts, checked, nth, kth, recordAt}
+use Rattle.locator.specs.Records.{entries, whole, sumOf, records, total, accepts, checked, checkedNumber, nth, kth, recordAt}
 use Rattle.locator.specs.Command.{readRecord, atFront, Written, Wrote, writable, written}
 use Rattle.locator.proofs.Records.{entries-short, whole-length, records-length, records-all, last-bytes, nth-split, nth-take, nth-inside, nth-there, nth-none, not-at}
 
@@ -119,6 +121,18 @@ is-rejected s e =
       | inl y ↦ (let f = checked-yes s y in let z : _≡_ {A = ℕ} 0 1 = cc in absurd (omega arith))
       | inr n ↦ n
     ]
+
+-- the reason is that of the locator's rules, unless it is accepted
+pub checked-number : (s : List ℕ) → checkedNumber (checked s) ≡ unless (accepts s) reasonLocator
+checked-number s =
+    elim (bool-cases (accepts s)) [
+      | inl y ↦ ap checkedNumber (checked-yes s y) ∙ sym (if-yes _ _ y)
+      | inr n ↦ ap checkedNumber (checked-no s n) ∙ sym (if-no _ _ n)
+    ]
+
+-- what a check states of its answer
+pub checked-says : (s : List ℕ) (r : Checked) → checked s ≡ r → (r ≡ checked s) × (checkedNumber r ≡ unless (accepts s) reasonLocator)
+checked-says s r e = (sym e, ap checkedNumber (sym e) ∙ checked-number s)
 
 -- ---- the k-th record
 

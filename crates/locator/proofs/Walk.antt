@@ -15,7 +15,8 @@ use Rattle.locator.specs.declared.Checked.{Checked}
 use Rattle.locator.specs.declared.Checked.the-variants.{Accepted, Rejected}
 use Rattle.locator.specs.declared.Found.the-variants.{At, Nothing}
 use Rattle.locator.specs.declared.Entry.{Entry}
-use Rattle.locator.specs.Entry.{frontOf, fileOf, countOf, between, keeps}
+use Rattle.locator.specs.Entry.{frontOf, fileOf, countOf, keeps}
+use Rattle.basics.specs.Number.{between}
 use Rattle.locator.specs.Records.{entries, whole, named, recordsOf, sumOf, records, total, accepts, checked, nth}
 use Rattle.locator.proofs.Records.{entries-front, entries-short, whole-front, whole-of, part-of, total-front, records-front, nth-named, nth-beyond}
 

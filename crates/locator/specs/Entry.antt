@@ -6,6 +6,7 @@ use mathlib.Core.List.{List}
 use Prim.Native.Nat.{ℕ, _+_, _-_, _/_, _%_}
 use lib.Dec.{leb, eqb}
 use lib.ListN.{getD}
+use Rattle.basics.specs.Number.{between}
 use Rattle.basics.specs.Choice.{both}
 use Rattle.locator.specs.declared.Entry.{Entry}
 
@@ -24,10 +25,6 @@ fileOf e = e .lead / 8
 -- how many records it names: last - first + 1, and none where last is below first
 abbrev pub countOf : Entry → ℕ
 countOf e = e .last + 1 - e .first
-
--- a number lies between two others, both counted in
-abbrev pub between : ℕ → ℕ → ℕ → Bool
-between low n high = both (leb low n) (leb n high)
 
 -- an entry keeps the rules: the low three bits of byte 1 are 0, the file number is 1 to 30, the first record is not 0,
 -- the last is not below the first, and byte 4 is at most the number of its records

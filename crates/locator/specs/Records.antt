@@ -7,13 +7,15 @@ use Prim.Native.Nat.{ℕ, zero, suc, _+_, _%_}
 use lib.Dec.{eqb}
 use lib.ListN.{length}
 use Rattle.basics.specs.Choice.{if, both, every}
+use Rattle.basics.specs.Reason.{reasonNone, reasonLocator}
 use Rattle.locator.specs.declared.Entry.{Entry}
 use Rattle.locator.specs.declared.Record.{Record}
 use Rattle.locator.specs.declared.Checked.{Checked}
 use Rattle.locator.specs.declared.Checked.the-variants.{Accepted, Rejected}
 use Rattle.locator.specs.declared.Found.{Found}
 use Rattle.locator.specs.declared.Found.the-variants.{At, Nothing}
-use Rattle.locator.specs.Entry.{entryOf, fileOf, countOf, between, keeps}
+use Rattle.locator.specs.Entry.{entryOf, fileOf, countOf, keeps}
+use Rattle.basics.specs.Number.{between}
 
 -- the entries, four bytes each, from the front; one to three bytes behind the last are no entry
 unfoldable pub entries : List ℕ → List Entry
@@ -61,6 +63,11 @@ accepts s = both (whole s) (both (every keeps (entries s)) (between 1 (total s) 
 -- what a check of a locator says: R if it is accepted
 unfoldable pub checked : List ℕ → Checked
 checked s = if (accepts s) (Accepted (record { records = total s })) Rejected
+
+-- the number of a check's answer (document 01, "Calls and their numbers"): 0 where it gives no reason, else 5, a locator that breaks its rules
+abbrev pub checkedNumber : Checked → ℕ
+checkedNumber (Accepted e) = reasonNone
+checkedNumber Rejected = reasonLocator
 
 -- the record at a place of a list, places counted from 0
 unfoldable pub nth : ℕ → List Record → Found

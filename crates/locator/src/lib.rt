@@ -4,8 +4,9 @@
 ghost use mathlib.Core.Path.{_≡_};
 ghost use Prim.Native.Nat.{_≤_};
 ghost use lib.ListN.{length};
+ghost use Rattle.basics.specs.Reason.{reasonLocator, unless};
 ghost use Rattle.locator.specs.Entry.{frontOf, countOf, keeps as keepsRules};
-ghost use Rattle.locator.specs.Records.{records as recordsIn, checked, nth, recordAt};
+ghost use Rattle.locator.specs.Records.{records as recordsIn, accepts, checked, checkedNumber, nth, recordAt};
 ghost use Rattle.locator.specs.Command.{Wrote, written};
 
 // A record of a card: the file that it is in and its number there.
@@ -40,7 +41,8 @@ pub enum Found {
 
 // Whether a locator keeps the rules, and how many records it names.
 pub fn check(locator: &[u8]) -> Checked
-    ensures { λ r. ⌜ r ≡ checked (now (locator .entry)) ⌝ }
+    ensures said { λ r. ⌜ r ≡ checked (now (locator .entry)) ⌝ }
+    ensures reason { λ r. ⌜ checkedNumber r ≡ unless (accepts (now (locator .entry))) reasonLocator ⌝ }
 {
     let mut rest = locator;
     let mut total: usize = 0;

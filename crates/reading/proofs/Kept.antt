@@ -1,32 +1,30 @@
 -- What a reading leaves of a store: one induction over the objects that are put, and from it that rows only ever gain a value where they
 -- held none, that rows not named are untouched, and that the store keeps its size.
 -- Assumes nothing.
-use mathlib.Core.Path.{_≡_, refl, sym, ap, subst, _∙_}
-use mathlib.Core.Bool.{Bool, true, false, not}
+use mathlib.Core.Path.{_≡_, refl, sym, ap, _∙_}
+use mathlib.Core.Bool.{true, not}
 use mathlib.Core.Logic.{_⊎_, inl, inr}
 use mathlib.Core.List.{List, [], _∷_}
 use mathlib.Core.Option.{Option, some, none}
-use Prim.Native.Nat.{ℕ, _-_, _≤_, _<_}
+use Prim.Native.Nat.{ℕ, _-_, _<_}
 use native.Mathlib.Omega.{arith}
 use lib.ListN.{length, take}
 use borrow.Author.Tests.{eqb-true}
-use Rattle.basics.specs.Choice.{if, both}
 use Rattle.basics.specs.Number.{hasBit}
 use Rattle.basics.proofs.Laws.{if-ind, both-left, both-right}
 use Rattle.basics.proofs.Order.{equal-or-not}
-use Rattle.tlv.specs.Tag.{isPrivate}
 use Rattle.dictionary.specs.declared.Found.{Found}
 use Rattle.dictionary.specs.declared.Found.the-variants.{At, Unknown}
 use Rattle.dictionary.specs.Rows.{rows, rowAt, find, rowCount, storeSize}
 use Rattle.dictionary.specs.Form.{fitting}
 use Rattle.dictionary.proofs.Find.{found}
 use Rattle.dictionary.proofs.Fit.{fits-length}
-use Rattle.store.specs.Place.{Value, bytesOf, valueAt, putAt}
+use Rattle.store.specs.Place.{Value, bytesOf, valueAt, isFree, putAt}
 use Rattle.store.proofs.Laws.{Fits, put-length, put-other}
 use Rattle.store.proofs.Rows.{rows-length, fits-row}
 use Rattle.reading.specs.declared.Awaited.{Awaited}
-use Rattle.reading.specs.Taking.{Item, byCard, isFree, mayStand, allowed, Work, work, takeKnown, takeFound, takeItem, takeNext, takeAll}
-use Rattle.reading.specs.Answer.{Outcome, outcome, Body, answerBit, bodyOf, bodyCount, partsOf, judged, takenParts, readTree, readBody, isRead, goodStatus, goodLength, readAnswer}
+use Rattle.reading.specs.Taking.{Item, byCard, mayCome, allowed, Work, work, takeKnown, takeFound, takeItem, takeNext, takeAll}
+use Rattle.reading.specs.Answer.{Outcome, Body, answerBit, bodyOf, bodyCount, partsOf, takenParts, readTree, readBody, readAnswer}
 
 -- an object that is put into row k of the store b, in an answer
 pub record Put (answer : ℕ) (b : List ℕ) (k : ℕ) (i : Item) : Type 0 where
@@ -35,16 +33,16 @@ pub record Put (answer : ℕ) (b : List ℕ) (k : ℕ) (i : Item) : Type 0 where
   pub fits : fitting (rowAt k) (i .value) ≡ true
   pub card : byCard (rowAt k) ≡ true
   pub brought : hasBit (rowAt k .answers) answer ≡ true
-  pub free : isFree b k ≡ true
+  pub free : isFree rows b k ≡ true
 
 put-of : (answer : ℕ) (b : List ℕ) (i : Item) (k : ℕ) → find rows (i .tag) ≡ At k → allowed answer b k (i .around) (i .value) ≡ true → Put answer b k i
-unfolding allowed
+unfolding allowed mayCome
 put-of answer b i k e a =
     let f = found rows (i .tag) k e in
-    let a₁ = both-right _ _ a in
+    let m = both-left _ _ a in
+    let a₁ = both-right _ _ m in
     let a₂ = both-right _ _ a₁ in
-    let a₃ = both-right _ _ a₂ in
-    record { row = omega (arith, rows-length); tag = f .1; fits = both-left _ _ a₃; card = both-left _ _ a; brought = both-left _ _ a₁; free = both-right _ _ a₃ }
+    record { row = omega (arith, rows-length); tag = f .1; fits = both-right _ _ a₂; card = both-left _ _ m; brought = both-left _ _ a₁; free = both-right _ _ a }
 
 -- the store keeps its size
 sized : (answer : ℕ) (b : List ℕ) (k : ℕ) (i : Item) → length b ≡ storeSize → Put answer b k i → length (putAt rows b k (i .value)) ≡ storeSize

@@ -2,17 +2,17 @@
 use mathlib.Core.Path.{_≡_, refl, sym, ap, ap₂, _∙_}
 use mathlib.Core.Bool.{Bool, true, false, not}
 use mathlib.Core.List.{List, [], _∷_, _++_}
-use Prim.Native.Nat.{ℕ, _+_, _≤_, _<_}
+use Prim.Native.Nat.{ℕ, _+_}
 use lib.ListN.{length}
-use Rattle.basics.specs.Choice.{if, both}
-use Rattle.basics.proofs.Laws.{if-yes, if-no, both-left, both-right}
+use Rattle.basics.specs.Choice.{both}
+use Rattle.basics.proofs.Laws.{if-yes, if-no, both-true, both-right, both-no-left}
 use Rattle.tlv.specs.Tag.{isPrivate}
 use Rattle.dictionary.specs.declared.Found.{Found}
 use Rattle.dictionary.specs.declared.Found.the-variants.{At, Unknown}
-use Rattle.dictionary.specs.Rows.{rows, rowAt, find}
+use Rattle.dictionary.specs.Rows.{Row, rows, rowAt, find}
 use Rattle.dictionary.specs.Form.{fitting}
-use Rattle.store.specs.Place.{putAt}
-use Rattle.reading.specs.Taking.{Item, item, byCard, allowed, Work, work, takeKnown, takeFound, takeItem, takeNext, takeAll}
+use Rattle.store.specs.Place.{isFree, putIf}
+use Rattle.reading.specs.Taking.{Item, byCard, mayCome, allowed, Work, work, takeKnown, takeFound, takeItem, takeNext, takeAll}
 
 -- ---- one object
 
@@ -29,18 +29,22 @@ module _ (answer : ℕ) (b : List ℕ) (i : Item) (x : Found) (p : x ≡ find ro
     pub item-skipped : both (isPrivate (i .tag)) (not (byCard (rowAt k))) ≡ true → takeItem answer b i ≡ work true b
     item-skipped s = known ∙ if-yes _ _ s
 
-    pub item-stored : both (isPrivate (i .tag)) (not (byCard (rowAt k))) ≡ false → allowed answer b k (i .around) (i .value) ≡ true
-        → takeItem answer b i ≡ work true (putAt rows b k (i .value))
-    item-stored s a = known ∙ if-no _ _ s ∙ if-yes _ _ a
-
-    pub item-refused : both (isPrivate (i .tag)) (not (byCard (rowAt k))) ≡ false → allowed answer b k (i .around) (i .value) ≡ false
+    pub item-barred : both (isPrivate (i .tag)) (not (byCard (rowAt k))) ≡ false → mayCome answer (rowAt k) (i .around) (i .value) ≡ false
         → takeItem answer b i ≡ work false b
-    item-refused s a = known ∙ if-no _ _ s ∙ if-no _ _ a
+    unfolding allowed
+    item-barred s a = known ∙ if-no _ _ s ∙ if-no _ _ (both-no-left _ _ a)
 
--- an allowed value fits its row
-pub allowed-fits : (answer : ℕ) (b : List ℕ) (k around : ℕ) (v : List ℕ) → allowed answer b k around v ≡ true → fitting (rowAt k) v ≡ true
-unfolding allowed
-allowed-fits answer b k around v e = both-left _ _ (both-right _ _ (both-right _ _ (both-right _ _ e)))
+    -- an object that may come is put where no bytes are there yet
+    pub item-put : both (isPrivate (i .tag)) (not (byCard (rowAt k))) ≡ false → mayCome answer (rowAt k) (i .around) (i .value) ≡ true
+        → (r : Bool) → r ≡ isFree rows b k → takeItem answer b i ≡ work r (putIf r rows b k (i .value))
+    unfolding allowed
+    item-put s a true e = known ∙ if-no _ _ s ∙ if-yes _ _ (both-true _ a ∙ sym e) ∙ ap (work true) (sym (if-yes _ _ refl))
+    item-put s a false e = known ∙ if-no _ _ s ∙ if-no _ _ (both-true _ a ∙ sym e) ∙ ap (work false) (sym (if-no _ _ refl))
+
+-- a value that may come fits its row
+pub may-come-fits : (answer : ℕ) (r : Row) (around : ℕ) (v : List ℕ) → mayCome answer r around v ≡ true → fitting r v ≡ true
+unfolding mayCome
+may-come-fits answer r around v e = both-right _ _ (both-right _ _ (both-right _ _ e))
 
 -- ---- one after the other
 

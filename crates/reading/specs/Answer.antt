@@ -2,18 +2,18 @@
 -- the encoding, the outer tag and body, the objects. The store is whole or as it was.
 -- Assumes nothing.
 use mathlib.Core.Path.{_≡_}
-use mathlib.Core.Bool.{Bool, true, false}
-use mathlib.Core.List.{List, [], _∷_, _++_}
+use mathlib.Core.Bool.{Bool, true}
+use mathlib.Core.List.{List, [], _∷_}
 use mathlib.Core.Option.{Option, some, none}
 use Prim.Native.Nat.{ℕ, _+_, _-_, _%_}
-use lib.Dec.{ltb, leb, eqb}
+use lib.Dec.{leb, eqb}
 use lib.ListN.{length, getD, take, drop}
-use Rattle.basics.specs.Choice.{if, both, either}
-use Rattle.tlv.specs.declared.Header.{Header}
+use Rattle.basics.specs.Choice.{if, both}
+use Rattle.basics.specs.Reason.{reasonNone, reasonStatus, reasonMalformed, reasonNotAllowed}
 use Rattle.tlv.specs.declared.Front.{Front}
 use Rattle.tlv.specs.declared.Front.the-variants.{Object, Broken}
 use Rattle.tlv.specs.Object.{headerOf, valueIn}
-use Rattle.tlv.specs.Tree.{Forest, end, leaf, node, count, parse}
+use Rattle.tlv.specs.Tree.{Forest, end, count, parse}
 use Rattle.dictionary.specs.Rows.{options, record′, cryptogram}
 use Rattle.reading.specs.declared.Awaited.{Awaited}
 use Rattle.reading.specs.declared.Awaited.the-variants.{Options, Record, Cryptogram}
@@ -26,10 +26,10 @@ use Rattle.reading.specs.Taking.{Item, item, items, Work, work, takeAll}
 
 -- document 01's number of each verdict; 0 where the answer gives no reason
 abbrev pub numberOf : Verdict → ℕ
-numberOf Accepted = 0
-numberOf BadStatus = 1
-numberOf Malformed = 2
-numberOf NotAllowed = 3
+numberOf Accepted = reasonNone
+numberOf BadStatus = reasonStatus
+numberOf Malformed = reasonMalformed
+numberOf NotAllowed = reasonNotAllowed
 
 -- what a reading gives: the reason's number, how many objects it visited, and the store
 pub record Outcome : Type 0 where
@@ -136,16 +136,16 @@ partsOf a (template t f) = templateParts a t f
 
 -- after the objects: the store as they left it if all were allowed, else as it was
 abbrev pub judged : List ℕ → ℕ → Work → Outcome
-judged b n w = if (w .good) (outcome 0 n (w .store)) (outcome 3 n b)
+judged b n w = if (w .good) (outcome reasonNone n (w .store)) (outcome reasonNotAllowed n b)
 
 -- a wrong outer tag or body is reason 2, its count the tree's; else the objects are taken in order
 abbrev pub takenParts : Awaited → List ℕ → ℕ → Option (List Item) → Outcome
-takenParts a b n none = outcome 2 n b
+takenParts a b n none = outcome reasonMalformed n b
 takenParts a b n (some is) = judged b n (takeAll (answerBit a) (work true b) is)
 
 -- a malformed encoding is reason 2 with count 0
 abbrev pub readTree : Awaited → List ℕ → Option Body → Outcome
-readTree a b none = outcome 2 0 b
+readTree a b none = outcome reasonMalformed 0 b
 readTree a b (some body) = takenParts a b (bodyCount body) (partsOf a body)
 
 -- the body of an answer, into the store b
@@ -170,5 +170,5 @@ goodLength s = both (leb 2 (length s)) (leb (length s) 258)
 unfoldable pub readAnswer : Awaited → List ℕ → List ℕ → Outcome
 readAnswer a b s =
     if (goodLength s)
-    (if (goodStatus s) (if (isRead a) (readBody a b (take (length s - 2) s)) (outcome 0 0 b)) (outcome 1 0 b))
-    (outcome 2 0 b)
+    (if (goodStatus s) (if (isRead a) (readBody a b (take (length s - 2) s)) (outcome reasonNone 0 b)) (outcome reasonStatus 0 b))
+    (outcome reasonMalformed 0 b)

@@ -5,7 +5,6 @@ use mathlib.Core.Bool.{Bool, true, false, not}
 use mathlib.Core.List.{List, [], _∷_, _++_}
 use Prim.Native.Nat.{ℕ}
 use lib.Dec.{eqb}
-use lib.ListN.{length}
 use Rattle.basics.specs.Choice.{if, both}
 use Rattle.basics.specs.Number.{hasBit}
 use Rattle.tlv.specs.Tag.{isPrivate}
@@ -14,7 +13,7 @@ use Rattle.dictionary.specs.declared.Found.{Found}
 use Rattle.dictionary.specs.declared.Found.the-variants.{At, Unknown}
 use Rattle.dictionary.specs.Rows.{Row, rows, rowAt, find, card, in70, in77}
 use Rattle.dictionary.specs.Form.{fitting}
-use Rattle.store.specs.Place.{bytesOf, valueAt, putAt}
+use Rattle.store.specs.Place.{isFree, putAt}
 
 -- a primitive object as it stands in an answer: the tag of the template directly around it, its own tag, its value
 pub record Item : Type 0 where
@@ -39,16 +38,13 @@ mayStand r around = if (eqb around 0x70) (hasBit (r .templates) in70) (if (eqb a
 abbrev pub byCard : Row → Bool
 byCard r = hasBit (r .setters) card
 
--- a row holds no bytes yet: absent, or present and empty
-abbrev pub isFree : List ℕ → ℕ → Bool
-isFree b k = eqb (length (bytesOf (valueAt rows b k))) 0
+-- the card may bring a row's object in this answer, directly inside this template, with this value: length and digits fit
+unfoldable pub mayCome : ℕ → Row → ℕ → List ℕ → Bool
+mayCome answer r around v = both (byCard r) (both (hasBit (r .answers) answer) (both (mayStand r around) (fitting r v)))
 
--- the card may set row k's object here, in this answer, with this value: the template is the named one, length and digits fit,
--- and no non-empty one is there
+-- the card may set row k's object so, and no non-empty one is there
 unfoldable pub allowed : ℕ → List ℕ → ℕ → ℕ → List ℕ → Bool
-allowed answer b k around v =
-    both (byCard (rowAt k)) (both (hasBit (rowAt k .answers) answer) (both (mayStand (rowAt k) around)
-    (both (fitting (rowAt k) v) (isFree b k))))
+allowed answer b k around v = both (mayCome answer (rowAt k) around v) (isFree rows b k)
 
 -- the store while objects are taken, and whether every one so far was allowed
 pub record Work : Type 0 where

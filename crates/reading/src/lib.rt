@@ -3,6 +3,7 @@
 // `read_answer` takes the whole answer with its status bytes, `read_body` the body alone. Inside, the
 // objects go into one working copy that is lent down the templates; the store is written only where
 // every object was allowed.
+use dictionary::Attributes;
 use dictionary::Found;
 use dictionary::SIZE;
 use tlv::Following;
@@ -13,10 +14,12 @@ ghost use mathlib.Core.Option.{some};
 ghost use Prim.Native.Nat.{_+_, _*_, _^_, _≤_, _<_};
 ghost use lib.ListN.{length};
 ghost use Rattle.basics.specs.Choice.{both};
-ghost use Rattle.dictionary.specs.Rows.{rowAt, storeSize, cryptogram};
+ghost use Rattle.basics.specs.Number.{hasBit};
+ghost use Rattle.dictionary.specs.Rows.{Row, storeSize, cryptogram};
+ghost use Rattle.dictionary.specs.Packing.{attributesOf};
 ghost use Rattle.tlv.specs.Tag.{isPrivate};
 ghost use Rattle.tlv.specs.Tree.{parse};
-ghost use Rattle.reading.specs.Taking.{item, allowed, byCard, mayStand, work, takeItem, takeNext, takeAll};
+ghost use Rattle.reading.specs.Taking.{item, mayCome, byCard, mayStand, work, takeItem, takeNext, takeAll};
 ghost use Rattle.reading.specs.Walk.{Leaves, counted};
 ghost use Rattle.reading.specs.Answer.{Gives, storeAfter, numberOf, answerBit, templateTag, primitive, templateBody, optionsParts, issuerPart, cryptogramParts, takenParts, readTree, readBody, isRead, goodStatus, readAnswer, made};
 
@@ -59,7 +62,7 @@ pub enum Contents {
 }
 
 // The whole answer to the command that was handed out, status bytes included.
-pub fn read_answer(store: &mut [u8; SIZE], awaited: Awaited, answer: &[u8]) -> Reading
+pub fn read_answer(store: &mut [u8], awaited: Awaited, answer: &[u8]) -> Reading
     requires { ⌜ length (now store) ≡ storeSize ⌝ }
     ensures given { λ r. ⌜ Gives r (now (store .exit)) (readAnswer awaited (now (store .entry)) (now (answer .entry))) ⌝ }
     ensures sized { λ _. ⌜ length (now (store .exit)) ≡ storeSize ⌝ }
@@ -83,19 +86,20 @@ pub fn read_answer(store: &mut [u8; SIZE], awaited: Awaited, answer: &[u8]) -> R
 }
 
 // The body of an answer, read into a working copy, which is the store where all was accepted.
-pub fn read_body(store: &mut [u8; SIZE], awaited: Awaited, body: &[u8]) -> Reading
+pub fn read_body(store: &mut [u8], awaited: Awaited, body: &[u8]) -> Reading
     requires { ⌜ length (now store) ≡ storeSize ⌝ }
     ensures given { λ r. ⌜ Gives r (now (store .exit)) (readBody awaited (now (store .entry)) (now (body .entry))) ⌝ }
     ensures sized { λ _. ⌜ length (now (store .exit)) ≡ storeSize ⌝ }
     ensures half { λ r. ⌜ 2 * r .objects ≤ length (now (body .entry)) ⌝ }
 {
-    let mut work = *store;
+    let mut work = [0u8; SIZE];
+    bytes::copy(store, &mut work);
     let reading = read_object(&mut work, awaited, body);
     let verdict = reading.verdict;
     let Verdict::Accepted = verdict else {
         return reading;
     };
-    *store = work;
+    bytes::copy(&work, store);
     reading
 }
 
@@ -104,10 +108,10 @@ pub fn number(verdict: Verdict) -> u8
     ensures { λ r. ⌜ r ≡ numberOf verdict ⌝ }
 {
     match verdict {
-        Verdict::Accepted => 0,
-        Verdict::BadStatus => 1,
-        Verdict::Malformed => 2,
-        Verdict::NotAllowed => 3,
+        Verdict::Accepted => basics::REASON_NONE,
+        Verdict::BadStatus => basics::REASON_STATUS,
+        Verdict::Malformed => basics::REASON_MALFORMED,
+        Verdict::NotAllowed => basics::REASON_NOT_ALLOWED,
     }
 }
 
@@ -392,52 +396,62 @@ fn take_object(tag: u32, around: u32, answer: u8, v: &[u8], store: &mut [u8; SIZ
     let Found::At(row) = found else {
         return true;
     };
-    if is_skipped(tag, row) {
+    let attributes = dictionary::attributes_of(row);
+    if is_skipped(tag, attributes) {
         return true;
     }
-    let all = &store[..];
-    if !is_allowed(all, row, around, answer, v) {
+    if !may_come(attributes, around, answer, v) {
         return false;
     }
-    store::put(store, row, v);
-    true
+    store::put_free(store, row, v)
 }
 
 // Whether a known object is passed over: of the private class, and not the card's to set.
-fn is_skipped(tag: u32, row: usize) -> bool
-    ensures { λ r. ⌜ r ≡ both (isPrivate tag) (not (byCard (rowAt row))) ⌝ }
+fn is_skipped(tag: u32, attributes: Attributes) -> bool
+    ensures { λ r. ⌜ ((x : Row) → attributes ≡ attributesOf x → r ≡ both (isPrivate tag) (not (byCard x))) ⌝ }
 {
-    if tlv::is_private(tag) {
-        return dictionary::setters(row) / dictionary::CARD % 2 != 1;
+    if attributes.setters / dictionary::CARD % 2 == 1 {
+        return false;
     }
-    false
+    tlv::is_private(tag)
 }
 
-// Whether the card may set a row's object here, with this value.
-fn is_allowed(bytes: &[u8], row: usize, around: u32, answer: u8, v: &[u8]) -> bool
+// Whether the card may bring an object of these attributes here, with this value.
+fn may_come(attributes: Attributes, around: u32, answer: u8, v: &[u8]) -> bool
     requires { ⌜ 0 < answer ⌝ }
-    ensures { λ r. ⌜ r ≡ allowed answer (now (bytes .entry)) row around (now (v .entry)) ⌝ }
+    ensures { λ r. ⌜ ((x : Row) → attributes ≡ attributesOf x → r ≡ mayCome answer x around (now (v .entry))) ⌝ }
 {
-    if dictionary::setters(row) / dictionary::CARD % 2 != 1 {
+    if attributes.setters / dictionary::CARD % 2 != 1 {
         return false;
     }
-    if dictionary::answers(row) / answer % 2 != 1 {
+    if !is_brought_by(attributes.answers, answer) {
         return false;
     }
-    if !may_stand(row, around) {
+    if !may_stand(attributes.templates, around) {
         return false;
     }
-    if !dictionary::fits(row, v) {
-        return false;
-    }
-    store::value(bytes, row).len() == 0
+    dictionary::fits(attributes, v)
 }
 
-// Whether a row's object may stand directly inside a template.
-fn may_stand(row: usize, around: u32) -> bool
-    ensures { λ r. ⌜ r ≡ mayStand (rowAt row) around ⌝ }
+// Whether an answer is one of those that may bring an object. The last test would do for all; the first
+// two spare a division.
+fn is_brought_by(answers: u8, answer: u8) -> bool
+    requires { ⌜ 0 < answer ⌝ }
+    ensures { λ r. ⌜ r ≡ hasBit answers answer ⌝ }
 {
-    let templates = dictionary::templates(row);
+    if answer == dictionary::RECORD {
+        return answers / dictionary::RECORD % 2 == 1;
+    }
+    if answer == dictionary::CRYPTOGRAM {
+        return answers / dictionary::CRYPTOGRAM % 2 == 1;
+    }
+    answers / answer % 2 == 1
+}
+
+// Whether an object of these templates may stand directly inside a template.
+fn may_stand(templates: u8, around: u32) -> bool
+    ensures { λ r. ⌜ ((x : Row) → templates ≡ x .templates → r ≡ mayStand x around) ⌝ }
+{
     if around == 0x70 {
         return templates / dictionary::IN_70 % 2 == 1;
     }

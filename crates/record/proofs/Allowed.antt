@@ -18,7 +18,7 @@ use Rattle.record.specs.declared.Outcome.{Outcome}
 use Rattle.record.specs.declared.Asked.{Asked}
 use Rattle.record.specs.declared.Phase.{Phase}
 use Rattle.record.specs.declared.Session.{Session}
-use Rattle.record.specs.Numbers.{reasonNone}
+use Rattle.basics.specs.Reason.{reasonNone}
 use Rattle.record.specs.Session.{stored, freshSession, endedSession, storedSession, endOf}
 use Rattle.record.specs.Ranges.{inRanges}
 use Rattle.record.specs.Clauses.{OnOptions, OnCryptogram, InPhase}

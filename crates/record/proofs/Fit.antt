@@ -9,17 +9,21 @@ use native.Mathlib.Numerals.{add-one}
 use borrow.Author.Tests.{le-leb, lt-leb}
 use lib.Dec.{leb, eqb}
 use lib.ListN.{length, getD, take, drop, length-take, length-drop}
-use Rattle.basics.specs.Choice.{both, either}
+use Rattle.basics.specs.Choice.{both, either, every}
 use Rattle.basics.proofs.Laws.{both-yes, both-true, both-no-left}
-use Rattle.dictionary.specs.Rows.{Row, rows, blank, rowAt, rowCount, storeSize, optional}
+use Rattle.dictionary.specs.declared.Attributes.{Attributes}
+use Rattle.dictionary.specs.Rows.{Row, rows, rowAt, rowCount, storeSize, optional}
+use Rattle.dictionary.specs.Packing.{attributesOf, codeOf, attributesIn}
 use Rattle.dictionary.specs.Form.{fitting, digitsFit}
 use Rattle.dictionary.proofs.Fit.{too-short, by-form}
 use Rattle.dictionary.proofs.Table.{column}
+use Rattle.dictionary.proofs.Packing.{code-unpacks}
 use Rattle.store.specs.Place.{room, offsetIn, placeAt, valueAt, lengthByte}
 use Rattle.store.proofs.Laws.{zero-absent, held-bytes, there-is, length-byte-at}
 use Rattle.store.proofs.Places.{offset-next}
 use Rattle.store.proofs.Rows.{row-inside}
-use Rattle.record.specs.Ranges.{valueFits, placeFits, objectFits, isBrought}
+use Rattle.record.specs.Ranges.{valueFits, placeFits, objectFits, allFit, isBrought, brought}
+use Rattle.record.proofs.Every.{every-both, every-either}
 use Rattle.record.proofs.Tags.{rows-length, row-found, value-is, held-is, length-is}
 
 -- the value in a place that is not empty
@@ -61,32 +65,57 @@ object-place b k h =
     let f = row-found k h in
     sym (ap₂ (λ (n : ℕ) (y : Bool). both (leb n (room (rowAt k))) y) (length-is b _ k f) (ap (valueFits (rowAt k)) (value-is b _ k f)))
 
--- the object of row k is brought by its length byte
+-- the object of row k is brought by its place's first byte
+object-there : (b : List ℕ) (k : ℕ) → k < rowCount
+    → isBrought b (rowAt k) ≡ either (eqb (rowAt k .must) optional) (not (eqb (getD (placeAt rows b k) 0 0) 0))
+unfolding isBrought lengthByte
+object-there b k h = ap (either (eqb (rowAt k .must) optional)) (held-is b _ k (row-found k h) refl refl ∙ there-is rows b k)
+
+-- and by the byte where its place starts
 pub object-brought : (b : List ℕ) (k : ℕ) → k < rowCount
     → isBrought b (rowAt k) ≡ either (eqb (rowAt k .must) optional) (not (eqb (getD b (offsetIn rows k) 0) 0))
-unfolding isBrought
+unfolding lengthByte
 object-brought b k h =
-    ap (either (eqb (rowAt k .must) optional))
-    (held-is b _ k (row-found k h) refl refl ∙ there-is rows b k ∙ ap (λ (n : ℕ). not (eqb n 0)) (length-byte-at rows b k))
+    object-there b k h ∙ ap (λ (n : ℕ). either (eqb (rowAt k .must) optional) (not (eqb n 0))) (length-byte-at rows b k)
+
+-- ---- both tests at once
+
+-- the object of a row fits, and is there where that is asked
+abbrev pub objectKeeps : Bool → List ℕ → Row → Bool
+objectKeeps asked b r = both (objectFits b r) (either (not asked) (isBrought b r))
+
+-- the same of what stands in its place
+abbrev pub placeKeeps : Bool → Row → List ℕ → Bool
+placeKeeps asked r p = both (placeFits r p) (either (not asked) (either (eqb (r .must) optional) (not (eqb (getD p 0 0) 0))))
+
+pub object-keeps : (asked : Bool) (b : List ℕ) (k : ℕ) → k < rowCount → objectKeeps asked b (rowAt k) ≡ placeKeeps asked (rowAt k) (placeAt rows b k)
+object-keeps asked b k h = ap₂ both (object-place b k h) (ap (either (not asked)) (object-there b k h))
+
+pub all-keeps : (asked : Bool) (b : List ℕ) → both (allFit b) (either (not asked) (brought b)) ≡ every (objectKeeps asked b) rows
+unfolding allFit brought
+all-keeps asked b =
+    sym (every-both (objectFits b) (λ r. either (not asked) (isBrought b r)) rows
+    ∙ ap (both (every (objectFits b) rows)) (every-either (not asked) (isBrought b) rows))
 
 -- ---- a walk over the rows and their places
 
--- the entry of a column that is held as an array
-pub from-column : (f : Row → ℕ) (l : List ℕ) (k : ℕ) → l ≡ map f rows → getD l k (f blank) ≡ f (rowAt k)
-from-column f l k e = ap (λ (x : List ℕ). getD x k (f blank)) e ∙ column f rows k
+-- what a row says, out of its number in the array of all rows
+pub row-read : (l : List ℕ) (k : ℕ) (a : Attributes) → k < rowCount → l ≡ map codeOf rows → a ≡ attributesIn (getD l k 0) → a ≡ attributesOf (rowAt k)
+row-read l k a h e u =
+    u ∙ ap (λ (x : List ℕ). attributesIn (getD x k 0)) e ∙ ap attributesIn (column codeOf rows k) ∙ code-unpacks k (omega (arith, rows-length))
 
--- row k's place, by where it starts and by the entry w of the greatest lengths: it lies inside, and the next one starts behind it
+-- row k's place, by where it starts and its greatest length w: it lies inside, and the next one starts behind it
 pub record Stands (k at w : ℕ) : Type 0 where
   pub inside : at + w + 1 ≤ storeSize
   pub next : at + w + 1 ≡ offsetIn rows (k + 1)
   pub whole : room (rowAt k) ≡ w + 1
 
-pub stands : (k at w : ℕ) (l : List ℕ) → k < rowCount → at ≡ offsetIn rows k → l ≡ map (λ (x : Row). x .greatest) rows → w ≡ getD l k 0 → Stands k at w
-stands k at w l h e c g =
-    let m : w ≡ rowAt k .greatest = g ∙ from-column (λ (x : Row). x .greatest) l k c in
+pub stands : (k at : ℕ) (a : Attributes) → k < rowCount → at ≡ offsetIn rows k → a ≡ attributesOf (rowAt k) → Stands k at (a .greatest)
+stands k at a h e r =
+    let m : a .greatest ≡ rowAt k .greatest = ap (λ (x : Attributes). x .greatest) r in
     let i = row-inside k h in
     let n : offsetIn rows (k + 1) ≡ offsetIn rows k + room (rowAt k) =
-        ap (offsetIn rows) (add-one k) ∙ offset-next rows k (omega (arith, rows-length)) in
+    ap (offsetIn rows) (add-one k) ∙ offset-next rows k (omega (arith, rows-length)) in
     record { inside = omega arith; next = omega arith; whole = omega arith }
 
 -- the part of a store that is row k's place

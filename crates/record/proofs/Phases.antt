@@ -17,7 +17,8 @@ use Rattle.record.specs.declared.Asked.{Asked}
 use Rattle.record.specs.declared.End.{End}
 use Rattle.record.specs.declared.Phase.{Phase}
 use Rattle.record.specs.declared.Session.{Session}
-use Rattle.record.specs.Numbers.{goesWith, outcomeFor, reasonMode}
+use Rattle.record.specs.Numbers.{goesWith, outcomeFor}
+use Rattle.basics.specs.Reason.{reasonMode}
 use Rattle.record.specs.Session.{stored, freshSession, waitingSession, endedSession, endOf}
 use Rattle.record.specs.Held.{holds}
 use Rattle.record.specs.Ranges.{emvMode, locatorIn, mostCommands, inRanges}

@@ -8,7 +8,8 @@ use lib.Dec.{eqb}
 use borrow.Author.Tests.{eq-eqb, ne-eqb, eqb-true, eqb-false, le-leb, leb-true, not-true}
 use Rattle.basics.proofs.Laws.{bool-cases, if-yes, if-no, both-yes, both-left, both-right}
 use Rattle.record.specs.declared.Outcome.{Outcome}
-use Rattle.record.specs.Numbers.{reasonNone, reasonAboveLimit, reasonMode, goesWith, outcomeFor}
+use Rattle.record.specs.Numbers.{goesWith, outcomeFor}
+use Rattle.basics.specs.Reason.{reasonNone, reasonAboveLimit, reasonMode}
 
 -- a decision has no reason
 pub decided : (goesWith Outcome.Approved reasonNone ≡ true) × (goesWith Outcome.OnlineRequest reasonNone ≡ true) × (goesWith Outcome.Declined reasonNone ≡ true)

@@ -26,10 +26,12 @@ use Rattle.dictionary.proofs.Fit.{fits-length}
 use Rattle.store.specs.Place.{Value, absent, present, bytesOf, isThere, offsetIn, lengthByte, valueAt, valueOf, putAt}
 use Rattle.store.proofs.Laws.{lies, put-length, put-get, put-other, place-other, length-byte-at, by-row, unknown-absent, empty-holds-nothing}
 use Rattle.store.proofs.Rows.{fits-row, rows-size}
-use Rattle.record.specs.Held.{holds}
-use Rattle.record.specs.Ranges.{valueFits, cryptogramTags}
+use Rattle.record.specs.Held.{holds, isZero}
+use Rattle.record.specs.Ranges.{valueFits, allFit, cryptogramTags}
 use Rattle.record.specs.Clauses.{ObjectFits, Fits, Running}
 use Rattle.record.proofs.Tags.{row-found, rows-length, value-is, length-is}
+use Rattle.record.proofs.Values.{zeros-of}
+use Rattle.record.proofs.Laws.{fits-all}
 
 -- an object fits by what stands in its row's place
 row-fits : (b : List ℕ) (k : ℕ) → k < rowCount → lengthByte rows b k ≤ rowAt k .greatest + 1 → valueFits (rowAt k) (valueAt rows b k) ≡ true → ObjectFits b (rowAt k)
@@ -62,6 +64,10 @@ pub empty-fits : Fits (replicate storeSize 0)
 empty-fits k h =
     let z = length-byte-at rows (replicate storeSize 0) k ∙ zeros-at 943 (offsetIn rows k) in
     row-fits (replicate storeSize 0) k h (omega arith) (ap (valueFits (rowAt k)) (empty-value k))
+
+-- a store of zeros is the empty one
+pub zeros-fit : (b : List ℕ) → length b ≡ storeSize → every isZero b ≡ true → allFit b ≡ true
+zeros-fit b l e = ap allFit (zeros-of b e ∙ ap (λ (n : ℕ). replicate n 0) l) ∙ fits-all (replicate storeSize 0) empty-fits
 
 -- it holds nothing
 pub empty-lacks : (t : ℕ) → valueOf (replicate storeSize 0) t ≡ absent

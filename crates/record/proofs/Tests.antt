@@ -1,4 +1,4 @@
--- Joined tests where the second is known, and the test that a number is not 0. Assumes nothing.
+-- Joined tests where the second is known or that are joined in another order, and the test that a number is not 0. Assumes nothing.
 use mathlib.Core.Path.{_≡_, refl, sym, ap, _∙_}
 use mathlib.Core.Bool.{Bool, true, false, not}
 use mathlib.Core.Logic.{inl, inr}
@@ -6,13 +6,33 @@ use Prim.Native.Nat.{ℕ, zero, suc, _+_, _-_, _≤_}
 use native.Mathlib.Omega.{arith}
 use lib.Dec.{eqb, ltb}
 use borrow.Author.Tests.{eq-eqb, ne-eqb, eqb-true, eqb-false, lt-ltb, le-ltb}
-use Rattle.basics.specs.Choice.{both}
+use Rattle.basics.specs.Choice.{both, either}
 use Rattle.basics.proofs.Laws.{bool-cases}
 
 pub both-right-true : {b : Bool} (a : Bool) → b ≡ true → both a b ≡ a
 unfolding both
 both-right-true true e = e
 both-right-true false e = refl
+
+-- a test that holds where the other does adds nothing
+pub both-implied : (a b : Bool) → (b ≡ true → a ≡ true) → both a b ≡ b
+unfolding both
+both-implied true b h = refl
+both-implied false true h = h refl
+both-implied false false h = refl
+
+pub either-right-false : {b : Bool} (a : Bool) → b ≡ false → either a b ≡ a
+unfolding either
+either-right-false true e = refl
+either-right-false false e = e
+
+-- two pairs of tests, joined crosswise
+pub both-cross : (a b x y : Bool) → both (both a b) (both x y) ≡ both (both a x) (both b y)
+unfolding both
+both-cross true true x y = refl
+both-cross true false true y = refl
+both-cross true false false y = refl
+both-cross false b x y = refl
 
 -- not 0 is above 0
 pub some-not-none : (n : ℕ) → not (eqb n 0) ≡ ltb 0 n

@@ -11,7 +11,7 @@ use Rattle.dictionary.specs.Rows.{Row, rows, optional, storeSize}
 use Rattle.dictionary.specs.Form.{fitting}
 use Rattle.dictionary.specs.TerminalType.{listed}
 use Rattle.store.specs.Place.{Value, absent, present, held, valueOf, room}
-use Rattle.locator.specs.Entry.{between}
+use Rattle.basics.specs.Number.{between}
 use Rattle.locator.specs.Records.{accepts, total}
 use Rattle.analysis.specs.Bits.{has}
 use Rattle.record.specs.declared.Place.{Place}

@@ -6,7 +6,7 @@
 // field is added there.
 use analysis::choice::Choice;
 use dictionary::{
-    ROWS, ROW_5A, ROW_5F24, ROW_82, ROW_8C, ROW_94, ROW_95, ROW_9F10, ROW_9F26, ROW_9F27, ROW_9F35, ROW_9F36, SIZE,
+    Attributes, ROWS, ROW_5A, ROW_5F24, ROW_82, ROW_8C, ROW_94, ROW_95, ROW_9F10, ROW_9F26, ROW_9F27, ROW_9F35, ROW_9F36, SIZE,
 };
 use locator::Checked;
 use store::Store;
@@ -15,8 +15,9 @@ ghost use Prim.Native.Nat.{_<_};
 ghost use mathlib.Core.Bool.{not};
 ghost use lib.Dec.{eqb};
 ghost use lib.ListN.{length, getD};
-ghost use Rattle.basics.specs.Choice.{either, every};
+ghost use Rattle.basics.specs.Choice.{both, either, every};
 ghost use Rattle.dictionary.specs.Rows.{Row, optional, storeSize};
+ghost use Rattle.dictionary.specs.Packing.{attributesOf};
 ghost use Rattle.store.specs.Place.{room};
 ghost use Rattle.record.specs.Numbers.{outcomeNumber, goesWith, outcomeFor};
 ghost use Rattle.record.specs.Session.{sessionOf, freshSession, waitingSession, replyOf, refusedTurn, endsTurn, failsTurn, commandsTurn};
@@ -91,28 +92,6 @@ pub struct Turn {
     pub answer: Answer,
 }
 
-// Why a call is refused.
-pub const REFUSED_BYTES: u8 = 20;
-pub const REFUSED_PHASE: u8 = 21;
-pub const REFUSED_BUFFER: u8 = 22;
-pub const REFUSED_OBJECT: u8 = 23;
-pub const REFUSED_ABSENT: u8 = 24;
-pub const REFUSED_RANGES: u8 = 25;
-
-// Why a session ends.
-pub const REASON_NONE: u8 = 0;
-pub const REASON_STATUS: u8 = 1;
-pub const REASON_MALFORMED: u8 = 2;
-pub const REASON_NOT_ALLOWED: u8 = 3;
-pub const REASON_MISSING: u8 = 4;
-pub const REASON_LOCATOR: u8 = 5;
-pub const REASON_ABOVE_LIMIT: u8 = 6;
-pub const REASON_DATA_LIST: u8 = 7;
-pub const REASON_CRYPTOGRAM: u8 = 8;
-pub const REASON_LINK: u8 = 9;
-pub const REASON_STOPPED: u8 = 10;
-pub const REASON_MODE: u8 = 11;
-
 // The most commands that a session hands out.
 const MOST: u8 = 130;
 
@@ -133,7 +112,7 @@ pub fn outcome_number(outcome: Outcome) -> u8
 pub fn outcome_for(reason: u8) -> Outcome
     ensures { λ r. ⌜ r ≡ outcomeFor reason ⌝ }
 {
-    if reason == REASON_ABOVE_LIMIT {
+    if reason == basics::REASON_ABOVE_LIMIT {
         return Outcome::SelectNext;
     }
     Outcome::Ended
@@ -244,21 +223,19 @@ pub fn keeps(phase: Phase, count: u8, bytes: &[u8]) -> bool
     if bytes.len() != SIZE {
         return false;
     }
-    if !all_fit(bytes) {
-        return false;
-    }
     match phase {
         Phase::Fresh => fresh_keeps(count, bytes),
         Phase::Options => options_keep(count, bytes),
         Phase::Record(place) => record_keeps(place, count, bytes),
         Phase::Cryptogram(_) => cryptogram_keeps(count, bytes),
-        Phase::Ended(end) => ended_keeps(end, count),
+        Phase::Ended(end) => ended_keeps(end, count, bytes),
     }
 }
 
-// Fresh: no command was handed out and the store is all zeros.
+// Fresh: no command was handed out and the store is all zeros, so that every object fits.
 fn fresh_keeps(count: u8, bytes: &[u8]) -> bool
-    ensures { λ r. ⌜ r ≡ freshRanges count (now (bytes .entry)) ⌝ }
+    requires { ⌜ length (now bytes) ≡ storeSize ⌝ }
+    ensures { λ r. ⌜ r ≡ both (allFit (now (bytes .entry))) (freshRanges count (now (bytes .entry))) ⌝ }
 {
     if count != 0 {
         return false;
@@ -268,7 +245,8 @@ fn fresh_keeps(count: u8, bytes: &[u8]) -> bool
 
 // Waiting on processing options: nothing of their answer is there yet.
 fn options_keep(count: u8, bytes: &[u8]) -> bool
-    ensures { λ r. ⌜ r ≡ optionsRanges count (now (bytes .entry)) ⌝ }
+    requires { ⌜ length (now bytes) ≡ storeSize ⌝ }
+    ensures { λ r. ⌜ r ≡ both (allFit (now (bytes .entry))) (optionsRanges count (now (bytes .entry))) ⌝ }
 {
     if !runs(bytes) {
         return false;
@@ -287,7 +265,8 @@ fn options_keep(count: u8, bytes: &[u8]) -> bool
 
 // Waiting on a record that the stored locator names.
 fn record_keeps(place: Place, count: u8, bytes: &[u8]) -> bool
-    ensures { λ r. ⌜ r ≡ recordRanges place count (now (bytes .entry)) ⌝ }
+    requires { ⌜ length (now bytes) ≡ storeSize ⌝ }
+    ensures { λ r. ⌜ r ≡ both (allFit (now (bytes .entry))) (recordRanges place count (now (bytes .entry))) ⌝ }
 {
     if !runs(bytes) {
         return false;
@@ -315,7 +294,8 @@ fn record_keeps(place: Place, count: u8, bytes: &[u8]) -> bool
 
 // Waiting on the cryptogram: every record was asked for, and what the choice needs is there.
 fn cryptogram_keeps(count: u8, bytes: &[u8]) -> bool
-    ensures { λ r. ⌜ r ≡ cryptogramRanges count (now (bytes .entry)) ⌝ }
+    requires { ⌜ length (now bytes) ≡ storeSize ⌝ }
+    ensures { λ r. ⌜ r ≡ both (allFit (now (bytes .entry))) (cryptogramRanges count (now (bytes .entry))) ⌝ }
 {
     if !runs(bytes) {
         return false;
@@ -338,9 +318,13 @@ fn cryptogram_keeps(count: u8, bytes: &[u8]) -> bool
 }
 
 // Ended: a count that a session can reach, and a reason with its outcome.
-fn ended_keeps(end: End, count: u8) -> bool
-    ensures { λ r. ⌜ r ≡ endedRanges end count ⌝ }
+fn ended_keeps(end: End, count: u8, bytes: &[u8]) -> bool
+    requires { ⌜ length (now bytes) ≡ storeSize ⌝ }
+    ensures { λ r. ⌜ r ≡ both (allFit (now (bytes .entry))) (endedRanges end count) ⌝ }
 {
+    if !all_keep(bytes, false) {
+        return false;
+    }
     if MOST < count {
         return false;
     }
@@ -353,10 +337,10 @@ pub fn reason_goes(outcome: Outcome, reason: u8) -> bool
     ensures { λ r. ⌜ r ≡ goesWith outcome reason ⌝ }
 {
     match outcome {
-        Outcome::Approved => reason == REASON_NONE,
-        Outcome::OnlineRequest => reason == REASON_NONE,
-        Outcome::Declined => reason == REASON_NONE,
-        Outcome::SelectNext => reason == REASON_ABOVE_LIMIT,
+        Outcome::Approved => reason == basics::REASON_NONE,
+        Outcome::OnlineRequest => reason == basics::REASON_NONE,
+        Outcome::Declined => reason == basics::REASON_NONE,
+        Outcome::SelectNext => reason == basics::REASON_ABOVE_LIMIT,
         Outcome::Ended => ends_session(reason),
     }
 }
@@ -365,26 +349,27 @@ pub fn reason_goes(outcome: Outcome, reason: u8) -> bool
 fn ends_session(reason: u8) -> bool
     ensures { λ r. ⌜ r ≡ goesWith Outcome.Ended reason ⌝ }
 {
-    if reason < REASON_STATUS {
+    if reason < basics::REASON_STATUS {
         return false;
     }
-    if REASON_MODE < reason {
+    if basics::REASON_MODE < reason {
         return false;
     }
-    reason != REASON_ABOVE_LIMIT
+    reason != basics::REASON_ABOVE_LIMIT
 }
 
-// What every running session holds and lacks.
+// What every running session holds and lacks; every object fits.
 fn runs(bytes: &[u8]) -> bool
-    ensures { λ r. ⌜ r ≡ running (now (bytes .entry)) ⌝ }
+    requires { ⌜ length (now bytes) ≡ storeSize ⌝ }
+    ensures { λ r. ⌜ r ≡ both (allFit (now (bytes .entry))) (running (now (bytes .entry))) ⌝ }
 {
+    if !all_keep(bytes, true) {
+        return false;
+    }
     if !store::is_there(bytes, ROW_95) {
         return false;
     }
-    if !all_brought(bytes) {
-        return false;
-    }
-    if !dictionary::is_listed(byte_at(store::value(bytes, ROW_9F35), 0)) {
+    if !dictionary::is_listed(basics::byte_at(store::value(bytes, ROW_9F35), 0)) {
         return false;
     }
     is_unanswered(bytes)
@@ -410,7 +395,7 @@ fn is_unanswered(bytes: &[u8]) -> bool
 pub fn is_emv(bytes: &[u8]) -> bool
     ensures { λ r. ⌜ r ≡ emvMode (now (bytes .entry)) ⌝ }
 {
-    byte_at(store::value(bytes, ROW_82), 1) / 128 % 2 == 1
+    basics::byte_at(store::value(bytes, ROW_82), 1) / 128 % 2 == 1
 }
 
 // The expiry date, the account number and the list of the cryptogram's data are there, none empty.
@@ -426,19 +411,18 @@ pub fn is_complete(bytes: &[u8]) -> bool
     store::value(bytes, ROW_8C).len() != 0
 }
 
-// Every stored object fits its row.
-fn all_fit(bytes: &[u8]) -> bool
+// Every stored object fits its row; where `asked`, what a start must bring is there too. One walk for both.
+fn all_keep(bytes: &[u8], asked: bool) -> bool
     requires { ⌜ length (now bytes) ≡ storeSize ⌝ }
-    ensures { λ r. ⌜ r ≡ allFit (now (bytes .entry)) ⌝ }
+    ensures { λ r. ⌜ r ≡ both (allFit (now (bytes .entry))) (either (not asked) (brought (now (bytes .entry)))) ⌝ }
 {
-    let leasts = dictionary::leasts();
-    let greatests = dictionary::greatests();
-    let forms = dictionary::forms();
+    let codes = dictionary::codes();
     let mut at = 0;
     let mut row = 0;
     while row < ROWS {
-        let next = at + basics::wide(greatests[row]) + 1;
-        if !place_fits(&bytes[at..next], leasts[row], forms[row]) {
+        let a = dictionary::unpacked(codes[row]);
+        let next = at + a.greatest + 1;
+        if !place_keeps(&bytes[at..next], a, asked) {
             return false;
         }
         at = next;
@@ -447,37 +431,41 @@ fn all_fit(bytes: &[u8]) -> bool
     true
 }
 
-// A row's place holds nothing, or its length byte, the value's length and its digits fit.
-fn place_fits(place: &[u8], least: u8, form: u8) -> bool
+// A row's place holds nothing, and need not where that is asked; or its length byte, the value's length and its
+// digits fit.
+fn place_keeps(place: &[u8], a: Attributes, asked: bool) -> bool
     requires { ⌜ 0 < length (now place) ⌝ }
-    ensures { λ r. ⌜ ((x : Row) → x .least ≡ least → x .form ≡ form → room x ≡ length (now (place .entry)) → r ≡ placeFits x (now (place .entry))) ⌝ }
+    ensures { λ r. ⌜ ((x : Row) → a ≡ attributesOf x → room x ≡ length (now (place .entry)) → r ≡ both (placeFits x (now (place .entry))) (either (not asked) (either (eqb (x .must) optional) (not (eqb (getD (now (place .entry)) 0 0) 0))))) ⌝ }
 {
     let stored = basics::wide(place[0]);
     if stored == 0 {
+        if asked {
+            return a.must == 0;
+        }
         return true;
     }
     if place.len() < stored {
         return false;
     }
-    if stored - 1 < basics::wide(least) {
+    if stored - 1 < a.least {
         return false;
     }
-    dictionary::digits_fit(form, &place[1..stored])
+    dictionary::digits_fit(a.form, &place[1..stored])
 }
 
 // Every object that a start must bring is there.
 pub fn all_brought(bytes: &[u8]) -> bool
     ensures { λ r. ⌜ r ≡ brought (now (bytes .entry)) ⌝ }
 {
-    let greatests = dictionary::greatests();
-    let musts = dictionary::musts();
+    let codes = dictionary::codes();
     let mut at = 0;
     let mut row = 0;
     while row < ROWS {
-        if !is_brought(musts[row], bytes, at) {
+        let a = dictionary::unpacked(codes[row]);
+        if !is_brought(a.must, bytes, at) {
             return false;
         }
-        at = at + basics::wide(greatests[row]) + 1;
+        at = at + a.greatest + 1;
         row += 1;
     }
     true
@@ -490,7 +478,7 @@ fn is_brought(must: u8, bytes: &[u8], at: usize) -> bool
     if must == 0 {
         return true;
     }
-    byte_at(bytes, at) != 0
+    basics::byte_at(bytes, at) != 0
 }
 
 // Every byte is zero: the greatest is. All are looked at, so that the compiler takes many at once.
@@ -507,14 +495,4 @@ fn all_zero(v: &[u8]) -> bool
         i += 1;
     }
     most == 0
-}
-
-// The byte at place i, counted from 0; past the end it reads as 0.
-pub fn byte_at(v: &[u8], i: usize) -> u8
-    ensures { λ r. ⌜ r ≡ getD (now (v .entry)) i 0 ⌝ }
-{
-    if i < v.len() {
-        return v[i];
-    }
-    0
 }

@@ -24,6 +24,7 @@ use Rattle.analysis.specs.Action.{resultOf}
 use Rattle.analysis.specs.Choice.{p1Of}
 use Rattle.analysis.proofs.Laws.{result-length}
 use Rattle.record.specs.declared.Outcome.{Outcome}
+use Rattle.record.specs.declared.End.{End}
 use Rattle.record.specs.declared.Place.{Place}
 use Rattle.record.specs.declared.Phase.{Phase}
 use Rattle.record.specs.declared.Issued.{Issued}
@@ -31,8 +32,9 @@ use Rattle.record.specs.declared.Refusal.{Refusal}
 use Rattle.record.specs.declared.Answer.{Answer}
 use Rattle.record.specs.declared.Session.{Session}
 use Rattle.record.specs.declared.Reply.{Reply}
-use Rattle.record.specs.Numbers.{reasonLink, reasonStopped}
-use Rattle.record.specs.Session.{stored, endsReply, failsReply}
+use Rattle.basics.specs.Reason.{reasonDataList, reasonLink, reasonStopped}
+use Rattle.record.specs.Numbers.{outcomeFor}
+use Rattle.record.specs.Session.{stored, endOf, endsReply, failsReply}
 use Rattle.record.specs.Ranges.{locatorIn}
 use Rattle.record.proofs.Stored.{empty-lacks}
 use Rattle.record.proofs.Phases.{store-size, on-fresh}
@@ -209,6 +211,18 @@ stop-store s buf = broken-store s reasonStopped (length buf)
 -- an accepted locator is one with bytes
 pub accepted-bytes : (s : Session) → accepts (locatorIn (stored s)) ≡ true → length (locatorIn (stored s)) ≡ 0 → ⊥
 accepted-bytes s a z = omega (arith, accepted-length (locatorIn (stored s)) a .1)
+
+-- ---- a start that ends the session: its list gives no command (7), and none was handed out
+
+pub start-ended : (s : Session) (bytes buf : List ℕ) (e : End) → startStep s bytes buf .reply .answer ≡ Answer.Outcome e
+    → (e ≡ endOf (outcomeFor reasonDataList) reasonDataList) × (startStep s bytes buf .reply .session .count ≡ 0)
+start-ended s bytes buf e = go (start-way s bytes buf)
+  where
+    go : {st : Step} → StartWay s bytes buf st → st .reply .answer ≡ Answer.Outcome e
+        → (e ≡ endOf (outcomeFor reasonDataList) reasonDataList) × (st .reply .session .count ≡ 0)
+    go (StartWay.refused n) p = let z : _≡_ {A = ℕ} 0 1 = cc in absurd (omega arith)
+    go (StartWay.unlisted b i q l) p = (cc, on-fresh s (i .ranges) q .count)
+    go (StartWay.asked b c i q l f) p = let z : _≡_ {A = ℕ} 0 1 = cc in absurd (omega arith)
 
 -- ---- every answer over 258 bytes gives the same step
 

@@ -2,19 +2,19 @@
 -- The proofs of the code cite these and leave the steps shut.
 -- Assumes nothing.
 use mathlib.Core.Path.{_≡_, refl, sym, ap, ap₂, _∙_}
-use mathlib.Core.Bool.{Bool, true, false}
+use mathlib.Core.Bool.{Bool, true, false, not}
 use mathlib.Core.List.{List, [], _∷_}
 use mathlib.Core.Option.{Option, some, none}
 use mathlib.Core.Logic.{⊎-elim}
-use Prim.Native.Nat.{ℕ, _+_, _-_, _/_, _≤_, _<_}
+use Prim.Native.Nat.{ℕ, suc, _+_, _-_, _/_, _≤_, _<_}
 use native.Mathlib.Omega.{arith}
 use types.Run.{OneOf}
 use denote.Enum.Declared.{tagOf}
 use lib.ListN.{length, take}
-use borrow.Author.Tests.{lt-ltb, le-ltb, eq-eqb, ne-eqb}
-use Rattle.basics.specs.Choice.{both}
+use borrow.Author.Tests.{lt-ltb, le-ltb, eq-eqb, ne-eqb, not-true, not-false}
+use Rattle.basics.specs.Choice.{if, both}
 use Rattle.basics.proofs.Laws.{if-yes, if-no, if-ind}
-use Rattle.dictionary.specs.Rows.{rows, rowAt, storeSize}
+use Rattle.dictionary.specs.Rows.{rows, rowAt}
 use Rattle.dictionary.specs.Named.{placeFound, placeOf}
 use Rattle.dictionary.proofs.Named.{at-94, at-95}
 use Rattle.store.specs.Place.{bytesOf, valueAt, putAt}
@@ -36,19 +36,19 @@ use Rattle.reading.proofs.Verdict.{the-type as verdict-type}
 use Rattle.analysis.specs.declared.choice.Choice.{Choice}
 use Rattle.analysis.specs.Action.{aboveLimit, resultOf, chosen}
 use Rattle.record.specs.declared.Outcome.{Outcome}
+use Rattle.record.specs.declared.End.{End}
 use Rattle.record.specs.declared.Asked.{Asked}
 use Rattle.record.specs.declared.Refusal.{Refusal}
 use Rattle.record.specs.declared.Phase.{Phase}
 use Rattle.record.specs.declared.Session.{Session}
 use Rattle.record.specs.declared.Reply.{Reply}
 use Rattle.record.specs.declared.Turn.{Turn}
-use Rattle.record.specs.Numbers.{refusedPhase, refusedBuffer, refusedRanges, reasonMissing, reasonLocator, reasonAboveLimit, reasonDataList, reasonMode}
+use Rattle.basics.specs.Reason.{refusedPhase, refusedBuffer, refusedRanges, reasonNone, reasonMissing, reasonLocator, reasonAboveLimit, reasonDataList, reasonCryptogram, reasonMode, unless}
 use Rattle.record.specs.Session.{stored, replyOf, failsReply, failsTurn, commandsTurn}
 use Rattle.record.specs.Held.{holds, byteIn}
 use Rattle.record.specs.Ranges.{emvMode, locatorIn, completed, inRanges}
 use Rattle.record.specs.Clauses.{noResults}
 use Rattle.record.proofs.Tags.{bytes-are}
-use Rattle.record.proofs.Phases.{store-size}
 use Rattle.record.proofs.Phase.{the-type as phase-type}
 use Rattle.terminal.specs.declared.Said.{Said}
 use Rattle.terminal.specs.Terminal.{Loaded, Loads}
@@ -60,7 +60,7 @@ use Rattle.session.specs.declared.Decided.{Decided}
 use Rattle.session.specs.declared.Decision.{Decision}
 use Rattle.session.specs.Steps.{Step, Did, quiet, refuses, fails, withStore, withResults, leastBuffer, admitted, handOut}
 use Rattle.session.specs.Start.{askOptions, startLoaded, startIn, refusalNumber}
-use Rattle.session.specs.Answer.{accepted, askFound, optionsRead, askCryptogram, analysed, recordsRead, decision, concluded, cryptogramRead, neededOf, modeOf, limitFor, decidedOf}
+use Rattle.session.specs.Answer.{accepted, askFound, optionsRead, askCryptogram, analysed, recordsRead, decision, concluded, cryptogramRead, neededNumber, modeNumber, limitNumber, decidedEnd, endFor}
 
 -- ---- a step by an equation
 
@@ -74,10 +74,6 @@ reply-as b e = ap (λ (x : Turn). replyOf x b) e
 -- no command: the buffer stands as it was, and the turn t is u, with the store b
 pub did-quiet : {t u : Turn} (b : List ℕ) {buf : List ℕ} {s : Step} → t ≡ u → s ≡ quiet (replyOf u b) buf → Did (replyOf t b) buf s
 did-quiet b e f = did-as f (record { reply = reply-as b e; buffer = refl })
-
--- a session that keeps its ranges has a store of its size
-pub did-sized : {t : Turn} (b : List ℕ) {buf : List ℕ} {s : Step} → Did (replyOf t b) buf s → inRanges (s .reply .session) ≡ true → length b ≡ storeSize
-did-sized b d e = ap (λ (r : Reply). length (stored (r .session))) (d .reply) ∙ store-size _ e
 
 -- ---- the refusals that every call checks first
 
@@ -142,37 +138,44 @@ module _ {A : Type 0} (t : Session) (a : Awaited) (s : List ℕ) (failed : Sessi
 
 -- ---- what the code's two-case answers say of their tests
 
-pub is-complete : {x : Needed} (b : Bool) → x ≡ neededOf b → x ≡ Needed.Complete → b ≡ true
-is-complete true e f = refl
-is-complete false e f = let z : _≡_ {A = ℕ} 0 1 = cc in absurd (omega arith)
+-- the test passed where its number is none, and failed where it is another
+passed : {n : ℕ} (m : ℕ) (b : Bool) → n ≡ unless b (suc m) → n ≡ reasonNone → b ≡ true
+unfolding if
+passed m true e f = refl
+passed m false e f = absurd (omega arith)
 
-pub is-missing : {x : Needed} (b : Bool) → x ≡ neededOf b → x ≡ Needed.Missing → b ≡ false
-is-missing true e f = let z : _≡_ {A = ℕ} 0 1 = cc in absurd (omega arith)
-is-missing false e f = refl
+failed : {n : ℕ} (m : ℕ) (b : Bool) → n ≡ unless b m → (n ≡ reasonNone → ⊥) → b ≡ false
+unfolding if
+failed m true e f = absurd (f e)
+failed m false e f = refl
 
-pub is-emv : {x : Mode} (b : Bool) → x ≡ modeOf b → x ≡ Mode.Emv → b ≡ true
-is-emv true e f = refl
-is-emv false e f = let z : _≡_ {A = ℕ} 0 1 = cc in absurd (omega arith)
+pub is-complete : {x : Needed} (b : Bool) → neededNumber x ≡ unless b reasonMissing → x ≡ Needed.Complete → b ≡ true
+is-complete b e f = passed 3 b e (ap neededNumber f)
 
-pub is-stripe : {x : Mode} (b : Bool) → x ≡ modeOf b → x ≡ Mode.Stripe → b ≡ false
-is-stripe true e f = let z : _≡_ {A = ℕ} 0 1 = cc in absurd (omega arith)
-is-stripe false e f = refl
+pub is-missing : {x : Needed} (b : Bool) → neededNumber x ≡ unless b reasonMissing → x ≡ Needed.Missing → b ≡ false
+is-missing b e f = failed reasonMissing b e (λ z. omega (arith, ap neededNumber f))
 
-pub is-above : {x : Limit} (b : Bool) → x ≡ limitFor b → x ≡ Limit.Above → b ≡ true
-is-above true e f = refl
-is-above false e f = let z : _≡_ {A = ℕ} 0 1 = cc in absurd (omega arith)
+pub is-emv : {x : Mode} (b : Bool) → modeNumber x ≡ unless b reasonMode → x ≡ Mode.Emv → b ≡ true
+is-emv b e f = passed 10 b e (ap modeNumber f)
 
-pub is-within : {x : Limit} (b : Bool) → x ≡ limitFor b → x ≡ Limit.Within → b ≡ false
-is-within true e f = let z : _≡_ {A = ℕ} 0 1 = cc in absurd (omega arith)
-is-within false e f = refl
+pub is-stripe : {x : Mode} (b : Bool) → modeNumber x ≡ unless b reasonMode → x ≡ Mode.Stripe → b ≡ false
+is-stripe b e f = failed reasonMode b e (λ z. omega (arith, ap modeNumber f))
 
-pub decides-nothing : {x : Decided} (o : Option Outcome) → x ≡ decidedOf o → x ≡ Decided.Nothing → o ≡ none
+pub is-above : {x : Limit} (b : Bool) → limitNumber x ≡ unless (not b) reasonAboveLimit → x ≡ Limit.Above → b ≡ true
+is-above b e f = not-false _ (failed reasonAboveLimit (not b) e (λ z. omega (arith, ap limitNumber f)))
+
+pub is-within : {x : Limit} (b : Bool) → limitNumber x ≡ unless (not b) reasonAboveLimit → x ≡ Limit.Within → b ≡ false
+is-within b e f = not-true _ (passed 5 (not b) e (ap limitNumber f))
+
+pub decides-nothing : {x : Decided} (o : Option Outcome) → decidedEnd x ≡ endFor o → x ≡ Decided.Nothing → o ≡ none
 decides-nothing none e f = refl
-decides-nothing (some o) e f = let z : _≡_ {A = ℕ} 0 1 = cc in absurd (omega arith)
+decides-nothing (some o) e f =
+    let z : _≡_ {A = ℕ} reasonCryptogram reasonNone = ap (λ (y : End). y .reason) (sym (ap decidedEnd f) ∙ e) in absurd (omega arith)
 
-pub decides-on : {x : Decided} {d : Decision} (o : Option Outcome) → x ≡ decidedOf o → x ≡ Decided.On d → o ≡ some (d .outcome)
-decides-on none e f = let z : _≡_ {A = ℕ} 0 1 = cc in absurd (omega arith)
-decides-on {x} {d} (some o) e f = let z : record { outcome = o } ≡ d = cc in ap (λ (y : Decision). some (y .outcome)) z
+pub decides-on : {x : Decided} {d : Decision} (o : Option Outcome) → decidedEnd x ≡ endFor o → x ≡ Decided.On d → o ≡ some (d .outcome)
+decides-on none e f =
+    let z : _≡_ {A = ℕ} reasonNone reasonCryptogram = ap (λ (y : End). y .reason) (sym (ap decidedEnd f) ∙ e) in absurd (omega arith)
+decides-on {x} {d} (some o) e f = ap (λ (y : End). some (y .outcome)) (sym e ∙ ap decidedEnd f)
 
 -- ---- the result bits
 

@@ -10,7 +10,7 @@ use Rattle.record.specs.declared.Answer.{Answer}
 use Rattle.record.specs.declared.Place.{Place}
 use Rattle.record.specs.declared.Reply.{Reply}
 use Rattle.record.specs.declared.Session.{Session}
-use Rattle.record.specs.Numbers.{reasonMode, reasonLink, reasonStopped}
+use Rattle.basics.specs.Reason.{reasonMode, reasonLink, reasonStopped}
 use Rattle.record.specs.Session.{stored}
 use Rattle.session.specs.Steps.{Step, leastBuffer, linkStep, stopStep}
 use Rattle.session.specs.Start.{startStep}

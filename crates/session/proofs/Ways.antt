@@ -25,7 +25,8 @@ use Rattle.record.specs.declared.Asked.{Asked}
 use Rattle.record.specs.declared.Phase.{Phase}
 use Rattle.record.specs.declared.Session.{Session}
 use Rattle.record.specs.declared.Reply.{Reply}
-use Rattle.record.specs.Numbers.{refusedPhase, refusedBuffer, refusedRanges, reasonNone, reasonMissing, reasonLocator, reasonAboveLimit, reasonDataList, reasonCryptogram, reasonMode, goesWith}
+use Rattle.record.specs.Numbers.{goesWith}
+use Rattle.basics.specs.Reason.{refusedPhase, refusedBuffer, refusedRanges, reasonNone, reasonMissing, reasonLocator, reasonAboveLimit, reasonDataList, reasonCryptogram, reasonMode}
 use Rattle.record.specs.Session.{stored, refusedReply, endsReply, failsReply}
 use Rattle.record.specs.Held.{byteIn}
 use Rattle.record.specs.Ranges.{emvMode, locatorIn, completed, inRanges}

@@ -1,6 +1,5 @@
 -- The call answer (document 01, "Commands and steps" and the order of reasons): one step for each answer that is awaited.
 -- Assumes nothing.
-use mathlib.Core.Bool.{Bool, true, false}
 use mathlib.Core.List.{List}
 use mathlib.Core.Option.{Option, some, none}
 use Prim.Native.Nat.{ℕ, _+_, _/_}
@@ -17,13 +16,15 @@ use Rattle.analysis.specs.declared.choice.Choice.{Choice}
 use Rattle.analysis.specs.Choice.{p1Of}
 use Rattle.analysis.specs.Action.{aboveLimit, resultOf, chosen}
 use Rattle.record.specs.declared.Outcome.{Outcome}
+use Rattle.record.specs.declared.End.{End}
+use Rattle.record.specs.Numbers.{outcomeFor}
 use Rattle.record.specs.declared.Place.{Place}
 use Rattle.record.specs.declared.Asked.{Asked}
 use Rattle.record.specs.declared.Phase.{Phase}
 use Rattle.record.specs.declared.Session.{Session}
-use Rattle.record.specs.Numbers.{refusedPhase, reasonNone, reasonMissing, reasonLocator, reasonAboveLimit, reasonCryptogram, reasonMode}
+use Rattle.basics.specs.Reason.{refusedPhase, reasonNone, reasonMissing, reasonLocator, reasonAboveLimit, reasonCryptogram, reasonMode}
 use Rattle.record.specs.declared.Reply.{Reply}
-use Rattle.record.specs.Session.{stored, endsReply, failsReply}
+use Rattle.record.specs.Session.{stored, endOf, endsReply, failsReply}
 use Rattle.record.specs.Held.{holds, byteIn}
 use Rattle.record.specs.Ranges.{emvMode, locatorIn, completed}
 use Rattle.session.specs.Steps.{Step, quiet, refuses, fails, commands, withStore, withResults, admitted, handOut}
@@ -107,9 +108,12 @@ unfoldable pub decision : Choice → ℕ → Option Outcome
 decision c kind = if (eqb kind 0) (some Outcome.Declined) (if (eqb kind 2) (onlineFor c) (if (eqb kind 1) (approvedFor c) none))
 
 -- a decision has reason 0; a cryptogram of a type that the one asked for does not allow ends the session with reason 8
+abbrev pub endFor : Option Outcome → End
+endFor none = endOf (outcomeFor reasonCryptogram) reasonCryptogram
+endFor (some o) = endOf o reasonNone
+
 abbrev pub concluded : Session → Option Outcome → Reply
-concluded s none = failsReply s reasonCryptogram
-concluded s (some o) = endsReply s o reasonNone
+concluded s o = endsReply s (endFor o .outcome) (endFor o .reason)
 
 -- 9F27, 9F36 and 9F26 are there (4), then the decision
 unfoldable pub cryptogramRead : Asked → Session → Reply
@@ -133,20 +137,21 @@ answerIn (Phase.Ended e) s card buf = refuses s refusedPhase buf
 abbrev pub answerStep : Session → List ℕ → List ℕ → Step
 answerStep s card buf = admitted s (length buf) (λ n. refuses s n buf) (answerIn (s .phase) s card buf)
 
--- ---- each step's answer as the code takes it apart
+-- ---- what each step's answer says (document 01, "Calls and their numbers"): the reason that ends the session, 0 where it goes on
 
-abbrev pub neededOf : Bool → Needed
-neededOf true = Needed.Complete
-neededOf false = Needed.Missing
+abbrev pub neededNumber : Needed → ℕ
+neededNumber Needed.Complete = reasonNone
+neededNumber Needed.Missing = reasonMissing
 
-abbrev pub modeOf : Bool → Mode
-modeOf true = Mode.Emv
-modeOf false = Mode.Stripe
+abbrev pub modeNumber : Mode → ℕ
+modeNumber Mode.Emv = reasonNone
+modeNumber Mode.Stripe = reasonMode
 
-abbrev pub limitFor : Bool → Limit
-limitFor true = Limit.Above
-limitFor false = Limit.Within
+abbrev pub limitNumber : Limit → ℕ
+limitNumber Limit.Within = reasonNone
+limitNumber Limit.Above = reasonAboveLimit
 
-abbrev pub decidedOf : Option Outcome → Decided
-decidedOf none = Decided.Nothing
-decidedOf (some o) = Decided.On (record { outcome = o })
+-- what a cryptogram decides: an outcome with reason 0, or reason 8
+abbrev pub decidedEnd : Decided → End
+decidedEnd (Decided.On d) = endOf (d .outcome) reasonNone
+decidedEnd Decided.Nothing = endOf (outcomeFor reasonCryptogram) reasonCryptogram

@@ -7,7 +7,7 @@ use lib.ListN.{length}
 use Rattle.data_list.specs.Commands.{processingOptions}
 use Rattle.record.specs.declared.Phase.{Phase}
 use Rattle.record.specs.declared.Session.{Session}
-use Rattle.record.specs.Numbers.{refusedPhase}
+use Rattle.basics.specs.Reason.{refusedPhase}
 use Rattle.record.specs.Session.{stored}
 use Rattle.record.specs.Clauses.{noResults}
 use Rattle.terminal.specs.declared.Said.{Said}

@@ -14,7 +14,7 @@ use Rattle.store.specs.Place.{putAt}
 use Rattle.record.specs.declared.Phase.{Phase}
 use Rattle.record.specs.declared.Session.{Session}
 use Rattle.record.specs.declared.Reply.{Reply}
-use Rattle.record.specs.Numbers.{refusedBuffer, refusedRanges, refusedPhase, reasonDataList, reasonLink, reasonStopped}
+use Rattle.basics.specs.Reason.{refusedBuffer, refusedRanges, refusedPhase, reasonDataList, reasonLink, reasonStopped}
 use Rattle.record.specs.Session.{waitingSession, storedSession, refusedReply, failsReply, commandsReply}
 use Rattle.record.specs.Ranges.{inRanges}
 

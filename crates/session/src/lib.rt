@@ -8,16 +8,19 @@
 // store lent or shared: a turn is handed back, and the store is not copied.
 use analysis::choice::Choice;
 use data_list::Written;
-use dictionary::{ROW_82, ROW_94, ROW_95, ROW_9F26, ROW_9F27, ROW_9F36, SIZE};
+use dictionary::{ROW_82, ROW_94, ROW_95, ROW_9F26, ROW_9F27, ROW_9F36};
 use locator::{Checked, Found};
 use reading::{Awaited, File, Verdict};
 use record::{Asked, Outcome, Phase, Place, Reply, Session, Turn};
+use store::Store;
 use terminal::Said;
 ghost use mathlib.Core.Path.{_≡_};
+ghost use mathlib.Core.Bool.{not};
 ghost use mathlib.Core.List.{List};
 ghost use Prim.Native.Nat.{ℕ, _≤_, _<_};
 ghost use lib.ListN.{length};
 ghost use Rattle.basics.specs.Choice.{both};
+ghost use Rattle.basics.specs.Reason.{reasonMissing, reasonAboveLimit, reasonMode, unless};
 ghost use Rattle.dictionary.specs.Rows.{storeSize};
 ghost use Rattle.locator.specs.Command.{readRecord};
 ghost use Rattle.analysis.specs.Action.{aboveLimit};
@@ -27,7 +30,7 @@ ghost use Rattle.record.specs.Held.{holds};
 ghost use Rattle.record.specs.Ranges.{emvMode, completed};
 ghost use Rattle.session.specs.Steps.{Did, commands as commandsStep, leastBuffer, brokenOff, linkStep, stopStep};
 ghost use Rattle.session.specs.Start.{askOptions, startLoaded, startStep, refusalNumber};
-ghost use Rattle.session.specs.Answer.{optionsRead, optionsStep, askCryptogram, analysed, recordsRead, recordRead, recordStep, decision, cryptogramRead, cryptogramReply, answerStep, neededOf, modeOf, limitFor, decidedOf};
+ghost use Rattle.session.specs.Answer.{optionsRead, optionsStep, askCryptogram, analysed, recordsRead, recordRead, recordStep, decision, cryptogramRead, cryptogramReply, answerStep, neededNumber, modeNumber, limitNumber, decidedEnd, endFor};
 
 // The least command buffer.
 pub const LEAST_BUFFER: usize = 261;
@@ -65,9 +68,10 @@ pub fn start(session: Session, terminal: &[u8], command: &mut [u8]) -> Reply
     ensures { λ r. ⌜ Did r (now (command .exit)) (startStep session (now (terminal .entry)) (now (command .entry))) ⌝ }
 {
     let phase = session.phase;
-    let mut store = session.store;
-    let turn = start_in(phase, session.count, &mut store.bytes, terminal, command);
-    record::reply_of(turn, store)
+    let store = session.store;
+    let mut bytes = store.bytes;
+    let turn = start_in(phase, session.count, &mut bytes, terminal, command);
+    record::reply_of(turn, Store { bytes })
 }
 
 // Takes the card's answer to the command that was handed out last, status bytes included.
@@ -75,9 +79,10 @@ pub fn answer(session: Session, card: &[u8], command: &mut [u8]) -> Reply
     ensures { λ r. ⌜ Did r (now (command .exit)) (answerStep session (now (card .entry)) (now (command .entry))) ⌝ }
 {
     let phase = session.phase;
-    let mut store = session.store;
-    let turn = answer_in(phase, session.count, &mut store.bytes, card, command);
-    record::reply_of(turn, store)
+    let store = session.store;
+    let mut bytes = store.bytes;
+    let turn = answer_in(phase, session.count, &mut bytes, card, command);
+    record::reply_of(turn, Store { bytes })
 }
 
 // The link to the card failed.
@@ -101,41 +106,37 @@ pub fn stop(session: Session, command: &mut [u8]) -> Reply
 }
 
 // `start` on a session's parts, the store lent.
-pub fn start_in(phase: Phase, count: u8, store: &mut [u8; SIZE], terminal: &[u8], command: &mut [u8]) -> Turn
-    requires { ⌜ length (now store) ≡ storeSize ⌝ }
-    ensures did { λ r. ⌜ Did (replyOf r (now (store .exit))) (now (command .exit)) (startStep (sessionOf phase count (now (store .entry))) (now (terminal .entry)) (now (command .entry))) ⌝ }
-    ensures sized { λ _. ⌜ length (now (store .exit)) ≡ storeSize ⌝ }
+pub fn start_in(phase: Phase, count: u8, store: &mut [u8], terminal: &[u8], command: &mut [u8]) -> Turn
+    ensures { λ r. ⌜ Did (replyOf r (now (store .exit))) (now (command .exit)) (startStep (sessionOf phase count (now (store .entry))) (now (terminal .entry)) (now (command .entry))) ⌝ }
 {
     if command.len() < LEAST_BUFFER {
-        return record::refused(phase, count, record::REFUSED_BUFFER);
+        return record::refused(phase, count, basics::REFUSED_BUFFER);
     }
     if !record::keeps(phase, count, &store[..]) {
-        return record::refused(phase, count, record::REFUSED_RANGES);
+        return record::refused(phase, count, basics::REFUSED_RANGES);
     }
     let Phase::Fresh = phase else {
-        return record::refused(phase, count, record::REFUSED_PHASE);
+        return record::refused(phase, count, basics::REFUSED_PHASE);
     };
     load_objects(count, store, terminal, command)
 }
 
 // `answer` on a session's parts, the store lent.
-pub fn answer_in(phase: Phase, count: u8, store: &mut [u8; SIZE], card: &[u8], command: &mut [u8]) -> Turn
-    requires { ⌜ length (now store) ≡ storeSize ⌝ }
-    ensures did { λ r. ⌜ Did (replyOf r (now (store .exit))) (now (command .exit)) (answerStep (sessionOf phase count (now (store .entry))) (now (card .entry)) (now (command .entry))) ⌝ }
-    ensures sized { λ _. ⌜ length (now (store .exit)) ≡ storeSize ⌝ }
+pub fn answer_in(phase: Phase, count: u8, store: &mut [u8], card: &[u8], command: &mut [u8]) -> Turn
+    ensures { λ r. ⌜ Did (replyOf r (now (store .exit))) (now (command .exit)) (answerStep (sessionOf phase count (now (store .entry))) (now (card .entry)) (now (command .entry))) ⌝ }
 {
     if command.len() < LEAST_BUFFER {
-        return record::refused(phase, count, record::REFUSED_BUFFER);
+        return record::refused(phase, count, basics::REFUSED_BUFFER);
     }
     if !record::keeps(phase, count, &store[..]) {
-        return record::refused(phase, count, record::REFUSED_RANGES);
+        return record::refused(phase, count, basics::REFUSED_RANGES);
     }
     match phase {
-        Phase::Fresh => record::refused(phase, count, record::REFUSED_PHASE),
+        Phase::Fresh => record::refused(phase, count, basics::REFUSED_PHASE),
         Phase::Options => take_options(count, store, card, command),
         Phase::Record(place) => take_record(place, count, store, card, command),
         Phase::Cryptogram(asked) => take_cryptogram(asked, count, store, card),
-        Phase::Ended(_) => record::refused(phase, count, record::REFUSED_PHASE),
+        Phase::Ended(_) => record::refused(phase, count, basics::REFUSED_PHASE),
     }
 }
 
@@ -143,14 +144,14 @@ pub fn answer_in(phase: Phase, count: u8, store: &mut [u8; SIZE], card: &[u8], c
 pub fn link_failed_in(phase: Phase, count: u8, bytes: &[u8], command: &mut [u8]) -> Turn
     ensures { λ r. ⌜ Did (replyOf r (now (bytes .entry))) (now (command .exit)) (linkStep (sessionOf phase count (now (bytes .entry))) (now (command .entry))) ⌝ }
 {
-    broken_off(phase, count, bytes, record::REASON_LINK, command.len())
+    broken_off(phase, count, bytes, basics::REASON_LINK, command.len())
 }
 
 // `stop` on a session's parts, the store shared.
 pub fn stop_in(phase: Phase, count: u8, bytes: &[u8], command: &mut [u8]) -> Turn
     ensures { λ r. ⌜ Did (replyOf r (now (bytes .entry))) (now (command .exit)) (stopStep (sessionOf phase count (now (bytes .entry))) (now (command .entry))) ⌝ }
 {
-    broken_off(phase, count, bytes, record::REASON_STOPPED, command.len())
+    broken_off(phase, count, bytes, basics::REASON_STOPPED, command.len())
 }
 
 // A running session ends for a reason; no command comes.
@@ -158,22 +159,22 @@ fn broken_off(phase: Phase, count: u8, bytes: &[u8], reason: u8, size: usize) ->
     ensures { λ r. ⌜ replyOf r (now (bytes .entry)) ≡ brokenOff (sessionOf phase count (now (bytes .entry))) reason size ⌝ }
 {
     if size < LEAST_BUFFER {
-        return record::refused(phase, count, record::REFUSED_BUFFER);
+        return record::refused(phase, count, basics::REFUSED_BUFFER);
     }
     if !record::keeps(phase, count, bytes) {
-        return record::refused(phase, count, record::REFUSED_RANGES);
+        return record::refused(phase, count, basics::REFUSED_RANGES);
     }
     match phase {
-        Phase::Fresh => record::refused(phase, count, record::REFUSED_PHASE),
+        Phase::Fresh => record::refused(phase, count, basics::REFUSED_PHASE),
         Phase::Options => record::fails(count, reason),
         Phase::Record(_) => record::fails(count, reason),
         Phase::Cryptogram(_) => record::fails(count, reason),
-        Phase::Ended(_) => record::refused(phase, count, record::REFUSED_PHASE),
+        Phase::Ended(_) => record::refused(phase, count, basics::REFUSED_PHASE),
     }
 }
 
 // The terminal's objects are stored, and 95 with them, all zero.
-fn load_objects(count: u8, store: &mut [u8; SIZE], terminal: &[u8], command: &mut [u8]) -> Turn
+fn load_objects(count: u8, store: &mut [u8], terminal: &[u8], command: &mut [u8]) -> Turn
     requires { ⌜ (leastBuffer ≤ length (now command)) × (count < 255) ⌝ }
     requires { ⌜ length (now store) ≡ storeSize ⌝ }
     ensures { λ r. ⌜ Did (replyOf r (now (store .exit))) (now (command .exit)) (startLoaded (sessionOf Phase.Fresh count (now (store .entry))) (now (command .entry)) (loadOf (now (store .entry)) (now (terminal .entry)))) ⌝ }
@@ -203,13 +204,13 @@ fn ask_options(count: u8, bytes: &[u8], command: &mut [u8]) -> Turn
     ensures { λ r. ⌜ Did (replyOf r (now (bytes .entry))) (now (command .exit)) (askOptions (sessionOf Phase.Fresh count (now (bytes .entry))) (now (command .entry))) ⌝ }
 {
     let Written::Command(c) = data_list::processing_options(bytes, command) else {
-        return record::fails(count, record::REASON_DATA_LIST);
+        return record::fails(count, basics::REASON_DATA_LIST);
     };
     record::commands(Phase::Options, count + 1, c.len)
 }
 
 // The answer to processing options.
-fn take_options(count: u8, store: &mut [u8; SIZE], card: &[u8], command: &mut [u8]) -> Turn
+fn take_options(count: u8, store: &mut [u8], card: &[u8], command: &mut [u8]) -> Turn
     requires { ⌜ (leastBuffer ≤ length (now command)) × (count < 255) ⌝ }
     requires { ⌜ length (now store) ≡ storeSize ⌝ }
     ensures { λ r. ⌜ Did (replyOf r (now (store .exit))) (now (command .exit)) (optionsStep (sessionOf Phase.Options count (now (store .entry))) (now (card .entry)) (now (command .entry))) ⌝ }
@@ -228,17 +229,17 @@ fn after_options(count: u8, bytes: &[u8], command: &mut [u8]) -> Turn
     ensures { λ r. ⌜ Did (replyOf r (now (bytes .entry))) (now (command .exit)) (optionsRead (sessionOf Phase.Options count (now (bytes .entry))) (now (command .entry))) ⌝ }
 {
     let Needed::Complete = options_there(bytes) else {
-        return record::fails(count, record::REASON_MISSING);
+        return record::fails(count, basics::REASON_MISSING);
     };
     let Mode::Emv = mode_in(bytes) else {
-        return record::fails(count, record::REASON_MODE);
+        return record::fails(count, basics::REASON_MODE);
     };
     let entries = store::value(bytes, ROW_94);
     let Checked::Accepted(_) = locator::check(entries) else {
-        return record::fails(count, record::REASON_LOCATOR);
+        return record::fails(count, basics::REASON_LOCATOR);
     };
     let Found::At(wanted) = locator::record_at(entries, 1) else {
-        return record::fails(count, record::REASON_LOCATOR);
+        return record::fails(count, basics::REASON_LOCATOR);
     };
     ask_record(count, wanted, 1, command)
 }
@@ -254,7 +255,7 @@ fn ask_record(count: u8, wanted: locator::Record, k: u8, command: &mut [u8]) -> 
 }
 
 // The answer to a record.
-fn take_record(place: Place, count: u8, store: &mut [u8; SIZE], card: &[u8], command: &mut [u8]) -> Turn
+fn take_record(place: Place, count: u8, store: &mut [u8], card: &[u8], command: &mut [u8]) -> Turn
     requires { ⌜ (leastBuffer ≤ length (now command)) × (count < 255) ⌝ }
     requires { ⌜ length (now store) ≡ storeSize ⌝ }
     ensures { λ r. ⌜ Did (replyOf r (now (store .exit))) (now (command .exit)) (recordStep place (sessionOf (Phase.Record place) count (now (store .entry))) (now (card .entry)) (now (command .entry))) ⌝ }
@@ -262,7 +263,7 @@ fn take_record(place: Place, count: u8, store: &mut [u8; SIZE], card: &[u8], com
     let k = basics::wide(place.number);
     let found = locator::record_at(store::value(&store[..], ROW_94), k);
     let Found::At(asked) = found else {
-        return record::fails(count, record::REASON_LOCATOR);
+        return record::fails(count, basics::REASON_LOCATOR);
     };
     let file = asked.file;
     let read = reading::read_answer(store, Awaited::Record(File { number: file }), card);
@@ -274,7 +275,7 @@ fn take_record(place: Place, count: u8, store: &mut [u8; SIZE], card: &[u8], com
 }
 
 // After a record: the next one that the locator names, or the cryptogram.
-fn after_record(place: Place, count: u8, store: &mut [u8; SIZE], command: &mut [u8]) -> Turn
+fn after_record(place: Place, count: u8, store: &mut [u8], command: &mut [u8]) -> Turn
     requires { ⌜ (leastBuffer ≤ length (now command)) × (count < 255) ⌝ }
     requires { ⌜ length (now store) ≡ storeSize ⌝ }
     ensures { λ r. ⌜ Did (replyOf r (now (store .exit))) (now (command .exit)) (recordRead place (sessionOf (Phase.Record place) count (now (store .entry))) (now (command .entry))) ⌝ }
@@ -289,22 +290,22 @@ fn after_record(place: Place, count: u8, store: &mut [u8; SIZE], command: &mut [
 }
 
 // After the last record, in whatever phase: the limit, what is needed, and then the cryptogram.
-fn after_records(count: u8, store: &mut [u8; SIZE], command: &mut [u8]) -> Turn
+fn after_records(count: u8, store: &mut [u8], command: &mut [u8]) -> Turn
     requires { ⌜ (leastBuffer ≤ length (now command)) × (count < 255) ⌝ }
     requires { ⌜ length (now store) ≡ storeSize ⌝ }
     ensures { λ r. ⌜ ((p : Phase) → Did (replyOf r (now (store .exit))) (now (command .exit)) (recordsRead (sessionOf p count (now (store .entry))) (now (command .entry)))) ⌝ }
 {
     let Limit::Within = limit_in(&store[..]) else {
-        return record::fails(count, record::REASON_ABOVE_LIMIT);
+        return record::fails(count, basics::REASON_ABOVE_LIMIT);
     };
     let Needed::Complete = card_complete(&store[..]) else {
-        return record::fails(count, record::REASON_MISSING);
+        return record::fails(count, basics::REASON_MISSING);
     };
     analyse(count, store, command)
 }
 
 // The result bits are stored and the choice is made on them.
-fn analyse(count: u8, store: &mut [u8; SIZE], command: &mut [u8]) -> Turn
+fn analyse(count: u8, store: &mut [u8], command: &mut [u8]) -> Turn
     requires { ⌜ (leastBuffer ≤ length (now command)) × (count < 255) ⌝ }
     requires { ⌜ length (now store) ≡ storeSize ⌝ }
     ensures { λ r. ⌜ ((p : Phase) → Did (replyOf r (now (store .exit))) (now (command .exit)) (analysed (sessionOf p count (now (store .entry))) (now (command .entry)))) ⌝ }
@@ -322,13 +323,13 @@ fn ask_cryptogram(choice: Choice, count: u8, bytes: &[u8], command: &mut [u8]) -
 {
     let p1 = analysis::choice::p1(choice);
     let Written::Command(c) = data_list::generate_ac(bytes, p1, command) else {
-        return record::fails(count, record::REASON_DATA_LIST);
+        return record::fails(count, basics::REASON_DATA_LIST);
     };
     record::commands(Phase::Cryptogram(Asked { choice }), count + 1, c.len)
 }
 
 // The answer to the cryptogram: no command follows it.
-fn take_cryptogram(asked: Asked, count: u8, store: &mut [u8; SIZE], card: &[u8]) -> Turn
+fn take_cryptogram(asked: Asked, count: u8, store: &mut [u8], card: &[u8]) -> Turn
     requires { ⌜ length (now store) ≡ storeSize ⌝ }
     ensures { λ r. ⌜ replyOf r (now (store .exit)) ≡ cryptogramReply asked (sessionOf (Phase.Cryptogram asked) count (now (store .entry))) (now (card .entry)) ⌝ }
 {
@@ -345,20 +346,20 @@ fn decide(asked: Asked, count: u8, bytes: &[u8]) -> Turn
     ensures { λ r. ⌜ replyOf r (now (bytes .entry)) ≡ cryptogramRead asked (sessionOf (Phase.Cryptogram asked) count (now (bytes .entry))) ⌝ }
 {
     let Needed::Complete = cryptogram_there(bytes) else {
-        return record::fails(count, record::REASON_MISSING);
+        return record::fails(count, basics::REASON_MISSING);
     };
-    let kind = record::byte_at(store::value(bytes, ROW_9F27), 0) / 64;
+    let kind = basics::byte_at(store::value(bytes, ROW_9F27), 0) / 64;
     let choice = asked.choice;
     let Decided::On(d) = decision_for(choice, kind) else {
-        return record::fails(count, record::REASON_CRYPTOGRAM);
+        return record::fails(count, basics::REASON_CRYPTOGRAM);
     };
     let outcome = d.outcome;
-    record::ends(count, outcome, record::REASON_NONE)
+    record::ends(count, outcome, basics::REASON_NONE)
 }
 
 // What a type of cryptogram decides, by what was asked for.
 fn decision_for(choice: Choice, kind: u8) -> Decided
-    ensures { λ r. ⌜ r ≡ decidedOf (decision choice kind) ⌝ }
+    ensures { λ r. ⌜ decidedEnd r ≡ endFor (decision choice kind) ⌝ }
 {
     if kind == 0 {
         return Decided::On(Decision { outcome: Outcome::Declined });
@@ -382,7 +383,7 @@ fn decision_for(choice: Choice, kind: u8) -> Decided
 
 // 82 and 94 are there.
 fn options_there(bytes: &[u8]) -> Needed
-    ensures { λ r. ⌜ r ≡ neededOf (both (holds (now (bytes .entry)) 0x82) (holds (now (bytes .entry)) 0x94)) ⌝ }
+    ensures { λ r. ⌜ neededNumber r ≡ unless (both (holds (now (bytes .entry)) 0x82) (holds (now (bytes .entry)) 0x94)) reasonMissing ⌝ }
 {
     if store::is_there(bytes, ROW_82) {
         if store::is_there(bytes, ROW_94) {
@@ -394,7 +395,7 @@ fn options_there(bytes: &[u8]) -> Needed
 
 // The mode that 82 tells.
 fn mode_in(bytes: &[u8]) -> Mode
-    ensures { λ r. ⌜ r ≡ modeOf (emvMode (now (bytes .entry))) ⌝ }
+    ensures { λ r. ⌜ modeNumber r ≡ unless (emvMode (now (bytes .entry))) reasonMode ⌝ }
 {
     if record::is_emv(bytes) {
         return Mode::Emv;
@@ -404,7 +405,7 @@ fn mode_in(bytes: &[u8]) -> Mode
 
 // The amount against the limit in force.
 fn limit_in(bytes: &[u8]) -> Limit
-    ensures { λ r. ⌜ r ≡ limitFor (aboveLimit (now (bytes .entry))) ⌝ }
+    ensures { λ r. ⌜ limitNumber r ≡ unless (not (aboveLimit (now (bytes .entry)))) reasonAboveLimit ⌝ }
 {
     if analysis::action::above_limit(bytes) {
         return Limit::Above;
@@ -414,7 +415,7 @@ fn limit_in(bytes: &[u8]) -> Limit
 
 // 5F24, 5A and 8C are there, none empty.
 fn card_complete(bytes: &[u8]) -> Needed
-    ensures { λ r. ⌜ r ≡ neededOf (completed (now (bytes .entry))) ⌝ }
+    ensures { λ r. ⌜ neededNumber r ≡ unless (completed (now (bytes .entry))) reasonMissing ⌝ }
 {
     if record::is_complete(bytes) {
         return Needed::Complete;
@@ -424,7 +425,7 @@ fn card_complete(bytes: &[u8]) -> Needed
 
 // 9F27, 9F36 and 9F26 are there.
 fn cryptogram_there(bytes: &[u8]) -> Needed
-    ensures { λ r. ⌜ r ≡ neededOf (both (holds (now (bytes .entry)) 0x9F27) (both (holds (now (bytes .entry)) 0x9F36) (holds (now (bytes .entry)) 0x9F26))) ⌝ }
+    ensures { λ r. ⌜ neededNumber r ≡ unless (both (holds (now (bytes .entry)) 0x9F27) (both (holds (now (bytes .entry)) 0x9F36) (holds (now (bytes .entry)) 0x9F26))) reasonMissing ⌝ }
 {
     if store::is_there(bytes, ROW_9F27) {
         if store::is_there(bytes, ROW_9F36) {

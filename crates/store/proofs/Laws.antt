@@ -1,24 +1,24 @@
 -- What a put leaves, for every table and every store that is large enough for it: its own row holds the value, every other place
 -- is untouched, puts of two rows commute. A put is a run of stores at a place, and the places lie apart.
 -- Assumes nothing.
-use mathlib.Core.Path.{_≡_, refl, sym, ap, ap₂, subst, _∙_}
+use mathlib.Core.Path.{_≡_, refl, sym, ap, ap₂, _∙_}
 use mathlib.Core.Bool.{Bool, true, false, not}
 use mathlib.Core.Logic.{_⊎_, inl, inr}
-use mathlib.Core.List.{List, [], _∷_, _++_, append-assoc}
+use mathlib.Core.List.{List, [], _∷_, _++_, append-assoc, append-nil}
 use Prim.Native.Nat.{ℕ, zero, suc, _+_, _-_, _≤_, _<_, min}
 use native.Mathlib.Nat.{add-zero}
 use native.Mathlib.Numerals.{add-one}
 use native.Mathlib.Omega.{arith}
 use lib.Dec.{eqb}
-use lib.ListN.{length, getD, take, drop, set, replicate, length-append, length-take, length-drop, length-set, drop-of-length-le, List·getD-eq-default}
-use lib.Seq.{drop-cons, take-at, drop-at, take-all, take-take, drop-drop, take-append-le, drop-append-le, drop-append-add, length-take-le, getD-take, getD-drop, sets, sets-eq, length-sets, set-comm, drop-set-add, drop-set-lt, take-set-le, take-suc-set, take-length, append-snoc, paste}
-use borrow.Author.Tests.{eq-eqb, ne-eqb, eqb-true}
+use lib.ListN.{length, getD, take, drop, set, replicate, length-take, drop-of-length-le, List·getD-eq-default}
+use lib.Seq.{drop-cons, take-at, drop-at, take-all, take-take, length-take-le, getD-take, getD-drop, sets, sets-eq, length-sets, set-comm, drop-set-add, drop-set-lt, take-set-le, take-suc-set, take-length, append-snoc, paste}
+use borrow.Author.Tests.{eq-eqb, ne-eqb}
 use Rattle.basics.specs.Choice.{if}
-use Rattle.basics.proofs.Laws.{if-yes, if-no, if-ind}
+use Rattle.basics.proofs.Laws.{if-yes, if-no}
 use Rattle.basics.proofs.Order.{le-or-gt, sides}
-use Rattle.dictionary.specs.Rows.{Row, blank, rowIn, find}
+use Rattle.dictionary.specs.Rows.{Row, rowIn, find}
 use Rattle.dictionary.specs.declared.Found.the-variants.{At, Unknown}
-use Rattle.store.specs.Place.{Value, absent, present, bytesOf, isThere, room, offsetIn, sizeOf, placeAt, held, valueAt, lengthByte, storedLength, putAt, putAll, emptyOf, valueFound, valueIn}
+use Rattle.store.specs.Place.{Value, absent, present, bytesOf, isThere, room, offsetIn, sizeOf, placeAt, held, valueAt, lengthByte, storedLength, writtenAt, putAt, putAll, emptyOf, valueFound, valueIn}
 use Rattle.store.proofs.Places.{inside, ends, apart}
 
 take-min : (m n : ℕ) (l : List ℕ) → take m (take n l) ≡ take (min m n) l
@@ -128,6 +128,14 @@ sets-sets (y ∷ ws) vs l i j h =
 
 -- ---- a put is such a run
 
+-- the length byte stored, and then the value copied behind it
+pub paste-written : (b : List ℕ) (o : ℕ) (v : List ℕ) → o + 1 + length v ≤ length b → paste (set b o (length v + 1)) (o + 1) v (length v) ≡ writtenAt b o v
+paste-written b o v f =
+    let h : o < length b = omega arith in
+    let q : o < suc o + length v = omega arith in
+    rw (add-one o, take-length v, take-suc-set b o (length v + 1) h, drop-set-lt (suc o + length v) b o (length v + 1) q)
+    (append-assoc (take o b ++ ((length v + 1) ∷ [])) v (drop (suc o + length v) b) ∙ append-snoc (take o b) (length v + 1) (v ++ drop (suc o + length v) b))
+
 -- the value v fits row k of the table, and the store is large enough
 pub record Fits (table : List Row) (b : List ℕ) (k : ℕ) (v : List ℕ) : Type 0 where
   pub row : k < length table
@@ -149,16 +157,6 @@ module _ (table : List Row) (b : List ℕ) (k : ℕ) (v : List ℕ) (f : Fits ta
   -- the store keeps its length
   pub put-length : length (putAt table b k v) ≡ length b
   put-length = ap length put-sets ∙ length-sets b (offsetIn table k) ((length v + 1) ∷ v)
-
-  -- the length byte stored, and then the value copied behind it
-  pub paste-put : paste (set b (offsetIn table k) (length v + 1)) (offsetIn table k + 1) v (length v) ≡ putAt table b k v
-  unfolding putAt
-  paste-put =
-      let o = offsetIn table k in
-      let h : o < length b = omega (arith, lies) in
-      let q : o < suc o + length v = omega arith in
-      rw (add-one o, take-length v, take-suc-set b o (length v + 1) h, drop-set-lt (suc o + length v) b o (length v + 1) q)
-      (append-assoc (take o b ++ ((length v + 1) ∷ [])) v (drop (suc o + length v) b) ∙ append-snoc (take o b) (length v + 1) (v ++ drop (suc o + length v) b))
 
   -- its own row holds the value
   pub put-get : valueAt table (putAt table b k v) k ≡ present v
@@ -263,3 +261,8 @@ by-row table b t k e = ap (valueFound table b) e
 pub unknown-absent : (table : List Row) (b : List ℕ) (t : ℕ) → find table t ≡ Unknown → valueIn table b t ≡ absent
 unfolding valueIn
 unknown-absent table b t e = ap (valueFound table b) e
+
+-- ---- a store copied whole
+
+pub copied : (a b d : List ℕ) → length a ≡ length b → d ≡ take (length a) a ++ drop (length a) b → d ≡ a
+copied a b d l e = let h : length b ≤ length a = omega arith in e ∙ rw (take-length a, drop-of-length-le b h) (append-nil a)

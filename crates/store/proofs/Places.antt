@@ -1,15 +1,15 @@
 -- Where places lie, for every table: each inside the store, each behind the ones before it. By induction over the rows.
 -- Assumes nothing.
-use mathlib.Core.Path.{_≡_, refl, sym, ap, _∙_}
-use mathlib.Core.Bool.{Bool, true}
+use mathlib.Core.Path.{_≡_, refl, ap}
+use mathlib.Core.Bool.{true}
 use mathlib.Core.List.{List, [], _∷_}
-use Prim.Native.Nat.{ℕ, zero, suc, _+_, _≤_, _<_}
+use Prim.Native.Nat.{ℕ, zero, suc, _+_, _*_, _≤_, _<_}
 use native.Mathlib.Omega.{arith}
 use lib.Dec.{leb}
 use lib.ListN.{length, getD}
 use borrow.Author.Tests.{leb-true}
 use Rattle.basics.proofs.Table.{at}
-use Rattle.dictionary.specs.Rows.{Row, rows, blank, rowIn, rowAt}
+use Rattle.dictionary.specs.Rows.{Row, rows, blank, rowIn}
 use Rattle.store.specs.Place.{room, offsetIn, sizeOf, storable}
 
 -- a row's place lies inside the store
@@ -43,16 +43,16 @@ apart (r ∷ rs) zero (suc k) h i = omega arith
 apart (r ∷ rs) (suc j) zero h i = absurd (omega arith)
 apart (r ∷ rs) (suc j) (suc k) h i = let ih = apart rs j k (omega arith) (omega arith) in omega arith
 
--- running sums of the rooms
-abbrev pub sums : ℕ → List Row → List ℕ
-sums n [] = []
-sums n (r ∷ rs) = n ∷ sums (n + room r) rs
+-- where each place starts, as running sums of the rooms, with the greatest length behind it
+abbrev pub spans : ℕ → List Row → List ℕ
+spans n [] = []
+spans n (r ∷ rs) = (n * 256 + r .greatest) ∷ spans (n + room r) rs
 
-pub sum-at : (n : ℕ) (table : List Row) (k : ℕ) → k < length table → getD (sums n table) k 0 ≡ n + offsetIn table k
+pub span-at : (n : ℕ) (table : List Row) (k : ℕ) → k < length table → getD (spans n table) k 0 ≡ (n + offsetIn table k) * 256 + rowIn table k .greatest
 unfolding offsetIn
-sum-at n [] k h = absurd (omega arith)
-sum-at n (r ∷ rs) zero h = omega arith
-sum-at n (r ∷ rs) (suc k) h = let ih = sum-at (n + room r) rs k (omega arith) in omega arith
+span-at n [] k h = absurd (omega arith)
+span-at n (r ∷ rs) zero h = omega arith
+span-at n (r ∷ rs) (suc k) h = let ih = span-at (n + room r) rs k (omega arith) in omega arith
 
 -- every length + 1 fits a byte
 pub short : (table : List Row) → storable table ≡ true → (k : ℕ) → k < length table → rowIn table k .greatest ≤ 254

@@ -1,15 +1,19 @@
 -- The places of the dictionary's rows: what holds of every table, at this one. Assumes nothing.
-use mathlib.Core.Path.{_≡_, refl}
-use mathlib.Core.Bool.{true}
+use mathlib.Core.Path.{_≡_, refl, ap, _∙_}
+use mathlib.Core.Bool.{true, false}
 use mathlib.Core.List.{List}
-use Prim.Native.Nat.{ℕ, _+_, _≤_, _<_}
+use Prim.Native.Nat.{ℕ, _+_, _-_, _*_, _≤_, _<_, min}
 use native.Mathlib.Omega.{arith}
-use lib.ListN.{length, getD}
+use lib.Dec.{leb}
+use lib.ListN.{length, getD, take, drop, length-drop}
+use lib.Seq.{length-take-le}
+use borrow.Author.Tests.{eq-eqb, ne-eqb, leb-true}
 use Rattle.basics.specs.Choice.{both, every}
-use Rattle.dictionary.specs.Rows.{rows, rowAt}
-use Rattle.store.specs.Place.{room, offsetIn, sizeOf, storable}
-use Rattle.store.proofs.Places.{inside, ends, short, sums, sum-at}
-use Rattle.store.proofs.Laws.{Fits}
+use Rattle.basics.proofs.Table.{at}
+use Rattle.dictionary.specs.Rows.{rows, blank, rowAt}
+use Rattle.store.specs.Place.{offsetIn, sizeOf, storable, bytesOf, valueAt, storedLength, isFree}
+use Rattle.store.proofs.Places.{inside, ends, short, spans, span-at}
+use Rattle.store.proofs.Laws.{Fits, value-bytes, length-byte-at}
 
 pub rows-size : sizeOf rows ≡ 943
 unfolding rows sizeOf
@@ -32,9 +36,33 @@ row-inside k h =
 pub rows-end : (k : ℕ) → 36 ≤ k → offsetIn rows k ≡ 943
 rows-end k h = omega (arith, ends rows k (omega (arith, rows-length)), rows-size)
 
-pub offset-sum : (k : ℕ) → k < 36 → getD (sums 0 rows) k 0 ≡ offsetIn rows k
-offset-sum k h = omega (arith, sum-at 0 rows k (omega (arith, rows-length)))
+pub row-span : (k : ℕ) → k < 36 → getD (spans 0 rows) k 0 ≡ offsetIn rows k * 256 + rowAt k .greatest
+row-span k h = omega (arith, span-at 0 rows k (omega (arith, rows-length)))
 
 -- a value that fits its row, in a store of the dictionary's size
 pub fits-row : (b : List ℕ) (k : ℕ) (v : List ℕ) → length b ≡ 943 → k < 36 → length v ≤ rowAt k .greatest → Fits rows b k v
 fits-row b k v s h g = record { row = omega (arith, rows-length); value = g; store = omega (arith, rows-size) }
+
+-- ---- no bytes are there: by the length byte
+
+rows-roomy : every (λ r. leb 1 (r .greatest)) rows ≡ true
+unfolding rows every both
+rows-roomy = refl
+
+module _ (b : List ℕ) (k : ℕ) (s : length b ≡ 943) (h : k < 36) where
+  value-length : length (bytesOf (valueAt rows b k)) ≡ min (getD b (offsetIn rows k) 0 - 1) (rowAt k .greatest)
+  unfolding storedLength
+  value-length =
+      let i = row-inside k h in
+      let n = min (getD b (offsetIn rows k) 0 - 1) (rowAt k .greatest) in
+      let fit : n ≤ length (drop (offsetIn rows k + 1) b) = simp length-drop (omega arith) in
+      ap length (value-bytes rows b k (omega arith)) ∙ ap (λ (m : ℕ). length (take (min (m - 1) (rowAt k .greatest)) (drop (offsetIn rows k + 1) b))) (length-byte-at rows b k)
+      ∙ length-take-le n (drop (offsetIn rows k + 1) b) fit
+
+  pub free-yes : getD b (offsetIn rows k) 0 ≤ 1 → isFree rows b k ≡ true
+  free-yes e = eq-eqb _ _ (value-length ∙ omega arith)
+
+  pub free-no : 1 < getD b (offsetIn rows k) 0 → isFree rows b k ≡ false
+  free-no e =
+      let g : 1 ≤ rowAt k .greatest = leb-true _ _ (at (λ r. leb 1 (r .greatest)) rows blank rows-roomy k (omega (arith, rows-length))) in
+      ne-eqb _ _ (λ (z : length (bytesOf (valueAt rows b k)) ≡ 0). omega (arith, value-length))

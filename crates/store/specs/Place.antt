@@ -6,8 +6,9 @@ use mathlib.Core.List.{List, [], _∷_, _++_}
 use Prim.Native.Nat.{ℕ, zero, suc, _+_, _-_, min}
 use lib.Dec.{leb, eqb}
 use lib.ListN.{length, getD, take, drop, replicate}
-use Rattle.basics.specs.Choice.{if, both, every}
-use Rattle.dictionary.specs.Rows.{Row, rows, rowIn, find}
+use Rattle.basics.specs.Choice.{if, every}
+use Rattle.dictionary.specs.Rows.{Row, rows, rowIn, rowAt, find}
+use Rattle.store.specs.declared.Span.{Span}
 use Rattle.dictionary.specs.declared.Found.{Found}
 use Rattle.dictionary.specs.declared.Found.the-variants.{At, Unknown}
 
@@ -66,9 +67,21 @@ lengthByte table b k = getD (placeAt table b k) 0 0
 unfoldable pub storedLength : List Row → List ℕ → ℕ → ℕ
 storedLength table b k = min (lengthByte table b k - 1) (rowIn table k .greatest)
 
--- the store with the value v in row k's place; bytes behind v stay
+-- row k holds no bytes: absent, or present and empty
+abbrev pub isFree : List Row → List ℕ → ℕ → Bool
+isFree table b k = eqb (length (bytesOf (valueAt table b k))) 0
+
+-- the bytes with a length byte and the value v at the place o; bytes behind v stay
+abbrev pub writtenAt : List ℕ → ℕ → List ℕ → List ℕ
+writtenAt b o v = take o b ++ ((length v + 1) ∷ (v ++ drop (o + 1 + length v) b))
+
+-- the store with the value v in row k's place
 unfoldable pub putAt : List Row → List ℕ → ℕ → List ℕ → List ℕ
-putAt table b k v = take (offsetIn table k) b ++ ((length v + 1) ∷ (v ++ drop (offsetIn table k + 1 + length v) b))
+putAt table b k v = writtenAt b (offsetIn table k) v
+
+-- the same where a test passes, else the store as it was
+abbrev pub putIf : Bool → List Row → List ℕ → ℕ → List ℕ → List ℕ
+putIf t table b k v = if t (putAt table b k v) b
 
 -- the values vs in the places of rows k, k + 1 and so on
 unfoldable pub putAll : List Row → List ℕ → ℕ → List (List ℕ) → List ℕ
@@ -78,6 +91,10 @@ putAll table b k (v ∷ vs) = putAll table (putAt table b k v) (suc k) vs
 -- the store that holds nothing
 abbrev pub emptyOf : List Row → List ℕ
 emptyOf table = replicate (sizeOf table) 0
+
+-- a row's place in the dictionary's store, and the greatest length of its value
+abbrev pub spanOf : ℕ → Span
+spanOf k = record { at = offsetIn rows k; most = rowAt k .greatest }
 
 -- ---- by tag
 

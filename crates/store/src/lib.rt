@@ -9,18 +9,30 @@ ghost use mathlib.Core.Path.{_≡_};
 ghost use Prim.Native.Nat.{_+_, _-_, _≤_, _<_, min};
 ghost use lib.ListN.{length, getD, replicate};
 ghost use Rattle.dictionary.specs.Rows.{rows, rowAt, rowCount, storeSize};
-ghost use Rattle.store.specs.Place.{offsetIn, lengthByte, valueAt, bytesOf, isThere, putAt};
+ghost use Rattle.store.specs.Place.{spanOf, lengthByte, valueAt, bytesOf, isThere, isFree, writtenAt, putAt, putIf};
 
 pub struct Store {
     pub bytes: [u8; SIZE],
 }
 
-// Where each row's place starts.
-const OFFSETS: [u16; ROWS] = [
-    0, 20, 31, 34, 285, 534, 540, 544, 546, 550, 554, 557,
-    560, 562, 569, 576, 579, 582, 585, 591, 597, 603, 636, 639,
-    648, 650, 654, 656, 659, 664, 905, 911, 917, 923, 929, 936,
+// Where each row's place starts, and the greatest length of its value: the two that a row is read by, in one
+// number.
+const START: u32 = 256;
+
+const PLACES: [u32; ROWS] = [
+    0 * START + 19, 20 * START + 10, 31 * START + 2, 34 * START + 250, 285 * START + 248, 534 * START + 5,
+    540 * START + 3, 544 * START + 1, 546 * START + 3, 550 * START + 3, 554 * START + 2, 557 * START + 2,
+    560 * START + 1, 562 * START + 6, 569 * START + 6, 576 * START + 2, 579 * START + 2, 582 * START + 2,
+    585 * START + 5, 591 * START + 5, 597 * START + 5, 603 * START + 32, 636 * START + 2, 639 * START + 8,
+    648 * START + 1, 650 * START + 3, 654 * START + 1, 656 * START + 2, 659 * START + 4, 664 * START + 240,
+    905 * START + 5, 911 * START + 5, 917 * START + 5, 923 * START + 5, 929 * START + 6, 936 * START + 6,
 ];
+
+// A row's place: where it starts, and the greatest length of its value.
+pub struct Span {
+    pub at: usize,
+    pub most: usize,
+}
 
 // The store that holds nothing.
 pub fn empty() -> Store
@@ -29,32 +41,26 @@ pub fn empty() -> Store
     Store { bytes: [0u8; SIZE] }
 }
 
-// Where a row's place starts; the store's size past the last row.
-fn offset(row: usize) -> usize
-    ensures { λ r. ⌜ r ≡ offsetIn rows row ⌝ }
-    ensures { λ r. ⌜ r ≤ storeSize ⌝ }
+// A row's place; past the last row it is the store's end.
+fn span_of(row: usize) -> Span
+    ensures { λ r. ⌜ r ≡ spanOf row ⌝ }
+    ensures { λ r. ⌜ r .at ≤ storeSize ⌝ }
 {
     if row < ROWS {
-        return basics::wide16(OFFSETS[row]);
+        let code = PLACES[row];
+        return Span {
+            at: (code / START) as usize,
+            most: (code % START) as usize,
+        };
     }
-    SIZE
-}
-
-// The byte at a place, 0 past the end.
-fn byte_in(bytes: &[u8], at: usize) -> u8
-    ensures { λ r. ⌜ r ≡ getD (now (bytes .entry)) at 0 ⌝ }
-{
-    if at < bytes.len() {
-        return bytes[at];
-    }
-    0
+    Span { at: SIZE, most: 0 }
 }
 
 // The length byte of a row's place as it stands: 0 where the object is absent, else its length + 1.
 pub fn length_byte(bytes: &[u8], row: usize) -> u8
     ensures { λ r. ⌜ r ≡ lengthByte rows (now (bytes .entry)) row ⌝ }
 {
-    byte_in(bytes, offset(row))
+    basics::byte_at(bytes, span_of(row).at)
 }
 
 // Whether a row's object is there.
@@ -66,12 +72,11 @@ pub fn is_there(bytes: &[u8], row: usize) -> bool
 
 // How many bytes a value has by its length byte, 0 where the object is absent. A length byte that is
 // too large for its place counts as the greatest length.
-fn value_length(stored: u8, row: usize) -> usize
-    ensures { λ r. ⌜ r ≡ min (stored - 1) (rowAt row .greatest) ⌝ }
+fn value_length(stored: u8, most: usize) -> usize
+    ensures { λ r. ⌜ r ≡ min (stored - 1) most ⌝ }
     ensures { λ r. ⌜ r < 256 ⌝ }
 {
     let stored = basics::wide(stored);
-    let most = dictionary::greatest(row);
     if stored == 0 {
         return 0;
     }
@@ -85,9 +90,10 @@ fn value_length(stored: u8, row: usize) -> usize
 pub fn value(bytes: &[u8], row: usize) -> &[u8]
     ensures { λ r. ⌜ now r ≡ bytesOf (valueAt rows (now (bytes .entry)) row) ⌝ }
 {
-    let at = offset(row);
+    let span = span_of(row);
+    let at = span.at;
     let first = at + 1;
-    let n = value_length(byte_in(bytes, at), row);
+    let n = value_length(basics::byte_at(bytes, at), span.most);
     let e = first + n;
     if e <= bytes.len() {
         return &bytes[first..e];
@@ -99,13 +105,37 @@ pub fn value(bytes: &[u8], row: usize) -> &[u8]
 }
 
 // Puts a value into a row's place, over what is there.
-pub fn put(bytes: &mut [u8; SIZE], row: usize, v: &[u8])
+pub fn put(bytes: &mut [u8], row: usize, v: &[u8])
     requires { ⌜ length (now bytes) ≡ storeSize ⌝ }
     requires { ⌜ (row < rowCount) × (length (now v) ≤ rowAt row .greatest) ⌝ }
     ensures stored { λ _. ⌜ now (bytes .exit) ≡ putAt rows (now (bytes .entry)) row (now (v .entry)) ⌝ }
     ensures sized { λ _. ⌜ length (now (bytes .exit)) ≡ storeSize ⌝ }
 {
-    let at = offset(row);
+    let at = span_of(row).at;
+    write(bytes, at, v);
+}
+
+// Puts a value into a row's place unless bytes are there already: whether it was put.
+pub fn put_free(bytes: &mut [u8], row: usize, v: &[u8]) -> bool
+    requires { ⌜ length (now bytes) ≡ storeSize ⌝ }
+    requires { ⌜ (row < rowCount) × (length (now v) ≤ rowAt row .greatest) ⌝ }
+    ensures said { λ r. ⌜ r ≡ isFree rows (now (bytes .entry)) row ⌝ }
+    ensures stored { λ r. ⌜ now (bytes .exit) ≡ putIf r rows (now (bytes .entry)) row (now (v .entry)) ⌝ }
+    ensures sized { λ _. ⌜ length (now (bytes .exit)) ≡ storeSize ⌝ }
+{
+    let at = span_of(row).at;
+    if 1 < bytes[at] {
+        return false;
+    }
+    write(bytes, at, v);
+    true
+}
+
+// Writes a length byte and a value at a place.
+fn write(bytes: &mut [u8], at: usize, v: &[u8])
+    requires { ⌜ (at + 1 + length (now v) ≤ length (now bytes)) × (length (now v) ≤ 254) ⌝ }
+    ensures { λ _. ⌜ now (bytes .exit) ≡ writtenAt (now (bytes .entry)) at (now (v .entry)) ⌝ }
+{
     let start = at + 1;
     bytes[at] = (v.len() + 1) as u8;
     let mut i = 0;
@@ -113,14 +143,4 @@ pub fn put(bytes: &mut [u8; SIZE], row: usize, v: &[u8])
         bytes[start + i] = v[i];
         i += 1;
     }
-}
-
-// The store with a value in a row's place.
-pub fn with_value(store: Store, row: usize, v: &[u8]) -> Store
-    requires { ⌜ (row < rowCount) × (length (now v) ≤ rowAt row .greatest) ⌝ }
-    ensures { λ r. ⌜ r .bytes ≡ putAt rows (store .bytes) row (now (v .entry)) ⌝ }
-{
-    let mut out = store;
-    put(&mut out.bytes, row, v);
-    out
 }

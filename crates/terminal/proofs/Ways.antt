@@ -1,4 +1,5 @@
--- The ways out of a loading, one law for each, in the order of the refusals; and what the answer of the call says of them.
+-- The ways out of a loading, one law for each, in the order of the refusals; what the answer of the call says of them; and the working
+-- copy, which is the store.
 -- Assumes nothing.
 use mathlib.Core.Path.{_≡_, refl, sym, ap, subst, _∙_}
 use mathlib.Core.Bool.{true, false}
@@ -9,7 +10,7 @@ use lib.ListN.{length}
 use borrow.Author.Tests.{le-leb, lt-leb}
 use Rattle.basics.proofs.Laws.{if-yes, if-no}
 use Rattle.record.specs.Ranges.{brought}
-use Rattle.record.specs.Numbers.{refusedBytes, refusedObject, refusedAbsent}
+use Rattle.basics.specs.Reason.{refusedBytes, refusedObject, refusedAbsent}
 use Rattle.terminal.specs.declared.Said.{Said}
 use Rattle.terminal.specs.Terminal.{Object, run, isRun, setRun, Loaded, refusal, loaded, afterSetting, afterRun, mostBytes, load, Loads}
 
@@ -67,3 +68,9 @@ refuses {r} b e f = subst (Loads r b b) (sym f) (record { said = e; store = refl
 
 pub loads : {b c : List ℕ} {x : Loaded} → x ≡ loaded c → Loads Said.Taken c b x
 loads {b} f = subst (Loads _ _ b) (sym f) (record { said = refl; store = refl })
+
+-- ---- the working copy
+
+-- what a run sets in a copy it sets in the store
+pub in-copy : {b d : List ℕ} (s : List ℕ) {x : Option (List ℕ)} → d ≡ b → setRun d (run s) ≡ x → setRun b (run s) ≡ x
+in-copy s e f = ap (λ (y : List ℕ). setRun y (run s)) (sym e) ∙ f

@@ -17,7 +17,7 @@ use Rattle.dictionary.specs.Form.{fitting}
 use Rattle.dictionary.specs.TerminalType.{listed}
 use Rattle.store.specs.Place.{isThere, valueAt, putAt}
 use Rattle.record.specs.Ranges.{brought}
-use Rattle.record.specs.Numbers.{refusedBytes, refusedObject, refusedAbsent}
+use Rattle.basics.specs.Reason.{refusedBytes, refusedObject, refusedAbsent}
 use Rattle.terminal.specs.declared.Said.{Said}
 
 -- ---- a run of whole primitive objects

@@ -22,25 +22,26 @@ pub enum Said {
 const MOST: usize = 1024;
 
 // The start bytes into a store.
-pub fn load(store: &mut [u8; SIZE], terminal: &[u8]) -> Said
+pub fn load(store: &mut [u8], terminal: &[u8]) -> Said
     requires { ⌜ length (now store) ≡ storeSize ⌝ }
     ensures given { λ r. ⌜ Loads r (now (store .exit)) (now (store .entry)) (loadOf (now (store .entry)) (now (terminal .entry))) ⌝ }
     ensures sized { λ _. ⌜ length (now (store .exit)) ≡ storeSize ⌝ }
 {
     if MOST < terminal.len() {
-        return refused(record::REFUSED_BYTES);
+        return refused(basics::REFUSED_BYTES);
     }
     if !is_run(terminal) {
-        return refused(record::REFUSED_BYTES);
+        return refused(basics::REFUSED_BYTES);
     }
-    let mut work = *store;
+    let mut work = [0u8; SIZE];
+    bytes::copy(store, &mut work);
     if !set_objects(terminal, &mut work) {
-        return refused(record::REFUSED_OBJECT);
+        return refused(basics::REFUSED_OBJECT);
     }
     if !record::all_brought(&work) {
-        return refused(record::REFUSED_ABSENT);
+        return refused(basics::REFUSED_ABSENT);
     }
-    *store = work;
+    bytes::copy(&work, store);
     Said::Taken
 }
 
@@ -128,10 +129,11 @@ fn set_object(tag: u32, v: &[u8], store: &mut [u8; SIZE]) -> bool
 fn is_settable(bytes: &[u8], row: usize, tag: u32, v: &[u8]) -> bool
     ensures { λ r. ⌜ r ≡ settable (now (bytes .entry)) row (object tag (now (v .entry))) ⌝ }
 {
-    if dictionary::setters(row) / dictionary::START % 2 != 1 {
+    let attributes = dictionary::attributes_of(row);
+    if attributes.setters / dictionary::START % 2 != 1 {
         return false;
     }
-    if !dictionary::fits(row, v) {
+    if !dictionary::fits(attributes, v) {
         return false;
     }
     if store::is_there(bytes, row) {
@@ -147,5 +149,5 @@ fn is_type_listed(tag: u32, v: &[u8]) -> bool
     if tag != 0x9F35 {
         return true;
     }
-    dictionary::is_listed(record::byte_at(v, 0))
+    dictionary::is_listed(basics::byte_at(v, 0))
 }

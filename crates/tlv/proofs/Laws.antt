@@ -1,16 +1,15 @@
 -- The laws of a tag, a length and a header. The definitions go by clauses on lists and the code by lengths and places, so each
--- has its form by places first; then what lies inside the list, each way out of the code, and the first byte of a tag.
+-- has its form by places first; then what lies inside the list, the first byte of a tag, and each way out of the code.
 -- Assumes nothing.
 use mathlib.Core.Path.{_≡_, refl, sym, ap, _∙_}
 use mathlib.Core.Bool.{false}
-use mathlib.Core.List.{List, [], _∷_, _++_}
-use Prim.Native.Nat.{ℕ, zero, suc, _+_, _-_, _*_, _/_, _^_, _≤_, _<_}
+use mathlib.Core.List.{List, [], _∷_}
+use Prim.Native.Nat.{ℕ, zero, suc, _+_, _-_, _*_, _/_, _≤_, _<_}
 use native.Mathlib.Nat.{le-refl}
-use native.Mathlib.Numerals.{add-one}
 use native.Mathlib.Omega.{arith}
 use lib.Dec.{ltb, eqb}
 use lib.ListN.{length, getD, take, drop, length-drop}
-use lib.Seq.{take-suc, take-all, getD-drop}
+use lib.Seq.{take-all, getD-drop}
 use borrow.Author.Tests.{lt-ltb, le-ltb, le-leb, lt-leb, eq-eqb, ne-eqb, ltb-false, leb-true, eqb-false}
 use Rattle.basics.specs.Choice.{if}
 use Rattle.basics.specs.Number.{numberFrom, number, hasBit}
@@ -61,26 +60,26 @@ length-by (a ∷ []) = refl
 length-by (a ∷ b ∷ []) = refl
 length-by (a ∷ b ∷ c ∷ s) = simp (past (length s) 1 (omega arith), past (length s) 2 (omega arith), past (length s) 3 (omega arith))
 
--- ---- the tag as the code reads it, byte by byte
+-- ---- the tag as the code reads it
 
--- one byte more
-number-snoc : (n : ℕ) (s : List ℕ) (b : ℕ) → numberFrom n (s ++ (b ∷ [])) ≡ numberFrom n s * 256 + b
+-- the number of one byte, of two and of three
+pub number-one : (s : List ℕ) → number (take 1 s) ≡ getD s 0 0
 unfolding numberFrom
-number-snoc n [] b = refl
-number-snoc n (a ∷ s) b = number-snoc (n * 256 + a) s b
+number-one [] = refl
+number-one (a ∷ s) = omega arith
 
-pub number-more : (s : List ℕ) (i : ℕ) → i < length s → number (take (i + 1) s) ≡ number (take i s) * 256 + getD s i 0
-number-more s i h = rw (add-one, take-suc s i 0) (number-snoc 0 (take i s) (getD s i 0))
+pub number-two : (s : List ℕ) → 2 ≤ length s → number (take 2 s) ≡ getD s 0 0 * 256 + getD s 1 0
+unfolding numberFrom
+number-two [] h = absurd (omega arith)
+number-two (a ∷ []) h = absurd (omega arith)
+number-two (a ∷ b ∷ s) h = omega arith
 
--- the number stays below 256 to the count of its bytes
-pub below-more : (n i b : ℕ) → n < 256 ^ i → b < 256 → n * 256 + b < 256 ^ (i + 1)
-below-more n i b h k = rw add-one (omega arith)
-
-pub below-two : (n i : ℕ) → n < 256 ^ i → i < 3 → n < 65536
-below-two n zero h k = omega arith
-below-two n (suc zero) h k = omega arith
-below-two n (suc (suc zero)) h k = omega arith
-below-two n (suc (suc (suc i))) h k = absurd (omega arith)
+pub number-three : (s : List ℕ) → 3 ≤ length s → number (take 3 s) ≡ (getD s 0 0 * 256 + getD s 1 0) * 256 + getD s 2 0
+unfolding numberFrom
+number-three [] h = absurd (omega arith)
+number-three (a ∷ []) h = absurd (omega arith)
+number-three (a ∷ b ∷ []) h = absurd (omega arith)
+number-three (a ∷ b ∷ c ∷ s) h = omega arith
 
 pub tag-none : (s : List ℕ) (k : ℕ) → k ≡ tagSize s → k ≡ 0 → tagAt s ≡ Untagged
 unfolding tagAt
@@ -199,6 +198,50 @@ pub header-fits : (s : List ℕ) (h : Header) → headerOf s ≡ Object h → He
 unfolding headerOf
 header-fits s h e = rw e at (with-tag-ok s (tagAt s) (tag-ok s))
 
+-- ---- the first byte of a number
+
+pub first-one : (t : ℕ) → t < 0x100 → firstByte t ≡ t
+unfolding firstByte
+first-one t h = if-yes _ _ (lt-ltb t 0x100 h)
+
+pub first-two : (t : ℕ) → 0x100 ≤ t → t < 0x10000 → firstByte t ≡ t / 0x100
+unfolding firstByte
+first-two t h k = if-no _ _ (le-ltb t 0x100 h) ∙ if-yes _ _ (lt-ltb t 0x10000 k)
+
+pub first-three : (t : ℕ) → 0x10000 ≤ t → firstByte t ≡ t / 0x10000
+unfolding firstByte
+first-three t h = if-no _ _ (le-ltb t 0x100 (omega arith)) ∙ if-no _ _ (le-ltb t 0x10000 h)
+
+-- a tag does not begin with 00
+starts : (s : List ℕ) → (tagSize s ≡ 0 → ⊥) → getD s 0 0 ≡ 0 → ⊥
+unfolding tagSize
+starts [] n e = n refl
+starts (b ∷ s) n e = n (if-yes _ _ (eq-eqb b 0 e))
+
+first-of : (s : List ℕ) (k : ℕ) → Bytes s → (getD s 0 0 ≡ 0 → ⊥) → k ≤ 3 → k ≤ length s → (k ≡ 0 → ⊥) → firstByte (number (take k s)) ≡ getD s 0 0
+first-of s zero b f h k n = absurd (n refl)
+first-of s (suc zero) b f h k n = rw (number-one s) (first-one _ (b 0))
+first-of s (suc (suc zero)) b f h k n =
+    rw (number-two s k) (first-two _ (omega arith) (omega (arith, b 0, b 1)) ∙ omega (arith, b 1))
+first-of s (suc (suc (suc zero))) b f h k n =
+    rw (number-three s k) (first-three _ (omega arith) ∙ omega (arith, b 1, b 2))
+first-of s (suc (suc (suc (suc k)))) b f h k′ n = absurd (omega arith)
+
+-- where a whole tag stands at the front of bytes, the first byte of its number is the first of them
+pub first-byte-is : (s : List ℕ) (t : Tag) → Bytes s → tagAt s ≡ Tagged t → firstByte (t .number) ≡ getD s 0 0
+first-byte-is s t b e =
+    let f = tag-fits s t e in
+    rw (f .reads) (first-of s (t .size) b (starts s (λ z. omega arith)) (f .few) (f .inside) (omega arith))
+
+-- so the tests on a tag's number are tests on that byte
+pub template-is : (s : List ℕ) (t : Tag) → Bytes s → tagAt s ≡ Tagged t → isTemplate (t .number) ≡ hasBit (getD s 0 0) 32
+unfolding isTemplate
+template-is s t b e = rw (first-byte-is s t b e)
+
+pub private-is : (s : List ℕ) (t : Tag) → Bytes s → tagAt s ≡ Tagged t → isPrivate (t .number) ≡ eqb (getD s 0 0 / 64) 3
+unfolding isPrivate
+private-is s t b e = rw (first-byte-is s t b e)
+
 -- ---- the parts as the code makes them: `&s[a..a + l]` and `&s[e..]`
 
 abbrev pub contents : List ℕ → ℕ → ℕ → List ℕ
@@ -223,14 +266,18 @@ pub with-whole : (s : List ℕ) (t : Tag) (e : Extent) → t .size + e .size + e
     → withLength s t (Sized e) ≡ Object (header (t .number) (t .size + e .size) (e .len))
 with-whole s t e h = if-yes _ _ (le-leb (t .size + e .size + e .len) (length s) h)
 
--- both were read from bytes: what is left is a test, on small numbers, whether the value lies inside
+-- both were read from bytes: what is left is a test, on small numbers, whether the value lies inside, and the class by the first byte
 pub record HeaderRead (s : List ℕ) (t : Tag) (e : Extent) : Type 0 where
   pub is : headerOf s ≡ withLength s t (Sized e)
+  pub some : 1 ≤ length s
   pub small : t .size + e .size + e .len < 0x10006
+  pub template : isTemplate (t .number) ≡ hasBit (getD s 0 0) 32
+  pub private : isPrivate (t .number) ≡ eqb (getD s 0 0 / 64) 3
 
 module _ {s : List ℕ} {t : Tag} {e : Extent} (r : HeaderRead s t e) where
-  pub header-whole : t .size + e .size + e .len ≤ length s → headerOf s ≡ Object (header (t .number) (t .size + e .size) (e .len))
-  header-whole h = r .is ∙ with-whole s t e h
+  pub header-whole : t .size + e .size + e .len ≤ length s → headerOf s ≡
+      Object (record { tag = t .number; start = t .size + e .size; len = e .len; template = hasBit (getD s 0 0) 32; private = eqb (getD s 0 0 / 64) 3 })
+  header-whole h = r .is ∙ with-whole s t e h ∙ rw (r .template, r .private)
 
   pub header-short : length s < t .size + e .size + e .len → headerOf s ≡ Broken
   header-short h = r .is ∙ if-no _ _ (lt-leb (t .size + e .size + e .len) (length s) h)
@@ -242,60 +289,15 @@ module _ (s : List ℕ) (x : TagFront) (t : Tag) (p : x ≡ tagAt s) (q : x ≡ 
 
   pub header-read : Bytes s → (e : Extent) → y ≡ Sized e → HeaderRead s t e
   header-read b e h =
-      let f = tag-fits s t (sym p ∙ q) in
+      let told = sym p ∙ q in
+      let f = tag-fits s t told in
       let z : lengthAt (drop (t .size) s) ≡ Sized e = ap lengthAt (sym (tail-is s (t .size))) ∙ sym g ∙ h in
       let l = length-fits (drop (t .size) s) e z in
       let n = length-small (drop (t .size) s) e (λ i. rw (getD-drop (t .size) s i 0) (b (t .size + i))) z in
-      record { is = header-with (Sized e) h; small = omega arith }
-
--- ---- the first byte of a number
-
-pub first-one : (t : ℕ) → t < 0x100 → firstByte t ≡ t
-unfolding firstByte
-first-one t h = if-yes _ _ (lt-ltb t 0x100 h)
-
-pub first-two : (t : ℕ) → 0x100 ≤ t → t < 0x10000 → firstByte t ≡ t / 0x100
-unfolding firstByte
-first-two t h k = if-no _ _ (le-ltb t 0x100 h) ∙ if-yes _ _ (lt-ltb t 0x10000 k)
-
-pub first-three : (t : ℕ) → 0x10000 ≤ t → firstByte t ≡ t / 0x10000
-unfolding firstByte
-first-three t h = if-no _ _ (le-ltb t 0x100 (omega arith)) ∙ if-no _ _ (le-ltb t 0x10000 h)
-
--- a tag does not begin with 00
-starts : (s : List ℕ) → (tagSize s ≡ 0 → ⊥) → getD s 0 0 ≡ 0 → ⊥
-unfolding tagSize
-starts [] n e = n refl
-starts (b ∷ s) n e = n (if-yes _ _ (eq-eqb b 0 e))
-
-first-of : (s : List ℕ) (k : ℕ) → Bytes s → (getD s 0 0 ≡ 0 → ⊥) → k ≤ 3 → k ≤ length s → (k ≡ 0 → ⊥) → firstByte (number (take k s)) ≡ getD s 0 0
-unfolding numberFrom
-first-of s zero b f h k n = absurd (n refl)
-first-of s (suc zero) b f h k n =
-    let x = number-more s 0 (omega arith) in
-    rw x (first-one _ (omega (arith, b 0)) ∙ omega arith)
-first-of s (suc (suc zero)) b f h k n =
-    let x = number-more s 0 (omega arith) in
-    let y = number-more s 1 (omega arith) in
-    rw (y, x) (first-two _ (omega (arith, b 0, b 1)) (omega (arith, b 0, b 1)) ∙ omega (arith, b 1))
-first-of s (suc (suc (suc zero))) b f h k n =
-    let x = number-more s 0 (omega arith) in
-    let y = number-more s 1 (omega arith) in
-    let z = number-more s 2 (omega arith) in
-    rw (z, y, x) (first-three _ (omega (arith, b 0, b 1, b 2)) ∙ omega (arith, b 1, b 2))
-first-of s (suc (suc (suc (suc k)))) b f h k′ n = absurd (omega arith)
-
--- where a whole tag stands at the front of bytes, the first byte of its number is the first of them
-pub first-byte-is : (s : List ℕ) (t : Tag) → Bytes s → tagAt s ≡ Tagged t → firstByte (t .number) ≡ getD s 0 0
-first-byte-is s t b e =
-    let f = tag-fits s t e in
-    rw (f .reads) (first-of s (t .size) b (starts s (λ z. omega arith)) (f .few) (f .inside) (omega arith))
-
--- so the tests on a tag's number are tests on that byte
-pub template-is : (s : List ℕ) (t : Tag) → Bytes s → tagAt s ≡ Tagged t → isTemplate (t .number) ≡ hasBit (getD s 0 0) 32
-unfolding isTemplate
-template-is s t b e = rw (first-byte-is s t b e)
-
-pub private-is : (s : List ℕ) (t : Tag) → Bytes s → tagAt s ≡ Tagged t → isPrivate (t .number) ≡ eqb (getD s 0 0 / 64) 3
-unfolding isPrivate
-private-is s t b e = rw (first-byte-is s t b e)
+      record {
+        is = header-with (Sized e) h;
+        some = omega arith;
+        small = omega arith;
+        template = template-is s t b told;
+        private = private-is s t b told;
+      }

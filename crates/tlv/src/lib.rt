@@ -5,7 +5,8 @@
 // its laws are in specs/.
 ghost use mathlib.Core.Path.{_≡_};
 ghost use Prim.Native.Nat.{_+_, _≤_, _<_};
-ghost use lib.ListN.{length, drop};
+ghost use lib.ListN.{length, take};
+ghost use Rattle.basics.specs.Number.{number};
 ghost use Rattle.tlv.specs.Tag.{tagSize, tagAt, firstByte, isTemplate, isPrivate};
 ghost use Rattle.tlv.specs.Length.{lengthAt};
 ghost use Rattle.tlv.specs.Object.{headerOf};
@@ -89,6 +90,22 @@ fn tag_size(s: &[u8]) -> usize
     0
 }
 
+// The bytes of a tag as one number.
+fn tag_number(s: &[u8], size: usize) -> u32
+    requires { ⌜ (0 < size) × (size ≤ 3) × (size ≤ length (now s)) ⌝ }
+    ensures { λ r. ⌜ r ≡ number (take size (now (s .entry))) ⌝ }
+{
+    let one = basics::wide32(s[0]);
+    if size == 1 {
+        return one;
+    }
+    let two = one * 256 + basics::wide32(s[1]);
+    if size == 2 {
+        return two;
+    }
+    two * 256 + basics::wide32(s[2])
+}
+
 // The tag at the front.
 pub fn tag_at(s: &[u8]) -> TagFront
     ensures { λ r. ⌜ r ≡ tagAt (now (s .entry)) ⌝ }
@@ -97,12 +114,7 @@ pub fn tag_at(s: &[u8]) -> TagFront
     if size == 0 {
         return TagFront::Untagged;
     }
-    let mut number: u32 = 0;
-    let mut i = 0;
-    while i < size {
-        number = number * 256 + basics::wide32(s[i]);
-        i += 1;
-    }
+    let number = tag_number(s, size);
     TagFront::Tagged(Tag { number, size })
 }
 
@@ -182,13 +194,13 @@ pub fn head(s: &[u8]) -> Front
     let start = at + e.size;
     let len = e.len;
     if start + len <= s.len() {
-        let tag = t.number;
+        let first = s[0];
         return Front::Object(Header {
-            tag,
+            tag: t.number,
             start,
             len,
-            template: is_template(tag),
-            private: is_private(tag),
+            template: first / 32 % 2 == 1,
+            private: first / 64 == 3,
         });
     }
     Front::Broken

@@ -25,7 +25,7 @@ use Rattle.store.specs.Place.{bytesOf, valueAt, valueOf, putAt}
 use Rattle.store.proofs.Laws.{Fits, put-length, put-get, put-other, by-row}
 use Rattle.store.proofs.Rows.{rows-length, fits-row}
 use Rattle.reading.specs.declared.Awaited.{Awaited}
-use Rattle.reading.specs.Taking.{Item, item, items, byCard, isFree, mayStand, allowed, Work, work, takeKnown, takeFound, takeItem, takeNext, takeAll}
+use Rattle.reading.specs.Taking.{Item, item, items, byCard, mayStand, mayCome, allowed, Work, work, takeKnown, takeFound, takeItem, takeNext, takeAll}
 use Rattle.reading.specs.Answer.{Outcome, Body, primitive, template, answerBit, bodyOf, bodyCount, optionsParts, primitiveParts, templateParts, takenParts, readTree, readBody, isRead, readAnswer}
 use Rattle.reading.proofs.Kept.{All, all-holds}
 use Rattle.trace.specs.Order.{isLocator, firstLocator, bodyLocator, broughtLocator}
@@ -62,8 +62,8 @@ stays answer w is v l n e =
     all-holds (λ b. held b ≡ v) any answer
     (λ b k i m q p h. ap bytesOf (put-other rows b k (i .value) (fits-row b k (i .value) m (p .row) (fits-length (rowAt k) (i .value) (p .fits) .1)) 4
     (λ z. let f = eqb-true _ 0 (p .free) in
-          let g : length (held b) ≡ 0 = ap (λ (j : ℕ). length (bytesOf (valueAt rows b j))) z ∙ f in
-          omega (arith, ap length h))) ∙ h) w is (all-any is) (l, e) .1
+    let g : length (held b) ≡ 0 = ap (λ (j : ℕ). length (bytesOf (valueAt rows b j))) z ∙ f in
+    omega (arith, ap length h))) ∙ h) w is (all-any is) (l, e) .1
 
 -- what stands in a template that its row names
 stands : (around : ℕ) → mayStand (rowAt 4) around ≡ true → around ≡ 0x77
@@ -100,14 +100,14 @@ module _ (answer : ℕ) (b : List ℕ) (i : Item) (is : List Item) (l : length b
   is-4 k f t = let z : At k ≡ At 4 = sym f ∙ ap (find rows) t ∙ at-94 in cc
 
   put : (k : ℕ) → find rows (i .tag) ≡ At k → allowed answer b k (i .around) (i .value) ≡ true → Goes (work true (putAt rows b k (i .value)))
-  unfolding allowed firstLocator
+  unfolding allowed mayCome firstLocator
   put k f a = go (equal-or-not (i .tag) 0x94)
     where
-      a₃ : both (fitting (rowAt k) (i .value)) (isFree b k) ≡ true
-      a₃ = both-right _ _ (both-right _ _ (both-right _ _ a))
+      here-fits : both (mayStand (rowAt k) (i .around)) (fitting (rowAt k) (i .value)) ≡ true
+      here-fits = both-right _ _ (both-right _ _ (both-left _ _ a))
 
       fit : Fits rows b k (i .value)
-      fit = fits-row b k (i .value) l (omega (arith, rows-length, found rows (i .tag) k f .0)) (fits-length (rowAt k) (i .value) (both-left _ _ a₃) .1)
+      fit = fits-row b k (i .value) l (omega (arith, rows-length, found rows (i .tag) k f .0)) (fits-length (rowAt k) (i .value) (both-right _ _ here-fits) .1)
 
       size : length (putAt rows b k (i .value)) ≡ storeSize
       size = put-length rows b k (i .value) fit ∙ l
@@ -118,11 +118,11 @@ module _ (answer : ℕ) (b : List ℕ) (i : Item) (is : List Item) (l : length b
           (ap bytesOf (put-other rows b k (i .value) fit 4 (λ z. n (sym (found rows (i .tag) k f .1) ∙ ap (λ (j : ℕ). rowAt j .tag) (sym z) ∙ row-94 .0))) ∙ e)
       go (inl t) = λ g h.
           let q = is-4 k f t in
-          let s : mayStand (rowAt 4) (i .around) ≡ true = subst (λ (j : ℕ). mayStand (rowAt j) (i .around) ≡ true) q (both-left _ _ (both-right _ _ (both-right _ _ a))) in
-          let y : rowAt 4 .least ≤ length (i .value) = subst (λ (j : ℕ). rowAt j .least ≤ length (i .value)) q (fits-length (rowAt k) (i .value) (both-left _ _ a₃) .0) in
+          let s : mayStand (rowAt 4) (i .around) ≡ true = subst (λ (j : ℕ). mayStand (rowAt j) (i .around) ≡ true) q (both-left _ _ here-fits) in
+          let y : rowAt 4 .least ≤ length (i .value) = subst (λ (j : ℕ). rowAt j .least ≤ length (i .value)) q (fits-length (rowAt k) (i .value) (both-right _ _ here-fits) .0) in
           let n : 0 < length (i .value) = omega (arith, row-94 .2) in
           let here : held (putAt rows b k (i .value)) ≡ i .value =
-            subst (λ (j : ℕ). bytesOf (valueAt rows (putAt rows b k (i .value)) j) ≡ i .value) q (ap bytesOf (put-get rows b k (i .value) fit)) in
+          subst (λ (j : ℕ). bytesOf (valueAt rows (putAt rows b k (i .value)) j) ≡ i .value) q (ap bytesOf (put-get rows b k (i .value) fit)) in
           if-yes _ _ (both-yes _ _ (eq-eqb (i .tag) 0x94 t) (both-yes _ _ (eq-eqb (i .around) 0x77 (stands (i .around) s)) (lt-ltb 0 (length (i .value)) n)))
           ∙ ap some (sym (stays answer (work true (putAt rows b k (i .value))) is (i .value) size n here))
 

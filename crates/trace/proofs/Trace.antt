@@ -30,7 +30,7 @@ use Rattle.record.specs.declared.Place.{Place}
 use Rattle.record.specs.declared.Phase.{Phase}
 use Rattle.record.specs.declared.Session.{Session}
 use Rattle.record.specs.declared.Reply.{Reply}
-use Rattle.record.specs.Numbers.{reasonLink, reasonStopped}
+use Rattle.basics.specs.Reason.{reasonLink, reasonStopped}
 use Rattle.record.specs.Session.{stored, endsReply}
 use Rattle.record.specs.Ranges.{locatorIn, inRanges}
 use Rattle.record.specs.Clauses.{noResults}

@@ -5,6 +5,7 @@ use mathlib.Core.List.{List}
 use Prim.Native.Nat.{ℕ}
 use borrow.Author.Needs.{needs}
 use borrow.Author.Tests.{not-true, not-false}
+use Rattle.dictionary.specs.declared.Attributes.{Attributes}
 use Rattle.dictionary.specs.Rows.{rows}
 use Rattle.data_list.specs.Filling.{zeros}
 use Rattle.data_list.specs.Buffer.{over}
@@ -45,7 +46,7 @@ returns-4 c =
     let i = sym (c .before .before .before .before .before .before .before .is-there .ensures) ∙ not-false _ (c .before .before .before .before .before .before .if2 .left) in
     c .before .before .write-value .ensures
     ∙ ap (over (a .buffer .now) (a .at))
-    (rw (c .before .before .before .before .before .form .ensures, c .before .before .before .before .before .before .before .before .before .before .before .before .before .before .wide .ensures .0, c .before .before .before .before .value .ensures) (sym (of-present rows (a .store .now) (a .entry) _ t f i)))
+    (rw (ap (λ (x : Attributes). x .form) (c .before .before .before .before .before .attributes-of .ensures), c .before .before .before .before .before .before .before .before .before .before .before .before .before .before .wide .ensures .0, c .before .before .before .before .value .ensures) (sym (of-present rows (a .store .now) (a .entry) _ t f i)))
 
 pub write-entry-spec : {M : Type 1} → statement M
 write-entry-spec =

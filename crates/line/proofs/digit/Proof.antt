@@ -7,7 +7,8 @@ use Prim.Native.Nat.{ℕ, _≤_}
 use native.Mathlib.Omega.{arith}
 use borrow.Author.Tests.{leb-true}
 use Rattle.basics.proofs.Laws.{if-yes, if-no, both-left, both-right}
-use Rattle.line.specs.Digits.{between, digitOf}
+use Rattle.line.specs.Digits.{digitOf}
+use Rattle.basics.specs.Number.{between}
 use Rattle.line.proofs.digit.Statement.{statement}
 use Rattle.line.proofs.digit.Tie as tie
 

@@ -8,6 +8,7 @@ use Prim.Native.Nat.{_+_, _≤_}
 use native.Mathlib.Omega.{arith}
 use lib.ListN.{length}
 use Rattle.locator.proofs.Walk.{onwards, tail-less, check-start, check-broken, check-next, check-many, check-part, check-none, check-all}
+use Rattle.locator.proofs.Laws.{checked-says}
 use Rattle.locator.proofs.check.Statement.{statement}
 use Rattle.locator.proofs.check.Tie as tie
 
@@ -21,7 +22,7 @@ returns : tie.Need-returns Inv-loop μ-loop
 returns c =
     let lp = c .before .before .before .before .loop in
     let f = c .before .before .front in
-    sym (check-start _ ∙ lp .inv .0 ∙ check-broken (lp .total) (lp .rest .now) (omega arith) (f .result) (f .ensures) (sym (c .before .keeps .ensures) ∙ not-true _ (c .if1 .taken)))
+    checked-says _ _ (check-start _ ∙ lp .inv .0 ∙ check-broken (lp .total) (lp .rest .now) (omega arith) (f .result) (f .ensures) (sym (c .before .keeps .ensures) ∙ not-true _ (c .if1 .taken)))
 
 returns-2 : tie.Need-returns-2 Inv-loop μ-loop
 returns-2 c =
@@ -29,7 +30,7 @@ returns-2 c =
     let f = c .before .before .before .before .front in
     let k = c .before .before .before .keeps in
     let n = c .before .count in
-    sym (check-start _ ∙ lp .inv .0
+    checked-says _ _ (check-start _ ∙ lp .inv .0
     ∙ check-next (lp .total) (lp .rest .now) (omega arith) (f .result) (f .ensures) (sym (k .ensures) ∙ not-false _ (c .before .before .if1 .left)) (n .result) (n .ensures .0)
     ∙ check-many (lp .total + n .result) _ (omega arith))
 
@@ -49,17 +50,17 @@ loop-again c =
 returns-3 : tie.Need-returns-3 Inv-loop μ-loop
 returns-3 c =
     let lp = c .before .before .loop in
-    sym (check-start _ ∙ lp .inv .0 ∙ check-part (lp .total) (lp .rest .now) (omega arith) (omega arith))
+    checked-says _ _ (check-start _ ∙ lp .inv .0 ∙ check-part (lp .total) (lp .rest .now) (omega arith) (omega arith))
 
 returns-4 : tie.Need-returns-4 Inv-loop μ-loop
 returns-4 c =
     let lp = c .before .before .before .loop in
-    sym (check-start _ ∙ lp .inv .0 ∙ check-none (lp .total) (lp .rest .now) (omega arith) (omega arith))
+    checked-says _ _ (check-start _ ∙ lp .inv .0 ∙ check-none (lp .total) (lp .rest .now) (omega arith) (omega arith))
 
 returns-5 : tie.Need-returns-5 Inv-loop μ-loop
 returns-5 c =
     let lp = c .before .before .before .loop in
-    sym (check-start _ ∙ lp .inv .0 ∙ check-all (lp .total) (lp .rest .now) (omega arith) (omega arith) (omega arith))
+    checked-says _ _ (check-start _ ∙ lp .inv .0 ∙ check-all (lp .total) (lp .rest .now) (omega arith) (omega arith) (omega arith))
 
 pub check-spec : {M : Type 1} → statement M
 check-spec =

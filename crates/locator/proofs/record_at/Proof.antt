@@ -8,16 +8,16 @@ use Rattle.locator.proofs.record_at.Statement.{statement}
 use Rattle.locator.proofs.record_at.Tie as tie
 
 returns : tie.Need-returns
-returns c = sym (record-no _ _ (is-rejected _ (sym (c .before .before .check .ensures) ∙ c .enum-told2 .given .1)))
+returns c = sym (record-no _ _ (is-rejected _ (sym (c .before .before .check .ensures .0) ∙ c .enum-told2 .given .1)))
 
 returns-2 : tie.Need-returns-2
 returns-2 c =
-    let a = is-accepted _ _ (sym (c .before .before .before .check .ensures) ∙ c .before .enum-told .given .1) .0 in
+    let a = is-accepted _ _ (sym (c .before .before .before .check .ensures .0) ∙ c .before .enum-told .given .1) .0 in
     sym (record-yes _ _ a ∙ kth-zero _ _ (c .if1 .taken))
 
 returns-3 : tie.Need-returns-3
 returns-3 c =
-    let a = is-accepted _ _ (sym (c .before .before .before .before .check .ensures) ∙ c .before .before .enum-told .given .1) .0 in
+    let a = is-accepted _ _ (sym (c .before .before .before .before .check .ensures .0) ∙ c .before .before .enum-told .given .1) .0 in
     c .seek .ensures ∙ sym (record-yes _ _ a ∙ kth-nth _ _ (omega arith))
 
 pub record-at-spec : {M : Type 1} → statement M

@@ -1,21 +1,30 @@
--- `reading::is_skipped` meets its contract. By the class of the tag.
+-- `reading::is_skipped` meets its contract. By who may set the object, and else by the class of the tag.
 -- Assumes nothing.
 use borrow.Author.Needs.{needs}
-use mathlib.Core.Path.{_≡_, sym, ap, _∙_}
-use mathlib.Core.Bool.{not}
-use Prim.Native.Nat.{ℕ}
+use mathlib.Core.Path.{_≡_, refl, sym, ap, _∙_}
+use mathlib.Core.Bool.{Bool, true, false, not}
+use borrow.Author.Tests.{eq-eqb, ne-eqb}
+use Rattle.basics.specs.Choice.{both}
 use Rattle.basics.specs.Number.{hasBit}
-use Rattle.basics.proofs.Laws.{both-true, both-no-left}
+use Rattle.basics.proofs.Laws.{both-no-right}
+use Rattle.dictionary.specs.declared.Attributes.{Attributes}
 use Rattle.reading.proofs.is_skipped.Statement.{statement}
 use Rattle.reading.proofs.is_skipped.Tie as tie
 
+both-last : (a : Bool) {b : Bool} → b ≡ true → both a b ≡ a
+unfolding both
+both-last true e = e
+both-last false e = refl
+
 returns : tie.Need-returns
-returns c =
-    ap (λ (s : ℕ). not (hasBit s 2)) (c .setters .ensures)
-    ∙ sym (both-true _ (sym (c .before .before .is-private .ensures) ∙ c .before .if1 .taken))
+returns c x e =
+    let card = sym (ap (λ (a : Attributes). hasBit (a .setters) 2) e) ∙ eq-eqb _ _ (c .if1 .taken) in
+    sym (both-no-right _ _ (ap not card))
 
 returns-2 : tie.Need-returns-2
-returns-2 c = sym (both-no-left _ _ (sym (c .before .is-private .ensures) ∙ c .if1 .left))
+returns-2 c x e =
+    let card = sym (ap (λ (a : Attributes). hasBit (a .setters) 2) e) ∙ ne-eqb _ _ (c .before .if1 .left) in
+    c .is-private .ensures ∙ sym (both-last _ (ap not card))
 
 pub is-skipped-spec : {M : Type 1} → statement M
-is-skipped-spec = tie.close (tie.spec (λ c κs. search needs) (λ c κs. search needs) returns returns-2)
+is-skipped-spec = tie.close (tie.spec returns (λ c κs. search needs) returns-2)

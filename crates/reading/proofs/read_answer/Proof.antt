@@ -21,19 +21,19 @@ none-read {r} v s e = let n : r .objects ≡ 0 = ap (λ (x : Reading). x .object
 
 returns : tie.Need-returns
 returns c =
-    let st = c .before .before .before in
+    let st = c .before .before .before .before in
     let a = st .args in
     (gives Malformed 0 (λ v. a .store .now) (c .made .ensures) (answer-short (a .awaited) (a .store .now) (a .answer .now) (c .before .if1 .taken)), (st .pre, none-read Malformed (a .answer .now) (c .made .ensures)))
 
 returns-2 : tie.Need-returns-2
 returns-2 c =
-    let st = c .before .before .before .before in
+    let st = c .before .before .before .before .before in
     let a = st .args in
     (gives Malformed 0 (λ v. a .store .now) (c .made2 .ensures) (answer-long (a .awaited) (a .store .now) (a .answer .now) (c .before .if2 .taken)), (st .pre, none-read Malformed (a .answer .now) (c .made2 .ensures)))
 
 returns-3 : tie.Need-returns-3
 returns-3 c =
-    let st = c .before .before .before .before .before .before in
+    let st = c .before .before .before .before .before .before .before in
     let a = st .args in (
       gives BadStatus 0 (λ v. a .store .now) (c .made3 .ensures)
           (answer-status (a .awaited) (a .store .now) (a .answer .now) (c .before .before .before .before .if1 .left) (c .before .before .before .if2 .left) (sym (c .before .before .is-good .ensures) ∙ not-true _ (c .before .if3 .taken))),
@@ -42,7 +42,7 @@ returns-3 c =
 
 returns-4 : tie.Need-returns-4
 returns-4 c =
-    let st = c .before .before .before .before .before .before .before .before in
+    let st = c .before .before .before .before .before .before .before .before .before in
     let a = st .args in (
       gives Accepted 0 (λ v. a .store .now) (c .made4 .ensures)
           (answer-unread (a .awaited) (a .store .now) (a .answer .now) (c .before .before .before .before .before .before .if1 .left) (c .before .before .before .before .before .if2 .left) (sym (c .before .before .before .before .is-good .ensures) ∙ not-false _ (c .before .before .before .if3 .left))
@@ -55,11 +55,11 @@ slice-aggregate-read-body c = simp length-take (omega arith)
 
 returns-5 : tie.Need-returns-5
 returns-5 c =
-    let a = c .before .before .before .before .before .before .before .before .before .before .args in
-    let h = simp length-take at (c .read-body .ensures .1 .1) in (
-      regive (sym (answer-read (a .awaited) (a .store .now) (a .answer .now) (c .before .before .before .before .before .before .before .before .if1 .left) (c .before .before .before .before .before .before .before .if2 .left) (sym (c .before .before .before .before .before .before .is-good .ensures) ∙ not-false _ (c .before .before .before .before .before .if3 .left))
-          (sym (c .before .before .before .before .is-read .ensures) ∙ not-false _ (c .before .before .before .if4 .left)))) (c .read-body .ensures .0),
-      (c .read-body .ensures .1 .0, omega arith),
+    let a = c .before .before .before .before .before .before .before .before .before .before .before .before .before .args in
+    let h = simp length-take at (c .before .before .read-body .ensures .1 .1) in (
+      regive (sym (answer-read (a .awaited) (a .store .now) (a .answer .now) (c .before .before .before .before .before .before .before .before .before .before .if1 .left) (c .before .before .before .before .before .before .before .before .before .if2 .left) (sym (c .before .before .before .before .before .before .before .before .is-good .ensures) ∙ not-false _ (c .before .before .before .before .before .before .before .if3 .left))
+          (sym (c .before .before .before .before .before .before .is-read .ensures) ∙ not-false _ (c .before .before .before .before .before .if4 .left)))) (c .before .before .read-body .ensures .0),
+      (c .before .before .read-body .ensures .1 .0, omega arith),
     )
 
 pub read-answer-spec : {M : Type 1} → statement M
@@ -78,4 +78,5 @@ read-answer-spec =
     returns-4
     slice-aggregate-read-body
     (λ c κs. search needs)
+    (λ c. search needs)
     returns-5)

@@ -1,12 +1,14 @@
 -- `reading::read_body` meets its contract. The verdict decides between the working copy and the store as it was.
 -- Assumes nothing.
-use mathlib.Core.Path.{_≡_, refl, sym, ap}
+use mathlib.Core.Path.{_≡_, refl, sym, ap, _∙_}
 use mathlib.Core.Logic.{⊎-elim}
 use mathlib.Core.List.{List, [], _∷_}
 use Prim.Native.Nat.{ℕ}
 use native.Mathlib.Omega.{arith}
 use types.Run.{OneOf}
 use denote.Enum.Declared.{tagOf}
+use lib.ListN.{length}
+use Rattle.store.proofs.Laws.{copied}
 use Rattle.reading.specs.declared.Verdict.{Verdict}
 use Rattle.reading.specs.declared.Verdict.the-variants.{Accepted, BadStatus, Malformed, NotAllowed}
 use Rattle.reading.specs.Answer.{storeAfter}
@@ -22,15 +24,43 @@ as-it-was b w BadStatus h = refl
 as-it-was b w Malformed h = refl
 as-it-was b w NotAllowed h = refl
 
+read-object-requires : tie.Need-read-object-requires
+read-object-requires c κs =
+    let st = c .before .before .before .before .before .before .before in
+    ap length (copied (st .args .store .now) _ _ (st .pre) (c .before .before .copy .ensures .1)) ∙ st .pre
+
 returns : tie.Need-returns
 returns c =
+    let st = c .before .before .before .before .before .before .before .before .before in
     let r = c .before .read-object in
-    (restore (as-it-was _ _ (r .result .verdict) (c .match .keys2)) (r .ensures .0), (c .before .before .before .before .before .pre, r .ensures .1 .1))
+    let e = copied (st .args .store .now) _ _ (st .pre) (c .before .before .before .before .copy .ensures .1) in
+    (restore (as-it-was _ _ (r .result .verdict) (c .match .keys2)) (rw e at (r .ensures .0)), (st .pre, r .ensures .1 .1))
+
+slice-aggregate-copy-2 : tie.Need-slice-aggregate-copy-2
+slice-aggregate-copy-2 c = sym (c .before .before .before .read-object .ensures .1 .0)
+
+copy-requires-2 : tie.Need-copy-requires-2
+copy-requires-2 c κs = omega (arith, c .before .before .before .before .read-object .ensures .1 .0)
 
 returns-2 : tie.Need-returns-2
 returns-2 c =
-    let r = c .before .before .read-object in
-    (restore (sym (ap (storeAfter _ _) (c .enum-told .given .1))) (r .ensures .0), r .ensures .1)
+    let st = c .before .before .before .before .before .before .before .before .before .before .before .before .before .before .before in
+    let r = c .before .before .before .before .before .before .before .read-object in
+    let e = copied (st .args .store .now) _ _ (st .pre) (c .before .before .before .before .before .before .before .before .before .before .copy .ensures .1) in
+    let d = copied (r .last .0) _ _ (r .ensures .1 .0 ∙ sym (st .pre)) (c .before .before .copy2 .ensures .1) in
+    (restore (d ∙ sym (ap (storeAfter _ _) (c .before .before .before .before .before .enum-told .given .1))) (rw e at (r .ensures .0)), (ap length d ∙ r .ensures .1 .0, r .ensures .1 .1))
 
 pub read-body-spec : {M : Type 1} → statement M
-read-body-spec = tie.close (tie.spec (λ c κs. search needs) (λ c. search needs) returns returns-2)
+read-body-spec =
+    tie.close
+    (tie.spec
+    (λ c. search needs)
+    (λ c κs. search needs)
+    read-object-requires
+    (λ c. search needs)
+    (λ c. search needs)
+    returns
+    slice-aggregate-copy-2
+    copy-requires-2
+    (λ c. search needs)
+    returns-2)

@@ -1,15 +1,15 @@
 -- `reading::take_object` meets its contract. One law for each way the object goes.
 -- Assumes nothing.
 use borrow.Author.Needs.{needs}
-use mathlib.Core.Path.{_≡_, refl, sym, ap, _∙_}
+use mathlib.Core.Path.{sym, ap, _∙_}
 use native.Mathlib.Omega.{arith}
 use borrow.Author.Tests.{not-true, not-false}
 use Rattle.dictionary.specs.Rows.{rows, rowAt}
 use Rattle.dictionary.proofs.Find.{found}
 use Rattle.dictionary.proofs.Fit.{fits-length}
 use Rattle.store.proofs.Rows.{rows-length}
-use Rattle.reading.specs.Taking.{item}
-use Rattle.reading.proofs.Laws.{item-unknown, item-skipped, item-stored, item-refused, allowed-fits, gave}
+use Rattle.reading.specs.Taking.{item, work}
+use Rattle.reading.proofs.Laws.{item-unknown, item-skipped, item-barred, item-put, may-come-fits, gave}
 use Rattle.reading.proofs.take_object.Statement.{statement}
 use Rattle.reading.proofs.take_object.Tie as tie
 
@@ -21,38 +21,45 @@ returns c =
 
 returns-2 : tie.Need-returns-2
 returns-2 c =
-    let a = c .before .before .before .before .before .before .before .args in
-    let lk = c .before .before .before .before .before .lookup in
-    let f = c .before .before .before .found .given in
-    gave (item-skipped (a .answer) (a .store .now) (item (a .around) (a .tag) (a .v .now)) (lk .result) (lk .ensures .0) (f .0 .0) (f .1)
-    (sym (c .before .is-skipped .ensures) ∙ c .if1 .taken)) (c .before .before .before .before .before .before .before .pre .0)
+    let a = c .before .before .before .before .before .before .before .before .args in
+    let lk = c .before .before .before .before .before .before .lookup in
+    let f = c .before .before .before .before .found .given in
+    let skipped = c .before .is-skipped .ensures (rowAt (f .0 .0)) (c .before .before .attributes-of .ensures) in
+    gave (item-skipped (a .answer) (a .store .now) (item (a .around) (a .tag) (a .v .now)) (lk .result) (lk .ensures .0) (f .0 .0) (f .1) (sym skipped ∙ c .if1 .taken)) (c .before .before .before .before .before .before .before .before .pre .0)
 
 returns-3 : tie.Need-returns-3
 returns-3 c =
+    let a = c .before .before .before .before .before .before .before .before .before .before .args in
+    let lk = c .before .before .before .before .before .before .before .before .lookup in
+    let f = c .before .before .before .before .before .before .found .given in
+    let at = c .before .before .before .before .attributes-of .ensures in
+    let skipped = c .before .before .before .is-skipped .ensures (rowAt (f .0 .0)) at in
+    let may = c .before .may-come .ensures (rowAt (f .0 .0)) at in
+    gave (item-barred (a .answer) (a .store .now) (item (a .around) (a .tag) (a .v .now)) (lk .result) (lk .ensures .0) (f .0 .0) (f .1)
+    (sym skipped ∙ c .before .before .if1 .left) (sym may ∙ not-true _ (c .if2 .taken))) (c .before .before .before .before .before .before .before .before .before .before .pre .0)
+
+put-free-requires : tie.Need-put-free-requires
+put-free-requires c κs =
     let a = c .before .before .before .before .before .before .before .before .before .before .before .args in
     let lk = c .before .before .before .before .before .before .before .before .before .lookup in
     let f = c .before .before .before .before .before .before .before .found .given in
-    gave (item-refused (a .answer) (a .store .now) (item (a .around) (a .tag) (a .v .now)) (lk .result) (lk .ensures .0) (f .0 .0) (f .1)
-    (sym (c .before .before .before .before .before .is-skipped .ensures) ∙ c .before .before .before .before .if1 .left) (sym (c .before .is-allowed .ensures) ∙ not-true _ (c .if2 .taken))) (c .before .before .before .before .before .before .before .before .before .before .before .pre .0)
-
-put-requires : tie.Need-put-requires
-put-requires c κs =
-    let a = c .before .before .before .before .before .before .before .before .before .before .before .before .args in
-    let lk = c .before .before .before .before .before .before .before .before .before .before .lookup in
-    let f = c .before .before .before .before .before .before .before .before .found .given in
+    let may = c .before .before .may-come .ensures (rowAt (f .0 .0)) (c .before .before .before .before .before .attributes-of .ensures) in
     let in-table = found rows (a .tag) (f .0 .0) (sym (lk .ensures .0) ∙ f .1) in
-    let fit = fits-length (rowAt (f .0 .0)) (a .v .now)
-    (allowed-fits (a .answer) (a .store .now) (f .0 .0) (a .around) (a .v .now) (sym (c .before .before .is-allowed .ensures) ∙ not-false _ (c .before .if2 .left))) in
-    (c .before .before .before .before .before .before .before .before .before .before .before .before .pre .0, (omega (arith, rows-length), fit .1))
+    let fit = fits-length (rowAt (f .0 .0)) (a .v .now) (may-come-fits (a .answer) (rowAt (f .0 .0)) (a .around) (a .v .now) (sym may ∙ not-false _ (c .before .if2 .left))) in
+    (c .before .before .before .before .before .before .before .before .before .before .before .pre .0, (omega (arith, rows-length), fit .1))
 
 returns-4 : tie.Need-returns-4
 returns-4 c =
-    let a = c .before .before .before .before .before .before .before .before .before .before .before .before .before .args in
-    let lk = c .before .before .before .before .before .before .before .before .before .before .before .lookup in
-    let f = c .before .before .before .before .before .before .before .before .before .found .given in
-    let stored = item-stored (a .answer) (a .store .now) (item (a .around) (a .tag) (a .v .now)) (lk .result) (lk .ensures .0) (f .0 .0) (f .1)
-    (sym (c .before .before .before .before .before .before .before .is-skipped .ensures) ∙ c .before .before .before .before .before .before .if1 .left) (sym (c .before .before .before .is-allowed .ensures) ∙ not-false _ (c .before .before .if2 .left)) in
-    gave (stored ∙ ap (Rattle.reading.specs.Taking.work _) (sym (c .put .ensures .0))) (c .put .ensures .1)
+    let a = c .before .before .before .before .before .before .before .before .before .before .before .before .args in
+    let lk = c .before .before .before .before .before .before .before .before .before .before .lookup in
+    let f = c .before .before .before .before .before .before .before .before .found .given in
+    let at = c .before .before .before .before .before .before .attributes-of .ensures in
+    let skipped = c .before .before .before .before .before .is-skipped .ensures (rowAt (f .0 .0)) at in
+    let may = c .before .before .before .may-come .ensures (rowAt (f .0 .0)) at in
+    let p = c .put-free in
+    gave (item-put (a .answer) (a .store .now) (item (a .around) (a .tag) (a .v .now)) (lk .result) (lk .ensures .0) (f .0 .0) (f .1)
+    (sym skipped ∙ c .before .before .before .before .if1 .left) (sym may ∙ not-false _ (c .before .before .if2 .left)) (p .result) (p .ensures .0)
+    ∙ ap (work (p .result)) (sym (p .ensures .1 .0))) (p .ensures .1 .1)
 
 pub take-object-spec : {M : Type 1} → statement M
 take-object-spec =
@@ -63,8 +70,9 @@ take-object-spec =
     (λ c. search needs)
     returns
     (λ c κs. search needs)
+    (λ c κs. search needs)
     returns-2
     (λ c κs. search needs)
     returns-3
-    put-requires
+    put-free-requires
     returns-4)

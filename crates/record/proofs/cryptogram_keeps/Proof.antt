@@ -7,9 +7,9 @@ use Prim.Native.Nat.{_+_, _-_}
 use native.Mathlib.Omega.{arith}
 use lib.Dec.{eqb}
 use Rattle.basics.specs.Choice.{both}
-use Rattle.basics.proofs.Laws.{both-true, both-no-left}
+use Rattle.basics.proofs.Laws.{both-true, both-assoc, both-no-left}
 use Rattle.locator.specs.Records.{accepts}
-use Rattle.record.specs.Ranges.{emvMode, completed, locatorIn, recordsIn, cryptogramRanges}
+use Rattle.record.specs.Ranges.{allFit, emvMode, completed, locatorIn, recordsIn, cryptogramRanges}
 use Rattle.record.proofs.Tags.{located-no, located-yes}
 use Rattle.record.proofs.Tests.{two-less}
 use Rattle.record.proofs.cryptogram_keeps.Statement.{statement}
@@ -18,35 +18,35 @@ use Rattle.record.proofs.cryptogram_keeps.Tie as tie
 past-running : (c : tie.Else1)
     → let a = c .before .before .before .args in
     let b = a .bytes .now in
-    cryptogramRanges (a .count) b ≡ both (emvMode b) (both (completed b) (both (accepts (locatorIn b)) (eqb (a .count) (2 + recordsIn b))))
+    both (allFit b) (cryptogramRanges (a .count) b) ≡ both (emvMode b) (both (completed b) (both (accepts (locatorIn b)) (eqb (a .count) (2 + recordsIn b))))
 unfolding cryptogramRanges
-past-running c = both-true _ (sym (c .before .runs .ensures) ∙ not-false _ (c .if1 .left))
+past-running c = both-assoc _ _ _ ∙ both-true _ (sym (c .before .runs .ensures) ∙ not-false _ (c .if1 .left))
 
 past-mode : (c : tie.Else2)
     → let a = c .before .before .before .before .before .args in
     let b = a .bytes .now in
-    cryptogramRanges (a .count) b ≡ both (completed b) (both (accepts (locatorIn b)) (eqb (a .count) (2 + recordsIn b)))
+    both (allFit b) (cryptogramRanges (a .count) b) ≡ both (completed b) (both (accepts (locatorIn b)) (eqb (a .count) (2 + recordsIn b)))
 past-mode c = past-running (c .before .before) ∙ both-true _ (sym (c .before .is-emv .ensures) ∙ not-false _ (c .if2 .left))
 
 past-completed : (c : tie.Else3)
     → let a = c .before .before .before .before .before .before .before .args in
     let b = a .bytes .now in
-    cryptogramRanges (a .count) b ≡ both (accepts (locatorIn b)) (eqb (a .count) (2 + recordsIn b))
+    both (allFit b) (cryptogramRanges (a .count) b) ≡ both (accepts (locatorIn b)) (eqb (a .count) (2 + recordsIn b))
 past-completed c = past-mode (c .before .before) ∙ both-true _ (sym (c .before .is-complete .ensures) ∙ not-false _ (c .if3 .left))
 
 -- where the locator is accepted, the count decides
 counted : (c : tie.After-known-told)
     → let a = c .before .before .before .before .before .before .before .before .before .before .before .before .args in
-    (cryptogramRanges (a .count) (a .bytes .now) ≡ eqb (a .count) (2 + recordsIn (a .bytes .now)))
+    (both (allFit (a .bytes .now)) (cryptogramRanges (a .count) (a .bytes .now)) ≡ eqb (a .count) (2 + recordsIn (a .bytes .now)))
     × (c .before .c .given .0 .0 .records ≡ recordsIn (a .bytes .now))
 counted c =
     let k = c .before .before .before in
-    let y = located-yes _ (k .before .value .ensures) (sym (k .check .ensures) ∙ c .before .c .given .1) in
+    let y = located-yes _ (k .before .value .ensures) (sym (k .check .ensures .0) ∙ c .before .c .given .1) in
     (past-completed (k .before .before) ∙ both-true _ (y .0), y .1)
 
 returns : tie.Need-returns
 unfolding cryptogramRanges
-returns c = sym (both-no-left _ _ (sym (c .before .runs .ensures) ∙ not-true _ (c .if1 .taken)))
+returns c = sym (both-assoc _ _ _ ∙ both-no-left _ _ (sym (c .before .runs .ensures) ∙ not-true _ (c .if1 .taken)))
 
 returns-2 : tie.Need-returns-2
 returns-2 c = sym (past-running (c .before .before) ∙ both-no-left _ _ (sym (c .before .is-emv .ensures) ∙ not-true _ (c .if2 .taken)))
@@ -57,7 +57,7 @@ returns-3 c = sym (past-mode (c .before .before) ∙ both-no-left _ _ (sym (c .b
 returns-4 : tie.Need-returns-4
 returns-4 c =
     let k = c .before .before in
-    sym (past-completed (k .before .before) ∙ both-no-left _ _ (located-no _ (k .before .value .ensures) (sym (k .check .ensures) ∙ c .enum-told .given .1)))
+    sym (past-completed (k .before .before) ∙ both-no-left _ _ (located-no _ (k .before .value .ensures) (sym (k .check .ensures .0) ∙ c .enum-told .given .1)))
 
 returns-5 : tie.Need-returns-5
 returns-5 c =

@@ -1,67 +1,63 @@
--- `record::keeps` meets its contract: the store's size, what every phase keeps, then the phase's own clauses.
+-- `record::keeps` meets its contract: the store's size, then what the phase keeps, the stored objects among it.
 -- Assumes nothing.
 use borrow.Author.Needs.{needs}
-use borrow.Author.Tests.{not-true, not-false, eq-eqb, ne-eqb}
+use borrow.Author.Tests.{eq-eqb, ne-eqb}
 use mathlib.Core.Path.{_≡_, sym, ap, _∙_}
 use mathlib.Core.Bool.{Bool}
-use Rattle.basics.proofs.Laws.{both-true, both-no-left, both-no-right}
+use Rattle.basics.specs.Choice.{both}
+use Rattle.basics.proofs.Laws.{both-true, both-no-left}
 use Rattle.record.specs.declared.Phase.{Phase}
 use Rattle.record.specs.Session.{sessionOf}
-use Rattle.record.specs.Ranges.{phaseRanges, inRanges}
+use Rattle.record.specs.Ranges.{allFit, phaseRanges, inRanges}
 use Rattle.record.proofs.keeps.Statement.{statement}
 use Rattle.record.proofs.keeps.Tie as tie
 
--- where the size is right and every stored object fits, the phase decides
-by-phase : (c : tie.Else2) (p : Phase) {r : Bool} → let a = c .before .before .before .before .args in a .phase ≡ p
-    → r ≡ phaseRanges p (sessionOf (a .phase) (a .count) (a .bytes .now)) → r ≡ inRanges (sessionOf (a .phase) (a .count) (a .bytes .now))
+-- where the size is right, the phase decides
+by-phase : (c : tie.Else1) (p : Phase) {r : Bool} → let a = c .before .before .args in a .phase ≡ p
+    → r ≡ both (allFit (a .bytes .now)) (phaseRanges p (sessionOf (a .phase) (a .count) (a .bytes .now)))
+    → r ≡ inRanges (sessionOf (a .phase) (a .count) (a .bytes .now))
 unfolding inRanges
 by-phase c p e h =
-    let a = c .before .before .before .before .args in
-    h ∙ ap (λ (q : Phase). phaseRanges q (sessionOf (a .phase) (a .count) (a .bytes .now))) (sym e)
-    ∙ sym (both-true _ (eq-eqb _ _ (c .before .before .if1 .left)) ∙ both-true _ (sym (c .before .all-fit .ensures) ∙ not-false _ (c .if2 .left)))
+    let a = c .before .before .args in
+    h ∙ ap (λ (q : Phase). both (allFit (a .bytes .now)) (phaseRanges q (sessionOf (a .phase) (a .count) (a .bytes .now)))) (sym e)
+    ∙ sym (both-true _ (eq-eqb _ _ (c .if1 .left)))
 
 returns : tie.Need-returns
 unfolding inRanges
 returns c = sym (both-no-left _ _ (ne-eqb _ _ (c .if1 .taken)))
 
 returns-2 : tie.Need-returns-2
-unfolding inRanges
-returns-2 c = sym (both-no-right _ _ (both-no-left _ _ (sym (c .before .all-fit .ensures) ∙ not-true _ (c .if2 .taken))))
+returns-2 c = by-phase (c .before .before .before) _ (c .before .enum-told .given .1) (c .fresh-keeps .ensures)
 
 returns-3 : tie.Need-returns-3
-returns-3 c = by-phase (c .before .before .before) _ (c .before .enum-told .given .1) (c .fresh-keeps .ensures)
+returns-3 c = by-phase (c .before .before .before) _ (c .before .enum-told2 .given .1) (c .options-keep .ensures)
 
 returns-4 : tie.Need-returns-4
-returns-4 c = by-phase (c .before .before .before) _ (c .before .enum-told2 .given .1) (c .options-keep .ensures)
+returns-4 c = by-phase (c .before .before .before .before) _ (c .before .before .phase .given .1) (c .record-keeps .ensures)
 
 returns-5 : tie.Need-returns-5
-returns-5 c = by-phase (c .before .before .before .before) _ (c .before .before .phase .given .1) (c .record-keeps .ensures)
+returns-5 c = by-phase (c .before .before .before) _ (c .before .enum-told3 .given .1) (c .cryptogram-keeps .ensures)
 
 returns-6 : tie.Need-returns-6
-returns-6 c = by-phase (c .before .before .before) _ (c .before .enum-told3 .given .1) (c .cryptogram-keeps .ensures)
-
-returns-7 : tie.Need-returns-7
-returns-7 c = by-phase (c .before .before .before .before) _ (c .before .before .phase2 .given .1) (c .ended-keeps .ensures)
+returns-6 c = by-phase (c .before .before .before .before) _ (c .before .before .phase2 .given .1) (c .ended-keeps .ensures)
 
 pub keeps-spec : {M : Type 1} → statement M
 keeps-spec =
     tie.close
     (tie.spec
     returns
+    (λ c. search needs)
+    (λ c κs. search needs)
+    (λ c. search needs)
+    (λ c κs. search needs)
+    (λ c. search needs)
+    (λ c κs. search needs)
+    (λ c. search needs)
+    (λ c κs. search needs)
+    (λ c. search needs)
     (λ c κs. search needs)
     returns-2
-    (λ c. search needs)
-    (λ c κs. search needs)
-    (λ c. search needs)
-    (λ c κs. search needs)
-    (λ c. search needs)
-    (λ c κs. search needs)
-    (λ c. search needs)
-    (λ c κs. search needs)
-    (λ c. search needs)
-    (λ c κs. search needs)
     returns-3
     returns-4
     returns-5
-    returns-6
-    returns-7)
+    returns-6)

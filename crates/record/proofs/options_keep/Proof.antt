@@ -5,10 +5,10 @@ use borrow.Author.Tests.{not-true, not-false}
 use mathlib.Core.Path.{_≡_, sym, _∙_}
 use lib.Dec.{eqb}
 use Rattle.basics.specs.Choice.{both}
-use Rattle.basics.proofs.Laws.{both-true, both-no-left}
+use Rattle.basics.proofs.Laws.{both-true, both-assoc, both-no-left}
 use Rattle.dictionary.proofs.Named.{at-82, at-94, at-95}
 use Rattle.record.specs.Held.{lacks, zeroed}
-use Rattle.record.specs.Ranges.{optionsRanges}
+use Rattle.record.specs.Ranges.{allFit, optionsRanges}
 use Rattle.record.proofs.Tags.{lacks-is, zero-is}
 use Rattle.record.proofs.options_keep.Statement.{statement}
 use Rattle.record.proofs.options_keep.Tie as tie
@@ -16,25 +16,25 @@ use Rattle.record.proofs.options_keep.Tie as tie
 past-running : (c : tie.Else1)
     → let a = c .before .before .before .args in
     let b = a .bytes .now in
-    optionsRanges (a .count) b ≡ both (lacks b 0x82) (both (lacks b 0x94) (both (zeroed b 0x95) (eqb (a .count) 1)))
+    both (allFit b) (optionsRanges (a .count) b) ≡ both (lacks b 0x82) (both (lacks b 0x94) (both (zeroed b 0x95) (eqb (a .count) 1)))
 unfolding optionsRanges
-past-running c = both-true _ (sym (c .before .runs .ensures) ∙ not-false _ (c .if1 .left))
+past-running c = both-assoc _ _ _ ∙ both-true _ (sym (c .before .runs .ensures) ∙ not-false _ (c .if1 .left))
 
 past-82 : (c : tie.Else2)
     → let a = c .before .before .before .before .before .args in
     let b = a .bytes .now in
-    optionsRanges (a .count) b ≡ both (lacks b 0x94) (both (zeroed b 0x95) (eqb (a .count) 1))
+    both (allFit b) (optionsRanges (a .count) b) ≡ both (lacks b 0x94) (both (zeroed b 0x95) (eqb (a .count) 1))
 past-82 c = past-running (c .before .before) ∙ both-true _ (lacks-is _ _ _ at-82 (c .before .is-there .ensures) (c .if2 .left))
 
 past-94 : (c : tie.Else3)
     → let a = c .before .before .before .before .before .before .before .args in
     let b = a .bytes .now in
-    optionsRanges (a .count) b ≡ both (zeroed b 0x95) (eqb (a .count) 1)
+    both (allFit b) (optionsRanges (a .count) b) ≡ both (zeroed b 0x95) (eqb (a .count) 1)
 past-94 c = past-82 (c .before .before) ∙ both-true _ (lacks-is _ _ _ at-94 (c .before .is-there2 .ensures) (c .if3 .left))
 
 returns : tie.Need-returns
 unfolding optionsRanges
-returns c = sym (both-no-left _ _ (sym (c .before .runs .ensures) ∙ not-true _ (c .if1 .taken)))
+returns c = sym (both-assoc _ _ _ ∙ both-no-left _ _ (sym (c .before .runs .ensures) ∙ not-true _ (c .if1 .taken)))
 
 returns-2 : tie.Need-returns-2
 returns-2 c = sym (past-running (c .before .before) ∙ both-no-left _ _ (lacks-is _ _ _ at-82 (c .before .is-there .ensures) (c .if2 .taken)))

@@ -7,12 +7,12 @@ use Prim.Native.Nat.{ℕ, _+_}
 use native.Mathlib.Omega.{arith}
 use lib.Dec.{eqb}
 use Rattle.basics.specs.Choice.{both}
-use Rattle.basics.proofs.Laws.{both-true, both-yes, both-no-left, both-no-right}
+use Rattle.basics.proofs.Laws.{both-true, both-assoc, both-yes, both-no-left, both-no-right}
 use Rattle.dictionary.proofs.Named.{at-95}
-use Rattle.locator.specs.Entry.{between}
+use Rattle.basics.specs.Number.{between}
 use Rattle.locator.specs.Records.{accepts}
 use Rattle.record.specs.Held.{zeroed}
-use Rattle.record.specs.Ranges.{emvMode, locatorIn, recordsIn, recordRanges}
+use Rattle.record.specs.Ranges.{allFit, emvMode, locatorIn, recordsIn, recordRanges}
 use Rattle.record.proofs.Tags.{zero-is, located-no, located-yes}
 use Rattle.record.proofs.record_keeps.Statement.{statement}
 use Rattle.record.proofs.record_keeps.Tie as tie
@@ -20,22 +20,22 @@ use Rattle.record.proofs.record_keeps.Tie as tie
 past-running : (c : tie.Else1)
     → let a = c .before .before .before .args in
     let b = a .bytes .now in
-    recordRanges (a .place) (a .count) b
+    both (allFit b) (recordRanges (a .place) (a .count) b)
     ≡ both (emvMode b) (both (zeroed b 0x95) (both (accepts (locatorIn b)) (both (between 1 (a .place .number) (recordsIn b)) (eqb (a .count) (1 + a .place .number)))))
 unfolding recordRanges
-past-running c = both-true _ (sym (c .before .runs .ensures) ∙ not-false _ (c .if1 .left))
+past-running c = both-assoc _ _ _ ∙ both-true _ (sym (c .before .runs .ensures) ∙ not-false _ (c .if1 .left))
 
 past-mode : (c : tie.Else2)
     → let a = c .before .before .before .before .before .args in
     let b = a .bytes .now in
-    recordRanges (a .place) (a .count) b
+    both (allFit b) (recordRanges (a .place) (a .count) b)
     ≡ both (zeroed b 0x95) (both (accepts (locatorIn b)) (both (between 1 (a .place .number) (recordsIn b)) (eqb (a .count) (1 + a .place .number))))
 past-mode c = past-running (c .before .before) ∙ both-true _ (sym (c .before .is-emv .ensures) ∙ not-false _ (c .if2 .left))
 
 past-95 : (c : tie.Else3)
     → let a = c .before .before .before .before .before .before .before .before .args in
     let b = a .bytes .now in
-    recordRanges (a .place) (a .count) b
+    both (allFit b) (recordRanges (a .place) (a .count) b)
     ≡ both (accepts (locatorIn b)) (both (between 1 (a .place .number) (recordsIn b)) (eqb (a .count) (1 + a .place .number)))
 past-95 c =
     let z = c .before in
@@ -44,16 +44,16 @@ past-95 c =
 -- where the locator is accepted, k and the count decide
 counted : (c : tie.After-known-told)
     → let a = c .before .before .before .before .before .before .before .before .before .before .before .before .before .args in
-    (recordRanges (a .place) (a .count) (a .bytes .now) ≡ both (between 1 (a .place .number) (recordsIn (a .bytes .now))) (eqb (a .count) (1 + a .place .number)))
+    (both (allFit (a .bytes .now)) (recordRanges (a .place) (a .count) (a .bytes .now)) ≡ both (between 1 (a .place .number) (recordsIn (a .bytes .now))) (eqb (a .count) (1 + a .place .number)))
     × (c .before .c .given .0 .0 .records ≡ recordsIn (a .bytes .now))
 counted c =
     let k = c .before .before .before in
-    let y = located-yes _ (k .before .value2 .ensures) (sym (k .check .ensures) ∙ c .before .c .given .1) in
+    let y = located-yes _ (k .before .value2 .ensures) (sym (k .check .ensures .0) ∙ c .before .c .given .1) in
     (past-95 (k .before .before) ∙ both-true _ (y .0), y .1)
 
 returns : tie.Need-returns
 unfolding recordRanges
-returns c = sym (both-no-left _ _ (sym (c .before .runs .ensures) ∙ not-true _ (c .if1 .taken)))
+returns c = sym (both-assoc _ _ _ ∙ both-no-left _ _ (sym (c .before .runs .ensures) ∙ not-true _ (c .if1 .taken)))
 
 returns-2 : tie.Need-returns-2
 returns-2 c = sym (past-running (c .before .before) ∙ both-no-left _ _ (sym (c .before .is-emv .ensures) ∙ not-true _ (c .if2 .taken)))
@@ -66,7 +66,7 @@ returns-3 c =
 returns-4 : tie.Need-returns-4
 returns-4 c =
     let k = c .before .before in
-    sym (past-95 (k .before .before) ∙ both-no-left _ _ (located-no _ (k .before .value2 .ensures) (sym (k .check .ensures) ∙ c .enum-told .given .1)))
+    sym (past-95 (k .before .before) ∙ both-no-left _ _ (located-no _ (k .before .value2 .ensures) (sym (k .check .ensures .0) ∙ c .enum-told .given .1)))
 
 returns-5 : tie.Need-returns-5
 returns-5 c =

@@ -33,7 +33,7 @@ asked : (c : tie.After-record-at) (x : Found) → let s = session (c .before .be
 asked c x e =
     let v = c .before .before .before .before in
     let m = c .before .before .before .before .before in
-    options-ask (session (c .before .before .before .before .before .before .before .before .before .before)) _ x (there (m .before .before .before)) (emv m) (located-yes _ (v .value .ensures) (sym (c .before .before .before .check .ensures) ∙ c .before .enum-told5 .given .1) .0)
+    options-ask (session (c .before .before .before .before .before .before .before .before .before .before)) _ x (there (m .before .before .before)) (emv m) (located-yes _ (v .value .ensures) (sym (c .before .before .before .check .ensures .0) ∙ c .before .enum-told5 .given .1) .0)
     (found-as (c .record-at .ensures) e _ 1 (v .value .ensures) refl)
 
 returns : tie.Need-returns
@@ -47,7 +47,7 @@ returns-3 : tie.Need-returns-3
 returns-3 c =
     let m = c .before .before .before .before .before in
     did-quiet _ (c .fails3 .ensures)
-    (options-locator (session (m .before .before .before .before .before)) _ (there (m .before .before .before)) (emv m) (located-no _ (c .before .before .before .before .value .ensures) (sym (c .before .before .before .check .ensures) ∙ c .before .enum-told6 .given .1)))
+    (options-locator (session (m .before .before .before .before .before)) _ (there (m .before .before .before)) (emv m) (located-no _ (c .before .before .before .before .value .ensures) (sym (c .before .before .before .check .ensures .0) ∙ c .before .enum-told6 .given .1)))
 
 returns-4 : tie.Need-returns-4
 returns-4 c = did-quiet _ (c .fails4 .ensures) (asked (c .before .before .before) Found.Nothing (c .before .enum-told7 .given .1))

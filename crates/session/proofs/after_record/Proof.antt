@@ -19,13 +19,13 @@ unfolding recordRead
 next c x e =
     let a = c .before .before .before .before .before .before .args in
     ap (nextFound (sessionOf (Phase.Record (a .place)) (a .count) (a .store .now)) (a .place .number + 1) (a .command .now))
-    (found-as (c .record-at .ensures) e _ _ (c .before .value .ensures) (ap (λ (n : ℕ). n + 1) (c .before .before .before .before .wide .ensures .0)))
+    (found-as (c .record-at .ensures) e _ _ (c .before .value .ensures) (ap (λ (n : ℕ). n + 1) (c .before .before .before .wide .ensures .0)))
 
 returns : tie.Need-returns
-returns c = did-as (next (c .before .before .before .before .before .before .before) Found.Nothing (c .before .before .before .before .before .enum-told .given .1)) (c .before .before .after-records .ensures _)
+returns c = did-as (next (c .before .before .before .before .before .before .before .before .before) Found.Nothing (c .before .before .before .before .before .before .before .enum-told .given .1)) (c .before .before .before .before .after-records .ensures _)
 
 add-ask-record : tie.Need-add-ask-record
-add-ask-record c = omega (arith, found-there _ _ (c .before .before .before .record-at .ensures) (c .before .found .given .1) .1, c .before .before .before .before .before .before .before .wide .ensures .0)
+add-ask-record c = omega (arith, found-there _ _ (c .before .before .before .record-at .ensures) (c .before .found .given .1) .1, c .before .before .before .before .before .before .wide .ensures .0)
 
 ask-record-requires : tie.Need-ask-record-requires
 ask-record-requires c κs = (search needs, found-there _ _ (c .before .before .before .before .record-at .ensures) (c .before .before .found .given .1) .0)
@@ -47,8 +47,10 @@ after-record-spec =
     (λ c. search needs)
     (λ c κs. search needs)
     (λ c. search needs)
+    (λ c. search needs)
     returns
     add-ask-record
     ask-record-requires
+    (λ c. search needs)
     (λ c. search needs)
     returns-2)

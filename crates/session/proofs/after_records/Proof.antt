@@ -21,16 +21,16 @@ returns c = λ p.
 returns-2 : tie.Need-returns-2
 returns-2 c = λ p.
     let k = c .before .before .before in
-    let a = k .before .before .before .before .before .before .before .before .before .args in
+    let a = k .before .before .before .before .before .before .before .before .args in
     did-quiet _ (c .fails2 .ensures)
-    (records-missing (sessionOf p (a .count) (a .store .now)) _ (within (k .before .before .before)) (is-missing _ (k .card-complete .ensures) (c .before .enum-told4 .given .1)))
+    (records-missing (sessionOf p (a .count) (a .store .now)) _ (within (k .before .before)) (is-missing _ (k .card-complete .ensures) (c .before .enum-told4 .given .1)))
 
 returns-3 : tie.Need-returns-3
 returns-3 c = λ p.
-    let k = c .before .before .before .before .before .before .before in
-    let a = k .before .before .before .before .before .before .before .before .before .args in
-    did-as (records-analysed (sessionOf p (a .count) (a .store .now)) _ (within (k .before .before .before)) (is-complete _ (k .card-complete .ensures) (c .before .before .before .before .before .enum-told3 .given .1)))
-    (c .before .before .analyse .ensures p)
+    let k = c .before .before .before .before .before .before .before .before .before in
+    let a = k .before .before .before .before .before .before .before .before .args in
+    did-as (records-analysed (sessionOf p (a .count) (a .store .now)) _ (within (k .before .before)) (is-complete _ (k .card-complete .ensures) (c .before .before .before .before .before .before .before .enum-told3 .given .1)))
+    (c .before .before .before .before .analyse .ensures p)
 
 pub after-records-spec : {M : Type 1} → statement M
 after-records-spec =
@@ -40,12 +40,15 @@ after-records-spec =
     (λ c. search needs)
     (λ c. search needs)
     (λ c κs. search needs)
+    (λ c. search needs)
     returns
     (λ c κs. search needs)
     (λ c. search needs)
     (λ c. search needs)
     (λ c κs. search needs)
+    (λ c. search needs)
     returns-2
     (λ c κs. search needs)
+    (λ c. search needs)
     (λ c. search needs)
     returns-3)

@@ -12,12 +12,12 @@ use Rattle.session.proofs.analyse.Tie as tie
 
 put-requires : tie.Need-put-requires
 put-requires c κs =
-    (search needs, (omega arith, omega (arith, results-fit, ap length (c .before .before .before .before .before .result-of .ensures) ∙ result-length (c .before .before .before .before .before .before .before .before .before .args .store .now))))
+    (search needs, (omega arith, omega (arith, results-fit, ap length (c .before .before .before .before .result-of .ensures) ∙ result-length (c .before .before .before .before .before .before .before .before .args .store .now))))
 
 returns : tie.Need-returns
 returns c = λ p.
     let a = c .before .before .before .before .before .before .before .before .before .before .before .before .before .before .before .before .args in
-    did-as (analysed-as (sessionOf p (a .count) (a .store .now)) _ (c .before .before .before .before .before .before .before .before .before .before .before .before .result-of .ensures) (c .before .before .before .before .before .before .before .before .before .choice-for .ensures) (c .before .before .before .before .before .before .put .ensures .0))
+    did-as (analysed-as (sessionOf p (a .count) (a .store .now)) _ (c .before .before .before .before .before .before .before .before .before .before .before .before .result-of .ensures) (c .before .before .before .before .before .before .before .before .before .before .choice-for .ensures) (c .before .before .before .before .before .before .before .put .ensures .0))
     (c .before .before .ask-cryptogram .ensures p)
 
 pub analyse-spec : {M : Type 1} → statement M
@@ -29,5 +29,6 @@ analyse-spec =
     (λ c. search needs)
     put-requires
     (λ c κs. search needs)
+    (λ c. search needs)
     (λ c. search needs)
     returns)

@@ -7,8 +7,15 @@ use Rattle.session.proofs.answer.Tie as tie
 
 returns : tie.Need-returns
 returns c =
-    let d = c .before .before .before .answer-in .ensures .0 in
+    let d = c .before .before .before .before .answer-in .ensures in
     record { reply = c .reply-of .ensures ∙ d .reply; buffer = d .buffer }
 
 pub answer-spec : {M : Type 1} → statement M
-answer-spec = tie.close (tie.spec (λ c κs. search needs) (λ c κs. search needs) (λ c. search needs) returns)
+answer-spec =
+    tie.close
+    (tie.spec
+    (λ c. search needs)
+    (λ c κs. search needs)
+    (λ c κs. search needs)
+    (λ c. search needs)
+    returns)

@@ -6,13 +6,12 @@ use mathlib.Core.Path.{_≡_, refl, sym, ap, _∙_}
 use mathlib.Core.Bool.{true}
 use native.Mathlib.Omega.{arith}
 use Rattle.record.specs.declared.Phase.{Phase}
-use Rattle.record.specs.Numbers.{refusedPhase}
+use Rattle.basics.specs.Reason.{refusedPhase}
 use Rattle.record.specs.Session.{sessionOf, refusedTurn}
 use Rattle.record.specs.Ranges.{inRanges}
-use Rattle.record.proofs.Phases.{count-most}
+use Rattle.record.proofs.Phases.{count-most, store-size}
 use Rattle.session.specs.Answer.{answerIn, answerStep}
-use Rattle.session.proofs.Laws.{did-as, did-quiet, did-sized, admitted-short, admitted-ranges, admitted-in}
-use Rattle.session.proofs.Ranges.{answer-keeps}
+use Rattle.session.proofs.Laws.{did-as, did-quiet, admitted-short, admitted-ranges, admitted-in}
 use Rattle.session.proofs.answer_in.Statement.{statement}
 use Rattle.session.proofs.answer_in.Tie as tie
 
@@ -24,48 +23,45 @@ by-phase : (c : tie.Else2) (p : Phase) → let a = c .before .before .before .be
     → answerStep (sessionOf (a .phase) (a .count) (a .store .now)) (a .card .now) (a .command .now) ≡ answerIn p (sessionOf p (a .count) (a .store .now)) (a .card .now) (a .command .now)
 by-phase c p e =
     let a = c .before .before .before .before .before .before .before .args in
-    admitted-in _ _ _ _ (c .before .before .before .before .if1 .left) (ranged c) ∙ ap (λ (q : Phase). answerIn q (sessionOf q (a .count) (a .store .now)) (a .card .now) (a .command .now)) e
-
-kept : (c : tie.Else2) → let a = c .before .before .before .before .before .before .before .args in inRanges (answerStep (sessionOf (a .phase) (a .count) (a .store .now)) (a .card .now) (a .command .now) .reply .session) ≡ true
-kept c = let a = c .before .before .before .before .before .before .before .args in answer-keeps _ (a .card .now) (a .command .now) (ranged c)
+    admitted-in _ _ _ _ (c .before .before .before .if1 .left) (ranged c) ∙ ap (λ (q : Phase). answerIn q (sessionOf q (a .count) (a .store .now)) (a .card .now) (a .command .now)) e
 
 returns : tie.Need-returns
-returns c = (did-quiet _ (c .refused .ensures) (admitted-short _ _ _ _ (c .before .if1 .taken)), search needs)
+returns c = did-quiet _ (c .refused .ensures) (admitted-short _ _ _ _ (c .before .if1 .taken))
 
 returns-2 : tie.Need-returns-2
 returns-2 c =
-    (did-quiet _ (c .refused2 .ensures) (admitted-ranges _ _ _ _ (c .before .before .before .before .before .if1 .left) (sym (c .before .before .keeps .ensures) ∙ not-true _ (c .before .if2 .taken))), search needs)
+    did-quiet _ (c .refused2 .ensures) (admitted-ranges _ _ _ _ (c .before .before .before .before .if1 .left) (sym (c .before .before .keeps .ensures) ∙ not-true _ (c .before .if2 .taken)))
 
 take-options-requires : tie.Need-take-options-requires
-take-options-requires c κs = ((search needs, omega (arith, count-most _ (ranged (c .before .before .before .before)))), search needs)
+take-options-requires c κs = ((search needs, omega (arith, count-most _ (ranged (c .before .before .before .before)))), store-size _ (ranged (c .before .before .before .before)))
 
 take-record-requires : tie.Need-take-record-requires
-take-record-requires c κs = ((search needs, omega (arith, count-most _ (ranged (c .before .before .before .before .before)))), search needs)
+take-record-requires c κs = ((search needs, omega (arith, count-most _ (ranged (c .before .before .before .before .before)))), store-size _ (ranged (c .before .before .before .before .before)))
+
+take-cryptogram-requires : tie.Need-take-cryptogram-requires
+take-cryptogram-requires c κs = store-size _ (ranged (c .before .before .before .before))
 
 returns-3 : tie.Need-returns-3
 returns-3 c =
     let e = c .before .enum-told .given .1 in
-    (did-quiet _ (c .refused3 .ensures ∙ ap (λ (q : Phase). refusedTurn q (c .before .before .before .before .before .before .before .before .before .before .args .count) refusedPhase) e) (by-phase (c .before .before .before) _ e), search needs)
+    did-quiet _ (c .refused3 .ensures ∙ ap (λ (q : Phase). refusedTurn q (c .before .before .before .before .before .before .before .before .before .before .args .count) refusedPhase) e) (by-phase (c .before .before .before) _ e)
 
 returns-4 : tie.Need-returns-4
 returns-4 c =
-    let d = did-as (by-phase (c .before .before .before .before .before .before .before) _ (c .before .before .before .before .before .enum-told2 .given .1)) (c .before .before .take-options .ensures) in
-    (d, did-sized _ d (kept (c .before .before .before .before .before .before .before)))
+    did-as (by-phase (c .before .before .before .before .before .before .before .before .before) _ (c .before .before .before .before .before .before .before .enum-told2 .given .1)) (c .before .before .before .before .take-options .ensures)
 
 returns-5 : tie.Need-returns-5
 returns-5 c =
-    let d = did-as (by-phase (c .before .before .before .before .before .before .before .before) _ (c .before .before .before .before .before .before .phase .given .1)) (c .before .before .take-record .ensures) in
-    (d, did-sized _ d (kept (c .before .before .before .before .before .before .before .before)))
+    did-as (by-phase (c .before .before .before .before .before .before .before .before .before .before) _ (c .before .before .before .before .before .before .before .before .phase .given .1)) (c .before .before .before .before .take-record .ensures)
 
 returns-6 : tie.Need-returns-6
 returns-6 c =
-    let d = did-as (by-phase (c .before .before .before .before .before) _ (c .before .before .before .phase2 .given .1)) (record { reply = c .take-cryptogram .ensures; buffer = refl }) in
-    (d, did-sized _ d (kept (c .before .before .before .before .before)))
+    did-as (by-phase (c .before .before .before .before .before .before .before) _ (c .before .before .before .before .before .phase2 .given .1)) (record { reply = c .before .before .take-cryptogram .ensures; buffer = refl })
 
 returns-7 : tie.Need-returns-7
 returns-7 c =
     let e = c .before .enum-told3 .given .1 in
-    (did-quiet _ (c .refused4 .ensures ∙ ap (λ (q : Phase). refusedTurn q (c .before .before .before .before .before .before .before .before .before .before .args .count) refusedPhase) e) (by-phase (c .before .before .before) _ e), search needs)
+    did-quiet _ (c .refused4 .ensures ∙ ap (λ (q : Phase). refusedTurn q (c .before .before .before .before .before .before .before .before .before .before .args .count) refusedPhase) e) (by-phase (c .before .before .before) _ e)
 
 pub answer-in-spec : {M : Type 1} → statement M
 answer-in-spec =
@@ -75,6 +71,7 @@ answer-in-spec =
     returns
     (λ c κs. search needs)
     (λ c κs. search needs)
+    (λ c. search needs)
     returns-2
     (λ c. search needs)
     (λ c κs. search needs)
@@ -83,13 +80,18 @@ answer-in-spec =
     (λ c. search needs)
     take-record-requires
     (λ c. search needs)
-    (λ c κs. search needs)
+    take-cryptogram-requires
     (λ c. search needs)
     (λ c κs. search needs)
+    (λ c. search needs)
     returns-3
+    (λ c. search needs)
     (λ c. search needs)
     returns-4
     (λ c. search needs)
+    (λ c. search needs)
     returns-5
+    (λ c. search needs)
     returns-6
+    (λ c. search needs)
     returns-7)

@@ -20,7 +20,7 @@ returns c = λ q.
     let p = c .before .before .before .before .before .before .before .p1 .ensures in
     handed-none (sessionOf q (a .count) (a .bytes .now)) (Phase.Cryptogram (record { choice = a .choice })) (a .command .now) (generateAc (p1Of (a .choice)) (a .bytes .now))
     (g .generate-ac .ensures .0 ∙ ap (λ (n : ℕ). written (generateAc n (a .bytes .now))) p)
-    (g .generate-ac .ensures .1 ∙ ap (λ (n : ℕ). bufferWith (generateAc n (a .bytes .now)) (a .command .now)) p)
+    (g .generate-ac .ensures .1 .0 ∙ ap (λ (n : ℕ). bufferWith (generateAc n (a .bytes .now)) (a .command .now)) p)
     (c .before .enum-told .given .1) (c .fails .ensures)
 
 returns-2 : tie.Need-returns-2
@@ -31,7 +31,7 @@ returns-2 c = λ q.
     let p = c .before .before .before .before .before .before .before .before .p1 .ensures in
     handed-some (sessionOf q (a .count) (a .bytes .now)) (Phase.Cryptogram (record { choice = a .choice })) (a .command .now) (generateAc (p1Of (a .choice)) (a .bytes .now))
     (g .generate-ac .ensures .0 ∙ ap (λ (n : ℕ). written (generateAc n (a .bytes .now))) p)
-    (g .generate-ac .ensures .1 ∙ ap (λ (n : ℕ). bufferWith (generateAc n (a .bytes .now)) (a .command .now)) p)
+    (g .generate-ac .ensures .1 .0 ∙ ap (λ (n : ℕ). bufferWith (generateAc n (a .bytes .now)) (a .command .now)) p)
     (c .before .before .c .given .1) (c .commands .ensures)
 
 pub ask-cryptogram-spec : {M : Type 1} → statement M

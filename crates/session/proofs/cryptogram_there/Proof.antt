@@ -1,11 +1,10 @@
 -- `session::cryptogram_there` meets its contract: object by object, by row and by tag.
 -- Assumes nothing.
 use borrow.Author.Needs.{needs}
-use mathlib.Core.Path.{sym, ap}
-use Rattle.basics.proofs.Laws.{both-yes, both-no-left, both-no-right}
+use mathlib.Core.Path.{sym}
+use Rattle.basics.proofs.Laws.{if-yes, if-no, both-yes, both-no-left, both-no-right}
 use Rattle.dictionary.proofs.Named.{at-9F27, at-9F36, at-9F26}
 use Rattle.record.proofs.Tags.{held-is}
-use Rattle.session.specs.Answer.{neededOf}
 use Rattle.session.proofs.cryptogram_there.Statement.{statement}
 use Rattle.session.proofs.cryptogram_there.Tie as tie
 
@@ -13,18 +12,18 @@ returns : tie.Need-returns
 returns c =
     let e2 = c .before .before in
     let e1 = e2 .before .before in
-    ap neededOf
-    (sym (both-yes _ _ (held-is _ _ _ at-9F27 (e1 .before .is-there .ensures) (e1 .if1 .taken))
+    sym (if-yes _ _
+    (both-yes _ _ (held-is _ _ _ at-9F27 (e1 .before .is-there .ensures) (e1 .if1 .taken))
     (both-yes _ _ (held-is _ _ _ at-9F36 (e2 .before .is-there2 .ensures) (e2 .if2 .taken)) (held-is _ _ _ at-9F26 (c .before .is-there3 .ensures) (c .if3 .taken)))))
 
 returns-2 : tie.Need-returns-2
-returns-2 c = ap neededOf (sym (both-no-right _ _ (both-no-right _ _ (held-is _ _ _ at-9F26 (c .before .is-there3 .ensures) (c .if3 .left)))))
+returns-2 c = sym (if-no _ _ (both-no-right _ _ (both-no-right _ _ (held-is _ _ _ at-9F26 (c .before .is-there3 .ensures) (c .if3 .left)))))
 
 returns-3 : tie.Need-returns-3
-returns-3 c = ap neededOf (sym (both-no-right _ _ (both-no-left _ _ (held-is _ _ _ at-9F36 (c .before .is-there2 .ensures) (c .if2 .left)))))
+returns-3 c = sym (if-no _ _ (both-no-right _ _ (both-no-left _ _ (held-is _ _ _ at-9F36 (c .before .is-there2 .ensures) (c .if2 .left)))))
 
 returns-4 : tie.Need-returns-4
-returns-4 c = ap neededOf (sym (both-no-left _ _ (held-is _ _ _ at-9F27 (c .before .is-there .ensures) (c .if1 .left))))
+returns-4 c = sym (if-no _ _ (both-no-left _ _ (held-is _ _ _ at-9F27 (c .before .is-there .ensures) (c .if1 .left))))
 
 pub cryptogram-there-spec : {M : Type 1} → statement M
 cryptogram-there-spec =

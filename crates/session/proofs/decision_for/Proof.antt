@@ -6,22 +6,22 @@ use mathlib.Core.Path.{_≡_, sym, ap, _∙_}
 use Prim.Native.Nat.{ℕ}
 use Rattle.basics.proofs.Laws.{if-yes, if-no}
 use Rattle.analysis.specs.declared.choice.Choice.{Choice}
-use Rattle.session.specs.Answer.{onlineFor, approvedFor, decision, decidedOf}
+use Rattle.session.specs.Answer.{onlineFor, approvedFor, decision, endFor}
 use Rattle.session.proofs.decision_for.Statement.{statement}
 use Rattle.session.proofs.decision_for.Tie as tie
 
 -- a cryptogram of type 10, and of type 01, by what was asked for
-online : {x y : Choice} {kind : ℕ} → (kind ≡ 0 → ⊥) → kind ≡ 2 → x ≡ y → decidedOf (onlineFor y) ≡ decidedOf (decision x kind)
+online : {x y : Choice} {kind : ℕ} → (kind ≡ 0 → ⊥) → kind ≡ 2 → x ≡ y → endFor (onlineFor y) ≡ endFor (decision x kind)
 unfolding decision
-online n e f = ap decidedOf (sym (if-no _ _ (ne-eqb _ 0 n) ∙ if-yes _ _ (eq-eqb _ 2 e) ∙ ap onlineFor f))
+online n e f = ap endFor (sym (if-no _ _ (ne-eqb _ 0 n) ∙ if-yes _ _ (eq-eqb _ 2 e) ∙ ap onlineFor f))
 
-approved : {x y : Choice} {kind : ℕ} → (kind ≡ 0 → ⊥) → (kind ≡ 2 → ⊥) → kind ≡ 1 → x ≡ y → decidedOf (approvedFor y) ≡ decidedOf (decision x kind)
+approved : {x y : Choice} {kind : ℕ} → (kind ≡ 0 → ⊥) → (kind ≡ 2 → ⊥) → kind ≡ 1 → x ≡ y → endFor (approvedFor y) ≡ endFor (decision x kind)
 unfolding decision
-approved n m e f = ap decidedOf (sym (if-no _ _ (ne-eqb _ 0 n) ∙ if-no _ _ (ne-eqb _ 2 m) ∙ if-yes _ _ (eq-eqb _ 1 e) ∙ ap approvedFor f))
+approved n m e f = ap endFor (sym (if-no _ _ (ne-eqb _ 0 n) ∙ if-no _ _ (ne-eqb _ 2 m) ∙ if-yes _ _ (eq-eqb _ 1 e) ∙ ap approvedFor f))
 
 returns : tie.Need-returns
 unfolding decision
-returns c = ap decidedOf (sym (if-yes _ _ (eq-eqb _ 0 (c .if1 .taken))))
+returns c = ap endFor (sym (if-yes _ _ (eq-eqb _ 0 (c .if1 .taken))))
 
 returns-2 : tie.Need-returns-2
 returns-2 c = online (c .before .before .before .if1 .left) (c .before .before .if2 .taken) (c .enum-told .given .1)
@@ -43,7 +43,7 @@ returns-7 c = approved (c .before .before .before .before .if1 .left) (c .before
 
 returns-8 : tie.Need-returns-8
 unfolding decision
-returns-8 c = ap decidedOf (sym (if-no _ _ (ne-eqb _ 0 (c .before .before .if1 .left)) ∙ if-no _ _ (ne-eqb _ 2 (c .before .if2 .left)) ∙ if-no _ _ (ne-eqb _ 1 (c .if3 .left))))
+returns-8 c = ap endFor (sym (if-no _ _ (ne-eqb _ 0 (c .before .before .if1 .left)) ∙ if-no _ _ (ne-eqb _ 2 (c .before .if2 .left)) ∙ if-no _ _ (ne-eqb _ 1 (c .if3 .left))))
 
 pub decision-for-spec : {M : Type 1} → statement M
 decision-for-spec =

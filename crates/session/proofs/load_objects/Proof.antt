@@ -11,17 +11,17 @@ use Rattle.session.proofs.load_objects.Tie as tie
 
 returns : tie.Need-returns
 returns c =
-    let a = c .before .before .before .before .before .before .before .before .args in
+    let a = c .before .before .before .before .before .before .before .before .before .before .before .args in
     did-quiet _ (c .refused .ensures ∙ ap (refusedTurn Phase.Fresh (a .count)) (c .before .refusal-number .ensures))
-    (loading-refused (sessionOf Phase.Fresh (a .count) (a .store .now)) _ _ (c .before .before .before .before .load .ensures .0) (c .before .before .enum-told2 .given .1))
+    (loading-refused (sessionOf Phase.Fresh (a .count) (a .store .now)) _ _ (c .before .before .before .before .before .before .load .ensures .0) (c .before .before .enum-told2 .given .1))
 
 put-requires : tie.Need-put-requires
-put-requires c κs = (c .before .before .before .before .load .ensures .1, (omega arith, omega (arith, results-fit)))
+put-requires c κs = (c .before .before .before .before .before .before .load .ensures .1, (omega arith, omega (arith, results-fit)))
 
 returns-2 : tie.Need-returns-2
 returns-2 c =
-    let a = c .before .before .before .before .before .before .before .before .before .before .before .before .before .before .before .args in
-    did-as (loading-taken (sessionOf Phase.Fresh (a .count) (a .store .now)) _ _ (c .before .before .before .before .before .before .before .before .before .before .before .load .ensures .0) (c .before .before .before .before .before .before .before .before .before .enum-told .given .1) (c .before .before .before .before .before .before .put .ensures .0))
+    let a = c .before .before .before .before .before .before .before .before .before .before .before .before .before .before .before .before .before .before .before .args in
+    did-as (loading-taken (sessionOf Phase.Fresh (a .count) (a .store .now)) _ _ (c .before .before .before .before .before .before .before .before .before .before .before .before .before .before .load .ensures .0) (c .before .before .before .before .before .before .before .before .before .before .enum-told .given .1) (c .before .before .before .before .before .before .before .put .ensures .0))
     (c .before .before .ask-options .ensures)
 
 pub load-objects-spec : {M : Type 1} → statement M
@@ -33,9 +33,11 @@ load-objects-spec =
     (λ c. search needs)
     (λ c κs. search needs)
     (λ c κs. search needs)
+    (λ c. search needs)
     returns
     (λ c. search needs)
     put-requires
     (λ c κs. search needs)
+    (λ c. search needs)
     (λ c. search needs)
     returns-2)

@@ -1,24 +1,23 @@
 -- `session::options_there` meets its contract: object by object, by row and by tag.
 -- Assumes nothing.
 use borrow.Author.Needs.{needs}
-use mathlib.Core.Path.{sym, ap}
-use Rattle.basics.proofs.Laws.{both-yes, both-no-left, both-no-right}
+use mathlib.Core.Path.{sym}
+use Rattle.basics.proofs.Laws.{if-yes, if-no, both-yes, both-no-left, both-no-right}
 use Rattle.dictionary.proofs.Named.{at-82, at-94}
 use Rattle.record.proofs.Tags.{held-is}
-use Rattle.session.specs.Answer.{neededOf}
 use Rattle.session.proofs.options_there.Statement.{statement}
 use Rattle.session.proofs.options_there.Tie as tie
 
 returns : tie.Need-returns
 returns c =
     let e1 = c .before .before in
-    ap neededOf (sym (both-yes _ _ (held-is _ _ _ at-82 (e1 .before .is-there .ensures) (e1 .if1 .taken)) (held-is _ _ _ at-94 (c .before .is-there2 .ensures) (c .if2 .taken))))
+    sym (if-yes _ _ (both-yes _ _ (held-is _ _ _ at-82 (e1 .before .is-there .ensures) (e1 .if1 .taken)) (held-is _ _ _ at-94 (c .before .is-there2 .ensures) (c .if2 .taken))))
 
 returns-2 : tie.Need-returns-2
-returns-2 c = ap neededOf (sym (both-no-right _ _ (held-is _ _ _ at-94 (c .before .is-there2 .ensures) (c .if2 .left))))
+returns-2 c = sym (if-no _ _ (both-no-right _ _ (held-is _ _ _ at-94 (c .before .is-there2 .ensures) (c .if2 .left))))
 
 returns-3 : tie.Need-returns-3
-returns-3 c = ap neededOf (sym (both-no-left _ _ (held-is _ _ _ at-82 (c .before .is-there .ensures) (c .if1 .left))))
+returns-3 c = sym (if-no _ _ (both-no-left _ _ (held-is _ _ _ at-82 (c .before .is-there .ensures) (c .if1 .left))))
 
 pub options-there-spec : {M : Type 1} → statement M
 options-there-spec =

@@ -7,8 +7,15 @@ use Rattle.session.proofs.start.Tie as tie
 
 returns : tie.Need-returns
 returns c =
-    let d = c .before .before .before .start-in .ensures .0 in
+    let d = c .before .before .before .before .start-in .ensures in
     record { reply = c .reply-of .ensures ∙ d .reply; buffer = d .buffer }
 
 pub start-spec : {M : Type 1} → statement M
-start-spec = tie.close (tie.spec (λ c κs. search needs) (λ c κs. search needs) (λ c. search needs) returns)
+start-spec =
+    tie.close
+    (tie.spec
+    (λ c. search needs)
+    (λ c κs. search needs)
+    (λ c κs. search needs)
+    (λ c. search needs)
+    returns)

@@ -8,10 +8,9 @@ use native.Mathlib.Omega.{arith}
 use Rattle.record.specs.declared.Phase.{Phase}
 use Rattle.record.specs.Session.{sessionOf}
 use Rattle.record.specs.Ranges.{inRanges}
-use Rattle.record.proofs.Phases.{count-most}
+use Rattle.record.proofs.Phases.{count-most, store-size}
 use Rattle.session.specs.Start.{startIn, startStep}
-use Rattle.session.proofs.Laws.{did-as, did-quiet, did-sized, admitted-short, admitted-ranges, admitted-in, not-fresh}
-use Rattle.session.proofs.Ranges.{start-keeps}
+use Rattle.session.proofs.Laws.{did-as, did-quiet, admitted-short, admitted-ranges, admitted-in, not-fresh}
 use Rattle.session.proofs.start_in.Statement.{statement}
 use Rattle.session.proofs.start_in.Tie as tie
 
@@ -23,30 +22,26 @@ by-phase : (c : tie.Else2) (p : Phase) → let a = c .before .before .before .be
     → startStep (sessionOf (a .phase) (a .count) (a .store .now)) (a .terminal .now) (a .command .now) ≡ startIn p (sessionOf p (a .count) (a .store .now)) (a .terminal .now) (a .command .now)
 by-phase c p e =
     let a = c .before .before .before .before .before .before .before .args in
-    admitted-in _ _ _ _ (c .before .before .before .before .if1 .left) (ranged c) ∙ ap (λ (q : Phase). startIn q (sessionOf q (a .count) (a .store .now)) (a .terminal .now) (a .command .now)) e
-
-kept : (c : tie.Else2) → let a = c .before .before .before .before .before .before .before .args in inRanges (startStep (sessionOf (a .phase) (a .count) (a .store .now)) (a .terminal .now) (a .command .now) .reply .session) ≡ true
-kept c = let a = c .before .before .before .before .before .before .before .args in start-keeps _ (a .terminal .now) (a .command .now) (ranged c)
+    admitted-in _ _ _ _ (c .before .before .before .if1 .left) (ranged c) ∙ ap (λ (q : Phase). startIn q (sessionOf q (a .count) (a .store .now)) (a .terminal .now) (a .command .now)) e
 
 returns : tie.Need-returns
-returns c = (did-quiet _ (c .refused .ensures) (admitted-short _ _ _ _ (c .before .if1 .taken)), search needs)
+returns c = did-quiet _ (c .refused .ensures) (admitted-short _ _ _ _ (c .before .if1 .taken))
 
 returns-2 : tie.Need-returns-2
 returns-2 c =
-    (did-quiet _ (c .refused2 .ensures) (admitted-ranges _ _ _ _ (c .before .before .before .before .before .if1 .left) (sym (c .before .before .keeps .ensures) ∙ not-true _ (c .before .if2 .taken))), search needs)
+    did-quiet _ (c .refused2 .ensures) (admitted-ranges _ _ _ _ (c .before .before .before .before .if1 .left) (sym (c .before .before .keeps .ensures) ∙ not-true _ (c .before .if2 .taken)))
 
 returns-3 : tie.Need-returns-3
 returns-3 c =
     let a = c .before .before .before .before .before .before .before .before .before .args in
-    (did-quiet _ (c .refused3 .ensures) (by-phase (c .before .before) _ refl ∙ not-fresh (a .phase) _ _ _ (c .before .match .keys2)), search needs)
+    did-quiet _ (c .refused3 .ensures) (by-phase (c .before .before) _ refl ∙ not-fresh (a .phase) _ _ _ (c .before .match .keys2))
 
 load-objects-requires : tie.Need-load-objects-requires
-load-objects-requires c κs = ((search needs, omega (arith, count-most _ (ranged (c .before .before .before .before)))), search needs)
+load-objects-requires c κs = ((search needs, omega (arith, count-most _ (ranged (c .before .before .before .before)))), store-size _ (ranged (c .before .before .before .before)))
 
 returns-4 : tie.Need-returns-4
 returns-4 c =
-    let d = did-as (by-phase (c .before .before .before .before .before .before .before) _ (c .before .before .before .before .before .enum-told .given .1)) (c .before .before .load-objects .ensures) in
-    (d, did-sized _ d (kept (c .before .before .before .before .before .before .before)))
+    did-as (by-phase (c .before .before .before .before .before .before .before .before .before) _ (c .before .before .before .before .before .before .before .enum-told .given .1)) (c .before .before .before .before .load-objects .ensures)
 
 pub start-in-spec : {M : Type 1} → statement M
 start-in-spec =
@@ -56,10 +51,13 @@ start-in-spec =
     returns
     (λ c κs. search needs)
     (λ c κs. search needs)
+    (λ c. search needs)
     returns-2
     (λ c. search needs)
     (λ c κs. search needs)
+    (λ c. search needs)
     returns-3
     load-objects-requires
+    (λ c. search needs)
     (λ c. search needs)
     returns-4)

@@ -13,18 +13,18 @@ use Rattle.session.proofs.take_cryptogram.Tie as tie
 returns : tie.Need-returns
 unfolding cryptogramReply
 returns c =
-    let a = c .before .before .before .before .before .before .args in
+    let a = c .before .before .before .before .before .before .before .before .before .args in
     reply-as _ (c .fails .ensures ∙ ap (failsTurn (a .count)) (c .before .number .ensures))
     ∙ sym (accepted-no (sessionOf (Phase.Cryptogram (a .asked)) (a .count) (a .store .now)) Awaited.Cryptogram (a .card .now) failsReply (cryptogramRead (a .asked))
-    (c .before .before .before .read-answer .ensures .0) (c .before .before .match .keys2))
+    (c .before .before .before .before .before .read-answer .ensures .0) (c .before .before .match .keys2))
 
 returns-2 : tie.Need-returns-2
 unfolding cryptogramReply
 returns-2 c =
-    let a = c .before .before .before .before .before .before .before .before .args in
+    let a = c .before .before .before .before .before .before .before .before .before .before .args in
     c .decide .ensures
     ∙ sym (accepted-yes (sessionOf (Phase.Cryptogram (a .asked)) (a .count) (a .store .now)) Awaited.Cryptogram (a .card .now) failsReply (cryptogramRead (a .asked))
-    (c .before .before .before .before .before .read-answer .ensures .0) (c .before .before .before .enum-told .given .1))
+    (c .before .before .before .before .before .before .read-answer .ensures .0) (c .before .before .enum-told .given .1))
 
 pub take-cryptogram-spec : {M : Type 1} → statement M
 take-cryptogram-spec =
@@ -34,6 +34,8 @@ take-cryptogram-spec =
     (λ c. search needs)
     (λ c κs. search needs)
     (λ c κs. search needs)
+    (λ c. search needs)
     returns
     (λ c κs. search needs)
+    (λ c. search needs)
     returns-2)

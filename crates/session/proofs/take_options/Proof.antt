@@ -14,18 +14,18 @@ use Rattle.session.proofs.take_options.Tie as tie
 returns : tie.Need-returns
 unfolding optionsStep
 returns c =
-    let a = c .before .before .before .before .before .before .before .args in
+    let a = c .before .before .before .before .before .before .before .before .before .before .args in
     did-quiet _ (c .fails .ensures ∙ ap (failsTurn (a .count)) (c .before .number .ensures))
     (accepted-no (sessionOf Phase.Options (a .count) (a .store .now)) Awaited.Options (a .card .now) (λ t n. fails t n (a .command .now)) (λ t. optionsRead t (a .command .now))
-    (c .before .before .before .read-answer .ensures .0) (c .before .before .match .keys2))
+    (c .before .before .before .before .before .read-answer .ensures .0) (c .before .before .match .keys2))
 
 returns-2 : tie.Need-returns-2
 unfolding optionsStep
 returns-2 c =
-    let a = c .before .before .before .before .before .before .before .before .before .before .before .before .args in
+    let a = c .before .before .before .before .before .before .before .before .before .before .before .before .before .before .args in
     did-as
     (accepted-yes (sessionOf Phase.Options (a .count) (a .store .now)) Awaited.Options (a .card .now) (λ t n. fails t n (a .command .now)) (λ t. optionsRead t (a .command .now))
-    (c .before .before .before .before .before .before .before .before .read-answer .ensures .0) (c .before .before .before .before .before .before .enum-told .given .1))
+    (c .before .before .before .before .before .before .before .before .before .read-answer .ensures .0) (c .before .before .before .before .before .enum-told .given .1))
     (c .before .before .after-options .ensures)
 
 pub take-options-spec : {M : Type 1} → statement M
@@ -36,7 +36,9 @@ take-options-spec =
     (λ c. search needs)
     (λ c κs. search needs)
     (λ c κs. search needs)
+    (λ c. search needs)
     returns
     (λ c κs. search needs)
+    (λ c. search needs)
     (λ c. search needs)
     returns-2)

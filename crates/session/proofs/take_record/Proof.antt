@@ -23,31 +23,31 @@ asked : (c : tie.After-record-at) (x : Found) → let a = c .before .before .bef
 unfolding recordStep
 asked c x e =
     let a = c .before .before .before .before .before .before .before .args in
-    ap (recordFound (a .place) (session c) (a .card .now) (a .command .now)) (found-as (c .record-at .ensures) e _ _ (c .before .value .ensures) (c .before .before .before .before .wide .ensures .0))
+    ap (recordFound (a .place) (session c) (a .card .now) (a .command .now)) (found-as (c .record-at .ensures) e _ _ (c .before .value .ensures) (c .before .before .before .wide .ensures .0))
 
 returns : tie.Need-returns
 returns c = did-quiet _ (c .fails .ensures) (asked (c .before .before .before) Found.Nothing (c .before .enum-told .given .1))
 
 returns-2 : tie.Need-returns-2
 returns-2 c =
-    let f = c .before .before .before .before .before .before in
+    let f = c .before .before .before .before .before .before .before .before in
     let w = f .found .given .0 .0 in
-    let a = c .before .before .before .before .before .before .before .before .before .before .before .before .before .before .before .args in
+    let a = c .before .before .before .before .before .before .before .before .before .before .before .before .before .before .before .before .before .args in
     did-quiet _ (c .fails2 .ensures ∙ ap (failsTurn (a .count)) (c .before .number .ensures))
-    (asked (c .before .before .before .before .before .before .before .before) (Found.At w) (f .found .given .1)
-    ∙ accepted-no (session (c .before .before .before .before .before .before .before .before)) (Awaited.Record (record { number = w .file })) (a .card .now) (λ t n. fails t n (a .command .now)) (λ t. recordRead (a .place) t (a .command .now))
-    (c .before .before .before .read-answer .ensures .0) (c .before .before .match2 .keys2))
+    (asked (c .before .before .before .before .before .before .before .before .before .before) (Found.At w) (f .found .given .1)
+    ∙ accepted-no (session (c .before .before .before .before .before .before .before .before .before .before)) (Awaited.Record (record { number = w .file })) (a .card .now) (λ t n. fails t n (a .command .now)) (λ t. recordRead (a .place) t (a .command .now))
+    (c .before .before .before .before .before .read-answer .ensures .0) (c .before .before .match2 .keys2))
 
 returns-3 : tie.Need-returns-3
 returns-3 c =
-    let f = c .before .before .before .before .before .before .before .before .before .before in
+    let f = c .before .before .before .before .before .before .before .before .before .before .before .before .before .before in
     let w = f .found .given .0 .0 in
-    let a = c .before .before .before .before .before .before .before .before .before .before .before .before .before .before .before .before .before .before .before .args in
+    let a = c .before .before .before .before .before .before .before .before .before .before .before .before .before .before .before .before .before .before .before .before .before .before .before .args in
     did-as
-    (asked (c .before .before .before .before .before .before .before .before .before .before .before .before) (Found.At w) (f .found .given .1)
-    ∙ accepted-yes (session (c .before .before .before .before .before .before .before .before .before .before .before .before)) (Awaited.Record (record { number = w .file })) (a .card .now) (λ t n. fails t n (a .command .now)) (λ t. recordRead (a .place) t (a .command .now))
-    (c .before .before .before .before .before .before .before .read-answer .ensures .0) (c .before .before .before .before .before .enum-told2 .given .1))
-    (c .before .before .after-record .ensures)
+    (asked (c .before .before .before .before .before .before .before .before .before .before .before .before .before .before .before .before) (Found.At w) (f .found .given .1)
+    ∙ accepted-yes (session (c .before .before .before .before .before .before .before .before .before .before .before .before .before .before .before .before)) (Awaited.Record (record { number = w .file })) (a .card .now) (λ t n. fails t n (a .command .now)) (λ t. recordRead (a .place) t (a .command .now))
+    (c .before .before .before .before .before .before .before .before .before .before .before .read-answer .ensures .0) (c .before .before .before .before .before .before .before .enum-told2 .given .1))
+    (c .before .before .before .before .after-record .ensures)
 
 pub take-record-spec : {M : Type 1} → statement M
 take-record-spec =
@@ -59,12 +59,15 @@ take-record-spec =
     (λ c. search needs)
     (λ c. search needs)
     (λ c κs. search needs)
+    (λ c. search needs)
     returns
     (λ c κs. search needs)
     (λ c. search needs)
     (λ c κs. search needs)
     (λ c κs. search needs)
+    (λ c. search needs)
     returns-2
     (λ c κs. search needs)
+    (λ c. search needs)
     (λ c. search needs)
     returns-3)

@@ -7,8 +7,9 @@ use Prim.Native.Nat.{ℕ, _+_, _-_, _≤_, _<_, min}
 use native.Mathlib.Omega.{arith}
 use lib.ListN.{length, getD, take, drop, length-drop}
 use lib.Seq.{take-all}
-use Rattle.dictionary.specs.Rows.{rows, rowAt}
-use Rattle.store.specs.Place.{offsetIn, storedLength, bytesOf, valueAt}
+use Rattle.dictionary.specs.Rows.{rows}
+use Rattle.store.specs.declared.Span.{Span}
+use Rattle.store.specs.Place.{offsetIn, spanOf, lengthByte, storedLength, bytesOf, valueAt}
 use Rattle.store.proofs.Laws.{length-byte-at, value-bytes, no-place}
 use Rattle.store.proofs.value.Statement.{statement}
 use Rattle.store.proofs.value.Tie as tie
@@ -21,34 +22,38 @@ cut b k start m s l e =
     ap (λ (n : ℕ). take n (drop start b)) e ∙ ap (λ (n : ℕ). take (storedLength rows b k) (drop n b)) s ∙ sym (value-bytes rows b k h)
 
 -- the length that the byte at the place's start gives
-length-stored : (b : List ℕ) (k at n x : ℕ) → at ≡ offsetIn rows k → x ≡ getD b at 0 → n ≡ min (x - 1) (rowAt k .greatest) → n ≡ storedLength rows b k
+length-stored : (b : List ℕ) (k n x : ℕ) (p : Span) → p ≡ spanOf k → x ≡ getD b (p .at) 0 → n ≡ min (x - 1) (p .most) → n ≡ storedLength rows b k
 unfolding storedLength
-length-stored b k at n x ea ex en =
-    en ∙ ap (λ (m : ℕ). min (m - 1) (rowAt k .greatest)) (ex ∙ ap (λ (i : ℕ). getD b i 0) ea ∙ sym (length-byte-at rows b k))
+length-stored b k n x p e ex en =
+    en ∙ ap (λ (m : ℕ). min (m - 1) (p .most)) (ex ∙ ap (λ (q : Span). getD b (q .at) 0) e ∙ sym (length-byte-at rows b k))
+    ∙ ap (λ (q : Span). min (lengthByte rows b k - 1) (q .most)) e
 
 returns : tie.Need-returns
 returns c =
     let a = c .before .before .before .before .before .before .args in
-    let o = c .before .before .before .before .offset in
+    let o = c .before .before .before .before .span-of in
     let n = c .before .before .value-length in
-    let l = length-stored (a .bytes .now) (a .row) (o .result) (n .result) (c .before .before .before .byte-in .result) (o .ensures .0) (c .before .before .before .byte-in .ensures) (n .ensures .0) in
-    cut (a .bytes .now) (a .row) (o .result + 1) (o .result + 1 + n .result - (o .result + 1)) (omega arith) (omega arith) (omega arith)
+    let f = ap (λ (p : Span). p .at) (o .ensures .0) in
+    let l = length-stored (a .bytes .now) (a .row) (n .result) (c .before .before .before .byte-at .result) (o .result) (o .ensures .0) (c .before .before .before .byte-at .ensures) (n .ensures .0) in
+    cut (a .bytes .now) (a .row) (o .result .at + 1) (o .result .at + 1 + n .result - (o .result .at + 1)) (omega arith) (omega arith) (omega arith)
 
 returns-2 : tie.Need-returns-2
 returns-2 c =
     let a = c .before .before .before .before .before .before .before .args in
     let b = a .bytes .now in
-    let o = c .before .before .before .before .before .offset in
+    let o = c .before .before .before .before .before .span-of in
     let m = c .before .before .before .value-length in
-    let l = length-stored b (a .row) (o .result) (m .result) (c .before .before .before .before .byte-in .result) (o .ensures .0) (c .before .before .before .before .byte-in .ensures) (m .ensures .0) in
+    let f = ap (λ (p : Span). p .at) (o .ensures .0) in
+    let l = length-stored b (a .row) (m .result) (c .before .before .before .before .byte-at .result) (o .result) (o .ensures .0) (c .before .before .before .before .byte-at .ensures) (m .ensures .0) in
     let n = storedLength rows b (a .row) in
-    let s : length (drop (o .result + 1) b) ≤ length b - (o .result + 1) = simp length-drop (omega arith) in
-    let t : length (drop (o .result + 1) b) ≤ n = simp length-drop (omega arith) in
-    take-all _ _ s ∙ sym (take-all n _ t) ∙ cut b (a .row) (o .result + 1) n (omega arith) (omega arith) (omega arith)
+    let s : length (drop (o .result .at + 1) b) ≤ length b - (o .result .at + 1) = simp length-drop (omega arith) in
+    let t : length (drop (o .result .at + 1) b) ≤ n = simp length-drop (omega arith) in
+    take-all _ _ s ∙ sym (take-all n _ t) ∙ cut b (a .row) (o .result .at + 1) n (omega arith) (omega arith) (omega arith)
 
 returns-3 : tie.Need-returns-3
 returns-3 c =
     let a = c .before .before .before .before .before .before .before .args in
+    let f = ap (λ (p : Span). p .at) (c .before .before .before .before .before .span-of .ensures .0) in
     let h : length (a .bytes .now) ≤ offsetIn rows (a .row) = omega arith in
     sym (ap bytesOf (no-place rows (a .bytes .now) (a .row) h))
 

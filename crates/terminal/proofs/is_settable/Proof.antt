@@ -2,38 +2,50 @@
 -- Assumes nothing.
 use borrow.Author.Needs.{needs}
 use borrow.Author.Tests.{eq-eqb, ne-eqb, not-true, not-false}
-use mathlib.Core.Path.{sym, ap, _∙_}
+use mathlib.Core.Path.{_≡_, sym, ap, _∙_}
 use mathlib.Core.Bool.{not}
-use Prim.Native.Nat.{ℕ}
 use Rattle.basics.specs.Number.{hasBit}
 use Rattle.basics.proofs.Laws.{both-true, both-no-left}
+use Rattle.dictionary.specs.declared.Attributes.{Attributes}
 use Rattle.terminal.specs.Terminal.{settable}
 use Rattle.terminal.proofs.is_settable.Statement.{statement}
 use Rattle.terminal.proofs.is_settable.Tie as tie
 
+-- attributes that are a row's have its bit
+start-bit : {a b : Attributes} → a ≡ b → hasBit (a .setters) 1 ≡ hasBit (b .setters) 1
+start-bit = ap (λ (x : Attributes). hasBit (x .setters) 1)
+
 returns : tie.Need-returns
 unfolding settable
-returns c = sym (both-no-left _ _ (sym (ap (λ (s : ℕ). hasBit s 1) (c .before .setters .ensures)) ∙ ne-eqb _ _ (c .if1 .taken)))
+returns c = sym (both-no-left _ _ (sym (start-bit (c .before .before .attributes-of .ensures)) ∙ ne-eqb _ _ (c .if1 .taken)))
 
 returns-2 : tie.Need-returns-2
 unfolding settable
 returns-2 c =
-    sym (both-true _ (sym (ap (λ (s : ℕ). hasBit s 1) (c .before .before .before .setters .ensures)) ∙ eq-eqb _ _ (c .before .before .if1 .left))
-    ∙ both-no-left _ _ (sym (c .before .fits2 .ensures) ∙ not-true _ (c .if2 .taken)))
+    let f = c .before in
+    let m = f .before in
+    let e = m .before .before .attributes-of .ensures in
+    sym (both-true _ (sym (start-bit e) ∙ eq-eqb _ _ (m .if1 .left)) ∙ both-no-left _ _ (sym (f .fits2 .ensures _ e) ∙ not-true _ (c .if2 .taken)))
 
 returns-3 : tie.Need-returns-3
 unfolding settable
 returns-3 c =
-    sym (both-true _ (sym (ap (λ (s : ℕ). hasBit s 1) (c .before .before .before .before .before .setters .ensures)) ∙ eq-eqb _ _ (c .before .before .before .before .if1 .left))
-    ∙ both-true _ (sym (c .before .before .before .fits2 .ensures) ∙ not-false _ (c .before .before .if2 .left))
+    let f = c .before .before .before in
+    let m = f .before in
+    let e = m .before .before .attributes-of .ensures in
+    sym (both-true _ (sym (start-bit e) ∙ eq-eqb _ _ (m .if1 .left))
+    ∙ both-true _ (sym (f .fits2 .ensures _ e) ∙ not-false _ (c .before .before .if2 .left))
     ∙ both-no-left _ _ (ap not (sym (c .before .is-there .ensures) ∙ c .if3 .taken)))
 
 returns-4 : tie.Need-returns-4
 unfolding settable
 returns-4 c =
+    let f = c .before .before .before .before in
+    let m = f .before in
+    let e = m .before .before .attributes-of .ensures in
     c .is-type-listed .ensures
-    ∙ sym (both-true _ (sym (ap (λ (s : ℕ). hasBit s 1) (c .before .before .before .before .before .before .setters .ensures)) ∙ eq-eqb _ _ (c .before .before .before .before .before .if1 .left))
-    ∙ both-true _ (sym (c .before .before .before .before .fits2 .ensures) ∙ not-false _ (c .before .before .before .if2 .left))
+    ∙ sym (both-true _ (sym (start-bit e) ∙ eq-eqb _ _ (m .if1 .left))
+    ∙ both-true _ (sym (f .fits2 .ensures _ e) ∙ not-false _ (c .before .before .before .if2 .left))
     ∙ both-true _ (ap not (sym (c .before .before .is-there .ensures) ∙ c .before .if3 .left)))
 
 pub is-settable-spec : {M : Type 1} → statement M

@@ -1,61 +1,96 @@
--- `terminal::load` meets its contract. One law for each way out, in the order of the refusals.
+-- `terminal::load` meets its contract. One law for each way out, in the order of the refusals; the working copy is the store.
 -- Assumes nothing.
 use borrow.Author.Needs.{needs}
 use borrow.Author.Tests.{not-true, not-false}
-use mathlib.Core.Path.{sym, _∙_}
-use Rattle.terminal.proofs.Ways.{refuses, loads, load-long, load-broken, load-object, load-absent, load-taken}
+use mathlib.Core.Path.{_≡_, sym, ap, _∙_}
+use mathlib.Core.List.{List, _++_}
+use Prim.Native.Nat.{ℕ}
+use lib.ListN.{length, take, drop, replicate, length-replicate}
+use Rattle.dictionary.specs.Rows.{storeSize}
+use Rattle.terminal.specs.Terminal.{loaded}
+use Rattle.store.proofs.Laws.{copied}
+use Rattle.terminal.proofs.Ways.{refuses, loads, in-copy, load-long, load-broken, load-object, load-absent, load-taken}
 use Rattle.terminal.proofs.Setting.{was-set, was-not}
 use Rattle.terminal.proofs.load.Statement.{statement}
 use Rattle.terminal.proofs.load.Tie as tie
 
+-- a store copied over as many zeros
+same : (s : List ℕ) {m : List ℕ} → length s ≡ storeSize → m ≡ take (length s) s ++ drop (length s) (replicate storeSize 0) → m ≡ s
+same s e = copied s (replicate storeSize 0) _ (e ∙ sym (length-replicate {A = ℕ} storeSize 0))
+
 returns : tie.Need-returns
 returns c =
-    let st = c .before .before .before in
+    let st = c .before .before .before .before in
     let a = st .args in
     (refuses (a .store .now) (c .refused .ensures) (load-long (a .store .now) (a .terminal .now) (c .before .if1 .taken)), st .pre)
 
 returns-2 : tie.Need-returns-2
 returns-2 c =
-    let st = c .before .before .before .before .before in
+    let r = c .before .before in
+    let st = r .before .before .before .before in
     let a = st .args in (
       refuses (a .store .now) (c .refused2 .ensures)
-          (load-broken (a .store .now) (a .terminal .now) (c .before .before .before .if1 .left) (sym (c .before .before .is-run .ensures) ∙ not-true _ (c .before .if2 .taken))),
+          (load-broken (a .store .now) (a .terminal .now) (r .before .if1 .left) (sym (r .is-run .ensures) ∙ not-true _ (c .before .if2 .taken))),
       st .pre,
     )
 
+-- the working copy, where its objects are set
+set-objects-requires : tie.Need-set-objects-requires
+set-objects-requires c κs =
+    let k = c .before .before in
+    let st = k .before .before .before .before .before .before .before .before in
+    ap length (same (st .args .store .now) (st .pre) (k .copy .ensures .1)) ∙ st .pre
+
 returns-3 : tie.Need-returns-3
 returns-3 c =
-    let st = c .before .before .before .before .before .before .before .before .before in
-    let a = st .args in
-    let so = c .before .before .set-objects in (
+    let so = c .before .before in
+    let k = so .before .before .before in
+    let r = k .before .before .before .before in
+    let st = r .before .before .before .before in
+    let a = st .args in (
       refuses (a .store .now) (c .refused3 .ensures)
-          (load-object (a .store .now) (a .terminal .now) (c .before .before .before .before .before .before .before .if1 .left)
-          (sym (c .before .before .before .before .before .before .is-run .ensures) ∙ not-false _ (c .before .before .before .before .before .if2 .left))
-          (was-not _ _ (so .ensures .0) (not-true _ (c .before .if3 .taken)))),
+          (load-object (a .store .now) (a .terminal .now) (r .before .if1 .left) (sym (r .is-run .ensures) ∙ not-false _ (k .before .before .before .if2 .left))
+          (in-copy (a .terminal .now) (same (a .store .now) (st .pre) (k .copy .ensures .1)) (was-not _ _ (so .set-objects .ensures .0) (not-true _ (c .before .if3 .taken))))),
       st .pre,
     )
 
 returns-4 : tie.Need-returns-4
 returns-4 c =
-    let st = c .before .before .before .before .before .before .before .before .before .before .before .before in
-    let a = st .args in
-    let so = c .before .before .before .before .before .set-objects in (
+    let b = c .before .before in
+    let so = b .before .before .before in
+    let k = so .before .before .before in
+    let r = k .before .before .before .before in
+    let st = r .before .before .before .before in
+    let a = st .args in (
       refuses (a .store .now) (c .refused4 .ensures)
-          (load-absent (a .store .now) (a .terminal .now) (c .before .before .before .before .before .before .before .before .before .before .if1 .left) _
-          (was-set _ (so .ensures .0) (not-false _ (c .before .before .before .before .if3 .left)))
-          (sym (c .before .before .all-brought .ensures) ∙ not-true _ (c .before .if4 .taken))),
+          (load-absent (a .store .now) (a .terminal .now) (r .before .if1 .left) _
+          (in-copy (a .terminal .now) (same (a .store .now) (st .pre) (k .copy .ensures .1)) (was-set _ (so .set-objects .ensures .0) (not-false _ (b .before .before .if3 .left))))
+          (sym (b .all-brought .ensures) ∙ not-true _ (c .before .if4 .taken))),
       st .pre,
     )
 
+same-length-3 : tie.Need-same-length-3
+same-length-3 c =
+    let k = c .before .before in
+    let so = k .before .before .before .before .before .before .before in
+    let st = so .before .before .before .before .before .before .before .before .before .before .before in
+    ap length (copied (so .set-objects .last .1 .0) (st .args .store .now) _ (so .set-objects .ensures .1 ∙ sym (st .pre)) (k .copy2 .ensures .1)) ∙ so .set-objects .ensures .1 ∙ sym (st .pre)
+
 returns-5 : tie.Need-returns-5
 returns-5 c =
-    let a = c .before .before .before .before .before .before .before .before .before .before .before .args in
-    let so = c .before .before .before .before .set-objects in (
+    let k2 = c .before .before in
+    let n = k2 .before .before .before in
+    let so = n .before .before .before .before in
+    let k = so .before .before .before in
+    let r = k .before .before .before .before in
+    let st = r .before .before .before .before in
+    let a = st .args in
+    let e = copied (so .set-objects .last .1 .0) (a .store .now) _ (so .set-objects .ensures .1 ∙ sym (st .pre)) (k2 .copy2 .ensures .1) in (
       loads
-          (load-taken (a .store .now) (a .terminal .now) (c .before .before .before .before .before .before .before .before .before .if1 .left) _
-          (was-set _ (so .ensures .0) (not-false _ (c .before .before .before .if3 .left)))
-          (sym (c .before .all-brought .ensures) ∙ not-false _ (c .if4 .left))),
-      so .ensures .1,
+          (load-taken (a .store .now) (a .terminal .now) (r .before .if1 .left) _
+          (in-copy (a .terminal .now) (same (a .store .now) (st .pre) (k .copy .ensures .1)) (was-set _ (so .set-objects .ensures .0) (not-false _ (n .before .before .before .if3 .left))))
+          (sym (n .before .all-brought .ensures) ∙ not-false _ (n .if4 .left)) ∙ ap loaded (sym e)),
+      ap length e ∙ so .set-objects .ensures .1,
     )
 
 pub load-spec : {M : Type 1} → statement M
@@ -67,11 +102,18 @@ load-spec =
     (λ c κs. search needs)
     (λ c κs. search needs)
     returns-2
+    (λ c. search needs)
     (λ c κs. search needs)
+    set-objects-requires
     (λ c κs. search needs)
+    (λ c. search needs)
     returns-3
     (λ c. search needs)
     (λ c κs. search needs)
     (λ c κs. search needs)
+    (λ c. search needs)
     returns-4
+    (λ c. search needs)
+    (λ c κs. search needs)
+    same-length-3
     returns-5)

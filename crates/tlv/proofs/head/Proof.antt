@@ -1,4 +1,4 @@
--- `head`: the tag that `tag_at` told and the length that `length_at` told are those of the definition; both fit, so the sums do.
+-- `head`: what `tag_at` and `length_at` told is the definition's, and fits, so the sums do; the tag's number begins with the first byte.
 -- Assumes nothing.
 use mathlib.Core.Path.{sym, _∙_}
 use native.Mathlib.Omega.{arith}
@@ -11,8 +11,6 @@ use Rattle.tlv.proofs.head.Reads as reads
 use Rattle.tlv.proofs.head.Lts as lts
 use Rattle.tlv.proofs.tag_at.Reads as tag-at
 use Rattle.tlv.proofs.length_at.Reads as length-at
-use Rattle.tlv.proofs.is_template.Reads as is-template
-use Rattle.tlv.proofs.is_private.Reads as is-private
 
 returns : tie.Need-returns
 returns c = sym (header-untagged _ _ (c .before .before .tag-at .ensures) (c .enum-told .given .1))
@@ -33,10 +31,7 @@ returns-2 c =
 
 -- where both are known
 abbrev Known : Type 0
-Known =
-    lts.After-struct-known
-    (tag-at.Asked, tag-at.Learnt, length-at.Asked, length-at.Learnt, is-template.Asked, is-template.Learnt, is-private.Asked, is-private.Learnt)
-    reads.Pre reads.Post
+Known = lts.After-struct-known (tag-at.Asked, tag-at.Learnt, length-at.Asked, length-at.Learnt) reads.Pre reads.Post
 
 read-at : (c : Known) →
     let b = c .before .before .before .before .before .before .before in
@@ -53,10 +48,11 @@ add-start c = let r = read-at c in omega arith
 add-if1 : tie.Need-add-if1
 add-if1 c = let r = read-at c in omega arith
 
+shared-slice-read-first : tie.Need-shared-slice-read-first
+shared-slice-read-first c = let r = read-at (c .before .before) in omega arith
+
 returns-3 : tie.Need-returns-3
-returns-3 c =
-    rw (c .before .is-template .ensures, c .is-private .ensures)
-    (sym (header-whole (read-at (c .before .before .before)) (c .before .before .if1 .taken)))
+returns-3 c = sym (header-whole (read-at (c .before .before)) (c .before .if1 .taken))
 
 returns-4 : tie.Need-returns-4
 returns-4 c = sym (header-short (read-at (c .before)) (c .if1 .left))
@@ -78,7 +74,6 @@ head-spec =
     returns-2
     add-start
     add-if1
-    (λ c κs. search needs)
-    (λ c κs. search needs)
+    shared-slice-read-first
     returns-3
     returns-4)

@@ -8,7 +8,7 @@ use Rattle.analysis.proofs.byte.five.Tie as tie
 
 returns : tie.Need-returns
 returns c =
-    simp (c .before .before .before .before .at .ensures, c .before .before .before .at2 .ensures, c .before .before .at3 .ensures, c .before .at4 .ensures, c .at5 .ensures)
+    simp (c .before .before .before .before .byte-at .ensures, c .before .before .before .byte-at2 .ensures, c .before .before .byte-at3 .ensures, c .before .byte-at4 .ensures, c .byte-at5 .ensures)
     (sym (front-five (c .before .before .before .before .before .before .args .s .now)))
 
 pub five-spec : {M : Type 1} → statement M

@@ -8,7 +8,7 @@ use Rattle.analysis.proofs.byte.has.Statement.{statement}
 use Rattle.analysis.proofs.byte.has.Tie as tie
 
 returns : tie.Need-returns
-returns c = c .bit .ensures ∙ ap (λ (x : ℕ). bitIn x (c .before .before .before .args .b)) (c .before .at .ensures)
+returns c = c .bit .ensures ∙ ap (λ (x : ℕ). bitIn x (c .before .before .before .args .b)) (c .before .byte-at .ensures)
 
 pub has-spec : {M : Type 1} → statement M
 has-spec = tie.close (tie.spec (λ c. search needs) (λ c κs. search needs) (λ c κs. search needs) returns)
