@@ -51,10 +51,10 @@ extern "C" {
 #define EMV_REASON_MODE 11u
 
 /* Refusals: the call was not taken, and all lent bytes are as they were. */
-#define EMV_REFUSED_BYTES 20u  /* start bytes over 1,024, or not a run of whole primitive objects */
+#define EMV_REFUSED_BYTES 20u  /* too many start bytes, or not whole primitive objects one behind the other */
 #define EMV_REFUSED_PHASE 21u  /* a start on a session that is not fresh, another call on one that is not running */
 #define EMV_REFUSED_BUFFER 22u /* the command buffer is under 261 bytes */
-#define EMV_REFUSED_OBJECT 23u /* a start object that may not be set, does not fit or comes twice */
+#define EMV_REFUSED_OBJECT 23u /* a known start object that may not be set, does not fit or comes twice, or a terminal type not listed */
 #define EMV_REFUSED_ABSENT 24u /* an object that a start must bring is absent */
 #define EMV_REFUSED_RANGES 25u /* the session's bytes are too few, hold no record, or a record that breaks its ranges */
 

@@ -1,4 +1,4 @@
-// A byte of a value and a bit of a byte, as the other files read them.
+// The first five bytes of a value, a bit of a byte, and what a bit adds to its byte.
 ghost use mathlib.Core.Path.{_≡_};
 ghost use Prim.Native.Nat.{_<_, _≤_};
 ghost use Rattle.basics.specs.Choice.{if};

@@ -1,5 +1,4 @@
 // Dates and amounts, two digits to a byte, compared as decimal numbers.
-use crate::byte;
 ghost use mathlib.Core.Path.{_≡_};
 ghost use mathlib.Core.List.{[], _∷_};
 ghost use Prim.Native.Nat.{_+_, _≤_};

@@ -6,7 +6,7 @@ use Rattle.basics.specs.Choice.{if}
 
 -- ---- refusals, in the order of their numbers
 
--- the start bytes are over 1,024, or not a run of whole primitive objects
+-- too many start bytes, or not whole primitive objects one behind the other
 abbrev pub refusedBytes : ℕ
 refusedBytes = 20
 

@@ -39,7 +39,7 @@ processingOptions store = optionsOf (filled rows store (bytesOf (valueOf store 0
 
 -- ---- generate AC
 
--- no command for a broken list or a filled length outside 1 to 255
+-- a list that is broken, or that fills to no byte or to more than 255, makes no command
 unfoldable pub cryptogramOf : ℕ → Option (List ℕ) → Option (List ℕ)
 cryptogramOf p1 none = none
 cryptogramOf p1 (some v) = if (both (leb 1 (length v)) (leb (length v) 255)) (some (command 0xAE p1 v)) none

@@ -111,8 +111,8 @@ pub const ROW_DF8123: usize = 34;
 
 pub const ROW_DF8124: usize = 35;
 
-// The table: the tags, and what their rows say. An array of numbers that is read once costs a few moves, a row
-// to a struct would be built anew at every access.
+// The table: the tags, and what their rows say. An array of numbers costs a few moves where it is read; one of
+// structs would be built field by field.
 const TAGS: [u32; ROWS] = [
     0x57, 0x5A, 0x82, 0x8C, 0x94, 0x95, 0x9A, 0x9C, 0x5F24, 0x5F25, 0x5F28, 0x5F2A,
     0x5F34, 0x9F02, 0x9F03, 0x9F07, 0x9F08, 0x9F09, 0x9F0D, 0x9F0E, 0x9F0F, 0x9F10, 0x9F1A, 0x9F26,
@@ -133,8 +133,8 @@ const B: u32 = 0;
 const N: u32 = FORM;
 const CN: u32 = 2 * FORM;
 
-// The kinds of rows: the card's, in a record, in processing options or with the cryptogram alone; the
-// start's, one that a start must bring; the session's.
+// The kinds of rows: the card's, in template 70, in 77, or in 77 with the cryptogram alone; the start's, and one
+// that a start must bring; the session's.
 const OF_RECORD: u32 = 2 * SETTERS + TEMPLATES + 7 * ANSWERS;
 const OF_OPTIONS: u32 = 2 * SETTERS + 2 * TEMPLATES + 7 * ANSWERS;
 const OF_CRYPTOGRAM: u32 = 2 * SETTERS + 2 * TEMPLATES + 4 * ANSWERS;

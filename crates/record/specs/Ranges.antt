@@ -57,7 +57,7 @@ cryptogramTags = 0x9F10 ∷ 0x9F26 ∷ 0x9F27 ∷ 0x9F36 ∷ []
 unfoldable pub unanswered : List ℕ → Bool
 unanswered b = every (lacks b) cryptogramTags
 
--- 95, all that a start must bring, with a listed terminal type, and none of 9F10, 9F26, 9F27 and 9F36
+-- the result bits, the objects required of a start, a terminal type on the list, nothing of the cryptogram's answer
 unfoldable pub running : List ℕ → Bool
 running b = both (holds b 0x95) (both (brought b) (both (listed (byteIn b 0x9F35 1)) (unanswered b)))
 
@@ -121,7 +121,7 @@ cryptogramRanges n b =
 abbrev pub mostCommands : ℕ
 mostCommands = 130
 
--- ended: a count of 0 to 130, and a reason with its outcome
+-- ended: a count that a session can reach, and an outcome that goes with its reason
 unfoldable pub endedRanges : End → ℕ → Bool
 endedRanges e n = both (leb n mostCommands) (goesWith (e .outcome) (e .reason))
 

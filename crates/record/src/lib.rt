@@ -431,8 +431,8 @@ fn all_keep(bytes: &[u8], asked: bool) -> bool
     true
 }
 
-// A row's place holds nothing, and need not where that is asked; or its length byte, the value's length and its
-// digits fit.
+// Whether a row's place is in order: empty, where `asked` only if no start must bring the object; or with a
+// length byte in its room, a value that is long enough and digits that fit.
 fn place_keeps(place: &[u8], a: Attributes, asked: bool) -> bool
     requires { ⌜ 0 < length (now place) ⌝ }
     ensures { λ r. ⌜ ((x : Row) → a ≡ attributesOf x → room x ≡ length (now (place .entry)) → r ≡ both (placeFits x (now (place .entry))) (either (not asked) (either (eqb (x .must) optional) (not (eqb (getD (now (place .entry)) 0 0) 0))))) ⌝ }

@@ -1,5 +1,6 @@
 -- What holds of every call, whatever it is given: a refusal changes nothing, the count follows the commands handed out, the buffer keeps
--- its length and what stands behind a command, a locator with bytes stays as it is, and every answer that is too long is the same.
+-- its length and what stands behind a command, a locator with bytes stays as it is, a start that ends does so
+-- before any command, and every answer that is too long is the same.
 -- Assumes nothing.
 use mathlib.Core.Path.{_≡_, refl, sym, ap, subst, _∙_}
 use mathlib.Core.Bool.{true}

@@ -1,5 +1,5 @@
 -- How a step comes about: the refusals that every call checks first, an answer that is accepted or not, and each way out of a step.
--- The proofs of the code cite these and leave the steps shut.
+-- The proofs of the code cite these and do not unfold the steps.
 -- Assumes nothing.
 use mathlib.Core.Path.{_≡_, refl, sym, ap, ap₂, _∙_}
 use mathlib.Core.Bool.{Bool, true, false, not}

@@ -22,7 +22,7 @@ use Rattle.record.specs.declared.Place.{Place}
 use Rattle.record.specs.declared.Asked.{Asked}
 use Rattle.record.specs.declared.Phase.{Phase}
 use Rattle.record.specs.declared.Session.{Session}
-use Rattle.basics.specs.Reason.{refusedPhase, reasonNone, reasonMissing, reasonLocator, reasonAboveLimit, reasonCryptogram, reasonMode}
+use Rattle.basics.specs.Reason.{refusedPhase, reasonNone, reasonMissing, reasonLocator, reasonAboveLimit, reasonCryptogram, reasonMode, unless}
 use Rattle.record.specs.declared.Reply.{Reply}
 use Rattle.record.specs.Session.{stored, endOf, endsReply, failsReply}
 use Rattle.record.specs.Held.{holds, byteIn}
@@ -56,6 +56,16 @@ optionsRead s buf =
 unfoldable pub optionsStep : Session → List ℕ → List ℕ → Step
 optionsStep s card buf =
     accepted s (reading.readAnswer Awaited.Options (stored s) card) (λ n. fails s n buf) (λ t. optionsRead t buf)
+
+-- the reason that the rules give to an answer to processing options on the store b, 0 where they give none: the reading's, and then those above
+abbrev pub storedReason : List ℕ → ℕ
+storedReason b =
+    if (both (holds b 0x82) (holds b 0x94)) (if (emvMode b) (unless (accepts (locatorIn b)) reasonLocator) reasonMode) reasonMissing
+
+unfoldable pub optionsReason : List ℕ → List ℕ → ℕ
+optionsReason b card =
+    let o = reading.readAnswer Awaited.Options b card in
+    if (eqb (o .reason) 0) (storedReason (o .store)) (o .reason)
 
 -- ---- the answer to a record
 
@@ -108,8 +118,11 @@ unfoldable pub decision : Choice → ℕ → Option Outcome
 decision c kind = if (eqb kind 0) (some Outcome.Declined) (if (eqb kind 2) (onlineFor c) (if (eqb kind 1) (approvedFor c) none))
 
 -- a decision has reason 0; a cryptogram of a type that the one asked for does not allow ends the session with reason 8
+abbrev pub undecided : End
+undecided = endOf (outcomeFor reasonCryptogram) reasonCryptogram
+
 abbrev pub endFor : Option Outcome → End
-endFor none = endOf (outcomeFor reasonCryptogram) reasonCryptogram
+endFor none = undecided
 endFor (some o) = endOf o reasonNone
 
 abbrev pub concluded : Session → Option Outcome → Reply
@@ -154,4 +167,4 @@ limitNumber Limit.Above = reasonAboveLimit
 -- what a cryptogram decides: an outcome with reason 0, or reason 8
 abbrev pub decidedEnd : Decided → End
 decidedEnd (Decided.On d) = endOf (d .outcome) reasonNone
-decidedEnd Decided.Nothing = endOf (outcomeFor reasonCryptogram) reasonCryptogram
+decidedEnd Decided.Nothing = undecided

@@ -1,5 +1,6 @@
 -- What a put leaves, for every table and every store that is large enough for it: its own row holds the value, every other place
--- is untouched, puts of two rows commute. A put is a run of stores at a place, and the places lie apart.
+-- is untouched, puts of two rows commute. A put is a run of stores at a place, and the places lie apart;
+-- and a store copied whole.
 -- Assumes nothing.
 use mathlib.Core.Path.{_≡_, refl, sym, ap, ap₂, _∙_}
 use mathlib.Core.Bool.{Bool, true, false, not}

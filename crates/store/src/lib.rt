@@ -7,7 +7,7 @@ use dictionary::ROWS;
 use dictionary::SIZE;
 ghost use mathlib.Core.Path.{_≡_};
 ghost use Prim.Native.Nat.{_+_, _-_, _≤_, _<_, min};
-ghost use lib.ListN.{length, getD, replicate};
+ghost use lib.ListN.{length, replicate};
 ghost use Rattle.dictionary.specs.Rows.{rows, rowAt, rowCount, storeSize};
 ghost use Rattle.store.specs.Place.{spanOf, lengthByte, valueAt, bytesOf, isThere, isFree, writtenAt, putAt, putIf};
 

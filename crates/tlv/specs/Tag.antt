@@ -10,7 +10,7 @@ use Rattle.basics.specs.Number.{number, hasBit}
 use Rattle.tlv.specs.declared.TagFront.{TagFront}
 use Rattle.tlv.specs.declared.TagFront.the-variants.{Tagged, Untagged}
 
--- a first byte with its low five bits set is followed by more
+-- the low five bits of a first byte, all set, say that another byte follows
 abbrev pub isFollowed : ℕ → Bool
 isFollowed b = eqb (b % 32) 31
 
@@ -45,7 +45,7 @@ tagAt s = if (eqb (tagSize s) 0) Untagged (tagged (number (take (tagSize s) s)) 
 unfoldable pub firstByte : ℕ → ℕ
 firstByte t = if (ltb t 0x100) t (if (ltb t 0x10000) (t / 0x100) (t / 0x10000))
 
--- bit b6 of the first byte marks a template
+-- a template has bit b6 set in its first byte
 unfoldable pub isTemplate : ℕ → Bool
 isTemplate t = hasBit (firstByte t) 32
 

@@ -36,7 +36,8 @@ pub enum LengthFront {
     Unsized,
 }
 
-// An object's header: the tag, where the value starts, and how many bytes it has.
+// An object's header: the tag, where the value starts, how many bytes it has, and whether the tag is a template's
+// and of the private class.
 pub struct Header {
     pub tag: u32,
     pub start: usize,

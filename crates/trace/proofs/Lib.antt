@@ -1,3 +1,4 @@
 pub mod Brought
 pub mod Trace
 pub mod Examples
+pub mod Rules

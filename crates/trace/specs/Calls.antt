@@ -68,7 +68,7 @@ said m = m .step .reply .answer
 abbrev pub refused : Made → Bool
 refused m = isRefusal (said m)
 
--- a command is the front of its call's buffer, of the length handed back, as it stands when that call ends
+-- what a call hands out: so many bytes of its buffer's front, read after the call
 abbrev pub commandIn : Answer → List ℕ → List (List ℕ)
 commandIn (Answer.Command x) buf = take (x .size) buf ∷ []
 commandIn (Answer.Outcome e) buf = []

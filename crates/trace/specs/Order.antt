@@ -33,9 +33,10 @@ bodyLocator (some (template t f)) = firstLocator (items t f)
 unfoldable pub broughtLocator : List ℕ → Option (List ℕ)
 broughtLocator card = bodyLocator (bodyOf (take (length card - 2) card))
 
--- ---- accepted locator: that of the first answer that is not refused, if the rules give that answer no reason
+-- ---- accepted locator: what the first answer taken brings, unless the rules end the session there
 
--- an answer for which the rules give no reason hands back a command; `play` takes what a call hands back from its step function
+-- an answer for which the rules give no reason, and no other, hands back a command (`hands-by-rules` in proofs/Rules, over `optionsReason`); `play`
+-- takes what a call hands back from its step function, which is the rules'
 abbrev pub acceptedBy : Made → Option (List ℕ) → Option (List ℕ) → Option (List ℕ)
 acceptedBy m none later = later
 acceptedBy m (some card) later = if (isCommand (said m)) (broughtLocator card) none
@@ -62,7 +63,7 @@ isFront a b c = both (eqb (getD c 0 0) a) (eqb (getD c 1 0) b)
 unfoldable pub kindOf : List ℕ → Kind
 kindOf c = if (isFront 0x80 0xA8 c) options (if (isFront 0x80 0xAE c) cryptogram (record-command c))
 
--- processing options alone while no locator is accepted; from then on each record command, entry by entry, and the last command
+-- without an accepted locator only processing options; with one, a command for each of its records in turn and then the last command
 unfoldable pub published : Kind → Option (List ℕ) → List Kind
 published last none = options ∷ []
 published last (some l) = options ∷ (map (λ r. record-command (readRecord r)) (records l) ++ (last ∷ []))

@@ -97,7 +97,7 @@ pub enum Refusal {
 pub enum Reply {
     /// A command of this length fills the front of the buffer.
     Command(usize),
-    /// The session has ended; reason 0 goes with approved, online request and declined.
+    /// The session has ended; a decision has reason 0.
     Outcome(Outcome, u8),
 }
 

@@ -38,7 +38,7 @@ pub fn put(store: &mut Store, object: Object, value: &[u8]) {
     store[place + 1..][..value.len()].copy_from_slice(value);
 }
 
-/// Whether every stored length and digit fits the dictionary; absent is allowed.
+/// Whether each object that is there fits its row, by length and digits.
 pub fn fits(store: &Store) -> bool {
     ROWS.iter().all(|row| match store[row.place] {
         0 => true,

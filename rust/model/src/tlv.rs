@@ -46,7 +46,7 @@ pub fn split_tag(bytes: &[u8]) -> Option<(Tag, &[u8])> {
     Some((Tag { number, first }, rest))
 }
 
-/// Splits a length off the front: 00-7F, 81 with one byte, 82 with two, any value in them.
+/// Splits a length off the front: one byte below 80, or one or two bytes behind 81 or 82.
 fn split_length(bytes: &[u8]) -> Option<(usize, &[u8])> {
     match *bytes {
         [n @ 0..=0x7F, ref rest @ ..] => Some((usize::from(n), rest)),
