@@ -5,6 +5,7 @@ use mathlib.Core.Bool.{true}
 use mathlib.Core.List.{List, [], _∷_}
 use Prim.Native.Nat.{ℕ, _≤_}
 use lib.ListN.{length}
+use Rattle.basics.specs.Recursion.{recurse, recurseBy}
 use Rattle.basics.specs.Choice.{if, both, either, every}
 use Rattle.basics.specs.Number.{numberFrom, nibbles}
 use Rattle.tlv.specs.Tag.{tagSize, secondByte, thirdByte, tagAt, firstByte, isTemplate, isPrivate}
@@ -20,7 +21,7 @@ use Rattle.locator.specs.Entry.{keeps}
 use Rattle.locator.specs.Records.{entries as entriesOf, wholeEntries, recordsFrom as runOf, recordsOf, sumOf, accepts, nth, kth, recordAt}
 use Rattle.reading.specs.Taking.{mayStand, mayCome, allowed, takeItem, takeNext, takeAll}
 use Rattle.reading.specs.Answer.{bodyOf, optionsParts, primitiveParts, readBody, isRead, goodStatus, goodLength, readAnswer}
-use Rattle.data_list.specs.Entries.{along, listEntriesBy, listEntries}
+use Rattle.data_list.specs.Entries.{along, listEntries}
 use Rattle.data_list.specs.Filling.{fillingOf, filledBy}
 use Rattle.data_list.specs.Commands.{optionsOf, processingOptions}
 use Rattle.record.specs.declared.Phase.{Phase}
@@ -60,7 +61,7 @@ unfolding inRanges allFit objectFits lengthIn lengthByte optionsRanges running c
 waiting-in = refl
 
 asks : (buf : List ℕ) → startLoaded freshSession buf (load nothing startBytes) ≡ commands (withStore freshSession first-store) Phase.Options optionsCommand buf
-unfolding askOptions processingOptions optionsOf filledBy fillingOf listEntries listEntriesBy along lengthBytes withResults placeOf load run runBy withObject primitiveOf headerOf tagAt tagSize secondByte thirdByte lengthAt firstByte isTemplate isPrivate numberFrom if both either every rows past find settable setObject setAll fitting digitsFit numeric nibbles typeListed listed offsetIn placeAt held valueAt putAt valueIn brought isBrought
+unfolding askOptions processingOptions optionsOf filledBy fillingOf listEntries recurse recurseBy along lengthBytes withResults placeOf load run runBy withObject primitiveOf headerOf tagAt tagSize secondByte thirdByte lengthAt firstByte isTemplate isPrivate numberFrom if both either every rows past find settable setObject setAll fitting digitsFit numeric nibbles typeListed listed offsetIn placeAt held valueAt putAt valueIn brought isBrought
 asks buf = refl
 
 reads : (buf : List ℕ) → HandsOut (0x00 ∷ 0xB2 ∷ 0x01 ∷ 0x0C ∷ 0x00 ∷ []) buf (optionsStep waiting optionsAnswer buf)
