@@ -4,15 +4,17 @@ use mathlib.Core.Bool.{false}
 use mathlib.Core.List.{List, [], _∷_}
 use Prim.Native.Nat.{ℕ}
 use Rattle.basics.specs.Choice.{if, both, every}
+use Rattle.basics.specs.Recursion.{recurseBy, recurse}
 use Rattle.basics.specs.Number.{numberFrom, nibbles}
 use Rattle.basics.proofs.Laws.{if-no}
 use Rattle.tlv.specs.Tag.{tagSize, tagAt, firstByte, isTemplate, isPrivate}
 use Rattle.tlv.specs.Length.{lengthAt}
 use Rattle.tlv.specs.Object.{headerOf}
+use Rattle.tlv.specs.Primitives.{withObject, primitiveOf, primitives}
 use Rattle.dictionary.specs.Rows.{rows, past, find}
 use Rattle.dictionary.specs.Form.{numeric, digitsFit, fitting}
 use Rattle.record.specs.Ranges.{brought}
-use Rattle.terminal.specs.Terminal.{withObject, primitiveOf, runBy, run, settable, setObject, setAll, refusal, load}
+use Rattle.terminal.specs.Terminal.{settable, setObject, setAll, refusal, load}
 
 pub record Refused (b : List ℕ) : Type 0 where
   -- a template that the dictionary does not know
@@ -31,6 +33,6 @@ pub record Refused (b : List ℕ) : Type 0 where
   pub unknown : brought b ≡ false → load b (0x42 ∷ 0x01 ∷ 0x00 ∷ []) ≡ refusal 24
 
 pub refused : (b : List ℕ) → Refused b
-unfolding load run runBy withObject primitiveOf headerOf tagAt tagSize lengthAt firstByte isTemplate isPrivate numberFrom if both every rows past find settable setObject setAll fitting digitsFit numeric nibbles
+unfolding load primitives recurse recurseBy withObject primitiveOf headerOf tagAt tagSize lengthAt firstByte isTemplate isPrivate numberFrom if both every rows past find settable setObject setAll fitting digitsFit numeric nibbles
 refused b =
     record { template = refl; padding = refl; cut = refl; results = refl; digit = refl; nothing = λ e. if-no _ _ e; unknown = λ e. if-no _ _ e }
