@@ -11,9 +11,9 @@ use borrow.Author.Tests.{eq-eqb, ne-eqb, leb-true}
 use Rattle.basics.specs.Choice.{both, every}
 use Rattle.basics.proofs.Table.{at}
 use Rattle.dictionary.specs.Rows.{rows, blank, rowAt, rowCount, storeSize}
-use Rattle.store.specs.Place.{offsetIn, sizeOf, storable, bytesOf, valueAt, storedLength, isFree}
-use Rattle.store.proofs.Places.{inside, ends, short, spans, span-at}
-use Rattle.store.proofs.Laws.{Fits, value-bytes, length-byte-at}
+use Rattle.store.specs.Place.{offsetIn, sizeOf, bytesOf, valueAt, isFree}
+use Rattle.store.proofs.Places.{inside, ends, storable, short, spans, span-at}
+use Rattle.store.proofs.Laws.{Fits, storedLength, value-bytes, length-byte-at}
 
 pub rows-size : sizeOf rows ≡ storeSize
 unfolding rows sizeOf
