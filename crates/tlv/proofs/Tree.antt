@@ -19,7 +19,7 @@ use Rattle.tlv.specs.declared.Header.{Header}
 use Rattle.tlv.specs.declared.Following.{Following}
 use Rattle.tlv.specs.declared.Following.the-variants.{End, Inner, Malformed}
 use Rattle.tlv.specs.Object.{valueIn, behind}
-use Rattle.tlv.specs.Tree.{Forest, end, leaf, node, count, join, nextOf, withLeaf, withNode, nested, oneObject, parseNext, parse}
+use Rattle.tlv.specs.Tree.{Forest, end, leaf, node, count, nextOf, withLeaf, withNode, nested, oneObject, parseNext, parse}
 use Rattle.tlv.proofs.Laws.{HeaderFits}
 use Rattle.tlv.proofs.NextObject.{next-fits, next-join, moved, movedNext}
 
@@ -179,6 +179,12 @@ parse-deeper l m s f e =
     l s f e m
 
 -- ---- one run behind another
+
+-- two runs of objects, one behind the other
+unfoldable pub join : Forest → Forest → Forest
+join end g = g
+join (leaf t v r) g = leaf t v (join r g)
+join (node t f r) g = node t f (join r g)
 
 -- an object's parts, with bytes behind its list
 value-kept : (s r : List ℕ) (h : Header) → HeaderFits s h → valueIn (s ++ r) h ≡ valueIn s h

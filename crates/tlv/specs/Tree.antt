@@ -24,12 +24,6 @@ count end = 0
 count (leaf t v r) = 1 + count r
 count (node t f r) = 1 + count f + count r
 
--- two runs of objects, one behind the other
-unfoldable pub join : Forest → Forest → Forest
-join end g = g
-join (leaf t v r) g = leaf t v (join r g)
-join (node t f r) g = node t f (join r g)
-
 -- ---- parsing
 
 -- an object at the front is next
