@@ -9,10 +9,11 @@ ghost use mathlib.Core.Bool.{true};
 ghost use mathlib.Core.List.{map};
 ghost use Prim.Native.Nat.{_+_, _≤_, _<_};
 ghost use lib.ListN.{length, drop};
-ghost use Rattle.dictionary.specs.Rows.{Row, rows, rowAt, find};
+ghost use Rattle.dictionary.specs.Rows.{rows, rowAt, find};
 ghost use Rattle.dictionary.specs.Rule.{proper};
-ghost use Rattle.dictionary.specs.Form.{digitBytes, onlyFs, numeric, compressed, digitsFit, fitting, isDigits};
-ghost use Rattle.dictionary.specs.Packing.{codeOf, attributesOf, attributesIn};
+ghost use Rattle.dictionary.specs.Form.{numeric, compressed, digitsFit, fitting};
+ghost use Rattle.dictionary.specs.Inner.{isDigits, digitBytes, onlyFs};
+ghost use Rattle.dictionary.specs.Packing.{attributesOf, rowOf, codeOf, attributesIn};
 ghost use Rattle.dictionary.specs.Named.{placeOf, usedTags};
 ghost use Rattle.dictionary.specs.TerminalType.{listed};
 
@@ -377,7 +378,7 @@ pub fn digits_fit(form: u8, v: &[u8]) -> bool
 
 // Whether a value's length and digits fit a row of these attributes.
 pub fn fits(attributes: Attributes, v: &[u8]) -> bool
-    ensures { λ r. ⌜ ((x : Row) → attributes ≡ attributesOf x → r ≡ fitting x (now (v .entry))) ⌝ }
+    ensures { λ r. ⌜ r ≡ fitting (rowOf attributes) (now (v .entry)) ⌝ }
 {
     if v.len() < attributes.least {
         return false;
