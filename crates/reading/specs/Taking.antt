@@ -30,9 +30,13 @@ items a end = []
 items a (leaf t v r) = item a t v ∷ items a r
 items a (node t f r) = items t f ++ items a r
 
+-- a template is one of a set of templates
+abbrev pub standsIn : ℕ → ℕ → Bool
+standsIn templates around = if (eqb around 0x70) (hasBit templates in70) (if (eqb around 0x77) (hasBit templates in77) false)
+
 -- a row's object may stand directly inside this template
 unfoldable pub mayStand : Row → ℕ → Bool
-mayStand r around = if (eqb around 0x70) (hasBit (r .templates) in70) (if (eqb around 0x77) (hasBit (r .templates) in77) false)
+mayStand r around = standsIn (r .templates) around
 
 -- a row's object may be set by the card
 abbrev pub byCard : Row → Bool

@@ -15,11 +15,11 @@ ghost use Prim.Native.Nat.{_+_, _*_, _^_, _≤_, _<_};
 ghost use lib.ListN.{length};
 ghost use Rattle.basics.specs.Choice.{both};
 ghost use Rattle.basics.specs.Number.{hasBit};
-ghost use Rattle.dictionary.specs.Rows.{Row, storeSize, cryptogram};
-ghost use Rattle.dictionary.specs.Packing.{attributesOf};
+ghost use Rattle.dictionary.specs.Rows.{storeSize, cryptogram};
+ghost use Rattle.dictionary.specs.Packing.{rowOf};
 ghost use Rattle.tlv.specs.Tag.{isPrivate};
 ghost use Rattle.tlv.specs.Tree.{parse};
-ghost use Rattle.reading.specs.Taking.{item, mayCome, byCard, mayStand, work, takeItem, takeNext, takeAll};
+ghost use Rattle.reading.specs.Taking.{item, mayCome, byCard, standsIn, work, takeItem, takeNext, takeAll};
 ghost use Rattle.reading.specs.Walk.{Leaves, counted};
 ghost use Rattle.reading.specs.Answer.{Gives, storeAfter, numberOf, answerBit, templateTag, primitive, templateBody, optionsParts, issuerPart, cryptogramParts, takenParts, readTree, readBody, isRead, goodStatus, readAnswer, made};
 
@@ -408,7 +408,7 @@ fn take_object(tag: u32, around: u32, answer: u8, v: &[u8], store: &mut [u8; SIZ
 
 // Whether a known object is passed over: of the private class, and not the card's to set.
 fn is_skipped(tag: u32, attributes: Attributes) -> bool
-    ensures { λ r. ⌜ ((x : Row) → attributes ≡ attributesOf x → r ≡ both (isPrivate tag) (not (byCard x))) ⌝ }
+    ensures { λ r. ⌜ r ≡ both (isPrivate tag) (not (byCard (rowOf attributes))) ⌝ }
 {
     if attributes.setters / dictionary::CARD % 2 == 1 {
         return false;
@@ -419,7 +419,7 @@ fn is_skipped(tag: u32, attributes: Attributes) -> bool
 // Whether the card may bring an object of these attributes here, with this value.
 fn may_come(attributes: Attributes, around: u32, answer: u8, v: &[u8]) -> bool
     requires { ⌜ 0 < answer ⌝ }
-    ensures { λ r. ⌜ ((x : Row) → attributes ≡ attributesOf x → r ≡ mayCome answer x around (now (v .entry))) ⌝ }
+    ensures { λ r. ⌜ r ≡ mayCome answer (rowOf attributes) around (now (v .entry)) ⌝ }
 {
     if attributes.setters / dictionary::CARD % 2 != 1 {
         return false;
@@ -450,7 +450,7 @@ fn is_brought_by(answers: u8, answer: u8) -> bool
 
 // Whether an object of these templates may stand directly inside a template.
 fn may_stand(templates: u8, around: u32) -> bool
-    ensures { λ r. ⌜ ((x : Row) → templates ≡ x .templates → r ≡ mayStand x around) ⌝ }
+    ensures { λ r. ⌜ r ≡ standsIn templates around ⌝ }
 {
     if around == 0x70 {
         return templates / dictionary::IN_70 % 2 == 1;
