@@ -14,7 +14,7 @@ use Rattle.tlv.specs.declared.Front.{Front}
 use Rattle.tlv.specs.declared.Front.the-variants.{Object, Broken}
 use Rattle.tlv.specs.Object.{headerOf, valueIn}
 use Rattle.tlv.specs.Tree.{Forest, end, count, parse}
-use Rattle.dictionary.specs.Rows.{options, record′, cryptogram}
+use Rattle.dictionary.specs.Rows.{options, cardRecord, cryptogram}
 use Rattle.reading.specs.declared.Awaited.{Awaited}
 use Rattle.reading.specs.declared.Awaited.the-variants.{Options, Record, Cryptogram}
 use Rattle.reading.specs.declared.Verdict.{Verdict}
@@ -45,17 +45,6 @@ pub record Gives (r : Reading) (b : List ℕ) (o : Outcome) : Type 0 where
   pub reason : numberOf (r .verdict) ≡ o .reason
   pub objects : r .objects ≡ o .objects
   pub store : b ≡ o .store
-
--- the store by the verdict: the working copy w where all was accepted, else b as it was
-abbrev pub storeAfter : List ℕ → List ℕ → Verdict → List ℕ
-storeAfter b w Accepted = w
-storeAfter b w BadStatus = b
-storeAfter b w Malformed = b
-storeAfter b w NotAllowed = b
-
--- a reading of these parts
-abbrev pub made : Verdict → ℕ → Reading
-made v n = record { verdict = v; objects = n }
 
 -- ---- the body: one object with no byte behind it
 
@@ -90,7 +79,7 @@ bodyCount (template t f) = 1 + count f
 -- which answer brings an object, as a bit of the dictionary's column
 abbrev pub answerBit : Awaited → ℕ
 answerBit Options = options
-answerBit (Record f) = record′
+answerBit (Record f) = cardRecord
 answerBit Cryptogram = cryptogram
 
 -- a template: 70 for a record, 77 for the others

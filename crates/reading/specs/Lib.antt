@@ -1,3 +1,3 @@
 pub mod Taking
-pub mod Walk
 pub mod Answer
+pub mod Inner

@@ -20,8 +20,8 @@ ghost use Rattle.dictionary.specs.Packing.{rowOf};
 ghost use Rattle.tlv.specs.Tag.{isPrivate};
 ghost use Rattle.tlv.specs.Tree.{parse};
 ghost use Rattle.reading.specs.Taking.{item, mayCome, byCard, standsIn, work, takeItem, takeNext, takeAll};
-ghost use Rattle.reading.specs.Walk.{Leaves, counted};
-ghost use Rattle.reading.specs.Answer.{Gives, storeAfter, numberOf, answerBit, templateTag, primitive, templateBody, optionsParts, issuerPart, cryptogramParts, takenParts, readTree, readBody, isRead, goodStatus, readAnswer, made};
+ghost use Rattle.reading.specs.Inner.{storeAfter, made, Leaves, counted};
+ghost use Rattle.reading.specs.Answer.{Gives, numberOf, answerBit, templateTag, primitive, templateBody, optionsParts, issuerPart, cryptogramParts, takenParts, readTree, readBody, isRead, goodStatus, readAnswer};
 
 // A record's file.
 pub struct File {
@@ -152,7 +152,7 @@ fn answer_bit(awaited: Awaited) -> u8
 {
     match awaited {
         Awaited::Options => dictionary::OPTIONS,
-        Awaited::Record(_) => dictionary::RECORD,
+        Awaited::Record(_) => dictionary::CARD_RECORD,
         Awaited::Cryptogram => dictionary::CRYPTOGRAM,
     }
 }
@@ -439,8 +439,8 @@ fn is_brought_by(answers: u8, answer: u8) -> bool
     requires { ⌜ 0 < answer ⌝ }
     ensures { λ r. ⌜ r ≡ hasBit answers answer ⌝ }
 {
-    if answer == dictionary::RECORD {
-        return answers / dictionary::RECORD % 2 == 1;
+    if answer == dictionary::CARD_RECORD {
+        return answers / dictionary::CARD_RECORD % 2 == 1;
     }
     if answer == dictionary::CRYPTOGRAM {
         return answers / dictionary::CRYPTOGRAM % 2 == 1;

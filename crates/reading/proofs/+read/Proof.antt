@@ -14,7 +14,7 @@ use Rattle.reading.specs.declared.Contents.{Contents}
 use Rattle.reading.specs.declared.Contents.the-variants.{Whole, Broken}
 use Rattle.dictionary.specs.Rows.{storeSize}
 use Rattle.reading.specs.Taking.{work}
-use Rattle.reading.specs.Walk.{Leaves}
+use Rattle.reading.specs.Inner.{Leaves}
 use Rattle.reading.proofs.Laws.{did}
 use Rattle.reading.proofs.Walk.{at-end, at-malformed, at-deep, at-leaf, at-node, at-broken, after-leaf, after-node}
 use borrow.Fn.Kinds.{In, Out}

@@ -9,7 +9,7 @@ use borrow.Author.Tests.{not-true, not-false}
 use Rattle.reading.specs.declared.Reading.{Reading}
 use Rattle.reading.specs.declared.Verdict.{Verdict}
 use Rattle.reading.specs.declared.Verdict.the-variants.{Accepted, BadStatus, Malformed}
-use Rattle.reading.specs.Answer.{made}
+use Rattle.reading.specs.Inner.{made}
 use Rattle.reading.proofs.Parts.{gives, regive, answer-short, answer-long, answer-status, answer-unread, answer-read}
 use borrow.Author.Needs.{needs}
 use Rattle.reading.proofs.read_answer.Statement.{statement}

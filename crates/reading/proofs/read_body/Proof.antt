@@ -11,7 +11,7 @@ use lib.ListN.{length}
 use Rattle.store.proofs.Laws.{copied}
 use Rattle.reading.specs.declared.Verdict.{Verdict}
 use Rattle.reading.specs.declared.Verdict.the-variants.{Accepted, BadStatus, Malformed, NotAllowed}
-use Rattle.reading.specs.Answer.{storeAfter}
+use Rattle.reading.specs.Inner.{storeAfter}
 use Rattle.reading.proofs.Verdict.{the-type}
 use Rattle.reading.proofs.Parts.{restore}
 use borrow.Author.Needs.{needs}

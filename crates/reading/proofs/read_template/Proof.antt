@@ -13,7 +13,8 @@ use Rattle.reading.specs.Taking.{work}
 use Rattle.reading.specs.declared.Reading.{Reading}
 use Rattle.reading.specs.declared.Verdict.{Verdict}
 use Rattle.reading.specs.declared.Verdict.the-variants.{Accepted, Malformed, NotAllowed}
-use Rattle.reading.specs.Answer.{storeAfter, made, templateBody, readTree, answerBit}
+use Rattle.reading.specs.Answer.{templateBody, readTree, answerBit}
+use Rattle.reading.specs.Inner.{storeAfter, made}
 use Rattle.reading.proofs.Parts.{gives, broken-contents, Tree, whole-contents, tree-wrong, tree-refused, tree-taken}
 use borrow.Author.Needs.{needs}
 use Rattle.reading.proofs.read_template.Statement.{statement}
