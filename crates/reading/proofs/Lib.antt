@@ -2,3 +2,4 @@ pub mod Laws
 pub mod Walk
 pub mod Parts
 pub mod Kept
+pub mod Count

@@ -20,6 +20,7 @@ ghost use Rattle.dictionary.specs.Packing.{rowOf};
 ghost use Rattle.tlv.specs.Tag.{isPrivate};
 ghost use Rattle.tlv.specs.Tree.{parse};
 ghost use Rattle.reading.specs.Taking.{item, mayCome, byCard, standsIn, work, takeItem, takeNext, takeAll};
+ghost use Rattle.reading.specs.Count.{bodyObjects, answerObjects};
 ghost use Rattle.reading.specs.Inner.{storeAfter, made, Leaves, counted};
 ghost use Rattle.reading.specs.Answer.{Gives, numberOf, answerBit, templateTag, primitive, templateBody, optionsParts, issuerPart, cryptogramParts, takenParts, readTree, readBody, isRead, goodStatus, readAnswer};
 
@@ -67,6 +68,7 @@ pub fn read_answer(store: &mut [u8], awaited: Awaited, answer: &[u8]) -> Reading
     ensures given { λ r. ⌜ Gives r (now (store .exit)) (readAnswer awaited (now (store .entry)) (now (answer .entry))) ⌝ }
     ensures sized { λ _. ⌜ length (now (store .exit)) ≡ storeSize ⌝ }
     ensures half { λ r. ⌜ 2 * r .objects ≤ length (now (answer .entry)) ⌝ }
+    ensures tree { λ r. ⌜ r .objects ≡ answerObjects awaited (now (answer .entry)) ⌝ }
 {
     let n = answer.len();
     if n < 2 {
@@ -91,6 +93,7 @@ pub fn read_body(store: &mut [u8], awaited: Awaited, body: &[u8]) -> Reading
     ensures given { λ r. ⌜ Gives r (now (store .exit)) (readBody awaited (now (store .entry)) (now (body .entry))) ⌝ }
     ensures sized { λ _. ⌜ length (now (store .exit)) ≡ storeSize ⌝ }
     ensures half { λ r. ⌜ 2 * r .objects ≤ length (now (body .entry)) ⌝ }
+    ensures tree { λ r. ⌜ r .objects ≡ bodyObjects (now (body .entry)) ⌝ }
 {
     let mut work = [0u8; SIZE];
     bytes::copy(store, &mut work);
