@@ -1,6 +1,6 @@
--- What private functions promise, for their callers' proofs: digits byte by byte. This states no rule, and a reader of the rules can pass
--- it over. proofs/Digits ties it to the rule of specs/Form: `numeric-is` to `numeric`; `all-digits`, `is-ff`, `is-half` and `is-wrong` to
--- `compressed`.
+-- What private functions promise, for their callers' proofs: digits byte by byte.
+-- No rule of document 01 stands here: a reader of the rules can pass it over. proofs/Digits ties it to specs/Form:
+-- `numeric-is` to `numeric`; `all-digits`, `is-ff`, `is-half` and `is-wrong` to `compressed`.
 -- Assumes nothing.
 use mathlib.Core.Bool.{Bool}
 use mathlib.Core.List.{List, [], _∷_}

@@ -1,4 +1,4 @@
--- The rows of the tags that code uses: the tags in the order of the source's constants, and each row's number as its constant has it.
+-- The rows of the tags that code uses: the tags in the order of the source's constants, and each row's number.
 -- Assumes nothing.
 use mathlib.Core.List.{List, [], _∷_}
 use Prim.Native.Nat.{ℕ}

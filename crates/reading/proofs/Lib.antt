@@ -3,3 +3,4 @@ pub mod Walk
 pub mod Parts
 pub mod Kept
 pub mod Count
+pub mod Examples

@@ -1,5 +1,5 @@
--- Reading a card's answer (document 01, "Reading an answer", "Commands and steps" and the order of reasons): the length, the status,
--- the encoding, the outer tag and body, the objects. The store is whole or as it was.
+-- Reading a card's answer (document 01, "Reading an answer", "Commands and steps" and the order of reasons): the
+-- length, the status, the encoding, the outer tag and body, the objects. The store is whole or as it was.
 -- Assumes nothing.
 use mathlib.Core.Path.{_≡_}
 use mathlib.Core.Bool.{Bool, true}
@@ -104,7 +104,9 @@ issuerPart (a ∷ v) = item 0x77 0x9F10 (a ∷ v) ∷ []
 unfoldable pub cryptogramParts : List ℕ → Option (List Item)
 cryptogramParts v =
     if (both (leb 11 (length v)) (leb (length v) 43))
-    (some (item 0x77 0x9F27 (take 1 v) ∷ item 0x77 0x9F36 (take 2 (drop 1 v)) ∷ item 0x77 0x9F26 (take 8 (drop 3 v)) ∷ issuerPart (drop 11 v)))
+    (some
+    (item 0x77 0x9F27 (take 1 v) ∷ item 0x77 0x9F36 (take 2 (drop 1 v)) ∷ item 0x77 0x9F26 (take 8 (drop 3 v)) ∷
+    issuerPart (drop 11 v)))
     none
 
 -- what a primitive body brings, or none where the outer tag or body is wrong
@@ -159,5 +161,7 @@ goodLength s = both (leb 2 (length s)) (leb (length s) 258)
 unfoldable pub readAnswer : Awaited → List ℕ → List ℕ → Outcome
 readAnswer a b s =
     if (goodLength s)
-    (if (goodStatus s) (if (isRead a) (readBody a b (take (length s - 2) s)) (outcome reasonNone 0 b)) (outcome reasonStatus 0 b))
+    (if (goodStatus s)
+    (if (isRead a) (readBody a b (take (length s - 2) s)) (outcome reasonNone 0 b))
+    (outcome reasonStatus 0 b))
     (outcome reasonMalformed 0 b)

@@ -1,5 +1,5 @@
--- How many objects a reading visits (document 01, "Reading an answer", last paragraph): the objects of the answer's whole tree, whatever
--- its outer tag and whether its objects are allowed; 0 where the answer is no tree or is not read.
+-- How many objects a reading visits (document 01, "Reading an answer", last paragraph): those of the answer's whole
+-- tree, whatever its outer tag and whether its objects are allowed; 0 where the bytes are no such tree or are not read.
 -- Assumes nothing.
 use mathlib.Core.Bool.{Bool, true, false}
 use mathlib.Core.List.{List}
@@ -32,6 +32,6 @@ oneCount (some f) = if (isOne f) (count f) 0
 unfoldable pub bodyObjects : List ℕ → ℕ
 bodyObjects s = oneCount (parse 4 s)
 
--- the objects of an answer: those of its body, where the length and the status are good and more than the status is read
+-- the objects of an answer: those of its body, where length and status are good and more than the status is read
 unfoldable pub answerObjects : Awaited → List ℕ → ℕ
 answerObjects a s = if (both (goodLength s) (both (goodStatus s) (isRead a))) (bodyObjects (take (length s - 2) s)) 0

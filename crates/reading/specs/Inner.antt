@@ -1,5 +1,6 @@
--- What private functions promise, for their callers' proofs: what the reading of a run of objects says and leaves, by their tree, and the
--- working copy of the store. This states no rule, and a reader of the rules can pass it over. proofs/Parts ties it to specs/Answer:
+-- What private functions promise, for their callers' proofs: what the reading of a run of objects says and leaves, by
+-- their tree, and the working copy of the store.
+-- No rule of document 01 stands here: a reader of the rules can pass it over. proofs/Parts ties it to specs/Answer:
 -- `broken-contents` and `whole-contents` to the tree of a template's contents, `gives` and `restore` to `Gives`.
 -- Assumes nothing.
 use mathlib.Core.Path.{_≡_}
@@ -39,8 +40,8 @@ tally n g = record { objects = n; good = g }
 abbrev pub Has : ℕ → Work → Contents → List ℕ → Type 0
 Has n w r b = (r ≡ Whole (tally n (w .good))) × (b ≡ w .store)
 
--- after n objects and the work w, a tree directly inside the template `around`: its count is added and its objects are taken.
--- r is what is said and b the working store that is left; malformed bytes leave the working store free.
+-- after n objects and the work w, a tree directly inside the template `around`: its count is added and its objects are
+-- taken. r is what is said and b the working store that is left; malformed bytes leave the working store free.
 abbrev pub Leaves : ℕ → ℕ → ℕ → Work → Option Forest → Contents → List ℕ → Type 0
 Leaves answer around n w none r b = r ≡ Broken
 Leaves answer around n w (some f) r b = Has (n + count f) (takeAll answer w (items around f)) r b
