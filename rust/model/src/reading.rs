@@ -1,7 +1,7 @@
 //! Reading a card's answer into a store, whole or not at all (document 01, "Reading an answer").
 
 use crate::dictionary::{Object, Setter};
-use crate::session::Reason;
+use crate::reason::Reason;
 use crate::store::{self, Store};
 use crate::tlv::{self, Tag};
 

@@ -5,6 +5,7 @@ use crate::data_list;
 use crate::dictionary::{self, Object, Setter, REQUIRED_AT_START, STORE_SIZE};
 use crate::locator;
 use crate::reading::{self, AnswerTo};
+use crate::reason::{self, Outcome, Reason};
 use crate::store::{self, Store};
 use crate::tlv;
 
@@ -19,60 +20,6 @@ pub const COMMAND_SIZE: usize = 261;
 
 /// Version of the record's layout.
 const VERSION: u8 = 1;
-
-/// Why a running session ends early (document 01, reasons 1 to 11).
-#[derive(Clone, Copy, Debug, PartialEq, Eq)]
-#[repr(u8)]
-pub enum Reason {
-    /// Status bytes other than 90 00.
-    Status = 1,
-    /// Malformed answer.
-    Malformed = 2,
-    /// Object not allowed.
-    NotAllowed = 3,
-    /// Object missing.
-    Missing = 4,
-    /// File locator.
-    Locator = 5,
-    /// Amount above transaction limit.
-    Limit = 6,
-    /// Data object list.
-    DataList = 7,
-    /// Cryptogram type.
-    CryptogramType = 8,
-    /// Link failed.
-    LinkFailed = 9,
-    /// Stopped.
-    Stopped = 10,
-    /// Not EMV mode.
-    NotEmvMode = 11,
-}
-
-impl Reason {
-    /// The outcome that goes with the reason.
-    fn outcome(self) -> Outcome {
-        match self {
-            Reason::Limit => Outcome::SelectNext,
-            _ => Outcome::Ended,
-        }
-    }
-}
-
-/// How a session ends.
-#[derive(Clone, Copy, Debug, PartialEq, Eq)]
-#[repr(u8)]
-pub enum Outcome {
-    /// Approved offline.
-    Approved = 0,
-    /// Online request.
-    OnlineRequest = 1,
-    /// Declined.
-    Declined = 2,
-    /// Ended with a reason.
-    Ended = 3,
-    /// Select next, with reason 6.
-    SelectNext = 4,
-}
 
 /// A call that is refused changes nothing (document 01, refusals 20 to 25).
 #[derive(Clone, Copy, Debug, PartialEq, Eq)]
@@ -186,13 +133,7 @@ impl<'a> Session<'a> {
         match self.phase {
             Phase::Fresh => self.count == 0 && *store == [0; STORE_SIZE],
             Phase::Ended { outcome, reason } => {
-                let outcome_goes = match reason {
-                    0 => outcome <= 2,
-                    6 => outcome == 4,
-                    1..=11 => outcome == 3,
-                    _ => false,
-                };
-                self.count <= 130 && outcome_goes && store::fits(store)
+                self.count <= 130 && reason::go_together(outcome, reason) && store::fits(store)
             }
             Phase::Options => {
                 self.count == 1
