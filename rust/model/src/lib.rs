@@ -84,7 +84,7 @@ pub fn count(session: &[u8]) -> u32 {
 
 /// Reads one record's answer, status bytes included, into a store that keeps its ranges.
 ///
-/// Gives the reason (0 if none) and the number of objects visited. Of files 11 to 30 only the status is read.
+/// Gives the reason (0 if none) and the number of objects in the answer's tree. Above file 10 the status alone counts.
 pub fn read_record(store: &mut Store, file: u8, answer: &[u8]) -> (u8, u32) {
     let record = locator::Record { file, number: 1 };
     match reading::body(answer) {

@@ -25,15 +25,15 @@ const VERSION: u8 = 1;
 #[derive(Clone, Copy, Debug, PartialEq, Eq)]
 #[repr(u8)]
 pub enum Refusal {
-    /// Start bytes too long or not a run of whole primitive objects.
+    /// More than 1,024 start bytes, or bytes other than whole primitive objects.
     StartBytes = 20,
-    /// Call not in order.
+    /// A start once the session has begun, or another call before it has or after its end.
     Order = 21,
     /// Command buffer too short.
     Buffer = 22,
-    /// A start object that is not allowed.
+    /// A start object of the dictionary that a start may not set so.
     StartObject = 23,
-    /// An object that a start must bring is absent.
+    /// A mandatory object of a start is missing.
     StartMissing = 24,
     /// The bytes hold no session record within its ranges.
     Record = 25,
@@ -42,7 +42,7 @@ pub enum Refusal {
 /// What a call hands back when it is not refused.
 #[derive(Clone, Copy, Debug, PartialEq, Eq)]
 pub enum Reply {
-    /// A command of this length fills the front of the buffer.
+    /// A command of this length stands at the front of the buffer.
     Command(usize),
     /// The session has ended; a decision has reason 0.
     Outcome(Outcome, u8),
@@ -54,7 +54,7 @@ enum Phase {
     Fresh,
     /// Waiting on the answer to GET PROCESSING OPTIONS.
     Options,
-    /// Waiting on the k-th record.
+    /// Waiting on the answer for the k-th record.
     Record(u8),
     /// Waiting on the answer to GENERATE AC.
     Cryptogram(Choice),
@@ -213,7 +213,7 @@ impl<'a> Session<'a> {
         reply
     }
 
-    /// GET PROCESSING OPTIONS: 80 A8 00 00 Lc, 83 length filled 9F38, 00.
+    /// GET PROCESSING OPTIONS: its data are the values that the PDOL asks for, under tag 83.
     fn ask_options(&mut self, command: &mut [u8]) -> Result<Reply, Reason> {
         let list = store::get(self.store, Object::Pdol).unwrap_or_default();
         let length = data_list::filled_length(list)
@@ -250,7 +250,7 @@ impl<'a> Session<'a> {
         self.ask_record(1, command)
     }
 
-    /// READ RECORD for the k-th record: 00 B2 record, file x 8 + 4, 00.
+    /// READ RECORD for the k-th record: P1 is its number, P2 has its file as a short file identifier.
     fn ask_record(&mut self, k: u32, command: &mut [u8]) -> Result<Reply, Reason> {
         let record = self.record(k)?;
         command[..5].copy_from_slice(&[0x00, 0xB2, record.number, record.file << 3 | 0x04, 0x00]);
@@ -391,7 +391,7 @@ fn results_zero(store: &Store) -> bool {
     store::get(store, Object::VerificationResults) == Some(&[0; 5])
 }
 
-/// The number of records, if 82 has byte 2 b8 set and the locator keeps the rules.
+/// The number of records of a card in EMV mode whose locator keeps the rules.
 fn records_of_emv_card(store: &Store) -> Option<u32> {
     let &[_, profile] = store::get_fixed(store, Object::InterchangeProfile)?;
     if profile & 0x80 == 0 {
