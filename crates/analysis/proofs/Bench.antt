@@ -7,7 +7,7 @@ use Rattle.basics.specs.Choice.{if, both, either}
 use Rattle.store.specs.Place.{Value, absent, present, valueOf}
 use Rattle.analysis.specs.Action.{codesOf, chosen}
 use Rattle.analysis.specs.Bits.{bit}
-use Rattle.analysis.specs.Choice.{denial, online, default, holds, lowestFrom, lowestBit, cardCode, pairOf, heldAt, reachAt, choiceOf}
+use Rattle.analysis.specs.Choice.{denial, online, default, holdsBit, lowestFrom, lowestBit, cardCode, pairOf, heldAt, capabilityAt, choiceOf}
 use Rattle.analysis.specs.Value.{front}
 use Rattle.analysis.specs.declared.choice.Choice.the-variants.{Decline, Online, Offline}
 use Rattle.analysis.specs.declared.choice.Choice.{Choice}
@@ -37,7 +37,7 @@ unfolding chosen codesOf
 asked-of store kind p e = simp (e, p .denial-card, p .denial-terminal, p .online-terminal, p .default-terminal)
 
 asked-rows : (v : Value) → (asked 0x22 absent v ≡ Online) × ((asked 0x22 (present zeros) v ≡ Offline) × (asked 0x23 v absent ≡ Decline))
-unfolding if both either bit holds lowestFrom lowestBit cardCode heldAt reachAt choiceOf front
+unfolding if both either bit holdsBit lowestFrom lowestBit cardCode heldAt capabilityAt choiceOf front
 asked-rows v = (refl, (refl, refl))
 
 -- type 22 goes online with no 9F0F and stays offline with a zero one; type 23 with no 9F0D declines

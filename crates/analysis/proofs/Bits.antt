@@ -11,10 +11,11 @@ use lib.ListN.{getD}
 use Rattle.basics.proofs.Laws.{both-left, both-right}
 use Rattle.basics.specs.Choice.{if, both}
 use Rattle.store.specs.Place.{valueOf}
-use Rattle.analysis.specs.Action.{bytesIn, usageIn, restrictionsOf, resultOf}
+use Rattle.store.specs.Held.{bytesIn}
+use Rattle.analysis.specs.Action.{usageIn, restrictionsOf, resultOf}
 use Rattle.analysis.specs.Bits.{bit, worth}
 use Rattle.analysis.specs.Digits.{amountAbove}
-use Rattle.analysis.specs.Restrictions.{otherVersion, expired, notYet, restrictionBits}
+use Rattle.analysis.specs.Restrictions.{otherVersion, expired, notYetEffective, restrictionBits}
 use Rattle.analysis.specs.Result.{resultBits}
 
 -- a test passes at both truth values; at every number below n
@@ -74,7 +75,7 @@ result-bit v x e u f i h =
 abbrev pub testsIn : List ℕ → List Bool
 testsIn store =
     testsOf (otherVersion (valueOf store 0x9F08) (bytesIn store 0x9F09)) (expired (bytesIn store 0x9A) (bytesIn store 0x5F24))
-    (notYet (valueOf store 0x5F25) (bytesIn store 0x9A)) (usageIn store) (amountAbove (bytesIn store 0x9F02) (bytesIn store 0xDF8123))
+    (notYetEffective (valueOf store 0x5F25) (bytesIn store 0x9A)) (usageIn store) (amountAbove (bytesIn store 0x9F02) (bytesIn store 0xDF8123))
 
 pub stored-bit : (store : List ℕ) (i : ℕ) → i < 40 → bit (resultOf store) i ≡ getD (testsIn store) i false
 unfolding resultOf restrictionsOf

@@ -7,30 +7,24 @@
 use mathlib.Core.Bool.{Bool}
 use mathlib.Core.List.{List, [], _∷_}
 use Prim.Native.Nat.{ℕ}
-use lib.ListN.{getD}
-use Rattle.store.specs.Place.{bytesOf, valueOf}
+use Rattle.store.specs.Place.{valueOf}
+use Rattle.store.specs.Held.{bytesIn, byteIn}
 use Rattle.analysis.specs.Choice.{denial, online, default, pairOf, choiceOf}
 use Rattle.analysis.specs.Digits.{amountAbove}
-use Rattle.analysis.specs.Restrictions.{otherVersion, expired, notYet, usageOf, restrictionBits}
+use Rattle.analysis.specs.Restrictions.{otherVersion, expired, notYetEffective, usageOf, restrictionBits}
 use Rattle.analysis.specs.Result.{floorBits, resultBits}
 use Rattle.analysis.specs.declared.choice.Choice.{Choice}
 use Rattle.analysis.specs.declared.choice.Pair.{Pair}
 
 -- ---- what the store holds
 
--- the bytes of a tag's value, none where it is absent
-abbrev pub bytesIn : List ℕ → ℕ → List ℕ
-bytesIn store tag = bytesOf (valueOf store tag)
-
--- the first byte of a tag's value, 0 where it is absent or empty
-abbrev pub byteIn : List ℕ → ℕ → ℕ
-byteIn store tag = getD (bytesIn store tag) 0 0
-
+-- the terminal's type: the first byte of 9F35, 0 where it is absent
 abbrev pub terminalType : List ℕ → ℕ
-terminalType store = byteIn store 0x9F35
+terminalType store = byteIn store 0x9F35 1
 
+-- the transaction's type: the first byte of 9C
 abbrev pub transactionType : List ℕ → ℕ
-transactionType store = byteIn store 0x9C
+transactionType store = byteIn store 0x9C 1
 
 -- ---- the transaction limit
 
@@ -54,7 +48,7 @@ usageIn store =
 unfoldable pub restrictionsOf : List ℕ → ℕ
 restrictionsOf store =
     restrictionBits (otherVersion (valueOf store 0x9F08) (bytesIn store 0x9F09)) (expired (bytesIn store 0x9A) (bytesIn store 0x5F24))
-    (notYet (valueOf store 0x5F25) (bytesIn store 0x9A)) (usageIn store)
+    (notYetEffective (valueOf store 0x5F25) (bytesIn store 0x9A)) (usageIn store)
 
 -- the five bytes of 95
 unfoldable pub resultOf : List ℕ → List ℕ

@@ -14,16 +14,16 @@ use Rattle.analysis.specs.Value.{front}
 use Rattle.analysis.specs.declared.choice.Pair.{Pair}
 use Rattle.analysis.specs.declared.choice.Lowest.{Lowest}
 use Rattle.analysis.specs.declared.choice.Lowest.the-variants.{Bit, NoBit}
-use Rattle.analysis.specs.declared.choice.Reach.{Reach}
-use Rattle.analysis.specs.declared.choice.Reach.the-variants.{OnlineOnly, OnlineCapable, OfflineOnly, Unlisted}
+use Rattle.analysis.specs.declared.choice.Capability.{Capability}
+use Rattle.analysis.specs.declared.choice.Capability.the-variants.{OnlineOnly, OnlineCapable, OfflineOnly, Unlisted}
 use Rattle.analysis.specs.declared.choice.Choice.{Choice}
 use Rattle.analysis.specs.declared.choice.Choice.the-variants.{Decline, Online, Offline}
 
 -- ---- the bit that a stage holds
 
 -- a stage holds bit i: the result has it, and so has the card's code or the terminal's
-unfoldable pub holds : List ℕ → Pair → ℕ → Bool
-holds result pair i = both (bit result i) (either (bit (pair .card) i) (bit (pair .terminal) i))
+unfoldable pub holdsBit : List ℕ → Pair → ℕ → Bool
+holdsBit result pair i = both (bit result i) (either (bit (pair .card) i) (bit (pair .terminal) i))
 
 -- the lowest of the n numbers from i on that passes a test
 unfoldable pub lowestFrom : (ℕ → Bool) → ℕ → ℕ → Lowest
@@ -32,7 +32,7 @@ lowestFrom f i (suc n) = if (f i) (Bit i) (lowestFrom f (suc i) n)
 
 -- the lowest bit, 0 to 39, that a stage holds, or none
 unfoldable pub lowestBit : List ℕ → Pair → Lowest
-lowestBit result pair = lowestFrom (holds result pair) 0 40
+lowestBit result pair = lowestFrom (holdsBit result pair) 0 40
 
 -- there is such a bit
 abbrev pub someBit : Lowest → Bool
@@ -74,20 +74,20 @@ unfoldable pub heldAt : List ℕ → List Pair → ℕ → Bool
 heldAt result pairs stage = someBit (lowestBit result (getD pairs stage noPair))
 
 -- where a type that ends in a digit lets the terminal decide; no running session has a type with another ending
-unfoldable pub reachAt : ℕ → Reach
-reachAt digit =
+unfoldable pub capabilityAt : ℕ → Capability
+capabilityAt digit =
     if (oneOf digit 1 4) OnlineOnly
     (if (oneOf digit 2 5) OnlineCapable
     (if (oneOf digit 3 6) OfflineOnly
     Unlisted))
 
 -- the terminal's type is two digits in a byte
-abbrev pub reachOf : ℕ → Reach
-reachOf kind = reachAt (kind % 16)
+abbrev pub capabilityOf : ℕ → Capability
+capabilityOf kind = capabilityAt (kind % 16)
 
 -- what is asked for, by the type and by whether a bit is held at denial, at online and at default;
 -- the rules leave an unlisted type open, and here it declines
-abbrev pub choiceBy : Reach → Bool → Bool → Bool → Choice
+abbrev pub choiceBy : Capability → Bool → Bool → Bool → Choice
 choiceBy r true o d = Decline
 choiceBy OnlineOnly false o d = Online
 choiceBy OnlineCapable false true d = Online
@@ -99,7 +99,7 @@ choiceBy Unlisted false o d = Decline
 -- the choice from result bits, terminal's type and pairs of codes
 unfoldable pub choiceOf : List ℕ → ℕ → List Pair → Choice
 choiceOf result kind pairs =
-    choiceBy (reachOf kind) (heldAt result pairs denial) (heldAt result pairs online) (heldAt result pairs default)
+    choiceBy (capabilityOf kind) (heldAt result pairs denial) (heldAt result pairs online) (heldAt result pairs default)
 
 -- P1 of the command that asks for it
 abbrev pub p1Of : Choice → ℕ
@@ -110,14 +110,14 @@ p1Of Offline = 0x40
 -- ---- the same, stage by stage
 
 -- the stage that a type consults after denial
-abbrev pub laterStage : Reach → ℕ → Bool
+abbrev pub laterStage : Capability → ℕ → Bool
 laterStage OnlineOnly stage = false
 laterStage OnlineCapable stage = eqb stage online
 laterStage OfflineOnly stage = eqb stage default
 laterStage Unlisted stage = false
 
 -- a stage is consulted: denial by every type
-abbrev pub consulted : Reach → ℕ → Bool
+abbrev pub consulted : Capability → ℕ → Bool
 consulted r stage = either (eqb stage denial) (laterStage r stage)
 
 -- what a bit held at a stage forces
@@ -125,7 +125,7 @@ abbrev pub forcedAt : ℕ → Choice
 forcedAt stage = if (eqb stage online) Online Decline
 
 -- what is asked for where no stage that is consulted holds a bit
-abbrev pub unforcedAt : Reach → Choice
+abbrev pub unforcedAt : Capability → Choice
 unforcedAt OnlineOnly = Online
 unforcedAt OnlineCapable = Offline
 unforcedAt OfflineOnly = Offline

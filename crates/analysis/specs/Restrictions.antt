@@ -11,7 +11,7 @@ use Rattle.analysis.specs.Digits.{oneOf, laterThan, amountOf}
 use Rattle.store.specs.Place.{Value, absent, present}
 use Rattle.basics.specs.Alike.{alike}
 use Rattle.analysis.specs.declared.restrictions.Country.{Country}
-use Rattle.analysis.specs.declared.restrictions.Country.the-variants.{Home, Abroad, Untold}
+use Rattle.analysis.specs.declared.restrictions.Country.the-variants.{Home, Abroad, NotGiven}
 
 -- b8: the card's application version 9F08 is there and unlike the reader's 9F09
 unfoldable pub otherVersion : Value → List ℕ → Bool
@@ -23,9 +23,9 @@ abbrev pub expired : List ℕ → List ℕ → Bool
 expired today expiration = laterThan today expiration
 
 -- b6: the effective date 5F25 is there and later than the transaction date 9A
-unfoldable pub notYet : Value → List ℕ → Bool
-notYet absent today = false
-notYet (present effective) today = laterThan effective today
+unfoldable pub notYetEffective : Value → List ℕ → Bool
+notYetEffective absent today = false
+notYetEffective (present effective) today = laterThan effective today
 
 -- ---- b5: usage
 
@@ -40,7 +40,7 @@ atAtm kind (present capabilities) = both (atmType kind) (has capabilities 1 8)
 
 -- home where the issuer's country 5F28 is the terminal's 9F1A, else abroad; untold where 5F28 is absent
 unfoldable pub countryOf : Value → List ℕ → Country
-countryOf absent terminal = Untold
+countryOf absent terminal = NotGiven
 countryOf (present issuer) terminal = if (alike issuer terminal) Home Abroad
 
 -- cashback is asked for: the other amount 9F03 is there and not zero
@@ -52,7 +52,7 @@ cashback (present other) = ltb 0 (amountOf other)
 abbrev pub byCountry : Country → Bool → Bool → Bool
 byCountry Home home abroad = home
 byCountry Abroad home abroad = abroad
-byCountry Untold home abroad = true
+byCountry NotGiven home abroad = true
 
 -- the place: byte 1 b2 at an ATM, else b1
 unfoldable pub placeMet : List ℕ → Bool → Bool
@@ -71,14 +71,14 @@ goodsMet usage country transaction =
     true
 
 -- cashback: byte 2 b8 at home, b7 abroad
-unfoldable pub backMet : List ℕ → Country → Bool → Bool
-backMet usage country back = if back (byCountry country (has usage 2 8) (has usage 2 7)) true
+unfoldable pub cashbackMet : List ℕ → Country → Bool → Bool
+cashbackMet usage country asked = if asked (byCountry country (has usage 2 8) (has usage 2 7)) true
 
 -- the application usage control 9F07 is there and something needed is not met
 unfoldable pub usageBroken : Value → Bool → Country → ℕ → Bool → Bool
-usageBroken absent atm country transaction back = false
-usageBroken (present usage) atm country transaction back =
-    not (both (placeMet usage atm) (both (cashMet usage country transaction) (both (goodsMet usage country transaction) (backMet usage country back))))
+usageBroken absent atm country transaction asked = false
+usageBroken (present usage) atm country transaction asked =
+    not (both (placeMet usage atm) (both (cashMet usage country transaction) (both (goodsMet usage country transaction) (cashbackMet usage country asked))))
 
 -- b5 over the values themselves: 9F07, the terminal's type, 9F40, 5F28, 9F1A, 9C and 9F03
 abbrev pub usageOf : Value → ℕ → Value → Value → List ℕ → ℕ → Value → Bool
@@ -88,4 +88,4 @@ usageOf control kind capabilities issuer terminal transaction other =
 -- ---- the byte of the four
 
 abbrev pub restrictionBits : Bool → Bool → Bool → Bool → ℕ
-restrictionBits version expired early usage = worth 8 version + worth 7 expired + worth 6 early + worth 5 usage
+restrictionBits version expired notYet usage = worth 8 version + worth 7 expired + worth 6 notYet + worth 5 usage

@@ -14,9 +14,10 @@ ghost use mathlib.Core.Path.{_≡_};
 ghost use lib.ListN.{getD};
 ghost use Rattle.dictionary.specs.Rows.{rows};
 ghost use Rattle.store.specs.Place.{bytesOf, valueAt, valueOf};
+ghost use Rattle.store.specs.Held.{bytesIn};
 ghost use Rattle.analysis.specs.Choice.{pairOf};
-ghost use Rattle.analysis.specs.Restrictions.{otherVersion, notYet, atAtm, countryOf, cashback};
-ghost use Rattle.analysis.specs.Action.{bytesIn, limitOf, aboveLimit, usageIn, restrictionsOf, resultOf, terminalType, codesOf, chosen};
+ghost use Rattle.analysis.specs.Restrictions.{otherVersion, notYetEffective, atAtm, countryOf, cashback};
+ghost use Rattle.analysis.specs.Action.{limitOf, aboveLimit, usageIn, restrictionsOf, resultOf, terminalType, codesOf, chosen};
 
 // The five bytes of 95 that the store's values give.
 pub fn result_of(bytes: &[u8]) -> [u8; 5]
@@ -72,7 +73,7 @@ fn restrictions_of(bytes: &[u8]) -> u8
 {
     let today = store::value(bytes, dictionary::ROW_9A);
     let expired = digits::later(today, store::value(bytes, dictionary::ROW_5F24));
-    restrictions::restriction_bits(version_in(bytes), expired, early_in(bytes), usage_in(bytes))
+    restrictions::restriction_bits(version_in(bytes), expired, not_yet_effective_in(bytes), usage_in(bytes))
 }
 
 // Byte 2 b8: the card's application version is there and unlike the reader's.
@@ -85,12 +86,12 @@ fn version_in(bytes: &[u8]) -> bool
 }
 
 // Byte 2 b6: the effective date is there and later than the transaction date.
-fn early_in(bytes: &[u8]) -> bool
-    ensures { λ r. ⌜ r ≡ notYet (valueOf (now (bytes .entry)) 0x5F25) (bytesIn (now (bytes .entry)) 0x9A) ⌝ }
+fn not_yet_effective_in(bytes: &[u8]) -> bool
+    ensures { λ r. ⌜ r ≡ notYetEffective (valueOf (now (bytes .entry)) 0x5F25) (bytesIn (now (bytes .entry)) 0x9A) ⌝ }
 {
     let there = store::is_there(bytes, dictionary::ROW_5F25);
     let effective = store::value(bytes, dictionary::ROW_5F25);
-    restrictions::not_yet(there, effective, store::value(bytes, dictionary::ROW_9A))
+    restrictions::not_yet_effective(there, effective, store::value(bytes, dictionary::ROW_9A))
 }
 
 // Byte 2 b5: the application usage control is there and something needed is not met.
@@ -102,7 +103,7 @@ fn usage_in(bytes: &[u8]) -> bool
     let atm = atm_in(bytes);
     let country = country_in(bytes);
     let transaction = byte_in(bytes, dictionary::ROW_9C);
-    restrictions::usage_broken(there, control, atm, country, transaction, back_in(bytes))
+    restrictions::usage_broken(there, control, atm, country, transaction, cashback_in(bytes))
 }
 
 // At an ATM, by the terminal's type and additional capabilities.
@@ -124,11 +125,11 @@ fn country_in(bytes: &[u8]) -> Country
 }
 
 // Cashback is asked for, by the other amount.
-fn back_in(bytes: &[u8]) -> bool
+fn cashback_in(bytes: &[u8]) -> bool
     ensures { λ r. ⌜ r ≡ cashback (valueOf (now (bytes .entry)) 0x9F03) ⌝ }
 {
     let there = store::is_there(bytes, dictionary::ROW_9F03);
-    restrictions::asks_back(there, store::value(bytes, dictionary::ROW_9F03))
+    restrictions::asks_cashback(there, store::value(bytes, dictionary::ROW_9F03))
 }
 
 // The pair of a stage, from the rows of the card's code and the terminal's.

@@ -3,7 +3,7 @@ use crate::byte;
 ghost use mathlib.Core.Path.{_≡_};
 ghost use Prim.Native.Nat.{_<_};
 ghost use Rattle.analysis.specs.Value.{given};
-ghost use Rattle.analysis.specs.Choice.{lowestFrom, heldIn, lowestBit, reachOf, consulted as isConsulted, forcedAt, unforcedAt, choiceOf, p1Of, cardCode, pairOf};
+ghost use Rattle.analysis.specs.Choice.{lowestFrom, heldIn, lowestBit, capabilityOf, consulted as isConsulted, forcedAt, unforcedAt, choiceOf, p1Of, cardCode, pairOf};
 
 // The action codes of a stage, five bytes each.
 pub struct Pair {
@@ -18,7 +18,7 @@ pub enum Lowest {
 }
 
 // Where a terminal's type lets it decide, by the type's last digit.
-pub enum Reach {
+pub enum Capability {
     OnlineOnly,
     OnlineCapable,
     OfflineOnly,
@@ -67,10 +67,10 @@ pub fn card_code(stage: usize, there: bool, code: &[u8]) -> [u8; 5]
 pub fn choose(bits: [u8; 5], kind: u8, pairs: [Pair; 3]) -> Choice
     ensures { λ r. ⌜ r ≡ choiceOf bits kind pairs ⌝ }
 {
-    let reach = reach_of(kind);
+    let capability = capability_of(kind);
     let mut stage = 0;
     while stage < 3 {
-        if consulted(reach, stage) {
+        if consulted(capability, stage) {
             let pair = pairs[stage];
             if let Lowest::Bit(_) = stage_bit(bits, pair) {
                 return forced(stage);
@@ -78,7 +78,7 @@ pub fn choose(bits: [u8; 5], kind: u8, pairs: [Pair; 3]) -> Choice
         }
         stage += 1;
     }
-    unforced(reach)
+    unforced(capability)
 }
 
 // The lowest result bit, 0 to 39, that the card's code or the terminal's has.
@@ -141,30 +141,30 @@ pub fn p1(choice: Choice) -> u8
 }
 
 // A type ends in 1 or 4: online only; 2 or 5: online capable; 3 or 6: offline only.
-pub fn reach_of(kind: u8) -> Reach
-    ensures { λ r. ⌜ r ≡ reachOf kind ⌝ }
+pub fn capability_of(kind: u8) -> Capability
+    ensures { λ r. ⌜ r ≡ capabilityOf kind ⌝ }
 {
     let ending = kind % 16;
     match ending {
-        1 | 4 => Reach::OnlineOnly,
-        2 | 5 => Reach::OnlineCapable,
-        3 | 6 => Reach::OfflineOnly,
-        _ => Reach::Unlisted,
+        1 | 4 => Capability::OnlineOnly,
+        2 | 5 => Capability::OnlineCapable,
+        3 | 6 => Capability::OfflineOnly,
+        _ => Capability::Unlisted,
     }
 }
 
 // Every type consults denial; one that is online capable also online, one that is offline only also default.
-fn consulted(reach: Reach, stage: usize) -> bool
-    ensures { λ r. ⌜ r ≡ isConsulted reach stage ⌝ }
+fn consulted(capability: Capability, stage: usize) -> bool
+    ensures { λ r. ⌜ r ≡ isConsulted capability stage ⌝ }
 {
     if stage == DENIAL {
         return true;
     }
-    match reach {
-        Reach::OnlineOnly => false,
-        Reach::OnlineCapable => stage == ONLINE,
-        Reach::OfflineOnly => stage == DEFAULT,
-        Reach::Unlisted => false,
+    match capability {
+        Capability::OnlineOnly => false,
+        Capability::OnlineCapable => stage == ONLINE,
+        Capability::OfflineOnly => stage == DEFAULT,
+        Capability::Unlisted => false,
     }
 }
 
@@ -180,13 +180,13 @@ fn forced(stage: usize) -> Choice
 }
 
 // What is asked for where no bit forces it. The rules leave an unlisted type open: it declines.
-fn unforced(reach: Reach) -> Choice
-    ensures { λ r. ⌜ r ≡ unforcedAt reach ⌝ }
+fn unforced(capability: Capability) -> Choice
+    ensures { λ r. ⌜ r ≡ unforcedAt capability ⌝ }
 {
-    match reach {
-        Reach::OnlineOnly => Choice::Online,
-        Reach::OnlineCapable => Choice::Offline,
-        Reach::OfflineOnly => Choice::Offline,
-        Reach::Unlisted => Choice::Decline,
+    match capability {
+        Capability::OnlineOnly => Choice::Online,
+        Capability::OnlineCapable => Choice::Offline,
+        Capability::OfflineOnly => Choice::Offline,
+        Capability::Unlisted => Choice::Decline,
     }
 }

@@ -6,13 +6,13 @@ ghost use Prim.Native.Nat.{_<_, _≤_};
 ghost use Rattle.basics.specs.Choice.{either};
 ghost use Rattle.analysis.specs.Bits.{has as bitOf};
 ghost use Rattle.analysis.specs.Value.{given};
-ghost use Rattle.analysis.specs.Restrictions.{otherVersion, notYet, atAtm, countryOf, cashback, byCountry, placeMet, cashMet, goodsMet, backMet, usageBroken, restrictionBits};
+ghost use Rattle.analysis.specs.Restrictions.{otherVersion, notYetEffective, atAtm, countryOf, cashback as asksCashback, byCountry, placeMet, cashMet, goodsMet, cashbackMet, usageBroken, restrictionBits};
 
 // The terminal's country as the card sees it.
 pub enum Country {
     Home,
     Abroad,
-    Untold,
+    NotGiven,
 }
 
 // Byte 2: another version b8, expired b7, not yet effective b6, usage b5.
@@ -36,8 +36,8 @@ pub fn other_version(there: bool, card: &[u8], reader: &[u8]) -> bool
 }
 
 // The effective date is there and later than the transaction date. (That a card has expired is `digits::later` alone.)
-pub fn not_yet(there: bool, effective: &[u8], today: &[u8]) -> bool
-    ensures { λ r. ⌜ r ≡ notYet (given there (now (effective .entry))) (now (today .entry)) ⌝ }
+pub fn not_yet_effective(there: bool, effective: &[u8], today: &[u8]) -> bool
+    ensures { λ r. ⌜ r ≡ notYetEffective (given there (now (effective .entry))) (now (today .entry)) ⌝ }
 {
     if there {
         return digits::later(effective, today);
@@ -52,9 +52,9 @@ pub fn usage_broken(
     atm: bool,
     country: Country,
     transaction: u8,
-    back: bool,
+    cashback: bool,
 ) -> bool
-    ensures { λ r. ⌜ r ≡ usageBroken (given there (now (usage .entry))) atm country transaction back ⌝ }
+    ensures { λ r. ⌜ r ≡ usageBroken (given there (now (usage .entry))) atm country transaction cashback ⌝ }
 {
     if !there {
         return false;
@@ -68,7 +68,7 @@ pub fn usage_broken(
     if !goods_met(usage, country, transaction) {
         return true;
     }
-    !back_met(usage, country, back)
+    !cashback_met(usage, country, cashback)
 }
 
 // At an ATM: by the terminal's type and its capability of cash.
@@ -89,7 +89,7 @@ pub fn country_of(there: bool, issuer: &[u8], terminal: &[u8]) -> Country
     ensures { λ r. ⌜ r ≡ countryOf (given there (now (issuer .entry))) (now (terminal .entry)) ⌝ }
 {
     if !there {
-        return Country::Untold;
+        return Country::NotGiven;
     }
     if basics::same(issuer, terminal) {
         return Country::Home;
@@ -98,8 +98,8 @@ pub fn country_of(there: bool, issuer: &[u8], terminal: &[u8]) -> Country
 }
 
 // Cashback is asked for: another amount is there and not zero.
-pub fn asks_back(there: bool, other: &[u8]) -> bool
-    ensures { λ r. ⌜ r ≡ cashback (given there (now (other .entry))) ⌝ }
+pub fn asks_cashback(there: bool, other: &[u8]) -> bool
+    ensures { λ r. ⌜ r ≡ asksCashback (given there (now (other .entry))) ⌝ }
 {
     if there {
         return 0 < digits::amount_of(other);
@@ -138,10 +138,10 @@ fn goods_met(usage: &[u8], country: Country, transaction: u8) -> bool
 }
 
 // Cashback is allowed where it is asked for.
-fn back_met(usage: &[u8], country: Country, back: bool) -> bool
-    ensures { λ r. ⌜ r ≡ backMet (now (usage .entry)) country back ⌝ }
+fn cashback_met(usage: &[u8], country: Country, cashback: bool) -> bool
+    ensures { λ r. ⌜ r ≡ cashbackMet (now (usage .entry)) country cashback ⌝ }
 {
-    if back {
+    if cashback {
         return by_country(country, byte::has(usage, 2, 8), byte::has(usage, 2, 7));
     }
     true
@@ -154,7 +154,7 @@ fn by_country(country: Country, home: bool, abroad: bool) -> bool
     match country {
         Country::Home => home,
         Country::Abroad => abroad,
-        Country::Untold => true,
+        Country::NotGiven => true,
     }
 }
 

@@ -2,3 +2,4 @@ pub mod Choice
 pub mod Number
 pub mod Alike
 pub mod Reason
+pub mod Front

@@ -17,17 +17,17 @@ use Rattle.dictionary.specs.Form.{numeric, digitsFit, fitting}
 use Rattle.dictionary.specs.TerminalType.{listed}
 use Rattle.store.specs.Place.{offsetIn, placeAt, held, valueAt, putAt, valueIn, lengthByte}
 use Rattle.locator.specs.Entry.{keeps}
-use Rattle.locator.specs.Records.{entries as entriesOf, whole, run as runOf, recordsOf, sumOf, accepts, nth, kth, recordAt}
+use Rattle.locator.specs.Records.{entries as entriesOf, wholeEntries, recordsFrom as runOf, recordsOf, sumOf, accepts, nth, kth, recordAt}
 use Rattle.reading.specs.Taking.{mayStand, mayCome, allowed, takeItem, takeNext, takeAll}
 use Rattle.reading.specs.Answer.{bodyOf, optionsParts, primitiveParts, readBody, isRead, goodStatus, goodLength, readAnswer}
-use Rattle.data_list.specs.Entries.{along, entriesBy, entries}
+use Rattle.data_list.specs.Entries.{along, listEntriesBy, listEntries}
 use Rattle.data_list.specs.Filling.{fillingOf, filledBy}
 use Rattle.data_list.specs.Commands.{optionsOf, processingOptions}
 use Rattle.record.specs.declared.Phase.{Phase}
 use Rattle.record.specs.declared.Session.{Session}
 use Rattle.record.specs.Clauses.{noResults}
-use Rattle.record.specs.Held.{lengthIn}
-use Rattle.record.specs.Ranges.{isBrought, brought, unanswered, running, optionsRanges, inRanges, allFit, objectFits, freshRanges}
+use Rattle.store.specs.Held.{lengthIn}
+use Rattle.record.specs.Ranges.{isBrought, brought, cryptogramAbsent, running, optionsRanges, inRanges, allFit, objectFits, freshRanges}
 use Rattle.record.specs.Session.{freshSession, waitingSession}
 use Rattle.terminal.specs.Terminal.{withObject, primitiveOf, runBy, run, typeListed, settable, setObject, setAll, load, Loaded, loaded, refusal}
 use Rattle.session.specs.Steps.{Step, refuses, commands, withStore, withResults, leastBuffer}
@@ -56,15 +56,15 @@ unfolding inRanges allFit objectFits lengthIn lengthByte freshRanges rows past f
 fresh-in = refl
 
 waiting-in : inRanges waiting ≡ true
-unfolding inRanges allFit objectFits lengthIn lengthByte optionsRanges running unanswered brought isBrought withResults placeOf load run runBy withObject primitiveOf headerOf tagAt tagSize secondByte thirdByte lengthAt firstByte isTemplate isPrivate numberFrom if both either every rows past find settable setObject setAll fitting digitsFit numeric nibbles typeListed listed offsetIn placeAt held valueAt putAt valueIn
+unfolding inRanges allFit objectFits lengthIn lengthByte optionsRanges running cryptogramAbsent brought isBrought withResults placeOf load run runBy withObject primitiveOf headerOf tagAt tagSize secondByte thirdByte lengthAt firstByte isTemplate isPrivate numberFrom if both either every rows past find settable setObject setAll fitting digitsFit numeric nibbles typeListed listed offsetIn placeAt held valueAt putAt valueIn
 waiting-in = refl
 
 asks : (buf : List ℕ) → startLoaded freshSession buf (load nothing startBytes) ≡ commands (withStore freshSession first-store) Phase.Options optionsCommand buf
-unfolding askOptions processingOptions optionsOf filledBy fillingOf entries entriesBy along lengthBytes withResults placeOf load run runBy withObject primitiveOf headerOf tagAt tagSize secondByte thirdByte lengthAt firstByte isTemplate isPrivate numberFrom if both either every rows past find settable setObject setAll fitting digitsFit numeric nibbles typeListed listed offsetIn placeAt held valueAt putAt valueIn brought isBrought
+unfolding askOptions processingOptions optionsOf filledBy fillingOf listEntries listEntriesBy along lengthBytes withResults placeOf load run runBy withObject primitiveOf headerOf tagAt tagSize secondByte thirdByte lengthAt firstByte isTemplate isPrivate numberFrom if both either every rows past find settable setObject setAll fitting digitsFit numeric nibbles typeListed listed offsetIn placeAt held valueAt putAt valueIn brought isBrought
 asks buf = refl
 
 reads : (buf : List ℕ) → HandsOut (0x00 ∷ 0xB2 ∷ 0x01 ∷ 0x0C ∷ 0x00 ∷ []) buf (optionsStep waiting optionsAnswer buf)
-unfolding optionsStep accepted optionsRead recordAt kth nth accepts whole entriesOf keeps sumOf recordsOf runOf readAnswer goodLength goodStatus isRead readBody bodyOf primitiveParts optionsParts takeAll takeNext takeItem allowed mayCome mayStand withResults placeOf load run runBy withObject primitiveOf headerOf tagAt tagSize secondByte thirdByte lengthAt firstByte isTemplate isPrivate numberFrom if both either every rows past find settable setObject setAll fitting digitsFit numeric nibbles typeListed listed offsetIn placeAt held valueAt putAt valueIn brought isBrought
+unfolding optionsStep accepted optionsRead recordAt kth nth accepts wholeEntries entriesOf keeps sumOf recordsOf runOf readAnswer goodLength goodStatus isRead readBody bodyOf primitiveParts optionsParts takeAll takeNext takeItem allowed mayCome mayStand withResults placeOf load run runBy withObject primitiveOf headerOf tagAt tagSize secondByte thirdByte lengthAt firstByte isTemplate isPrivate numberFrom if both either every rows past find settable setObject setAll fitting digitsFit numeric nibbles typeListed listed offsetIn placeAt held valueAt putAt valueIn brought isBrought
 reads buf = record { answer = refl; bytes = refl }
 
 -- a step by an equation

@@ -26,7 +26,7 @@ use Rattle.data_list.specs.declared.EntryFront.{EntryFront}
 use Rattle.data_list.specs.declared.EntryFront.the-variants.{Asked, Broken}
 use Rattle.data_list.specs.declared.Measured.{Measured}
 use Rattle.data_list.specs.declared.Measured.the-variants.{Total, Unfit}
-use Rattle.data_list.specs.Entries.{entry, withLength, entryAt, withEntry, oneEntry, along, entriesBy, entries, total, measured}
+use Rattle.data_list.specs.Entries.{entry, withLength, entryAt, withEntry, oneEntry, along, listEntriesBy, listEntries, askedTotal, measured}
 
 -- ---- one entry, as the code reads it
 
@@ -100,32 +100,32 @@ unfolding along
 along-same k k′ [] same = refl
 along-same k k′ (b ∷ s) same = one-same k k′ (b ∷ s) same (entryAt (b ∷ s)) refl
 
-enough : (n m : ℕ) (s : List ℕ) → length s < n → length s < m → entriesBy n s ≡ entriesBy m s
-unfolding entriesBy
+enough : (n m : ℕ) (s : List ℕ) → length s < n → length s < m → listEntriesBy n s ≡ listEntriesBy m s
+unfolding listEntriesBy
 enough zero m s p q = absurd (omega arith)
 enough (suc n) zero s p q = absurd (omega arith)
-enough (suc n) (suc m) s p q = along-same (entriesBy n) (entriesBy m) s (λ v h. enough n m v (omega arith) (omega arith))
+enough (suc n) (suc m) s p q = along-same (listEntriesBy n) (listEntriesBy m) s (λ v h. enough n m v (omega arith) (omega arith))
 
-pub unroll : (s : List ℕ) → entries s ≡ along entries s
-unfolding entries entriesBy
-unroll s = along-same (entriesBy (length s)) entries s (λ v h. enough (length s) (suc (length v)) v h (omega arith))
+pub unroll : (s : List ℕ) → listEntries s ≡ along listEntries s
+unfolding listEntries listEntriesBy
+unroll s = along-same (listEntriesBy (length s)) listEntries s (λ v h. enough (length s) (suc (length v)) v h (omega arith))
 
 -- ---- one law for each way out of a step
 
-pub entries-end : (s : List ℕ) → length s ≡ 0 → entries s ≡ some []
+pub entries-end : (s : List ℕ) → length s ≡ 0 → listEntries s ≡ some []
 unfolding along
 entries-end [] h = unroll []
 entries-end (b ∷ s) h = absurd (omega arith)
 
-at : (s : List ℕ) (x : EntryFront) → (length s ≡ 0 → ⊥) → entryAt s ≡ x → entries s ≡ oneEntry entries s x
+at : (s : List ℕ) (x : EntryFront) → (length s ≡ 0 → ⊥) → entryAt s ≡ x → listEntries s ≡ oneEntry listEntries s x
 unfolding along
 at [] x h p = absurd (h refl)
-at (b ∷ s) x h p = unroll (b ∷ s) ∙ ap (oneEntry entries (b ∷ s)) p
+at (b ∷ s) x h p = unroll (b ∷ s) ∙ ap (oneEntry listEntries (b ∷ s)) p
 
-pub entries-broken : (s : List ℕ) → (length s ≡ 0 → ⊥) → entryAt s ≡ Broken → entries s ≡ none
+pub entries-broken : (s : List ℕ) → (length s ≡ 0 → ⊥) → entryAt s ≡ Broken → listEntries s ≡ none
 entries-broken s h p = at s Broken h p
 
-pub entries-more : (s : List ℕ) (e : Entry) (n : ℕ) → entryAt s ≡ Asked e n → entries s ≡ withEntry e (entries (drop n s))
+pub entries-more : (s : List ℕ) (e : Entry) (n : ℕ) → entryAt s ≡ Asked e n → listEntries s ≡ withEntry e (listEntries (drop n s))
 entries-more s e n p = let i = entry-inside s e n p in at s (Asked e n) (λ z. omega arith) p
 
 pub with-entry : (e : Entry) (x : Option (List Entry)) (es : List Entry) → x ≡ some es → withEntry e x ≡ some (e ∷ es)
@@ -137,16 +137,16 @@ with-entry e x es p = rw p
 module _
     (P : List ℕ → List Entry → Type 0)
     (at-end : P [] [])
-    (at-entry : (s : List ℕ) (e : Entry) (n : ℕ) (es : List Entry) → entryAt s ≡ Asked e n → entries (drop n s) ≡ some es → P (drop n s) es → P s (e ∷ es))
+    (at-entry : (s : List ℕ) (e : Entry) (n : ℕ) (es : List Entry) → entryAt s ≡ Asked e n → listEntries (drop n s) ≡ some es → P (drop n s) es → P s (e ∷ es))
   where
     Holds : List ℕ → Type 0
-    Holds s = (es : List Entry) → entries s ≡ some es → P s es
+    Holds s = (es : List Entry) → listEntries s ≡ some es → P s es
 
-    module _ (s : List ℕ) (before : (v : List ℕ) → length v < length s → Holds v) (es : List Entry) (p : entries s ≡ some es) where
-      never : entries s ≡ none → P s es
+    module _ (s : List ℕ) (before : (v : List ℕ) → length v < length s → Holds v) (es : List Entry) (p : listEntries s ≡ some es) where
+      never : listEntries s ≡ none → P s es
       never q = let z : _≡_ {A = ℕ} 0 1 = cc in absurd (omega arith)
 
-      of-entry : (e : Entry) (n : ℕ) → entryAt s ≡ Asked e n → (x : Option (List Entry)) → entries (drop n s) ≡ x → P s es
+      of-entry : (e : Entry) (n : ℕ) → entryAt s ≡ Asked e n → (x : Option (List Entry)) → listEntries (drop n s) ≡ x → P s es
       unfolding withEntry Holds
       of-entry e n q none r = never (entries-more s e n q ∙ rw r)
       of-entry e n q (some fs) r =
@@ -163,15 +163,15 @@ module _
     of-list [] before es p = let i : [] ≡ es = cc (entries-end [] refl) in subst (P []) i at-end
     of-list (b ∷ s) before es p = of-front (b ∷ s) before es p (λ z. omega arith) _ refl
 
-    pub entries-ind : (s : List ℕ) (es : List Entry) → entries s ≡ some es → P s es
+    pub entries-ind : (s : List ℕ) (es : List Entry) → listEntries s ≡ some es → P s es
     unfolding Holds
     entries-ind s es p = shorter-first Holds of-list s es p
 
 -- ---- one list behind another
 
-pub entries-join : (s t : List ℕ) (es fs : List Entry) → entries s ≡ some es → entries t ≡ some fs → entries (s ++ t) ≡ some (es ++ fs)
+pub entries-join : (s t : List ℕ) (es fs : List Entry) → listEntries s ≡ some es → listEntries t ≡ some fs → listEntries (s ++ t) ≡ some (es ++ fs)
 entries-join s t es fs p q =
-    entries-ind (λ s es. entries (s ++ t) ≡ some (es ++ fs)) q
+    entries-ind (λ s es. listEntries (s ++ t) ≡ some (es ++ fs)) q
     (λ s e n es r k h.
     let i = entry-inside s e n r in
     entries-more (s ++ t) e n (entry-kept s t e n r) ∙ rw (drop-append-le n s t (i .1)) (with-entry e _ _ h))
@@ -181,53 +181,53 @@ entries-join s t es fs p q =
 
 unfoldable pub measuredFrom : ℕ → Option (List Entry) → Measured
 measuredFrom n none = Unfit
-measuredFrom n (some es) = if (leb (n + total es) 255) (Total (n + total es)) Unfit
+measuredFrom n (some es) = if (leb (n + askedTotal es) 255) (Total (n + askedTotal es)) Unfit
 
 pub measured-from : (x : Option (List Entry)) → measured x ≡ measuredFrom 0 x
 unfolding measured measuredFrom
 measured-from none = refl
-measured-from (some es) = let e : total es ≡ 0 + total es = omega arith in ap (λ (n : ℕ). if (leb n 255) (Total n) Unfit) e
+measured-from (some es) = let e : askedTotal es ≡ 0 + askedTotal es = omega arith in ap (λ (n : ℕ). if (leb n 255) (Total n) Unfit) e
 
 module _ (n : ℕ) (s : List ℕ) where
-  pub measured-end : length s ≡ 0 → n ≤ 255 → measuredFrom n (entries s) ≡ Total n
-  unfolding total measuredFrom
+  pub measured-end : length s ≡ 0 → n ≤ 255 → measuredFrom n (listEntries s) ≡ Total n
+  unfolding askedTotal measuredFrom
   measured-end h k =
       let e : n + 0 ≡ n = omega arith in
       ap (measuredFrom n) (entries-end s h) ∙ rw e (if-yes _ _ (le-leb n 255 k))
 
-  pub measured-broken : (length s ≡ 0 → ⊥) → entryAt s ≡ Broken → measuredFrom n (entries s) ≡ Unfit
+  pub measured-broken : (length s ≡ 0 → ⊥) → entryAt s ≡ Broken → measuredFrom n (listEntries s) ≡ Unfit
   unfolding measuredFrom
   measured-broken h p = ap (measuredFrom n) (entries-broken s h p)
 
-  pub measured-more : (e : Entry) (k : ℕ) → entryAt s ≡ Asked e k → measuredFrom n (entries s) ≡ measuredFrom (n + e .asked) (entries (drop k s))
-  unfolding withEntry total measuredFrom
-  measured-more e k p = ap (measuredFrom n) (entries-more s e k p) ∙ go (entries (drop k s))
+  pub measured-more : (e : Entry) (k : ℕ) → entryAt s ≡ Asked e k → measuredFrom n (listEntries s) ≡ measuredFrom (n + e .asked) (listEntries (drop k s))
+  unfolding withEntry askedTotal measuredFrom
+  measured-more e k p = ap (measuredFrom n) (entries-more s e k p) ∙ go (listEntries (drop k s))
     where
       go : (x : Option (List Entry)) → measuredFrom n (withEntry e x) ≡ measuredFrom (n + e .asked) x
       go none = refl
       go (some es) =
-          let i : n + (e .asked + total es) ≡ n + e .asked + total es = omega arith in
+          let i : n + (e .asked + askedTotal es) ≡ n + e .asked + askedTotal es = omega arith in
           ap (λ (m : ℕ). if (leb m 255) (Total m) Unfit) i
 
 pub measured-long : (n : ℕ) (x : Option (List Entry)) → 255 < n → measuredFrom n x ≡ Unfit
 unfolding measuredFrom
 measured-long n none h = refl
-measured-long n (some es) h = if-no _ _ (lt-leb (n + total es) 255 (omega arith))
+measured-long n (some es) h = if-no _ _ (lt-leb (n + askedTotal es) 255 (omega arith))
 
 -- a total is that of a whole list, and at most 255
 pub record Whole (x : Option (List Entry)) (n : ℕ) : Type 0 where
   pub list : List Entry
   pub is : x ≡ some list
-  pub sum : total list ≡ n
+  pub sum : askedTotal list ≡ n
   pub few : n ≤ 255
 
 pub whole : (x : Option (List Entry)) (n : ℕ) → measured x ≡ Total n → Whole x n
 unfolding measured
 whole none n p = let z : _≡_ {A = ℕ} 0 1 = cc in absurd (omega arith)
-whole (some es) n p = elim (bool-cases (leb (total es) 255)) [
+whole (some es) n p = elim (bool-cases (leb (askedTotal es) 255)) [
   | inl t ↦
-      let i : Total (total es) ≡ Total n = sym (if-yes _ _ t) ∙ p in
-      let j : total es ≡ n = cc in
-      record { list = es; is = refl; sum = j; few = omega (arith, leb-true (total es) 255 t) }
+      let i : Total (askedTotal es) ≡ Total n = sym (if-yes _ _ t) ∙ p in
+      let j : askedTotal es ≡ n = cc in
+      record { list = es; is = refl; sum = j; few = omega (arith, leb-true (askedTotal es) 255 t) }
   | inr f ↦ let i : Unfit ≡ Total n = sym (if-no _ _ f) ∙ p in let z : _≡_ {A = ℕ} 0 1 = cc in absurd (omega arith)
 ]

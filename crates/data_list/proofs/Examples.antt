@@ -7,41 +7,41 @@ use Rattle.basics.specs.Number.{numberFrom}
 use Rattle.tlv.specs.Tag.{tagSize, secondByte, thirdByte, tagAt}
 use Rattle.dictionary.specs.Rows.{formB, formN, formCn}
 use Rattle.store.specs.Place.{absent, present}
-use Rattle.data_list.specs.Entries.{entry, withLength, entryAt, withEntry, along, entriesBy, entries}
+use Rattle.data_list.specs.Entries.{entry, withLength, entryAt, withEntry, along, listEntriesBy, listEntries}
 use Rattle.data_list.specs.Filling.{cut, padding, padded, fitted, valueBytes}
 
 -- ---- lists
 
 -- two entries, tags of two bytes and of one
-pub two-entries : entries (0x9F ∷ 0x02 ∷ 6 ∷ 0x95 ∷ 5 ∷ []) ≡ some (entry 0x9F02 6 ∷ entry 0x95 5 ∷ [])
-unfolding entries entriesBy along entryAt withLength withEntry tagAt tagSize secondByte thirdByte numberFrom if
+pub two-entries : listEntries (0x9F ∷ 0x02 ∷ 6 ∷ 0x95 ∷ 5 ∷ []) ≡ some (entry 0x9F02 6 ∷ entry 0x95 5 ∷ [])
+unfolding listEntries listEntriesBy along entryAt withLength withEntry tagAt tagSize secondByte thirdByte numberFrom if
 two-entries = refl
 
 -- a tag of three bytes
-pub three-bytes : entries (0xDF ∷ 0x81 ∷ 0x23 ∷ 3 ∷ []) ≡ some (entry 0xDF8123 3 ∷ [])
-unfolding entries entriesBy along entryAt withLength withEntry tagAt tagSize secondByte thirdByte numberFrom if
+pub three-bytes : listEntries (0xDF ∷ 0x81 ∷ 0x23 ∷ 3 ∷ []) ≡ some (entry 0xDF8123 3 ∷ [])
+unfolding listEntries listEntriesBy along entryAt withLength withEntry tagAt tagSize secondByte thirdByte numberFrom if
 three-bytes = refl
 
 -- one length byte, and no long form
-pub plain-length : entries (0x95 ∷ 0x81 ∷ []) ≡ some (entry 0x95 129 ∷ [])
-unfolding entries entriesBy along entryAt withLength withEntry tagAt tagSize secondByte thirdByte numberFrom if
+pub plain-length : listEntries (0x95 ∷ 0x81 ∷ []) ≡ some (entry 0x95 129 ∷ [])
+unfolding listEntries listEntriesBy along entryAt withLength withEntry tagAt tagSize secondByte thirdByte numberFrom if
 plain-length = refl
 
 -- broken: a first byte 00, a second byte 80, an end inside a tag, an end before the length
-pub first-00 : entries (0 ∷ 0 ∷ []) ≡ none
-unfolding entries entriesBy along entryAt withLength withEntry tagAt tagSize secondByte thirdByte numberFrom if
+pub first-00 : listEntries (0 ∷ 0 ∷ []) ≡ none
+unfolding listEntries listEntriesBy along entryAt withLength withEntry tagAt tagSize secondByte thirdByte numberFrom if
 first-00 = refl
 
-pub second-80 : entries (0x9F ∷ 0x80 ∷ 2 ∷ []) ≡ none
-unfolding entries entriesBy along entryAt withLength withEntry tagAt tagSize secondByte thirdByte numberFrom if
+pub second-80 : listEntries (0x9F ∷ 0x80 ∷ 2 ∷ []) ≡ none
+unfolding listEntries listEntriesBy along entryAt withLength withEntry tagAt tagSize secondByte thirdByte numberFrom if
 second-80 = refl
 
-pub half-a-tag : entries (0x95 ∷ 5 ∷ 0x9F ∷ []) ≡ none
-unfolding entries entriesBy along entryAt withLength withEntry tagAt tagSize secondByte thirdByte numberFrom if
+pub half-a-tag : listEntries (0x95 ∷ 5 ∷ 0x9F ∷ []) ≡ none
+unfolding listEntries listEntriesBy along entryAt withLength withEntry tagAt tagSize secondByte thirdByte numberFrom if
 half-a-tag = refl
 
-pub no-length : entries (0x9F ∷ 0x02 ∷ []) ≡ none
-unfolding entries entriesBy along entryAt withLength withEntry tagAt tagSize secondByte thirdByte numberFrom if
+pub no-length : listEntries (0x9F ∷ 0x02 ∷ []) ≡ none
+unfolding listEntries listEntriesBy along entryAt withLength withEntry tagAt tagSize secondByte thirdByte numberFrom if
 no-length = refl
 
 -- ---- values

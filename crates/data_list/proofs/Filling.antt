@@ -14,7 +14,7 @@ use Rattle.dictionary.specs.declared.Found.{Found}
 use Rattle.dictionary.specs.declared.Found.the-variants.{At, Unknown}
 use Rattle.store.specs.Place.{Value, absent, present, bytesOf, isThere, valueAt}
 use Rattle.data_list.specs.declared.Entry.{Entry}
-use Rattle.data_list.specs.Entries.{entries, total}
+use Rattle.data_list.specs.Entries.{listEntries, askedTotal}
 use Rattle.data_list.specs.Filling.{zeros, fitted, valueBytes, foundBytes, entryBytes, fillingOf, filledBy, filled}
 use Rattle.data_list.proofs.Fitting.{fitted-length}
 use Rattle.data_list.proofs.Entries.{entries-end, entries-join}
@@ -70,8 +70,8 @@ module _ (table : List Row) (store : List ℕ) where
       (λ _. length-replicate (e .asked) 0) (λ _. found-length (e .asked) (find table (e .tag)))
 
   -- a filling has as many bytes as are asked in all
-  pub filling-length : (es : List Entry) → length (fillingOf table store es) ≡ total es
-  unfolding fillingOf total
+  pub filling-length : (es : List Entry) → length (fillingOf table store es) ≡ askedTotal es
+  unfolding fillingOf askedTotal
   filling-length [] = refl
   filling-length (e ∷ es) = length-append (entryBytes table store e) _ ∙ ap₂ _+_ (entry-length e) (filling-length es)
 
@@ -96,8 +96,8 @@ module _ (table : List Row) (store : List ℕ) where
   -- the filling of two whole lists, one behind the other, is the one filling behind the other
   pub filled-join : (s t v w : List ℕ) → filled table store s ≡ some v → filled table store t ≡ some w → filled table store (s ++ t) ≡ some (v ++ w)
   filled-join s t v w p q =
-      let a = filled-entries (entries s) v p in
-      let b = filled-entries (entries t) w q in
+      let a = filled-entries (listEntries s) v p in
+      let b = filled-entries (listEntries t) w q in
       filled-some _ _ (entries-join s t (a .0) (b .0) (a .1) (b .1)) ∙ ap some (filling-join (a .0) (b .0) ∙ ap₂ _++_ (a .2) (b .2))
 
   -- nothing is asked, nothing is filled

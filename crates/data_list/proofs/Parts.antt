@@ -21,9 +21,9 @@ use Rattle.store.proofs.Laws.{by-row}
 use Rattle.data_list.specs.declared.Entry.{Entry}
 use Rattle.data_list.specs.declared.Written.{Written}
 use Rattle.data_list.specs.declared.Measured.the-variants.{Total, Unfit}
-use Rattle.data_list.specs.Entries.{total, measured, Room}
+use Rattle.data_list.specs.Entries.{askedTotal, measured, Room}
 use Rattle.data_list.specs.Filling.{fillingOf, filledBy, filled}
-use Rattle.data_list.specs.Commands.{command, optionsHead, optionsData, optionsOf, processingOptions, cryptogramOf, generateAc, handed, written, writtenNumber, listReason, bufferWith}
+use Rattle.data_list.specs.Commands.{command, optionsHead, optionsData, optionsOf, processingOptions, cryptogramOf, generateAc, handed, writtenOf, writtenNumber, listReason, bufferWith}
 use Rattle.data_list.specs.Buffer.{over}
 use Rattle.data_list.proofs.Buffer.{over-there, over-cover}
 use Rattle.data_list.proofs.Entries.{whole}
@@ -60,9 +60,9 @@ module _ (table : List Row) (store : List ℕ) (x : Option (List Entry)) where
     where
       go : (x : Option (List Entry)) → measured x ≡ Unfit → f (filledBy table store x) ≡ none
       go none q = broken
-      go (some es) q = elim (bool-cases (leb (total es) 255)) [
-        | inl t ↦ let i : Total (total es) ≡ Unfit = sym (if-yes _ _ t) ∙ q in let z : _≡_ {A = ℕ} 0 1 = cc in absurd (omega arith)
-        | inr t ↦ long (fillingOf table store es) (omega (arith, leb-false (total es) 255 t, filling-length table store es))
+      go (some es) q = elim (bool-cases (leb (askedTotal es) 255)) [
+        | inl t ↦ let i : Total (askedTotal es) ≡ Unfit = sym (if-yes _ _ t) ∙ q in let z : _≡_ {A = ℕ} 0 1 = cc in absurd (omega arith)
+        | inr t ↦ long (fillingOf table store es) (omega (arith, leb-false (askedTotal es) 255 t, filling-length table store es))
       ]
 
 -- ---- which lists a command takes
@@ -145,7 +145,7 @@ module _ (ins p1 : ℕ) (b : List ℕ) (end : ℕ) (h : 5 ≤ end) (k : end < le
 
 -- the data w from place 5 on, and then closed: the command stands at the front, and all behind it stays
 module _ (ins p1 : ℕ) (b w : List ℕ) (end : ℕ) (h : 5 + length w < length b) (e : end ≡ 5 + length w) where
-  pub command-length : handed (end + 1) ≡ written (some (command ins p1 w))
+  pub command-length : handed (end + 1) ≡ writtenOf (some (command ins p1 w))
   command-length = let l : end + 1 ≡ length (command ins p1 w) = simp length-append (omega arith) in ap handed l
 
   pub command-front : (y z : List ℕ) → y ≡ over b 5 w → z ≡ over y 0 (command ins p1 (take (end - 5) (drop 5 y))) → z ≡ bufferWith (some (command ins p1 w)) b
@@ -159,19 +159,19 @@ module _ (ins p1 : ℕ) (b w : List ℕ) (end : ℕ) (h : 5 + length w < length 
       q ∙ rw (d, p) (over-cover b 5 w f (command ins p1 w) k ∙ ap (λ (n : ℕ). command ins p1 w ++ drop n b) m)
 
 -- the number of what is handed back is the reason that the list gives
-pub written-number : (x : Option (List ℕ)) → writtenNumber (written x) ≡ listReason x
+pub written-number : (x : Option (List ℕ)) → writtenNumber (writtenOf x) ≡ listReason x
 written-number none = refl
 written-number (some c) = refl
 
 -- what a call states of its result, of the whole buffer and of the reason, where there is no command, and where there is one
 pub none-written : (x : Option (List ℕ)) (b : List ℕ) → x ≡ none
-    → (written none ≡ written x) × ((b ≡ bufferWith x b) × (writtenNumber (written none) ≡ listReason x))
+    → (writtenOf none ≡ writtenOf x) × ((b ≡ bufferWith x b) × (writtenNumber (writtenOf none) ≡ listReason x))
 none-written x b e =
-    let s = ap written (sym e) in
+    let s = ap writtenOf (sym e) in
     (s, (ap (λ (y : Option (List ℕ)). bufferWith y b) (sym e), ap writtenNumber s ∙ written-number x))
 
-pub some-written : (x : Option (List ℕ)) (c b z : List ℕ) (r : Written) → x ≡ some c → r ≡ written (some c) → z ≡ bufferWith (some c) b
-    → (r ≡ written x) × ((z ≡ bufferWith x b) × (writtenNumber r ≡ listReason x))
+pub some-written : (x : Option (List ℕ)) (c b z : List ℕ) (r : Written) → x ≡ some c → r ≡ writtenOf (some c) → z ≡ bufferWith (some c) b
+    → (r ≡ writtenOf x) × ((z ≡ bufferWith x b) × (writtenNumber r ≡ listReason x))
 some-written x c b z r e p q =
-    let s = p ∙ ap written (sym e) in
+    let s = p ∙ ap writtenOf (sym e) in
     (s, (q ∙ ap (λ (y : Option (List ℕ)). bufferWith y b) (sym e), ap writtenNumber s ∙ written-number x))

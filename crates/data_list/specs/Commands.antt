@@ -4,8 +4,9 @@ use mathlib.Core.List.{List, [], _∷_, _++_}
 use mathlib.Core.Option.{Option, some, none}
 use Prim.Native.Nat.{ℕ}
 use lib.Dec.{leb}
-use lib.ListN.{length, drop}
+use lib.ListN.{length}
 use Rattle.basics.specs.Choice.{if, both}
+use Rattle.basics.specs.Front.{inFront}
 use Rattle.basics.specs.Reason.{reasonNone, reasonDataList}
 use Rattle.tlv.specs.Encoding.{lengthBytes}
 use Rattle.dictionary.specs.Rows.{rows}
@@ -55,9 +56,9 @@ abbrev pub handed : ℕ → Written
 handed n = Command (record { len = n })
 
 -- a command hands back its length
-abbrev pub written : Option (List ℕ) → Written
-written none = NoCommand
-written (some c) = handed (length c)
+abbrev pub writtenOf : Option (List ℕ) → Written
+writtenOf none = NoCommand
+writtenOf (some c) = handed (length c)
 
 -- the number of what is handed back (document 01, "Calls and their numbers"): 0 with a command, else 7, a list that is broken or fills to no command
 abbrev pub writtenNumber : Written → ℕ
@@ -72,7 +73,7 @@ listReason (some c) = reasonNone
 -- a command fills the front of the buffer; bytes behind it, and the whole buffer where there is no command, stay
 abbrev pub bufferWith : Option (List ℕ) → List ℕ → List ℕ
 bufferWith none b = b
-bufferWith (some c) b = c ++ drop (length c) b
+bufferWith (some c) b = inFront c b
 
 -- ---- what holds of it, proved in proofs/Commands for all stores
 --   options-proper, cryptogram-proper    a command has 5 to 261 bytes and begins with 80 A8, or 80 AE

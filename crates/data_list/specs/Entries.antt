@@ -49,31 +49,31 @@ along k [] = some []
 along k (b ∷ s) = oneEntry k (b ∷ s) (entryAt (b ∷ s))
 
 -- the entries by at most so many steps along the list
-unfoldable pub entriesBy : ℕ → List ℕ → Option (List Entry)
-entriesBy zero s = none
-entriesBy (suc n) s = along (entriesBy n) s
+unfoldable pub listEntriesBy : ℕ → List ℕ → Option (List Entry)
+listEntriesBy zero s = none
+listEntriesBy (suc n) s = along (listEntriesBy n) s
 
 -- the entries of a list, or none where it is broken: a bad tag, or an end inside an entry. Each entry takes some bytes, so the
 -- list's length is steps enough.
-unfoldable pub entries : List ℕ → Option (List Entry)
-entries s = entriesBy (suc (length s)) s
+unfoldable pub listEntries : List ℕ → Option (List Entry)
+listEntries s = listEntriesBy (suc (length s)) s
 
 -- ---- measuring
 
 -- how many bytes are asked in all
-unfoldable pub total : List Entry → ℕ
-total [] = 0
-total (e ∷ es) = e .asked + total es
+unfoldable pub askedTotal : List Entry → ℕ
+askedTotal [] = 0
+askedTotal (e ∷ es) = e .asked + askedTotal es
 
 -- a list's total, where the list is whole and the total at most 255, which is all that a command can carry
 unfoldable pub measured : Option (List Entry) → Measured
 measured none = Unfit
-measured (some es) = if (leb (total es) 255) (Total (total es)) Unfit
+measured (some es) = if (leb (askedTotal es) 255) (Total (askedTotal es)) Unfit
 
 -- a list that is whole, and whose filling from place `at` on ends inside n bytes
 abbrev pub Room : Option (List Entry) → ℕ → ℕ → Type 0
 Room none at n = ⊥
-Room (some es) at n = at + total es ≤ n
+Room (some es) at n = at + askedTotal es ≤ n
 
 -- ---- what holds of it, proved in proofs/Entries for all lists
 --   entry-inside     an entry takes two bytes at least, all inside its list

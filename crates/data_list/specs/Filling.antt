@@ -13,7 +13,7 @@ use Rattle.dictionary.specs.declared.Found.{Found}
 use Rattle.dictionary.specs.declared.Found.the-variants.{At, Unknown}
 use Rattle.store.specs.Place.{Value, absent, present, valueAt}
 use Rattle.data_list.specs.declared.Entry.{Entry}
-use Rattle.data_list.specs.Entries.{entries}
+use Rattle.data_list.specs.Entries.{listEntries}
 
 abbrev pub zeros : ℕ → List ℕ
 zeros n = replicate n 0
@@ -59,7 +59,7 @@ filledBy table store (some es) = some (fillingOf table store es)
 
 -- a list filled from a store, or none where the list is broken
 abbrev pub filled : List Row → List ℕ → List ℕ → Option (List ℕ)
-filled table store list = filledBy table store (entries list)
+filled table store list = filledBy table store (listEntries list)
 
 -- ---- what holds of it, proved in proofs/ (Fitting, Filling, Bytes) for all values, lengths, forms, tables, stores and lists
 --   fitted-length    a fitted value has the length that was asked

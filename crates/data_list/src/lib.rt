@@ -9,9 +9,9 @@ ghost use mathlib.Core.Path.{_≡_};
 ghost use Prim.Native.Nat.{_+_, _-_, _≤_, _<_};
 ghost use lib.ListN.{length, take, drop, replicate};
 ghost use Rattle.dictionary.specs.Rows.{rows};
-ghost use Rattle.data_list.specs.Entries.{entryAt, entries, measured, Room};
+ghost use Rattle.data_list.specs.Entries.{entryAt, listEntries, measured, Room};
 ghost use Rattle.data_list.specs.Filling.{cut, padding, padded, fitted, entryBytes, filled};
-ghost use Rattle.data_list.specs.Commands.{command, optionsHead, processingOptions, generateAc, handed, written, writtenNumber, listReason, bufferWith};
+ghost use Rattle.data_list.specs.Commands.{command, optionsHead, processingOptions, generateAc, handed, writtenOf, writtenNumber, listReason, bufferWith};
 ghost use Rattle.data_list.specs.Buffer.{over, overFilled};
 
 // A command at the front of the buffer: how many bytes it has.
@@ -46,7 +46,7 @@ pub enum Measured {
 // The command processing options, with the filled list 9F38 that the store holds.
 pub fn processing_options(store: &[u8], buffer: &mut [u8]) -> Written
     requires { ⌜ 261 ≤ length (now buffer) ⌝ }
-    ensures said { λ r. ⌜ r ≡ written (processingOptions (now (store .entry))) ⌝ }
+    ensures said { λ r. ⌜ r ≡ writtenOf (processingOptions (now (store .entry))) ⌝ }
     ensures kept { λ _. ⌜ now (buffer .exit) ≡ bufferWith (processingOptions (now (store .entry))) (now (buffer .entry)) ⌝ }
     ensures reason { λ r. ⌜ writtenNumber r ≡ listReason (processingOptions (now (store .entry))) ⌝ }
 {
@@ -66,7 +66,7 @@ pub fn processing_options(store: &[u8], buffer: &mut [u8]) -> Written
 // The command generate AC, with the filled list 8C that the store holds; P1 says which cryptogram.
 pub fn generate_ac(store: &[u8], p1: u8, buffer: &mut [u8]) -> Written
     requires { ⌜ 261 ≤ length (now buffer) ⌝ }
-    ensures said { λ r. ⌜ r ≡ written (generateAc p1 (now (store .entry))) ⌝ }
+    ensures said { λ r. ⌜ r ≡ writtenOf (generateAc p1 (now (store .entry))) ⌝ }
     ensures kept { λ _. ⌜ now (buffer .exit) ≡ bufferWith (generateAc p1 (now (store .entry))) (now (buffer .entry)) ⌝ }
     ensures reason { λ r. ⌜ writtenNumber r ≡ listReason (generateAc p1 (now (store .entry))) ⌝ }
 {
@@ -115,7 +115,7 @@ fn close(ins: u8, p1: u8, buffer: &mut [u8], end: usize) -> Written
 
 // How many bytes a list asks for.
 fn measure(list: &[u8]) -> Measured
-    ensures { λ r. ⌜ r ≡ measured (entries (now (list .entry))) ⌝ }
+    ensures { λ r. ⌜ r ≡ measured (listEntries (now (list .entry))) ⌝ }
 {
     let mut rest = list;
     let mut total = 0;
@@ -135,7 +135,7 @@ fn measure(list: &[u8]) -> Measured
 
 // Writes the filling of a whole list from a place on.
 fn fill(list: &[u8], store: &[u8], buffer: &mut [u8], at: usize)
-    requires { ⌜ Room (entries (now list)) at (length (now buffer)) ⌝ }
+    requires { ⌜ Room (listEntries (now list)) at (length (now buffer)) ⌝ }
     ensures { λ _. ⌜ now (buffer .exit) ≡ overFilled (now (buffer .entry)) at (filled rows (now (store .entry)) (now (list .entry))) ⌝ }
 {
     let mut rest = list;

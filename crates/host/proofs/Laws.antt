@@ -26,7 +26,7 @@ use Rattle.session.proofs.Calls.{Came, answer-came, start-came, link-came, stop
 use Rattle.session.proofs.Sizes.{Small, SmallStep, answer-small, start-small, link-small, stop-small}
 use Rattle.layout.specs.declared.Head.{Head}
 use Rattle.layout.specs.declared.Held.{Held}
-use Rattle.layout.specs.Layout.{headSize, recordSize, written, headed, decoded, heldOf}
+use Rattle.layout.specs.Layout.{headSize, recordSize, withRecord, withHead, decoded, heldOf}
 use Rattle.layout.specs.Word.{outcomes, refusals, refusalWord, outcomeWord, wordOf}
 use Rattle.layout.proofs.Lists.{put-head}
 use Rattle.layout.proofs.Laws.{held-store, written-back, command-length, command-below, outcome-below}
@@ -81,7 +81,7 @@ module _ (step : Session → List ℕ → Step) (l buf : List ℕ) where
 
     -- and it is the step on their session: the store that it left in its place, and its head before that
     pub over-step : (w : ℕ) (l′ b′ c : List ℕ) (t : Turn) → Did (replyOf t c) b′ (step (sessionOf (h .phase) (h .count) (take storeSize (drop headSize l))) buf) → length c ≡ length (take storeSize (drop headSize l))
-        → (w ≡ wordOf (t .answer)) × (l′ ≡ headed (t .phase) (t .count) (putMid headSize storeSize l c)) → DidOver w l′ b′ (hosted step l buf)
+        → (w ≡ wordOf (t .answer)) × (l′ ≡ withHead (t .phase) (t .count) (putMid headSize storeSize l c)) → DidOver w l′ b′ (hosted step l buf)
     unfolding hosted
     over-step w l′ b′ c t did m k =
         let r = over-record in
@@ -89,17 +89,17 @@ module _ (step : Session → List ℕ → Step) (l buf : List ℕ) where
         subst⁻¹ (DidOver w l′ b′) (taken-by (ltb (length buf) leastBuffer) (decoded l) h refl (sym f ∙ g) .1)
         (record {
           word = k .0 ∙ ap (λ (x : Reply). wordOf (x .answer)) (did .reply);
-          session = k .1 ∙ put-head l c (t .phase) (t .count) over-record z ∙ ap (λ (x : Reply). written (x .session) l) (did .reply);
+          session = k .1 ∙ put-head l c (t .phase) (t .count) over-record z ∙ ap (λ (x : Reply). withRecord (x .session) l) (did .reply);
           buffer = did .buffer;
         })
 
     -- the same of a call that only looks at the store
     pub over-kept : (w : ℕ) (l′ b′ : List ℕ) (t : Turn)
         → Did (replyOf t (take storeSize (drop headSize l))) b′ (step (sessionOf (h .phase) (h .count) (take storeSize (drop headSize l))) buf)
-        → (w ≡ wordOf (t .answer)) × (l′ ≡ headed (t .phase) (t .count) l) → DidOver w l′ b′ (hosted step l buf)
+        → (w ≡ wordOf (t .answer)) × (l′ ≡ withHead (t .phase) (t .count) l) → DidOver w l′ b′ (hosted step l buf)
     over-kept w l′ b′ t did k =
         over-step w l′ b′ (take storeSize (drop headSize l)) t did refl
-        (k .0, k .1 ∙ ap (headed (t .phase) (t .count)) (sym (put-same headSize storeSize l)))
+        (k .0, k .1 ∙ ap (withHead (t .phase) (t .count)) (sym (put-same headSize storeSize l)))
 
 -- ---- words
 

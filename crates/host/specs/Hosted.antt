@@ -11,7 +11,7 @@ use Rattle.record.specs.declared.Session.{Session}
 use Rattle.basics.specs.Reason.{refusedBuffer, refusedRanges}
 use Rattle.record.specs.Session.{freshSession}
 use Rattle.session.specs.Steps.{Step, leastBuffer}
-use Rattle.layout.specs.Layout.{recordSize, written, decoded}
+use Rattle.layout.specs.Layout.{recordSize, withRecord, decoded}
 use Rattle.layout.specs.Word.{refusalWord, wordOf}
 use Rattle.host.specs.declared.Admission.{Admission}
 
@@ -35,7 +35,7 @@ refuses n l buf = record { word = refusalWord n; session = l; buffer = buf }
 
 -- a step: its answer's word, its session in front of the lent bytes, its buffer
 abbrev pub carries : List ℕ → Step → Hosted
-carries l st = record { word = wordOf (st .reply .answer); session = written (st .reply .session) l; buffer = st .buffer }
+carries l st = record { word = wordOf (st .reply .answer); session = withRecord (st .reply .session) l; buffer = st .buffer }
 
 -- ---- the four calls, by the step that each takes on a session and a buffer
 
@@ -64,7 +64,7 @@ openWord l = if (leb recordSize (length l)) 0 (refusalWord refusedRanges)
 
 pub record Opened (w : ℕ) (before after : List ℕ) : Type 0 where
   pub word : w ≡ openWord before
-  pub session : after ≡ written freshSession before
+  pub session : after ≡ withRecord freshSession before
 
 -- the count of commands handed out; all 32 bits set where the bytes hold no record
 abbrev pub countWord : Option Session → ℕ

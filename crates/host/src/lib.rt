@@ -8,7 +8,7 @@ use record::{Phase, Turn};
 use session::LEAST_BUFFER;
 ghost use mathlib.Core.Path.{_≡_};
 ghost use Rattle.record.specs.declared.Session.{Session};
-ghost use Rattle.layout.specs.Layout.{recordSize, decoded, headed};
+ghost use Rattle.layout.specs.Layout.{recordSize, decoded, withHead};
 ghost use Rattle.layout.specs.Word.{wordOf};
 ghost use Rattle.session.specs.Steps.{linkStep, stopStep};
 ghost use Rattle.session.specs.Start.{startStep};
@@ -137,7 +137,7 @@ fn admit(session: &[u8], size: usize) -> Admission
 // Writes the head of a turn in front of the lent bytes, whose store the call left in its place, and gives the
 // word of its answer.
 fn finish(turn: Turn, session: &mut [u8]) -> u32
-    ensures { λ r. ⌜ (r ≡ wordOf (turn .answer)) × (now (session .exit) ≡ headed (turn .phase) (turn .count) (now (session .entry))) ⌝ }
+    ensures { λ r. ⌜ (r ≡ wordOf (turn .answer)) × (now (session .exit) ≡ withHead (turn .phase) (turn .count) (now (session .entry))) ⌝ }
 {
     let phase = turn.phase;
     layout::put_head(phase, turn.count, session);

@@ -25,7 +25,7 @@ use Rattle.record.specs.Session.{stored, sessionOf}
 use Rattle.layout.specs.declared.Code.{Code}
 use Rattle.layout.specs.declared.Head.{Head}
 use Rattle.layout.specs.declared.Held.{Held}
-use Rattle.layout.specs.Layout.{version, headSize, recordSize, choiceFrom, outcomeFrom, codeOf, phaseOf, sameCode, encoded, written, codeIn, sessionIn, holdsRecord, decoded, heldOf, storeOf}
+use Rattle.layout.specs.Layout.{version, headSize, recordSize, choiceFrom, outcomeFrom, codeOf, phaseOf, sameCode, encoded, withRecord, codeIn, sessionIn, holdsRecord, decoded, heldOf, storeOf}
 use Rattle.layout.specs.Word.{outcomes, refusals, commandWord, outcomeWord}
 
 -- ---- codes
@@ -166,13 +166,13 @@ encode-decode l s e = elim (bool-cases (holdsRecord l)) [
 ]
 
 -- so writing it back changes nothing
-pub written-back : (l : List ℕ) (s : Session) → decoded l ≡ some s → written s l ≡ l
-unfolding written
+pub written-back : (l : List ℕ) (s : Session) → decoded l ≡ some s → withRecord s l ≡ l
+unfolding withRecord
 written-back l s e = if-ind (λ (x : List ℕ). x ≡ l) _ _ _ (λ t. encode-decode l s e) (λ t. refl)
 
 -- the lent bytes keep their number, and those behind the record stay
-pub written-length : (l : List ℕ) (s : Session) → length (stored s) ≡ storeSize → length (written s l) ≡ length l
-unfolding written encoded
+pub written-length : (l : List ℕ) (s : Session) → length (stored s) ≡ storeSize → length (withRecord s l) ≡ length l
+unfolding withRecord encoded
 written-length l s z =
     if-ind (λ (x : List ℕ). length x ≡ length l) _ _ _
     (λ t. let h = leb-true recordSize (length l) t in simp (length-append, length-drop) (omega arith)) (λ t. refl)

@@ -12,7 +12,7 @@ use Rattle.basics.proofs.Laws.{if-yes, if-no, if-ind}
 use Rattle.dictionary.specs.Rows.{storeSize}
 use Rattle.record.specs.declared.Phase.{Phase}
 use Rattle.record.specs.Session.{sessionOf}
-use Rattle.layout.specs.Layout.{headSize, recordSize, headOf, encoded, written, headed}
+use Rattle.layout.specs.Layout.{headSize, recordSize, headOf, encoded, withRecord, withHead}
 
 -- five bytes set one by one in front of a list that has them
 pub set-head : (l : List ℕ) (v n d r k : ℕ) → headSize ≤ length l → set (set (set (set (set l 0 v) 1 n) 2 d) 3 r) 4 k ≡ (v ∷ n ∷ d ∷ r ∷ k ∷ []) ++ drop headSize l
@@ -24,30 +24,30 @@ set-head (_ ∷ _ ∷ _ ∷ _ ∷ []) v n d r k h = absurd (omega arith)
 set-head (_ ∷ _ ∷ _ ∷ _ ∷ _ ∷ l) v n d r k h = refl
 
 module _ (l : List ℕ) (p : Phase) (n : ℕ) where
-  pub headed-yes : recordSize ≤ length l → headed p n l ≡ headOf p n ++ drop headSize l
-  unfolding headed
+  pub headed-yes : recordSize ≤ length l → withHead p n l ≡ headOf p n ++ drop headSize l
+  unfolding withHead
   headed-yes h = if-yes _ _ (le-leb recordSize (length l) h)
 
-  pub headed-no : length l < recordSize → headed p n l ≡ l
-  unfolding headed
+  pub headed-no : length l < recordSize → withHead p n l ≡ l
+  unfolding withHead
   headed-no h = if-no _ _ (lt-leb recordSize (length l) h)
 
-  pub headed-length : length (headed p n l) ≡ length l
-  unfolding headed
+  pub headed-length : length (withHead p n l) ≡ length l
+  unfolding withHead
   headed-length =
       if-ind (λ (x : List ℕ). length x ≡ length l) _ _ _
       (λ t. let h = leb-true recordSize (length l) t in simp (length-append, length-drop) (omega arith)) (λ t. refl)
 
 -- a head and then the store behind it, or the store and then the head before it: the record of a session, and what lay behind it
 module _ (l b : List ℕ) (p : Phase) (n : ℕ) (h : recordSize ≤ length l) (e : length b ≡ storeSize) where
-  record-is : headOf p n ++ (b ++ drop storeSize (drop headSize l)) ≡ written (sessionOf p n b) l
-  unfolding written encoded
+  record-is : headOf p n ++ (b ++ drop storeSize (drop headSize l)) ≡ withRecord (sessionOf p n b) l
+  unfolding withRecord encoded
   record-is = ap (λ (x : List ℕ). headOf p n ++ (b ++ x)) (drop-drop storeSize headSize l) ∙ sym (if-yes _ _ (le-leb recordSize (length l) h))
 
-  pub put-store : putMid headSize storeSize (headed p n l) b ≡ written (sessionOf p n b) l
+  pub put-store : putMid headSize storeSize (withHead p n l) b ≡ withRecord (sessionOf p n b) l
   put-store = ap (λ (x : List ℕ). putMid headSize storeSize x b) (headed-yes l p n h) ∙ record-is
 
-  pub put-head : headed p n (putMid headSize storeSize l b) ≡ written (sessionOf p n b) l
+  pub put-head : withHead p n (putMid headSize storeSize l b) ≡ withRecord (sessionOf p n b) l
   put-head =
       let size : length b ≡ length (take storeSize (drop headSize l)) = simp (length-take, length-drop) (omega arith) in
       let enough : recordSize ≤ length (putMid headSize storeSize l b) = rw (same-len-mid headSize storeSize l b size) h in

@@ -9,6 +9,7 @@ use Prim.Native.Nat.{ℕ, _+_}
 use lib.Dec.{eqb, leb}
 use lib.ListN.{length, getD, take, drop}
 use Rattle.basics.specs.Choice.{if, both}
+use Rattle.basics.specs.Front.{inFront}
 use Rattle.dictionary.specs.Rows.{storeSize}
 use Rattle.analysis.specs.declared.choice.Choice.{Choice}
 use Rattle.analysis.specs.Choice.{p1Of}
@@ -92,12 +93,12 @@ unfoldable pub encoded : Session → List ℕ
 encoded s = headOf (s .phase) (s .count) ++ stored s
 
 -- the bytes l with a record in front: those behind it stay, and so do all where they are too few
-unfoldable pub written : Session → List ℕ → List ℕ
-written s l = if (leb recordSize (length l)) (encoded s ++ drop recordSize l) l
+unfoldable pub withRecord : Session → List ℕ → List ℕ
+withRecord s l = if (leb recordSize (length l)) (encoded s ++ drop recordSize l) l
 
 -- the bytes l with a head in front: those behind it stay, and so do all where they are too few for a record
-unfoldable pub headed : Phase → ℕ → List ℕ → List ℕ
-headed p n l = if (leb recordSize (length l)) (headOf p n ++ drop headSize l) l
+unfoldable pub withHead : Phase → ℕ → List ℕ → List ℕ
+withHead p n l = if (leb recordSize (length l)) (inFront (headOf p n) l) l
 
 -- the code in a head, and the session in a phase with the count and the store that the bytes have
 abbrev pub codeIn : List ℕ → Code
@@ -123,7 +124,7 @@ decoded l = if (holdsRecord l) (some (sessionIn (phaseOf (codeIn l)) l)) none
 -- writing says whether the bytes were enough
 pub record Wrote (s : Session) (before : List ℕ) (r : Bool) (after : List ℕ) : Type 0 where
   pub enough : r ≡ leb recordSize (length before)
-  pub bytes : after ≡ written s before
+  pub bytes : after ≡ withRecord s before
 
 -- what is said of the bytes: the session's phase and count, or that there is no record
 abbrev pub heldOf : Option Session → Held

@@ -13,7 +13,7 @@ ghost use Prim.Native.Nat.{_≤_};
 ghost use lib.ListN.{length};
 ghost use Rattle.dictionary.specs.Rows.{storeSize};
 ghost use Rattle.record.specs.Session.{sessionOf};
-ghost use Rattle.layout.specs.Layout.{recordSize, choiceFrom, outcomeFrom, codeOf, phaseOf, codeIn, sameCode, headed, decoded, heldOf, Wrote, Decodes};
+ghost use Rattle.layout.specs.Layout.{recordSize, choiceFrom, outcomeFrom, codeOf, phaseOf, codeIn, sameCode, withHead, decoded, heldOf, Wrote, Decodes};
 ghost use Rattle.layout.specs.Word.{commandWord, outcomeWord, refusalWord, wordOf};
 
 // The layout's version, the first byte of every record.
@@ -80,7 +80,7 @@ pub fn encode(phase: Phase, count: u8, store: &[u8; SIZE], bytes: &mut [u8]) -> 
 
 // Writes the head of a record in front of the bytes, whose store stays; too few bytes stay as they are.
 pub fn put_head(phase: Phase, count: u8, bytes: &mut [u8])
-    ensures { λ _. ⌜ now (bytes .exit) ≡ headed phase count (now (bytes .entry)) ⌝ }
+    ensures { λ _. ⌜ now (bytes .exit) ≡ withHead phase count (now (bytes .entry)) ⌝ }
 {
     if bytes.len() < RECORD_SIZE {
         return;

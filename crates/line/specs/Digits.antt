@@ -5,8 +5,9 @@ use mathlib.Core.Path.{_≡_}
 use mathlib.Core.List.{List, [], _∷_, _++_}
 use Prim.Native.Nat.{ℕ, _+_, _*_, _-_}
 use lib.Dec.{ltb, leb}
-use lib.ListN.{length, take, drop}
+use lib.ListN.{length, take}
 use Rattle.basics.specs.Choice.{if, both, every}
+use Rattle.basics.specs.Front.{inFront}
 use Rattle.basics.specs.Number.{between}
 use Rattle.line.specs.declared.Decoded.{Decoded}
 use Rattle.line.specs.declared.Line.{Line}
@@ -72,7 +73,7 @@ decoded r = record { size = length (r .bytes); problem = r .problem }
 
 -- a spelling's bytes in the front of lent bytes; those behind stay
 abbrev pub placed : Spelling → List ℕ → List ℕ
-placed r out = r .bytes ++ drop (length (r .bytes)) out
+placed r out = inFront (r .bytes) out
 
 -- the report d and the lent bytes at exit are those of a spelling
 pub record Decodes (d : Decoded) (exit : List ℕ) (r : Spelling) (out : List ℕ) : Type 0 where

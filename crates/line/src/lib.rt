@@ -139,7 +139,7 @@ fn is_blank(c: u8) -> bool
 }
 
 // How many characters at the front are of a kind.
-fn run(s: &[u8], kind: Kind) -> usize
+fn front_length(s: &[u8], kind: Kind) -> usize
     ensures { λ r. ⌜ (r ≡ length (front (of kind) (now (s .entry)))) × (r ≤ length (now (s .entry))) ⌝ }
 {
     let mut i = 0;
@@ -156,7 +156,7 @@ fn run(s: &[u8], kind: Kind) -> usize
 fn uncommented(s: &[u8]) -> &[u8]
     ensures { λ r. ⌜ now r ≡ uncommentedOf (now (s .entry)) ⌝ }
 {
-    let n = run(s, Kind::NotHash);
+    let n = front_length(s, Kind::NotHash);
     &s[..n]
 }
 
@@ -164,7 +164,7 @@ fn uncommented(s: &[u8]) -> &[u8]
 fn past_blanks(s: &[u8]) -> &[u8]
     ensures { λ r. ⌜ now r ≡ past (of Kind.Blank) (now (s .entry)) ⌝ }
 {
-    let n = run(s, Kind::Blank);
+    let n = front_length(s, Kind::Blank);
     &s[n..]
 }
 
@@ -173,7 +173,7 @@ fn first_word(s: &[u8]) -> &[u8]
     ensures { λ r. ⌜ now r ≡ wordOf (now (s .entry)) ⌝ }
 {
     let t = past_blanks(s);
-    let n = run(t, Kind::NotBlank);
+    let n = front_length(t, Kind::NotBlank);
     &t[..n]
 }
 
@@ -182,7 +182,7 @@ fn behind_word(s: &[u8]) -> &[u8]
     ensures { λ r. ⌜ now r ≡ behind (now (s .entry)) ⌝ }
 {
     let t = past_blanks(s);
-    let n = run(t, Kind::NotBlank);
+    let n = front_length(t, Kind::NotBlank);
     &t[n..]
 }
 

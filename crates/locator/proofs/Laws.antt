@@ -18,17 +18,18 @@ use Rattle.locator.specs.declared.Checked.the-variants.{Accepted, Reject
 use Rattle.locator.specs.declared.Extent.{Extent}
 use Rattle.locator.specs.declared.Entry.{Entry}
 use Rattle.locator.specs.declared.Found.the-variants.{At, Nothing}
-use Rattle.locator.specs.declared.Record.{Record}
+use Rattle.locator.specs.declared.CardRecord.{CardRecord}
 use Rattle.locator.specs.Entry.{fileOf, countOf, keeps}
-use Rattle.locator.specs.Records.{entries, whole, sumOf, records, total, accepts, checked, checkedNumber, nth, kth, recordAt}
-use Rattle.locator.specs.Command.{readRecord, atFront, Written, Wrote, writable, written}
+use Rattle.locator.specs.Records.{entries, wholeEntries, sumOf, records, total, accepts, checked, checkedNumber, nth, kth, recordAt}
+use Rattle.basics.specs.Front.{inFront}
+use Rattle.locator.specs.Command.{readRecord, CommandWritten, Wrote, writable, written}
 use Rattle.locator.proofs.Records.{entries-short, whole-length, records-length, records-all, last-bytes, nth-split, nth-take, nth-inside, nth-there, nth-none, not-at}
 
 -- ---- an entry
 
 -- the rules of an entry, each as a fact
 pub record Kept (e : Entry) : Type 0 where
-  pub low : e .lead % 8 ≡ 0
+  pub low : e .sfi % 8 ≡ 0
   pub file : 1 ≤ fileOf e
   pub most : fileOf e ≤ 30
   pub first : 1 ≤ e .first
@@ -71,7 +72,7 @@ sum-kept (e ∷ x) t = let c = count-kept e (both-left _ _ t) .0 in rw (c, sum-k
 -- ---- an accepted locator
 
 module _ (s : List ℕ) (a : accepts s ≡ true) where
-  pub accepted-whole : whole s ≡ true
+  pub accepted-whole : wholeEntries s ≡ true
   unfolding accepts
   accepted-whole = both-left _ _ a
 
@@ -137,12 +138,12 @@ checked-says s r e = (sym e, ap checkedNumber (sym e) ∙ checked-number s)
 -- ---- the k-th record
 
 -- from 1 on, the k-th record is at place k - 1
-pub kth-nth : (k : ℕ) (l : List Record) → 1 ≤ k → kth k l ≡ nth (k - 1) l
+pub kth-nth : (k : ℕ) (l : List CardRecord) → 1 ≤ k → kth k l ≡ nth (k - 1) l
 unfolding kth
 kth-nth zero l h = absurd (omega arith)
 kth-nth (suc i) l h = let e : suc i - 1 ≡ i = omega arith in rw e
 
-pub kth-zero : (k : ℕ) (l : List Record) → k ≡ 0 → kth k l ≡ Nothing
+pub kth-zero : (k : ℕ) (l : List CardRecord) → k ≡ 0 → kth k l ≡ Nothing
 unfolding kth
 kth-zero k l e = rw e
 
@@ -156,7 +157,7 @@ unfolding recordAt
 record-no s k a = if-no _ _ a
 
 -- every k from 1 to R has its record, and no other k
-pub record-there : (s : List ℕ) (k : ℕ) (d : Record) → accepts s ≡ true → 1 ≤ k → k ≤ total s → recordAt s k ≡ At (getD (records s) (k - 1) d)
+pub record-there : (s : List ℕ) (k : ℕ) (d : CardRecord) → accepts s ≡ true → 1 ≤ k → k ≤ total s → recordAt s k ≡ At (getD (records s) (k - 1) d)
 record-there s k d a lo hi = record-yes s k a ∙ kth-nth k (records s) lo ∙ nth-there (k - 1) (records s) d (omega (arith, records-length s))
 
 pub record-zero : (s : List ℕ) → recordAt s 0 ≡ Nothing
@@ -170,7 +171,7 @@ record-past s k h =
       | inr n ↦ record-no s k n
     ]
 
-module _ (s : List ℕ) (k : ℕ) (r : Record) (e : recordAt s k ≡ At r) where
+module _ (s : List ℕ) (k : ℕ) (r : CardRecord) (e : recordAt s k ≡ At r) where
   pub record-accepted : accepts s ≡ true
   record-accepted =
       elim (bool-cases (accepts s)) [
@@ -208,41 +209,41 @@ module _ (s : List ℕ) (k : ℕ) (r : Record) (e : recordAt s k ≡ At r) where
   -- its file is 1 to 30 and its number is not 0
   pub record-named : (1 ≤ r .file) × (r .file ≤ 30) × (1 ≤ r .number)
   record-named =
-      records-all keeps (λ (q : Record). (1 ≤ q .file) × (q .file ≤ 30) × (1 ≤ q .number))
+      records-all keeps (λ (q : CardRecord). (1 ≤ q .file) × (q .file ≤ 30) × (1 ≤ q .number))
       (λ x t i h. let kept = keeps-kept x t in (kept .file, kept .most, omega arith))
       (entries s) (accepted-keeps s record-accepted) (k - 1) r record-nth
 
   -- of a locator of bytes, its number is a byte
   pub record-byte : ((i : ℕ) → getD s i 0 < 256) → r .number ≤ 255
   record-byte b =
-      records-all (λ (x : Entry). leb (x .last) 255) (λ (q : Record). q .number ≤ 255)
+      records-all (λ (x : Entry). leb (x .last) 255) (λ (q : CardRecord). q .number ≤ 255)
       (λ x t i h. let l = leb-true (x .last) 255 t in omega arith)
       (entries s) (last-bytes s b) (k - 1) r record-nth
 
 -- ---- a command
 
-pub written-yes : (r : Record) (buffer : List ℕ) → 5 ≤ length buffer → r .file < 32
-    → written r buffer ≡ record { size = 5; buffer = atFront (readRecord r) buffer }
+pub written-yes : (r : CardRecord) (buffer : List ℕ) → 5 ≤ length buffer → r .file < 32
+    → written r buffer ≡ record { size = 5; buffer = inFront (readRecord r) buffer }
 unfolding written writable
 written-yes r buffer h f = if-yes _ _ (both-yes _ _ (le-leb 5 (length buffer) h) (lt-ltb (r .file) 32 f))
 
-pub written-short : (r : Record) (buffer : List ℕ) → length buffer < 5 → written r buffer ≡ record { size = 0; buffer = buffer }
+pub written-short : (r : CardRecord) (buffer : List ℕ) → length buffer < 5 → written r buffer ≡ record { size = 0; buffer = buffer }
 unfolding written writable
 written-short r buffer h = if-no _ _ (both-no-left _ _ (lt-leb 5 (length buffer) h))
 
-pub written-wide : (r : Record) (buffer : List ℕ) → 32 ≤ r .file → written r buffer ≡ record { size = 0; buffer = buffer }
+pub written-wide : (r : CardRecord) (buffer : List ℕ) → 32 ≤ r .file → written r buffer ≡ record { size = 0; buffer = buffer }
 unfolding written writable
 written-wide r buffer h = if-no _ _ (both-no-right _ _ (le-ltb (r .file) 32 h))
 
 -- what a caller learns who lends five bytes or more, for a record with a file number of five bits
-pub wrote-yes : (n : ℕ) (b : List ℕ) (r : Record) (buffer : List ℕ) → Wrote n b (written r buffer) → 5 ≤ length buffer → r .file < 32
-    → (n ≡ 5) × (b ≡ atFront (readRecord r) buffer)
-wrote-yes n b r buffer w h f = let e = written-yes r buffer h f in (w .size ∙ ap (λ (x : Written). x .size) e, w .buffer ∙ ap (λ (x : Written). x .buffer) e)
+pub wrote-yes : (n : ℕ) (b : List ℕ) (r : CardRecord) (buffer : List ℕ) → Wrote n b (written r buffer) → 5 ≤ length buffer → r .file < 32
+    → (n ≡ 5) × (b ≡ inFront (readRecord r) buffer)
+wrote-yes n b r buffer w h f = let e = written-yes r buffer h f in (w .size ∙ ap (λ (x : CommandWritten). x .size) e, w .buffer ∙ ap (λ (x : CommandWritten). x .buffer) e)
 
 -- the five bytes handed out are the command
-pub command-front : (r : Record) (buffer : List ℕ) → take 5 (atFront (readRecord r) buffer) ≡ readRecord r
+pub command-front : (r : CardRecord) (buffer : List ℕ) → take 5 (inFront (readRecord r) buffer) ≡ readRecord r
 command-front r buffer = refl
 
 -- the buffer keeps its length
-pub command-length : (r : Record) (buffer : List ℕ) → 5 ≤ length buffer → length (atFront (readRecord r) buffer) ≡ length buffer
+pub command-length : (r : CardRecord) (buffer : List ℕ) → 5 ≤ length buffer → length (inFront (readRecord r) buffer) ≡ length buffer
 command-length r buffer h = simp length-drop (omega arith)

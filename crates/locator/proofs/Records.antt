@@ -14,11 +14,11 @@ use borrow.Author.Tests.{eqb-true, eq-eqb, ne-eqb, le-leb, ltb-true, ltb-false}
 use Rattle.basics.specs.Choice.{every}
 use Rattle.basics.proofs.Laws.{bool-cases, both-yes, both-left, both-right}
 use Rattle.locator.specs.declared.Entry.{Entry}
-use Rattle.locator.specs.declared.Record.{Record}
+use Rattle.locator.specs.declared.CardRecord.{CardRecord}
 use Rattle.locator.specs.declared.Found.{Found}
 use Rattle.locator.specs.declared.Found.the-variants.{At, Nothing}
 use Rattle.locator.specs.Entry.{frontOf, fileOf, countOf}
-use Rattle.locator.specs.Records.{entries, whole, run, named, recordsOf, sumOf, records, total, nth}
+use Rattle.locator.specs.Records.{entries, wholeEntries, recordsFrom, named, recordsOf, sumOf, records, total, nth}
 
 -- ---- entries
 
@@ -41,20 +41,20 @@ entries-short (a ∷ b ∷ c ∷ []) h = refl
 entries-short (a ∷ b ∷ c ∷ d ∷ rest) h = absurd (omega arith)
 
 -- whole entries are a length that is a multiple of 4
-pub whole-length : (s : List ℕ) → whole s ≡ true → length s % 4 ≡ 0
-unfolding whole
+pub whole-length : (s : List ℕ) → wholeEntries s ≡ true → length s % 4 ≡ 0
+unfolding wholeEntries
 whole-length s e = eqb-true (length s % 4) 0 e
 
-pub whole-of : (s : List ℕ) → length s % 4 ≡ 0 → whole s ≡ true
-unfolding whole
+pub whole-of : (s : List ℕ) → length s % 4 ≡ 0 → wholeEntries s ≡ true
+unfolding wholeEntries
 whole-of s e = eq-eqb (length s % 4) 0 e
 
-pub part-of : (s : List ℕ) → (length s % 4 ≡ 0 → ⊥) → whole s ≡ false
-unfolding whole
+pub part-of : (s : List ℕ) → (length s % 4 ≡ 0 → ⊥) → wholeEntries s ≡ false
+unfolding wholeEntries
 part-of s e = ne-eqb (length s % 4) 0 e
 
-pub whole-front : (s : List ℕ) → 4 ≤ length s → whole s ≡ whole (drop 4 s)
-unfolding whole
+pub whole-front : (s : List ℕ) → 4 ≤ length s → wholeEntries s ≡ wholeEntries (drop 4 s)
+unfolding wholeEntries
 whole-front s h =
     let e : length s % 4 ≡ length (drop 4 s) % 4 = rw length-drop (omega arith) in
     ap (λ (n : ℕ). eqb n 0) e
@@ -73,14 +73,14 @@ entries-join (a ∷ b ∷ c ∷ d ∷ rest) t w = ap (λ (l : List Entry). front
 recordsOf-join : (x y : List Entry) → recordsOf (x ++ y) ≡ recordsOf x ++ recordsOf y
 unfolding recordsOf
 recordsOf-join [] y = refl
-recordsOf-join (e ∷ x) y = ap (λ (l : List Record). named e ++ l) (recordsOf-join x y) ∙ sym (append-assoc (named e) (recordsOf x) (recordsOf y))
+recordsOf-join (e ∷ x) y = ap (λ (l : List CardRecord). named e ++ l) (recordsOf-join x y) ∙ sym (append-assoc (named e) (recordsOf x) (recordsOf y))
 
 -- the records of two lists of whole entries joined are those of the first, then those of the second
-pub records-join : (s t : List ℕ) → whole s ≡ true → records (s ++ t) ≡ records s ++ records t
+pub records-join : (s t : List ℕ) → wholeEntries s ≡ true → records (s ++ t) ≡ records s ++ records t
 records-join s t w = ap recordsOf (entries-join s t (whole-length s w)) ∙ recordsOf-join (entries s) (entries t)
 
-length-run : (f k n : ℕ) → length (run f k n) ≡ n
-unfolding run
+length-run : (f k n : ℕ) → length (recordsFrom f k n) ≡ n
+unfolding recordsFrom
 length-run f k zero = refl
 length-run f k (suc n) = ap suc (length-run f (k + 1) n)
 
@@ -108,24 +108,24 @@ total-front s h = ap (sumOf countOf) (entries-front s h)
 -- ---- a place in a list of records
 
 -- nothing is no record
-pub not-at : {A : Type 0} {f : Found} {r : Record} → f ≡ At r → f ≡ Nothing → A
+pub not-at : {A : Type 0} {f : Found} {r : CardRecord} → f ≡ At r → f ≡ Nothing → A
 not-at e n = let z : _≡_ {A = ℕ} 0 1 = cc in absurd (omega arith)
 
-nth-left : (i : ℕ) (a b : List Record) → i < length a → nth i (a ++ b) ≡ nth i a
+nth-left : (i : ℕ) (a b : List CardRecord) → i < length a → nth i (a ++ b) ≡ nth i a
 unfolding nth
 nth-left i [] b h = absurd (omega arith)
 nth-left zero (r ∷ a) b h = refl
 nth-left (suc i) (r ∷ a) b h = nth-left i a b (omega arith)
 
-nth-right : (i : ℕ) (a b : List Record) → nth (length a + i) (a ++ b) ≡ nth i b
+nth-right : (i : ℕ) (a b : List CardRecord) → nth (length a + i) (a ++ b) ≡ nth i b
 unfolding nth
 nth-right i [] b = rw zero-add
 nth-right i (r ∷ a) b =
     let e : suc (length a) + i ≡ suc (length a + i) = omega arith in
     rw e (nth-right i a b)
 
-nth-run : (i f k n : ℕ) → i < n → nth i (run f k n) ≡ At (record { file = f; number = k + i })
-unfolding nth run
+nth-run : (i f k n : ℕ) → i < n → nth i (recordsFrom f k n) ≡ At (record { file = f; number = k + i })
+unfolding nth recordsFrom
 nth-run i f k zero h = absurd (omega arith)
 nth-run zero f k (suc n) h = rw add-zero
 nth-run (suc i) f k (suc n) h =
@@ -133,7 +133,7 @@ nth-run (suc i) f k (suc n) h =
     nth-run i f (k + 1) n (omega arith) ∙ ap (λ (m : ℕ). At (record { file = f; number = m })) e
 
 -- an entry's records in front of others: a place below its count is its own, any other one of theirs
-module _ (e : Entry) (l : List Record) (i : ℕ) where
+module _ (e : Entry) (l : List CardRecord) (i : ℕ) where
   pub nth-named : i < countOf e → nth i (named e ++ l) ≡ At (record { file = fileOf e; number = e .first + i })
   nth-named h = nth-left i (named e) l (rw (length-named e) h) ∙ nth-run i (fileOf e) (e .first) (countOf e) h
 
@@ -142,31 +142,31 @@ module _ (e : Entry) (l : List Record) (i : ℕ) where
       let j : i ≡ length (named e) + (i - countOf e) = rw (length-named e) (omega arith) in
       ap (λ (m : ℕ). nth m (named e ++ l)) j ∙ nth-right (i - countOf e) (named e) l
 
-pub nth-split : (i : ℕ) (l : List Record) (r : Record) → nth i l ≡ At r → l ≡ take i l ++ (r ∷ drop (suc i) l)
+pub nth-split : (i : ℕ) (l : List CardRecord) (r : CardRecord) → nth i l ≡ At r → l ≡ take i l ++ (r ∷ drop (suc i) l)
 unfolding nth
 nth-split i [] r e = not-at e refl
-nth-split zero (x ∷ l) r e = let y : x ≡ r = cc in ap (λ (q : Record). q ∷ l) y
-nth-split (suc i) (x ∷ l) r e = ap (λ (q : List Record). x ∷ q) (nth-split i l r e)
+nth-split zero (x ∷ l) r e = let y : x ≡ r = cc in ap (λ (q : CardRecord). q ∷ l) y
+nth-split (suc i) (x ∷ l) r e = ap (λ (q : List CardRecord). x ∷ q) (nth-split i l r e)
 
-pub nth-take : (i : ℕ) (l : List Record) (r : Record) → nth i l ≡ At r → take (suc i) l ≡ take i l ++ (r ∷ [])
+pub nth-take : (i : ℕ) (l : List CardRecord) (r : CardRecord) → nth i l ≡ At r → take (suc i) l ≡ take i l ++ (r ∷ [])
 unfolding nth
 nth-take i [] r e = not-at e refl
-nth-take zero (x ∷ l) r e = let y : x ≡ r = cc in ap (λ (q : Record). q ∷ []) y
-nth-take (suc i) (x ∷ l) r e = ap (λ (q : List Record). x ∷ q) (nth-take i l r e)
+nth-take zero (x ∷ l) r e = let y : x ≡ r = cc in ap (λ (q : CardRecord). q ∷ []) y
+nth-take (suc i) (x ∷ l) r e = ap (λ (q : List CardRecord). x ∷ q) (nth-take i l r e)
 
-pub nth-inside : (i : ℕ) (l : List Record) (r : Record) → nth i l ≡ At r → i < length l
+pub nth-inside : (i : ℕ) (l : List CardRecord) (r : CardRecord) → nth i l ≡ At r → i < length l
 unfolding nth
 nth-inside i [] r e = not-at e refl
 nth-inside zero (x ∷ l) r e = omega arith
 nth-inside (suc i) (x ∷ l) r e = let h = nth-inside i l r e in omega arith
 
-pub nth-there : (i : ℕ) (l : List Record) (d : Record) → i < length l → nth i l ≡ At (getD l i d)
+pub nth-there : (i : ℕ) (l : List CardRecord) (d : CardRecord) → i < length l → nth i l ≡ At (getD l i d)
 unfolding nth
 nth-there i [] d h = absurd (omega arith)
 nth-there zero (x ∷ l) d h = refl
 nth-there (suc i) (x ∷ l) d h = nth-there i l d (omega arith)
 
-pub nth-none : (i : ℕ) (l : List Record) → length l ≤ i → nth i l ≡ Nothing
+pub nth-none : (i : ℕ) (l : List CardRecord) → length l ≤ i → nth i l ≡ Nothing
 unfolding nth
 nth-none i [] h = refl
 nth-none zero (x ∷ l) h = absurd (omega arith)
@@ -175,9 +175,9 @@ nth-none (suc i) (x ∷ l) h = nth-none i l (omega arith)
 -- ---- what holds of every record
 
 -- what holds of each record of an entry that passes a test holds of every record of entries that pass it
-pub records-all : (p : Entry → Bool) (Q : Record → Type 0)
+pub records-all : (p : Entry → Bool) (Q : CardRecord → Type 0)
     → ((e : Entry) → p e ≡ true → (i : ℕ) → i < countOf e → Q (record { file = fileOf e; number = e .first + i }))
-    → (x : List Entry) → every p x ≡ true → (i : ℕ) (r : Record) → nth i (recordsOf x) ≡ At r → Q r
+    → (x : List Entry) → every p x ≡ true → (i : ℕ) (r : CardRecord) → nth i (recordsOf x) ≡ At r → Q r
 unfolding every recordsOf nth
 records-all p Q q [] t i r h = not-at h refl
 records-all p Q q (e ∷ x) t i r h =

@@ -17,7 +17,7 @@ use Rattle.locator.specs.declared.Found.the-variants.{At, Nothing}
 use Rattle.locator.specs.declared.Entry.{Entry}
 use Rattle.locator.specs.Entry.{frontOf, fileOf, countOf, keeps}
 use Rattle.basics.specs.Number.{between}
-use Rattle.locator.specs.Records.{entries, whole, named, recordsOf, sumOf, records, total, accepts, checked, nth}
+use Rattle.locator.specs.Records.{entries, wholeEntries, named, recordsOf, sumOf, records, total, accepts, checked, nth}
 use Rattle.locator.proofs.Records.{entries-front, entries-short, whole-front, whole-of, part-of, total-front, records-front, nth-named, nth-beyond}
 
 -- the bytes behind the first entry, as `&s[4..]` makes them
@@ -38,7 +38,7 @@ verdict w k n = if (both w (both k (between 1 n 128))) (Accepted (record { recor
 
 -- what a check says of the bytes s, where entries with n records stood before them
 unfoldable pub onwards : ℕ → List ℕ → Checked
-onwards n s = verdict (whole s) (every keeps (entries s)) (n + total s)
+onwards n s = verdict (wholeEntries s) (every keeps (entries s)) (n + total s)
 
 pub check-start : (s : List ℕ) → checked s ≡ onwards 0 s
 unfolding checked accepts onwards

@@ -1,40 +1,36 @@
--- The command that reads a record (document 01, "Commands and steps", Record; Book C-2, 5.8), and a command at the front of a
--- lent buffer.
+-- The command that reads a record (document 01, "Commands and steps", Record; Book C-2, 5.8).
 -- Assumes nothing.
 use mathlib.Core.Bool.{Bool}
 use mathlib.Core.Path.{_≡_}
-use mathlib.Core.List.{List, [], _∷_, _++_}
+use mathlib.Core.List.{List, [], _∷_}
 use Prim.Native.Nat.{ℕ, _+_, _*_}
 use lib.Dec.{leb, ltb}
-use lib.ListN.{length, drop}
+use lib.ListN.{length}
 use Rattle.basics.specs.Choice.{if, both}
-use Rattle.locator.specs.declared.Record.{Record}
+use Rattle.basics.specs.Front.{inFront}
+use Rattle.locator.specs.declared.CardRecord.{CardRecord}
 
 -- the command's five bytes: 00 B2, the record number, the file number x 8 + 4, 00
-abbrev pub readRecord : Record → List ℕ
+abbrev pub readRecord : CardRecord → List ℕ
 readRecord r = 0 ∷ 0xB2 ∷ r .number ∷ (r .file * 8 + 4) ∷ 0 ∷ []
 
--- a command at the front of a buffer: the bytes behind it stay
-abbrev pub atFront : List ℕ → List ℕ → List ℕ
-atFront command buffer = command ++ drop (length command) buffer
-
 -- what stands after writing a command: how long it is, and the whole buffer
-pub record Written : Type 0 where
+pub record CommandWritten : Type 0 where
   pub size : ℕ
   pub buffer : List ℕ
 
 -- the returned number n and the buffer b are those of w
-pub record Wrote (n : ℕ) (b : List ℕ) (w : Written) : Type 0 where
+pub record Wrote (n : ℕ) (b : List ℕ) (w : CommandWritten) : Type 0 where
   pub size : n ≡ w .size
   pub buffer : b ≡ w .buffer
 
 -- a command can be written: its five bytes fit the buffer, and its file number fits five bits
-unfoldable pub writable : Record → List ℕ → Bool
+unfoldable pub writable : CardRecord → List ℕ → Bool
 writable r buffer = both (leb 5 (length buffer)) (ltb (r .file) 32)
 
 -- writing the command that reads a record; where it cannot be written, size 0 and the buffer as it was
-unfoldable pub written : Record → List ℕ → Written
+unfoldable pub written : CardRecord → List ℕ → CommandWritten
 written r buffer =
     if (writable r buffer)
-    (record { size = 5; buffer = atFront (readRecord r) buffer })
+    (record { size = 5; buffer = inFront (readRecord r) buffer })
     (record { size = 0; buffer = buffer })

@@ -12,7 +12,7 @@ use Rattle.locator.specs.declared.Entry.{Entry}
 
 -- an entry from its four bytes
 abbrev pub entryOf : ℕ → ℕ → ℕ → ℕ → Entry
-entryOf a b c d = record { lead = a; first = b; last = c; offline = d }
+entryOf a b c d = record { sfi = a; first = b; last = c; offline = d }
 
 -- the entry in the first four of some bytes
 abbrev pub frontOf : List ℕ → Entry
@@ -20,7 +20,7 @@ frontOf s = entryOf (getD s 0 0) (getD s 1 0) (getD s 2 0) (getD s 3 0)
 
 -- the file number: the top five bits of byte 1
 abbrev pub fileOf : Entry → ℕ
-fileOf e = e .lead / 8
+fileOf e = e .sfi / 8
 
 -- how many records it names: last - first + 1, and none where last is below first
 abbrev pub countOf : Entry → ℕ
@@ -30,7 +30,7 @@ countOf e = e .last + 1 - e .first
 -- the last is not below the first, and byte 4 is at most the number of its records
 unfoldable pub keeps : Entry → Bool
 keeps e =
-    both (eqb (e .lead % 8) 0)
+    both (eqb (e .sfi % 8) 0)
     (both (between 1 (fileOf e) 30)
     (both (leb 1 (e .first))
     (both (leb (e .first) (e .last))

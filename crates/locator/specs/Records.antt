@@ -9,7 +9,7 @@ use lib.ListN.{length}
 use Rattle.basics.specs.Choice.{if, both, every}
 use Rattle.basics.specs.Reason.{reasonNone, reasonLocator}
 use Rattle.locator.specs.declared.Entry.{Entry}
-use Rattle.locator.specs.declared.Record.{Record}
+use Rattle.locator.specs.declared.CardRecord.{CardRecord}
 use Rattle.locator.specs.declared.Checked.{Checked}
 use Rattle.locator.specs.declared.Checked.the-variants.{Accepted, Rejected}
 use Rattle.locator.specs.declared.Found.{Found}
@@ -26,20 +26,20 @@ entries (a ∷ b ∷ c ∷ []) = []
 entries (a ∷ b ∷ c ∷ d ∷ rest) = entryOf a b c d ∷ entries rest
 
 -- the bytes are whole entries
-unfoldable pub whole : List ℕ → Bool
-whole s = eqb (length s % 4) 0
+unfoldable pub wholeEntries : List ℕ → Bool
+wholeEntries s = eqb (length s % 4) 0
 
 -- n records of one file, numbered upwards from a first number
-unfoldable pub run : ℕ → ℕ → ℕ → List Record
-run file number zero = []
-run file number (suc n) = record { file = file; number = number } ∷ run file (number + 1) n
+unfoldable pub recordsFrom : ℕ → ℕ → ℕ → List CardRecord
+recordsFrom file number zero = []
+recordsFrom file number (suc n) = record { file = file; number = number } ∷ recordsFrom file (number + 1) n
 
 -- the records of one entry, from its first to its last
-abbrev pub named : Entry → List Record
-named e = run (fileOf e) (e .first) (countOf e)
+abbrev pub named : Entry → List CardRecord
+named e = recordsFrom (fileOf e) (e .first) (countOf e)
 
 -- the records of entries, entry by entry
-unfoldable pub recordsOf : List Entry → List Record
+unfoldable pub recordsOf : List Entry → List CardRecord
 recordsOf [] = []
 recordsOf (e ∷ es) = named e ++ recordsOf es
 
@@ -49,7 +49,7 @@ sumOf f [] = 0
 sumOf f (e ∷ es) = f e + sumOf f es
 
 -- the records that a locator names, in the published order
-abbrev pub records : List ℕ → List Record
+abbrev pub records : List ℕ → List CardRecord
 records s = recordsOf (entries s)
 
 -- R, how many records a locator names: the sum of last - first + 1
@@ -58,7 +58,7 @@ total s = sumOf countOf (entries s)
 
 -- a locator is accepted: whole entries, each keeps the rules, 1 to 128 records in all
 unfoldable pub accepts : List ℕ → Bool
-accepts s = both (whole s) (both (every keeps (entries s)) (between 1 (total s) 128))
+accepts s = both (wholeEntries s) (both (every keeps (entries s)) (between 1 (total s) 128))
 
 -- what a check of a locator says: R if it is accepted
 unfoldable pub checked : List ℕ → Checked
@@ -70,13 +70,13 @@ checkedNumber (Accepted e) = reasonNone
 checkedNumber Rejected = reasonLocator
 
 -- the record at a place of a list, places counted from 0
-unfoldable pub nth : ℕ → List Record → Found
+unfoldable pub nth : ℕ → List CardRecord → Found
 nth i [] = Nothing
 nth zero (r ∷ l) = At r
 nth (suc i) (r ∷ l) = nth i l
 
 -- the k-th record of a list, k from 1
-unfoldable pub kth : ℕ → List Record → Found
+unfoldable pub kth : ℕ → List CardRecord → Found
 kth zero l = Nothing
 kth (suc i) l = nth i l
 

@@ -10,15 +10,15 @@ ghost use Rattle.locator.specs.Records.{records as recordsIn, accepts, c
 ghost use Rattle.locator.specs.Command.{Wrote, written};
 
 // A record of a card: the file that it is in and its number there.
-pub struct Record {
+pub struct CardRecord {
     pub file: u8,
     pub number: u8,
 }
 
-// One entry of a locator: the file's byte, the first and the last record, and how many of them
-// offline authentication covers.
+// One entry of a locator: byte 1 with the short file identifier in its top five bits, the first and the last
+// record, and how many of them offline authentication covers.
 pub struct Entry {
-    pub lead: u8,
+    pub sfi: u8,
     pub first: u8,
     pub last: u8,
     pub offline: u8,
@@ -35,7 +35,7 @@ pub enum Checked {
 }
 
 pub enum Found {
-    At(Record),
+    At(CardRecord),
     Nothing,
 }
 
@@ -82,7 +82,7 @@ pub fn record_at(locator: &[u8], k: usize) -> Found
 
 // Writes the command that reads a record at the front of `command`, and returns its length, 5.
 // A buffer under 5 bytes or a file number over 31 gets no command: the length is 0 and the buffer stays.
-pub fn read_record(wanted: Record, command: &mut [u8]) -> usize
+pub fn read_record(wanted: CardRecord, command: &mut [u8]) -> usize
     ensures { λ n. ⌜ Wrote n (now (command .exit)) (written wanted (now (command .entry))) ⌝ }
 {
     if command.len() < 5 {
@@ -105,7 +105,7 @@ fn front(s: &[u8]) -> Entry
     ensures { λ r. ⌜ r ≡ frontOf (now (s .entry)) ⌝ }
 {
     Entry {
-        lead: s[0],
+        sfi: s[0],
         first: s[1],
         last: s[2],
         offline: s[3],
@@ -128,10 +128,10 @@ fn count(e: Entry) -> usize
 fn keeps(e: Entry) -> bool
     ensures { λ r. ⌜ r ≡ keepsRules e ⌝ }
 {
-    if e.lead % 8 != 0 {
+    if e.sfi % 8 != 0 {
         return false;
     }
-    let file = e.lead / 8;
+    let file = e.sfi / 8;
     if file < 1 {
         return false;
     }
@@ -160,8 +160,8 @@ fn seek(locator: &[u8], place: usize) -> Found
         let e = front(rest);
         let n = count(e);
         if left < n {
-            return Found::At(Record {
-                file: e.lead / 8,
+            return Found::At(CardRecord {
+                file: e.sfi / 8,
                 number: e.first + left as u8,
             });
         }

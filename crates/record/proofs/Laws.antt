@@ -18,8 +18,8 @@ use Rattle.record.specs.declared.End.{End}
 use Rattle.record.specs.declared.Phase.{Phase}
 use Rattle.record.specs.declared.Session.{Session}
 use Rattle.record.specs.Session.{stored}
-use Rattle.record.specs.Held.{holds}
-use Rattle.record.specs.Ranges.{objectFits, allFit, isBrought, brought, unanswered, running, recordsIn, completed, freshRanges, optionsRanges, recordRanges, cryptogramRanges, endedRanges, phaseRanges, inRanges}
+use Rattle.store.specs.Held.{holds}
+use Rattle.record.specs.Ranges.{objectFits, allFit, isBrought, brought, cryptogramAbsent, running, recordsIn, completed, freshRanges, optionsRanges, recordRanges, cryptogramRanges, endedRanges, phaseRanges, inRanges}
 use Rattle.record.specs.Clauses.{Fits, Running, OnFresh, OnOptions, OnRecord, OnCryptogram, OnEnded, InPhase, Ranges}
 use Rattle.record.proofs.Every.{every-all}
 use Rattle.record.proofs.Tags.{rows-length}
@@ -63,7 +63,7 @@ brought-all b f = every-all (isBrought b) rows blank (λ k h. go k h (bool-cases
         either-right _ _ (f k (omega (arith, rows-length)) (omega arith))
 
 pub runs : (b : List ℕ) → running b ≡ true → Running b
-unfolding running unanswered every
+unfolding running cryptogramAbsent every
 runs b e =
     let p = both-right _ _ e in
     let q = both-right _ _ p in
@@ -81,7 +81,7 @@ runs b e =
     }
 
 pub running-passes : (b : List ℕ) → Running b → running b ≡ true
-unfolding running unanswered every
+unfolding running cryptogramAbsent every
 running-passes b r =
     both-yes _ _ (r .results)
     (both-yes _ _ (brought-all b (r .brought))

@@ -20,7 +20,7 @@ use Rattle.record.specs.declared.Session.{Session}
 use Rattle.record.specs.Numbers.{goesWith, outcomeFor}
 use Rattle.basics.specs.Reason.{reasonMode}
 use Rattle.record.specs.Session.{stored, freshSession, waitingSession, endedSession, endOf}
-use Rattle.record.specs.Held.{holds}
+use Rattle.store.specs.Held.{holds}
 use Rattle.record.specs.Ranges.{emvMode, locatorIn, mostCommands, inRanges}
 use Rattle.record.specs.Clauses.{Fits, OnFresh, OnOptions, OnRecord, OnCryptogram, OnEnded, InPhase}
 use Rattle.record.proofs.Values.{bytes-there}

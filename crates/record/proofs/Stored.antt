@@ -26,7 +26,7 @@ use Rattle.dictionary.proofs.Fit.{fits-length}
 use Rattle.store.specs.Place.{Value, absent, present, bytesOf, isThere, offsetIn, lengthByte, valueAt, valueOf, putAt}
 use Rattle.store.proofs.Laws.{lies, put-length, put-get, put-other, place-other, length-byte-at, by-row, unknown-absent, empty-holds-nothing}
 use Rattle.store.proofs.Rows.{fits-row, rows-size}
-use Rattle.record.specs.Held.{holds, isZero}
+use Rattle.store.specs.Held.{holds, isZero}
 use Rattle.record.specs.Ranges.{valueFits, allFit, cryptogramTags}
 use Rattle.record.specs.Clauses.{ObjectFits, Fits, Running}
 use Rattle.record.proofs.Tags.{row-found, rows-length, value-is, length-is}

@@ -20,7 +20,7 @@ use Rattle.locator.specs.declared.Extent.{Extent}
 use Rattle.locator.specs.Records.{accepts, checked}
 use Rattle.locator.proofs.Laws.{is-accepted, is-rejected}
 use Rattle.record.specs.Ranges.{locatorIn, recordsIn}
-use Rattle.record.specs.Held.{holds, lacks, bytesIn, filled, isZero, zeroed, lengthFound, lengthIn}
+use Rattle.store.specs.Held.{holds, lacks, bytesIn, notEmpty, isZero, zeroed, lengthFound, lengthIn}
 use Rattle.record.proofs.Tests.{some-not-none}
 
 pub rows-length : length rows ≡ 36
@@ -54,13 +54,13 @@ module _ (b : List ℕ) (t k : ℕ) (e : find rows t ≡ At k) where
   zero-is p q h = sym (ap (every isZero) (p ∙ bytes-are)) ∙ sym q ∙ h
 
   -- a part that is the row's value is empty, or not
-  pub size-is : {v : List ℕ} → v ≡ bytesOf (valueAt rows b k) → not (eqb (length v) 0) ≡ filled b t
+  pub size-is : {v : List ℕ} → v ≡ bytesOf (valueAt rows b k) → not (eqb (length v) 0) ≡ notEmpty b t
   size-is {v} p = some-not-none (length v) ∙ ap (λ (l : List ℕ). ltb 0 (length l)) (p ∙ bytes-are)
 
-  pub size-none : {v : List ℕ} → v ≡ bytesOf (valueAt rows b k) → length v ≡ 0 → filled b t ≡ false
+  pub size-none : {v : List ℕ} → v ≡ bytesOf (valueAt rows b k) → length v ≡ 0 → notEmpty b t ≡ false
   size-none {v} p z = sym (size-is p) ∙ ap not (eq-eqb (length v) 0 z)
 
-  pub size-some : {v : List ℕ} → v ≡ bytesOf (valueAt rows b k) → (length v ≡ 0 → ⊥) → filled b t ≡ true
+  pub size-some : {v : List ℕ} → v ≡ bytesOf (valueAt rows b k) → (length v ≡ 0 → ⊥) → notEmpty b t ≡ true
   size-some {v} p z = sym (size-is p) ∙ ap not (ne-eqb (length v) 0 z)
 
 -- ---- the stored locator, by what a check of the row's value says

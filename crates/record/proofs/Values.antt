@@ -15,7 +15,7 @@ use Rattle.dictionary.proofs.Find.{found}
 use Rattle.dictionary.proofs.Fit.{fits-length}
 use Rattle.dictionary.proofs.Named.{at-95}
 use Rattle.store.specs.Place.{Value, absent, present, bytesOf, isThere, valueOf}
-use Rattle.record.specs.Held.{holds, lacks, bytesIn, isZero, zeroed}
+use Rattle.store.specs.Held.{holds, lacks, bytesIn, isZero, zeroed}
 use Rattle.record.specs.Ranges.{valueFits}
 use Rattle.record.specs.Clauses.{Fits, Running, noResults}
 use Rattle.record.proofs.Tags.{rows-length}

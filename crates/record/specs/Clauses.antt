@@ -16,7 +16,7 @@ use Rattle.record.specs.declared.Phase.{Phase}
 use Rattle.record.specs.declared.Session.{Session}
 use Rattle.record.specs.Numbers.{goesWith}
 use Rattle.record.specs.Session.{stored}
-use Rattle.record.specs.Held.{holds, bytesIn, byteIn, lengthIn}
+use Rattle.store.specs.Held.{holds, bytesIn, byteIn, lengthIn}
 use Rattle.record.specs.Ranges.{valueFits, emvMode, locatorIn, recordsIn, mostCommands}
 
 -- the object of a row fits it: its length byte, and its value

@@ -20,7 +20,7 @@ use Rattle.record.specs.declared.Phase.{Phase}
 use Rattle.record.specs.declared.Session.{Session}
 use Rattle.record.specs.Numbers.{goesWith}
 use Rattle.record.specs.Session.{stored}
-use Rattle.record.specs.Held.{holds, lacks, bytesIn, filled, byteIn, isZero, zeroed, lengthIn}
+use Rattle.store.specs.Held.{holds, lacks, bytesIn, notEmpty, byteIn, isZero, zeroed, lengthIn}
 
 -- ---- every phase: every stored length and digit fits the dictionary
 
@@ -54,12 +54,12 @@ brought b = every (isBrought b) rows
 abbrev pub cryptogramTags : List ℕ
 cryptogramTags = 0x9F10 ∷ 0x9F26 ∷ 0x9F27 ∷ 0x9F36 ∷ []
 
-unfoldable pub unanswered : List ℕ → Bool
-unanswered b = every (lacks b) cryptogramTags
+unfoldable pub cryptogramAbsent : List ℕ → Bool
+cryptogramAbsent b = every (lacks b) cryptogramTags
 
 -- the result bits, the objects required of a start, a terminal type on the list, nothing of the cryptogram's answer
 unfoldable pub running : List ℕ → Bool
-running b = both (holds b 0x95) (both (brought b) (both (listed (byteIn b 0x9F35 1)) (unanswered b)))
+running b = both (holds b 0x95) (both (brought b) (both (listed (byteIn b 0x9F35 1)) (cryptogramAbsent b)))
 
 -- ---- after the processing options
 
@@ -80,7 +80,7 @@ neededTags = 0x5F24 ∷ 0x5A ∷ 0x8C ∷ []
 
 -- they are there, none empty
 unfoldable pub completed : List ℕ → Bool
-completed b = every (filled b) neededTags
+completed b = every (notEmpty b) neededTags
 
 -- ---- phase by phase, for a count and a store
 

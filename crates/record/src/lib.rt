@@ -21,8 +21,8 @@ ghost use Rattle.dictionary.specs.Packing.{attributesOf};
 ghost use Rattle.store.specs.Place.{room};
 ghost use Rattle.record.specs.Numbers.{outcomeNumber, goesWith, outcomeFor};
 ghost use Rattle.record.specs.Session.{sessionOf, freshSession, waitingSession, replyOf, refusedTurn, endsTurn, failsTurn, commandsTurn};
-ghost use Rattle.record.specs.Held.{isZero};
-ghost use Rattle.record.specs.Ranges.{placeFits, allFit, brought, unanswered as unansweredIn, emvMode, completed, running, freshRanges, optionsRanges, recordRanges, cryptogramRanges, endedRanges, inRanges};
+ghost use Rattle.store.specs.Held.{isZero};
+ghost use Rattle.record.specs.Ranges.{placeFits, allFit, brought, cryptogramAbsent as cryptogramAbsentIn, emvMode, completed, running, freshRanges, optionsRanges, recordRanges, cryptogramRanges, endedRanges, inRanges};
 
 // How a session ends.
 pub enum Outcome {
@@ -372,12 +372,12 @@ fn runs(bytes: &[u8]) -> bool
     if !dictionary::is_listed(basics::byte_at(store::value(bytes, ROW_9F35), 0)) {
         return false;
     }
-    is_unanswered(bytes)
+    is_cryptogram_absent(bytes)
 }
 
 // Nothing of the answer to the cryptogram is there.
-fn is_unanswered(bytes: &[u8]) -> bool
-    ensures { λ r. ⌜ r ≡ unansweredIn (now (bytes .entry)) ⌝ }
+fn is_cryptogram_absent(bytes: &[u8]) -> bool
+    ensures { λ r. ⌜ r ≡ cryptogramAbsentIn (now (bytes .entry)) ⌝ }
 {
     if store::is_there(bytes, ROW_9F10) {
         return false;

@@ -39,7 +39,7 @@ use Rattle.record.specs.Session.{stored, endOf, endsReply, failsReply}
 use Rattle.record.specs.Ranges.{locatorIn}
 use Rattle.record.proofs.Stored.{empty-lacks}
 use Rattle.record.proofs.Phases.{store-size, on-fresh}
-use Rattle.session.specs.Steps.{Step, quiet, refuses, fails, commands, withStore, admitted, brokenOff, linkStep, stopStep}
+use Rattle.session.specs.Steps.{Step, withoutCommand, refuses, fails, commands, withStore, admitted, brokenOff, linkStep, stopStep}
 use Rattle.session.specs.Start.{startStep}
 use Rattle.session.specs.Answer.{accepted, optionsRead, optionsStep, recordRead, recordFound, recordStep, cryptogramRead, cryptogramReply, answerIn, answerStep}
 use Rattle.session.proofs.Kept.{read-size, read-value, bits-other}
@@ -49,7 +49,7 @@ use Rattle.session.proofs.Ways.{Admitted, taken, OptionsWay, RecordsWay
 
 pub data Came (s : Session) (buf : List ℕ) : Step → Type 0 where
   refused : (n : ℕ) → Came s buf (refuses s n buf)
-  ended : (b : List ℕ) (o : Outcome) (n : ℕ) → Came s buf (quiet (endsReply (withStore s b) o n) buf)
+  ended : (b : List ℕ) (o : Outcome) (n : ℕ) → Came s buf (withoutCommand (endsReply (withStore s b) o n) buf)
   sent : (b : List ℕ) (p : Phase) (c : List ℕ) → length c ≤ length buf → Came s buf (commands (withStore s b) p c buf)
 
 module _ (s : Session) (card buf : List ℕ) where
@@ -67,7 +67,7 @@ module _ (s : Session) (card buf : List ℕ) where
   came-record p b i (RecordWay.next r e) = sent b _ (readRecord r) (omega (arith, i .room))
   came-record p b i (RecordWay.last e w) = came-records b i w
 
-  came-cryptogram : {q : Reply} (b : List ℕ) → CryptogramWay (withStore s b) q → Came s buf (quiet q buf)
+  came-cryptogram : {q : Reply} (b : List ℕ) → CryptogramWay (withStore s b) q → Came s buf (withoutCommand q buf)
   came-cryptogram b (CryptogramWay.failed n r) = ended b _ n
   came-cryptogram b (CryptogramWay.decides o g) = ended b o 0
 
@@ -89,7 +89,7 @@ module _ (s : Session) (card buf : List ℕ) where
   pub start-came : Came s buf (startStep s card buf)
   start-came = came-start (start-way s card buf)
 
-came-broken : (s : Session) (n : ℕ) (buf : List ℕ) {q : Reply} → BrokenWay s n (length buf) q → Came s buf (quiet q buf)
+came-broken : (s : Session) (n : ℕ) (buf : List ℕ) {q : Reply} → BrokenWay s n (length buf) q → Came s buf (withoutCommand q buf)
 came-broken s n buf (BrokenWay.refused m) = refused m
 came-broken s n buf (BrokenWay.ended i) = ended (stored s) _ n
 
@@ -166,7 +166,7 @@ module _ (s : Session) (card buf : List ℕ) (n : length (locatorIn (stored s)) 
   same-record p a i l (RecordWay.next r e) = reads a i
   same-record p a i l (RecordWay.last e w) = same-records a i l w
 
-  same-cryptogram : {q : Reply} → Admitted s (length buf) → CryptogramWay (taken Awaited.Cryptogram s card) q → Same (quiet q buf)
+  same-cryptogram : {q : Reply} → Admitted s (length buf) → CryptogramWay (taken Awaited.Cryptogram s card) q → Same (withoutCommand q buf)
   same-cryptogram i (CryptogramWay.failed m r) = reads Awaited.Cryptogram i
   same-cryptogram i (CryptogramWay.decides o g) = reads Awaited.Cryptogram i
 
@@ -245,7 +245,7 @@ module _ (s : Session) (x y buf : List ℕ) (h : 258 < length x) (k : 258 < leng
   long-in Phase.Fresh = refl
   long-in Phase.Options = ap (λ (o : reading.Outcome). accepted s o (λ n. fails s n buf) (λ t. optionsRead t buf)) (same-read Awaited.Options)
   long-in (Phase.Record p) = long-found p (recordAt (locatorIn (stored s)) (p .number))
-  long-in (Phase.Cryptogram a) = ap (λ (o : reading.Outcome). quiet (accepted s o (failsReply s) (cryptogramRead a)) buf) (same-read Awaited.Cryptogram)
+  long-in (Phase.Cryptogram a) = ap (λ (o : reading.Outcome). withoutCommand (accepted s o (failsReply s) (cryptogramRead a)) buf) (same-read Awaited.Cryptogram)
   long-in (Phase.Ended e) = refl
 
   pub answer-long : answerStep s x buf ≡ answerStep s y buf

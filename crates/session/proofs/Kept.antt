@@ -23,7 +23,7 @@ use Rattle.reading.specs.Taking.{Item}
 use Rattle.reading.specs.Answer.{answerBit, readAnswer}
 use Rattle.reading.proofs.Kept.{Put, read-holds, read-grows}
 use Rattle.analysis.specs.Bits.{has}
-use Rattle.record.specs.Held.{holds, bytesIn}
+use Rattle.store.specs.Held.{holds, bytesIn}
 use Rattle.record.specs.Ranges.{locatorIn}
 use Rattle.record.specs.Clauses.{Fits, Running, noResults}
 use Rattle.record.proofs.Stored.{put-size, put-here, put-named, put-holds, put-apart, put-runs, fits-kept, apart-rest, card-apart, runningTags, results-apart}

@@ -18,14 +18,14 @@ use Rattle.dictionary.specs.Rows.{rows, rowAt}
 use Rattle.dictionary.specs.Named.{placeFound, placeOf}
 use Rattle.dictionary.proofs.Named.{at-94, at-95}
 use Rattle.store.specs.Place.{bytesOf, valueAt, putAt}
-use Rattle.locator.specs.declared.Record.{Record}
+use Rattle.locator.specs.declared.CardRecord.{CardRecord}
 use Rattle.locator.specs.declared.Found.{Found}
 use Rattle.locator.specs.Records.{accepts, recordAt}
 use Rattle.locator.proofs.Laws.{accepted-total, record-accepted, record-inside, record-named}
 use Rattle.data_list.specs.declared.Written.{Written}
 use Rattle.data_list.specs.declared.Written.the-variants.{Command, NoCommand}
 use Rattle.data_list.specs.declared.Command.{Command as Handed}
-use Rattle.data_list.specs.Commands.{written, bufferWith}
+use Rattle.data_list.specs.Commands.{writtenOf, bufferWith}
 use Rattle.reading.specs.declared.Awaited.{Awaited}
 use Rattle.reading.specs.declared.Verdict.{Verdict}
 use Rattle.reading.specs.declared.Verdict.the-variants.{Accepted, BadStatus, Malformed, NotAllowed}
@@ -45,7 +45,7 @@ use Rattle.record.specs.declared.Reply.{Reply}
 use Rattle.record.specs.declared.Turn.{Turn}
 use Rattle.basics.specs.Reason.{refusedPhase, refusedBuffer, refusedRanges, reasonNone, reasonMissing, reasonLocator, reasonAboveLimit, reasonDataList, reasonCryptogram, reasonMode, unless}
 use Rattle.record.specs.Session.{stored, replyOf, failsReply, failsTurn, commandsTurn}
-use Rattle.record.specs.Held.{holds, byteIn}
+use Rattle.store.specs.Held.{holds, byteIn}
 use Rattle.record.specs.Ranges.{emvMode, locatorIn, completed, inRanges}
 use Rattle.record.specs.Clauses.{noResults}
 use Rattle.record.proofs.Tags.{bytes-are}
@@ -58,7 +58,7 @@ use Rattle.session.specs.declared.Mode.{Mode}
 use Rattle.session.specs.declared.Limit.{Limit}
 use Rattle.session.specs.declared.Decided.{Decided}
 use Rattle.session.specs.declared.Decision.{Decision}
-use Rattle.session.specs.Steps.{Step, Did, quiet, refuses, fails, withStore, withResults, leastBuffer, admitted, handOut}
+use Rattle.session.specs.Steps.{Step, Did, withoutCommand, refuses, fails, withStore, withResults, leastBuffer, admitted, handOut}
 use Rattle.session.specs.Start.{askOptions, startLoaded, startIn, refusalNumber}
 use Rattle.session.specs.Answer.{accepted, askFound, optionsRead, askCryptogram, analysed, recordsRead, decision, concluded, cryptogramRead, neededNumber, modeNumber, limitNumber, decidedEnd, endFor}
 
@@ -72,8 +72,8 @@ pub reply-as : {t u : Turn} (b : List ℕ) → t ≡ u → replyOf t b ≡ reply
 reply-as b e = ap (λ (x : Turn). replyOf x b) e
 
 -- no command: the buffer stands as it was, and the turn t is u, with the store b
-pub did-quiet : {t u : Turn} (b : List ℕ) {buf : List ℕ} {s : Step} → t ≡ u → s ≡ quiet (replyOf u b) buf → Did (replyOf t b) buf s
-did-quiet b e f = did-as f (record { reply = reply-as b e; buffer = refl })
+pub did-without-command : {t u : Turn} (b : List ℕ) {buf : List ℕ} {s : Step} → t ≡ u → s ≡ withoutCommand (replyOf u b) buf → Did (replyOf t b) buf s
+did-without-command b e f = did-as f (record { reply = reply-as b e; buffer = refl })
 
 -- ---- the refusals that every call checks first
 
@@ -221,7 +221,7 @@ module _ {v : List ℕ} {k : ℕ} {r x : Found} (f : r ≡ recordAt v k) (e : r 
   found-as b n p q = sym (f ∙ ap₂ recordAt (p ∙ bytes-are b 0x94 4 at-94) q) ∙ e
 
 -- one that is there has a file of five bits, and is one of the first 128
-pub found-there : (v : List ℕ) (k : ℕ) {r : Found} {w : Record} → r ≡ recordAt v k → r ≡ Found.At w → (w .file < 32) × (k ≤ 128)
+pub found-there : (v : List ℕ) (k : ℕ) {r : Found} {w : CardRecord} → r ≡ recordAt v k → r ≡ Found.At w → (w .file < 32) × (k ≤ 128)
 found-there v k {r} {w} f e =
     let g = sym f ∙ e in
     (omega (arith, record-named v k w g .1), omega (arith, record-inside v k w g .1, accepted-total v (record-accepted v k w g) .1))
@@ -229,12 +229,12 @@ found-there v k {r} {w} f e =
 -- ---- a command that carries a filled list, by what was written
 
 module _ (s : Session) (p : Phase) (buf : List ℕ) {b : List ℕ} {t : Turn} {w : Written} where
-  pub handed-none : (x : Option (List ℕ)) → w ≡ written x → b ≡ bufferWith x buf → w ≡ NoCommand
+  pub handed-none : (x : Option (List ℕ)) → w ≡ writtenOf x → b ≡ bufferWith x buf → w ≡ NoCommand
       → t ≡ failsTurn (s .count) reasonDataList → Did (replyOf t (stored s)) b (handOut s p buf x)
   handed-none none e f g h = record { reply = reply-as (stored s) h; buffer = f }
   handed-none (some c) e f g h = let z : _≡_ {A = ℕ} 0 1 = cc in absurd (omega arith)
 
-  pub handed-some : {n : Handed} (x : Option (List ℕ)) → w ≡ written x → b ≡ bufferWith x buf → w ≡ Command n
+  pub handed-some : {n : Handed} (x : Option (List ℕ)) → w ≡ writtenOf x → b ≡ bufferWith x buf → w ≡ Command n
       → t ≡ commandsTurn p (s .count + 1) (n .len) → Did (replyOf t (stored s)) b (handOut s p buf x)
   handed-some none e f g h = let z : _≡_ {A = ℕ} 0 1 = cc in absurd (omega arith)
   handed-some {n} (some c) e f g h =

@@ -29,7 +29,7 @@ use Rattle.record.specs.declared.Reply.{Reply}
 use Rattle.record.specs.Numbers.{outcomeFor}
 use Rattle.basics.specs.Reason.{reasonDataList, reasonLink, reasonStopped}
 use Rattle.record.specs.Session.{stored, endedSession, endOf}
-use Rattle.record.specs.Held.{bytesIn}
+use Rattle.store.specs.Held.{bytesIn}
 use Rattle.record.specs.Ranges.{locatorIn, recordsIn, completed, mostCommands, inRanges}
 use Rattle.record.specs.Clauses.{Fits, Running, OnFresh, OnOptions, OnRecord, noResults}
 use Rattle.record.proofs.Laws.{all-fits, fits-all, all-brought}

@@ -9,7 +9,7 @@ use native.Mathlib.Omega.{arith}
 use lib.ListN.{length}
 use borrow.Author.Tests.{eqb-true, eqb-false, ltb-false}
 use Rattle.basics.proofs.Laws.{if-ind}
-use Rattle.locator.specs.declared.Record.{Record}
+use Rattle.locator.specs.declared.CardRecord.{CardRecord}
 use Rattle.locator.specs.declared.Found.{Found}
 use Rattle.locator.specs.Records.{accepts, recordAt}
 use Rattle.locator.specs.Command.{readRecord}
@@ -28,12 +28,12 @@ use Rattle.record.specs.declared.Reply.{Reply}
 use Rattle.record.specs.Numbers.{goesWith}
 use Rattle.basics.specs.Reason.{refusedPhase, refusedBuffer, refusedRanges, reasonNone, reasonMissing, reasonLocator, reasonAboveLimit, reasonDataList, reasonCryptogram, reasonMode}
 use Rattle.record.specs.Session.{stored, refusedReply, endsReply, failsReply}
-use Rattle.record.specs.Held.{byteIn}
+use Rattle.store.specs.Held.{byteIn}
 use Rattle.record.specs.Ranges.{emvMode, locatorIn, completed, inRanges}
 use Rattle.record.specs.Clauses.{noResults}
 use Rattle.record.proofs.Reasons.{decided}
 use Rattle.terminal.specs.Terminal.{Loaded, refusal, loaded, load}
-use Rattle.session.specs.Steps.{Step, quiet, refuses, fails, commands, withStore, withResults, leastBuffer, admitted, handOut, endsIn, brokenOff}
+use Rattle.session.specs.Steps.{Step, withoutCommand, refuses, fails, commands, withStore, withResults, leastBuffer, admitted, handOut, endsIn, brokenOff}
 use Rattle.session.specs.Start.{askOptions, startLoaded, startIn, startStep}
 use Rattle.session.specs.Answer.{accepted, askFound, optionsRead, optionsStep, askCryptogram, analysed, recordsRead, nextFound, recordRead, recordFound, recordStep, onlineFor, approvedFor, decision, concluded, cryptogramRead, cryptogramReply, answerIn, answerStep}
 use Rattle.session.proofs.Laws.{read-ind}
@@ -82,7 +82,7 @@ unread-reason a b s z = let f = few-reasons a b s in reason _ (omega arith) (ome
 
 pub data OptionsWay (t : Session) (buf : List ℕ) : Step → Type 0 where
   failed : (n : ℕ) → Reason n → OptionsWay t buf (fails t n buf)
-  first : (r : Record) → emvMode (stored t) ≡ true → accepts (locatorIn (stored t)) ≡ true → recordAt (locatorIn (stored t)) 1 ≡ Found.At r
+  first : (r : CardRecord) → emvMode (stored t) ≡ true → accepts (locatorIn (stored t)) ≡ true → recordAt (locatorIn (stored t)) 1 ≡ Found.At r
       → OptionsWay t buf (commands t (Phase.Record (record { number = 1 })) (readRecord r) buf)
 
 pub options-way : (t : Session) (buf : List ℕ) → OptionsWay t buf (optionsRead t buf)
@@ -133,7 +133,7 @@ records-way t buf =
 -- ---- after a record
 
 pub data RecordWay (p : Place) (t : Session) (buf : List ℕ) : Step → Type 0 where
-  next : (r : Record) → recordAt (locatorIn (stored t)) (p .number + 1) ≡ Found.At r
+  next : (r : CardRecord) → recordAt (locatorIn (stored t)) (p .number + 1) ≡ Found.At r
       → RecordWay p t buf (commands t (Phase.Record (record { number = p .number + 1 })) (readRecord r) buf)
   last : {st : Step} → recordAt (locatorIn (stored t)) (p .number + 1) ≡ Found.Nothing → RecordsWay t buf st → RecordWay p t buf st
 
@@ -189,10 +189,10 @@ pub data AnswerWay (s : Session) (card buf : List ℕ) : Step → Type 0 where
   unread : (n : ℕ) → Admitted s (length buf) → Reason n → AnswerWay s card buf (fails s n buf)
   options : {st : Step} → Admitted s (length buf) → s .phase ≡ Phase.Options → reading.readAnswer Awaited.Options (stored s) card .reason ≡ 0
       → OptionsWay (taken Awaited.Options s card) buf st → AnswerWay s card buf st
-  recorded : {st : Step} (p : Place) (r : Record) → Admitted s (length buf) → s .phase ≡ Phase.Record p → recordAt (locatorIn (stored s)) (p .number) ≡ Found.At r
+  recorded : {st : Step} (p : Place) (r : CardRecord) → Admitted s (length buf) → s .phase ≡ Phase.Record p → recordAt (locatorIn (stored s)) (p .number) ≡ Found.At r
       → RecordWay p (taken (Awaited.Record (record { number = r .file })) s card) buf st → AnswerWay s card buf st
   cryptogram : {q : Reply} (a : Asked) → Admitted s (length buf) → s .phase ≡ Phase.Cryptogram a → CryptogramWay (taken Awaited.Cryptogram s card) q
-      → AnswerWay s card buf (quiet q buf)
+      → AnswerWay s card buf (withoutCommand q buf)
 
 module _ (s : Session) (card buf : List ℕ) (i : Admitted s (length buf)) where
   step-options : s .phase ≡ Phase.Options → AnswerWay s card buf (optionsStep s card buf)
@@ -211,10 +211,10 @@ module _ (s : Session) (card buf : List ℕ) (i : Admitted s (length buf)) where
           accepted-ind (AnswerWay s card buf) s _ _ _ (λ z. unread _ i (unread-reason (Awaited.Record (record { number = r .file })) (stored s) card z))
           (λ z. recorded p r i q e (record-way p (taken (Awaited.Record (record { number = r .file })) s card) buf))
 
-  step-cryptogram : (a : Asked) → s .phase ≡ Phase.Cryptogram a → AnswerWay s card buf (quiet (cryptogramReply a s card) buf)
+  step-cryptogram : (a : Asked) → s .phase ≡ Phase.Cryptogram a → AnswerWay s card buf (withoutCommand (cryptogramReply a s card) buf)
   unfolding cryptogramReply
   step-cryptogram a q =
-      accepted-ind (λ (r : Reply). AnswerWay s card buf (quiet r buf)) s _ _ _ (λ z. unread _ i (unread-reason Awaited.Cryptogram (stored s) card z))
+      accepted-ind (λ (r : Reply). AnswerWay s card buf (withoutCommand r buf)) s _ _ _ (λ z. unread _ i (unread-reason Awaited.Cryptogram (stored s) card z))
       (λ z. cryptogram a i q (cryptogram-way a (taken Awaited.Cryptogram s card)))
 
   step-in : (p : Phase) → s .phase ≡ p → AnswerWay s card buf (answerIn p s card buf)

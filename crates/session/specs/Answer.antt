@@ -25,9 +25,9 @@ use Rattle.record.specs.declared.Session.{Session}
 use Rattle.basics.specs.Reason.{refusedPhase, reasonNone, reasonMissing, reasonLocator, reasonAboveLimit, reasonCryptogram, reasonMode, unless}
 use Rattle.record.specs.declared.Reply.{Reply}
 use Rattle.record.specs.Session.{stored, endOf, endsReply, failsReply}
-use Rattle.record.specs.Held.{holds, byteIn}
+use Rattle.store.specs.Held.{holds, byteIn}
 use Rattle.record.specs.Ranges.{emvMode, locatorIn, completed}
-use Rattle.session.specs.Steps.{Step, quiet, refuses, fails, commands, withStore, withResults, admitted, handOut}
+use Rattle.session.specs.Steps.{Step, withoutCommand, refuses, fails, commands, withStore, withResults, admitted, handOut}
 use Rattle.session.specs.declared.Needed.{Needed}
 use Rattle.session.specs.declared.Mode.{Mode}
 use Rattle.session.specs.declared.Limit.{Limit}
@@ -144,7 +144,7 @@ abbrev pub answerIn : Phase → Session → List ℕ → List ℕ → Step
 answerIn Phase.Fresh s card buf = refuses s refusedPhase buf
 answerIn Phase.Options s card buf = optionsStep s card buf
 answerIn (Phase.Record p) s card buf = recordStep p s card buf
-answerIn (Phase.Cryptogram a) s card buf = quiet (cryptogramReply a s card) buf
+answerIn (Phase.Cryptogram a) s card buf = withoutCommand (cryptogramReply a s card) buf
 answerIn (Phase.Ended e) s card buf = refuses s refusedPhase buf
 
 abbrev pub answerStep : Session → List ℕ → List ℕ → Step

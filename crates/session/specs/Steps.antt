@@ -2,12 +2,13 @@
 -- (document 01, "Calls and their numbers").
 -- Assumes nothing.
 use mathlib.Core.Path.{_≡_}
-use mathlib.Core.List.{List, _++_}
+use mathlib.Core.List.{List}
 use mathlib.Core.Option.{Option, some, none}
 use Prim.Native.Nat.{ℕ, _+_}
 use lib.Dec.{ltb}
-use lib.ListN.{length, drop}
+use lib.ListN.{length}
 use Rattle.basics.specs.Choice.{if}
+use Rattle.basics.specs.Front.{inFront}
 use Rattle.dictionary.specs.Rows.{rows}
 use Rattle.dictionary.specs.Named.{placeOf}
 use Rattle.store.specs.Place.{putAt}
@@ -31,20 +32,20 @@ pub record Did (r : Reply) (b : List ℕ) (s : Step) : Type 0 where
   pub buffer : b ≡ s .buffer
 
 -- no command: the whole buffer stays
-abbrev pub quiet : Reply → List ℕ → Step
-quiet r buf = record { reply = r; buffer = buf }
+abbrev pub withoutCommand : Reply → List ℕ → Step
+withoutCommand r buf = record { reply = r; buffer = buf }
 
 -- a refusal, by its number
 abbrev pub refuses : Session → ℕ → List ℕ → Step
-refuses s n buf = quiet (refusedReply s n) buf
+refuses s n buf = withoutCommand (refusedReply s n) buf
 
 -- the session ends for a reason other than 0
 abbrev pub fails : Session → ℕ → List ℕ → Step
-fails s n buf = quiet (failsReply s n) buf
+fails s n buf = withoutCommand (failsReply s n) buf
 
 -- a command fills the front of the buffer, and the session waits on its answer in a phase, with one command more
 abbrev pub commands : Session → Phase → List ℕ → List ℕ → Step
-commands s p c buf = record { reply = commandsReply (waitingSession s p (s .count + 1)) (length c); buffer = c ++ drop (length c) buf }
+commands s p c buf = record { reply = commandsReply (waitingSession s p (s .count + 1)) (length c); buffer = inFront c buf }
 
 -- the session with a store of these bytes
 abbrev pub withStore : Session → List ℕ → Session
@@ -86,7 +87,7 @@ abbrev pub brokenOff : Session → ℕ → ℕ → Reply
 brokenOff s n size = admitted s size (refusedReply s) (endsIn (s .phase) s n)
 
 abbrev pub linkStep : Session → List ℕ → Step
-linkStep s buf = quiet (brokenOff s reasonLink (length buf)) buf
+linkStep s buf = withoutCommand (brokenOff s reasonLink (length buf)) buf
 
 abbrev pub stopStep : Session → List ℕ → Step
-stopStep s buf = quiet (brokenOff s reasonStopped (length buf)) buf
+stopStep s buf = withoutCommand (brokenOff s reasonStopped (length buf)) buf

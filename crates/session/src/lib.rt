@@ -26,7 +26,7 @@ ghost use Rattle.locator.specs.Command.{readRecord};
 ghost use Rattle.analysis.specs.Action.{aboveLimit};
 ghost use Rattle.terminal.specs.Terminal.{load as loadOf};
 ghost use Rattle.record.specs.Session.{sessionOf, replyOf};
-ghost use Rattle.record.specs.Held.{holds};
+ghost use Rattle.store.specs.Held.{holds};
 ghost use Rattle.record.specs.Ranges.{emvMode, completed};
 ghost use Rattle.session.specs.Steps.{Did, commands as commandsStep, leastBuffer, brokenOff, linkStep, stopStep};
 ghost use Rattle.session.specs.Start.{askOptions, startLoaded, startStep, refusalNumber};
@@ -245,7 +245,7 @@ fn after_options(count: u8, bytes: &[u8], command: &mut [u8]) -> Turn
 }
 
 // The command for a record, the k-th that the locator names, whatever the phase and the store are.
-fn ask_record(count: u8, wanted: locator::Record, k: u8, command: &mut [u8]) -> Turn
+fn ask_record(count: u8, wanted: locator::CardRecord, k: u8, command: &mut [u8]) -> Turn
     requires { ⌜ (leastBuffer ≤ length (now command)) × (count < 255) ⌝ }
     requires { ⌜ wanted .file < 32 ⌝ }
     ensures { λ r. ⌜ ((p : Phase) (b : List ℕ) → Did (replyOf r b) (now (command .exit)) (commandsStep (sessionOf p count b) (Phase.Record (record { number = k })) (readRecord wanted) (now (command .entry)))) ⌝ }

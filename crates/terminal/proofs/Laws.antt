@@ -26,7 +26,7 @@ use Rattle.store.specs.Place.{Value, bytesOf, isThere, valueAt, valueOf, putAt}
 use Rattle.store.proofs.Laws.{Fits, put-length, put-get, put-other, by-row}
 use Rattle.store.proofs.Rows.{rows-length, fits-row}
 use Rattle.record.specs.declared.Refusal.{Refusal}
-use Rattle.record.specs.Held.{holds, byteIn}
+use Rattle.store.specs.Held.{holds, byteIn}
 use Rattle.record.specs.Ranges.{isBrought, brought, allFit}
 use Rattle.terminal.specs.declared.Said.{Said}
 use Rattle.terminal.specs.Terminal.{Object, run, typeListed, settable, setFound, setObject, andThen, setAll, Loaded, refusal, loaded, whole, afterSetting, afterRun, mostBytes, load, Loads}

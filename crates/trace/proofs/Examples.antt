@@ -18,17 +18,17 @@ use Rattle.dictionary.specs.Form.{numeric, digitsFit, fitting}
 use Rattle.dictionary.specs.TerminalType.{listed}
 use Rattle.store.specs.Place.{offsetIn, placeAt, held, valueAt, putAt, valueIn, lengthByte}
 use Rattle.locator.specs.Entry.{keeps}
-use Rattle.locator.specs.Records.{entries as entriesOf, whole, run as runOf, recordsOf, sumOf, accepts, nth, kth, recordAt}
+use Rattle.locator.specs.Records.{entries as entriesOf, wholeEntries, recordsFrom as runOf, recordsOf, sumOf, accepts, nth, kth, recordAt}
 use Rattle.reading.specs.Taking.{mayStand, mayCome, allowed, takeItem, takeNext, takeAll}
 use Rattle.reading.specs.Answer.{bodyOf, optionsParts, primitiveParts, readBody, isRead, goodStatus, goodLength, readAnswer}
-use Rattle.data_list.specs.Entries.{along, entriesBy, entries}
+use Rattle.data_list.specs.Entries.{along, listEntriesBy, listEntries}
 use Rattle.data_list.specs.Filling.{fillingOf, filledBy}
 use Rattle.data_list.specs.Commands.{optionsOf, processingOptions}
 use Rattle.record.specs.declared.Phase.{Phase}
 use Rattle.record.specs.Numbers.{goesWith, outcomeFor}
 use Rattle.basics.specs.Reason.{reasonLink}
-use Rattle.record.specs.Held.{lengthIn}
-use Rattle.record.specs.Ranges.{isBrought, brought, unanswered, running, optionsRanges, inRanges, allFit, objectFits, freshRanges, endedRanges}
+use Rattle.store.specs.Held.{lengthIn}
+use Rattle.record.specs.Ranges.{isBrought, brought, cryptogramAbsent, running, optionsRanges, inRanges, allFit, objectFits, freshRanges, endedRanges}
 use Rattle.record.specs.Session.{freshSession, endOf}
 use Rattle.terminal.specs.Terminal.{withObject, primitiveOf, runBy, run, typeListed, settable, setObject, setAll, load}
 use Rattle.session.specs.Steps.{withResults, admitted}
@@ -63,7 +63,7 @@ recordCommand = 0x00 ∷ 0xB2 ∷ 0x01 ∷ 0x0C ∷ 0x00 ∷ []
 
 -- a start and the answer to processing options: processing options and the first record are handed out
 pub begins : commands (play freshSession (start startBytes lent ∷ answer optionsAnswer lent ∷ [])) ≡ optionsCommand ∷ recordCommand ∷ []
-unfolding commands play final taken admitted endedRanges outcomeFor inRanges allFit objectFits lengthIn lengthByte freshRanges optionsRanges running unanswered askOptions processingOptions optionsOf filledBy fillingOf entries entriesBy along lengthBytes optionsStep accepted optionsRead recordAt kth nth accepts whole entriesOf keeps sumOf recordsOf runOf readAnswer goodLength goodStatus isRead readBody bodyOf primitiveParts optionsParts takeAll takeNext takeItem allowed mayCome mayStand withResults placeOf load run runBy withObject primitiveOf headerOf tagAt tagSize secondByte thirdByte lengthAt firstByte isTemplate isPrivate numberFrom if both either every rows past find settable setObject setAll fitting digitsFit numeric nibbles typeListed listed offsetIn placeAt held valueAt putAt valueIn brought isBrought
+unfolding commands play final taken admitted endedRanges outcomeFor inRanges allFit objectFits lengthIn lengthByte freshRanges optionsRanges running cryptogramAbsent askOptions processingOptions optionsOf filledBy fillingOf listEntries listEntriesBy along lengthBytes optionsStep accepted optionsRead recordAt kth nth accepts wholeEntries entriesOf keeps sumOf recordsOf runOf readAnswer goodLength goodStatus isRead readBody bodyOf primitiveParts optionsParts takeAll takeNext takeItem allowed mayCome mayStand withResults placeOf load run runBy withObject primitiveOf headerOf tagAt tagSize secondByte thirdByte lengthAt firstByte isTemplate isPrivate numberFrom if both either every rows past find settable setObject setAll fitting digitsFit numeric nibbles typeListed listed offsetIn placeAt held valueAt putAt valueIn brought isBrought
 begins = refl
 
 -- a stop before the start, a start with a buffer of one byte and a second start are refused and change nothing
@@ -71,7 +71,7 @@ abbrev interrupted : List Call
 interrupted = stop lent ∷ start startBytes (0x00 ∷ []) ∷ start startBytes lent ∷ start startBytes lent ∷ answer optionsAnswer lent ∷ []
 
 pub refused-between : (commands (play freshSession interrupted) ≡ optionsCommand ∷ recordCommand ∷ []) × (length (taken (play freshSession interrupted)) ≡ 2)
-unfolding commands play final taken admitted endedRanges outcomeFor inRanges allFit objectFits lengthIn lengthByte freshRanges optionsRanges running unanswered askOptions processingOptions optionsOf filledBy fillingOf entries entriesBy along lengthBytes optionsStep accepted optionsRead recordAt kth nth accepts whole entriesOf keeps sumOf recordsOf runOf readAnswer goodLength goodStatus isRead readBody bodyOf primitiveParts optionsParts takeAll takeNext takeItem allowed mayCome mayStand withResults placeOf load run runBy withObject primitiveOf headerOf tagAt tagSize secondByte thirdByte lengthAt firstByte isTemplate isPrivate numberFrom if both either every rows past find settable setObject setAll fitting digitsFit numeric nibbles typeListed listed offsetIn placeAt held valueAt putAt valueIn brought isBrought
+unfolding commands play final taken admitted endedRanges outcomeFor inRanges allFit objectFits lengthIn lengthByte freshRanges optionsRanges running cryptogramAbsent askOptions processingOptions optionsOf filledBy fillingOf listEntries listEntriesBy along lengthBytes optionsStep accepted optionsRead recordAt kth nth accepts wholeEntries entriesOf keeps sumOf recordsOf runOf readAnswer goodLength goodStatus isRead readBody bodyOf primitiveParts optionsParts takeAll takeNext takeItem allowed mayCome mayStand withResults placeOf load run runBy withObject primitiveOf headerOf tagAt tagSize secondByte thirdByte lengthAt firstByte isTemplate isPrivate numberFrom if both either every rows past find settable setObject setAll fitting digitsFit numeric nibbles typeListed listed offsetIn placeAt held valueAt putAt valueIn brought isBrought
 refused-between = (refl, refl)
 
 -- the link fails on processing options: the session has ended with reason 9, and a later answer is refused
@@ -80,7 +80,7 @@ torn = start startBytes lent ∷ link-failed lent ∷ answer optionsAnswer lent 
 
 pub link-fails : (commands (play freshSession torn) ≡ optionsCommand ∷ []) × (length (taken (play freshSession torn)) ≡ 2)
     × (final freshSession torn .phase ≡ Phase.Ended (endOf (outcomeFor reasonLink) reasonLink))
-unfolding commands play final taken admitted endedRanges goesWith outcomeFor inRanges allFit objectFits lengthIn lengthByte freshRanges optionsRanges running unanswered askOptions processingOptions optionsOf filledBy fillingOf entries entriesBy along lengthBytes optionsStep accepted optionsRead recordAt kth nth accepts whole entriesOf keeps sumOf recordsOf runOf readAnswer goodLength goodStatus isRead readBody bodyOf primitiveParts optionsParts takeAll takeNext takeItem allowed mayCome mayStand withResults placeOf load run runBy withObject primitiveOf headerOf tagAt tagSize secondByte thirdByte lengthAt firstByte isTemplate isPrivate numberFrom if both either every rows past find settable setObject setAll fitting digitsFit numeric nibbles typeListed listed offsetIn placeAt held valueAt putAt valueIn brought isBrought
+unfolding commands play final taken admitted endedRanges goesWith outcomeFor inRanges allFit objectFits lengthIn lengthByte freshRanges optionsRanges running cryptogramAbsent askOptions processingOptions optionsOf filledBy fillingOf listEntries listEntriesBy along lengthBytes optionsStep accepted optionsRead recordAt kth nth accepts wholeEntries entriesOf keeps sumOf recordsOf runOf readAnswer goodLength goodStatus isRead readBody bodyOf primitiveParts optionsParts takeAll takeNext takeItem allowed mayCome mayStand withResults placeOf load run runBy withObject primitiveOf headerOf tagAt tagSize secondByte thirdByte lengthAt firstByte isTemplate isPrivate numberFrom if both either every rows past find settable setObject setAll fitting digitsFit numeric nibbles typeListed listed offsetIn placeAt held valueAt putAt valueIn brought isBrought
 link-fails = (refl, refl, refl)
 
 -- ---- the published order

@@ -15,7 +15,7 @@ use Rattle.reading.specs.declared.Awaited.{Awaited}
 use Rattle.reading.specs.Answer as reading
 use Rattle.record.specs.declared.Session.{Session}
 use Rattle.record.specs.Session.{stored}
-use Rattle.record.specs.Held.{holds}
+use Rattle.store.specs.Held.{holds}
 use Rattle.record.specs.Ranges.{emvMode, locatorIn}
 use Rattle.session.specs.Steps.{Step, fails, withStore}
 use Rattle.session.specs.Answer.{accepted, askFound, optionsRead, optionsStep, storedReason, optionsReason}

@@ -14,7 +14,7 @@ use borrow.Author.Tests.{eq-eqb, ne-eqb}
 use Rattle.basics.specs.Choice.{if}
 use Rattle.basics.proofs.Laws.{if-ind, if-yes, if-no, bool-cases, either-left, both-yes, both-no-left, both-no-right}
 use Rattle.store.specs.Place.{bytesOf}
-use Rattle.locator.specs.declared.Record.{Record}
+use Rattle.locator.specs.declared.CardRecord.{CardRecord}
 use Rattle.locator.specs.declared.Found.{Found}
 use Rattle.locator.specs.Records.{records, total, accepts, recordAt}
 use Rattle.locator.specs.Command.{readRecord}
@@ -36,7 +36,7 @@ use Rattle.record.specs.Ranges.{locatorIn, inRanges}
 use Rattle.record.specs.Clauses.{noResults}
 use Rattle.record.proofs.Phases.{store-size, on-fresh, on-options, on-record, count-most}
 use Rattle.session.specs.Steps as steps
-use Rattle.session.specs.Steps.{Step, quiet, refuses, withStore, withResults, admitted, endsIn, brokenOff}
+use Rattle.session.specs.Steps.{Step, withoutCommand, refuses, withStore, withResults, admitted, endsIn, brokenOff}
 use Rattle.session.specs.Start.{startStep}
 use Rattle.session.specs.Answer.{answerIn, answerStep}
 use Rattle.session.proofs.Kept.{read-locator}
@@ -69,10 +69,10 @@ kind-cryptogram c p =
     if-no _ _ (both-no-right _ _ (ne-eqb (getD c 1 0) 0xA8 (λ z. omega (arith, t .1))))
     ∙ if-yes _ _ (both-yes _ _ (eq-eqb _ 0x80 (t .0)) (eq-eqb _ 0xAE (t .1)))
 
-abbrev reads : Record → Kind
+abbrev reads : CardRecord → Kind
 reads r = record-command (readRecord r)
 
-kind-record : (r : Record) → kindOf (readRecord r) ≡ reads r
+kind-record : (r : CardRecord) → kindOf (readRecord r) ≡ reads r
 unfolding kindOf
 kind-record r = if-no _ _ (both-no-left _ _ (ne-eqb 0 0x80 (λ z. omega arith))) ∙ if-no _ _ (both-no-left _ _ (ne-eqb 0 0x80 (λ z. omega arith)))
 
@@ -122,13 +122,13 @@ published-length none = refl
 published-length (some l) = simp (length-append, length-map) (omega (arith, records-length l))
 
 -- the record behind the k-th
-next-record : (l : List ℕ) (k : ℕ) (r : Record) → recordAt l (k + 1) ≡ Found.At r → drop k (records l) ≡ r ∷ drop (k + 1) (records l)
+next-record : (l : List ℕ) (k : ℕ) (r : CardRecord) → recordAt l (k + 1) ≡ Found.At r → drop k (records l) ≡ r ∷ drop (k + 1) (records l)
 next-record l k r e =
     ap (drop k) (record-split l (k + 1) r e)
     ∙ drop-at (take (k + 1 - 1) (records l)) (r ∷ drop (k + 1) (records l)) k
     (length-take (k + 1 - 1) (records l) ∙ omega (arith, records-length l, record-inside l (k + 1) r e .1))
 
-empty : (x : List Record) → length x ≡ 0 → x ≡ []
+empty : (x : List CardRecord) → length x ≡ 0 → x ≡ []
 empty [] e = refl
 empty (r ∷ x) e = absurd (omega arith)
 
@@ -216,7 +216,7 @@ Goes s c st =
 goes-refused : (s : Session) (c : Call) (n : ℕ) (buf : List ℕ) → Goes s c (refuses s n buf)
 goes-refused s c n buf sent tk f r = subst (λ (x : List Made). Run s sent x f) (sym (if-yes _ _ refl)) r
 
-goes-ended : (s : Session) (c : Call) (b : List ℕ) (o : Outcome) (n : ℕ) (buf : List ℕ) → isEnded (s .phase) ≡ false → Goes s c (quiet (endsReply (withStore s b) o n) buf)
+goes-ended : (s : Session) (c : Call) (b : List ℕ) (o : Outcome) (n : ℕ) (buf : List ℕ) → isEnded (s .phase) ≡ false → Goes s c (withoutCommand (endsReply (withStore s b) o n) buf)
 goes-ended s c b o n buf e sent tk f r =
     subst (λ (x : List Made). Run s sent x f) (sym (if-no _ _ refl))
     (record {
@@ -231,7 +231,7 @@ goes-ended s c b o n buf e sent tk f r =
     })
   where
     m : Made
-    m = made c (quiet (endsReply (withStore s b) o n) buf)
+    m = made c (withoutCommand (endsReply (withStore s b) o n) buf)
 
     left : Front (map kindOf sent) (rest (s .phase) (locatorIn (stored s)) (firstAnswer (m ∷ tk))) × (length sent ≡ 0)
     left = none-left sent _ (r .order)
@@ -293,7 +293,7 @@ module _ (s : Session) (card buf : List ℕ) where
       (λ sent tk h. subst (λ (p : Phase). Front (kindOf (readRecord r) ∷ map kindOf sent) (rest p (locatorIn (stored s)) (if true (broughtLocator card) none))) (sym q)
       (subst (λ (x : Option (List ℕ)). Front (kindOf (readRecord r) ∷ map kindOf sent) (drop 1 (published cryptogram x))) (sym (if-yes _ _ refl ∙ here))
       (front-cons (kindOf (readRecord r)) (reads r) (map kindOf sent) (drop 1 (published cryptogram (some l))) (map reads (drop 1 (records l)) ++ (cryptogram ∷ []))
-      (ap (λ (x : List Record). map reads x ++ (cryptogram ∷ [])) (next-record l 0 r e)) (kind-record r) h)))
+      (ap (λ (x : List CardRecord). map reads x ++ (cryptogram ∷ [])) (next-record l 0 r e)) (kind-record r) h)))
     where
       b : List ℕ
       b = reading.readAnswer Awaited.Options (stored s) card .store
@@ -324,7 +324,7 @@ module _ (s : Session) (card buf : List ℕ) where
         goes-sent s call (withResults b (resultOf b)) _ c buf (ap isEnded q) refl (λ w. refl)
         (λ sent tk h. left (kindOf c ∷ map kindOf sent) (firstAnswer (made call (steps.commands (analysedSession (ways.taken w s card)) (Phase.Cryptogram (record { choice = choiceIn (ways.taken w s card) })) c buf) ∷ tk))
         (front-cons (kindOf c) cryptogram (map kindOf sent) (map reads (drop (p .number) (records (locatorIn b))) ++ (cryptogram ∷ [])) []
-        (ap (λ (x : List Record). map reads x ++ (cryptogram ∷ [])) (no-record (locatorIn b) (p .number) (ap accepts same ∙ on-record s i p q .locator) e))
+        (ap (λ (x : List CardRecord). map reads x ++ (cryptogram ∷ [])) (no-record (locatorIn b) (p .number) (ap accepts same ∙ on-record s i p q .locator) e))
         (kind-cryptogram c (list.cryptogram-proper (stored (analysedSession (ways.taken w s card))) c (p1Of (choiceIn (ways.taken w s card))) g)) h))
 
     record-goes : {st : Step} → RecordWay p (ways.taken w s card) buf st → Goes s call st
@@ -333,10 +333,10 @@ module _ (s : Session) (card buf : List ℕ) where
         (λ sent tk h. left (kindOf (readRecord r) ∷ map kindOf sent) (firstAnswer (made call (steps.commands (ways.taken w s card) (Phase.Record (record { number = p .number + 1 })) (readRecord r) buf) ∷ tk))
         (front-cons (kindOf (readRecord r)) (reads r) (map kindOf sent) (map reads (drop (p .number) (records (locatorIn b))) ++ (cryptogram ∷ []))
         (map reads (drop (p .number + 1) (records (locatorIn b))) ++ (cryptogram ∷ []))
-        (ap (λ (x : List Record). map reads x ++ (cryptogram ∷ [])) (next-record (locatorIn b) (p .number) r e)) (kind-record r) h))
+        (ap (λ (x : List CardRecord). map reads x ++ (cryptogram ∷ [])) (next-record (locatorIn b) (p .number) r e)) (kind-record r) h))
     record-goes (RecordWay.last e v) = records-goes e v
 
-  cryptogram-goes : isEnded (s .phase) ≡ false → {y : Reply} → CryptogramWay (ways.taken Awaited.Cryptogram s card) y → Goes s call (quiet y buf)
+  cryptogram-goes : isEnded (s .phase) ≡ false → {y : Reply} → CryptogramWay (ways.taken Awaited.Cryptogram s card) y → Goes s call (withoutCommand y buf)
   cryptogram-goes e (CryptogramWay.failed n r) = goes-ended s call _ _ n buf e
   cryptogram-goes e (CryptogramWay.decides o g) = goes-ended s call _ o _ buf e
 
@@ -371,13 +371,13 @@ module _ (s : Session) (card buf : List ℕ) where
 
 -- ---- link failed and stop
 
-broken-goes : (s : Session) (c : Call) (n : ℕ) (buf : List ℕ) → Goes s c (quiet (brokenOff s n (length buf)) buf)
+broken-goes : (s : Session) (c : Call) (n : ℕ) (buf : List ℕ) → Goes s c (withoutCommand (brokenOff s n (length buf)) buf)
 unfolding admitted
 broken-goes s c n buf =
     if-ind P _ _ _ (λ e. goes-refused s c _ buf) (λ e. if-ind P _ _ _ (λ r. go (s .phase) refl) (λ r. goes-refused s c _ buf))
   where
     P : Reply → Type 0
-    P y = Goes s c (quiet y buf)
+    P y = Goes s c (withoutCommand y buf)
 
     go : (p : Phase) → s .phase ≡ p → P (endsIn p s n)
     go Phase.Fresh q = goes-refused s c _ buf

@@ -7,7 +7,7 @@ use native.Mathlib.Omega.{arith}
 use lib.ListN.{length, length-take, length-drop}
 use borrow.Author.Needs.{needs}
 use Rattle.dictionary.specs.Rows.{rows}
-use Rattle.data_list.specs.Entries.{entries, Room}
+use Rattle.data_list.specs.Entries.{listEntries, Room}
 use Rattle.data_list.specs.Filling.{filled}
 use Rattle.data_list.specs.Buffer.{overFilled}
 use Rattle.data_list.proofs.Entries.{entry-inside}
@@ -18,7 +18,7 @@ use Rattle.data_list.proofs.fill.Tie as tie
 abbrev Inv-loop : tie.InvT-loop
 Inv-loop list store buffer₀ at rest₀ to₀ buffer rest to =
     (overFilled buffer₀ at (filled rows store list) ≡ overFilled buffer to (filled rows store rest)) × (length buffer ≡ length buffer₀)
-    × Room (entries rest) to (length buffer)
+    × Room (listEntries rest) to (length buffer)
 
 abbrev μ-loop : tie.MeasureT-loop
 μ-loop list store buffer₀ at rest₀ to₀ buffer rest to = length rest

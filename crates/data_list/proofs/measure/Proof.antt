@@ -7,16 +7,16 @@ use native.Mathlib.Omega.{arith}
 use lib.ListN.{length, drop, length-take, length-drop}
 use borrow.Author.Needs.{needs}
 use Rattle.tlv.proofs.Laws.{tail-is}
-use Rattle.data_list.specs.Entries.{entries, measured}
+use Rattle.data_list.specs.Entries.{listEntries, measured}
 use Rattle.data_list.proofs.Entries.{entry-inside, measuredFrom, measured-from, measured-end, measured-broken, measured-more, measured-long}
 use Rattle.data_list.proofs.measure.Statement.{statement}
 use Rattle.data_list.proofs.measure.Tie as tie
 
 abbrev Inv-loop : tie.InvT-loop
-Inv-loop list rest₀ total₀ rest total = (measured (entries list) ≡ measuredFrom total (entries rest)) × (total ≤ 255)
+Inv-loop list rest₀ total₀ rest askedTotal = (measured (listEntries list) ≡ measuredFrom askedTotal (listEntries rest)) × (askedTotal ≤ 255)
 
 abbrev μ-loop : tie.MeasureT-loop
-μ-loop list rest₀ total₀ rest total = length rest
+μ-loop list rest₀ total₀ rest askedTotal = length rest
 
 -- where the entry is taken apart: it lies inside the rest
 inside : (c : tie.After-front Inv-loop μ-loop) → (2 ≤ c .front .given .0 .1 .0) × (c .front .given .0 .1 .0 ≤ length (c .before .before .before .before .loop .rest .now))
@@ -25,13 +25,13 @@ inside c = entry-inside _ _ _ (sym (c .before .before .entry-at .ensures) ∙ c 
 -- the list is measured on behind it
 on : (c : tie.After-wide Inv-loop μ-loop) →
     let lp = c .before .before .before .before .before .before .loop in
-    measured (entries (c .before .before .before .before .before .before .before .before .args .list .now))
-    ≡ measuredFrom (lp .total + c .wide .result) (entries (drop (c .before .before .front .given .0 .1 .0) (lp .rest .now)))
+    measured (listEntries (c .before .before .before .before .before .before .before .before .args .list .now))
+    ≡ measuredFrom (lp .total + c .wide .result) (listEntries (drop (c .before .before .front .given .0 .1 .0) (lp .rest .now)))
 on c =
     let lp = c .before .before .before .before .before .before .loop in
     let g = c .before .before .front .given in
     lp .inv .0 ∙ measured-more (lp .total) (lp .rest .now) _ _ (sym (c .before .before .before .before .entry-at .ensures) ∙ g .1)
-    ∙ ap (λ (n : ℕ). measuredFrom (lp .total + n) (entries (drop (g .0 .1 .0) (lp .rest .now)))) (sym (c .wide .ensures .0))
+    ∙ ap (λ (n : ℕ). measuredFrom (lp .total + n) (listEntries (drop (g .0 .1 .0) (lp .rest .now)))) (sym (c .wide .ensures .0))
 
 returns : tie.Need-returns Inv-loop μ-loop
 returns c =
@@ -48,7 +48,7 @@ loop-again : tie.Need-loop-again Inv-loop μ-loop
 loop-again c =
     let lp = c .before .before .before .before .before .before .before .before .loop in
     let n = lp .total + c .before .before .wide .result in
-    (on (c .before .before) ∙ ap (λ (s : List ℕ). measuredFrom n (entries s)) (sym (tail-is (lp .rest .now) _)), c .before .if1 .left)
+    (on (c .before .before) ∙ ap (λ (s : List ℕ). measuredFrom n (listEntries s)) (sym (tail-is (lp .rest .now) _)), c .before .if1 .left)
 
 returns-3 : tie.Need-returns-3 Inv-loop μ-loop
 returns-3 c =

@@ -7,7 +7,7 @@ use native.Mathlib.Omega.{arith}
 use lib.ListN.{length, length-append}
 use borrow.Author.Needs.{needs}
 use Rattle.dictionary.specs.Rows.{rows}
-use Rattle.data_list.specs.Entries.{entries}
+use Rattle.data_list.specs.Entries.{listEntries}
 use Rattle.data_list.specs.Commands.{processingOptions, optionsOf, optionsHead, optionsData, command}
 use Rattle.data_list.specs.Buffer.{over}
 use Rattle.data_list.proofs.Buffer.{over-some, over-then}
@@ -16,7 +16,7 @@ use Rattle.data_list.proofs.processing_options.Statement.{statement}
 use Rattle.data_list.proofs.processing_options.Tie as tie
 
 -- a measured list's filling
-filling : (c : tie.After-measured) → Fills rows (c .before .before .before .before .before .before .args .store .now) (entries (c .before .before .before .value .result .now)) (c .measured .given .0 .0)
+filling : (c : tie.After-measured) → Fills rows (c .before .before .before .before .before .before .args .store .now) (listEntries (c .before .before .before .value .result .now)) (c .measured .given .0 .0)
 filling c = fills rows _ _ _ (sym (c .before .before .measure .ensures) ∙ c .measured .given .1)
 
 -- the place behind the head: at most 8

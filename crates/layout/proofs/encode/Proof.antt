@@ -11,13 +11,13 @@ use borrow.Rule.Slice.PartMut.{putMid, same-len-mid}
 use Rattle.basics.proofs.Laws.{if-no}
 use Rattle.dictionary.specs.Rows.{storeSize}
 use Rattle.store.proofs.Laws.{copied}
-use Rattle.layout.specs.Layout.{headSize, headed, written}
+use Rattle.layout.specs.Layout.{headSize, withHead, withRecord}
 use Rattle.layout.proofs.Lists.{headed-length, put-store}
 use Rattle.layout.proofs.encode.Statement.{statement}
 use Rattle.layout.proofs.encode.Tie as tie
 
 returns : tie.Need-returns
-unfolding written
+unfolding withRecord
 returns c = let f = lt-leb _ _ (c .if1 .taken) in record { enough = sym f; bytes = sym (if-no _ _ f) }
 
 part-copy-end : tie.Need-part-copy-end
@@ -50,7 +50,7 @@ returns-2 c =
     let w = copied (a .store .now) (take storeSize (drop headSize (c .before .before .before .before .before .before .before .put-head .last .1 .1 .0))) m (simp (length-take, length-drop) (omega arith)) (c .before .before .copy .ensures .1) in
     record {
       enough = sym (le-leb _ _ h);
-      bytes = ap (λ (x : List ℕ). putMid headSize storeSize x m) e ∙ ap (putMid headSize storeSize (headed (a .phase) (a .count) (a .bytes .now))) w ∙ put-store (a .bytes .now) (a .store .now) (a .phase) (a .count) h p;
+      bytes = ap (λ (x : List ℕ). putMid headSize storeSize x m) e ∙ ap (putMid headSize storeSize (withHead (a .phase) (a .count) (a .bytes .now))) w ∙ put-store (a .bytes .now) (a .store .now) (a .phase) (a .count) h p;
     }
 
 pub encode-spec : {M : Type 1} → statement M

@@ -10,7 +10,7 @@ use Rattle.line.proofs.behind_word.Tie as tie
 
 returns : tie.Need-returns
 returns c =
-    past-is _ _ _ (c .before .run .ensures .0) ∙ ap (past (of Kind.NotBlank)) (c .before .before .past-blanks .ensures)
+    past-is _ _ _ (c .before .front-length .ensures .0) ∙ ap (past (of Kind.NotBlank)) (c .before .before .past-blanks .ensures)
 
 pub behind-word-spec : {M : Type 1} → statement M
 behind-word-spec =

@@ -6,7 +6,7 @@ use Rattle.line.proofs.past_blanks.Statement.{statement}
 use Rattle.line.proofs.past_blanks.Tie as tie
 
 returns : tie.Need-returns
-returns c = past-is _ _ _ (c .before .run .ensures .0)
+returns c = past-is _ _ _ (c .before .front-length .ensures .0)
 
 pub past-blanks-spec : {M : Type 1} → statement M
 past-blanks-spec =

@@ -8,7 +8,7 @@ use Rattle.line.proofs.uncommented.Statement.{statement}
 use Rattle.line.proofs.uncommented.Tie as tie
 
 returns : tie.Need-returns
-returns c = front-is _ _ _ (c .before .run .ensures .0)
+returns c = front-is _ _ _ (c .before .front-length .ensures .0)
 
 pub uncommented-spec : {M : Type 1} → statement M
 uncommented-spec =

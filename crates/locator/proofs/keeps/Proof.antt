@@ -15,7 +15,7 @@ returns : tie.Need-returns
 unfolding keeps
 returns c =
     let e = c .before .before .args .e in
-    sym (both-no-left _ _ (ne-eqb (e .lead % 8) 0 (omega arith)))
+    sym (both-no-left _ _ (ne-eqb (e .sfi % 8) 0 (omega arith)))
 
 returns-2 : tie.Need-returns-2
 unfolding keeps

@@ -6,7 +6,7 @@ use mathlib.Core.List.{List, [], _∷_}
 use Prim.Native.Nat.{ℕ, _≤_}
 use native.Mathlib.Omega.{arith}
 use lib.ListN.{length, set, drop, length-set}
-use Rattle.locator.specs.Command.{Written, Wrote}
+use Rattle.locator.specs.Command.{CommandWritten, Wrote}
 use Rattle.locator.proofs.Laws.{written-yes, written-short, written-wide}
 use Rattle.locator.proofs.read_record.Statement.{statement}
 use Rattle.locator.proofs.read_record.Tie as tie
@@ -19,7 +19,7 @@ five (v ∷ w ∷ x ∷ []) a b c d e h = absurd (omega arith)
 five (v ∷ w ∷ x ∷ y ∷ []) a b c d e h = absurd (omega arith)
 five (v ∷ w ∷ x ∷ y ∷ z ∷ l) a b c d e h = refl
 
-wrote : (n : ℕ) (b : List ℕ) (w v : Written) → w ≡ v → n ≡ v .size → b ≡ v .buffer → Wrote n b w
+wrote : (n : ℕ) (b : List ℕ) (w v : CommandWritten) → w ≡ v → n ≡ v .size → b ≡ v .buffer → Wrote n b w
 wrote n b w v e p q = rw e (record { size = p; buffer = q })
 
 returns : tie.Need-returns

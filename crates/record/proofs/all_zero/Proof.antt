@@ -11,7 +11,7 @@ use lib.ListN.{length, getD, drop}
 use Rattle.basics.specs.Choice.{both, every}
 use Rattle.basics.proofs.Laws.{both-true, both-no-left, both-no-right}
 use Rattle.basics.proofs.Order.{equal-or-not}
-use Rattle.record.specs.Held.{isZero}
+use Rattle.store.specs.Held.{isZero}
 use Rattle.record.proofs.Tests.{both-right-true}
 use Rattle.record.proofs.Every.{every-no, every-yes, every-done}
 use Rattle.record.proofs.all_zero.Statement.{statement}

@@ -6,14 +6,14 @@ use mathlib.Core.List.{[], _∷_}
 use Rattle.basics.specs.Choice.{every}
 use Rattle.basics.proofs.Laws.{both-true, both-no-left}
 use Rattle.dictionary.proofs.Named.{at-5A, at-5F24, at-8C}
-use Rattle.record.specs.Held.{filled}
+use Rattle.store.specs.Held.{notEmpty}
 use Rattle.record.specs.Ranges.{completed}
 use Rattle.record.proofs.Tags.{size-none, size-some, size-is}
 use Rattle.record.proofs.Tests.{both-right-true}
 use Rattle.record.proofs.is_complete.Statement.{statement}
 use Rattle.record.proofs.is_complete.Tie as tie
 
-past-5F24 : (c : tie.Else1) → let b = c .before .before .before .args .bytes .now in completed b ≡ every (filled b) (0x5A ∷ 0x8C ∷ [])
+past-5F24 : (c : tie.Else1) → let b = c .before .before .before .args .bytes .now in completed b ≡ every (notEmpty b) (0x5A ∷ 0x8C ∷ [])
 unfolding completed every
 past-5F24 c = both-true _ (size-some _ _ _ at-5F24 (c .before .value .ensures) (c .if1 .left))
 

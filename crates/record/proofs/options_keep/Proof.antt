@@ -7,7 +7,7 @@ use lib.Dec.{eqb}
 use Rattle.basics.specs.Choice.{both}
 use Rattle.basics.proofs.Laws.{both-true, both-assoc, both-no-left}
 use Rattle.dictionary.proofs.Named.{at-82, at-94, at-95}
-use Rattle.record.specs.Held.{lacks, zeroed}
+use Rattle.store.specs.Held.{lacks, zeroed}
 use Rattle.record.specs.Ranges.{allFit, optionsRanges}
 use Rattle.record.proofs.Tags.{lacks-is, zero-is}
 use Rattle.record.proofs.options_keep.Statement.{statement}

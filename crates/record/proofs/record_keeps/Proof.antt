@@ -11,7 +11,7 @@ use Rattle.basics.proofs.Laws.{both-true, both-assoc, both-yes, both-no-left, b
 use Rattle.dictionary.proofs.Named.{at-95}
 use Rattle.basics.specs.Number.{between}
 use Rattle.locator.specs.Records.{accepts}
-use Rattle.record.specs.Held.{zeroed}
+use Rattle.store.specs.Held.{zeroed}
 use Rattle.record.specs.Ranges.{allFit, emvMode, locatorIn, recordsIn, recordRanges}
 use Rattle.record.proofs.Tags.{zero-is, located-no, located-yes}
 use Rattle.record.proofs.record_keeps.Statement.{statement}

@@ -8,11 +8,11 @@ use Rattle.locator.specs.declared.Found.{Found}
 use Rattle.record.proofs.Tags.{located-no, located-yes}
 use Rattle.record.specs.declared.Phase.{Phase}
 use Rattle.record.specs.declared.Session.{Session}
-use Rattle.record.specs.Held.{holds}
+use Rattle.store.specs.Held.{holds}
 use Rattle.record.specs.Ranges.{emvMode}
 use Rattle.record.specs.Session.{sessionOf}
 use Rattle.session.specs.Answer.{askFound, optionsRead}
-use Rattle.session.proofs.Laws.{did-as, did-quiet, is-complete, is-missing, is-emv, is-stripe, found-as, found-there, options-missing, options-mode, options-locator, options-ask}
+use Rattle.session.proofs.Laws.{did-as, did-without-command, is-complete, is-missing, is-emv, is-stripe, found-as, found-there, options-missing, options-mode, options-locator, options-ask}
 use Rattle.session.proofs.after_options.Statement.{statement}
 use Rattle.session.proofs.after_options.Tie as tie
 
@@ -37,20 +37,20 @@ asked c x e =
     (found-as (c .record-at .ensures) e _ 1 (v .value .ensures) refl)
 
 returns : tie.Need-returns
-returns c = did-quiet _ (c .fails .ensures) (options-missing (session (c .before .before .before)) _ (is-missing _ (c .before .before .before .options-there .ensures) (c .before .enum-told2 .given .1)))
+returns c = did-without-command _ (c .fails .ensures) (options-missing (session (c .before .before .before)) _ (is-missing _ (c .before .before .before .options-there .ensures) (c .before .enum-told2 .given .1)))
 
 returns-2 : tie.Need-returns-2
 returns-2 c =
-    did-quiet _ (c .fails2 .ensures) (options-mode (session (c .before .before .before .before .before .before)) _ (there (c .before .before .before .before)) (is-stripe _ (c .before .before .before .mode-in .ensures) (c .before .enum-told4 .given .1)))
+    did-without-command _ (c .fails2 .ensures) (options-mode (session (c .before .before .before .before .before .before)) _ (there (c .before .before .before .before)) (is-stripe _ (c .before .before .before .mode-in .ensures) (c .before .enum-told4 .given .1)))
 
 returns-3 : tie.Need-returns-3
 returns-3 c =
     let m = c .before .before .before .before .before in
-    did-quiet _ (c .fails3 .ensures)
+    did-without-command _ (c .fails3 .ensures)
     (options-locator (session (m .before .before .before .before .before)) _ (there (m .before .before .before)) (emv m) (located-no _ (c .before .before .before .before .value .ensures) (sym (c .before .before .before .check .ensures .0) ∙ c .before .enum-told6 .given .1)))
 
 returns-4 : tie.Need-returns-4
-returns-4 c = did-quiet _ (c .fails4 .ensures) (asked (c .before .before .before) Found.Nothing (c .before .enum-told7 .given .1))
+returns-4 c = did-without-command _ (c .fails4 .ensures) (asked (c .before .before .before) Found.Nothing (c .before .enum-told7 .given .1))
 
 ask-record-requires : tie.Need-ask-record-requires
 ask-record-requires c κs = (search needs, found-there _ _ (c .before .before .before .before .record-at .ensures) (c .before .before .wanted .given .1) .0)

@@ -5,7 +5,7 @@ use mathlib.Core.Path.{_≡_}
 use mathlib.Core.Bool.{false}
 use Rattle.analysis.specs.Action.{aboveLimit}
 use Rattle.record.specs.Session.{sessionOf}
-use Rattle.session.proofs.Laws.{did-as, did-quiet, is-complete, is-missing, is-above, is-within, records-limit, records-missing, records-analysed}
+use Rattle.session.proofs.Laws.{did-as, did-without-command, is-complete, is-missing, is-above, is-within, records-limit, records-missing, records-analysed}
 use Rattle.session.proofs.after_records.Statement.{statement}
 use Rattle.session.proofs.after_records.Tie as tie
 
@@ -16,13 +16,13 @@ within c = is-within _ (c .before .before .limit-in .ensures) (c .enum-told .giv
 returns : tie.Need-returns
 returns c = λ p.
     let a = c .before .before .before .before .before .before .before .args in
-    did-quiet _ (c .fails .ensures) (records-limit (sessionOf p (a .count) (a .store .now)) _ (is-above _ (c .before .before .before .limit-in .ensures) (c .before .enum-told2 .given .1)))
+    did-without-command _ (c .fails .ensures) (records-limit (sessionOf p (a .count) (a .store .now)) _ (is-above _ (c .before .before .before .limit-in .ensures) (c .before .enum-told2 .given .1)))
 
 returns-2 : tie.Need-returns-2
 returns-2 c = λ p.
     let k = c .before .before .before in
     let a = k .before .before .before .before .before .before .before .before .args in
-    did-quiet _ (c .fails2 .ensures)
+    did-without-command _ (c .fails2 .ensures)
     (records-missing (sessionOf p (a .count) (a .store .now)) _ (within (k .before .before)) (is-missing _ (k .card-complete .ensures) (c .before .enum-told4 .given .1)))
 
 returns-3 : tie.Need-returns-3

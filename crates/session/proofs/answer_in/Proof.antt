@@ -11,7 +11,7 @@ use Rattle.record.specs.Session.{sessionOf, refusedTurn}
 use Rattle.record.specs.Ranges.{inRanges}
 use Rattle.record.proofs.Phases.{count-most, store-size}
 use Rattle.session.specs.Answer.{answerIn, answerStep}
-use Rattle.session.proofs.Laws.{did-as, did-quiet, admitted-short, admitted-ranges, admitted-in}
+use Rattle.session.proofs.Laws.{did-as, did-without-command, admitted-short, admitted-ranges, admitted-in}
 use Rattle.session.proofs.answer_in.Statement.{statement}
 use Rattle.session.proofs.answer_in.Tie as tie
 
@@ -26,11 +26,11 @@ by-phase c p e =
     admitted-in _ _ _ _ (c .before .before .before .if1 .left) (ranged c) ∙ ap (λ (q : Phase). answerIn q (sessionOf q (a .count) (a .store .now)) (a .card .now) (a .command .now)) e
 
 returns : tie.Need-returns
-returns c = did-quiet _ (c .refused .ensures) (admitted-short _ _ _ _ (c .before .if1 .taken))
+returns c = did-without-command _ (c .refused .ensures) (admitted-short _ _ _ _ (c .before .if1 .taken))
 
 returns-2 : tie.Need-returns-2
 returns-2 c =
-    did-quiet _ (c .refused2 .ensures) (admitted-ranges _ _ _ _ (c .before .before .before .before .if1 .left) (sym (c .before .before .keeps .ensures) ∙ not-true _ (c .before .if2 .taken)))
+    did-without-command _ (c .refused2 .ensures) (admitted-ranges _ _ _ _ (c .before .before .before .before .if1 .left) (sym (c .before .before .keeps .ensures) ∙ not-true _ (c .before .if2 .taken)))
 
 take-options-requires : tie.Need-take-options-requires
 take-options-requires c κs = ((search needs, omega (arith, count-most _ (ranged (c .before .before .before .before)))), store-size _ (ranged (c .before .before .before .before)))
@@ -44,7 +44,7 @@ take-cryptogram-requires c κs = store-size _ (ranged (c .before .before .before
 returns-3 : tie.Need-returns-3
 returns-3 c =
     let e = c .before .enum-told .given .1 in
-    did-quiet _ (c .refused3 .ensures ∙ ap (λ (q : Phase). refusedTurn q (c .before .before .before .before .before .before .before .before .before .before .args .count) refusedPhase) e) (by-phase (c .before .before .before) _ e)
+    did-without-command _ (c .refused3 .ensures ∙ ap (λ (q : Phase). refusedTurn q (c .before .before .before .before .before .before .before .before .before .before .args .count) refusedPhase) e) (by-phase (c .before .before .before) _ e)
 
 returns-4 : tie.Need-returns-4
 returns-4 c =
@@ -61,7 +61,7 @@ returns-6 c =
 returns-7 : tie.Need-returns-7
 returns-7 c =
     let e = c .before .enum-told3 .given .1 in
-    did-quiet _ (c .refused4 .ensures ∙ ap (λ (q : Phase). refusedTurn q (c .before .before .before .before .before .before .before .before .before .before .args .count) refusedPhase) e) (by-phase (c .before .before .before) _ e)
+    did-without-command _ (c .refused4 .ensures ∙ ap (λ (q : Phase). refusedTurn q (c .before .before .before .before .before .before .before .before .before .before .args .count) refusedPhase) e) (by-phase (c .before .before .before) _ e)
 
 pub answer-in-spec : {M : Type 1} → statement M
 answer-in-spec =

@@ -3,7 +3,7 @@
 use borrow.Author.Needs.{needs}
 use mathlib.Core.Path.{ap, _∙_}
 use Prim.Native.Nat.{ℕ}
-use Rattle.data_list.specs.Commands.{written, bufferWith, generateAc}
+use Rattle.data_list.specs.Commands.{writtenOf, bufferWith, generateAc}
 use Rattle.analysis.specs.Choice.{p1Of}
 use Rattle.record.specs.declared.Phase.{Phase}
 use Rattle.record.specs.Session.{sessionOf}
@@ -19,7 +19,7 @@ returns c = λ q.
     let a = c .before .before .before .before .before .before .before .before .before .before .args in
     let p = c .before .before .before .before .before .before .before .p1 .ensures in
     handed-none (sessionOf q (a .count) (a .bytes .now)) (Phase.Cryptogram (record { choice = a .choice })) (a .command .now) (generateAc (p1Of (a .choice)) (a .bytes .now))
-    (g .generate-ac .ensures .0 ∙ ap (λ (n : ℕ). written (generateAc n (a .bytes .now))) p)
+    (g .generate-ac .ensures .0 ∙ ap (λ (n : ℕ). writtenOf (generateAc n (a .bytes .now))) p)
     (g .generate-ac .ensures .1 .0 ∙ ap (λ (n : ℕ). bufferWith (generateAc n (a .bytes .now)) (a .command .now)) p)
     (c .before .enum-told .given .1) (c .fails .ensures)
 
@@ -30,7 +30,7 @@ returns-2 c = λ q.
     let a = c .before .before .before .before .before .before .before .before .before .before .before .args in
     let p = c .before .before .before .before .before .before .before .before .p1 .ensures in
     handed-some (sessionOf q (a .count) (a .bytes .now)) (Phase.Cryptogram (record { choice = a .choice })) (a .command .now) (generateAc (p1Of (a .choice)) (a .bytes .now))
-    (g .generate-ac .ensures .0 ∙ ap (λ (n : ℕ). written (generateAc n (a .bytes .now))) p)
+    (g .generate-ac .ensures .0 ∙ ap (λ (n : ℕ). writtenOf (generateAc n (a .bytes .now))) p)
     (g .generate-ac .ensures .1 .0 ∙ ap (λ (n : ℕ). bufferWith (generateAc n (a .bytes .now)) (a .command .now)) p)
     (c .before .before .c .given .1) (c .commands .ensures)
 

@@ -5,14 +5,14 @@ use mathlib.Core.Path.{ap, _∙_}
 use native.Mathlib.Omega.{arith}
 use Rattle.record.specs.declared.Phase.{Phase}
 use Rattle.record.specs.Session.{sessionOf, refusedTurn}
-use Rattle.session.proofs.Laws.{did-as, did-quiet, results-fit, loading-refused, loading-taken}
+use Rattle.session.proofs.Laws.{did-as, did-without-command, results-fit, loading-refused, loading-taken}
 use Rattle.session.proofs.load_objects.Statement.{statement}
 use Rattle.session.proofs.load_objects.Tie as tie
 
 returns : tie.Need-returns
 returns c =
     let a = c .before .before .before .before .before .before .before .before .before .before .before .args in
-    did-quiet _ (c .refused .ensures ∙ ap (refusedTurn Phase.Fresh (a .count)) (c .before .refusal-number .ensures))
+    did-without-command _ (c .refused .ensures ∙ ap (refusedTurn Phase.Fresh (a .count)) (c .before .refusal-number .ensures))
     (loading-refused (sessionOf Phase.Fresh (a .count) (a .store .now)) _ _ (c .before .before .before .before .before .before .load .ensures .0) (c .before .before .enum-told2 .given .1))
 
 put-requires : tie.Need-put-requires

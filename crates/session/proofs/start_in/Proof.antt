@@ -10,7 +10,7 @@ use Rattle.record.specs.Session.{sessionOf}
 use Rattle.record.specs.Ranges.{inRanges}
 use Rattle.record.proofs.Phases.{count-most, store-size}
 use Rattle.session.specs.Start.{startIn, startStep}
-use Rattle.session.proofs.Laws.{did-as, did-quiet, admitted-short, admitted-ranges, admitted-in, not-fresh}
+use Rattle.session.proofs.Laws.{did-as, did-without-command, admitted-short, admitted-ranges, admitted-in, not-fresh}
 use Rattle.session.proofs.start_in.Statement.{statement}
 use Rattle.session.proofs.start_in.Tie as tie
 
@@ -25,16 +25,16 @@ by-phase c p e =
     admitted-in _ _ _ _ (c .before .before .before .if1 .left) (ranged c) ∙ ap (λ (q : Phase). startIn q (sessionOf q (a .count) (a .store .now)) (a .terminal .now) (a .command .now)) e
 
 returns : tie.Need-returns
-returns c = did-quiet _ (c .refused .ensures) (admitted-short _ _ _ _ (c .before .if1 .taken))
+returns c = did-without-command _ (c .refused .ensures) (admitted-short _ _ _ _ (c .before .if1 .taken))
 
 returns-2 : tie.Need-returns-2
 returns-2 c =
-    did-quiet _ (c .refused2 .ensures) (admitted-ranges _ _ _ _ (c .before .before .before .before .if1 .left) (sym (c .before .before .keeps .ensures) ∙ not-true _ (c .before .if2 .taken)))
+    did-without-command _ (c .refused2 .ensures) (admitted-ranges _ _ _ _ (c .before .before .before .before .if1 .left) (sym (c .before .before .keeps .ensures) ∙ not-true _ (c .before .if2 .taken)))
 
 returns-3 : tie.Need-returns-3
 returns-3 c =
     let a = c .before .before .before .before .before .before .before .before .before .args in
-    did-quiet _ (c .refused3 .ensures) (by-phase (c .before .before) _ refl ∙ not-fresh (a .phase) _ _ _ (c .before .match .keys2))
+    did-without-command _ (c .refused3 .ensures) (by-phase (c .before .before) _ refl ∙ not-fresh (a .phase) _ _ _ (c .before .match .keys2))
 
 load-objects-requires : tie.Need-load-objects-requires
 load-objects-requires c κs = ((search needs, omega (arith, count-most _ (ranged (c .before .before .before .before)))), store-size _ (ranged (c .before .before .before .before)))

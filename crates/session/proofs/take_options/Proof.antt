@@ -7,7 +7,7 @@ use Rattle.record.specs.declared.Phase.{Phase}
 use Rattle.record.specs.Session.{sessionOf, failsTurn}
 use Rattle.session.specs.Steps.{fails}
 use Rattle.session.specs.Answer.{optionsRead, optionsStep}
-use Rattle.session.proofs.Laws.{did-as, did-quiet, accepted-yes, accepted-no}
+use Rattle.session.proofs.Laws.{did-as, did-without-command, accepted-yes, accepted-no}
 use Rattle.session.proofs.take_options.Statement.{statement}
 use Rattle.session.proofs.take_options.Tie as tie
 
@@ -15,7 +15,7 @@ returns : tie.Need-returns
 unfolding optionsStep
 returns c =
     let a = c .before .before .before .before .before .before .before .before .before .before .args in
-    did-quiet _ (c .fails .ensures ∙ ap (failsTurn (a .count)) (c .before .number .ensures))
+    did-without-command _ (c .fails .ensures ∙ ap (failsTurn (a .count)) (c .before .number .ensures))
     (accepted-no (sessionOf Phase.Options (a .count) (a .store .now)) Awaited.Options (a .card .now) (λ t n. fails t n (a .command .now)) (λ t. optionsRead t (a .command .now))
     (c .before .before .before .before .before .read-answer .ensures .0) (c .before .before .match .keys2))
 

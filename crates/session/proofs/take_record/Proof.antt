@@ -9,7 +9,7 @@ use Rattle.record.specs.declared.Session.{Session}
 use Rattle.record.specs.Session.{sessionOf, failsTurn}
 use Rattle.session.specs.Steps.{fails}
 use Rattle.session.specs.Answer.{recordFound, recordRead, recordStep}
-use Rattle.session.proofs.Laws.{did-as, did-quiet, found-as, accepted-yes, accepted-no}
+use Rattle.session.proofs.Laws.{did-as, did-without-command, found-as, accepted-yes, accepted-no}
 use Rattle.session.proofs.take_record.Statement.{statement}
 use Rattle.session.proofs.take_record.Tie as tie
 
@@ -26,14 +26,14 @@ asked c x e =
     ap (recordFound (a .place) (session c) (a .card .now) (a .command .now)) (found-as (c .record-at .ensures) e _ _ (c .before .value .ensures) (c .before .before .before .wide .ensures .0))
 
 returns : tie.Need-returns
-returns c = did-quiet _ (c .fails .ensures) (asked (c .before .before .before) Found.Nothing (c .before .enum-told .given .1))
+returns c = did-without-command _ (c .fails .ensures) (asked (c .before .before .before) Found.Nothing (c .before .enum-told .given .1))
 
 returns-2 : tie.Need-returns-2
 returns-2 c =
     let f = c .before .before .before .before .before .before .before .before in
     let w = f .found .given .0 .0 in
     let a = c .before .before .before .before .before .before .before .before .before .before .before .before .before .before .before .before .before .args in
-    did-quiet _ (c .fails2 .ensures ∙ ap (failsTurn (a .count)) (c .before .number .ensures))
+    did-without-command _ (c .fails2 .ensures ∙ ap (failsTurn (a .count)) (c .before .number .ensures))
     (asked (c .before .before .before .before .before .before .before .before .before .before) (Found.At w) (f .found .given .1)
     ∙ accepted-no (session (c .before .before .before .before .before .before .before .before .before .before)) (Awaited.Record (record { number = w .file })) (a .card .now) (λ t n. fails t n (a .command .now)) (λ t. recordRead (a .place) t (a .command .now))
     (c .before .before .before .before .before .read-answer .ensures .0) (c .before .before .match2 .keys2))

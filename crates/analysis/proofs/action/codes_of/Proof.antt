@@ -8,7 +8,8 @@ use Rattle.dictionary.specs.declared.Found.the-variants.{At}
 use Rattle.dictionary.proofs.Named.{at-9F0D, at-9F0E, at-9F0F, at-DF8120, at-DF8121, at-DF8122}
 use Rattle.store.specs.Place.{bytesOf, valueAt, valueOf}
 use Rattle.store.proofs.Laws.{by-row}
-use Rattle.analysis.specs.Action.{bytesIn, codesOf}
+use Rattle.store.specs.Held.{bytesIn}
+use Rattle.analysis.specs.Action.{codesOf}
 use Rattle.analysis.specs.Choice.{denial, online, default, pairOf}
 use Rattle.analysis.specs.declared.choice.Pair.{Pair}
 use Rattle.analysis.proofs.action.codes_of.Statement.{statement}

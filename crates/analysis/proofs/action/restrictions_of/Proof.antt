@@ -16,7 +16,7 @@ returns c =
     ∙ simp (
       c .before .before .before .version-in .ensures,
       later .later .ensures ∙ ap₂ expired (bytes-by-row _ 0x9A at-9A (later .before .before .value .ensures)) (bytes-by-row _ 0x5F24 at-5F24 (later .before .value2 .ensures)),
-      c .before .before .early-in .ensures,
+      c .before .before .not-yet-effective-in .ensures,
       c .before .usage-in .ensures,
     )
 

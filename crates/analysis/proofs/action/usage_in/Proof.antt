@@ -18,7 +18,7 @@ returns c =
       c .before .before .before .before .atm-in .ensures,
       c .before .before .before .country-in .ensures,
       byte-by-row b 0x9C at-9C (c .before .before .byte-in .ensures),
-      c .before .back-in .ensures,
+      c .before .cashback-in .ensures,
     )
 
 pub usage-in-spec : {M : Type 1} → statement M

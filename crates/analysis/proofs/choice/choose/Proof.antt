@@ -13,10 +13,10 @@ use Rattle.analysis.proofs.choice.choose.Statement.{statement}
 use Rattle.analysis.proofs.choice.choose.Tie as tie
 
 abbrev Inv-loop : tie.InvT-loop
-Inv-loop bits kind pairs reach stage₀ stage = (stage ≤ 3) × Unforced reach (heldAt bits pairs) stage
+Inv-loop bits kind pairs capability stage₀ stage = (stage ≤ 3) × Unforced capability (heldAt bits pairs) stage
 
 abbrev μ-loop : tie.MeasureT-loop
-μ-loop bits kind pairs reach stage₀ stage = 3 - stage
+μ-loop bits kind pairs capability stage₀ stage = 3 - stage
 
 loop-holds : tie.Need-loop-holds Inv-loop μ-loop
 loop-holds c = (omega arith, λ m h. absurd (omega arith))
@@ -26,7 +26,7 @@ unfolding heldAt
 returns c =
     let lp = c .before .before .before .before .before .before .before .before .loop in
     let a = c .before .before .before .before .before .before .before .before .before .before .args in
-    let rc = c .before .before .before .before .before .before .before .before .before .reach-of in
+    let rc = c .before .before .before .before .before .before .before .before .before .capability-of in
     c .forced .ensures
     ∙ sym (choice-by-stage (a .bits) (a .kind) (a .t3) (rc .result) (rc .ensures) (lp .stage) (omega arith)
     (sym (c .before .before .before .before .before .before .consulted .ensures) ∙ c .before .before .before .before .before .if1 .taken)
@@ -46,7 +46,7 @@ returns-2 : tie.Need-returns-2 Inv-loop μ-loop
 returns-2 c =
     let lp = c .before .before .loop in
     let a = c .before .before .before .before .args in
-    let rc = c .before .before .before .reach-of in
+    let rc = c .before .before .before .capability-of in
     c .unforced .ensures ∙ sym (choice-by-type (a .bits) (a .kind) (a .t3) (rc .result) (rc .ensures) (λ m h. lp .inv .1 m (omega arith)))
 
 pub choose-spec : {M : Type 1} → statement M

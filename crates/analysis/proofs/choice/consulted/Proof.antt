@@ -6,14 +6,14 @@ use borrow.Author.Needs.{needs}
 use borrow.Author.Tests.{eq-eqb, ne-eqb}
 use Rattle.basics.proofs.Laws.{either-left, either-false}
 use Rattle.analysis.specs.Choice.{laterStage, consulted as isConsulted}
-use Rattle.analysis.specs.declared.choice.Reach.the-variants.{OnlineOnly, OnlineCapable, OfflineOnly, Unlisted}
-use Rattle.analysis.specs.declared.choice.Reach.{Reach}
+use Rattle.analysis.specs.declared.choice.Capability.the-variants.{OnlineOnly, OnlineCapable, OfflineOnly, Unlisted}
+use Rattle.analysis.specs.declared.choice.Capability.{Capability}
 use Rattle.analysis.proofs.choice.consulted.Statement.{statement}
 use Rattle.analysis.proofs.choice.consulted.Tie as tie
 
-later : (r v : Reach) (s : ℕ) → (s ≡ 0 → ⊥) → r ≡ v → laterStage v s ≡ isConsulted r s
+later : (r v : Capability) (s : ℕ) → (s ≡ 0 → ⊥) → r ≡ v → laterStage v s ≡ isConsulted r s
 later r v s n e =
-    sym (either-false (laterStage r s) (ne-eqb s 0 n) ∙ ap (λ (q : Reach). laterStage q s) e)
+    sym (either-false (laterStage r s) (ne-eqb s 0 n) ∙ ap (λ (q : Capability). laterStage q s) e)
 
 returns : tie.Need-returns
 returns c = sym (either-left _ _ (eq-eqb _ 0 (c .if1 .taken)))

@@ -8,7 +8,7 @@ use borrow.Author.Needs.{needs}
 use borrow.Author.Tests.{not-true, not-false}
 use Rattle.basics.proofs.Laws.{both-no-left, both-no-right, both-true}
 use Rattle.basics.specs.Choice.{both}
-use Rattle.analysis.specs.Restrictions.{placeMet, cashMet, goodsMet, backMet, usageBroken}
+use Rattle.analysis.specs.Restrictions.{placeMet, cashMet, goodsMet, cashbackMet, usageBroken}
 use Rattle.store.specs.Place.{Value}
 use Rattle.analysis.specs.Value.{given}
 use Rattle.analysis.specs.declared.restrictions.Country.{Country}
@@ -17,7 +17,7 @@ use Rattle.analysis.proofs.restrictions.usage_broken.Statement.{stateme
 use Rattle.analysis.proofs.restrictions.usage_broken.Tie as tie
 
 -- where the control is there, what is said of the four needs is said of the whole
-there : (t : Bool) (s : List ℕ) (atm : Bool) (k : Country) (x : ℕ) (b v : Bool) → t ≡ true → both (placeMet s atm) (both (cashMet s k x) (both (goodsMet s k x) (backMet s k b))) ≡ v → not v ≡ usageBroken (given t s) atm k x b
+there : (t : Bool) (s : List ℕ) (atm : Bool) (k : Country) (x : ℕ) (b v : Bool) → t ≡ true → both (placeMet s atm) (both (cashMet s k x) (both (goodsMet s k x) (cashbackMet s k b))) ≡ v → not v ≡ usageBroken (given t s) atm k x b
 unfolding usageBroken
 there t s atm k x b v e m = sym (ap (λ (w : Value). usageBroken w atm k x b) (given-there t s e) ∙ ap not m)
 
@@ -25,34 +25,34 @@ returns : tie.Need-returns
 unfolding usageBroken
 returns c =
     let a = c .before .before .args in
-    sym (ap (λ (v : Value). usageBroken v (a .atm) (a .country) (a .transaction) (a .back)) (given-absent (a .there) (a .usage .now) (not-true _ (c .if1 .taken))))
+    sym (ap (λ (v : Value). usageBroken v (a .atm) (a .country) (a .transaction) (a .cashback)) (given-absent (a .there) (a .usage .now) (not-true _ (c .if1 .taken))))
 
 returns-2 : tie.Need-returns-2
 returns-2 c =
     let a = c .before .before .before .before .args in
-    there (a .there) (a .usage .now) (a .atm) (a .country) (a .transaction) (a .back) false (not-false _ (c .before .before .if1 .left))
+    there (a .there) (a .usage .now) (a .atm) (a .country) (a .transaction) (a .cashback) false (not-false _ (c .before .before .if1 .left))
     (both-no-left _ _ (sym (c .before .place-met .ensures) ∙ not-true _ (c .if2 .taken)))
 
 returns-3 : tie.Need-returns-3
 returns-3 c =
     let a = c .before .before .before .before .before .before .args in
-    there (a .there) (a .usage .now) (a .atm) (a .country) (a .transaction) (a .back) false (not-false _ (c .before .before .before .before .if1 .left))
+    there (a .there) (a .usage .now) (a .atm) (a .country) (a .transaction) (a .cashback) false (not-false _ (c .before .before .before .before .if1 .left))
     (both-no-right _ _ (both-no-left _ _ (sym (c .before .cash-met .ensures) ∙ not-true _ (c .if3 .taken))))
 
 returns-4 : tie.Need-returns-4
 returns-4 c =
     let a = c .before .before .before .before .before .before .before .before .args in
-    there (a .there) (a .usage .now) (a .atm) (a .country) (a .transaction) (a .back) false (not-false _ (c .before .before .before .before .before .before .if1 .left))
+    there (a .there) (a .usage .now) (a .atm) (a .country) (a .transaction) (a .cashback) false (not-false _ (c .before .before .before .before .before .before .if1 .left))
     (both-no-right _ _ (both-no-right _ _ (both-no-left _ _ (sym (c .before .goods-met .ensures) ∙ not-true _ (c .if4 .taken)))))
 
 returns-5 : tie.Need-returns-5
 returns-5 c =
     let a = c .before .before .before .before .before .before .before .before .before .args in
-    there (a .there) (a .usage .now) (a .atm) (a .country) (a .transaction) (a .back) (c .back-met .result) (not-false _ (c .before .before .before .before .before .before .before .if1 .left))
+    there (a .there) (a .usage .now) (a .atm) (a .country) (a .transaction) (a .cashback) (c .cashback-met .result) (not-false _ (c .before .before .before .before .before .before .before .if1 .left))
     (both-true _ (sym (c .before .before .before .before .before .before .place-met .ensures) ∙ not-false _ (c .before .before .before .before .before .if2 .left))
     ∙ both-true _ (sym (c .before .before .before .before .cash-met .ensures) ∙ not-false _ (c .before .before .before .if3 .left))
     ∙ both-true _ (sym (c .before .before .goods-met .ensures) ∙ not-false _ (c .before .if4 .left))
-    ∙ sym (c .back-met .ensures))
+    ∙ sym (c .cashback-met .ensures))
 
 pub usage-broken-spec : {M : Type 1} → statement M
 usage-broken-spec =

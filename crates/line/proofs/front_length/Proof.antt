@@ -1,4 +1,4 @@
--- `line::run` meets its contract. The invariant: every character before i is of the kind.
+-- `line::front_length` meets its contract. The invariant: every character before i is of the kind.
 -- Assumes nothing.
 use borrow.Author.Needs.{needs}
 use mathlib.Core.Path.{_≡_, sym, _∙_}
@@ -8,8 +8,8 @@ use lib.ListN.{length, drop}
 use borrow.Author.Tests.{not-true, not-false}
 use Rattle.line.specs.Text.{of, front}
 use Rattle.line.proofs.Text.{front-stops, front-goes-on, front-ends}
-use Rattle.line.proofs.run.Statement.{statement}
-use Rattle.line.proofs.run.Tie as tie
+use Rattle.line.proofs.front_length.Statement.{statement}
+use Rattle.line.proofs.front_length.Tie as tie
 
 abbrev Inv-loop : tie.InvT-loop
 Inv-loop s kind i₀ i = (i ≤ length s) × (length (front (of kind) s) ≡ i + length (front (of kind) (drop i s)))
@@ -32,8 +32,8 @@ returns-2 c =
     let lp = c .before .loop in
     (sym (lp .inv .1 ∙ front-ends _ _ (lp .i) (omega arith)), omega arith)
 
-pub run-spec : {M : Type 1} → statement M
-run-spec =
+pub front-length-spec : {M : Type 1} → statement M
+front-length-spec =
     tie.close
     (tie.spec
     Inv-loop

@@ -24,8 +24,8 @@ abbrev pub bytesIn : List ℕ → ℕ → List ℕ
 bytesIn b t = bytesOf (valueOf b t)
 
 -- it is there and not empty
-abbrev pub filled : List ℕ → ℕ → Bool
-filled b t = ltb 0 (length (bytesIn b t))
+abbrev pub notEmpty : List ℕ → ℕ → Bool
+notEmpty b t = ltb 0 (length (bytesIn b t))
 
 -- its byte n, the first is byte 1; 0 past the end
 abbrev pub byteIn : List ℕ → ℕ → ℕ → ℕ

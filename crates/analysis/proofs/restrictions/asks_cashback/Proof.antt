@@ -1,12 +1,12 @@
--- `restrictions::asks_back` meets its contract: there and absent are the definition's two cases.
+-- `restrictions::asks_cashback` meets its contract: there and absent are the definition's two cases.
 -- Assumes nothing.
 use mathlib.Core.Path.{sym, ap, _∙_}
 use lib.Dec.{ltb}
 use borrow.Author.Needs.{needs}
 use Rattle.analysis.specs.Restrictions.{cashback}
 use Rattle.analysis.proofs.Value.{given-there, given-absent}
-use Rattle.analysis.proofs.restrictions.asks_back.Statement.{statement}
-use Rattle.analysis.proofs.restrictions.asks_back.Tie as tie
+use Rattle.analysis.proofs.restrictions.asks_cashback.Statement.{statement}
+use Rattle.analysis.proofs.restrictions.asks_cashback.Tie as tie
 
 returns : tie.Need-returns
 unfolding cashback
@@ -20,5 +20,5 @@ returns-2 c =
     let a = c .before .before .args in
     sym (ap cashback (given-absent (a .there) (a .other .now) (c .if1 .left)))
 
-pub asks-back-spec : {M : Type 1} → statement M
-asks-back-spec = tie.close (tie.spec (λ c κs. search needs) returns returns-2)
+pub asks-cashback-spec : {M : Type 1} → statement M
+asks-cashback-spec = tie.close (tie.spec (λ c κs. search needs) returns returns-2)

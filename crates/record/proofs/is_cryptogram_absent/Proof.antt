@@ -1,4 +1,4 @@
--- `record::is_unanswered` meets its contract: where an object is absent, the later ones decide.
+-- `record::is_cryptogram_absent` meets its contract: where an object is absent, the later ones decide.
 -- Assumes nothing.
 use borrow.Author.Needs.{needs}
 use mathlib.Core.Path.{_≡_, refl, sym, _∙_}
@@ -6,27 +6,27 @@ use mathlib.Core.List.{[], _∷_}
 use Rattle.basics.specs.Choice.{every}
 use Rattle.basics.proofs.Laws.{both-true, both-no-left}
 use Rattle.dictionary.proofs.Named.{at-9F10, at-9F26, at-9F27, at-9F36}
-use Rattle.record.specs.Held.{lacks}
-use Rattle.record.specs.Ranges.{unanswered}
+use Rattle.store.specs.Held.{lacks}
+use Rattle.record.specs.Ranges.{cryptogramAbsent}
 use Rattle.record.proofs.Tags.{lacks-is}
 use Rattle.record.proofs.Tests.{both-right-true}
-use Rattle.record.proofs.is_unanswered.Statement.{statement}
-use Rattle.record.proofs.is_unanswered.Tie as tie
+use Rattle.record.proofs.is_cryptogram_absent.Statement.{statement}
+use Rattle.record.proofs.is_cryptogram_absent.Tie as tie
 
-past-9F10 : (c : tie.Else1) → let b = c .before .before .before .args .bytes .now in unanswered b ≡ every (lacks b) (0x9F26 ∷ 0x9F27 ∷ 0x9F36 ∷ [])
-unfolding unanswered every
+past-9F10 : (c : tie.Else1) → let b = c .before .before .before .args .bytes .now in cryptogramAbsent b ≡ every (lacks b) (0x9F26 ∷ 0x9F27 ∷ 0x9F36 ∷ [])
+unfolding cryptogramAbsent every
 past-9F10 c = both-true _ (lacks-is _ _ _ at-9F10 (c .before .is-there .ensures) (c .if1 .left))
 
-past-9F26 : (c : tie.Else2) → let b = c .before .before .before .before .before .args .bytes .now in unanswered b ≡ every (lacks b) (0x9F27 ∷ 0x9F36 ∷ [])
+past-9F26 : (c : tie.Else2) → let b = c .before .before .before .before .before .args .bytes .now in cryptogramAbsent b ≡ every (lacks b) (0x9F27 ∷ 0x9F36 ∷ [])
 unfolding every
 past-9F26 c = past-9F10 (c .before .before) ∙ both-true _ (lacks-is _ _ _ at-9F26 (c .before .is-there2 .ensures) (c .if2 .left))
 
-past-9F27 : (c : tie.Else3) → let b = c .before .before .before .before .before .before .before .args .bytes .now in unanswered b ≡ every (lacks b) (0x9F36 ∷ [])
+past-9F27 : (c : tie.Else3) → let b = c .before .before .before .before .before .before .before .args .bytes .now in cryptogramAbsent b ≡ every (lacks b) (0x9F36 ∷ [])
 unfolding every
 past-9F27 c = past-9F26 (c .before .before) ∙ both-true _ (lacks-is _ _ _ at-9F27 (c .before .is-there3 .ensures) (c .if3 .left))
 
 returns : tie.Need-returns
-unfolding unanswered every
+unfolding cryptogramAbsent every
 returns c = sym (both-no-left _ _ (lacks-is _ _ _ at-9F10 (c .before .is-there .ensures) (c .if1 .taken)))
 
 returns-2 : tie.Need-returns-2
@@ -43,8 +43,8 @@ returns-4 : tie.Need-returns-4
 unfolding every
 returns-4 c = sym (past-9F27 (c .before) ∙ both-right-true _ refl ∙ lacks-is _ _ _ at-9F36 (c .is-there4 .ensures) refl)
 
-pub is-unanswered-spec : {M : Type 1} → statement M
-is-unanswered-spec =
+pub is-cryptogram-absent-spec : {M : Type 1} → statement M
+is-cryptogram-absent-spec =
     tie.close
     (tie.spec
     (λ c κs. search needs)
