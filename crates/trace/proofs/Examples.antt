@@ -6,11 +6,13 @@ use mathlib.Core.List.{List, [], _∷_}
 use mathlib.Core.Option.{some}
 use Prim.Native.Nat.{ℕ}
 use lib.ListN.{length, replicate}
+use Rattle.basics.specs.Recursion.{recurse, recurseBy}
 use Rattle.basics.specs.Choice.{if, both, either, every}
 use Rattle.basics.specs.Number.{numberFrom, nibbles}
 use Rattle.tlv.specs.Tag.{tagSize, secondByte, thirdByte, tagAt, firstByte, isTemplate, isPrivate}
 use Rattle.tlv.specs.Length.{lengthAt}
 use Rattle.tlv.specs.Object.{headerOf}
+use Rattle.tlv.specs.Primitives.{withObject, primitiveOf, primitives}
 use Rattle.tlv.specs.Encoding.{lengthBytes}
 use Rattle.dictionary.specs.Rows.{rows, past, find}
 use Rattle.dictionary.specs.Named.{placeOf}
@@ -21,7 +23,7 @@ use Rattle.locator.specs.Entry.{keeps}
 use Rattle.locator.specs.Records.{entries as entriesOf, wholeEntries, recordsFrom as runOf, recordsOf, sumOf, accepts, nth, kth, recordAt}
 use Rattle.reading.specs.Taking.{mayStand, mayCome, allowed, takeItem, takeNext, takeAll}
 use Rattle.reading.specs.Answer.{bodyOf, optionsParts, primitiveParts, readBody, isRead, goodStatus, goodLength, readAnswer}
-use Rattle.data_list.specs.Entries.{along, listEntriesBy, listEntries}
+use Rattle.data_list.specs.Entries.{along, listEntries}
 use Rattle.data_list.specs.Filling.{fillingOf, filledBy}
 use Rattle.data_list.specs.Commands.{optionsOf, processingOptions}
 use Rattle.record.specs.declared.Phase.{Phase}
@@ -30,7 +32,7 @@ use Rattle.basics.specs.Reason.{reasonLink}
 use Rattle.store.specs.Held.{lengthIn}
 use Rattle.record.specs.Ranges.{isBrought, brought, cryptogramAbsent, running, optionsRanges, inRanges, allFit, objectFits, freshRanges, endedRanges}
 use Rattle.record.specs.Session.{freshSession, endOf}
-use Rattle.terminal.specs.Terminal.{withObject, primitiveOf, runBy, run, typeListed, settable, setObject, setAll, load}
+use Rattle.terminal.specs.Terminal.{typeListed, settable, setObject, setAll, load}
 use Rattle.session.specs.Steps.{withResults, admitted}
 use Rattle.session.specs.Start.{askOptions}
 use Rattle.session.specs.Answer.{accepted, optionsRead, optionsStep}
@@ -63,7 +65,7 @@ recordCommand = 0x00 ∷ 0xB2 ∷ 0x01 ∷ 0x0C ∷ 0x00 ∷ []
 
 -- a start and the answer to processing options: processing options and the first record are handed out
 pub begins : commands (play freshSession (start startBytes lent ∷ answer optionsAnswer lent ∷ [])) ≡ optionsCommand ∷ recordCommand ∷ []
-unfolding commands play final taken admitted endedRanges outcomeFor inRanges allFit objectFits lengthIn lengthByte freshRanges optionsRanges running cryptogramAbsent askOptions processingOptions optionsOf filledBy fillingOf listEntries listEntriesBy along lengthBytes optionsStep accepted optionsRead recordAt kth nth accepts wholeEntries entriesOf keeps sumOf recordsOf runOf readAnswer goodLength goodStatus isRead readBody bodyOf primitiveParts optionsParts takeAll takeNext takeItem allowed mayCome mayStand withResults placeOf load run runBy withObject primitiveOf headerOf tagAt tagSize secondByte thirdByte lengthAt firstByte isTemplate isPrivate numberFrom if both either every rows past find settable setObject setAll fitting digitsFit numeric nibbles typeListed listed offsetIn placeAt held valueAt putAt valueIn brought isBrought
+unfolding commands play final taken admitted endedRanges outcomeFor inRanges allFit objectFits lengthIn lengthByte freshRanges optionsRanges running cryptogramAbsent askOptions processingOptions optionsOf filledBy fillingOf listEntries recurse recurseBy along lengthBytes optionsStep accepted optionsRead recordAt kth nth accepts wholeEntries entriesOf keeps sumOf recordsOf runOf readAnswer goodLength goodStatus isRead readBody bodyOf primitiveParts optionsParts takeAll takeNext takeItem allowed mayCome mayStand withResults placeOf load primitives withObject primitiveOf headerOf tagAt tagSize secondByte thirdByte lengthAt firstByte isTemplate isPrivate numberFrom if both either every rows past find settable setObject setAll fitting digitsFit numeric nibbles typeListed listed offsetIn placeAt held valueAt putAt valueIn brought isBrought
 begins = refl
 
 -- a stop before the start, a start with a buffer of one byte and a second start are refused and change nothing
@@ -71,7 +73,7 @@ abbrev interrupted : List Call
 interrupted = stop lent ∷ start startBytes (0x00 ∷ []) ∷ start startBytes lent ∷ start startBytes lent ∷ answer optionsAnswer lent ∷ []
 
 pub refused-between : (commands (play freshSession interrupted) ≡ optionsCommand ∷ recordCommand ∷ []) × (length (taken (play freshSession interrupted)) ≡ 2)
-unfolding commands play final taken admitted endedRanges outcomeFor inRanges allFit objectFits lengthIn lengthByte freshRanges optionsRanges running cryptogramAbsent askOptions processingOptions optionsOf filledBy fillingOf listEntries listEntriesBy along lengthBytes optionsStep accepted optionsRead recordAt kth nth accepts wholeEntries entriesOf keeps sumOf recordsOf runOf readAnswer goodLength goodStatus isRead readBody bodyOf primitiveParts optionsParts takeAll takeNext takeItem allowed mayCome mayStand withResults placeOf load run runBy withObject primitiveOf headerOf tagAt tagSize secondByte thirdByte lengthAt firstByte isTemplate isPrivate numberFrom if both either every rows past find settable setObject setAll fitting digitsFit numeric nibbles typeListed listed offsetIn placeAt held valueAt putAt valueIn brought isBrought
+unfolding commands play final taken admitted endedRanges outcomeFor inRanges allFit objectFits lengthIn lengthByte freshRanges optionsRanges running cryptogramAbsent askOptions processingOptions optionsOf filledBy fillingOf listEntries recurse recurseBy along lengthBytes optionsStep accepted optionsRead recordAt kth nth accepts wholeEntries entriesOf keeps sumOf recordsOf runOf readAnswer goodLength goodStatus isRead readBody bodyOf primitiveParts optionsParts takeAll takeNext takeItem allowed mayCome mayStand withResults placeOf load primitives withObject primitiveOf headerOf tagAt tagSize secondByte thirdByte lengthAt firstByte isTemplate isPrivate numberFrom if both either every rows past find settable setObject setAll fitting digitsFit numeric nibbles typeListed listed offsetIn placeAt held valueAt putAt valueIn brought isBrought
 refused-between = (refl, refl)
 
 -- the link fails on processing options: the session has ended with reason 9, and a later answer is refused
@@ -80,7 +82,7 @@ torn = start startBytes lent ∷ link-failed lent ∷ answer optionsAnswer lent 
 
 pub link-fails : (commands (play freshSession torn) ≡ optionsCommand ∷ []) × (length (taken (play freshSession torn)) ≡ 2)
     × (final freshSession torn .phase ≡ Phase.Ended (endOf (outcomeFor reasonLink) reasonLink))
-unfolding commands play final taken admitted endedRanges goesWith outcomeFor inRanges allFit objectFits lengthIn lengthByte freshRanges optionsRanges running cryptogramAbsent askOptions processingOptions optionsOf filledBy fillingOf listEntries listEntriesBy along lengthBytes optionsStep accepted optionsRead recordAt kth nth accepts wholeEntries entriesOf keeps sumOf recordsOf runOf readAnswer goodLength goodStatus isRead readBody bodyOf primitiveParts optionsParts takeAll takeNext takeItem allowed mayCome mayStand withResults placeOf load run runBy withObject primitiveOf headerOf tagAt tagSize secondByte thirdByte lengthAt firstByte isTemplate isPrivate numberFrom if both either every rows past find settable setObject setAll fitting digitsFit numeric nibbles typeListed listed offsetIn placeAt held valueAt putAt valueIn brought isBrought
+unfolding commands play final taken admitted endedRanges goesWith outcomeFor inRanges allFit objectFits lengthIn lengthByte freshRanges optionsRanges running cryptogramAbsent askOptions processingOptions optionsOf filledBy fillingOf listEntries recurse recurseBy along lengthBytes optionsStep accepted optionsRead recordAt kth nth accepts wholeEntries entriesOf keeps sumOf recordsOf runOf readAnswer goodLength goodStatus isRead readBody bodyOf primitiveParts optionsParts takeAll takeNext takeItem allowed mayCome mayStand withResults placeOf load primitives withObject primitiveOf headerOf tagAt tagSize secondByte thirdByte lengthAt firstByte isTemplate isPrivate numberFrom if both either every rows past find settable setObject setAll fitting digitsFit numeric nibbles typeListed listed offsetIn placeAt held valueAt putAt valueIn brought isBrought
 link-fails = (refl, refl, refl)
 
 -- ---- the published order
