@@ -8,24 +8,10 @@
 // store lent or shared: a turn is handed back, and the store is not copied.
 use analysis::choice::Choice;
 use data_list::Written;
-use dictionary::ROW_9F26;
-use dictionary::ROW_9F27;
-use dictionary::ROW_9F36;
-use dictionary::ROW_82;
-use dictionary::ROW_94;
-use dictionary::ROW_95;
-use locator::Checked;
-use locator::Found;
-use reading::Awaited;
-use reading::File;
-use reading::Verdict;
-use record::Asked;
-use record::Outcome;
-use record::Phase;
-use record::Place;
-use record::Reply;
-use record::Session;
-use record::Turn;
+use dictionary::{ROW_82, ROW_94, ROW_95, ROW_9F26, ROW_9F27, ROW_9F36};
+use locator::{Checked, Found};
+use reading::{Awaited, File, Verdict};
+use record::{Asked, Outcome, Phase, Place, Reply, Session, Turn};
 use store::Store;
 use terminal::Said;
 ghost use mathlib.Core.Path.{_≡_};
@@ -120,13 +106,7 @@ pub fn stop(session: Session, command: &mut [u8]) -> Reply
 }
 
 // `start` on a session's parts, the store lent.
-pub fn start_in(
-    phase: Phase,
-    count: u8,
-    store: &mut [u8],
-    terminal: &[u8],
-    command: &mut [u8],
-) -> Turn
+pub fn start_in(phase: Phase, count: u8, store: &mut [u8], terminal: &[u8], command: &mut [u8]) -> Turn
     ensures { λ r. ⌜ DidIn r (now (store .exit)) (now (command .exit))
         (startStep (sessionOf phase count (now (store .entry))) (now (terminal .entry)) (now (command .entry))) ⌝ }
 {
@@ -397,28 +377,20 @@ fn decision_for(choice: Choice, kind: u8) -> Decided
     ensures { λ r. ⌜ decidedEnd r ≡ endFor (decision choice kind) ⌝ }
 {
     if kind == 0 {
-        return Decided::On(Decision {
-            outcome: Outcome::Declined,
-        });
+        return Decided::On(Decision { outcome: Outcome::Declined });
     }
     if kind == 2 {
         return match choice {
             Choice::Decline => Decided::Nothing, // a decline is never taken online
-            Choice::Online => Decided::On(Decision {
-                outcome: Outcome::OnlineRequest,
-            }),
-            Choice::Offline => Decided::On(Decision {
-                outcome: Outcome::OnlineRequest,
-            }),
+            Choice::Online => Decided::On(Decision { outcome: Outcome::OnlineRequest }),
+            Choice::Offline => Decided::On(Decision { outcome: Outcome::OnlineRequest }),
         };
     }
     if kind == 1 {
         return match choice {
             Choice::Decline => Decided::Nothing,
             Choice::Online => Decided::Nothing,
-            Choice::Offline => Decided::On(Decision {
-                outcome: Outcome::Approved,
-            }),
+            Choice::Offline => Decided::On(Decision { outcome: Outcome::Approved }),
         };
     }
     Decided::Nothing
