@@ -2,3 +2,4 @@ pub mod Laws
 pub mod Order
 pub mod Table
 pub mod Alike
+pub mod Recursion

@@ -3,3 +3,4 @@ pub mod Number
 pub mod Alike
 pub mod Reason
 pub mod Front
+pub mod Recursion

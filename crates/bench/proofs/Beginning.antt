@@ -5,11 +5,13 @@ use mathlib.Core.Bool.{true}
 use mathlib.Core.List.{List, [], _∷_}
 use Prim.Native.Nat.{ℕ, _≤_}
 use lib.ListN.{length}
+use Rattle.basics.specs.Recursion.{recurse, recurseBy}
 use Rattle.basics.specs.Choice.{if, both, either, every}
 use Rattle.basics.specs.Number.{numberFrom, nibbles}
 use Rattle.tlv.specs.Tag.{tagSize, secondByte, thirdByte, tagAt, firstByte, isTemplate, isPrivate}
 use Rattle.tlv.specs.Length.{lengthAt}
 use Rattle.tlv.specs.Object.{headerOf}
+use Rattle.tlv.specs.Primitives.{withObject, primitiveOf, primitives}
 use Rattle.tlv.specs.Encoding.{lengthBytes}
 use Rattle.dictionary.specs.Rows.{rows, past, find}
 use Rattle.dictionary.specs.Named.{placeOf}
@@ -20,7 +22,7 @@ use Rattle.locator.specs.Entry.{keeps}
 use Rattle.locator.specs.Records.{entries as entriesOf, wholeEntries, recordsFrom as runOf, recordsOf, sumOf, accepts, nth, kth, recordAt}
 use Rattle.reading.specs.Taking.{mayStand, mayCome, allowed, takeItem, takeNext, takeAll}
 use Rattle.reading.specs.Answer.{bodyOf, optionsParts, primitiveParts, readBody, isRead, goodStatus, goodLength, readAnswer}
-use Rattle.data_list.specs.Entries.{along, listEntriesBy, listEntries}
+use Rattle.data_list.specs.Entries.{along, listEntries}
 use Rattle.data_list.specs.Filling.{fillingOf, filledBy}
 use Rattle.data_list.specs.Commands.{optionsOf, processingOptions}
 use Rattle.record.specs.declared.Phase.{Phase}
@@ -29,7 +31,7 @@ use Rattle.record.specs.Clauses.{noResults}
 use Rattle.store.specs.Held.{lengthIn}
 use Rattle.record.specs.Ranges.{isBrought, brought, cryptogramAbsent, running, optionsRanges, inRanges, allFit, objectFits, freshRanges}
 use Rattle.record.specs.Session.{freshSession, waitingSession}
-use Rattle.terminal.specs.Terminal.{withObject, primitiveOf, runBy, run, typeListed, settable, setObject, setAll, load, Loaded, loaded, refusal}
+use Rattle.terminal.specs.Terminal.{typeListed, settable, setObject, setAll, load, Loaded, loaded, refusal}
 use Rattle.session.specs.Steps.{Step, refuses, commands, withStore, withResults, leastBuffer}
 use Rattle.session.specs.Start.{askOptions, startLoaded}
 use Rattle.session.specs.Answer.{accepted, optionsRead, optionsStep, answerStep}
@@ -56,15 +58,15 @@ unfolding inRanges allFit objectFits lengthIn lengthByte freshRanges rows past f
 fresh-in = refl
 
 waiting-in : inRanges waiting ≡ true
-unfolding inRanges allFit objectFits lengthIn lengthByte optionsRanges running cryptogramAbsent brought isBrought withResults placeOf load run runBy withObject primitiveOf headerOf tagAt tagSize secondByte thirdByte lengthAt firstByte isTemplate isPrivate numberFrom if both either every rows past find settable setObject setAll fitting digitsFit numeric nibbles typeListed listed offsetIn placeAt held valueAt putAt valueIn
+unfolding inRanges allFit objectFits lengthIn lengthByte optionsRanges running cryptogramAbsent brought isBrought withResults placeOf load primitives withObject primitiveOf headerOf tagAt tagSize secondByte thirdByte lengthAt firstByte isTemplate isPrivate numberFrom if both either every rows past find settable setObject setAll fitting digitsFit numeric nibbles typeListed listed offsetIn placeAt held valueAt putAt valueIn recurse recurseBy
 waiting-in = refl
 
 asks : (buf : List ℕ) → startLoaded freshSession buf (load nothing startBytes) ≡ commands (withStore freshSession first-store) Phase.Options optionsCommand buf
-unfolding askOptions processingOptions optionsOf filledBy fillingOf listEntries listEntriesBy along lengthBytes withResults placeOf load run runBy withObject primitiveOf headerOf tagAt tagSize secondByte thirdByte lengthAt firstByte isTemplate isPrivate numberFrom if both either every rows past find settable setObject setAll fitting digitsFit numeric nibbles typeListed listed offsetIn placeAt held valueAt putAt valueIn brought isBrought
+unfolding askOptions processingOptions optionsOf filledBy fillingOf listEntries recurse recurseBy along lengthBytes withResults placeOf load primitives withObject primitiveOf headerOf tagAt tagSize secondByte thirdByte lengthAt firstByte isTemplate isPrivate numberFrom if both either every rows past find settable setObject setAll fitting digitsFit numeric nibbles typeListed listed offsetIn placeAt held valueAt putAt valueIn brought isBrought
 asks buf = refl
 
 reads : (buf : List ℕ) → HandsOut (0x00 ∷ 0xB2 ∷ 0x01 ∷ 0x0C ∷ 0x00 ∷ []) buf (optionsStep waiting optionsAnswer buf)
-unfolding optionsStep accepted optionsRead recordAt kth nth accepts wholeEntries entriesOf keeps sumOf recordsOf runOf readAnswer goodLength goodStatus isRead readBody bodyOf primitiveParts optionsParts takeAll takeNext takeItem allowed mayCome mayStand withResults placeOf load run runBy withObject primitiveOf headerOf tagAt tagSize secondByte thirdByte lengthAt firstByte isTemplate isPrivate numberFrom if both either every rows past find settable setObject setAll fitting digitsFit numeric nibbles typeListed listed offsetIn placeAt held valueAt putAt valueIn brought isBrought
+unfolding optionsStep accepted optionsRead recordAt kth nth accepts wholeEntries entriesOf keeps sumOf recordsOf runOf readAnswer goodLength goodStatus isRead readBody bodyOf primitiveParts optionsParts takeAll takeNext takeItem allowed mayCome mayStand withResults placeOf load primitives withObject primitiveOf headerOf tagAt tagSize secondByte thirdByte lengthAt firstByte isTemplate isPrivate numberFrom if both either every rows past find settable setObject setAll fitting digitsFit numeric nibbles typeListed listed offsetIn placeAt held valueAt putAt valueIn brought isBrought recurse recurseBy
 reads buf = record { answer = refl; bytes = refl }
 
 -- a step by an equation

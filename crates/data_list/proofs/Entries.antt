@@ -20,13 +20,14 @@ use Rattle.tlv.specs.declared.TagFront.{TagFront}
 use Rattle.tlv.specs.declared.TagFront.the-variants.{Tagged, Untagged}
 use Rattle.tlv.proofs.Laws.{tag-fits}
 use Rattle.tlv.proofs.Prefix.{tag-kept}
-use Rattle.tlv.proofs.Tree.{shorter-first}
+use Rattle.basics.proofs.Recursion.{AsksShorter, recurse-unroll, shorter-first}
 use Rattle.data_list.specs.declared.Entry.{Entry}
 use Rattle.data_list.specs.declared.EntryFront.{EntryFront}
 use Rattle.data_list.specs.declared.EntryFront.the-variants.{Asked, Broken}
 use Rattle.data_list.specs.declared.Measured.{Measured}
 use Rattle.data_list.specs.declared.Measured.the-variants.{Total, Unfit}
-use Rattle.data_list.specs.Entries.{entry, withLength, entryAt, withEntry, oneEntry, along, listEntriesBy, listEntries, askedTotal, measured}
+use Rattle.data_list.specs.Entries.{entry, withLength, entryAt, withEntry, oneEntry, along, listEntries, askedTotal}
+use Rattle.data_list.specs.Inner.{measured}
 
 -- ---- one entry, as the code reads it
 
@@ -95,20 +96,14 @@ one-same : (k k′ : Parser) (s : List ℕ) → ((v : List ℕ) → length v < l
 one-same k k′ s same Broken p = refl
 one-same k k′ s same (Asked e n) p = ap (withEntry e) (same (drop n s) (shorter s e n p))
 
-along-same : (k k′ : Parser) (s : List ℕ) → ((v : List ℕ) → length v < length s → k v ≡ k′ v) → along k s ≡ along k′ s
+along-same : AsksShorter along
 unfolding along
 along-same k k′ [] same = refl
 along-same k k′ (b ∷ s) same = one-same k k′ (b ∷ s) same (entryAt (b ∷ s)) refl
 
-enough : (n m : ℕ) (s : List ℕ) → length s < n → length s < m → listEntriesBy n s ≡ listEntriesBy m s
-unfolding listEntriesBy
-enough zero m s p q = absurd (omega arith)
-enough (suc n) zero s p q = absurd (omega arith)
-enough (suc n) (suc m) s p q = along-same (listEntriesBy n) (listEntriesBy m) s (λ v h. enough n m v (omega arith) (omega arith))
-
 pub unroll : (s : List ℕ) → listEntries s ≡ along listEntries s
-unfolding listEntries listEntriesBy
-unroll s = along-same (listEntriesBy (length s)) listEntries s (λ v h. enough (length s) (suc (length v)) v h (omega arith))
+unfolding listEntries
+unroll s = recurse-unroll none along along-same s
 
 -- ---- one law for each way out of a step
 

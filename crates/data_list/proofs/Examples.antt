@@ -1,47 +1,52 @@
 -- Worked examples of lists and values, computed. Assumes nothing.
 use mathlib.Core.Path.{_≡_, refl}
-use mathlib.Core.List.{[], _∷_}
-use mathlib.Core.Option.{some, none}
-use Rattle.basics.specs.Choice.{if}
+use mathlib.Core.List.{List, [], _∷_, map}
+use mathlib.Core.Option.{Option, some, none}
+use Prim.Native.Nat.{ℕ}
+use lib.ListN.{length, take, replicate}
+use Rattle.basics.specs.Recursion.{recurse, recurseBy}
+use Rattle.basics.specs.Choice.{if, both}
 use Rattle.basics.specs.Number.{numberFrom}
+use Rattle.tlv.specs.Encoding.{lengthBytes}
 use Rattle.tlv.specs.Tag.{tagSize, secondByte, thirdByte, tagAt}
 use Rattle.dictionary.specs.Rows.{formB, formN, formCn}
 use Rattle.store.specs.Place.{absent, present}
-use Rattle.data_list.specs.Entries.{entry, withLength, entryAt, withEntry, along, listEntriesBy, listEntries}
+use Rattle.data_list.specs.Entries.{entry, withLength, entryAt, withEntry, along, listEntries}
+use Rattle.data_list.specs.Commands.{optionsOf, cryptogramOf}
 use Rattle.data_list.specs.Filling.{cut, padding, padded, fitted, valueBytes}
 
 -- ---- lists
 
 -- two entries, tags of two bytes and of one
 pub two-entries : listEntries (0x9F ∷ 0x02 ∷ 6 ∷ 0x95 ∷ 5 ∷ []) ≡ some (entry 0x9F02 6 ∷ entry 0x95 5 ∷ [])
-unfolding listEntries listEntriesBy along entryAt withLength withEntry tagAt tagSize secondByte thirdByte numberFrom if
+unfolding listEntries recurse recurseBy along entryAt withLength withEntry tagAt tagSize secondByte thirdByte numberFrom if
 two-entries = refl
 
 -- a tag of three bytes
 pub three-bytes : listEntries (0xDF ∷ 0x81 ∷ 0x23 ∷ 3 ∷ []) ≡ some (entry 0xDF8123 3 ∷ [])
-unfolding listEntries listEntriesBy along entryAt withLength withEntry tagAt tagSize secondByte thirdByte numberFrom if
+unfolding listEntries recurse recurseBy along entryAt withLength withEntry tagAt tagSize secondByte thirdByte numberFrom if
 three-bytes = refl
 
 -- one length byte, and no long form
 pub plain-length : listEntries (0x95 ∷ 0x81 ∷ []) ≡ some (entry 0x95 129 ∷ [])
-unfolding listEntries listEntriesBy along entryAt withLength withEntry tagAt tagSize secondByte thirdByte numberFrom if
+unfolding listEntries recurse recurseBy along entryAt withLength withEntry tagAt tagSize secondByte thirdByte numberFrom if
 plain-length = refl
 
 -- broken: a first byte 00, a second byte 80, an end inside a tag, an end before the length
 pub first-00 : listEntries (0 ∷ 0 ∷ []) ≡ none
-unfolding listEntries listEntriesBy along entryAt withLength withEntry tagAt tagSize secondByte thirdByte numberFrom if
+unfolding listEntries recurse recurseBy along entryAt withLength withEntry tagAt tagSize secondByte thirdByte numberFrom if
 first-00 = refl
 
 pub second-80 : listEntries (0x9F ∷ 0x80 ∷ 2 ∷ []) ≡ none
-unfolding listEntries listEntriesBy along entryAt withLength withEntry tagAt tagSize secondByte thirdByte numberFrom if
+unfolding listEntries recurse recurseBy along entryAt withLength withEntry tagAt tagSize secondByte thirdByte numberFrom if
 second-80 = refl
 
 pub half-a-tag : listEntries (0x95 ∷ 5 ∷ 0x9F ∷ []) ≡ none
-unfolding listEntries listEntriesBy along entryAt withLength withEntry tagAt tagSize secondByte thirdByte numberFrom if
+unfolding listEntries recurse recurseBy along entryAt withLength withEntry tagAt tagSize secondByte thirdByte numberFrom if
 half-a-tag = refl
 
 pub no-length : listEntries (0x9F ∷ 0x02 ∷ []) ≡ none
-unfolding listEntries listEntriesBy along entryAt withLength withEntry tagAt tagSize secondByte thirdByte numberFrom if
+unfolding listEntries recurse recurseBy along entryAt withLength withEntry tagAt tagSize secondByte thirdByte numberFrom if
 no-length = refl
 
 -- ---- values
@@ -75,3 +80,37 @@ number-empty = refl
 
 pub number-absent : valueBytes formCn 3 absent ≡ 0 ∷ 0 ∷ 0 ∷ []
 number-absent = refl
+
+-- ---- the limits of the two commands, each on both sides of its edge
+
+-- a command's front bytes and its length, by the length of the filled list
+abbrev edge : Option (List ℕ) → List ℕ
+edge none = []
+edge (some c) = length c ∷ take 8 c
+
+options-edge : ℕ → List ℕ
+options-edge n = edge (optionsOf (some (replicate n 0xAA)))
+
+cryptogram-edge : ℕ → List ℕ
+cryptogram-edge n = edge (cryptogramOf 0x40 (some (replicate n 0xAA)))
+
+-- processing options: a length of 127 stands in one byte, 128 behind 81; 252 filled bytes are carried, 253 are not
+options-edges : map options-edge (0 ∷ 127 ∷ 128 ∷ 252 ∷ 253 ∷ [])
+    ≡ (8 ∷ 0x80 ∷ 0xA8 ∷ 0 ∷ 0 ∷ 2 ∷ 0x83 ∷ 0 ∷ 0 ∷ [])
+    ∷ (135 ∷ 0x80 ∷ 0xA8 ∷ 0 ∷ 0 ∷ 129 ∷ 0x83 ∷ 127 ∷ 0xAA ∷ [])
+    ∷ (137 ∷ 0x80 ∷ 0xA8 ∷ 0 ∷ 0 ∷ 131 ∷ 0x83 ∷ 0x81 ∷ 128 ∷ [])
+    ∷ (261 ∷ 0x80 ∷ 0xA8 ∷ 0 ∷ 0 ∷ 255 ∷ 0x83 ∷ 0x81 ∷ 252 ∷ [])
+    ∷ []
+    ∷ []
+unfolding options-edge optionsOf lengthBytes if
+options-edges = refl
+
+-- generate AC: 1 to 255 filled bytes are carried
+cryptogram-edges : map cryptogram-edge (0 ∷ 1 ∷ 255 ∷ 256 ∷ [])
+    ≡ []
+    ∷ (7 ∷ 0x80 ∷ 0xAE ∷ 0x40 ∷ 0 ∷ 1 ∷ 0xAA ∷ 0 ∷ [])
+    ∷ (261 ∷ 0x80 ∷ 0xAE ∷ 0x40 ∷ 0 ∷ 255 ∷ 0xAA ∷ 0xAA ∷ 0xAA ∷ [])
+    ∷ []
+    ∷ []
+unfolding cryptogram-edge cryptogramOf both if
+cryptogram-edges = refl

@@ -21,10 +21,10 @@ use Rattle.store.proofs.Laws.{by-row}
 use Rattle.data_list.specs.declared.Entry.{Entry}
 use Rattle.data_list.specs.declared.Written.{Written}
 use Rattle.data_list.specs.declared.Measured.the-variants.{Total, Unfit}
-use Rattle.data_list.specs.Entries.{askedTotal, measured, Room}
+use Rattle.data_list.specs.Entries.{askedTotal}
 use Rattle.data_list.specs.Filling.{fillingOf, filledBy, filled}
 use Rattle.data_list.specs.Commands.{command, optionsHead, optionsData, optionsOf, processingOptions, cryptogramOf, generateAc, handed, writtenOf, writtenNumber, listReason, bufferWith}
-use Rattle.data_list.specs.Buffer.{over}
+use Rattle.data_list.specs.Inner.{measured, Room, over}
 use Rattle.data_list.proofs.Buffer.{over-there, over-cover}
 use Rattle.data_list.proofs.Entries.{whole}
 use Rattle.data_list.proofs.Filling.{filling-length, filled-some}

@@ -10,9 +10,9 @@ use Rattle.tlv.proofs.Laws.{tail, tail-is}
 use Rattle.dictionary.specs.Rows.{Row}
 use Rattle.data_list.specs.declared.Entry.{Entry}
 use Rattle.data_list.specs.declared.EntryFront.the-variants.{Asked, Broken}
-use Rattle.data_list.specs.Entries.{entryAt, withEntry, listEntries, askedTotal, Room}
+use Rattle.data_list.specs.Entries.{entryAt, withEntry, listEntries, askedTotal}
 use Rattle.data_list.specs.Filling.{entryBytes, fillingOf, filledBy, filled}
-use Rattle.data_list.specs.Buffer.{over, overFilled}
+use Rattle.data_list.specs.Inner.{Room, over, overFilled}
 use Rattle.data_list.proofs.Buffer.{over-nothing, over-length, over-join}
 use Rattle.data_list.proofs.Entries.{entries-end, entries-broken, entries-more}
 use Rattle.data_list.proofs.Filling.{entry-length}

@@ -3,9 +3,8 @@
 use mathlib.Core.List.{List, [], _∷_, _++_}
 use mathlib.Core.Option.{Option, some, none}
 use Prim.Native.Nat.{ℕ}
-use lib.Dec.{leb}
 use lib.ListN.{length}
-use Rattle.basics.specs.Choice.{if, both}
+use Rattle.basics.specs.Choice.{if_then_else_, _and_, _≤?_}
 use Rattle.basics.specs.Front.{inFront}
 use Rattle.basics.specs.Reason.{reasonNone, reasonDataList}
 use Rattle.tlv.specs.Encoding.{lengthBytes}
@@ -32,7 +31,9 @@ optionsData v = optionsHead (length v) ++ v
 -- no command for a broken list or over 252 filled bytes
 unfoldable pub optionsOf : Option (List ℕ) → Option (List ℕ)
 optionsOf none = none
-optionsOf (some v) = if (leb (length v) 252) (some (command 0xA8 0 (optionsData v))) none
+optionsOf (some v) =
+    if length v ≤? 252 then some (command 0xA8 0 (optionsData v))
+    else none
 
 -- the command that a store gives; an absent 9F38 counts as an empty one
 unfoldable pub processingOptions : List ℕ → Option (List ℕ)
@@ -43,7 +44,9 @@ processingOptions store = optionsOf (filled rows store (bytesOf (valueOf store 0
 -- a list that is broken, or that fills to no byte or to more than 255, makes no command
 unfoldable pub cryptogramOf : ℕ → Option (List ℕ) → Option (List ℕ)
 cryptogramOf p1 none = none
-cryptogramOf p1 (some v) = if (both (leb 1 (length v)) (leb (length v) 255)) (some (command 0xAE p1 v)) none
+cryptogramOf p1 (some v) =
+    if 1 ≤? length v and length v ≤? 255 then some (command 0xAE p1 v)
+    else none
 
 -- the command that a store gives, with the type asked for in P1
 unfoldable pub generateAc : ℕ → List ℕ → Option (List ℕ)
@@ -60,7 +63,8 @@ abbrev pub writtenOf : Option (List ℕ) → Written
 writtenOf none = NoCommand
 writtenOf (some c) = handed (length c)
 
--- the number of what is handed back (document 01, "Calls and their numbers"): 0 with a command, else 7, a list that is broken or fills to no command
+-- the number of what is handed back (document 01, "Calls and their numbers"): 0 with a command, else 7, a list that is broken
+-- or fills to no command
 abbrev pub writtenNumber : Written → ℕ
 writtenNumber (Command c) = reasonNone
 writtenNumber NoCommand = reasonDataList

@@ -2,10 +2,9 @@
 -- Assumes nothing.
 use mathlib.Core.List.{List, [], _∷_}
 use mathlib.Core.Option.{Option, some, none}
-use Prim.Native.Nat.{ℕ, zero, suc, _+_, _≤_}
-use lib.Dec.{leb}
-use lib.ListN.{length, drop}
-use Rattle.basics.specs.Choice.{if}
+use Prim.Native.Nat.{ℕ, _+_}
+use lib.ListN.{drop}
+use Rattle.basics.specs.Recursion.{recurse}
 use Rattle.tlv.specs.Tag.{tagAt}
 use Rattle.tlv.specs.declared.Tag.{Tag}
 use Rattle.tlv.specs.declared.TagFront.{TagFront}
@@ -13,8 +12,6 @@ use Rattle.tlv.specs.declared.TagFront.the-variants.{Tagged, Untagged}
 use Rattle.data_list.specs.declared.Entry.{Entry}
 use Rattle.data_list.specs.declared.EntryFront.{EntryFront}
 use Rattle.data_list.specs.declared.EntryFront.the-variants.{Asked, Broken}
-use Rattle.data_list.specs.declared.Measured.{Measured}
-use Rattle.data_list.specs.declared.Measured.the-variants.{Total, Unfit}
 
 -- an entry: so many bytes are asked of a tag
 abbrev pub entry : ℕ → ℕ → Entry
@@ -48,35 +45,17 @@ unfoldable pub along : (List ℕ → Option (List Entry)) → List ℕ → Optio
 along k [] = some []
 along k (b ∷ s) = oneEntry k (b ∷ s) (entryAt (b ∷ s))
 
--- the entries by at most so many steps along the list
-unfoldable pub listEntriesBy : ℕ → List ℕ → Option (List Entry)
-listEntriesBy zero s = none
-listEntriesBy (suc n) s = along (listEntriesBy n) s
-
--- the entries of a list, or none where it is broken: a bad tag, or an end inside an entry. Each entry takes some bytes, so the
--- list's length is steps enough.
+-- the entries of a list, or none where it is broken: a bad tag, or an end inside an entry
 unfoldable pub listEntries : List ℕ → Option (List Entry)
-listEntries s = listEntriesBy (suc (length s)) s
-
--- ---- measuring
+listEntries s = recurse none along s
 
 -- how many bytes are asked in all
 unfoldable pub askedTotal : List Entry → ℕ
 askedTotal [] = 0
 askedTotal (e ∷ es) = e .asked + askedTotal es
 
--- a list's total, where the list is whole and the total at most 255, which is all that a command can carry
-unfoldable pub measured : Option (List Entry) → Measured
-measured none = Unfit
-measured (some es) = if (leb (askedTotal es) 255) (Total (askedTotal es)) Unfit
-
--- a list that is whole, and whose filling from place `at` on ends inside n bytes
-abbrev pub Room : Option (List Entry) → ℕ → ℕ → Type 0
-Room none at n = ⊥
-Room (some es) at n = at + askedTotal es ≤ n
-
 -- ---- what holds of it, proved in proofs/Entries for all lists
 --   entry-inside     an entry takes two bytes at least, all inside its list
 --   entry-kept       bytes behind the list do not change its entry
---   unroll           the steps allowed do not matter; entries-end, entries-broken, entries-more: one law for each way out of a step
+--   unroll           listEntries s ≡ along listEntries s; entries-end, entries-broken, entries-more: one law for each way out of a step
 --   entries-join     the entries of two whole lists, one behind the other, are the ones behind the others

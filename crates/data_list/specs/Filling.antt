@@ -4,9 +4,8 @@
 use mathlib.Core.List.{List, [], _∷_, _++_}
 use mathlib.Core.Option.{Option, some, none}
 use Prim.Native.Nat.{ℕ, _-_}
-use lib.Dec.{leb, eqb}
 use lib.ListN.{length, take, drop, replicate}
-use Rattle.basics.specs.Choice.{if}
+use Rattle.basics.specs.Choice.{if_then_else_, _≤?_, _=?_}
 use Rattle.tlv.specs.Tag.{isTemplate}
 use Rattle.dictionary.specs.Rows.{Row, rowIn, find, formN, formCn}
 use Rattle.dictionary.specs.declared.Found.{Found}
@@ -15,24 +14,33 @@ use Rattle.store.specs.Place.{Value, absent, present, valueAt}
 use Rattle.data_list.specs.declared.Entry.{Entry}
 use Rattle.data_list.specs.Entries.{listEntries}
 
+-- n bytes of 00
 abbrev pub zeros : ℕ → List ℕ
 zeros n = replicate n 0
 
 -- a value too long for the k bytes asked: form n loses its leftmost bytes, any other its rightmost
 unfoldable pub cut : ℕ → ℕ → List ℕ → List ℕ
-cut form k v = if (eqb form formN) (drop (length v - k) v) (take k v)
+cut form k v =
+    if form =? formN then drop (length v - k) v
+    else take k v
 
 -- the byte that a value gains at its end: FF in form cn, else 00
 unfoldable pub padding : ℕ → ℕ
-padding form = if (eqb form formCn) 0xFF 0
+padding form =
+    if form =? formCn then 0xFF
+    else 0
 
 -- a value too short for the k bytes asked: form n gains leading zeros, cn trailing FF, any other trailing zeros
 unfoldable pub padded : ℕ → ℕ → List ℕ → List ℕ
-padded form k v = if (eqb form formN) (zeros (k - length v) ++ v) (v ++ replicate (k - length v) (padding form))
+padded form k v =
+    if form =? formN then zeros (k - length v) ++ v
+    else v ++ replicate (k - length v) (padding form)
 
 -- a value as the k bytes asked
 unfoldable pub fitted : ℕ → ℕ → List ℕ → List ℕ
-fitted form k v = if (leb k (length v)) (cut form k v) (padded form k v)
+fitted form k v =
+    if k ≤? length v then cut form k v
+    else padded form k v
 
 -- an absent object gives zeros; one that is there and empty is a value
 abbrev pub valueBytes : ℕ → ℕ → Value → List ℕ
@@ -46,13 +54,16 @@ foundBytes table store k (At row) = valueBytes (rowIn table row .form) k (valueA
 
 -- an entry's bytes: a template's tag gives zeros
 unfoldable pub entryBytes : List Row → List ℕ → Entry → List ℕ
-entryBytes table store e = if (isTemplate (e .tag)) (zeros (e .asked)) (foundBytes table store (e .asked) (find table (e .tag)))
+entryBytes table store e =
+    if isTemplate (e .tag) then zeros (e .asked)
+    else foundBytes table store (e .asked) (find table (e .tag))
 
 -- the entries' bytes, joined
 unfoldable pub fillingOf : List Row → List ℕ → List Entry → List ℕ
 fillingOf table store [] = []
 fillingOf table store (e ∷ es) = entryBytes table store e ++ fillingOf table store es
 
+-- the filling of the entries that a list has; none where it is broken
 unfoldable pub filledBy : List Row → List ℕ → Option (List Entry) → Option (List ℕ)
 filledBy table store none = none
 filledBy table store (some es) = some (fillingOf table store es)

@@ -1,4 +1,4 @@
 pub mod Entries
 pub mod Filling
 pub mod Commands
-pub mod Buffer
+pub mod Inner

@@ -9,10 +9,10 @@ ghost use mathlib.Core.Path.{_≡_};
 ghost use Prim.Native.Nat.{_+_, _-_, _≤_, _<_};
 ghost use lib.ListN.{length, take, drop, replicate};
 ghost use Rattle.dictionary.specs.Rows.{rows};
-ghost use Rattle.data_list.specs.Entries.{entryAt, listEntries, measured, Room};
+ghost use Rattle.data_list.specs.Entries.{entryAt, listEntries};
 ghost use Rattle.data_list.specs.Filling.{cut, padding, padded, fitted, entryBytes, filled};
 ghost use Rattle.data_list.specs.Commands.{command, optionsHead, processingOptions, generateAc, handed, writtenOf, writtenNumber, listReason, bufferWith};
-ghost use Rattle.data_list.specs.Buffer.{over, overFilled};
+ghost use Rattle.data_list.specs.Inner.{measured, Room, over, overFilled};
 
 // A command at the front of the buffer: how many bytes it has.
 pub struct Command {

@@ -13,7 +13,8 @@ use borrow.Author.Tests.{ltb-true, ltb-false, lt-ltb, le-ltb, eqb-true, eqb-fals
 use Rattle.basics.specs.Choice.{if, both, every}
 use Rattle.basics.specs.Number.{nibbles}
 use Rattle.basics.proofs.Laws.{if-yes, if-no, if-ind, both-yes, both-left, both-right, both-no-left, both-no-right, both-true, both-assoc}
-use Rattle.dictionary.specs.Form.{isDigit, isF, numeric, digitsThenFs, compressed, isDigits, digitBytes, onlyFs}
+use Rattle.dictionary.specs.Form.{isDigit, isF, numeric, digitsThenFs, compressed}
+use Rattle.dictionary.specs.Inner.{isDigits, digitBytes, onlyFs}
 
 -- ---- the count of digit bytes, one byte at a time
 module _ (v : List ℕ) (i : ℕ) (h : i < length v) where

@@ -1,5 +1,5 @@
 -- What fits a row: the length first, then the digits by the row's form. Assumes nothing.
-use mathlib.Core.Path.{_≡_, sym, _∙_}
+use mathlib.Core.Path.{_≡_, ap, _∙_}
 use mathlib.Core.Bool.{Bool, true, false}
 use mathlib.Core.List.{List}
 use Prim.Native.Nat.{ℕ, _≤_, _<_}
@@ -8,13 +8,20 @@ use lib.ListN.{length}
 use borrow.Author.Tests.{le-leb, lt-leb, eq-eqb, ne-eqb, leb-true}
 use Rattle.basics.specs.Choice.{both}
 use Rattle.basics.proofs.Laws.{if-yes, if-no, both-true, both-left, both-right, both-no-left}
+use Rattle.dictionary.specs.declared.Attributes.{Attributes}
 use Rattle.dictionary.specs.Rows.{Row, formN, formCn}
+use Rattle.dictionary.specs.Packing.{attributesOf, rowOf}
 use Rattle.dictionary.specs.Form.{fitting, digitsFit, numeric, compressed}
 
 -- a value that fits is neither too short nor too long
 pub fits-length : (r : Row) (v : List ℕ) → fitting r v ≡ true → (r .least ≤ length v) × (length v ≤ r .greatest)
 unfolding fitting
 fits-length r v e = (leb-true _ _ (both-left _ _ e), leb-true _ _ (both-left _ _ (both-right _ _ e)))
+
+-- what fits a row's attributes fits the row
+pub row-fits : (x : Row) (v : List ℕ) {r : Bool} {a : Attributes} → r ≡ fitting (rowOf a) v → a ≡ attributesOf x → r ≡ fitting x v
+unfolding fitting
+row-fits x v e f = e ∙ ap (λ (z : Attributes). fitting (rowOf z) v) f
 
 module _ (r : Row) (v : List ℕ) where
   pub too-short : length v < r .least → fitting r v ≡ false

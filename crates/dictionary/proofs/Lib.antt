@@ -5,3 +5,4 @@ pub mod Digits
 pub mod Fit
 pub mod Packing
 pub mod Named
+pub mod Examples

@@ -1,16 +1,16 @@
 -- Columns of a table: what an array of a number for each row says of the rows. Assumes nothing.
-use mathlib.Core.Path.{_≡_, sym}
+use mathlib.Core.Path.{_≡_, sym, ap}
 use mathlib.Core.List.{List, map}
 use Prim.Native.Nat.{ℕ, _≤_}
 use native.Mathlib.Omega.{arith}
 use lib.ListN.{length, getD, List·getD-map, List·getD-eq-default}
-use Rattle.dictionary.specs.Rows.{Row, rows, blank, rowIn, rowAt}
+use Rattle.dictionary.specs.Rows.{Row, rows, blank, rowIn, rowAt, rowCount}
 
 -- entry k of a column is that of row k
 pub column : (f : Row → ℕ) (table : List Row) (k : ℕ) → getD (map f table) k (f blank) ≡ f (rowIn table k)
 column f table k = List·getD-map f table k blank
 
 -- past the last row
-pub beyond : {A : Type 0} (f : Row → A) (k : ℕ) → 36 ≤ k → f blank ≡ f (rowAt k)
+pub beyond : {A : Type 0} (f : Row → A) (k : ℕ) → rowCount ≤ k → f blank ≡ f (rowAt k)
 unfolding rows
-beyond f k h = let l : length rows ≤ k = omega arith in sym (mathlib.Core.Path.ap f (List·getD-eq-default rows blank l))
+beyond f k h = let l : length rows ≤ k = omega arith in sym (ap f (List·getD-eq-default rows blank l))

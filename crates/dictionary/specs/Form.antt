@@ -2,7 +2,7 @@
 -- Assumes nothing.
 use mathlib.Core.Bool.{Bool, true}
 use mathlib.Core.List.{List, [], _∷_}
-use Prim.Native.Nat.{ℕ, suc, _/_, _%_}
+use Prim.Native.Nat.{ℕ}
 use lib.Dec.{ltb, leb, eqb}
 use lib.ListN.{length}
 use Rattle.basics.specs.Choice.{if, both, every}
@@ -37,18 +37,3 @@ digitsFit form v = if (eqb form formN) (numeric v) (if (eqb form formCn) (compre
 -- the length is in range and the digits fit
 unfoldable pub fitting : Row → List ℕ → Bool
 fitting r v = both (leb (r .least) (length v)) (both (leb (length v) (r .greatest)) (digitsFit (r .form) v))
-
--- ---- the same byte by byte, as a reader of bytes goes
-
--- both digits of a byte are decimal
-unfoldable pub isDigits : ℕ → Bool
-isDigits b = both (isDigit (b / 16)) (isDigit (b % 16))
-
--- how many bytes at the front are decimal digits
-unfoldable pub digitBytes : List ℕ → ℕ
-digitBytes [] = 0
-digitBytes (b ∷ v) = if (isDigits b) (suc (digitBytes v)) 0
-
--- every byte is FF
-unfoldable pub onlyFs : List ℕ → Bool
-onlyFs v = every (λ b. eqb b 0xFF) v

@@ -4,3 +4,4 @@ pub mod Packing
 pub mod Form
 pub mod Named
 pub mod TerminalType
+pub mod Inner

@@ -1,4 +1,4 @@
--- The rows of the tags that code uses: a constant for each, and the tags in the constants' order.
+-- The rows of the tags that code uses: the tags in the order of the source's constants, and each row's number.
 -- Assumes nothing.
 use mathlib.Core.List.{List, [], _∷_}
 use Prim.Native.Nat.{ℕ}
@@ -21,3 +21,98 @@ usedTags =
     0x9F0E ∷ 0x9F0F ∷ 0x9F10 ∷ 0x9F1A ∷ 0x9F26 ∷ 0x9F27 ∷ 0x9F35 ∷ 0x9F36 ∷
     0x9F38 ∷ 0x9F40 ∷ 0xDF8120 ∷ 0xDF8121 ∷ 0xDF8122 ∷ 0xDF8123 ∷ 0xDF8124 ∷
     []
+
+-- ---- the numbers of these rows, counted from 0: proofs/Named finds each in the table
+
+abbrev pub row5A : ℕ
+row5A = 1
+
+abbrev pub row82 : ℕ
+row82 = 2
+
+abbrev pub row8C : ℕ
+row8C = 3
+
+abbrev pub row94 : ℕ
+row94 = 4
+
+abbrev pub row95 : ℕ
+row95 = 5
+
+abbrev pub row9A : ℕ
+row9A = 6
+
+abbrev pub row9C : ℕ
+row9C = 7
+
+abbrev pub row5F24 : ℕ
+row5F24 = 8
+
+abbrev pub row5F25 : ℕ
+row5F25 = 9
+
+abbrev pub row5F28 : ℕ
+row5F28 = 10
+
+abbrev pub row9F02 : ℕ
+row9F02 = 13
+
+abbrev pub row9F03 : ℕ
+row9F03 = 14
+
+abbrev pub row9F07 : ℕ
+row9F07 = 15
+
+abbrev pub row9F08 : ℕ
+row9F08 = 16
+
+abbrev pub row9F09 : ℕ
+row9F09 = 17
+
+abbrev pub row9F0D : ℕ
+row9F0D = 18
+
+abbrev pub row9F0E : ℕ
+row9F0E = 19
+
+abbrev pub row9F0F : ℕ
+row9F0F = 20
+
+abbrev pub row9F10 : ℕ
+row9F10 = 21
+
+abbrev pub row9F1A : ℕ
+row9F1A = 22
+
+abbrev pub row9F26 : ℕ
+row9F26 = 23
+
+abbrev pub row9F27 : ℕ
+row9F27 = 24
+
+abbrev pub row9F35 : ℕ
+row9F35 = 26
+
+abbrev pub row9F36 : ℕ
+row9F36 = 27
+
+abbrev pub row9F38 : ℕ
+row9F38 = 29
+
+abbrev pub row9F40 : ℕ
+row9F40 = 30
+
+abbrev pub rowDF8120 : ℕ
+rowDF8120 = 31
+
+abbrev pub rowDF8121 : ℕ
+rowDF8121 = 32
+
+abbrev pub rowDF8122 : ℕ
+rowDF8122 = 33
+
+abbrev pub rowDF8123 : ℕ
+rowDF8123 = 34
+
+abbrev pub rowDF8124 : ℕ
+rowDF8124 = 35

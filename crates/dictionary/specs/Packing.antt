@@ -2,7 +2,7 @@
 -- Assumes nothing.
 use Prim.Native.Nat.{ℕ, _+_, _*_, _/_, _%_}
 use Rattle.dictionary.specs.declared.Attributes.{Attributes}
-use Rattle.dictionary.specs.Rows.{Row}
+use Rattle.dictionary.specs.Rows.{Row, row}
 
 -- what a row says beside its tag
 abbrev pub attributesOf : Row → Attributes
@@ -17,11 +17,16 @@ attributesOf r =
       must = r .must;
     }
 
--- the same in one number: 8 bits each for the lengths, 2 for the form, 3 for who may set it, 6 for the templates, 4 for the
--- answers, 1 for whether a start must bring it
+-- a row that says this, under the tag 0: for rules that do not read the tag
+abbrev pub rowOf : Attributes → Row
+rowOf a = row 0 (a .least) (a .greatest) (a .form) (a .setters) (a .templates) (a .answers) (a .must)
+
+-- what a row says, in one number: 8 bits each for the lengths, 2 for the form, 3 for who may set it, 6 for the
+-- templates, 4 for the answers, 1 for whether a start must bring it
 abbrev pub codeOf : Row → ℕ
 codeOf r =
-    r .least + 256 * r .greatest + 65536 * r .form + 262144 * r .setters + 2097152 * r .templates + 134217728 * r .answers + 2147483648 * r .must
+    r .least + 256 * r .greatest + 65536 * r .form + 262144 * r .setters + 2097152 * r .templates
+    + 134217728 * r .answers + 2147483648 * r .must
 
 -- such a number taken apart
 abbrev pub attributesIn : ℕ → Attributes

@@ -1,7 +1,6 @@
--- The dictionary of data objects (document 01, "Dictionary"; Book C-2, annex A): one row for each known tag, tags rising.
+-- The dictionary of data objects (document 01, "Dictionary"; Book C-2, annex A): a row for each known tag, tags rising.
 -- Assumes nothing.
-use mathlib.Core.Bool.{Bool}
-use mathlib.Core.List.{List, [], _∷_, map}
+use mathlib.Core.List.{List, [], _∷_}
 use Prim.Native.Nat.{ℕ, _+_}
 use lib.Dec.{eqb}
 use lib.ListN.{getD}
@@ -23,7 +22,8 @@ pub record Row : Type 0 where
   pub must : ℕ
 
 abbrev pub row : ℕ → ℕ → ℕ → ℕ → ℕ → ℕ → ℕ → ℕ → Row
-row t a g f s p w m = record { tag = t; least = a; greatest = g; form = f; setters = s; templates = p; answers = w; must = m }
+row t a g f s p w m =
+    record { tag = t; least = a; greatest = g; form = f; setters = s; templates = p; answers = w; must = m }
 
 -- ---- the columns' values
 
@@ -57,21 +57,22 @@ in70 = 1
 abbrev pub in77 : ℕ
 in77 = 2
 
--- the answer that brings an object; weight 8 is kept for one more
+-- the answer that brings an object, by its command: GET PROCESSING OPTIONS, READ RECORD, GENERATE AC; weight 8 is kept
+-- for one more
 abbrev pub noAnswer : ℕ
 noAnswer = 0
 
 abbrev pub options : ℕ
 options = 1
 
-abbrev pub record′ : ℕ
-record′ = 2
+abbrev pub cardRecord : ℕ
+cardRecord = 2
 
 abbrev pub cryptogram : ℕ
 cryptogram = 4
 
 abbrev pub anyAnswer : ℕ
-anyAnswer = options + record′ + cryptogram
+anyAnswer = options + cardRecord + cryptogram
 
 -- whether a start must bring it
 abbrev pub optional : ℕ
@@ -133,8 +134,8 @@ rowIn table k = getD table k blank
 abbrev pub rowAt : ℕ → Row
 rowAt k = rowIn rows k
 
--- how many rows there are, and the size of a store with room for every row at its greatest length at once (`rows-length` and `rows-size` in
--- the store's proofs compute both)
+-- how many rows there are, and the size of a store with room for every row at its greatest length at once
+-- (`rows-length` and `rows-size` in the store's proofs compute both)
 abbrev pub rowCount : ℕ
 rowCount = 36
 

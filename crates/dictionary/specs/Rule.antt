@@ -1,4 +1,5 @@
--- The rule of a table (document 01, "The shape of some places"; document 02, Item 11): each tag is above the one before it and well formed, and no least length is above its greatest.
+-- The rule of a table (document 01, "The shape of some places"; document 02, Item 11): each tag is above the one before
+-- it and well formed, and no least length is above its greatest.
 -- One test over the whole table; what it gives at each row is proved for every table that passes.
 -- Assumes nothing.
 use mathlib.Core.Bool.{Bool, true}

@@ -1,4 +1,4 @@
--- Terminal types that the session takes (document 01, "Dictionary"): 11 to 16, 21 to 26 and 34 to 36, bytes written in digits.
+-- Terminal types that the session takes (document 01, "Dictionary"): 11 to 16, 21 to 26 and 34 to 36, bytes in digits.
 -- Assumes nothing.
 use mathlib.Core.Bool.{Bool}
 use Prim.Native.Nat.{ℕ}

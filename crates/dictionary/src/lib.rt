@@ -9,10 +9,11 @@ ghost use mathlib.Core.Bool.{true};
 ghost use mathlib.Core.List.{map};
 ghost use Prim.Native.Nat.{_+_, _≤_, _<_};
 ghost use lib.ListN.{length, drop};
-ghost use Rattle.dictionary.specs.Rows.{Row, rows, rowAt, find};
+ghost use Rattle.dictionary.specs.Rows.{rows, rowAt, find};
 ghost use Rattle.dictionary.specs.Rule.{proper};
-ghost use Rattle.dictionary.specs.Form.{digitBytes, onlyFs, numeric, compressed, digitsFit, fitting, isDigits};
-ghost use Rattle.dictionary.specs.Packing.{codeOf, attributesOf, attributesIn};
+ghost use Rattle.dictionary.specs.Form.{numeric, compressed, digitsFit, fitting};
+ghost use Rattle.dictionary.specs.Inner.{isDigits, digitBytes, onlyFs};
+ghost use Rattle.dictionary.specs.Packing.{attributesOf, rowOf, codeOf, attributesIn};
 ghost use Rattle.dictionary.specs.Named.{placeOf, usedTags};
 ghost use Rattle.dictionary.specs.TerminalType.{listed};
 
@@ -44,7 +45,7 @@ pub const IN_77: u8 = 2;
 // The answer that brings an object.
 pub const OPTIONS: u8 = 1;
 
-pub const RECORD: u8 = 2;
+pub const CARD_RECORD: u8 = 2;
 
 pub const CRYPTOGRAM: u8 = 4;
 
@@ -129,18 +130,20 @@ const ANSWERS: u32 = 134217728;
 const MUST: u32 = 2147483648;
 
 // The forms as the table has them.
-const B: u32 = 0;
-const N: u32 = FORM;
-const CN: u32 = 2 * FORM;
+const B: u32 = (FORM_B as u32) * FORM;
+const N: u32 = (FORM_N as u32) * FORM;
+const CN: u32 = (FORM_CN as u32) * FORM;
 
 // The kinds of rows: the card's, in template 70, in 77, or in 77 with the cryptogram alone; the start's, and one
 // that a start must bring; the session's.
-const OF_RECORD: u32 = 2 * SETTERS + TEMPLATES + 7 * ANSWERS;
-const OF_OPTIONS: u32 = 2 * SETTERS + 2 * TEMPLATES + 7 * ANSWERS;
-const OF_CRYPTOGRAM: u32 = 2 * SETTERS + 2 * TEMPLATES + 4 * ANSWERS;
-const OF_START: u32 = SETTERS;
-const MUST_START: u32 = SETTERS + MUST;
-const OF_SESSION: u32 = 4 * SETTERS;
+const ANY_ANSWER: u32 = ((OPTIONS + CARD_RECORD + CRYPTOGRAM) as u32) * ANSWERS;
+const OF_CARD: u32 = (CARD as u32) * SETTERS;
+const OF_RECORD: u32 = OF_CARD + (IN_70 as u32) * TEMPLATES + ANY_ANSWER;
+const OF_OPTIONS: u32 = OF_CARD + (IN_77 as u32) * TEMPLATES + ANY_ANSWER;
+const OF_CRYPTOGRAM: u32 = OF_CARD + (IN_77 as u32) * TEMPLATES + (CRYPTOGRAM as u32) * ANSWERS;
+const OF_START: u32 = (START as u32) * SETTERS;
+const MUST_START: u32 = OF_START + MUST;
+const OF_SESSION: u32 = (SESSION as u32) * SETTERS;
 
 const CODES: [u32; ROWS] = [
     0 +  19 * GREATEST + B  + OF_RECORD,     // 57
@@ -377,7 +380,7 @@ pub fn digits_fit(form: u8, v: &[u8]) -> bool
 
 // Whether a value's length and digits fit a row of these attributes.
 pub fn fits(attributes: Attributes, v: &[u8]) -> bool
-    ensures { λ r. ⌜ ((x : Row) → attributes ≡ attributesOf x → r ≡ fitting x (now (v .entry))) ⌝ }
+    ensures { λ r. ⌜ r ≡ fitting (rowOf attributes) (now (v .entry)) ⌝ }
 {
     if v.len() < attributes.least {
         return false;

@@ -4,9 +4,8 @@ use mathlib.Core.Bool.{Bool}
 use mathlib.Core.Path.{_≡_}
 use mathlib.Core.List.{List, [], _∷_}
 use Prim.Native.Nat.{ℕ, _+_, _*_}
-use lib.Dec.{leb, ltb}
 use lib.ListN.{length}
-use Rattle.basics.specs.Choice.{if, both}
+use Rattle.basics.specs.Choice.{if_then_else_, _and_, _≤?_, _<?_}
 use Rattle.basics.specs.Front.{inFront}
 use Rattle.locator.specs.declared.CardRecord.{CardRecord}
 
@@ -26,11 +25,10 @@ pub record Wrote (n : ℕ) (b : List ℕ) (w : CommandWritten) : Type 0 where
 
 -- a command can be written: its five bytes fit the buffer, and its file number fits five bits
 unfoldable pub writable : CardRecord → List ℕ → Bool
-writable r buffer = both (leb 5 (length buffer)) (ltb (r .file) 32)
+writable r buffer = 5 ≤? length buffer and r .file <? 32
 
 -- writing the command that reads a record; where it cannot be written, size 0 and the buffer as it was
 unfoldable pub written : CardRecord → List ℕ → CommandWritten
 written r buffer =
-    if (writable r buffer)
-    (record { size = 5; buffer = inFront (readRecord r) buffer })
-    (record { size = 0; buffer = buffer })
+    if writable r buffer then record { size = 5; buffer = inFront (readRecord r) buffer }
+    else record { size = 0; buffer = buffer }

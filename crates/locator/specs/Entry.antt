@@ -1,13 +1,12 @@
--- One entry of the file locator, tag 94 (document 01, "Commands and steps", Locator; Book C-2, A.1.15; Book 3, the application file locator): the file and the
--- records that its four bytes name, and the rules that they keep.
+-- One entry of the file locator, tag 94 (document 01, "Commands and steps", Locator; Book C-2, A.1.15; Book 3, the application
+-- file locator): the file and the records that its four bytes name, and the rules that they keep.
 -- Assumes nothing.
 use mathlib.Core.Bool.{Bool}
 use mathlib.Core.List.{List}
 use Prim.Native.Nat.{ℕ, _+_, _-_, _/_, _%_}
-use lib.Dec.{leb, eqb}
 use lib.ListN.{getD}
 use Rattle.basics.specs.Number.{between}
-use Rattle.basics.specs.Choice.{both}
+use Rattle.basics.specs.Choice.{_and_, _≤?_, _=?_}
 use Rattle.locator.specs.declared.Entry.{Entry}
 
 -- an entry from its four bytes
@@ -30,8 +29,8 @@ countOf e = e .last + 1 - e .first
 -- the last is not below the first, and byte 4 is at most the number of its records
 unfoldable pub keeps : Entry → Bool
 keeps e =
-    both (eqb (e .sfi % 8) 0)
-    (both (between 1 (fileOf e) 30)
-    (both (leb 1 (e .first))
-    (both (leb (e .first) (e .last))
-    (leb (e .offline) (countOf e)))))
+    e .sfi % 8 =? 0
+    and between 1 (fileOf e) 30
+    and 1 ≤? e .first
+    and e .first ≤? e .last
+    and e .offline ≤? countOf e

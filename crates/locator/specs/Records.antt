@@ -4,9 +4,8 @@
 use mathlib.Core.Bool.{Bool}
 use mathlib.Core.List.{List, [], _∷_, _++_}
 use Prim.Native.Nat.{ℕ, zero, suc, _+_, _%_}
-use lib.Dec.{eqb}
 use lib.ListN.{length}
-use Rattle.basics.specs.Choice.{if, both, every}
+use Rattle.basics.specs.Choice.{if_then_else_, _and_, _=?_, every}
 use Rattle.basics.specs.Reason.{reasonNone, reasonLocator}
 use Rattle.locator.specs.declared.Entry.{Entry}
 use Rattle.locator.specs.declared.CardRecord.{CardRecord}
@@ -27,7 +26,7 @@ entries (a ∷ b ∷ c ∷ d ∷ rest) = entryOf a b c d ∷ entries rest
 
 -- the bytes are whole entries
 unfoldable pub wholeEntries : List ℕ → Bool
-wholeEntries s = eqb (length s % 4) 0
+wholeEntries s = length s % 4 =? 0
 
 -- n records of one file, numbered upwards from a first number
 unfoldable pub recordsFrom : ℕ → ℕ → ℕ → List CardRecord
@@ -58,13 +57,19 @@ total s = sumOf countOf (entries s)
 
 -- a locator is accepted: whole entries, each keeps the rules, 1 to 128 records in all
 unfoldable pub accepts : List ℕ → Bool
-accepts s = both (wholeEntries s) (both (every keeps (entries s)) (between 1 (total s) 128))
+accepts s =
+    wholeEntries s
+    and every keeps (entries s)
+    and between 1 (total s) 128
 
 -- what a check of a locator says: R if it is accepted
 unfoldable pub checked : List ℕ → Checked
-checked s = if (accepts s) (Accepted (record { records = total s })) Rejected
+checked s =
+    if accepts s then Accepted (record { records = total s })
+    else Rejected
 
--- the number of a check's answer (document 01, "Calls and their numbers"): 0 where it gives no reason, else 5, a locator that breaks its rules
+-- the number of a check's answer (document 01, "Calls and their numbers"): 0 where it gives no reason, else 5, a locator that
+-- breaks its rules
 abbrev pub checkedNumber : Checked → ℕ
 checkedNumber (Accepted e) = reasonNone
 checkedNumber Rejected = reasonLocator
@@ -82,4 +87,6 @@ kth (suc i) l = nth i l
 
 -- the k-th record of an accepted locator, k from 1 to R
 unfoldable pub recordAt : List ℕ → ℕ → Found
-recordAt s k = if (accepts s) (kth k (records s)) Nothing
+recordAt s k =
+    if accepts s then kth k (records s)
+    else Nothing

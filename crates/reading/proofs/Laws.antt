@@ -9,10 +9,12 @@ use Rattle.basics.proofs.Laws.{if-yes, if-no, both-true, both-right, both-no-le
 use Rattle.tlv.specs.Tag.{isPrivate}
 use Rattle.dictionary.specs.declared.Found.{Found}
 use Rattle.dictionary.specs.declared.Found.the-variants.{At, Unknown}
-use Rattle.dictionary.specs.Rows.{Row, rows, rowAt, find}
+use Rattle.dictionary.specs.declared.Attributes.{Attributes}
+use Rattle.dictionary.specs.Rows.{Row, rows, rowAt, find, storeSize}
+use Rattle.dictionary.specs.Packing.{attributesOf, rowOf}
 use Rattle.dictionary.specs.Form.{fitting}
 use Rattle.store.specs.Place.{isFree, putIf}
-use Rattle.reading.specs.Taking.{Item, byCard, mayCome, allowed, Work, work, takeKnown, takeFound, takeItem, takeNext, takeAll}
+use Rattle.reading.specs.Taking.{Item, mayStand, byCard, mayCome, allowed, Work, work, takeKnown, takeFound, takeItem, takeNext, takeAll}
 
 -- ---- one object
 
@@ -40,6 +42,16 @@ module _ (answer : ℕ) (b : List ℕ) (i : Item) (x : Found) (p : x ≡ find ro
     unfolding allowed
     item-put s a true e = known ∙ if-no _ _ s ∙ if-yes _ _ (both-true _ a ∙ sym e) ∙ ap (work true) (sym (if-yes _ _ refl))
     item-put s a false e = known ∙ if-no _ _ s ∙ if-no _ _ (both-true _ a ∙ sym e) ∙ ap (work false) (sym (if-no _ _ refl))
+
+-- attributes of a row: what is skipped and what may come by them
+pub row-skipped : (t : ℕ) (x : Row) {r : Bool} {a : Attributes} → r ≡ both (isPrivate t) (not (byCard (rowOf a))) → a ≡ attributesOf x
+    → r ≡ both (isPrivate t) (not (byCard x))
+row-skipped t x e f = e ∙ ap (λ (z : Attributes). both (isPrivate t) (not (byCard (rowOf z)))) f
+
+pub row-comes : (answer : ℕ) (x : Row) (around : ℕ) (v : List ℕ) {r : Bool} {a : Attributes} → r ≡ mayCome answer (rowOf a) around v → a ≡ attributesOf x
+    → r ≡ mayCome answer x around v
+unfolding mayCome mayStand fitting
+row-comes answer x around v e f = e ∙ ap (λ (z : Attributes). mayCome answer (rowOf z) around v) f
 
 -- a value that may come fits its row
 pub may-come-fits : (answer : ℕ) (r : Row) (around : ℕ) (v : List ℕ) → mayCome answer r around v ≡ true → fitting r v ≡ true
@@ -71,7 +83,7 @@ unfolding takeAll
 took-all answer w = refl
 
 -- what a function says and leaves, from the work that it did
-pub gave : {w : Work} {r : Bool} {b : List ℕ} → w ≡ work r b → length b ≡ 943 → (r ≡ w .good) × ((b ≡ w .store) × (length b ≡ 943))
+pub gave : {w : Work} {r : Bool} {b : List ℕ} → w ≡ work r b → length b ≡ storeSize → (r ≡ w .good) × ((b ≡ w .store) × (length b ≡ storeSize))
 gave e l = (ap (λ (x : Work). x .good) (sym e), (ap (λ (x : Work). x .store) (sym e), l))
 
 -- the work that a function did, from what it said and left

@@ -2,3 +2,5 @@ pub mod Laws
 pub mod Walk
 pub mod Parts
 pub mod Kept
+pub mod Count
+pub mod Examples

@@ -24,8 +24,8 @@ use Rattle.reading.specs.declared.Tally.{Tally}
 use Rattle.reading.specs.declared.Contents.{Contents}
 use Rattle.reading.specs.declared.Contents.the-variants as contents
 use Rattle.reading.specs.Taking.{Item, item, items, Work, work, takeAll}
-use Rattle.reading.specs.Walk.{tally, Leaves}
-use Rattle.reading.specs.Answer.{numberOf, Outcome, outcome, Gives, made, Body, primitive, template, templateBody, frontBody, bodyOf, answerBit, templateTag, optionsParts, issuerPart, cryptogramParts, primitiveParts, templateParts, judged, takenParts, readTree, readBody, isRead, goodStatus, goodLength, readAnswer}
+use Rattle.reading.specs.Inner.{made, tally, Leaves}
+use Rattle.reading.specs.Answer.{numberOf, Outcome, outcome, Gives, Body, primitive, template, templateBody, frontBody, bodyOf, answerBit, templateTag, optionsParts, issuerPart, cryptogramParts, primitiveParts, templateParts, judged, takenParts, readTree, readBody, isRead, goodStatus, goodLength, readAnswer}
 use Rattle.reading.proofs.Walk.{whole-broken}
 
 -- a reading that is made of parts gives the outcome of those parts, with the store that its verdict leaves

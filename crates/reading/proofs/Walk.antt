@@ -16,7 +16,7 @@ use Rattle.reading.specs.declared.Tally.{Tally}
 use Rattle.reading.specs.declared.Contents.{Contents}
 use Rattle.reading.specs.declared.Contents.the-variants.{Whole, Broken}
 use Rattle.reading.specs.Taking.{Work, work, Item, item, items, takeNext, takeAll}
-use Rattle.reading.specs.Walk.{tally, Has, Leaves}
+use Rattle.reading.specs.Inner.{tally, Has, Leaves}
 use Rattle.reading.proofs.Laws.{take-join}
 
 -- the same, said and left, after equal counts and equal work

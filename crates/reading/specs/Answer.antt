@@ -1,5 +1,5 @@
--- Reading a card's answer (document 01, "Reading an answer", "Commands and steps" and the order of reasons): the length, the status,
--- the encoding, the outer tag and body, the objects. The store is whole or as it was.
+-- Reading a card's answer (document 01, "Reading an answer", "Commands and steps" and the order of reasons): the
+-- length, the status, the encoding, the outer tag and body, the objects. The store is whole or as it was.
 -- Assumes nothing.
 use mathlib.Core.Path.{_≡_}
 use mathlib.Core.Bool.{Bool, true}
@@ -14,7 +14,7 @@ use Rattle.tlv.specs.declared.Front.{Front}
 use Rattle.tlv.specs.declared.Front.the-variants.{Object, Broken}
 use Rattle.tlv.specs.Object.{headerOf, valueIn}
 use Rattle.tlv.specs.Tree.{Forest, end, count, parse}
-use Rattle.dictionary.specs.Rows.{options, record′, cryptogram}
+use Rattle.dictionary.specs.Rows.{options, cardRecord, cryptogram}
 use Rattle.reading.specs.declared.Awaited.{Awaited}
 use Rattle.reading.specs.declared.Awaited.the-variants.{Options, Record, Cryptogram}
 use Rattle.reading.specs.declared.Verdict.{Verdict}
@@ -45,17 +45,6 @@ pub record Gives (r : Reading) (b : List ℕ) (o : Outcome) : Type 0 where
   pub reason : numberOf (r .verdict) ≡ o .reason
   pub objects : r .objects ≡ o .objects
   pub store : b ≡ o .store
-
--- the store by the verdict: the working copy w where all was accepted, else b as it was
-abbrev pub storeAfter : List ℕ → List ℕ → Verdict → List ℕ
-storeAfter b w Accepted = w
-storeAfter b w BadStatus = b
-storeAfter b w Malformed = b
-storeAfter b w NotAllowed = b
-
--- a reading of these parts
-abbrev pub made : Verdict → ℕ → Reading
-made v n = record { verdict = v; objects = n }
 
 -- ---- the body: one object with no byte behind it
 
@@ -90,7 +79,7 @@ bodyCount (template t f) = 1 + count f
 -- which answer brings an object, as a bit of the dictionary's column
 abbrev pub answerBit : Awaited → ℕ
 answerBit Options = options
-answerBit (Record f) = record′
+answerBit (Record f) = cardRecord
 answerBit Cryptogram = cryptogram
 
 -- a template: 70 for a record, 77 for the others
@@ -115,7 +104,9 @@ issuerPart (a ∷ v) = item 0x77 0x9F10 (a ∷ v) ∷ []
 unfoldable pub cryptogramParts : List ℕ → Option (List Item)
 cryptogramParts v =
     if (both (leb 11 (length v)) (leb (length v) 43))
-    (some (item 0x77 0x9F27 (take 1 v) ∷ item 0x77 0x9F36 (take 2 (drop 1 v)) ∷ item 0x77 0x9F26 (take 8 (drop 3 v)) ∷ issuerPart (drop 11 v)))
+    (some
+    (item 0x77 0x9F27 (take 1 v) ∷ item 0x77 0x9F36 (take 2 (drop 1 v)) ∷ item 0x77 0x9F26 (take 8 (drop 3 v)) ∷
+    issuerPart (drop 11 v)))
     none
 
 -- what a primitive body brings, or none where the outer tag or body is wrong
@@ -170,5 +161,7 @@ goodLength s = both (leb 2 (length s)) (leb (length s) 258)
 unfoldable pub readAnswer : Awaited → List ℕ → List ℕ → Outcome
 readAnswer a b s =
     if (goodLength s)
-    (if (goodStatus s) (if (isRead a) (readBody a b (take (length s - 2) s)) (outcome reasonNone 0 b)) (outcome reasonStatus 0 b))
+    (if (goodStatus s)
+    (if (isRead a) (readBody a b (take (length s - 2) s)) (outcome reasonNone 0 b))
+    (outcome reasonStatus 0 b))
     (outcome reasonMalformed 0 b)

@@ -1,3 +1,4 @@
 pub mod Taking
-pub mod Walk
 pub mod Answer
+pub mod Count
+pub mod Inner

@@ -1,5 +1,5 @@
--- Taking a card's primitive objects into a store (document 01, "Reading an answer"; Book C-2, 4.1.3): in the order of the bytes, each
--- skipped, stored, or not allowed.
+-- Taking a card's primitive objects into a store (document 01, "Reading an answer"; Book C-2, 4.1.3): in the order of
+-- the bytes, each skipped, stored, or not allowed.
 -- Assumes nothing.
 use mathlib.Core.Bool.{Bool, true, false, not}
 use mathlib.Core.List.{List, [], _∷_, _++_}
@@ -30,17 +30,23 @@ items a end = []
 items a (leaf t v r) = item a t v ∷ items a r
 items a (node t f r) = items t f ++ items a r
 
+-- a template is one of a set of templates
+abbrev pub standsIn : ℕ → ℕ → Bool
+standsIn templates around =
+    if (eqb around 0x70) (hasBit templates in70) (if (eqb around 0x77) (hasBit templates in77) false)
+
 -- a row's object may stand directly inside this template
 unfoldable pub mayStand : Row → ℕ → Bool
-mayStand r around = if (eqb around 0x70) (hasBit (r .templates) in70) (if (eqb around 0x77) (hasBit (r .templates) in77) false)
+mayStand r around = standsIn (r .templates) around
 
 -- a row's object may be set by the card
 abbrev pub byCard : Row → Bool
 byCard r = hasBit (r .setters) card
 
--- the card may bring a row's object in this answer, directly inside this template, with this value: length and digits fit
+-- the card may bring a row's object in this answer, directly inside this template, with this value: it fits the row
 unfoldable pub mayCome : ℕ → Row → ℕ → List ℕ → Bool
-mayCome answer r around v = both (byCard r) (both (hasBit (r .answers) answer) (both (mayStand r around) (fitting r v)))
+mayCome answer r around v =
+    both (byCard r) (both (hasBit (r .answers) answer) (both (mayStand r around) (fitting r v)))
 
 -- the card may set row k's object so, and no non-empty one is there
 unfoldable pub allowed : ℕ → List ℕ → ℕ → ℕ → List ℕ → Bool

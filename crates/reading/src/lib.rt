@@ -15,13 +15,14 @@ ghost use Prim.Native.Nat.{_+_, _*_, _^_, _≤_, _<_};
 ghost use lib.ListN.{length};
 ghost use Rattle.basics.specs.Choice.{both};
 ghost use Rattle.basics.specs.Number.{hasBit};
-ghost use Rattle.dictionary.specs.Rows.{Row, storeSize, cryptogram};
-ghost use Rattle.dictionary.specs.Packing.{attributesOf};
+ghost use Rattle.dictionary.specs.Rows.{storeSize, cryptogram};
+ghost use Rattle.dictionary.specs.Packing.{rowOf};
 ghost use Rattle.tlv.specs.Tag.{isPrivate};
 ghost use Rattle.tlv.specs.Tree.{parse};
-ghost use Rattle.reading.specs.Taking.{item, mayCome, byCard, mayStand, work, takeItem, takeNext, takeAll};
-ghost use Rattle.reading.specs.Walk.{Leaves, counted};
-ghost use Rattle.reading.specs.Answer.{Gives, storeAfter, numberOf, answerBit, templateTag, primitive, templateBody, optionsParts, issuerPart, cryptogramParts, takenParts, readTree, readBody, isRead, goodStatus, readAnswer, made};
+ghost use Rattle.reading.specs.Taking.{item, mayCome, byCard, standsIn, work, takeItem, takeNext, takeAll};
+ghost use Rattle.reading.specs.Count.{bodyObjects, answerObjects};
+ghost use Rattle.reading.specs.Inner.{storeAfter, made, Leaves, counted};
+ghost use Rattle.reading.specs.Answer.{Gives, numberOf, answerBit, templateTag, primitive, templateBody, optionsParts, issuerPart, cryptogramParts, takenParts, readTree, readBody, isRead, goodStatus, readAnswer};
 
 // A record's file.
 pub struct File {
@@ -67,6 +68,7 @@ pub fn read_answer(store: &mut [u8], awaited: Awaited, answer: &[u8]) -> Reading
     ensures given { λ r. ⌜ Gives r (now (store .exit)) (readAnswer awaited (now (store .entry)) (now (answer .entry))) ⌝ }
     ensures sized { λ _. ⌜ length (now (store .exit)) ≡ storeSize ⌝ }
     ensures half { λ r. ⌜ 2 * r .objects ≤ length (now (answer .entry)) ⌝ }
+    ensures tree { λ r. ⌜ r .objects ≡ answerObjects awaited (now (answer .entry)) ⌝ }
 {
     let n = answer.len();
     if n < 2 {
@@ -91,6 +93,7 @@ pub fn read_body(store: &mut [u8], awaited: Awaited, body: &[u8]) -> Reading
     ensures given { λ r. ⌜ Gives r (now (store .exit)) (readBody awaited (now (store .entry)) (now (body .entry))) ⌝ }
     ensures sized { λ _. ⌜ length (now (store .exit)) ≡ storeSize ⌝ }
     ensures half { λ r. ⌜ 2 * r .objects ≤ length (now (body .entry)) ⌝ }
+    ensures tree { λ r. ⌜ r .objects ≡ bodyObjects (now (body .entry)) ⌝ }
 {
     let mut work = [0u8; SIZE];
     bytes::copy(store, &mut work);
@@ -152,7 +155,7 @@ fn answer_bit(awaited: Awaited) -> u8
 {
     match awaited {
         Awaited::Options => dictionary::OPTIONS,
-        Awaited::Record(_) => dictionary::RECORD,
+        Awaited::Record(_) => dictionary::CARD_RECORD,
         Awaited::Cryptogram => dictionary::CRYPTOGRAM,
     }
 }
@@ -408,7 +411,7 @@ fn take_object(tag: u32, around: u32, answer: u8, v: &[u8], store: &mut [u8; SIZ
 
 // Whether a known object is passed over: of the private class, and not the card's to set.
 fn is_skipped(tag: u32, attributes: Attributes) -> bool
-    ensures { λ r. ⌜ ((x : Row) → attributes ≡ attributesOf x → r ≡ both (isPrivate tag) (not (byCard x))) ⌝ }
+    ensures { λ r. ⌜ r ≡ both (isPrivate tag) (not (byCard (rowOf attributes))) ⌝ }
 {
     if attributes.setters / dictionary::CARD % 2 == 1 {
         return false;
@@ -419,7 +422,7 @@ fn is_skipped(tag: u32, attributes: Attributes) -> bool
 // Whether the card may bring an object of these attributes here, with this value.
 fn may_come(attributes: Attributes, around: u32, answer: u8, v: &[u8]) -> bool
     requires { ⌜ 0 < answer ⌝ }
-    ensures { λ r. ⌜ ((x : Row) → attributes ≡ attributesOf x → r ≡ mayCome answer x around (now (v .entry))) ⌝ }
+    ensures { λ r. ⌜ r ≡ mayCome answer (rowOf attributes) around (now (v .entry)) ⌝ }
 {
     if attributes.setters / dictionary::CARD % 2 != 1 {
         return false;
@@ -439,8 +442,8 @@ fn is_brought_by(answers: u8, answer: u8) -> bool
     requires { ⌜ 0 < answer ⌝ }
     ensures { λ r. ⌜ r ≡ hasBit answers answer ⌝ }
 {
-    if answer == dictionary::RECORD {
-        return answers / dictionary::RECORD % 2 == 1;
+    if answer == dictionary::CARD_RECORD {
+        return answers / dictionary::CARD_RECORD % 2 == 1;
     }
     if answer == dictionary::CRYPTOGRAM {
         return answers / dictionary::CRYPTOGRAM % 2 == 1;
@@ -450,7 +453,7 @@ fn is_brought_by(answers: u8, answer: u8) -> bool
 
 // Whether an object of these templates may stand directly inside a template.
 fn may_stand(templates: u8, around: u32) -> bool
-    ensures { λ r. ⌜ ((x : Row) → templates ≡ x .templates → r ≡ mayStand x around) ⌝ }
+    ensures { λ r. ⌜ r ≡ standsIn templates around ⌝ }
 {
     if around == 0x70 {
         return templates / dictionary::IN_70 % 2 == 1;

@@ -19,7 +19,7 @@ use Rattle.basics.proofs.Laws.{if-yes, if-no}
 use Rattle.basics.proofs.Order.{le-or-gt, sides}
 use Rattle.dictionary.specs.Rows.{Row, rowIn, find}
 use Rattle.dictionary.specs.declared.Found.the-variants.{At, Unknown}
-use Rattle.store.specs.Place.{Value, absent, present, bytesOf, isThere, room, offsetIn, sizeOf, placeAt, held, valueAt, lengthByte, storedLength, writtenAt, putAt, putAll, emptyOf, valueFound, valueIn}
+use Rattle.store.specs.Place.{Value, absent, present, bytesOf, isThere, room, offsetIn, sizeOf, placeAt, held, valueAt, lengthByte, writtenAt, putAt, valueFound, valueIn}
 use Rattle.store.proofs.Places.{inside, ends, apart}
 
 take-min : (m n : ℕ) (l : List ℕ) → take m (take n l) ≡ take (min m n) l
@@ -33,6 +33,10 @@ take-min m n l = go (le-or-gt m n)
         take-all m (take n l) s ∙ ap (λ (i : ℕ). take i l) (sym e)
 
 -- ---- what a place holds, by its length byte
+
+-- how many bytes row k's value may have by its length byte: at most the greatest length
+unfoldable pub storedLength : List Row → List ℕ → ℕ → ℕ
+storedLength table b k = min (lengthByte table b k - 1) (rowIn table k .greatest)
 
 pub byte-there : (p : List ℕ) → isThere (held p) ≡ not (eqb (getD p 0 0) 0)
 unfolding held
@@ -208,6 +212,15 @@ put-put table b j k v w ne f g = go (sides j k ne)
     go (inr h) = sym (two k j w v h g f)
 
 -- ---- the empty store, and the full one
+
+-- the store that holds nothing
+abbrev pub emptyOf : List Row → List ℕ
+emptyOf table = replicate (sizeOf table) 0
+
+-- the values vs in the places of rows k, k + 1 and so on
+unfoldable pub putAll : List Row → List ℕ → ℕ → List (List ℕ) → List ℕ
+putAll table b k [] = b
+putAll table b k (v ∷ vs) = putAll table (putAt table b k v) (suc k) vs
 
 zeros : (n i : ℕ) → _≡_ {A = ℕ} (getD (replicate n 0) i 0) 0
 zeros zero i = refl

@@ -1,16 +1,17 @@
 -- Where places lie, for every table: each inside the store, each behind the ones before it. By induction over the rows.
 -- Assumes nothing.
 use mathlib.Core.Path.{_≡_, refl, ap}
-use mathlib.Core.Bool.{true}
+use mathlib.Core.Bool.{Bool, true}
 use mathlib.Core.List.{List, [], _∷_}
 use Prim.Native.Nat.{ℕ, zero, suc, _+_, _*_, _≤_, _<_}
 use native.Mathlib.Omega.{arith}
 use lib.Dec.{leb}
 use lib.ListN.{length, getD}
 use borrow.Author.Tests.{leb-true}
+use Rattle.basics.specs.Choice.{every}
 use Rattle.basics.proofs.Table.{at}
 use Rattle.dictionary.specs.Rows.{Row, rows, blank, rowIn}
-use Rattle.store.specs.Place.{room, offsetIn, sizeOf, storable}
+use Rattle.store.specs.Place.{room, offsetIn, sizeOf}
 
 -- a row's place lies inside the store
 pub inside : (table : List Row) (k : ℕ) → k < length table → offsetIn table k + room (rowIn table k) ≤ sizeOf table
@@ -54,7 +55,10 @@ span-at n [] k h = absurd (omega arith)
 span-at n (r ∷ rs) zero h = omega arith
 span-at n (r ∷ rs) (suc k) h = let ih = span-at (n + room r) rs k (omega arith) in omega arith
 
--- every length + 1 fits a byte
+-- the test of a table: every length + 1 fits a byte
+unfoldable pub storable : List Row → Bool
+storable table = every (λ r. leb (r .greatest) 254) table
+
 pub short : (table : List Row) → storable table ≡ true → (k : ℕ) → k < length table → rowIn table k .greatest ≤ 254
 unfolding storable
 short table t k h = leb-true _ _ (at (λ r. leb (r .greatest) 254) table blank t k h)

@@ -10,16 +10,16 @@ use lib.Seq.{length-take-le}
 use borrow.Author.Tests.{eq-eqb, ne-eqb, leb-true}
 use Rattle.basics.specs.Choice.{both, every}
 use Rattle.basics.proofs.Table.{at}
-use Rattle.dictionary.specs.Rows.{rows, blank, rowAt}
-use Rattle.store.specs.Place.{offsetIn, sizeOf, storable, bytesOf, valueAt, storedLength, isFree}
-use Rattle.store.proofs.Places.{inside, ends, short, spans, span-at}
-use Rattle.store.proofs.Laws.{Fits, value-bytes, length-byte-at}
+use Rattle.dictionary.specs.Rows.{rows, blank, rowAt, rowCount, storeSize}
+use Rattle.store.specs.Place.{offsetIn, sizeOf, bytesOf, valueAt, isFree}
+use Rattle.store.proofs.Places.{inside, ends, storable, short, spans, span-at}
+use Rattle.store.proofs.Laws.{Fits, storedLength, value-bytes, length-byte-at}
 
-pub rows-size : sizeOf rows ≡ 943
+pub rows-size : sizeOf rows ≡ storeSize
 unfolding rows sizeOf
 rows-size = refl
 
-pub rows-length : length rows ≡ 36
+pub rows-length : length rows ≡ rowCount
 unfolding rows
 rows-length = refl
 
@@ -28,19 +28,19 @@ unfolding rows storable every both
 rows-storable = refl
 
 -- a row's place lies inside the store, and its length + 1 fits a byte
-pub row-inside : (k : ℕ) → k < 36 → (offsetIn rows k + 1 + rowAt k .greatest ≤ 943) × (rowAt k .greatest ≤ 254)
+pub row-inside : (k : ℕ) → k < rowCount → (offsetIn rows k + 1 + rowAt k .greatest ≤ storeSize) × (rowAt k .greatest ≤ 254)
 row-inside k h =
     let l : k < length rows = omega (arith, rows-length) in
     (omega (arith, inside rows k l, rows-size), short rows rows-storable k l)
 
-pub rows-end : (k : ℕ) → 36 ≤ k → offsetIn rows k ≡ 943
+pub rows-end : (k : ℕ) → rowCount ≤ k → offsetIn rows k ≡ storeSize
 rows-end k h = omega (arith, ends rows k (omega (arith, rows-length)), rows-size)
 
-pub row-span : (k : ℕ) → k < 36 → getD (spans 0 rows) k 0 ≡ offsetIn rows k * 256 + rowAt k .greatest
+pub row-span : (k : ℕ) → k < rowCount → getD (spans 0 rows) k 0 ≡ offsetIn rows k * 256 + rowAt k .greatest
 row-span k h = omega (arith, span-at 0 rows k (omega (arith, rows-length)))
 
 -- a value that fits its row, in a store of the dictionary's size
-pub fits-row : (b : List ℕ) (k : ℕ) (v : List ℕ) → length b ≡ 943 → k < 36 → length v ≤ rowAt k .greatest → Fits rows b k v
+pub fits-row : (b : List ℕ) (k : ℕ) (v : List ℕ) → length b ≡ storeSize → k < rowCount → length v ≤ rowAt k .greatest → Fits rows b k v
 fits-row b k v s h g = record { row = omega (arith, rows-length); value = g; store = omega (arith, rows-size) }
 
 -- ---- no bytes are there: by the length byte
@@ -49,7 +49,7 @@ rows-roomy : every (λ r. leb 1 (r .greatest)) rows ≡ true
 unfolding rows every both
 rows-roomy = refl
 
-module _ (b : List ℕ) (k : ℕ) (s : length b ≡ 943) (h : k < 36) where
+module _ (b : List ℕ) (k : ℕ) (s : length b ≡ storeSize) (h : k < rowCount) where
   value-length : length (bytesOf (valueAt rows b k)) ≡ min (getD b (offsetIn rows k) 0 - 1) (rowAt k .greatest)
   unfolding storedLength
   value-length =

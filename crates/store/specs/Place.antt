@@ -3,10 +3,10 @@
 -- Assumes nothing.
 use mathlib.Core.Bool.{Bool, true, false}
 use mathlib.Core.List.{List, [], _∷_, _++_}
-use Prim.Native.Nat.{ℕ, zero, suc, _+_, _-_, min}
-use lib.Dec.{leb, eqb}
-use lib.ListN.{length, getD, take, drop, replicate}
-use Rattle.basics.specs.Choice.{if, every}
+use Prim.Native.Nat.{ℕ, zero, suc, _+_, _-_}
+use lib.Dec.{eqb}
+use lib.ListN.{length, getD, take, drop}
+use Rattle.basics.specs.Choice.{if}
 use Rattle.dictionary.specs.Rows.{Row, rows, rowIn, rowAt, find}
 use Rattle.store.specs.declared.Span.{Span}
 use Rattle.dictionary.specs.declared.Found.{Found}
@@ -42,10 +42,6 @@ unfoldable pub sizeOf : List Row → ℕ
 sizeOf [] = 0
 sizeOf (r ∷ rs) = room r + sizeOf rs
 
--- the test of a table: every length + 1 fits a byte
-unfoldable pub storable : List Row → Bool
-storable table = every (λ r. leb (r .greatest) 254) table
-
 -- row k's place
 unfoldable pub placeAt : List Row → List ℕ → ℕ → List ℕ
 placeAt table b k = take (room (rowIn table k)) (drop (offsetIn table k) b)
@@ -63,10 +59,6 @@ valueAt table b k = held (placeAt table b k)
 unfoldable pub lengthByte : List Row → List ℕ → ℕ → ℕ
 lengthByte table b k = getD (placeAt table b k) 0 0
 
--- how many bytes row k's value may have by its length byte: at most the greatest length
-unfoldable pub storedLength : List Row → List ℕ → ℕ → ℕ
-storedLength table b k = min (lengthByte table b k - 1) (rowIn table k .greatest)
-
 -- row k holds no bytes: absent, or present and empty
 abbrev pub isFree : List Row → List ℕ → ℕ → Bool
 isFree table b k = eqb (length (bytesOf (valueAt table b k))) 0
@@ -82,15 +74,6 @@ putAt table b k v = writtenAt b (offsetIn table k) v
 -- the same where a test passes, else the store as it was
 abbrev pub putIf : Bool → List Row → List ℕ → ℕ → List ℕ → List ℕ
 putIf t table b k v = if t (putAt table b k v) b
-
--- the values vs in the places of rows k, k + 1 and so on
-unfoldable pub putAll : List Row → List ℕ → ℕ → List (List ℕ) → List ℕ
-putAll table b k [] = b
-putAll table b k (v ∷ vs) = putAll table (putAt table b k v) (suc k) vs
-
--- the store that holds nothing
-abbrev pub emptyOf : List Row → List ℕ
-emptyOf table = replicate (sizeOf table) 0
 
 -- a row's place in the dictionary's store, and the greatest length of its value
 abbrev pub spanOf : ℕ → Span

@@ -1,18 +1,27 @@
--- Start bytes that meet a refusal, for every store: each computed. Assumes nothing.
+-- Start bytes on both sides of each rule's edge, computed: for every store where the store does not matter, else in the empty one.
+-- Assumes nothing.
 use mathlib.Core.Path.{_≡_, refl}
 use mathlib.Core.Bool.{false}
-use mathlib.Core.List.{List, [], _∷_}
+use mathlib.Core.List.{List, [], _∷_, _++_, map}
 use Prim.Native.Nat.{ℕ}
-use Rattle.basics.specs.Choice.{if, both, every}
+use lib.ListN.{replicate}
+use Rattle.basics.specs.Choice.{if, both, either, every}
+use Rattle.basics.specs.Recursion.{recurseBy, recurse}
 use Rattle.basics.specs.Number.{numberFrom, nibbles}
 use Rattle.basics.proofs.Laws.{if-no}
-use Rattle.tlv.specs.Tag.{tagSize, tagAt, firstByte, isTemplate, isPrivate}
-use Rattle.tlv.specs.Length.{lengthAt}
+use Rattle.tlv.specs.Tag.{tagSize, secondByte, thirdByte, tagAt, firstByte, isTemplate, isPrivate}
+use Rattle.tlv.specs.Length.{twoBytes, lengthAt}
 use Rattle.tlv.specs.Object.{headerOf}
-use Rattle.dictionary.specs.Rows.{rows, past, find}
+use Rattle.tlv.specs.Primitives.{withObject, primitiveOf, primitives}
+use Rattle.dictionary.specs.Rows.{rows, past, find, storeSize}
 use Rattle.dictionary.specs.Form.{numeric, digitsFit, fitting}
-use Rattle.record.specs.Ranges.{brought}
-use Rattle.terminal.specs.Terminal.{withObject, primitiveOf, runBy, run, settable, setObject, setAll, refusal, load}
+use Rattle.dictionary.specs.TerminalType.{listed}
+use Rattle.store.specs.Place.{offsetIn, placeAt, held, valueAt, putAt, valueIn}
+use Rattle.record.specs.Ranges.{isBrought, brought}
+use Rattle.terminal.specs.declared.Said.{Said}
+use Rattle.terminal.specs.Terminal.{typeListed, settable, setObject, setAll, Loaded, refusal, load, saidOf}
+
+-- ---- for every store
 
 pub record Refused (b : List ℕ) : Type 0 where
   -- a template that the dictionary does not know
@@ -29,8 +38,69 @@ pub record Refused (b : List ℕ) : Type 0 where
   pub nothing : brought b ≡ false → load b [] ≡ refusal 24
   -- an unknown primitive object alone
   pub unknown : brought b ≡ false → load b (0x42 ∷ 0x01 ∷ 0x00 ∷ []) ≡ refusal 24
+  -- an unknown primitive object of 1,024 bytes in all, and one of 1,025
+  pub longest : brought b ≡ false → load b (0x42 ∷ 0x82 ∷ 0x03 ∷ 0xFC ∷ replicate 1020 0) ≡ refusal 24
+  pub too-long : load b (0x42 ∷ 0x82 ∷ 0x03 ∷ 0xFD ∷ replicate 1021 0) ≡ refusal 20
 
 pub refused : (b : List ℕ) → Refused b
-unfolding load run runBy withObject primitiveOf headerOf tagAt tagSize lengthAt firstByte isTemplate isPrivate numberFrom if both every rows past find settable setObject setAll fitting digitsFit numeric nibbles
-refused b =
-    record { template = refl; padding = refl; cut = refl; results = refl; digit = refl; nothing = λ e. if-no _ _ e; unknown = λ e. if-no _ _ e }
+unfolding load primitives recurse recurseBy withObject primitiveOf headerOf tagAt tagSize lengthAt twoBytes firstByte isTemplate isPrivate numberFrom if both every rows past find settable setObject setAll fitting digitsFit numeric nibbles
+refused b = record {
+  template = refl;
+  padding = refl;
+  cut = refl;
+  results = refl;
+  digit = refl;
+  nothing = λ e. if-no _ _ e;
+  unknown = λ e. if-no _ _ e;
+  longest = λ e. if-no _ _ e;
+  too-long = refl;
+}
+
+-- ---- in the empty store
+
+abbrev loadEmpty : List ℕ → Loaded
+loadEmpty = load (replicate storeSize 0)
+
+-- taken as far as they go, so that only what a start must bring is absent: three bytes of 9F33, 9F38 empty, type 16, two objects
+-- that differ
+taken : map loadEmpty
+    ((0x9F ∷ 0x33 ∷ 0x03 ∷ 0 ∷ 0 ∷ 0 ∷ [])
+    ∷ (0x9F ∷ 0x38 ∷ 0x00 ∷ [])
+    ∷ (0x9F ∷ 0x35 ∷ 0x01 ∷ 0x16 ∷ [])
+    ∷ (0x9F ∷ 0x38 ∷ 0x00 ∷ 0x9F ∷ 0x35 ∷ 0x01 ∷ 0x22 ∷ [])
+    ∷ [])
+    ≡ refusal 24 ∷ refusal 24 ∷ refusal 24 ∷ refusal 24 ∷ []
+unfolding load primitives recurse recurseBy withObject primitiveOf headerOf tagAt tagSize secondByte lengthAt firstByte isTemplate isPrivate numberFrom if both either every rows past find settable setObject setAll fitting digitsFit numeric nibbles typeListed listed offsetIn placeAt held valueAt putAt valueIn brought isBrought
+taken = refl
+
+-- two and four bytes of 9F33; 82, which is the card's; type 17; 9F38 twice, empty both times
+stopped : map loadEmpty
+    ((0x9F ∷ 0x33 ∷ 0x02 ∷ 0 ∷ 0 ∷ [])
+    ∷ (0x9F ∷ 0x33 ∷ 0x04 ∷ 0 ∷ 0 ∷ 0 ∷ 0 ∷ [])
+    ∷ (0x82 ∷ 0x02 ∷ 0 ∷ 0 ∷ [])
+    ∷ (0x9F ∷ 0x35 ∷ 0x01 ∷ 0x17 ∷ [])
+    ∷ (0x9F ∷ 0x38 ∷ 0x00 ∷ 0x9F ∷ 0x38 ∷ 0x00 ∷ [])
+    ∷ [])
+    ≡ refusal 23 ∷ refusal 23 ∷ refusal 23 ∷ refusal 23 ∷ refusal 23 ∷ []
+unfolding load primitives recurse recurseBy withObject primitiveOf headerOf tagAt tagSize secondByte lengthAt firstByte isTemplate isPrivate numberFrom if both either every rows past find settable setObject setAll fitting digitsFit numeric nibbles typeListed listed offsetIn placeAt held valueAt putAt valueIn brought isBrought
+stopped = refl
+
+-- all that a start must bring but the last: 9A, 9C, 9F02, 9F09, 9F1A, 9F35, 9F37, DF8120 to DF8123; and DF8124
+abbrev allButOne : List ℕ
+allButOne =
+    0x9A ∷ 0x03 ∷ 0x25 ∷ 0x12 ∷ 0x31 ∷ 0x9C ∷ 0x01 ∷ 0x00 ∷ 0x9F ∷ 0x02 ∷ 0x06 ∷ 0 ∷ 0 ∷ 0 ∷ 0 ∷ 0x10 ∷ 0 ∷
+    0x9F ∷ 0x09 ∷ 0x02 ∷ 0 ∷ 2 ∷ 0x9F ∷ 0x1A ∷ 0x02 ∷ 0x00 ∷ 0x56 ∷ 0x9F ∷ 0x35 ∷ 0x01 ∷ 0x22 ∷
+    0x9F ∷ 0x37 ∷ 0x04 ∷ 1 ∷ 2 ∷ 3 ∷ 4 ∷ 0xDF ∷ 0x81 ∷ 0x20 ∷ 0x05 ∷ 0 ∷ 0 ∷ 0 ∷ 0 ∷ 0 ∷
+    0xDF ∷ 0x81 ∷ 0x21 ∷ 0x05 ∷ 0 ∷ 0 ∷ 0 ∷ 0 ∷ 0 ∷ 0xDF ∷ 0x81 ∷ 0x22 ∷ 0x05 ∷ 0 ∷ 0 ∷ 0 ∷ 0 ∷ 0 ∷
+    0xDF ∷ 0x81 ∷ 0x23 ∷ 0x06 ∷ 0 ∷ 0 ∷ 0 ∷ 0 ∷ 0 ∷ 0 ∷ []
+
+abbrev lastOne : List ℕ
+lastOne = 0xDF ∷ 0x81 ∷ 0x24 ∷ 0x06 ∷ 0 ∷ 0 ∷ 0 ∷ 0 ∷ 0 ∷ 0 ∷ []
+
+complete : saidOf (loadEmpty (allButOne ++ lastOne)) ≡ Said.Taken
+unfolding load primitives recurse recurseBy withObject primitiveOf headerOf tagAt tagSize secondByte thirdByte lengthAt firstByte isTemplate isPrivate numberFrom if both either every rows past find settable setObject setAll fitting digitsFit numeric nibbles typeListed listed offsetIn placeAt held valueAt putAt valueIn brought isBrought
+complete = refl
+
+one-absent : loadEmpty allButOne ≡ refusal 24
+unfolding load primitives recurse recurseBy withObject primitiveOf headerOf tagAt tagSize secondByte thirdByte lengthAt firstByte isTemplate isPrivate numberFrom if both either every rows past find settable setObject setAll fitting digitsFit numeric nibbles typeListed listed offsetIn placeAt held valueAt putAt valueIn brought isBrought
+one-absent = refl

@@ -10,18 +10,20 @@ use Prim.Native.Nat.{ℕ, _≤_, _<_}
 use native.Mathlib.Omega.{arith}
 use lib.ListN.{length, getD}
 use borrow.Author.Tests.{leb-true, eq-eqb, ne-eqb, not-true}
+use Rattle.basics.specs.Choice.{if}
 use Rattle.basics.specs.Number.{hasBit}
 use Rattle.basics.proofs.Laws.{if-yes, if-ind, both-left, both-right, either-false}
 use Rattle.basics.proofs.Order.{equal-or-not}
 use Rattle.basics.proofs.Table.{at}
+use Rattle.tlv.specs.Primitives.{Object, primitives}
 use Rattle.dictionary.specs.declared.Found.{Found}
 use Rattle.dictionary.specs.declared.Found.the-variants.{At, Unknown}
-use Rattle.dictionary.specs.Rows.{rows, rowAt, blank, find, rowCount, storeSize, start}
+use Rattle.dictionary.specs.Rows.{rows, rowAt, blank, past, find, rowCount, storeSize, start, required}
+use Rattle.dictionary.specs.Named.{placeOf}
 use Rattle.dictionary.specs.Form.{fitting}
 use Rattle.dictionary.specs.TerminalType.{listed}
 use Rattle.dictionary.proofs.Find.{found}
 use Rattle.dictionary.proofs.Fit.{fits-length}
-use Rattle.dictionary.proofs.Named.{at-9F35}
 use Rattle.store.specs.Place.{Value, bytesOf, isThere, valueAt, valueOf, putAt}
 use Rattle.store.proofs.Laws.{Fits, put-length, put-get, put-other, by-row}
 use Rattle.store.proofs.Rows.{rows-length, fits-row}
@@ -29,7 +31,7 @@ use Rattle.record.specs.declared.Refusal.{Refusal}
 use Rattle.store.specs.Held.{holds, byteIn}
 use Rattle.record.specs.Ranges.{isBrought, brought, allFit}
 use Rattle.terminal.specs.declared.Said.{Said}
-use Rattle.terminal.specs.Terminal.{Object, run, typeListed, settable, setFound, setObject, andThen, setAll, Loaded, refusal, loaded, whole, afterSetting, afterRun, mostBytes, load, Loads}
+use Rattle.terminal.specs.Terminal.{typeListed, settable, setFound, setObject, andThen, setAll, Loaded, refusal, loaded, afterRequired, afterSetting, afterRun, mostBytes, load, Loads}
 use Rattle.terminal.proofs.Ways.{load-long}
 use Rattle.terminal.proofs.Fit.{put-fits}
 
@@ -51,7 +53,7 @@ was-refused (loaded d) l e = let d = l .said in let z : _≡_ {A = ℕ} 0 1 = cc
 pub record LoadedBy (b s c : List ℕ) : Type 0 where
   pub short : length s ≤ mostBytes
   pub objects : List Object
-  pub is-run : run s ≡ some objects
+  pub is-run : primitives s ≡ some objects
   pub all-set : setAll b objects ≡ some c
   pub complete : brought c ≡ true
 
@@ -59,22 +61,22 @@ never : {A : Type 0} {n : ℕ} {c : List ℕ} → refusal n ≡ loaded c → A
 never e = let z : _≡_ {A = ℕ} 0 1 = cc in absurd (omega arith)
 
 module _ (b s c : List ℕ) where
-  whole-by : (d : List ℕ) → whole d ≡ loaded c → (d ≡ c) × (brought c ≡ true)
-  whole-by d = if-ind (λ (x : Loaded). x ≡ loaded c → (d ≡ c) × (brought c ≡ true)) _ _ _
+  required-by : (d : List ℕ) → afterRequired d ≡ loaded c → (d ≡ c) × (brought c ≡ true)
+  required-by d = if-ind (λ (x : Loaded). x ≡ loaded c → (d ≡ c) × (brought c ≡ true)) _ _ _
       (λ t e. let z : d ≡ c = cc in (z, ap brought (sym z) ∙ t)) (λ t e. never e)
 
   set-by : (x : Option (List ℕ)) → afterSetting x ≡ loaded c → (x ≡ some c) × (brought c ≡ true)
   set-by none e = never e
-  set-by (some d) e = let w = whole-by d e in (ap some (w .0), w .1)
+  set-by (some d) e = let w = required-by d e in (ap some (w .0), w .1)
 
-  run-by : length s ≤ mostBytes → (x : Option (List Object)) → run s ≡ x → afterRun b x ≡ loaded c → LoadedBy b s c
+  run-by : length s ≤ mostBytes → (x : Option (List Object)) → primitives s ≡ x → afterRun b x ≡ loaded c → LoadedBy b s c
   run-by l none p e = never e
   run-by l (some os) p e = let w = set-by (setAll b os) e in record { short = l; objects = os; is-run = p; all-set = w .0; complete = w .1 }
 
   pub load-by : load b s ≡ loaded c → LoadedBy b s c
   unfolding load
   load-by = if-ind (λ (x : Loaded). x ≡ loaded c → LoadedBy b s c) _ _ _
-      (λ t. run-by (leb-true _ _ t) (run s) refl) (λ t e. never e)
+      (λ t. run-by (leb-true _ _ t) (primitives s) refl) (λ t e. never e)
 
   -- all that a start must bring is there
   pub load-brought : load b s ≡ loaded c → brought c ≡ true
@@ -177,45 +179,51 @@ module _ (b s c : List ℕ) (e : load b s ≡ loaded c) (l : length b ≡ storeS
   load-kept k h =
       kept k (λ d j o p g q. let r = p .free in let w = ap (λ (i : ℕ). isThere (valueAt rows d i)) q in let v = ap isThere g in let z : _≡_ {A = ℕ} 0 1 = cc in omega arith)
 
--- ---- the terminal's type
+-- ---- the terminal's type, which has a row, and which a start must bring
 
-type-tag : rowAt 26 .tag ≡ 0x9F35
-unfolding rows
-type-tag = refl
+abbrev typeRow : ℕ
+typeRow = placeOf 0x9F35
 
-type-must : rowAt 26 .must ≡ 1
-unfolding rows
+type-found : find rows 0x9F35 ≡ At typeRow
+unfolding placeOf if rows past find
+type-found = refl
+
+type-tag : rowAt typeRow .tag ≡ 0x9F35
+type-tag = found rows 0x9F35 typeRow type-found .1
+
+type-must : rowAt typeRow .must ≡ required
+unfolding placeOf if rows past find
 type-must = refl
 
 -- where a store holds a terminal type, it is listed
 abbrev TypeListed : List ℕ → Type 0
-TypeListed b = isThere (valueAt rows b 26) ≡ true → listed (getD (bytesOf (valueAt rows b 26)) 0 0) ≡ true
+TypeListed b = isThere (valueAt rows b typeRow) ≡ true → listed (getD (bytesOf (valueAt rows b typeRow)) 0 0) ≡ true
 
 is-listed : (t : ℕ) (v : List ℕ) → t ≡ 0x9F35 → typeListed t v ≡ true → listed (getD v 0 0) ≡ true
 unfolding typeListed
 is-listed t v e h = sym (if-yes _ _ (eq-eqb t 0x9F35 e)) ∙ h
 
 type-kept : (b : List ℕ) (k : ℕ) (o : Object) → length b ≡ storeSize → Put b k o → TypeListed b → TypeListed (putAt rows b k (o .value))
-type-kept b k o l p h = go (equal-or-not 26 k)
+type-kept b k o l p h = go (equal-or-not typeRow k)
   where
-    go : (26 ≡ k) ⊎ (26 ≡ k → ⊥) → TypeListed (putAt rows b k (o .value))
+    go : (typeRow ≡ k) ⊎ (typeRow ≡ k → ⊥) → TypeListed (putAt rows b k (o .value))
     go (inl e) = λ t.
         ap (λ (x : Value). listed (getD (bytesOf x) 0 0)) (ap (valueAt rows (putAt rows b k (o .value))) e ∙ put-get rows b k (o .value) (put-place b k o l p))
         ∙ is-listed (o .tag) (o .value) (sym (ap (λ (i : ℕ). rowAt i .tag) e ∙ p .tag) ∙ type-tag) (p .type)
-    go (inr ne) = subst (λ (x : Value). isThere x ≡ true → listed (getD (bytesOf x) 0 0) ≡ true) (sym (put-other rows b k (o .value) (put-place b k o l p) 26 ne)) h
+    go (inr ne) = subst (λ (x : Value). isThere x ≡ true → listed (getD (bytesOf x) 0 0) ≡ true) (sym (put-other rows b k (o .value) (put-place b k o l p) typeRow ne)) h
 
 -- a store that holds all that a start must bring holds a terminal type
 brought-type : (c : List ℕ) → brought c ≡ true → holds c 0x9F35 ≡ true
 unfolding brought isBrought
 brought-type c e =
-    sym (ap (holds c) type-tag) ∙ sym (either-false _ (ne-eqb (rowAt 26 .must) 0 (λ z. omega (arith, type-must)))) ∙ at (isBrought c) rows blank e 26 (omega (arith, rows-length))
+    sym (ap (holds c) type-tag) ∙ sym (either-false _ (ne-eqb (rowAt typeRow .must) 0 (λ z. omega (arith, type-must)))) ∙ at (isBrought c) rows blank e typeRow (found rows 0x9F35 typeRow type-found .0)
 
 -- where the store held no terminal type, the one that is loaded is listed
 pub load-listed : (b s c : List ℕ) → load b s ≡ loaded c → length b ≡ storeSize → holds b 0x9F35 ≡ false → listed (byteIn c 0x9F35 1) ≡ true
 load-listed b s c e l n =
-    let none-yet : isThere (valueAt rows b 26) ≡ false = ap isThere (sym (by-row rows b 0x9F35 26 at-9F35)) ∙ n in
-    let there : isThere (valueAt rows c 26) ≡ true = ap isThere (sym (by-row rows c 0x9F35 26 at-9F35)) ∙ brought-type c (load-brought b s c e) in
-    ap (λ (x : Value). listed (getD (bytesOf x) 0 0)) (by-row rows c 0x9F35 26 at-9F35)
+    let none-yet : isThere (valueAt rows b typeRow) ≡ false = ap isThere (sym (by-row rows b 0x9F35 typeRow type-found)) ∙ n in
+    let there : isThere (valueAt rows c typeRow) ≡ true = ap isThere (sym (by-row rows c 0x9F35 typeRow type-found)) ∙ brought-type c (load-brought b s c e) in
+    ap (λ (x : Value). listed (getD (bytesOf x) 0 0)) (by-row rows c 0x9F35 typeRow type-found)
     ∙ load-holds TypeListed type-kept b s c e l (λ t. cc) .1 there
 
 -- ---- every input over 1,024 bytes gives the same

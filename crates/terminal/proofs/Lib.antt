@@ -1,4 +1,3 @@
-pub mod Run
 pub mod Setting
 pub mod Ways
 pub mod Fit

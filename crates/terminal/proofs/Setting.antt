@@ -9,14 +9,14 @@ use lib.ListN.{length}
 use Rattle.basics.proofs.Laws.{if-yes, if-no, both-left, both-right}
 use Rattle.tlv.specs.declared.Header.{Header}
 use Rattle.tlv.specs.declared.Front.the-variants as front
-use Rattle.tlv.proofs.Laws.{contents, contents-is, tail, tail-is}
+use Rattle.tlv.specs.Primitives.{Object, withObject, primitiveOf, primitives}
+use Rattle.tlv.proofs.Primitives.{primitives-end, primitives-broken, firstOf, restOf, parts}
 use Rattle.dictionary.specs.declared.Found.{Found}
 use Rattle.dictionary.specs.declared.Found.the-variants.{At, Unknown}
 use Rattle.dictionary.specs.Rows.{rows, rowAt, find}
 use Rattle.dictionary.specs.Form.{fitting}
 use Rattle.store.specs.Place.{putAt}
-use Rattle.terminal.specs.Terminal.{Object, object, withObject, primitiveOf, run, isRun, settable, setFound, setObject, andThen, setAll, setRun, Sets}
-use Rattle.terminal.proofs.Run.{run-end, run-broken, run-object}
+use Rattle.terminal.specs.Terminal.{settable, setFound, setObject, andThen, setAll, setRun, Sets}
 
 -- ---- one object
 
@@ -67,44 +67,21 @@ unfolding setRun withObject setAll
 stopped b o none e = refl
 stopped b o (some os) e = ap (λ y. andThen y (λ d. setAll d os)) e
 
-with-run : (o : Object) (x : Option (List Object)) → isRun (withObject o x) ≡ isRun x
-unfolding withObject
-with-run o none = refl
-with-run o (some os) = refl
-
 -- ---- by the bytes that are left, as the code makes their parts
 
 module _ (s : List ℕ) where
-  pub whole-end : length s ≡ 0 → isRun (run s) ≡ true
-  whole-end z = ap isRun (run-end s z)
-
-  pub set-end : (b : List ℕ) → length s ≡ 0 → setRun b (run s) ≡ some b
+  pub set-end : (b : List ℕ) → length s ≡ 0 → setRun b (primitives s) ≡ some b
   unfolding setRun setAll
-  set-end b z = ap (setRun b) (run-end s z)
+  set-end b z = ap (setRun b) (primitives-end s z)
 
   module _ (n : length s ≡ 0 → ⊥) where
-    pub whole-broken : primitiveOf s ≡ front.Broken → isRun (run s) ≡ false
-    whole-broken e = ap isRun (run-broken s n e)
-
-    pub set-broken : (b : List ℕ) → primitiveOf s ≡ front.Broken → setRun b (run s) ≡ none
+    pub set-broken : (b : List ℕ) → primitiveOf s ≡ front.Broken → setRun b (primitives s) ≡ none
     unfolding setRun
-    set-broken b e = ap (setRun b) (run-broken s n e)
+    set-broken b e = ap (setRun b) (primitives-broken s n e)
 
     module _ (h : Header) (e : primitiveOf s ≡ front.Object h) where
-      abbrev rest : List ℕ
-      rest = tail s (h .start + h .len)
+      pub set-on : (b c : List ℕ) → setObject b (firstOf s h) ≡ some c → setRun b (primitives s) ≡ setRun c (primitives (restOf s h))
+      set-on b c f = ap (setRun b) (parts s n h e) ∙ after b c (firstOf s h) (primitives (restOf s h)) f
 
-      abbrev this : Object
-      this = object (h .tag) (contents s (h .start) (h .len))
-
-      parts : run s ≡ withObject this (run rest)
-      parts = run-object s n h e ∙ rw (contents-is s (h .start) (h .len), tail-is s (h .start + h .len))
-
-      pub whole-on : isRun (run s) ≡ isRun (run rest)
-      whole-on = ap isRun parts ∙ with-run this (run rest)
-
-      pub set-on : (b c : List ℕ) → setObject b this ≡ some c → setRun b (run s) ≡ setRun c (run rest)
-      set-on b c f = ap (setRun b) parts ∙ after b c this (run rest) f
-
-      pub set-stopped : (b : List ℕ) → setObject b this ≡ none → setRun b (run s) ≡ none
-      set-stopped b f = ap (setRun b) parts ∙ stopped b this (run rest) f
+      pub set-stopped : (b : List ℕ) → setObject b (firstOf s h) ≡ none → setRun b (primitives s) ≡ none
+      set-stopped b f = ap (setRun b) (parts s n h e) ∙ stopped b (firstOf s h) (primitives (restOf s h)) f

@@ -9,11 +9,12 @@ use Prim.Native.Nat.{ℕ}
 use lib.ListN.{length}
 use Rattle.basics.proofs.Laws.{both-no-left, both-no-right, bool-cases}
 use Rattle.basics.proofs.Order.{equal-or-not}
+use Rattle.tlv.specs.Primitives.{Object}
 use Rattle.dictionary.specs.declared.Found.the-variants.{At}
 use Rattle.dictionary.specs.Rows.{rows, find, storeSize}
 use Rattle.store.specs.Place.{isThere, valueAt, putAt}
 use Rattle.store.proofs.Laws.{put-length, put-get, put-other}
-use Rattle.terminal.specs.Terminal.{Object, settable, setObject, andThen, setAll}
+use Rattle.terminal.specs.Terminal.{settable, setObject, andThen, setAll}
 use Rattle.terminal.proofs.Setting.{set-taken, set-refused}
 use Rattle.terminal.proofs.Laws.{Put, put-of, put-place, none-after}
 

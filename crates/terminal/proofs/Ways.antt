@@ -12,7 +12,8 @@ use Rattle.basics.proofs.Laws.{if-yes, if-no}
 use Rattle.record.specs.Ranges.{brought}
 use Rattle.basics.specs.Reason.{refusedBytes, refusedObject, refusedAbsent}
 use Rattle.terminal.specs.declared.Said.{Said}
-use Rattle.terminal.specs.Terminal.{Object, run, isRun, setRun, Loaded, refusal, loaded, afterSetting, afterRun, mostBytes, load, Loads}
+use Rattle.tlv.specs.Primitives.{Object, primitives, isRun}
+use Rattle.terminal.specs.Terminal.{setRun, Loaded, refusal, loaded, afterSetting, afterRun, mostBytes, load, Loads}
 
 -- ---- the ways out
 
@@ -22,34 +23,34 @@ module _ (b s : List ℕ) where
   load-long h = if-no _ _ (lt-leb _ _ h)
 
   module _ (l : length s ≤ mostBytes) where
-    short : load b s ≡ afterRun b (run s)
+    short : load b s ≡ afterRun b (primitives s)
     unfolding load
     short = if-yes _ _ (le-leb _ _ l)
 
-    pub load-broken : isRun (run s) ≡ false → load b s ≡ refusal refusedBytes
-    load-broken e = short ∙ go (run s) e
+    pub load-broken : isRun (primitives s) ≡ false → load b s ≡ refusal refusedBytes
+    load-broken e = short ∙ go (primitives s) e
       where
         go : (x : Option (List Object)) → isRun x ≡ false → afterRun b x ≡ refusal refusedBytes
         go none p = refl
         go (some os) p = cc
 
     -- the objects decide
-    objects : isRun (run s) ≡ true → load b s ≡ afterSetting (setRun b (run s))
+    objects : isRun (primitives s) ≡ true → load b s ≡ afterSetting (setRun b (primitives s))
     unfolding setRun
-    objects e = short ∙ go (run s) e
+    objects e = short ∙ go (primitives s) e
       where
         go : (x : Option (List Object)) → isRun x ≡ true → afterRun b x ≡ afterSetting (setRun b x)
         go none p = cc
         go (some os) p = refl
 
-    pub load-object : isRun (run s) ≡ true → setRun b (run s) ≡ none → load b s ≡ refusal refusedObject
+    pub load-object : isRun (primitives s) ≡ true → setRun b (primitives s) ≡ none → load b s ≡ refusal refusedObject
     load-object e f = objects e ∙ ap afterSetting f
 
-    module _ (c : List ℕ) (f : setRun b (run s) ≡ some c) where
+    module _ (c : List ℕ) (f : setRun b (primitives s) ≡ some c) where
       -- what sets objects is a run
-      set-run : isRun (run s) ≡ true
+      set-run : isRun (primitives s) ≡ true
       unfolding setRun
-      set-run = go (run s) f
+      set-run = go (primitives s) f
         where
           go : (x : Option (List Object)) → setRun b x ≡ some c → isRun x ≡ true
           go none p = cc
@@ -72,5 +73,5 @@ loads {b} f = subst (Loads _ _ b) (sym f) (record { said = refl; store = refl })
 -- ---- the working copy
 
 -- what a run sets in a copy it sets in the store
-pub in-copy : {b d : List ℕ} (s : List ℕ) {x : Option (List ℕ)} → d ≡ b → setRun d (run s) ≡ x → setRun b (run s) ≡ x
-in-copy s e f = ap (λ (y : List ℕ). setRun y (run s)) (sym e) ∙ f
+pub in-copy : {b d : List ℕ} (s : List ℕ) {x : Option (List ℕ)} → d ≡ b → setRun d (primitives s) ≡ x → setRun b (primitives s) ≡ x
+in-copy s e f = ap (λ (y : List ℕ). setRun y (primitives s)) (sym e) ∙ f

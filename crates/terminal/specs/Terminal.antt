@@ -4,13 +4,12 @@ use mathlib.Core.Path.{_≡_}
 use mathlib.Core.Bool.{Bool, true, false, not}
 use mathlib.Core.List.{List, [], _∷_}
 use mathlib.Core.Option.{Option, some, none}
-use Prim.Native.Nat.{ℕ, zero, suc}
+use Prim.Native.Nat.{ℕ}
 use lib.Dec.{leb, eqb}
 use lib.ListN.{length, getD}
 use Rattle.basics.specs.Choice.{if, both}
 use Rattle.basics.specs.Number.{hasBit}
-use Rattle.tlv.specs.declared.Front.{Front}
-use Rattle.tlv.specs.Object.{headerOf, valueIn, behind}
+use Rattle.tlv.specs.Primitives.{Object, primitives}
 use Rattle.dictionary.specs.declared.Found.{Found}
 use Rattle.dictionary.specs.Rows.{rows, rowAt, find, start}
 use Rattle.dictionary.specs.Form.{fitting}
@@ -19,51 +18,6 @@ use Rattle.store.specs.Place.{isThere, valueAt, putAt}
 use Rattle.record.specs.Ranges.{brought}
 use Rattle.basics.specs.Reason.{refusedBytes, refusedObject, refusedAbsent}
 use Rattle.terminal.specs.declared.Said.{Said}
-
--- ---- a run of whole primitive objects
-
--- an object of the terminal: its tag and its value
-pub record Object : Type 0 where
-  pub tag : ℕ
-  pub value : List ℕ
-
-abbrev pub object : ℕ → List ℕ → Object
-object t v = record { tag = t; value = v }
-
-unfoldable pub withObject : Object → Option (List Object) → Option (List Object)
-withObject o none = none
-withObject o (some os) = some (o ∷ os)
-
--- the primitive object at the front of the bytes; a template, known or not, is no such object
-abbrev pub primitiveFront : Front → Front
-primitiveFront Front.Broken = Front.Broken
-primitiveFront (Front.Object h) = if (h .template) Front.Broken (Front.Object h)
-
-unfoldable pub primitiveOf : List ℕ → Front
-primitiveOf s = primitiveFront (headerOf s)
-
--- that object, and what k reads of the bytes behind it
-abbrev pub oneMore : (List ℕ → Option (List Object)) → List ℕ → Front → Option (List Object)
-oneMore k s Front.Broken = none
-oneMore k s (Front.Object h) = withObject (object (h .tag) (valueIn s h)) (k (behind s h))
-
-abbrev pub nextObject : (List ℕ → Option (List Object)) → List ℕ → Option (List Object)
-nextObject k [] = some []
-nextObject k (b ∷ s) = oneMore k (b ∷ s) (primitiveOf (b ∷ s))
-
--- the run by at most so many objects
-unfoldable pub runBy : ℕ → List ℕ → Option (List Object)
-runBy zero s = none
-runBy (suc n) s = nextObject (runBy n) s
-
--- the objects of the bytes in order, or none where the bytes are not a run of them.
--- The bytes behind an object are fewer than its list's, so the list's length is objects enough.
-unfoldable pub run : List ℕ → Option (List Object)
-run s = runBy (suc (length s)) s
-
-abbrev pub isRun : Option (List Object) → Bool
-isRun none = false
-isRun (some os) = true
 
 -- ---- taking them
 
@@ -111,12 +65,12 @@ pub data Loaded : Type 0 where
   loaded : List ℕ → Loaded
 
 -- all that a start must bring is there
-abbrev pub whole : List ℕ → Loaded
-whole b = if (brought b) (loaded b) (refusal refusedAbsent)
+abbrev pub afterRequired : List ℕ → Loaded
+afterRequired b = if (brought b) (loaded b) (refusal refusedAbsent)
 
 abbrev pub afterSetting : Option (List ℕ) → Loaded
 afterSetting none = refusal refusedObject
-afterSetting (some b) = whole b
+afterSetting (some b) = afterRequired b
 
 abbrev pub afterRun : List ℕ → Option (List Object) → Loaded
 afterRun b none = refusal refusedBytes
@@ -128,7 +82,7 @@ mostBytes = 1024
 
 -- the start bytes s into the store b
 unfoldable pub load : List ℕ → List ℕ → Loaded
-load b s = if (leb (length s) mostBytes) (afterRun b (run s)) (refusal refusedBytes)
+load b s = if (leb (length s) mostBytes) (afterRun b (primitives s)) (refusal refusedBytes)
 
 -- ---- what the call hands back
 
@@ -147,8 +101,7 @@ pub record Loads (r : Said) (c b : List ℕ) (x : Loaded) : Type 0 where
   pub said : r ≡ saidOf x
   pub store : c ≡ leftOf b x
 
--- ---- what holds of it, proved in proofs/ (Run, Laws, Twice, Examples) for all stores, bytes and objects
---   unroll             run s ≡ nextObject run s: the number of objects allowed does not matter
+-- ---- what holds of it, proved in proofs/ (Laws, Twice, Examples) for all stores, bytes and objects
 --   load-by            a loaded store comes by at most 1,024 bytes that are a run whose objects are all set, and all is brought
 --   load-holds         what each put of a settable object keeps holds of the store that is loaded
 --   load-brought       all that a start must bring is there

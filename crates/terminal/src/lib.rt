@@ -10,7 +10,8 @@ use tlv::Front;
 ghost use mathlib.Core.Path.{_≡_};
 ghost use lib.ListN.{length};
 ghost use Rattle.dictionary.specs.Rows.{storeSize};
-ghost use Rattle.terminal.specs.Terminal.{object, primitiveOf, run, isRun, typeListed, settable, setObject, setRun, Sets, load as loadOf, Loads};
+ghost use Rattle.tlv.specs.Primitives.{object, primitives};
+ghost use Rattle.terminal.specs.Terminal.{typeListed, settable, setObject, setRun, Sets, load as loadOf, Loads};
 
 // What a loading says of the start bytes.
 pub enum Said {
@@ -30,7 +31,7 @@ pub fn load(store: &mut [u8], terminal: &[u8]) -> Said
     if MOST < terminal.len() {
         return refused(basics::REFUSED_BYTES);
     }
-    if !is_run(terminal) {
+    if !tlv::is_run(terminal) {
         return refused(basics::REFUSED_BYTES);
     }
     let mut work = [0u8; SIZE];
@@ -52,46 +53,15 @@ fn refused(number: u8) -> Said
     Said::Refused(Refusal { number })
 }
 
-// The primitive object at the front; a template is none.
-fn primitive(s: &[u8]) -> Front
-    ensures { λ r. ⌜ r ≡ primitiveOf (now (s .entry)) ⌝ }
-{
-    let front = tlv::head(s);
-    let Front::Object(h) = front else {
-        return Front::Broken;
-    };
-    if h.template {
-        return Front::Broken;
-    }
-    Front::Object(h)
-}
-
-// Whether the bytes are a run of whole primitive objects.
-fn is_run(terminal: &[u8]) -> bool
-    ensures { λ r. ⌜ r ≡ isRun (run (now (terminal .entry))) ⌝ }
-{
-    let mut s = terminal;
-    while s.len() != 0 {
-        let front = primitive(s);
-        let Front::Object(h) = front else {
-            return false;
-        };
-        let start = h.start;
-        let e = start + h.len;
-        s = &s[e..];
-    }
-    true
-}
-
 // Sets the objects of a run one after the other: whether each of them may be set.
 fn set_objects(terminal: &[u8], store: &mut [u8; SIZE]) -> bool
     requires { ⌜ length (now store) ≡ storeSize ⌝ }
-    ensures set { λ r. ⌜ Sets r (now (store .exit)) (setRun (now (store .entry)) (run (now (terminal .entry)))) ⌝ }
+    ensures set { λ r. ⌜ Sets r (now (store .exit)) (setRun (now (store .entry)) (primitives (now (terminal .entry)))) ⌝ }
     ensures sized { λ _. ⌜ length (now (store .exit)) ≡ storeSize ⌝ }
 {
     let mut s = terminal;
     while s.len() != 0 {
-        let front = primitive(s);
+        let front = tlv::primitive(s);
         let Front::Object(h) = front else {
             return false;
         };

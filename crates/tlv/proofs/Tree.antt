@@ -13,11 +13,13 @@ use lib.ListN.{length, drop, length-take, length-drop}
 use lib.Seq.{take-append-le, drop-append-le, drop-append-add}
 use Rattle.basics.specs.Choice.{if}
 use Rattle.basics.proofs.Laws.{if-yes, if-no, bool-cases}
+pub use Rattle.basics.proofs.Recursion.{shorter-first}
+use Rattle.basics.proofs.Recursion.{AsksShorter, recurse-unroll}
 use Rattle.tlv.specs.declared.Header.{Header}
 use Rattle.tlv.specs.declared.Following.{Following}
 use Rattle.tlv.specs.declared.Following.the-variants.{End, Inner, Malformed}
 use Rattle.tlv.specs.Object.{valueIn, behind}
-use Rattle.tlv.specs.Tree.{Forest, end, leaf, node, count, join, nextOf, withLeaf, withNode, nested, oneObject, parseBy, parse}
+use Rattle.tlv.specs.Tree.{Forest, end, leaf, node, count, nextOf, withLeaf, withNode, nested, oneObject, parseNext, parse}
 use Rattle.tlv.proofs.Laws.{HeaderFits}
 use Rattle.tlv.proofs.NextObject.{next-fits, next-join, moved, movedNext}
 
@@ -29,14 +31,6 @@ module _ {s : List ℕ} {h : Header} (f : HeaderFits s h) where
 
   pub shorter-behind : length (behind s h) < length s
   shorter-behind = simp length-drop (omega arith)
-
--- what holds of a list once it holds of all shorter ones holds of every list
-pub shorter-first : (P : List ℕ → Type 0) → ((s : List ℕ) → ((v : List ℕ) → length v < length s → P v) → P s) → (s : List ℕ) → P s
-shorter-first P step s = go (suc (length s)) s (omega arith)
-  where
-    go : (n : ℕ) (s : List ℕ) → length s < n → P s
-    go zero s h = absurd (omega arith)
-    go (suc n) s h = step s (λ v k. go n v (omega arith))
 
 -- ---- the steps allowed do not matter
 
@@ -59,15 +53,12 @@ object-same k k′ l s same (Inner h) e =
     (nested-same k k′ l (h .tag) (valueIn s h) (behind s h) (λ m. same m (valueIn s h) v) (λ m. same m (behind s h) b))
     (ap (withLeaf (h .tag) (valueIn s h)) (same l (behind s h) b))
 
-enough : (n m l : ℕ) (s : List ℕ) → length s < n → length s < m → parseBy n l s ≡ parseBy m l s
-unfolding parseBy
-enough zero m l s p q = absurd (omega arith)
-enough (suc n) zero l s p q = absurd (omega arith)
-enough (suc n) (suc m) l s p q = object-same (parseBy n) (parseBy m) l s (λ j v h. enough n m j v (omega arith) (omega arith)) (nextOf s) refl
+next-same : AsksShorter parseNext
+next-same k k′ s same = λ i l. object-same (λ m v. k v m) (λ m v. k′ v m) l s (λ m v h. ap (λ (p : ℕ → Option Forest). p m) (same v h)) (nextOf s) refl i
 
 pub unroll : (l : ℕ) (s : List ℕ) → parse l s ≡ oneObject parse l s (nextOf s)
-unfolding parse parseBy
-unroll l s = object-same (parseBy (length s)) parse l s (λ j v h. enough (length s) (suc (length v)) j v h (omega arith)) (nextOf s) refl
+unfolding parse
+unroll l s = ap (λ (p : ℕ → Option Forest). p l) (recurse-unroll (λ l. none) parseNext next-same s)
 
 -- ---- one law for each way out of a step
 
@@ -188,6 +179,12 @@ parse-deeper l m s f e =
     l s f e m
 
 -- ---- one run behind another
+
+-- two runs of objects, one behind the other
+unfoldable pub join : Forest → Forest → Forest
+join end g = g
+join (leaf t v r) g = leaf t v (join r g)
+join (node t f r) g = node t f (join r g)
 
 -- an object's parts, with bytes behind its list
 value-kept : (s r : List ℕ) (h : Header) → HeaderFits s h → valueIn (s ++ r) h ≡ valueIn s h

@@ -4,8 +4,8 @@
 use mathlib.Core.List.{List, [], _∷_}
 use mathlib.Core.Option.{Option, some, none}
 use Prim.Native.Nat.{ℕ, zero, suc, _+_}
-use lib.ListN.{length}
 use Rattle.basics.specs.Choice.{if}
+use Rattle.basics.specs.Recursion.{recurse}
 use Rattle.tlv.specs.declared.Front.{Front}
 use Rattle.tlv.specs.declared.Front.the-variants.{Object, Broken}
 use Rattle.tlv.specs.declared.Following.{Following}
@@ -23,12 +23,6 @@ unfoldable pub count : Forest → ℕ
 count end = 0
 count (leaf t v r) = 1 + count r
 count (node t f r) = 1 + count f + count r
-
--- two runs of objects, one behind the other
-unfoldable pub join : Forest → Forest → Forest
-join end g = g
-join (leaf t v r) g = leaf t v (join r g)
-join (node t f r) g = node t f (join r g)
 
 -- ---- parsing
 
@@ -64,15 +58,14 @@ oneObject k levels s Malformed = none
 oneObject k levels s (Inner h) =
     if (h .template) (nested k levels (h .tag) (valueIn s h) (behind s h)) (withLeaf (h .tag) (valueIn s h) (k levels (behind s h)))
 
--- the parse by at most so many steps down and along
-unfoldable pub parseBy : ℕ → ℕ → List ℕ → Option Forest
-parseBy zero levels s = none
-parseBy (suc n) levels s = oneObject (parseBy n) levels s (nextOf s)
+-- one step of the parse: the object that is next, and what k parses of the bytes in it and behind it, by the levels still allowed
+abbrev pub parseNext : (List ℕ → ℕ → Option Forest) → List ℕ → ℕ → Option Forest
+parseNext k s levels = oneObject (λ l v. k v l) levels s (nextOf s)
 
 -- the objects of s, with templates nested at most `levels` deep, or none where s is malformed.
--- An object's contents and the bytes behind it are shorter than its list, so the list's length is steps enough.
+-- An object's contents and the bytes behind it are shorter than its list, so the recursion ends by itself (`unroll`).
 unfoldable pub parse : ℕ → List ℕ → Option Forest
-parse levels s = parseBy (suc (length s)) levels s
+parse levels s = recurse (λ l. none) parseNext s levels
 
 -- ---- what holds of it, proved in proofs/ (NextObject, Tree, Encoding) for all lists, levels and trees
 --   next-fits       an object that is next starts its value at 2 or later and ends inside the list; its class is its tag's

@@ -1,8 +1,8 @@
 // One data object at the front of some bytes: its tag, where its value starts and how long it is.
 //
 // `tag_at` reads a tag alone, as a data object list needs it; `head` reads a whole object's header;
-// `next` is what stands next within a template's contents. The tree of an encoding, its count and
-// its laws are in specs/.
+// `next` is what stands next within a template's contents. `primitive` and `is_run` are for bytes that
+// hold primitive objects alone. The tree of an encoding, its count and its laws are in specs/.
 ghost use mathlib.Core.Path.{_≡_};
 ghost use Prim.Native.Nat.{_+_, _≤_, _<_};
 ghost use lib.ListN.{length, take};
@@ -11,6 +11,7 @@ ghost use Rattle.tlv.specs.Tag.{tagSize, tagAt, firstByte, isTemplate, i
 ghost use Rattle.tlv.specs.Length.{lengthAt};
 ghost use Rattle.tlv.specs.Object.{headerOf};
 ghost use Rattle.tlv.specs.Tree.{nextOf};
+ghost use Rattle.tlv.specs.Primitives.{primitiveOf, primitives, isRun};
 
 // A tag: its bytes read as one number, and how many they are.
 pub struct Tag {
@@ -219,4 +220,35 @@ pub fn next(s: &[u8]) -> Following
         Front::Object(h) => Following::Inner(h),
         Front::Broken => Following::Malformed,
     }
+}
+
+// The primitive object at the front; a template is none.
+pub fn primitive(s: &[u8]) -> Front
+    ensures { λ r. ⌜ r ≡ primitiveOf (now (s .entry)) ⌝ }
+{
+    let front = head(s);
+    let Front::Object(h) = front else {
+        return Front::Broken;
+    };
+    if h.template {
+        return Front::Broken;
+    }
+    Front::Object(h)
+}
+
+// Whether the bytes are a run of whole primitive objects.
+pub fn is_run(bytes: &[u8]) -> bool
+    ensures { λ r. ⌜ r ≡ isRun (primitives (now (bytes .entry))) ⌝ }
+{
+    let mut s = bytes;
+    while s.len() != 0 {
+        let front = primitive(s);
+        let Front::Object(h) = front else {
+            return false;
+        };
+        let start = h.start;
+        let e = start + h.len;
+        s = &s[e..];
+    }
+    true
 }

@@ -6,11 +6,13 @@ use mathlib.Core.List.{List, [], _∷_}
 use mathlib.Core.Option.{some, none}
 use Prim.Native.Nat.{ℕ}
 use lib.ListN.{length, replicate}
+use Rattle.basics.specs.Recursion.{recurse, recurseBy}
 use Rattle.basics.specs.Choice.{if, both, either, every}
 use Rattle.basics.specs.Number.{numberFrom, nibbles}
 use Rattle.tlv.specs.Tag.{tagSize, secondByte, thirdByte, tagAt, firstByte, isTemplate, isPrivate}
 use Rattle.tlv.specs.Length.{lengthAt}
 use Rattle.tlv.specs.Object.{headerOf}
+use Rattle.tlv.specs.Primitives.{withObject, primitiveOf, primitives}
 use Rattle.tlv.specs.Encoding.{lengthBytes}
 use Rattle.dictionary.specs.Rows.{rows, past, find}
 use Rattle.dictionary.specs.Named.{placeOf}
@@ -21,7 +23,7 @@ use Rattle.locator.specs.Entry.{keeps}
 use Rattle.locator.specs.Records.{entries as entriesOf, wholeEntries, recordsFrom as runOf, recordsOf, sumOf, accepts, nth, kth, recordAt}
 use Rattle.reading.specs.Taking.{mayStand, mayCome, allowed, takeItem, takeNext, takeAll}
 use Rattle.reading.specs.Answer.{bodyOf, optionsParts, primitiveParts, readBody, isRead, goodStatus, goodLength, readAnswer}
-use Rattle.data_list.specs.Entries.{along, listEntriesBy, listEntries}
+use Rattle.data_list.specs.Entries.{along, listEntries}
 use Rattle.data_list.specs.Filling.{fillingOf, filledBy}
 use Rattle.data_list.specs.Commands.{optionsOf, processingOptions}
 use Rattle.record.specs.declared.Phase.{Phase}
@@ -30,7 +32,7 @@ use Rattle.basics.specs.Reason.{reasonLink, reasonMode}
 use Rattle.store.specs.Held.{lengthIn}
 use Rattle.record.specs.Ranges.{isBrought, brought, cryptogramAbsent, running, optionsRanges, inRanges, allFit, objectFits, freshRanges, endedRanges}
 use Rattle.record.specs.Session.{freshSession, endOf}
-use Rattle.terminal.specs.Terminal.{withObject, primitiveOf, runBy, run, typeListed, settable, setObject, setAll, load}
+use Rattle.terminal.specs.Terminal.{typeListed, settable, setObject, setAll, load}
 use Rattle.session.specs.Steps.{withResults, admitted}
 use Rattle.session.specs.Start.{askOptions}
 use Rattle.session.specs.Answer.{accepted, optionsRead, optionsStep, optionsReason}
@@ -96,7 +98,7 @@ pub record Worked : Type 0 where
   not-emv-end : final freshSession notEmv .phase ≡ Phase.Ended (endOf (outcomeFor reasonMode) reasonMode)
 
 pub worked : Worked
-unfolding commands play final taken acceptedLocator firstAnswer broughtLocator optionsReason admitted endedRanges goesWith outcomeFor inRanges allFit objectFits lengthIn lengthByte freshRanges optionsRanges running cryptogramAbsent askOptions processingOptions optionsOf filledBy fillingOf listEntries listEntriesBy along lengthBytes optionsStep accepted optionsRead recordAt kth nth accepts wholeEntries entriesOf keeps sumOf recordsOf runOf readAnswer goodLength goodStatus isRead readBody bodyOf primitiveParts optionsParts takeAll takeNext takeItem allowed mayCome mayStand withResults placeOf load run runBy withObject primitiveOf headerOf tagAt tagSize secondByte thirdByte lengthAt firstByte isTemplate isPrivate numberFrom if both either every rows past find settable setObject setAll fitting digitsFit numeric nibbles typeListed listed offsetIn placeAt held valueAt putAt valueIn brought isBrought
+unfolding commands play final taken acceptedLocator firstAnswer broughtLocator optionsReason admitted endedRanges goesWith outcomeFor inRanges allFit objectFits lengthIn lengthByte freshRanges optionsRanges running cryptogramAbsent askOptions processingOptions optionsOf filledBy fillingOf listEntries recurse recurseBy along lengthBytes optionsStep accepted optionsRead recordAt kth nth accepts wholeEntries entriesOf keeps sumOf recordsOf runOf readAnswer goodLength goodStatus isRead readBody bodyOf primitiveParts optionsParts takeAll takeNext takeItem allowed mayCome mayStand withResults placeOf load primitives withObject primitiveOf headerOf tagAt tagSize secondByte thirdByte lengthAt firstByte isTemplate isPrivate numberFrom if both either every rows past find settable setObject setAll fitting digitsFit numeric nibbles typeListed listed offsetIn placeAt held valueAt putAt valueIn brought isBrought
 worked =
     record {
       begun-sent = refl;

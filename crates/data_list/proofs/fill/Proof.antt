@@ -7,9 +7,9 @@ use native.Mathlib.Omega.{arith}
 use lib.ListN.{length, length-take, length-drop}
 use borrow.Author.Needs.{needs}
 use Rattle.dictionary.specs.Rows.{rows}
-use Rattle.data_list.specs.Entries.{listEntries, Room}
+use Rattle.data_list.specs.Entries.{listEntries}
 use Rattle.data_list.specs.Filling.{filled}
-use Rattle.data_list.specs.Buffer.{overFilled}
+use Rattle.data_list.specs.Inner.{Room, overFilled}
 use Rattle.data_list.proofs.Entries.{entry-inside}
 use Rattle.data_list.proofs.Writing.{no-room, entry-room, fill-end, fill-step}
 use Rattle.data_list.proofs.fill.Statement.{statement}

@@ -8,7 +8,7 @@ use borrow.Author.Needs.{needs}
 use Rattle.dictionary.specs.Rows.{rows}
 use Rattle.data_list.specs.Entries.{listEntries}
 use Rattle.data_list.specs.Commands.{generateAc, cryptogramOf, command}
-use Rattle.data_list.specs.Buffer.{over}
+use Rattle.data_list.specs.Inner.{over}
 use Rattle.data_list.proofs.Buffer.{over-some}
 use Rattle.data_list.proofs.Parts.{Fills, fills, unfit, cryptogram-of, cryptogram-broken, cryptogram-empty, cryptogram-long, cryptogram-some, command-length, command-front, none-written, some-written}
 use Rattle.data_list.proofs.generate_ac.Statement.{statement}

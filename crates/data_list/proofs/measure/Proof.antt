@@ -7,7 +7,8 @@ use native.Mathlib.Omega.{arith}
 use lib.ListN.{length, drop, length-take, length-drop}
 use borrow.Author.Needs.{needs}
 use Rattle.tlv.proofs.Laws.{tail-is}
-use Rattle.data_list.specs.Entries.{listEntries, measured}
+use Rattle.data_list.specs.Entries.{listEntries}
+use Rattle.data_list.specs.Inner.{measured}
 use Rattle.data_list.proofs.Entries.{entry-inside, measuredFrom, measured-from, measured-end, measured-broken, measured-more, measured-long}
 use Rattle.data_list.proofs.measure.Statement.{statement}
 use Rattle.data_list.proofs.measure.Tie as tie

@@ -6,7 +6,7 @@ use Prim.Native.Nat.{ℕ, _+_}
 use native.Mathlib.Omega.{arith}
 use lib.ListN.{length, length-set}
 use borrow.Author.Needs.{needs}
-use Rattle.data_list.specs.Buffer.{over}
+use Rattle.data_list.specs.Inner.{over}
 use Rattle.data_list.proofs.Buffer.{over-sets}
 use Rattle.data_list.proofs.Parts.{head-short, head-long}
 use Rattle.data_list.proofs.options_head.Statement.{statement}

@@ -9,7 +9,7 @@ use borrow.Author.Needs.{needs}
 use Rattle.dictionary.specs.Rows.{rows}
 use Rattle.data_list.specs.Entries.{listEntries}
 use Rattle.data_list.specs.Commands.{processingOptions, optionsOf, optionsHead, optionsData, command}
-use Rattle.data_list.specs.Buffer.{over}
+use Rattle.data_list.specs.Inner.{over}
 use Rattle.data_list.proofs.Buffer.{over-some, over-then}
 use Rattle.data_list.proofs.Parts.{Fills, fills, unfit, head-length, options-of, options-broken, options-long, options-some, command-length, command-front, none-written, some-written}
 use Rattle.data_list.proofs.processing_options.Statement.{statement}

@@ -5,7 +5,7 @@ use native.Mathlib.Omega.{arith}
 use lib.ListN.{length-take}
 use borrow.Author.Needs.{needs}
 use Rattle.tlv.proofs.Laws.{tail-is}
-use Rattle.data_list.specs.Buffer.{over}
+use Rattle.data_list.specs.Inner.{over}
 use Rattle.data_list.proofs.Fitting.{cut-n, cut-other}
 use Rattle.data_list.proofs.write_cut.Statement.{statement}
 use Rattle.data_list.proofs.write_cut.Tie as tie

@@ -8,7 +8,7 @@ use borrow.Author.Tests.{not-true, not-false}
 use Rattle.dictionary.specs.declared.Attributes.{Attributes}
 use Rattle.dictionary.specs.Rows.{rows}
 use Rattle.data_list.specs.Filling.{zeros}
-use Rattle.data_list.specs.Buffer.{over}
+use Rattle.data_list.specs.Inner.{over}
 use Rattle.data_list.proofs.Filling.{of-template, of-unknown, of-absent, of-present}
 use Rattle.data_list.proofs.write_entry.Statement.{statement}
 use Rattle.data_list.proofs.write_entry.Tie as tie

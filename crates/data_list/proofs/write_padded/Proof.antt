@@ -6,7 +6,7 @@ use Prim.Native.Nat.{ℕ, _+_, _-_, _≤_}
 use native.Mathlib.Omega.{arith}
 use lib.ListN.{length, replicate, length-replicate}
 use borrow.Author.Needs.{needs}
-use Rattle.data_list.specs.Buffer.{over}
+use Rattle.data_list.specs.Inner.{over}
 use Rattle.data_list.proofs.Buffer.{over-then}
 use Rattle.data_list.proofs.Fitting.{padded-n, padded-other}
 use Rattle.data_list.proofs.write_padded.Statement.{statement}

@@ -2,7 +2,7 @@
 -- Assumes nothing.
 use mathlib.Core.Path.{sym, ap, _∙_}
 use borrow.Author.Needs.{needs}
-use Rattle.data_list.specs.Buffer.{over}
+use Rattle.data_list.specs.Inner.{over}
 use Rattle.data_list.proofs.Fitting.{fitted-cut, fitted-short}
 use Rattle.data_list.proofs.write_value.Statement.{statement}
 use Rattle.data_list.proofs.write_value.Tie as tie

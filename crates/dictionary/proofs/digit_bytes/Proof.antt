@@ -6,7 +6,7 @@ use Prim.Native.Nat.{ℕ, _+_, _-_, _≤_, _<_}
 use native.Mathlib.Omega.{arith}
 use lib.ListN.{length, drop}
 use borrow.Author.Tests.{not-true, not-false}
-use Rattle.dictionary.specs.Form.{digitBytes}
+use Rattle.dictionary.specs.Inner.{digitBytes}
 use Rattle.dictionary.proofs.Digits.{stop-here, go-on, all-passed}
 use Rattle.dictionary.proofs.digit_bytes.Statement.{statement}
 use Rattle.dictionary.proofs.digit_bytes.Tie as tie

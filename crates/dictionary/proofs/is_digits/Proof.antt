@@ -3,7 +3,7 @@
 use mathlib.Core.Path.{sym}
 use borrow.Author.Tests.{lt-ltb, le-ltb}
 use Rattle.basics.proofs.Laws.{both-true, both-no-left}
-use Rattle.dictionary.specs.Form.{isDigits}
+use Rattle.dictionary.specs.Inner.{isDigits}
 use Rattle.dictionary.proofs.is_digits.Statement.{statement}
 use Rattle.dictionary.proofs.is_digits.Tie as tie
 

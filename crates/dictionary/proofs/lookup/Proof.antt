@@ -4,7 +4,7 @@ use mathlib.Core.Path.{_≡_, refl, sym, _∙_}
 use Prim.Native.Nat.{ℕ, _-_, _≤_, _<_}
 use native.Mathlib.Omega.{arith}
 use lib.ListN.{length, drop}
-use Rattle.dictionary.specs.Rows.{rows, rowAt, past, find}
+use Rattle.dictionary.specs.Rows.{rows, rowAt, rowCount, past, find}
 use Rattle.dictionary.proofs.Table.{column}
 use Rattle.dictionary.proofs.Find.{past-zero, here, there, none-left}
 use Rattle.dictionary.proofs.Rule.{rows-proper}
@@ -12,10 +12,10 @@ use Rattle.dictionary.proofs.lookup.Statement.{statement}
 use Rattle.dictionary.proofs.lookup.Tie as tie
 
 abbrev Inv-loop : tie.InvT-loop
-Inv-loop tag tags i₀ i = (i ≤ 36) × (find rows tag ≡ past i (find (drop i rows) tag))
+Inv-loop tag tags i₀ i = (i ≤ rowCount) × (find rows tag ≡ past i (find (drop i rows) tag))
 
 abbrev μ-loop : tie.MeasureT-loop
-μ-loop tag tags i₀ i = 36 - i
+μ-loop tag tags i₀ i = rowCount - i
 
 returns : tie.Need-returns Inv-loop μ-loop
 unfolding rows

@@ -9,7 +9,7 @@ use lib.Seq.{drop-cons}
 use borrow.Author.Tests.{eq-eqb, ne-eqb}
 use Rattle.basics.specs.Choice.{every}
 use Rattle.basics.proofs.Laws.{both-true, both-no-left}
-use Rattle.dictionary.specs.Form.{onlyFs}
+use Rattle.dictionary.specs.Inner.{onlyFs}
 use Rattle.dictionary.proofs.only_fs.Statement.{statement}
 use Rattle.dictionary.proofs.only_fs.Tie as tie
 

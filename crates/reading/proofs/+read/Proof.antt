@@ -12,8 +12,9 @@ use Rattle.tlv.proofs.Laws.{HeaderFits}
 use Rattle.tlv.proofs.NextObject.{next-fits}
 use Rattle.reading.specs.declared.Contents.{Contents}
 use Rattle.reading.specs.declared.Contents.the-variants.{Whole, Broken}
+use Rattle.dictionary.specs.Rows.{storeSize}
 use Rattle.reading.specs.Taking.{work}
-use Rattle.reading.specs.Walk.{Leaves}
+use Rattle.reading.specs.Inner.{Leaves}
 use Rattle.reading.proofs.Laws.{did}
 use Rattle.reading.proofs.Walk.{at-end, at-malformed, at-deep, at-leaf, at-node, at-broken, after-leaf, after-node}
 use borrow.Fn.Kinds.{In, Out}
@@ -39,7 +40,7 @@ abbrev read-Inv-loop : read-lts.InvT-loop
 read-Inv-loop bytes around levels answer store₀ s₀ n₀ good₀ store s n good =
     ((r : Contents) (b : List ℕ) → Leaves answer around n (work good store) (parse levels s) r b
     → Leaves answer around n₀ (work good₀ store₀) (parse levels s₀) r b)
-    × ((length store ≡ 943) × (2 * n + length s ≤ 2 * n₀ + length s₀))
+    × ((length store ≡ storeSize) × (2 * n + length s ≤ 2 * n₀ + length s₀))
 
 abbrev read-μ-loop : read-lts.MeasureT-loop
 read-μ-loop bytes around levels answer store₀ s₀ n₀ good₀ store s n good = length s

@@ -5,9 +5,7 @@ use mathlib.Core.Path.{_≡_, refl, sym, ap, _∙_}
 use mathlib.Core.Bool.{Bool, true, false, not}
 use borrow.Author.Tests.{eq-eqb, ne-eqb}
 use Rattle.basics.specs.Choice.{both}
-use Rattle.basics.specs.Number.{hasBit}
 use Rattle.basics.proofs.Laws.{both-no-right}
-use Rattle.dictionary.specs.declared.Attributes.{Attributes}
 use Rattle.reading.proofs.is_skipped.Statement.{statement}
 use Rattle.reading.proofs.is_skipped.Tie as tie
 
@@ -17,14 +15,10 @@ both-last true e = e
 both-last false e = refl
 
 returns : tie.Need-returns
-returns c x e =
-    let card = sym (ap (λ (a : Attributes). hasBit (a .setters) 2) e) ∙ eq-eqb _ _ (c .if1 .taken) in
-    sym (both-no-right _ _ (ap not card))
+returns c = sym (both-no-right _ _ (ap not (eq-eqb _ _ (c .if1 .taken))))
 
 returns-2 : tie.Need-returns-2
-returns-2 c x e =
-    let card = sym (ap (λ (a : Attributes). hasBit (a .setters) 2) e) ∙ ne-eqb _ _ (c .before .if1 .left) in
-    c .is-private .ensures ∙ sym (both-last _ (ap not card))
+returns-2 c = c .is-private .ensures ∙ sym (both-last _ (ap not (ne-eqb _ _ (c .before .if1 .left))))
 
 pub is-skipped-spec : {M : Type 1} → statement M
 is-skipped-spec = tie.close (tie.spec returns (λ c κs. search needs) returns-2)

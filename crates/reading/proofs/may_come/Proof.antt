@@ -1,42 +1,37 @@
 -- `reading::may_come` meets its contract. One test after the other, in the definition's order.
 -- Assumes nothing.
 use borrow.Author.Needs.{needs}
-use mathlib.Core.Path.{sym, ap, _∙_}
+use mathlib.Core.Path.{sym, _∙_}
 use borrow.Author.Tests.{eq-eqb, ne-eqb, not-true, not-false}
-use Rattle.basics.specs.Number.{hasBit}
 use Rattle.basics.proofs.Laws.{both-true, both-no-left}
-use Rattle.dictionary.specs.declared.Attributes.{Attributes}
-use Rattle.reading.specs.Taking.{mayCome}
+use Rattle.reading.specs.Taking.{mayStand, mayCome}
 use Rattle.reading.proofs.may_come.Statement.{statement}
 use Rattle.reading.proofs.may_come.Tie as tie
 
 returns : tie.Need-returns
 unfolding mayCome
-returns c x e = sym (both-no-left _ _ (sym (ap (λ (a : Attributes). hasBit (a .setters) 2) e) ∙ ne-eqb _ _ (c .if1 .taken)))
+returns c = sym (both-no-left _ _ (ne-eqb _ _ (c .if1 .taken)))
 
 returns-2 : tie.Need-returns-2
 unfolding mayCome
-returns-2 c x e =
-    let w = c .before .before .before .before .before .args .answer in
-    sym (both-true _ (sym (ap (λ (a : Attributes). hasBit (a .setters) 2) e) ∙ eq-eqb _ _ (c .before .before .if1 .left))
-    ∙ both-no-left _ _ (sym (c .before .is-brought-by .ensures ∙ ap (λ (a : Attributes). hasBit (a .answers) w) e) ∙ not-true _ (c .if2 .taken)))
+returns-2 c =
+    sym (both-true _ (eq-eqb _ _ (c .before .before .if1 .left))
+    ∙ both-no-left _ _ (sym (c .before .is-brought-by .ensures) ∙ not-true _ (c .if2 .taken)))
 
 returns-3 : tie.Need-returns-3
-unfolding mayCome
-returns-3 c x e =
-    let w = c .before .before .before .before .before .before .before .args .answer in
-    sym (both-true _ (sym (ap (λ (a : Attributes). hasBit (a .setters) 2) e) ∙ eq-eqb _ _ (c .before .before .before .before .if1 .left))
-    ∙ both-true _ (sym (c .before .before .before .is-brought-by .ensures ∙ ap (λ (a : Attributes). hasBit (a .answers) w) e) ∙ not-false _ (c .before .before .if2 .left))
-    ∙ both-no-left _ _ (sym (c .before .may-stand .ensures x (ap (λ (a : Attributes). a .templates) e)) ∙ not-true _ (c .if3 .taken)))
+unfolding mayCome mayStand
+returns-3 c =
+    sym (both-true _ (eq-eqb _ _ (c .before .before .before .before .if1 .left))
+    ∙ both-true _ (sym (c .before .before .before .is-brought-by .ensures) ∙ not-false _ (c .before .before .if2 .left))
+    ∙ both-no-left _ _ (sym (c .before .may-stand .ensures) ∙ not-true _ (c .if3 .taken)))
 
 returns-4 : tie.Need-returns-4
-unfolding mayCome
-returns-4 c x e =
-    let w = c .before .before .before .before .before .before .before .before .args .answer in
-    c .fits2 .ensures x e
-    ∙ sym (both-true _ (sym (ap (λ (a : Attributes). hasBit (a .setters) 2) e) ∙ eq-eqb _ _ (c .before .before .before .before .before .if1 .left))
-    ∙ both-true _ (sym (c .before .before .before .before .is-brought-by .ensures ∙ ap (λ (a : Attributes). hasBit (a .answers) w) e) ∙ not-false _ (c .before .before .before .if2 .left))
-    ∙ both-true _ (sym (c .before .before .may-stand .ensures x (ap (λ (a : Attributes). a .templates) e)) ∙ not-false _ (c .before .if3 .left)))
+unfolding mayCome mayStand
+returns-4 c =
+    c .fits2 .ensures
+    ∙ sym (both-true _ (eq-eqb _ _ (c .before .before .before .before .before .if1 .left))
+    ∙ both-true _ (sym (c .before .before .before .before .is-brought-by .ensures) ∙ not-false _ (c .before .before .before .if2 .left))
+    ∙ both-true _ (sym (c .before .before .may-stand .ensures) ∙ not-false _ (c .before .if3 .left)))
 
 pub may-come-spec : {M : Type 1} → statement M
 may-come-spec = tie.close (tie.spec returns (λ c κs. search needs) returns-2 (λ c κs. search needs) returns-3 (λ c κs. search needs) returns-4)

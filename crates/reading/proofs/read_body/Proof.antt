@@ -11,9 +11,10 @@ use lib.ListN.{length}
 use Rattle.store.proofs.Laws.{copied}
 use Rattle.reading.specs.declared.Verdict.{Verdict}
 use Rattle.reading.specs.declared.Verdict.the-variants.{Accepted, BadStatus, Malformed, NotAllowed}
-use Rattle.reading.specs.Answer.{storeAfter}
+use Rattle.reading.specs.Inner.{storeAfter}
 use Rattle.reading.proofs.Verdict.{the-type}
 use Rattle.reading.proofs.Parts.{restore}
+use Rattle.reading.proofs.Count.{body-tree}
 use borrow.Author.Needs.{needs}
 use Rattle.reading.proofs.read_body.Statement.{statement}
 use Rattle.reading.proofs.read_body.Tie as tie
@@ -34,7 +35,8 @@ returns c =
     let st = c .before .before .before .before .before .before .before .before .before in
     let r = c .before .read-object in
     let e = copied (st .args .store .now) _ _ (st .pre) (c .before .before .before .before .copy .ensures .1) in
-    (restore (as-it-was _ _ (r .result .verdict) (c .match .keys2)) (rw e at (r .ensures .0)), (st .pre, r .ensures .1 .1))
+    let g = rw e at (r .ensures .0) in
+    (restore (as-it-was _ _ (r .result .verdict) (c .match .keys2)) g, (st .pre, (r .ensures .1 .1, body-tree (st .args .awaited) (st .args .store .now) (st .args .body .now) g)))
 
 slice-aggregate-copy-2 : tie.Need-slice-aggregate-copy-2
 slice-aggregate-copy-2 c = sym (c .before .before .before .read-object .ensures .1 .0)
@@ -48,7 +50,8 @@ returns-2 c =
     let r = c .before .before .before .before .before .before .before .read-object in
     let e = copied (st .args .store .now) _ _ (st .pre) (c .before .before .before .before .before .before .before .before .before .before .copy .ensures .1) in
     let d = copied (r .last .0) _ _ (r .ensures .1 .0 ∙ sym (st .pre)) (c .before .before .copy2 .ensures .1) in
-    (restore (d ∙ sym (ap (storeAfter _ _) (c .before .before .before .before .before .enum-told .given .1))) (rw e at (r .ensures .0)), (ap length d ∙ r .ensures .1 .0, r .ensures .1 .1))
+    let g = rw e at (r .ensures .0) in
+    (restore (d ∙ sym (ap (storeAfter _ _) (c .before .before .before .before .before .enum-told .given .1))) g, (ap length d ∙ r .ensures .1 .0, (r .ensures .1 .1, body-tree (st .args .awaited) (st .args .store .now) (st .args .body .now) g)))
 
 pub read-body-spec : {M : Type 1} → statement M
 read-body-spec =

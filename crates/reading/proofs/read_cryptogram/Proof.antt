@@ -9,7 +9,8 @@ use Rattle.reading.specs.declared.Awaited.the-variants.{Cryptogram}
 use Rattle.reading.specs.declared.Reading.{Reading}
 use Rattle.reading.specs.declared.Verdict.the-variants.{Accepted, Malformed, NotAllowed}
 use Rattle.reading.specs.Taking.{work}
-use Rattle.reading.specs.Answer.{storeAfter, cryptogramParts, judged, takenParts}
+use Rattle.reading.specs.Answer.{cryptogramParts, judged, takenParts}
+use Rattle.reading.specs.Inner.{storeAfter}
 use Rattle.reading.proofs.Laws.{took, did}
 use Rattle.reading.proofs.Parts.{gives, judged-yes, judged-no, cryptogram-short, cryptogram-long, cryptogram-whole}
 use borrow.Author.Needs.{needs}

@@ -10,7 +10,8 @@ use Rattle.tlv.specs.Tree.{parse}
 use Rattle.tlv.proofs.Laws.{header-fits, contents-is}
 use Rattle.reading.specs.declared.Reading.{Reading}
 use Rattle.reading.specs.declared.Verdict.the-variants.{Malformed}
-use Rattle.reading.specs.Answer.{storeAfter, primitive, templateBody, readTree}
+use Rattle.reading.specs.Answer.{primitive, templateBody, readTree}
+use Rattle.reading.specs.Inner.{storeAfter}
 use Rattle.reading.proofs.Parts.{gives, regive, body-read, body-broken, body-behind, body-template, body-primitive}
 use borrow.Author.Needs.{needs}
 use Rattle.reading.proofs.read_object.Statement.{statement}

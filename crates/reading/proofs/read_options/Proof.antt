@@ -9,7 +9,8 @@ use Rattle.reading.specs.declared.Awaited.the-variants.{Options}
 use Rattle.reading.specs.declared.Reading.{Reading}
 use Rattle.reading.specs.declared.Verdict.the-variants.{Accepted, Malformed, NotAllowed}
 use Rattle.reading.specs.Taking.{work}
-use Rattle.reading.specs.Answer.{storeAfter, optionsParts, judged, takenParts}
+use Rattle.reading.specs.Answer.{optionsParts, judged, takenParts}
+use Rattle.reading.specs.Inner.{storeAfter}
 use Rattle.reading.proofs.Laws.{took, took-all, did}
 use Rattle.reading.proofs.Parts.{gives, judged-yes, judged-no, options-short, options-long, options-uneven, options-whole}
 use borrow.Author.Needs.{needs}

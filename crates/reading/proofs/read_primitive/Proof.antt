@@ -4,7 +4,8 @@ use mathlib.Core.Path.{sym, ap, _∙_}
 use Rattle.reading.specs.declared.Awaited.{Awaited}
 use Rattle.reading.specs.declared.Reading.{Reading}
 use Rattle.reading.specs.declared.Verdict.the-variants.{Malformed}
-use Rattle.reading.specs.Answer.{storeAfter, takenParts, primitiveParts}
+use Rattle.reading.specs.Answer.{takenParts, primitiveParts}
+use Rattle.reading.specs.Inner.{storeAfter}
 use Rattle.reading.proofs.Parts.{gives, regive, wrong-tag, as-options, as-cryptogram, as-record}
 use borrow.Author.Needs.{needs}
 use Rattle.reading.proofs.read_primitive.Statement.{statement}

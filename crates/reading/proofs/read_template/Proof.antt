@@ -8,11 +8,13 @@ use lib.ListN.{length}
 use borrow.Author.Tests.{not-true, not-false}
 use mathlib.Core.Bool.{true}
 use Rattle.tlv.specs.Tree.{Forest, parse}
+use Rattle.dictionary.specs.Rows.{storeSize}
 use Rattle.reading.specs.Taking.{work}
 use Rattle.reading.specs.declared.Reading.{Reading}
 use Rattle.reading.specs.declared.Verdict.{Verdict}
 use Rattle.reading.specs.declared.Verdict.the-variants.{Accepted, Malformed, NotAllowed}
-use Rattle.reading.specs.Answer.{storeAfter, made, templateBody, readTree, answerBit}
+use Rattle.reading.specs.Answer.{templateBody, readTree, answerBit}
+use Rattle.reading.specs.Inner.{storeAfter, made}
 use Rattle.reading.proofs.Parts.{gives, broken-contents, Tree, whole-contents, tree-wrong, tree-refused, tree-taken}
 use borrow.Author.Needs.{needs}
 use Rattle.reading.proofs.read_template.Statement.{statement}
@@ -40,7 +42,7 @@ tree-of : (c : Whole) → Tree (answerBit (c .before .before .before .before .be
 tree-of c = whole-contents _ _ 1 _ _ _ _ (rw (c .before .before .before .before .before .answer-bit .ensures .0) at (rw (c .before .contents .given .1) at (c .before .before .before .read .ensures .0)))
 
 rest-of : (c : Whole) {r : Reading} (v : Verdict) → r ≡ made v (c .before .contents .given .0 .0 .objects)
-    → (length (c .before .before .before .read .last .1 .1 .1 .1 .1 .0) ≡ 943) × (2 * r .objects ≤ 2 + length (c .before .before .before .before .before .before .before .args .value .now))
+    → (length (c .before .before .before .read .last .1 .1 .1 .1 .1 .0) ≡ storeSize) × (2 * r .objects ≤ 2 + length (c .before .before .before .before .before .before .before .args .value .now))
 rest-of c {r} v e =
     let h = rw (c .before .contents .given .1) at (c .before .before .before .read .ensures .1 .0) in
     let n : r .objects ≡ c .before .contents .given .0 .0 .objects = ap (λ (x : Reading). x .objects) e in

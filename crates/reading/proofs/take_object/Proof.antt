@@ -9,7 +9,7 @@ use Rattle.dictionary.proofs.Find.{found}
 use Rattle.dictionary.proofs.Fit.{fits-length}
 use Rattle.store.proofs.Rows.{rows-length}
 use Rattle.reading.specs.Taking.{item, work}
-use Rattle.reading.proofs.Laws.{item-unknown, item-skipped, item-barred, item-put, may-come-fits, gave}
+use Rattle.reading.proofs.Laws.{item-unknown, item-skipped, item-barred, item-put, row-skipped, row-comes, may-come-fits, gave}
 use Rattle.reading.proofs.take_object.Statement.{statement}
 use Rattle.reading.proofs.take_object.Tie as tie
 
@@ -24,7 +24,7 @@ returns-2 c =
     let a = c .before .before .before .before .before .before .before .before .args in
     let lk = c .before .before .before .before .before .before .lookup in
     let f = c .before .before .before .before .found .given in
-    let skipped = c .before .is-skipped .ensures (rowAt (f .0 .0)) (c .before .before .attributes-of .ensures) in
+    let skipped = row-skipped (a .tag) (rowAt (f .0 .0)) (c .before .is-skipped .ensures) (c .before .before .attributes-of .ensures) in
     gave (item-skipped (a .answer) (a .store .now) (item (a .around) (a .tag) (a .v .now)) (lk .result) (lk .ensures .0) (f .0 .0) (f .1) (sym skipped ∙ c .if1 .taken)) (c .before .before .before .before .before .before .before .before .pre .0)
 
 returns-3 : tie.Need-returns-3
@@ -33,8 +33,8 @@ returns-3 c =
     let lk = c .before .before .before .before .before .before .before .before .lookup in
     let f = c .before .before .before .before .before .before .found .given in
     let at = c .before .before .before .before .attributes-of .ensures in
-    let skipped = c .before .before .before .is-skipped .ensures (rowAt (f .0 .0)) at in
-    let may = c .before .may-come .ensures (rowAt (f .0 .0)) at in
+    let skipped = row-skipped (a .tag) (rowAt (f .0 .0)) (c .before .before .before .is-skipped .ensures) at in
+    let may = row-comes (a .answer) (rowAt (f .0 .0)) (a .around) (a .v .now) (c .before .may-come .ensures) at in
     gave (item-barred (a .answer) (a .store .now) (item (a .around) (a .tag) (a .v .now)) (lk .result) (lk .ensures .0) (f .0 .0) (f .1)
     (sym skipped ∙ c .before .before .if1 .left) (sym may ∙ not-true _ (c .if2 .taken))) (c .before .before .before .before .before .before .before .before .before .before .pre .0)
 
@@ -43,7 +43,7 @@ put-free-requires c κs =
     let a = c .before .before .before .before .before .before .before .before .before .before .before .args in
     let lk = c .before .before .before .before .before .before .before .before .before .lookup in
     let f = c .before .before .before .before .before .before .before .found .given in
-    let may = c .before .before .may-come .ensures (rowAt (f .0 .0)) (c .before .before .before .before .before .attributes-of .ensures) in
+    let may = row-comes (a .answer) (rowAt (f .0 .0)) (a .around) (a .v .now) (c .before .before .may-come .ensures) (c .before .before .before .before .before .attributes-of .ensures) in
     let in-table = found rows (a .tag) (f .0 .0) (sym (lk .ensures .0) ∙ f .1) in
     let fit = fits-length (rowAt (f .0 .0)) (a .v .now) (may-come-fits (a .answer) (rowAt (f .0 .0)) (a .around) (a .v .now) (sym may ∙ not-false _ (c .before .if2 .left))) in
     (c .before .before .before .before .before .before .before .before .before .before .before .pre .0, (omega (arith, rows-length), fit .1))
@@ -54,8 +54,8 @@ returns-4 c =
     let lk = c .before .before .before .before .before .before .before .before .before .before .lookup in
     let f = c .before .before .before .before .before .before .before .before .found .given in
     let at = c .before .before .before .before .before .before .attributes-of .ensures in
-    let skipped = c .before .before .before .before .before .is-skipped .ensures (rowAt (f .0 .0)) at in
-    let may = c .before .before .before .may-come .ensures (rowAt (f .0 .0)) at in
+    let skipped = row-skipped (a .tag) (rowAt (f .0 .0)) (c .before .before .before .before .before .is-skipped .ensures) at in
+    let may = row-comes (a .answer) (rowAt (f .0 .0)) (a .around) (a .v .now) (c .before .before .before .may-come .ensures) at in
     let p = c .put-free in
     gave (item-put (a .answer) (a .store .now) (item (a .around) (a .tag) (a .v .now)) (lk .result) (lk .ensures .0) (f .0 .0) (f .1)
     (sym skipped ∙ c .before .before .before .before .if1 .left) (sym may ∙ not-false _ (c .before .before .if2 .left)) (p .result) (p .ensures .0)

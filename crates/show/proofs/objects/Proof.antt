@@ -1,6 +1,7 @@
 -- One row to a turn of the loop. Assumes nothing.
 use Prim.Native.Nat.{_-_}
 use borrow.Author.Needs.{needs}
+use Rattle.dictionary.specs.Rows.{rowCount}
 use Rattle.show.proofs.objects.Statement.{statement}
 use Rattle.show.proofs.objects.Tie as tie
 
@@ -8,7 +9,7 @@ abbrev Inv-loop : tie.InvT-loop
 Inv-loop store row₀ row = Unit {0}
 
 abbrev μ-loop : tie.MeasureT-loop
-μ-loop store row₀ row = 36 - row
+μ-loop store row₀ row = rowCount - row
 
 pub objects-spec : {M : Type 1} → statement M
 objects-spec =

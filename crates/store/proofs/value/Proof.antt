@@ -9,8 +9,8 @@ use lib.ListN.{length, getD, take, drop, length-drop}
 use lib.Seq.{take-all}
 use Rattle.dictionary.specs.Rows.{rows}
 use Rattle.store.specs.declared.Span.{Span}
-use Rattle.store.specs.Place.{offsetIn, spanOf, lengthByte, storedLength, bytesOf, valueAt}
-use Rattle.store.proofs.Laws.{length-byte-at, value-bytes, no-place}
+use Rattle.store.specs.Place.{offsetIn, spanOf, lengthByte, bytesOf, valueAt}
+use Rattle.store.proofs.Laws.{length-byte-at, storedLength, value-bytes, no-place}
 use Rattle.store.proofs.value.Statement.{statement}
 use Rattle.store.proofs.value.Tie as tie
 

@@ -9,7 +9,7 @@ use Rattle.dictionary.specs.Rows.{rows, rowAt}
 use Rattle.dictionary.proofs.Find.{found}
 use Rattle.dictionary.proofs.Fit.{fits-length}
 use Rattle.store.proofs.Rows.{rows-length}
-use Rattle.terminal.specs.Terminal.{object}
+use Rattle.tlv.specs.Primitives.{object}
 use Rattle.terminal.proofs.Setting.{set-unknown, set-taken, set-refused, settable-fits, says-set, says-not}
 use Rattle.terminal.proofs.set_object.Statement.{statement}
 use Rattle.terminal.proofs.set_object.Tie as tie

@@ -7,19 +7,21 @@ use Prim.Native.Nat.{_≤_}
 use native.Mathlib.Omega.{arith}
 use lib.ListN.{length, length-take, length-drop}
 use Rattle.tlv.specs.declared.Front.the-variants as front
+use Rattle.tlv.specs.Primitives.{primitiveOf, primitives}
 use Rattle.tlv.proofs.Laws.{HeaderFits}
-use Rattle.terminal.specs.Terminal.{primitiveOf, run, setRun}
-use Rattle.terminal.proofs.Run.{primitive-fits}
+use Rattle.tlv.proofs.Primitives.{primitive-fits}
+use Rattle.dictionary.specs.Rows.{storeSize}
+use Rattle.terminal.specs.Terminal.{setRun}
 use Rattle.terminal.proofs.Setting.{says-set, says-not, was-set, was-not, set-end, set-broken, set-on, set-stopped}
 use Rattle.terminal.proofs.set_objects.Statement.{statement}
 use Rattle.terminal.proofs.set_objects.Tie as tie
 use Rattle.terminal.proofs.set_objects.Reads as reads
 use Rattle.terminal.proofs.set_objects.Lts as lts
-use Rattle.terminal.proofs.primitive.Reads as primitive
+use Rattle.tlv.proofs.primitive.Reads as primitive
 use Rattle.terminal.proofs.set_object.Reads as set-object
 
 abbrev Inv-loop : tie.InvT-loop
-Inv-loop terminal store₀ s₀ store s = (setRun store₀ (run s₀) ≡ setRun store (run s)) × ((length store ≡ 943) × (length s ≤ length s₀))
+Inv-loop terminal store₀ s₀ store s = (setRun store₀ (primitives s₀) ≡ setRun store (primitives s)) × ((length store ≡ storeSize) × (length s ≤ length s₀))
 
 abbrev μ-loop : tie.MeasureT-loop
 μ-loop terminal store₀ s₀ store s = length s

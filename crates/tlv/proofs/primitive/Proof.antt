@@ -1,10 +1,10 @@
--- `terminal::primitive` meets its contract: the object at the front, and then its kind.
+-- `tlv::primitive` meets its contract: the object at the front, and then its kind.
 -- Assumes nothing.
 use borrow.Author.Needs.{needs}
 use mathlib.Core.Path.{sym}
-use Rattle.terminal.proofs.Run.{primitive-broken, primitive-template, primitive-object}
-use Rattle.terminal.proofs.primitive.Statement.{statement}
-use Rattle.terminal.proofs.primitive.Tie as tie
+use Rattle.tlv.proofs.Primitives.{primitive-broken, primitive-template, primitive-object}
+use Rattle.tlv.proofs.primitive.Statement.{statement}
+use Rattle.tlv.proofs.primitive.Tie as tie
 
 returns : tie.Need-returns
 returns c = sym (primitive-broken _ _ (c .before .before .head .ensures) (c .enum-told .given .1))

@@ -1,26 +1,25 @@
--- `terminal::is_run` meets its contract. The invariant: what is left is a run exactly where the whole is. The measure is its length.
+-- `tlv::is_run` meets its contract. The invariant: what is left is a run exactly where the whole is. The measure is its length.
 -- Assumes nothing.
 use borrow.Author.Needs.{needs}
 use mathlib.Core.Path.{_≡_, refl, sym, _∙_}
 use Prim.Native.Nat.{_≤_}
 use native.Mathlib.Omega.{arith}
 use lib.ListN.{length, length-take, length-drop}
 use Rattle.tlv.specs.declared.Front.the-variants as front
 use Rattle.tlv.proofs.Laws.{HeaderFits}
-use Rattle.terminal.specs.Terminal.{primitiveOf, run, isRun}
-use Rattle.terminal.proofs.Run.{primitive-fits}
-use Rattle.terminal.proofs.Setting.{whole-end, whole-broken, whole-on}
-use Rattle.terminal.proofs.is_run.Statement.{statement}
-use Rattle.terminal.proofs.is_run.Tie as tie
-use Rattle.terminal.proofs.is_run.Reads as reads
-use Rattle.terminal.proofs.is_run.Lts as lts
-use Rattle.terminal.proofs.primitive.Reads as primitive
+use Rattle.tlv.specs.Primitives.{primitiveOf, primitives, isRun}
+use Rattle.tlv.proofs.Primitives.{primitive-fits, is-run-end, is-run-broken, is-run-on}
+use Rattle.tlv.proofs.is_run.Statement.{statement}
+use Rattle.tlv.proofs.is_run.Tie as tie
+use Rattle.tlv.proofs.is_run.Reads as reads
+use Rattle.tlv.proofs.is_run.Lts as lts
+use Rattle.tlv.proofs.primitive.Reads as primitive
 
 abbrev Inv-loop : tie.InvT-loop
-Inv-loop terminal s₀ s = (isRun (run s₀) ≡ isRun (run s)) × (length s ≤ length s₀)
+Inv-loop bytes s₀ s = (isRun (primitives s₀) ≡ isRun (primitives s)) × (length s ≤ length s₀)
 
 abbrev μ-loop : tie.MeasureT-loop
-μ-loop terminal s₀ s = length s
+μ-loop bytes s₀ s = length s
 
 -- where an object is next
 abbrev At-object : Type 0
@@ -35,13 +34,13 @@ fits-at c = primitive-fits _ _ (next-at c)
 returns : tie.Need-returns Inv-loop μ-loop
 returns c =
     let lp = c .before .before .before .before .loop in
-    sym (lp .inv .0 ∙ whole-broken _ (c .before .before .before .loop-test .taken) (sym (c .before .before .primitive .ensures) ∙ c .enum-told .given .1))
+    sym (lp .inv .0 ∙ is-run-broken _ (c .before .before .before .loop-test .taken) (sym (c .before .before .primitive .ensures) ∙ c .enum-told .given .1))
 
 loop-again : tie.Need-loop-again Inv-loop μ-loop
 loop-again c =
     let o = c .before .before .before in
     let h = fits-at o in
-    (o .before .before .before .before .loop .inv .0 ∙ whole-on _ (o .before .before .before .loop-test .taken) _ (next-at o), simp (length-take, length-drop) (omega arith))
+    (o .before .before .before .before .loop .inv .0 ∙ is-run-on _ (o .before .before .before .loop-test .taken) _ (next-at o), simp (length-take, length-drop) (omega arith))
 
 pub is-run-spec : {M : Type 1} → statement M
 is-run-spec =
@@ -60,4 +59,4 @@ is-run-spec =
     (λ c. omega arith)
     (λ c. let h = fits-at (c .before .before .before) in simp (length-take, length-drop) (omega arith))
     loop-again
-    (λ c. sym (c .before .loop .inv .0 ∙ whole-end _ (c .loop-test .left))))
+    (λ c. sym (c .before .loop .inv .0 ∙ is-run-end _ (c .loop-test .left))))

@@ -1,0 +1,92 @@
+-- Worked answers, by computation: each rule of a reading on both sides of its edge, the reason's number first and then the object count.
+-- Assumes nothing.
+use mathlib.Core.Path.{_≡_, refl}
+use mathlib.Core.List.{List, [], _∷_, _++_, map}
+use Prim.Native.Nat.{ℕ}
+use lib.ListN.{replicate}
+use Rattle.basics.specs.Choice.{if, both}
+use Rattle.basics.specs.Number.{numberFrom}
+use Rattle.tlv.specs.Tag.{tagSize, secondByte, thirdByte, tagAt, firstByte, isTemplate, isPrivate}
+use Rattle.tlv.specs.Length.{lengthAt, oneByte}
+use Rattle.tlv.specs.Object.{headerOf}
+use Rattle.tlv.specs.Tree.{count, nextOf, withLeaf, withNode, parseBy, parse}
+use Rattle.dictionary.specs.Rows.{rows, storeSize, past, find}
+use Rattle.dictionary.specs.Form.{digitsFit, fitting}
+use Rattle.store.specs.Place.{offsetIn, placeAt, held, valueAt, putAt, valueIn}
+use Rattle.reading.specs.declared.Awaited.{Awaited}
+use Rattle.reading.specs.declared.Awaited.the-variants.{Options, Record, Cryptogram}
+use Rattle.reading.specs.Taking.{items, mayStand, mayCome, allowed, takeItem, takeNext, takeAll}
+use Rattle.reading.specs.Answer.{Outcome, bodyOf, optionsParts, issuerPart, cryptogramParts, primitiveParts, templateParts, readBody, isRead, goodStatus, goodLength, readAnswer}
+
+-- the reason's number and the object count
+abbrev said : Outcome → List ℕ
+said o = o .reason ∷ o .objects ∷ []
+
+-- an answer, and a body, read into a store that holds nothing
+abbrev answer : Awaited → List ℕ → List ℕ
+answer a s = said (readAnswer a (replicate storeSize 0) s)
+
+abbrev body : Awaited → List ℕ → List ℕ
+body a s = said (readBody a (replicate storeSize 0) s)
+
+-- a record of this file
+abbrev file : ℕ → Awaited
+file n = Record (record { number = n })
+
+-- n bytes of 00 under the tag 80
+abbrev under80 : ℕ → List ℕ
+under80 n = 0x80 ∷ 0x81 ∷ n ∷ replicate n 0
+
+-- 1, 2, 258 and 259 bytes, none of them 90 00 at the end
+lengths : map (λ n. answer Options (replicate n 0)) (1 ∷ 2 ∷ 258 ∷ 259 ∷ []) ≡ (2 ∷ 0 ∷ []) ∷ (1 ∷ 0 ∷ []) ∷ (1 ∷ 0 ∷ []) ∷ (2 ∷ 0 ∷ []) ∷ []
+unfolding readAnswer goodLength goodStatus if both
+lengths = refl
+
+-- 90 00, 90 01 and 91 00 behind no body, for the last file that is read and the first that is not
+statuses : map (answer (file 10)) ((0x90 ∷ 0x00 ∷ []) ∷ (0x90 ∷ 0x01 ∷ []) ∷ (0x91 ∷ 0x00 ∷ []) ∷ []) ≡ (2 ∷ 0 ∷ []) ∷ (1 ∷ 0 ∷ []) ∷ (1 ∷ 0 ∷ []) ∷ []
+unfolding readAnswer goodLength goodStatus isRead readBody bodyOf headerOf tagAt tagSize if both
+statuses = refl
+
+unread : map (answer (file 11)) ((0x90 ∷ 0x00 ∷ []) ∷ (0x90 ∷ 0x01 ∷ []) ∷ (0x70 ∷ 0x00 ∷ 0x90 ∷ 0x00 ∷ []) ∷ []) ≡ (0 ∷ 0 ∷ []) ∷ (1 ∷ 0 ∷ []) ∷ (0 ∷ 0 ∷ []) ∷ []
+unfolding readAnswer goodLength goodStatus isRead if both
+unread = refl
+
+-- processing options under 80: 6 to 250 bytes, two and a multiple of four
+options : map (λ n. body Options (under80 n)) (5 ∷ 6 ∷ 7 ∷ 250 ∷ 251 ∷ 254 ∷ [])
+    ≡ (2 ∷ 1 ∷ []) ∷ (0 ∷ 1 ∷ []) ∷ (2 ∷ 1 ∷ []) ∷ (0 ∷ 1 ∷ []) ∷ (2 ∷ 1 ∷ []) ∷ (2 ∷ 1 ∷ []) ∷ []
+unfolding readBody bodyOf headerOf tagAt tagSize lengthAt oneByte firstByte isTemplate isPrivate numberFrom if both primitiveParts optionsParts takeAll takeNext takeItem rows past find allowed mayCome mayStand fitting digitsFit offsetIn placeAt held valueAt putAt valueIn
+options = refl
+
+-- a cryptogram under 80: 11 to 43 bytes
+cryptograms : map (λ n. body Cryptogram (under80 n)) (10 ∷ 11 ∷ 12 ∷ 43 ∷ 44 ∷ [])
+    ≡ (2 ∷ 1 ∷ []) ∷ (0 ∷ 1 ∷ []) ∷ (0 ∷ 1 ∷ []) ∷ (0 ∷ 1 ∷ []) ∷ (2 ∷ 1 ∷ []) ∷ []
+unfolding readBody bodyOf headerOf tagAt tagSize secondByte lengthAt oneByte firstByte isTemplate isPrivate numberFrom if both primitiveParts cryptogramParts issuerPart takeAll takeNext takeItem rows past find allowed mayCome mayStand fitting digitsFit offsetIn placeAt held valueAt putAt valueIn
+cryptograms = refl
+
+-- four levels of templates, and five
+levels : map (body (file 1))
+    ((0x70 ∷ 0x06 ∷ 0xE1 ∷ 0x04 ∷ 0xE1 ∷ 0x02 ∷ 0xE1 ∷ 0x00 ∷ []) ∷ (0x70 ∷ 0x08 ∷ 0xE1 ∷ 0x06 ∷ 0xE1 ∷ 0x04 ∷ 0xE1 ∷ 0x02 ∷ 0xE1 ∷ 0x00 ∷ []) ∷ [])
+    ≡ (0 ∷ 4 ∷ []) ∷ (2 ∷ 0 ∷ []) ∷ []
+unfolding readBody bodyOf headerOf tagAt tagSize lengthAt firstByte isTemplate isPrivate numberFrom if both parse parseBy nextOf withNode count templateParts items takeAll
+levels = refl
+
+-- a wrong outer tag keeps the count, and so does an object that is not allowed; a second object, or a byte behind, makes it 0:
+-- 77 for a record, with one object and with two; 80, and another primitive tag; two objects; a byte behind; 82 in a record
+counts : map (body (file 1))
+    ((0x77 ∷ 0x00 ∷ [])
+    ∷ (0x77 ∷ 0x02 ∷ 0xC1 ∷ 0x00 ∷ [])
+    ∷ (0x80 ∷ 0x00 ∷ [])
+    ∷ (0x57 ∷ 0x00 ∷ [])
+    ∷ (0x70 ∷ 0x00 ∷ 0x70 ∷ 0x00 ∷ [])
+    ∷ (0x70 ∷ 0x00 ∷ 0x70 ∷ [])
+    ∷ (0x70 ∷ 0x04 ∷ 0x82 ∷ 0x02 ∷ 0x19 ∷ 0x80 ∷ [])
+    ∷ [])
+    ≡ (2 ∷ 1 ∷ []) ∷ (2 ∷ 2 ∷ []) ∷ (2 ∷ 1 ∷ []) ∷ (2 ∷ 1 ∷ []) ∷ (2 ∷ 0 ∷ []) ∷ (2 ∷ 0 ∷ []) ∷ (3 ∷ 2 ∷ []) ∷ []
+unfolding readBody bodyOf headerOf tagAt tagSize lengthAt firstByte isTemplate isPrivate numberFrom if both parse parseBy nextOf withLeaf withNode count primitiveParts templateParts items takeAll takeNext takeItem rows past find allowed mayCome mayStand
+counts = refl
+
+-- 70 for the other two answers, and 57 in place of 80
+others : map (body Options) ((0x70 ∷ 0x00 ∷ []) ∷ (0x57 ∷ 0x00 ∷ []) ∷ (0x77 ∷ 0x00 ∷ []) ∷ []) ++ map (body Cryptogram) ((0x70 ∷ 0x00 ∷ []) ∷ (0x57 ∷ 0x00 ∷ []) ∷ (0x77 ∷ 0x00 ∷ []) ∷ [])
+    ≡ (2 ∷ 1 ∷ []) ∷ (2 ∷ 1 ∷ []) ∷ (0 ∷ 1 ∷ []) ∷ (2 ∷ 1 ∷ []) ∷ (2 ∷ 1 ∷ []) ∷ (0 ∷ 1 ∷ []) ∷ []
+unfolding readBody bodyOf headerOf tagAt tagSize lengthAt firstByte isTemplate isPrivate numberFrom if both parse parseBy nextOf count primitiveParts templateParts items takeAll
+others = refl

@@ -1,0 +1,52 @@
+-- What private functions promise, for their callers' proofs: what the reading of a run of objects says and leaves, by
+-- their tree, and the working copy of the store.
+-- No rule of document 01 stands here: a reader of the rules can pass it over. proofs/Parts ties it to specs/Answer:
+-- `broken-contents` and `whole-contents` to the tree of a template's contents, `gives` and `restore` to `Gives`.
+-- Assumes nothing.
+use mathlib.Core.Path.{_≡_}
+use mathlib.Core.Bool.{Bool}
+use mathlib.Core.List.{List}
+use mathlib.Core.Option.{Option, some, none}
+use Prim.Native.Nat.{ℕ, _+_}
+use Rattle.tlv.specs.Tree.{Forest, count}
+use Rattle.reading.specs.declared.Verdict.{Verdict}
+use Rattle.reading.specs.declared.Verdict.the-variants.{Accepted, BadStatus, Malformed, NotAllowed}
+use Rattle.reading.specs.declared.Reading.{Reading}
+use Rattle.reading.specs.declared.Tally.{Tally}
+use Rattle.reading.specs.declared.Contents.{Contents}
+use Rattle.reading.specs.declared.Contents.the-variants.{Whole, Broken}
+use Rattle.reading.specs.Taking.{Work, work, items, takeAll}
+
+-- ---- the working copy
+
+-- the store by the verdict: the working copy w where all was accepted, else b as it was
+abbrev pub storeAfter : List ℕ → List ℕ → Verdict → List ℕ
+storeAfter b w Accepted = w
+storeAfter b w BadStatus = b
+storeAfter b w Malformed = b
+storeAfter b w NotAllowed = b
+
+-- a reading of these parts
+abbrev pub made : Verdict → ℕ → Reading
+made v n = record { verdict = v; objects = n }
+
+-- ---- a run of objects
+
+-- n objects visited, and whether all were allowed
+abbrev pub tally : ℕ → Bool → Tally
+tally n g = record { objects = n; good = g }
+
+-- n objects visited and the work w
+abbrev pub Has : ℕ → Work → Contents → List ℕ → Type 0
+Has n w r b = (r ≡ Whole (tally n (w .good))) × (b ≡ w .store)
+
+-- after n objects and the work w, a tree directly inside the template `around`: its count is added and its objects are
+-- taken. r is what is said and b the working store that is left; malformed bytes leave the working store free.
+abbrev pub Leaves : ℕ → ℕ → ℕ → Work → Option Forest → Contents → List ℕ → Type 0
+Leaves answer around n w none r b = r ≡ Broken
+Leaves answer around n w (some f) r b = Has (n + count f) (takeAll answer w (items around f)) r b
+
+-- how many objects are said
+abbrev pub counted : Contents → ℕ
+counted Broken = 0
+counted (Whole t) = t .objects

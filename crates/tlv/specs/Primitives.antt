@@ -1,0 +1,57 @@
+-- Primitive objects one behind the other (document 01, refusal 20): whole, with nothing in between, and no template among them.
+-- Assumes nothing.
+use mathlib.Core.Bool.{Bool, true, false}
+use mathlib.Core.List.{List, [], _∷_}
+use mathlib.Core.Option.{Option, some, none}
+use Prim.Native.Nat.{ℕ}
+use Rattle.basics.specs.Choice.{if}
+use Rattle.basics.specs.Recursion.{recurse}
+use Rattle.tlv.specs.declared.Front.{Front}
+use Rattle.tlv.specs.Object.{headerOf, valueIn, behind}
+
+-- a primitive object: its tag and its value
+pub record Object : Type 0 where
+  pub tag : ℕ
+  pub value : List ℕ
+
+abbrev pub object : ℕ → List ℕ → Object
+object t v = record { tag = t; value = v }
+
+-- an object and those behind it; none where those are none
+unfoldable pub withObject : Object → Option (List Object) → Option (List Object)
+withObject o none = none
+withObject o (some os) = some (o ∷ os)
+
+-- a template, known or not, is no primitive object
+abbrev pub primitiveFront : Front → Front
+primitiveFront Front.Broken = Front.Broken
+primitiveFront (Front.Object h) = if (h .template) Front.Broken (Front.Object h)
+
+-- the primitive object at the front of the bytes
+unfoldable pub primitiveOf : List ℕ → Front
+primitiveOf s = primitiveFront (headerOf s)
+
+-- that object, and what k reads of the bytes behind it
+abbrev pub oneMore : (List ℕ → Option (List Object)) → List ℕ → Front → Option (List Object)
+oneMore k s Front.Broken = none
+oneMore k s (Front.Object h) = withObject (object (h .tag) (valueIn s h)) (k (behind s h))
+
+-- nothing more, or one object and what k reads of the bytes behind it
+abbrev pub nextObject : (List ℕ → Option (List Object)) → List ℕ → Option (List Object)
+nextObject k [] = some []
+nextObject k (b ∷ s) = oneMore k (b ∷ s) (primitiveOf (b ∷ s))
+
+-- the primitive objects of the bytes in order, or none where the bytes are not a run of them.
+-- The bytes behind an object are fewer than its list's, so the recursion ends by itself (`unroll`).
+unfoldable pub primitives : List ℕ → Option (List Object)
+primitives s = recurse none nextObject s
+
+-- the bytes are a run of whole primitive objects
+abbrev pub isRun : Option (List Object) → Bool
+isRun none = false
+isRun (some os) = true
+
+-- ---- what holds of it, proved in proofs/Primitives for all lists
+--   unroll                                            primitives s ≡ nextObject primitives s
+--   primitives-end, primitives-broken, primitives-object    the objects at each thing that can stand at the front
+--   primitive-fits                                    a primitive object lies inside its list and takes two bytes at least
