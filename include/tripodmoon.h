@@ -18,7 +18,7 @@ extern "C" {
 #define EMV_LEAST_BUFFER 261u
 #define EMV_MOST_TERMINAL 1024u
 
-/* A word: a command's length, or an outcome with its reason, or a refusal. Bits 16 to 23 tell which;
+/* A word: a command's length, an outcome and its reason, or a refusal. Bits 16 to 23 tell which;
  * bits 24 to 31 are 0, and are kept for a later use with an outcome. */
 #define EMV_OUTCOMES 0x00010000u
 #define EMV_REFUSALS 0x00020000u
@@ -36,7 +36,7 @@ extern "C" {
 #define EMV_ENDED 3u
 #define EMV_SELECT_NEXT 4u
 
-/* Reasons: 0 with approved, online request and declined, 6 with select next, the others with ended. */
+/* Reasons: 0 where a decision was reached, 6 where another application is to be selected, else why the session ended. */
 #define EMV_REASON_NONE 0u
 #define EMV_REASON_STATUS 1u
 #define EMV_REASON_MALFORMED 2u
@@ -51,12 +51,12 @@ extern "C" {
 #define EMV_REASON_MODE 11u
 
 /* Refusals: the call was not taken, and all lent bytes are as they were. */
-#define EMV_REFUSED_BYTES 20u  /* too many start bytes, or not whole primitive objects one behind the other */
-#define EMV_REFUSED_PHASE 21u  /* a start on a session that is not fresh, another call on one that is not running */
-#define EMV_REFUSED_BUFFER 22u /* the command buffer is under 261 bytes */
-#define EMV_REFUSED_OBJECT 23u /* a known start object that may not be set, does not fit or comes twice, or a terminal type not listed */
-#define EMV_REFUSED_ABSENT 24u /* an object that a start must bring is absent */
-#define EMV_REFUSED_RANGES 25u /* the session's bytes are too few, hold no record, or a record that breaks its ranges */
+#define EMV_REFUSED_BYTES 20u  /* more than 1,024 start bytes, or other than whole primitive objects */
+#define EMV_REFUSED_PHASE 21u  /* a start once the session has begun, or another call before it has or after its end */
+#define EMV_REFUSED_BUFFER 22u /* the command buffer has no room for the longest command */
+#define EMV_REFUSED_OBJECT 23u /* a start object of the dictionary that is not a start's, does not fit or comes again; or a terminal type outside the list */
+#define EMV_REFUSED_ABSENT 24u /* a mandatory start object is missing */
+#define EMV_REFUSED_RANGES 25u /* the session's bytes are too few, or hold no record within its ranges */
 
 /* What emv_count gives where the bytes hold no record. */
 #define EMV_NO_COUNT 0xFFFFFFFFu

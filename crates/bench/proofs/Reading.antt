@@ -9,6 +9,7 @@ use Rattle.tlv.specs.Length.{lengthAt}
 use Rattle.tlv.specs.Object.{headerOf}
 use Rattle.tlv.specs.Tree.{count, nextOf, withLeaf, withNode, parse}
 use Rattle.dictionary.specs.Rows.{rows, past, find}
+use Rattle.dictionary.specs.Named.{placeOf}
 use Rattle.dictionary.specs.Form.{digitsFit, fitting}
 use Rattle.store.specs.Place.{offsetIn, placeAt, held, valueAt, putAt, valueIn}
 use Rattle.reading.specs.Taking.{items, mayStand, mayCome, allowed, takeItem, takeNext, takeAll}
@@ -36,5 +37,5 @@ unfolding readBody bodyOf headerOf tagAt tagSize lengthAt firstByte isTemplate i
 results-sent = refl
 
 pub version : Stored (recordBody (0x70 ∷ 0x05 ∷ 0x9F ∷ 0x08 ∷ 0x02 ∷ 0x00 ∷ 0x02 ∷ []))
-unfolding readBody bodyOf headerOf tagAt tagSize secondByte lengthAt firstByte isTemplate isPrivate numberFrom if both parse recurse recurseBy nextOf withLeaf count templateParts items takeAll takeNext takeItem rows past find allowed mayCome mayStand fitting digitsFit offsetIn placeAt held valueAt putAt valueIn
-version = record { reason = refl; objects = refl; version = refl }
+unfolding readBody bodyOf headerOf tagAt tagSize secondByte lengthAt firstByte isTemplate isPrivate numberFrom if both parse recurse recurseBy nextOf withLeaf count templateParts items takeAll takeNext takeItem rows past find placeOf allowed mayCome mayStand fitting digitsFit offsetIn placeAt held valueAt putAt valueIn
+version = record { whole = refl; version = refl }

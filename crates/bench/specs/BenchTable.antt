@@ -6,7 +6,8 @@ use mathlib.Core.Option.{some}
 use Prim.Native.Nat.{ℕ, _≤_}
 use lib.ListN.{length, drop}
 use Rattle.dictionary.specs.Rows.{rows}
-use Rattle.store.specs.Place.{absent, present, valueOf}
+use Rattle.dictionary.specs.Named.{placeOf}
+use Rattle.store.specs.Place.{absent, present, valueOf, putAt}
 use Rattle.reading.specs.declared.Awaited.{Awaited}
 use Rattle.reading.specs.Answer.{Outcome, outcome, readBody}
 use Rattle.data_list.specs.Filling.{filled}
@@ -28,11 +29,17 @@ nothing = stored freshSession
 abbrev pub recordBody : List ℕ → Outcome
 recordBody s = readBody (Awaited.Record (record { number = 1 })) nothing s
 
--- two objects are counted, and 9F08 is stored
+-- a version of the card's application, and the store that holds it alone
+abbrev pub cardVersion : List ℕ
+cardVersion = 0x00 ∷ 0x02 ∷ []
+
+abbrev pub versionAlone : List ℕ
+versionAlone = putAt rows nothing (placeOf 0x9F08) cardVersion
+
+-- two objects are counted; 9F08 is stored, and all else stays absent
 pub record Stored (o : Outcome) : Type 0 where
-  pub reason : o .reason ≡ 0
-  pub objects : o .objects ≡ 2
-  pub version : valueOf (o .store) 0x9F08 ≡ present (0x00 ∷ 0x02 ∷ [])
+  pub whole : o ≡ outcome 0 2 versionAlone
+  pub version : valueOf (o .store) 0x9F08 ≡ present cardVersion
 
 -- a step hands out a command: its length, and its bytes at the front of the buffer
 pub record HandsOut (command buffer : List ℕ) (s : Step) : Type 0 where

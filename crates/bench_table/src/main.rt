@@ -1,4 +1,4 @@
-// Every row of the bench table, run through the calls: a line for each.
+// Every row of the bench table, run through the calls, and the object count of further answers: a line for each.
 use reading::{Awaited, File};
 use record::{Reply, Session};
 
@@ -7,6 +7,7 @@ const PLAIN: usize = 85;
 
 fn main() {
     record_rows();
+    count_rows();
     options_rows();
     result_rows();
 }
@@ -71,26 +72,77 @@ fn record_rows() {
 fn record_row(card: &[u8]) {
     show::text(b"answer");
     show::bytes(card);
-    show_reading(card);
-    let session = answered(started(0x22, 1), b"\x80\x06\x00\x80\x08\x01\x02\x00\x90\x00");
+    show_reading(Awaited::Record(File { number: 1 }), card);
+    show::text(b", ");
+    let session = answered(
+        started(0x22, 1),
+        b"\x80\x06\x00\x80\x08\x01\x02\x00\x90\x00",
+    );
     show_answered(session, card);
 }
 
 // What a reading into an empty store says and leaves.
-fn show_reading(card: &[u8]) {
+fn show_reading(awaited: Awaited, card: &[u8]) {
     let before = store::empty();
     let mut after = before.bytes;
-    let read = reading::read_answer(&mut after, Awaited::Record(File { number: 1 }), card);
+    let read = reading::read_answer(&mut after, awaited, card);
     let verdict = read.verdict;
     show::text(b": reason ");
     show::number(basics::wide(reading::number(verdict)));
     show::text(b", objects ");
     show::number(read.objects);
     if check::same(&before.bytes, &after) {
-        show::text(b", store kept, ");
+        show::text(b", store kept");
     } else {
-        show::text(b", stored, ");
+        show::text(b", stored");
     }
+}
+
+// ---- object counts of all three answers: under 80, with a wrong outer tag, and where nothing is counted
+
+fn count_rows() {
+    options_count(b"\x80\x06\x00\x80\x08\x01\x01\x00\x90\x00");
+    options_count(b"\x80\x05\x00\x80\x08\x01\x01\x90\x00");
+    options_count(b"\x80\x08\x00\x80\x08\x01\x01\x00\x08\x02\x90\x00");
+    options_count(b"\x77\x0A\x82\x02\x00\x80\x94\x04\x08\x01\x01\x00\x90\x00");
+    options_count(b"\x70\x0A\x82\x02\x00\x80\x94\x04\x08\x01\x01\x00\x90\x00");
+    options_count(b"\x82\x02\x00\x80\x90\x00");
+    record_count(1, b"\x80\x06\x00\x80\x08\x01\x01\x00\x90\x00");
+    record_count(1, b"\x77\x05\x9F\x08\x02\x00\x02\x90\x00");
+    record_count(1, b"\xE1\x08\xE1\x06\x95\x00\xE1\x02\x57\x00\x90\x00");
+    record_count(1, b"\xE1\x08\xE1\x06\xE1\x04\xE1\x02\xE1\x00\x90\x00");
+    record_count(1, b"\x70\x00\x69\x85");
+    record_count(10, b"\x70\x00\x90\x00");
+    record_count(11, b"\x70\x00\x90\x00");
+    cryptogram_count(b"\x80\x0B\x40\x00\x01\x01\x02\x03\x04\x05\x06\x07\x08\x90\x00");
+    cryptogram_count(b"\x80\x0C\x40\x00\x01\x01\x02\x03\x04\x05\x06\x07\x08\x0A\x90\x00");
+    cryptogram_count(b"\x80\x0A\x40\x00\x01\x01\x02\x03\x04\x05\x06\x07\x90\x00");
+    cryptogram_count(b"\x77\x04\x9F\x27\x01\x40\x90\x00");
+    cryptogram_count(b"\x70\x06\xA5\x04\x9F\x27\x01\x40\x90\x00");
+}
+
+fn options_count(card: &[u8]) {
+    show::text(b"options");
+    count_row(Awaited::Options, card);
+}
+
+fn record_count(file: u8, card: &[u8]) {
+    show::text(b"record of file ");
+    show::number(basics::wide(file));
+    show::text(b":");
+    count_row(Awaited::Record(File { number: file }), card);
+}
+
+fn cryptogram_count(card: &[u8]) {
+    show::text(b"cryptogram");
+    count_row(Awaited::Cryptogram, card);
+}
+
+// One answer, and its reading into an empty store.
+fn count_row(awaited: Awaited, card: &[u8]) {
+    show::bytes(card);
+    show_reading(awaited, card);
+    show::text(b"\n");
 }
 
 // ---- the first commands
@@ -120,21 +172,48 @@ fn amount_row(asked: u8) {
 
 fn result_rows() {
     show::text(b"95 asked at 3: ");
-    result_row(0x22, 0, b"\x70\x14\x5F\x24\x03\x30\x12\x31\x5A\x08\x47\x61\x73\x90\x01\x01\x00\x10\x8C\x02\x95\x03\x90\x00");
+    result_row(
+        0x22,
+        0,
+        b"\x70\x14\x5F\x24\x03\x30\x12\x31\x5A\x08\x47\x61\x73\x90\x01\x01\x00\x10\x8C\x02\x95\x03\x90\x00",
+    );
     show::text(b"95 asked at 6: ");
-    result_row(0x22, 0, b"\x70\x14\x5F\x24\x03\x30\x12\x31\x5A\x08\x47\x61\x73\x90\x01\x01\x00\x10\x8C\x02\x95\x06\x90\x00");
+    result_row(
+        0x22,
+        0,
+        b"\x70\x14\x5F\x24\x03\x30\x12\x31\x5A\x08\x47\x61\x73\x90\x01\x01\x00\x10\x8C\x02\x95\x06\x90\x00",
+    );
     show::text(b"type 22, no 9F0F: ");
-    result_row(0x22, 1, b"\x70\x14\x5F\x24\x03\x30\x12\x31\x5A\x08\x47\x61\x73\x90\x01\x01\x00\x10\x8C\x02\x95\x05\x90\x00");
+    result_row(
+        0x22,
+        1,
+        b"\x70\x14\x5F\x24\x03\x30\x12\x31\x5A\x08\x47\x61\x73\x90\x01\x01\x00\x10\x8C\x02\x95\x05\x90\x00",
+    );
     show::text(b"type 22, zero 9F0F: ");
-    result_row(0x22, 1, b"\x70\x1C\x5F\x24\x03\x30\x12\x31\x5A\x08\x47\x61\x73\x90\x01\x01\x00\x10\x8C\x02\x95\x05\x9F\x0F\x05\x00\x00\x00\x00\x00\x90\x00");
+    result_row(
+        0x22,
+        1,
+        b"\x70\x1C\x5F\x24\x03\x30\x12\x31\x5A\x08\x47\x61\x73\x90\x01\x01\x00\x10\x8C\x02\x95\x05\x9F\x0F\x05\x00\x00\x00\x00\x00\x90\x00",
+    );
     show::text(b"type 23, no 9F0D: ");
-    result_row(0x23, 1, b"\x70\x14\x5F\x24\x03\x30\x12\x31\x5A\x08\x47\x61\x73\x90\x01\x01\x00\x10\x8C\x02\x95\x05\x90\x00");
+    result_row(
+        0x23,
+        1,
+        b"\x70\x14\x5F\x24\x03\x30\x12\x31\x5A\x08\x47\x61\x73\x90\x01\x01\x00\x10\x8C\x02\x95\x05\x90\x00",
+    );
     show::text(b"8C of 95 05: ");
-    result_row(0x22, 1, b"\x70\x14\x5F\x24\x03\x30\x12\x31\x5A\x08\x47\x61\x73\x90\x01\x01\x00\x10\x8C\x02\x95\x05\x90\x00");
+    result_row(
+        0x22,
+        1,
+        b"\x70\x14\x5F\x24\x03\x30\x12\x31\x5A\x08\x47\x61\x73\x90\x01\x01\x00\x10\x8C\x02\x95\x05\x90\x00",
+    );
 }
 
 // A session's only record, shown with the command for the cryptogram.
 fn result_row(kind: u8, floor: u8, card: &[u8]) {
-    let session = answered(started(kind, floor), b"\x80\x06\x00\x80\x08\x01\x01\x00\x90\x00");
+    let session = answered(
+        started(kind, floor),
+        b"\x80\x06\x00\x80\x08\x01\x01\x00\x90\x00",
+    );
     show_answered(session, card);
 }

@@ -16,8 +16,8 @@ use Rattle.tlv.proofs.Laws.{Bytes}
 use Rattle.dictionary.specs.Rows.{Row, rowIn, find, formN, formCn}
 use Rattle.dictionary.specs.declared.Found.{Found}
 use Rattle.dictionary.specs.declared.Found.the-variants.{At, Unknown}
-use Rattle.store.specs.Place.{Value, absent, present, bytesOf, offsetIn, storedLength, valueAt}
-use Rattle.store.proofs.Laws.{value-bytes, no-place}
+use Rattle.store.specs.Place.{Value, absent, present, bytesOf, offsetIn, valueAt}
+use Rattle.store.proofs.Laws.{storedLength, value-bytes, no-place}
 use Rattle.data_list.specs.declared.Entry.{Entry}
 use Rattle.data_list.specs.Filling.{zeros, cut, padding, padded, fitted, valueBytes, foundBytes, entryBytes, fillingOf, filledBy}
 

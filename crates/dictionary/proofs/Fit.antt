@@ -3,10 +3,8 @@ use mathlib.Core.Path.{_≡_, ap, _∙_}
 use mathlib.Core.Bool.{Bool, true, false}
 use mathlib.Core.List.{List}
 use Prim.Native.Nat.{ℕ, _≤_, _<_}
-use lib.Dec.{leb, eqb}
 use lib.ListN.{length}
 use borrow.Author.Tests.{le-leb, lt-leb, eq-eqb, ne-eqb, leb-true}
-use Rattle.basics.specs.Choice.{both}
 use Rattle.basics.proofs.Laws.{if-yes, if-no, both-true, both-left, both-right, both-no-left}
 use Rattle.dictionary.specs.declared.Attributes.{Attributes}
 use Rattle.dictionary.specs.Rows.{Row, formN, formCn}

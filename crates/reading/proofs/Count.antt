@@ -2,29 +2,29 @@
 -- tree at three; bytes behind that object are objects of their own or malformed.
 -- Assumes nothing.
 use mathlib.Core.Path.{_≡_, refl, sym, ap, _∙_}
-use mathlib.Core.Bool.{Bool, true, false}
-use mathlib.Core.Logic.{_⊎_, inl, inr}
-use mathlib.Core.List.{List, [], _∷_}
+use mathlib.Core.Bool.{true, false}
+use mathlib.Core.Logic.{inl, inr}
+use mathlib.Core.List.{List, []}
 use mathlib.Core.Option.{Option, some, none}
 use Prim.Native.Nat.{ℕ, _+_, _-_, _≤_}
 use native.Mathlib.Omega.{arith}
-use lib.ListN.{length, take, drop, length-drop, drop-of-length-le}
-use Rattle.basics.specs.Choice.{if, both}
+use lib.ListN.{length, take, length-drop, drop-of-length-le}
+use Rattle.basics.specs.Choice.{if}
 use Rattle.basics.proofs.Laws.{if-yes, if-no, if-ind, bool-cases, both-true, both-no-left}
 use Rattle.basics.proofs.Order.{equal-or-not}
 use Rattle.tlv.specs.declared.Header.{Header}
 use Rattle.tlv.specs.declared.Front.{Front}
 use Rattle.tlv.specs.declared.Front.the-variants.{Object, Broken}
 use Rattle.tlv.specs.Object.{headerOf, valueIn, behind}
-use Rattle.tlv.specs.Tree.{Forest, end, leaf, node, count, withLeaf, withNode, parse}
+use Rattle.tlv.specs.Tree.{Forest, end, count, withLeaf, withNode, parse}
 use Rattle.tlv.proofs.Laws.{header-fits}
 use Rattle.tlv.proofs.NextObject.{next-empty, next-front, next-end, next-object}
 use Rattle.tlv.proofs.Tree.{parse-end, parse-malformed, parse-leaf, parse-node, parse-ind}
 use Rattle.reading.specs.declared.Awaited.{Awaited}
 use Rattle.reading.specs.declared.Reading.{Reading}
 use Rattle.reading.specs.Taking.{Item}
-use Rattle.reading.specs.Answer.{Outcome, Gives, Body, primitive, template, templateBody, bodyOf, bodyCount, partsOf, takenParts, readTree, readBody, isRead, goodStatus, goodLength, readAnswer}
-use Rattle.reading.specs.Count.{isEnd, isOne, oneCount, bodyObjects, answerObjects}
+use Rattle.reading.specs.Answer.{Outcome, Gives, Body, template, templateBody, bodyOf, bodyCount, partsOf, takenParts, readTree, readBody, readAnswer}
+use Rattle.reading.specs.Count.{isEnd, oneCount, bodyObjects, answerObjects}
 use Rattle.reading.proofs.Parts.{body-broken, body-behind, body-template, body-primitive}
 
 -- ---- bytes behind an object

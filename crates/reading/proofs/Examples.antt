@@ -6,7 +6,7 @@ use Prim.Native.Nat.{ℕ}
 use lib.ListN.{replicate}
 use Rattle.basics.specs.Choice.{if, both}
 use Rattle.basics.specs.Number.{numberFrom}
-use Rattle.tlv.specs.Tag.{tagSize, secondByte, thirdByte, tagAt, firstByte, isTemplate, isPrivate}
+use Rattle.tlv.specs.Tag.{tagSize, secondByte, tagAt, firstByte, isTemplate, isPrivate}
 use Rattle.tlv.specs.Length.{lengthAt, oneByte}
 use Rattle.tlv.specs.Object.{headerOf}
 use Rattle.tlv.specs.Tree.{count, nextOf, withLeaf, withNode, parseBy, parse}

@@ -4,14 +4,10 @@ use mathlib.Core.Bool.{Bool, true, false}
 use mathlib.Core.List.{List, [], _∷_}
 use mathlib.Core.Option.{Option, some, none}
 use Prim.Native.Nat.{ℕ, _+_, _-_, _%_, _≤_, _<_}
-use native.Mathlib.Omega.{arith}
-use lib.Dec.{leb, eqb}
 use lib.ListN.{length, take, drop}
 use borrow.Author.Tests.{eq-eqb, ne-eqb, le-leb, lt-leb}
-use Rattle.basics.specs.Choice.{both}
-use Rattle.basics.proofs.Laws.{if-yes, if-no, both-yes, both-true, both-no-left, both-no-right}
+use Rattle.basics.proofs.Laws.{if-yes, if-no, both-yes, both-no-left, both-no-right}
 use Rattle.tlv.specs.declared.Header.{Header}
-use Rattle.tlv.specs.declared.Front.{Front}
 use Rattle.tlv.specs.declared.Front.the-variants.{Object, Broken}
 use Rattle.tlv.specs.Object.{headerOf, valueIn}
 use Rattle.tlv.specs.Tree.{Forest, count, parse}
@@ -21,9 +17,8 @@ use Rattle.reading.specs.declared.Awaited.the-variants.{Options, Record,
 use Rattle.reading.specs.declared.Verdict.{Verdict}
 use Rattle.reading.specs.declared.Reading.{Reading}
 use Rattle.reading.specs.declared.Tally.{Tally}
-use Rattle.reading.specs.declared.Contents.{Contents}
 use Rattle.reading.specs.declared.Contents.the-variants as contents
-use Rattle.reading.specs.Taking.{Item, item, items, Work, work, takeAll}
+use Rattle.reading.specs.Taking.{item, items, Work, work, takeAll}
 use Rattle.reading.specs.Inner.{made, tally, Leaves}
 use Rattle.reading.specs.Answer.{numberOf, Outcome, outcome, Gives, Body, primitive, template, templateBody, frontBody, bodyOf, answerBit, templateTag, optionsParts, issuerPart, cryptogramParts, primitiveParts, templateParts, judged, takenParts, readTree, readBody, isRead, goodStatus, goodLength, readAnswer}
 use Rattle.reading.proofs.Walk.{whole-broken}

@@ -1,21 +1,21 @@
 -- A run of objects, one at a time: what is left of the run after an object says what the whole run says. From the parse's laws.
 -- Assumes nothing.
 use mathlib.Core.Path.{_≡_, refl, sym, ap, ap₂, subst, _∙_}
-use mathlib.Core.Bool.{Bool, true, false}
-use mathlib.Core.List.{List, [], _∷_, _++_}
+use mathlib.Core.Bool.{true, false}
+use mathlib.Core.List.{List, []}
 use mathlib.Core.Option.{Option, some, none}
-use Prim.Native.Nat.{ℕ, _+_, _-_, _*_, _≤_, _<_}
+use Prim.Native.Nat.{ℕ, _+_, _-_, _*_, _≤_}
 use native.Mathlib.Omega.{arith}
-use lib.ListN.{length, take, drop, length-take, length-drop}
+use lib.ListN.{length, drop, length-take, length-drop}
 use Rattle.tlv.specs.declared.Header.{Header}
 use Rattle.tlv.specs.declared.Following.the-variants.{End, Inner, Malformed}
-use Rattle.tlv.specs.Tree.{Forest, end, leaf, node, count, nextOf, withLeaf, withNode, parse}
+use Rattle.tlv.specs.Tree.{Forest, end, count, nextOf, withLeaf, withNode, parse}
 use Rattle.tlv.proofs.Laws.{HeaderFits, contents, contents-is, tail, tail-is}
 use Rattle.tlv.proofs.Tree.{parse-end, parse-malformed, parse-deep, parse-node, parse-leaf}
 use Rattle.reading.specs.declared.Tally.{Tally}
 use Rattle.reading.specs.declared.Contents.{Contents}
 use Rattle.reading.specs.declared.Contents.the-variants.{Whole, Broken}
-use Rattle.reading.specs.Taking.{Work, work, Item, item, items, takeNext, takeAll}
+use Rattle.reading.specs.Taking.{Work, work, item, items, takeNext, takeAll}
 use Rattle.reading.specs.Inner.{tally, Has, Leaves}
 use Rattle.reading.proofs.Laws.{take-join}
 

@@ -13,7 +13,7 @@ use Rattle.basics.specs.Reason.{reasonNone, reasonStatus, reasonMalformed, reas
 use Rattle.tlv.specs.declared.Front.{Front}
 use Rattle.tlv.specs.declared.Front.the-variants.{Object, Broken}
 use Rattle.tlv.specs.Object.{headerOf, valueIn}
-use Rattle.tlv.specs.Tree.{Forest, end, count, parse}
+use Rattle.tlv.specs.Tree.{Forest, count, parse}
 use Rattle.dictionary.specs.Rows.{options, cardRecord, cryptogram}
 use Rattle.reading.specs.declared.Awaited.{Awaited}
 use Rattle.reading.specs.declared.Awaited.the-variants.{Options, Record, Cryptogram}

@@ -15,7 +15,7 @@ use Rattle.reading.specs.declared.Reading.{Reading}
 use Rattle.reading.specs.declared.Tally.{Tally}
 use Rattle.reading.specs.declared.Contents.{Contents}
 use Rattle.reading.specs.declared.Contents.the-variants.{Whole, Broken}
-use Rattle.reading.specs.Taking.{Work, work, items, takeAll}
+use Rattle.reading.specs.Taking.{Work, items, takeAll}
 
 -- ---- the working copy
 

@@ -121,28 +121,28 @@ fn outcome_words(outcome: Outcome) {
 fn reason_words(reason: u8) {
     match reason {
         0 => text(b"none"),
-        1 => text(b"status bytes other than 90 00"),
-        2 => text(b"malformed answer"),
-        3 => text(b"object not allowed"),
-        4 => text(b"object missing"),
-        5 => text(b"file locator"),
-        6 => text(b"amount above transaction limit"),
-        7 => text(b"data object list"),
-        8 => text(b"cryptogram type"),
-        9 => text(b"link failed"),
-        10 => text(b"stopped"),
-        11 => text(b"not EMV mode"),
+        1 => text(b"status of the card is not 90 00"),
+        2 => text(b"answer is malformed"),
+        3 => text(b"object that the card may not set so"),
+        4 => text(b"mandatory object not sent by the card"),
+        5 => text(b"Application File Locator breaks a rule"),
+        6 => text(b"amount over the reader's transaction limit"),
+        7 => text(b"PDOL or CDOL1 cannot be filled"),
+        8 => text(b"cryptogram of a type not asked for"),
+        9 => text(b"no link to the card"),
+        10 => text(b"stopped by the terminal"),
+        11 => text(b"card without EMV mode"),
         _ => text(b"unknown"),
     }
 }
 
 fn refusal_words(number: u8) {
     match number {
-        20 => text(b"start bytes are not whole primitive objects"),
+        20 => text(b"more than 1,024 start bytes, or other than whole primitive objects"),
         21 => text(b"wrong phase"),
-        22 => text(b"command buffer under 261 bytes"),
+        22 => text(b"command buffer shorter than 261 bytes"),
         23 => text(b"start object not allowed"),
-        24 => text(b"start object missing"),
+        24 => text(b"mandatory start object missing"),
         25 => text(b"session record out of its ranges"),
         _ => text(b"unknown"),
     }

@@ -40,7 +40,7 @@ type Pair = [[u8; 5]; 2];
 
 /// The terminal verification results after the last record.
 ///
-/// The store holds what a start must bring, and 5F24. Amounts and dates are digits, so their bytes compare as numbers.
+/// The store holds the mandatory objects of a start, and 5F24. Amounts and dates are digits, so their bytes compare as numbers.
 pub fn result_bits(store: &Store) -> [u8; 5] {
     let value = |object| store::get(store, object);
     let date = value(Object::TransactionDate);

@@ -4,7 +4,7 @@ use crate::dictionary::{Form, Object};
 use crate::store::{self, Store};
 use crate::tlv::{self, Tag};
 
-/// Splits one entry off the front: a tag and one plain length byte.
+/// Splits one entry off the front: a tag and a length of one byte.
 fn split_entry(list: &[u8]) -> Option<(Tag, usize, &[u8])> {
     let (tag, rest) = tlv::split_tag(list)?;
     let (&length, rest) = rest.split_first()?;
@@ -40,7 +40,8 @@ pub fn fill(store: &Store, mut list: &[u8], mut out: &mut [u8]) {
 
 /// Brings a value to the length of its field.
 ///
-/// Too long: n loses leftmost bytes, else rightmost. Too short: n gains leading zeros, cn trailing FF, b trailing zeros.
+/// A number keeps its last digits and is padded in front. All else keeps its first bytes and is padded behind:
+/// with FF for cn, with 00 for b.
 pub fn fill_field(form: Form, value: &[u8], field: &mut [u8]) {
     let kept = value.len().min(field.len());
     if form == Form::Numeric {

@@ -1,6 +1,6 @@
 //! The table of known tags (document 01, "Dictionary").
 
-/// Bytes of the store: one place for each tag, all at their largest size at once.
+/// Bytes of the store: one place for each tag, with room for its greatest length.
 pub const STORE_SIZE: usize = 943;
 
 /// Form of a value.
@@ -8,7 +8,7 @@ pub const STORE_SIZE: usize = 943;
 pub enum Form {
     /// n: every nibble is a digit.
     Numeric,
-    /// cn: any digits, then any Fs.
+    /// cn: digits from the left, and F from there to the end.
     CompressedNumeric,
     /// b: any bytes.
     Binary,
@@ -175,7 +175,7 @@ impl Object {
     }
 }
 
-/// The objects that a start must bring.
+/// The mandatory objects of a start.
 pub const REQUIRED_AT_START: [Object; 12] = [
     Object::TransactionDate,
     Object::TransactionType,

@@ -5,6 +5,7 @@
 //!
 //! - `tlv`: one object at the front of some bytes
 //! - `dictionary`, `store`: the known tags, and one fixed place for each
+//! - `reason`: why a session ends early, and with which outcome
 //! - `reading`: a card's answer into a store, whole or not at all
 //! - `data_list`, `locator`, `analysis`: data object lists, the file locator, result bits and choice
 //! - `session`: the session record, its ranges and its steps
@@ -17,6 +18,7 @@ pub mod data_list;
 pub mod dictionary;
 pub mod locator;
 pub mod reading;
+pub mod reason;
 pub mod session;
 pub mod store;
 pub mod tlv;
@@ -24,7 +26,8 @@ pub mod tlv;
 pub use dictionary::STORE_SIZE;
 pub use session::{COMMAND_SIZE, SESSION_SIZE};
 
-use session::{Reason, Refusal, Reply, Session};
+use reason::Reason;
+use session::{Refusal, Reply, Session};
 use store::Store;
 
 /// What `count` gives where the bytes hold no record.
@@ -81,7 +84,7 @@ pub fn count(session: &[u8]) -> u32 {
 
 /// Reads one record's answer, status bytes included, into a store that keeps its ranges.
 ///
-/// Gives the reason (0 if none) and the number of objects visited. Of files 11 to 30 only the status is read.
+/// Gives the reason (0 if none) and the number of objects in the answer's tree. Above file 10 the status alone counts.
 pub fn read_record(store: &mut Store, file: u8, answer: &[u8]) -> (u8, u32) {
     let record = locator::Record { file, number: 1 };
     match reading::body(answer) {

@@ -10,7 +10,7 @@ pub struct Record {
 }
 
 impl Record {
-    /// Files 1 to 10 are read; of files 11 to 30 only the status is read.
+    /// Whether the record's objects are taken: those of files 1 to 10 are. Above that the status alone counts.
     pub fn is_read(self) -> bool {
         self.file <= 10
     }

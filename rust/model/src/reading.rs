@@ -1,11 +1,11 @@
 //! Reading a card's answer into a store, whole or not at all (document 01, "Reading an answer").
 
 use crate::dictionary::{Object, Setter};
-use crate::session::Reason;
+use crate::reason::Reason;
 use crate::store::{self, Store};
 use crate::tlv::{self, Tag};
 
-/// Templates nest this deep, the outer one counted.
+/// The greatest depth of templates; the outer one is the first.
 const LEVELS: u32 = 4;
 
 /// The command that an answer belongs to.
@@ -13,13 +13,13 @@ const LEVELS: u32 = 4;
 pub enum AnswerTo {
     /// GET PROCESSING OPTIONS.
     Options,
-    /// READ RECORD of a file that is read (1 to 10).
+    /// READ RECORD of a file whose objects are taken (1 to 10).
     Record,
     /// GENERATE AC.
     Cryptogram,
 }
 
-/// What a reading gives: nothing or the reason it ended with, and how many objects it visited.
+/// What a reading gives: nothing or the reason it ended with, and the number of objects in the answer's tree.
 pub type Reading = (Result<(), Reason>, u32);
 
 /// The answer without its status bytes. The length is tested first, then the status.

@@ -5,6 +5,7 @@ use crate::data_list;
 use crate::dictionary::{self, Object, Setter, REQUIRED_AT_START, STORE_SIZE};
 use crate::locator;
 use crate::reading::{self, AnswerTo};
+use crate::reason::{self, Outcome, Reason};
 use crate::store::{self, Store};
 use crate::tlv;
 
@@ -20,73 +21,19 @@ pub const COMMAND_SIZE: usize = 261;
 /// Version of the record's layout.
 const VERSION: u8 = 1;
 
-/// Why a running session ends early (document 01, reasons 1 to 11).
-#[derive(Clone, Copy, Debug, PartialEq, Eq)]
-#[repr(u8)]
-pub enum Reason {
-    /// Status bytes other than 90 00.
-    Status = 1,
-    /// Malformed answer.
-    Malformed = 2,
-    /// Object not allowed.
-    NotAllowed = 3,
-    /// Object missing.
-    Missing = 4,
-    /// File locator.
-    Locator = 5,
-    /// Amount above transaction limit.
-    Limit = 6,
-    /// Data object list.
-    DataList = 7,
-    /// Cryptogram type.
-    CryptogramType = 8,
-    /// Link failed.
-    LinkFailed = 9,
-    /// Stopped.
-    Stopped = 10,
-    /// Not EMV mode.
-    NotEmvMode = 11,
-}
-
-impl Reason {
-    /// The outcome that goes with the reason.
-    fn outcome(self) -> Outcome {
-        match self {
-            Reason::Limit => Outcome::SelectNext,
-            _ => Outcome::Ended,
-        }
-    }
-}
-
-/// How a session ends.
-#[derive(Clone, Copy, Debug, PartialEq, Eq)]
-#[repr(u8)]
-pub enum Outcome {
-    /// Approved offline.
-    Approved = 0,
-    /// Online request.
-    OnlineRequest = 1,
-    /// Declined.
-    Declined = 2,
-    /// Ended with a reason.
-    Ended = 3,
-    /// Select next, with reason 6.
-    SelectNext = 4,
-}
-
 /// A call that is refused changes nothing (document 01, refusals 20 to 25).
 #[derive(Clone, Copy, Debug, PartialEq, Eq)]
 #[repr(u8)]
 pub enum Refusal {
-    /// Start bytes too long or not a run of whole primitive objects.
+    /// More than 1,024 start bytes, or bytes other than whole primitive objects.
     StartBytes = 20,
-    /// Call not in order.
+    /// A start once the session has begun, or another call before it has or after its end.
     Order = 21,
     /// Command buffer too short.
     Buffer = 22,
-    /// A start object that is not allowed.
+    /// A start object of the dictionary that a start may not set so.
     StartObject = 23,
-    /// An object that a start must bring is absent.
+    /// A mandatory object of a start is missing.
     StartMissing = 24,
     /// The bytes hold no session record within its ranges.
     Record = 25,
@@ -95,7 +42,7 @@ pub enum Refusal {
 /// What a call hands back when it is not refused.
 #[derive(Clone, Copy, Debug, PartialEq, Eq)]
 pub enum Reply {
-    /// A command of this length fills the front of the buffer.
+    /// A command of this length stands at the front of the buffer.
     Command(usize),
     /// The session has ended; a decision has reason 0.
     Outcome(Outcome, u8),
@@ -107,7 +54,7 @@ enum Phase {
     Fresh,
     /// Waiting on the answer to GET PROCESSING OPTIONS.
     Options,
-    /// Waiting on the k-th record.
+    /// Waiting on the answer for the k-th record.
     Record(u8),
     /// Waiting on the answer to GENERATE AC.
     Cryptogram(Choice),
@@ -186,13 +133,7 @@ impl<'a> Session<'a> {
         match self.phase {
             Phase::Fresh => self.count == 0 && *store == [0; STORE_SIZE],
             Phase::Ended { outcome, reason } => {
-                let outcome_goes = match reason {
-                    0 => outcome <= 2,
-                    6 => outcome == 4,
-                    1..=11 => outcome == 3,
-                    _ => false,
-                };
-                self.count <= 130 && outcome_goes && store::fits(store)
+                self.count <= 130 && reason::go_together(outcome, reason) && store::fits(store)
             }
             Phase::Options => {
                 self.count == 1
@@ -272,7 +213,7 @@ impl<'a> Session<'a> {
         reply
     }
 
-    /// GET PROCESSING OPTIONS: 80 A8 00 00 Lc, 83 length filled 9F38, 00.
+    /// GET PROCESSING OPTIONS: its data are the values that the PDOL asks for, under tag 83.
     fn ask_options(&mut self, command: &mut [u8]) -> Result<Reply, Reason> {
         let list = store::get(self.store, Object::Pdol).unwrap_or_default();
         let length = data_list::filled_length(list)
@@ -309,7 +250,7 @@ impl<'a> Session<'a> {
         self.ask_record(1, command)
     }
 
-    /// READ RECORD for the k-th record: 00 B2 record, file x 8 + 4, 00.
+    /// READ RECORD for the k-th record: P1 is its number, P2 has its file as a short file identifier.
     fn ask_record(&mut self, k: u32, command: &mut [u8]) -> Result<Reply, Reason> {
         let record = self.record(k)?;
         command[..5].copy_from_slice(&[0x00, 0xB2, record.number, record.file << 3 | 0x04, 0x00]);
@@ -450,7 +391,7 @@ fn results_zero(store: &Store) -> bool {
     store::get(store, Object::VerificationResults) == Some(&[0; 5])
 }
 
-/// The number of records, if 82 has byte 2 b8 set and the locator keeps the rules.
+/// The number of records of a card in EMV mode whose locator keeps the rules.
 fn records_of_emv_card(store: &Store) -> Option<u32> {
     let &[_, profile] = store::get_fixed(store, Object::InterchangeProfile)?;
     if profile & 0x80 == 0 {

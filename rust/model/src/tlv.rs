@@ -9,18 +9,18 @@ pub struct Tag {
 }
 
 impl Tag {
-    /// Bit b6 of the first byte marks a template.
+    /// Constructed: b6 of the first byte is set.
     pub fn is_template(self) -> bool {
         self.first & 0x20 != 0
     }
 
-    /// Private class: the two top bits of the first byte are set.
+    /// Private class: b8 and b7 of the first byte are both set.
     pub fn is_private(self) -> bool {
         self.first & 0xC0 == 0xC0
     }
 }
 
-/// Splits a tag of 1 to 3 bytes off the front. 00 as first byte, 80 as second and a fourth byte are refused.
+/// Splits a tag off the front; none if it begins with 00, if its number begins with 80, or if it goes on past three bytes.
 pub fn split_tag(bytes: &[u8]) -> Option<(Tag, &[u8])> {
     let (&first, rest) = bytes.split_first()?;
     let mut number = u32::from(first);

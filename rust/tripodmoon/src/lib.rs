@@ -9,7 +9,7 @@
 //!
 //! let mut session = Session::new();
 //! let mut buffer = [0; COMMAND_SIZE];
-//! // An empty start lacks the objects that a start must bring.
+//! // An empty start lacks every mandatory object.
 //! assert_eq!(session.start(&[], &mut buffer), Reply::Refused(24));
 //! assert_eq!(session.count(), Some(0));
 //! ```
@@ -80,47 +80,47 @@ impl fmt::Display for Outcome {
 /// What a call hands back. `'b` is the time the command buffer is lent for.
 #[derive(Clone, Copy, Debug, PartialEq, Eq)]
 pub enum Reply<'b> {
-    /// A command to send to the card: the front of the lent buffer.
+    /// A command to send to the card. It stands at the front of the buffer.
     Command(&'b [u8]),
     /// The session has ended.
     Outcome {
         /// How it ended.
         outcome: Outcome,
-        /// 0 with approved, online request and declined; else 1 to 11 (see [`reason_text`]).
+        /// 0 where a decision was reached, else 1 to 11 (see [`reason_text`]).
         reason: u8,
     },
     /// The call was refused, 20 to 25 (see [`refusal_text`]); session and buffer are as before.
     Refused(u8),
 }
 
-/// What a reason means; 0 is no reason.
+/// What a reason means; 0 is none. The words are those of the program `replay`.
 pub fn reason_text(reason: u8) -> &'static str {
     match reason {
         0 => "none",
-        1 => "status bytes other than 90 00",
-        2 => "malformed answer",
-        3 => "object not allowed",
-        4 => "object missing",
-        5 => "file locator",
-        6 => "amount above transaction limit",
-        7 => "data object list",
-        8 => "cryptogram type",
-        9 => "link failed",
-        10 => "stopped",
-        11 => "not EMV mode",
+        1 => "status of the card is not 90 00",
+        2 => "answer is malformed",
+        3 => "object that the card may not set so",
+        4 => "mandatory object not sent by the card",
+        5 => "Application File Locator breaks a rule",
+        6 => "amount over the reader's transaction limit",
+        7 => "PDOL or CDOL1 cannot be filled",
+        8 => "cryptogram of a type not asked for",
+        9 => "no link to the card",
+        10 => "stopped by the terminal",
+        11 => "card without EMV mode",
         _ => "unknown reason",
     }
 }
 
-/// What a refusal means.
+/// What a refusal means, in the same words as `replay`.
 pub fn refusal_text(number: u8) -> &'static str {
     match number {
-        20 => "start bytes over 1,024 or not a run of whole primitive objects",
-        21 => "call not in order",
-        22 => "command buffer under 261 bytes",
+        20 => "more than 1,024 start bytes, or other than whole primitive objects",
+        21 => "wrong phase",
+        22 => "command buffer shorter than 261 bytes",
         23 => "start object not allowed",
-        24 => "an object that a start must bring is absent",
-        25 => "no session record within its ranges",
+        24 => "mandatory start object missing",
+        25 => "session record out of its ranges",
         _ => "unknown refusal",
     }
 }

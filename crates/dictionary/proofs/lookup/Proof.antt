@@ -1,9 +1,9 @@
 -- `dictionary::lookup` meets its contract. The loop's invariant: no row before i has the tag, so the search from i on gives the answer.
 -- Assumes nothing.
-use mathlib.Core.Path.{_≡_, refl, sym, _∙_}
-use Prim.Native.Nat.{ℕ, _-_, _≤_, _<_}
+use mathlib.Core.Path.{_≡_, sym, _∙_}
+use Prim.Native.Nat.{_-_, _≤_}
 use native.Mathlib.Omega.{arith}
-use lib.ListN.{length, drop}
+use lib.ListN.{drop}
 use Rattle.dictionary.specs.Rows.{rows, rowAt, rowCount, past, find}
 use Rattle.dictionary.proofs.Table.{column}
 use Rattle.dictionary.proofs.Find.{past-zero, here, there, none-left}

@@ -2,16 +2,15 @@
 -- invariant: whatever the objects that are left say and leave is what all of them say and leave.
 -- Assumes nothing.
 use borrow.Author.Needs.{needs}
-use mathlib.Core.Path.{_≡_, refl, sym, ap, _∙_}
+use mathlib.Core.Path.{_≡_, sym, _∙_}
 use mathlib.Core.List.{List}
 use Prim.Native.Nat.{ℕ, _+_, _-_, _*_, _≤_, _<_}
 use native.Mathlib.Omega.{arith}
 use lib.ListN.{length, length-take, length-drop}
-use Rattle.tlv.specs.Tree.{parse, nextOf}
+use Rattle.tlv.specs.Tree.{parse}
 use Rattle.tlv.proofs.Laws.{HeaderFits}
 use Rattle.tlv.proofs.NextObject.{next-fits}
 use Rattle.reading.specs.declared.Contents.{Contents}
-use Rattle.reading.specs.declared.Contents.the-variants.{Whole, Broken}
 use Rattle.dictionary.specs.Rows.{storeSize}
 use Rattle.reading.specs.Taking.{work}
 use Rattle.reading.specs.Inner.{Leaves}
