@@ -11,7 +11,7 @@ use native.Mathlib.Omega.{arith}
 use lib.Dec.{leb, eqb}
 use lib.ListN.{length, take, drop, length-take, length-drop}
 use lib.Seq.{take-take, drop-drop}
-use borrow.Author.Tests.{leb-true}
+use borrow.Author.Tests.{leb-true, le-leb, lt-leb}
 use Rattle.basics.specs.Choice.{if}
 use Rattle.basics.proofs.Laws.{if-yes, if-no, bool-cases}
 use Rattle.basics.proofs.Recursion.{shorter-first}
@@ -167,7 +167,7 @@ module _ (tag : ℕ) where
   unfolding TellsAll
   told s = shorter-first TellsAll (λ s before l four. of-next s before l four (nextOf s) refl) s 4 (omega arith)
 
-  pub told-all : (s : List ℕ) → Told tag s (treeOf s) (findOf tag s)
+  told-all : (s : List ℕ) → Told tag s (treeOf s) (findOf tag s)
   unfolding findOf if
   told-all s = by (leb (length s) 65535)
     where
@@ -192,3 +192,16 @@ module _ (tag : ℕ) where
       by : (t : Bool) → leb (length s) 65535 ≡ t → Inside (if t (firstTagged tag 4 s) Malformed)
       by true e = inside s (parse 4 s) (firstTagged tag 4 s) (leb-true _ _ e) (told s)
       by false e = tt
+
+  -- ---- as the code has it: too many bytes, and what the walk gave
+
+  pub find-long : (s : List ℕ) → 65535 < length s → Malformed ≡ findOf tag s
+  unfolding findOf
+  find-long s l = sym (if-no _ _ (lt-leb (length s) 65535 l))
+
+  pub find-walked : (s : List ℕ) (r : Found) → length s ≤ 65535 → r ≡ firstTagged tag 4 s → r ≡ findOf tag s
+  unfolding findOf
+  find-walked s r l e = e ∙ sym (if-yes _ _ (le-leb (length s) 65535 l))
+
+  pub with-tree : (s : List ℕ) (r : Found) → r ≡ findOf tag s → (r ≡ findOf tag s) × Told tag s (treeOf s) r
+  with-tree s r e = (e, subst⁻¹ (Told tag s (treeOf s)) e (told-all s))

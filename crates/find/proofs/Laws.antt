@@ -1,7 +1,7 @@
 -- The laws of finds and of the search. Finds one behind the other make a monoid, with `Absent` as unit, that a shift keeps; each object
 -- is shorter than its list, so the search unrolls, with one law for each thing that can be next.
 -- Assumes nothing.
-use mathlib.Core.Path.{_≡_, refl, ap, ap₂, _∙_}
+use mathlib.Core.Path.{_≡_, refl, sym, ap, ap₂, _∙_}
 use mathlib.Core.Bool.{Bool, true, false}
 use mathlib.Core.List.{List}
 use Prim.Native.Nat.{ℕ, zero, suc, _+_, _-_, _<_}
@@ -55,6 +55,12 @@ first-assoc (At p) Absent r = refl
 first-assoc (At p) (At q) Malformed = refl
 first-assoc (At p) (At q) Absent = refl
 first-assoc (At p) (At q) (At o) = refl
+
+-- what was found before stays
+pub first-kept : (f : Found) (p : Span) → f ≡ At p → (same : Bool) (a n : ℕ) → At p ≡ firstOf f (here same a n)
+unfolding firstOf if
+first-kept f p e true a n = ap (λ (x : Found). firstOf x (At (span a n))) (sym e)
+first-kept f p e false a n = ap (λ (x : Found). firstOf x Absent) (sym e)
 
 -- ---- shifted
 

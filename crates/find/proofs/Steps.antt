@@ -34,13 +34,13 @@ drop-take (suc m) (suc n) (x ∷ l) = let e : n - m ≡ suc n - suc m = omega ar
 
 module _ (s : List ℕ) (a e : ℕ) (h : Header) (x : nextOf (part s a e) ≡ following.Inner h) where
   -- an object lies inside its part
-  pub object-inside : h .start + h .len ≤ e - a
+  object-inside : h .start + h .len ≤ e - a
   object-inside = let f = next-fits _ h x in let i = simp length-take at (f .inside) in omega arith
 
-  pub object-two : 2 ≤ h .start
+  object-two : 2 ≤ h .start
   object-two = next-fits _ h x .two
 
-  pub value-part : valueIn (part s a e) h ≡ part s (a + h .start) (a + h .start + h .len)
+  value-part : valueIn (part s a e) h ≡ part s (a + h .start) (a + h .start + h .len)
   value-part =
       let i = object-inside in
       let n : a + h .start + h .len - (a + h .start) ≡ h .len = omega arith in
@@ -49,7 +49,7 @@ module _ (s : List ℕ) (a e : ℕ) (h : Header) (x : nextOf (part s a e) ≡ fo
       ∙ take-take (h .len) (e - a - h .start) (drop (h .start) (drop a s)) m
       ∙ ap₂ take (sym n) (drop-drop (h .start) a s)
 
-  pub behind-part : behind (part s a e) h ≡ part s (a + h .start + h .len) e
+  behind-part : behind (part s a e) h ≡ part s (a + h .start + h .len) e
   behind-part =
       let n : e - a - (h .start + h .len) ≡ e - (a + h .start + h .len) = omega arith in
       let m : a + (h .start + h .len) ≡ a + h .start + h .len = omega arith in
@@ -223,8 +223,15 @@ module _ {s : List ℕ} {tag : ℕ} {ends : List ℕ} {depth a e : ℕ} {f : Fou
         let l : 4 - length opened ≡ 0 = omega arith in
         sym (same-with Malformed (left-deep s tag a e opened h q t l) ∙ first-malformed f)
 
-    module _ (g : Found) (own : g ≡ firstOf f (here (eqb (h .tag) tag) (a + h .start) (h .len))) where
-      found-so : (x : Found) → left s tag a e opened ≡ firstOf (here (eqb (h .tag) tag) (a + h .start) (h .len)) x → all ≡ firstOf g x
+    -- its value starts two bytes on at least, and ends where its level ends at the latest
+    pub bounds : (2 ≤ h .start) × ((a + h .start + h .len ≤ e) × (e ≤ length s))
+    bounds = let i = object-inside s a e h q in (object-two s a e h q, (omega arith, w .inside))
+
+    abbrev here-found : Found
+    here-found = here (eqb (h .tag) tag) (a + h .start) (h .len)
+
+    module _ (g : Found) (own : g ≡ firstOf f here-found) where
+      found-so : (x : Found) → left s tag a e opened ≡ firstOf here-found x → all ≡ firstOf g x
       found-so x p = same-with _ p ∙ sym (first-assoc f _ x) ∙ ap (λ (y : Found). firstOf y x) (sym own)
 
       pub leaf : h .template ≡ false → Reached s tag ends depth (a + h .start + h .len) e g
@@ -252,5 +259,5 @@ module _ {s : List ℕ} {tag : ℕ} {ends : List ℕ} {depth a e : ℕ} {f : Fou
             ahead = omega arith;
             inside = omega arith;
             rising = subst (Rising (length s) (a + h .start + h .len)) (sym p) (le, w .rising);
-            same = found-so _ (left-node s tag a e opened h q t (omega arith) ∙ ap (λ (r : List ℕ). firstOf _ (left s tag (a + h .start) (a + h .start + h .len) r)) (sym p));
+            same = found-so _ (left-node s tag a e opened h q t (omega arith) ∙ ap (λ (r : List ℕ). firstOf here-found (left s tag (a + h .start) (a + h .start + h .len) r)) (sym p));
           }

@@ -1,6 +1,14 @@
+-- `find::walk` meets its contract. The invariant is `Reached` (proofs/Steps), which has a law for each way through a turn. The measure
+-- counts what is left twice and each open template once: an object takes two bytes at least, and an end closes a template.
+-- Assumes nothing.
+use borrow.Author.Needs.{needs}
+use mathlib.Core.Path.{_≡_, refl, sym, _∙_}
 use Prim.Native.Nat.{_+_, _-_, _*_}
+use native.Mathlib.Omega.{arith}
 use lib.ListN.{length}
-use Rattle.find.proofs.Steps.{Reached, begin, done, failed, close, deep, leaf, push, object-inside, object-two}
+use Rattle.tlv.specs.declared.Following.the-variants.{Inner}
+use Rattle.tlv.specs.Tree.{nextOf}
+use Rattle.find.proofs.Steps.{part, Reached, begin, done, failed, close, deep, leaf, push, bounds}
 use Rattle.find.proofs.walk.Statement.{statement}
 use Rattle.find.proofs.walk.Tie as tie
 use Rattle.find.proofs.walk.Reads as reads
@@ -14,109 +22,40 @@ Inv-loop bytes tag ends₀ depth₀ at₀ end₀ found₀ ends depth at end foun
 abbrev μ-loop : tie.MeasureT-loop
 μ-loop bytes tag ends₀ depth₀ at₀ end₀ found₀ ends depth at end found = 2 * (length bytes - at) + depth
 
--- src/lib.rt:79:5
-loop-holds : tie.Need-loop-holds Inv-loop μ-loop
-loop-holds c = ?
+-- where an object is next
+abbrev At-object : Type 0
+At-object = lts.After-following (next-reads.Asked, next-reads.Learnt, first-reads.Asked, first-reads.Learnt) reads.Pre reads.Post Inv-loop μ-loop
 
--- src/lib.rt:80:35
-sub-next : tie.Need-sub-next Inv-loop μ-loop
-sub-next c = ?
+next-at : (c : At-object)
+    → nextOf (part (c .before .before .before .before .before .before .args .bytes .now) (c .before .before .before .before .loop .at) (c .before .before .before .before .loop .end))
+    ≡ Inner (c .following .given .0 .0)
+next-at c = sym (c .before .before .next .ensures) ∙ c .following .given .1
 
--- src/lib.rt:80:35
-part-next-start : tie.Need-part-next-start Inv-loop μ-loop
-part-next-start c = ?
-
--- src/lib.rt:80:35
-part-next-end : tie.Need-part-next-end Inv-loop μ-loop
-part-next-end c = ?
-
--- src/lib.rt:80:13
-next-requires : tie.Need-next-requires Inv-loop μ-loop
-next-requires c κs = ?
-
--- src/lib.rt:82:37
-enum-told : tie.Need-enum-told Inv-loop μ-loop
-enum-told c = ?
-
--- src/lib.rt:82:37
 returns : tie.Need-returns Inv-loop μ-loop
-returns c = ?
+returns c = failed (c .before .before .before .before .loop .inv) (sym (c .before .before .next .ensures) ∙ c .enum-told .given .1)
 
--- src/lib.rt:84:20
-enum-told-2 : tie.Need-enum-told-2 Inv-loop μ-loop
-enum-told-2 c = ?
-
--- src/lib.rt:85:21
 returns-2 : tie.Need-returns-2 Inv-loop μ-loop
-returns-2 c = ?
+returns-2 c =
+    done (c .before .before .before .before .before .loop .inv) (sym (c .before .before .before .next .ensures) ∙ c .before .enum-told2 .given .1) (c .if1 .taken)
 
--- src/lib.rt:87:17
-sub-depth : tie.Need-sub-depth Inv-loop μ-loop
-sub-depth c = ?
-
--- src/lib.rt:89:23
-mul-end : tie.Need-mul-end Inv-loop μ-loop
-mul-end c = ?
-
--- src/lib.rt:89:23
-array-read-end : tie.Need-array-read-end Inv-loop μ-loop
-array-read-end c = ?
-
--- src/lib.rt:79:5
-loop-less : tie.Need-loop-less Inv-loop μ-loop
-loop-less c = ?
-
--- src/lib.rt:79:5
 loop-again : tie.Need-loop-again Inv-loop μ-loop
-loop-again c = ?
+loop-again c =
+    close (c .before .before .before .before .before .loop .inv) (sym (c .before .before .before .next .ensures) ∙ c .before .enum-told2 .given .1) (c .if1 .left)
 
--- src/lib.rt:91:30
-enum-known-following : tie.Need-enum-known-following Inv-loop μ-loop
-enum-known-following c = ?
-
--- src/lib.rt:92:29
-add-start : tie.Need-add-start Inv-loop μ-loop
-add-start c = ?
-
--- src/lib.rt:93:25
-add-e : tie.Need-add-e Inv-loop μ-loop
-add-e c = ?
-
--- src/lib.rt:94:17
-first-requires : tie.Need-first-requires Inv-loop μ-loop
-first-requires c κs = ?
-
--- src/lib.rt:97:25
 returns-3 : tie.Need-returns-3 Inv-loop μ-loop
-returns-3 c = ?
+returns-3 c =
+    let o = c .before .before .before .before .before .before .before in
+    deep (o .before .before .before .before .loop .inv) _ (next-at o) (c .before .if2 .taken) (c .if3 .taken)
 
--- src/lib.rt:99:21
-mul-ends : tie.Need-mul-ends Inv-loop μ-loop
-mul-ends c = ?
-
--- src/lib.rt:99:21
-array-write-ends : tie.Need-array-write-ends Inv-loop μ-loop
-array-write-ends c = ?
-
--- src/lib.rt:100:21
-add-depth : tie.Need-add-depth Inv-loop μ-loop
-add-depth c = ?
-
--- src/lib.rt:79:5
-loop-less-2 : tie.Need-loop-less-2 Inv-loop μ-loop
-loop-less-2 c = ?
-
--- src/lib.rt:79:5
 loop-again-2 : tie.Need-loop-again-2 Inv-loop μ-loop
-loop-again-2 c = ?
+loop-again-2 c =
+    let o = c .before .before .before .before .before .before .before in
+    push (o .before .before .before .before .loop .inv) _ (next-at o) _ (c .before .before .first .ensures) (c .before .if2 .taken) (c .if3 .left)
 
--- src/lib.rt:79:5
-loop-less-3 : tie.Need-loop-less-3 Inv-loop μ-loop
-loop-less-3 c = ?
-
--- src/lib.rt:79:5
 loop-again-3 : tie.Need-loop-again-3 Inv-loop μ-loop
-loop-again-3 c = ?
+loop-again-3 c =
+    let o = c .before .before .before .before .before .before in
+    leaf (o .before .before .before .before .loop .inv) _ (next-at o) _ (c .before .first .ensures) (c .if2 .left)
 
 pub walk-spec : {M : Type 1} → statement M
 walk-spec =
@@ -124,29 +63,29 @@ walk-spec =
     (tie.spec
     Inv-loop
     μ-loop
-    loop-holds
-    sub-next
-    part-next-start
-    part-next-end
-    next-requires
-    enum-told
+    (λ c. begin _ _ _ refl)
+    (λ c. let w = c .loop .inv in omega arith)
+    (λ c. let w = c .loop .inv in search needs)
+    (λ c. let w = c .loop .inv in search needs)
+    (λ c κs. search needs)
+    (λ c. search needs)
     returns
-    enum-told-2
+    (λ c. search needs)
     returns-2
-    sub-depth
-    mul-end
-    array-read-end
-    loop-less
+    (λ c. omega arith)
+    (λ c. let w = c .before .before .before .before .before .loop .inv in omega arith)
+    (λ c. let w = c .before .before .before .before .before .loop .inv in omega arith)
+    (λ c. let w = c .before .before .before .before .before .loop .inv in omega arith)
     loop-again
-    enum-known-following
-    add-start
-    add-e
-    first-requires
+    (λ c. search needs)
+    (λ c. let o = c .before .before in let i = bounds (o .before .before .before .before .loop .inv) _ (next-at o) in omega arith)
+    (λ c. let o = c .before .before .before in let i = bounds (o .before .before .before .before .loop .inv) _ (next-at o) in omega arith)
+    (λ c κs. search needs)
     returns-3
-    mul-ends
-    array-write-ends
-    add-depth
-    loop-less-2
+    (λ c. let w = c .before .before .before .before .before .before .before .before .before .before .before .loop .inv in omega arith)
+    (λ c. let w = c .before .before .before .before .before .before .before .before .before .before .before .loop .inv in omega arith)
+    (λ c. let w = c .before .before .before .before .before .before .before .before .before .before .before .loop .inv in omega arith)
+    (λ c. let o = c .before .before .before .before .before .before .before in let i = bounds (o .before .before .before .before .loop .inv) _ (next-at o) in omega arith)
     loop-again-2
-    loop-less-3
+    (λ c. let o = c .before .before .before .before .before .before in let i = bounds (o .before .before .before .before .loop .inv) _ (next-at o) in omega arith)
     loop-again-3)

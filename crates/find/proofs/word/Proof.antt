@@ -1,50 +1,30 @@
+-- `find::word`: place and length are below 65,536, so the word fits.
+-- Assumes nothing.
 use borrow.Author.Needs.{needs}
+use mathlib.Core.Path.{ap, sym, subst}
+use native.Mathlib.Omega.{arith}
+use Rattle.find.specs.Word.{wordOf, Inside}
 use Rattle.find.proofs.word.Statement.{statement}
 use Rattle.find.proofs.word.Tie as tie
-use Rattle.find.proofs.word.Reads as reads
-use Rattle.find.proofs.word.Lts as lts
 
--- src/lib.rt:63:19
-enum-known-found : tie.Need-enum-known-found
-enum-known-found c = search needs
-
--- src/lib.rt:63:25
 mul-result : tie.Need-mul-result
-mul-result c = ?
+mul-result c = let i = subst Inside (c .before .found .given .1) (c .before .before .before .pre) in omega arith
 
--- src/lib.rt:63:25
 add-result : tie.Need-add-result
-add-result c = ?
+add-result c = let i = subst Inside (c .before .found .given .1) (c .before .before .before .pre) in omega arith
 
--- src/lib.rt:64:26
-enum-told : tie.Need-enum-told
-enum-told c = search needs
-
--- src/lib.rt:65:29
-enum-told-2 : tie.Need-enum-told-2
-enum-told-2 c = search needs
-
--- src/lib.rt:58:1
 returns : tie.Need-returns
-returns c = ?
-
--- src/lib.rt:58:1
-returns-2 : tie.Need-returns-2
-returns-2 c = search needs
-
--- src/lib.rt:58:1
-returns-3 : tie.Need-returns-3
-returns-3 c = search needs
+returns c = sym (ap wordOf (c .before .found .given .1))
 
 pub word-spec : {M : Type 1} → statement M
 word-spec =
     tie.close
     (tie.spec
-    enum-known-found
+    (λ c. search needs)
     mul-result
     add-result
-    enum-told
-    enum-told-2
+    (λ c. search needs)
+    (λ c. search needs)
     returns
-    returns-2
-    returns-3)
+    (λ c. search needs)
+    (λ c. search needs))
