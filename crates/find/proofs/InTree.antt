@@ -44,8 +44,8 @@ stands-value s a n v p l st =
     let i = simp (length-take, length-drop) at (st .inside) in
     let m : p .len ≤ n - p .start = omega arith in
     let e : take (p .len) (drop (p .start) (take n (drop a s))) ≡ take (p .len) (drop (a + p .start) s)
-          = ap (take (p .len)) (drop-take (p .start) n (drop a s)) ∙ take-take (p .len) (n - p .start) (drop (p .start) (drop a s)) m
-            ∙ ap (take (p .len)) (drop-drop (p .start) a s) in
+    = ap (take (p .len)) (drop-take (p .start) n (drop a s)) ∙ take-take (p .len) (n - p .start) (drop (p .start) (drop a s)) m
+    ∙ ap (take (p .len)) (drop-drop (p .start) a s) in
     record { inside = omega arith; value = subst (IsValue v) e (st .value) }
 
 module _ (b s : List ℕ) (n : ℕ) (further : (v : Value) (p : Span) → Stands b v p → Stands s v (span (n + p .start) (p .len))) where
@@ -115,9 +115,9 @@ module _ (tag : ℕ) (s : List ℕ) (h : Header) (fits : HeaderFits s h) where
       by true =
           let p = span (h .start) (h .len) in
           let q : firstOf (At p) (both i y) ≡ At p
-                = sym (first-assoc (At p) (shifted (h .start) i) (shifted stop y))
-                  ∙ ap (λ (r : Found). firstOf r (shifted stop y)) (earlier (valueIn s h) s (h .start) within p x i g)
-                  ∙ earlier (behind s h) s stop later p z y e in
+          = sym (first-assoc (At p) (shifted (h .start) i) (shifted stop y))
+          ∙ ap (λ (r : Found). firstOf r (shifted stop y)) (earlier (valueIn s h) s (h .start) within p x i g)
+          ∙ earlier (behind s h) s stop later p z y e in
           (p, (q, stands-own (template f) v))
       by false = subst⁻¹ (Finds s (orElse x z)) (absent-first (both i y)) (join-finds x z i y g e)
 

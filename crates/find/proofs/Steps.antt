@@ -151,7 +151,7 @@ module _ (s : List ℕ) (tag : ℕ) where
       left-node t l =
           let m : 4 - length r - 1 ≡ 4 - suc (length r) = omega arith in
           let v : shifted a (shifted (h .start) (firstTagged tag (4 - length r - 1) (valueIn (part s a e) h))) ≡ level (suc (length r)) start stop
-                = shift-shift a (h .start) _ ∙ ap₂ (λ (k : ℕ) (v : List ℕ). shifted start (firstTagged tag k v)) m (value-part s a e h q) in
+          = shift-shift a (h .start) _ ∙ ap₂ (λ (k : ℕ) (v : List ℕ). shifted start (firstTagged tag k v)) m (value-part s a e h q) in
           level-gone _ (found-node tag _ _ h q t (λ z. omega arith))
           ∙ ap (λ (x : Found). firstOf x rest) (shift-first a _ _ ∙ ap₂ firstOf (shift-here a _ _ _) (shift-first a _ _ ∙ ap₂ firstOf v behind-at))
           ∙ first-assoc own _ rest ∙ ap (firstOf own) (first-assoc (level (suc (length r)) start stop) (level (length r) stop e) rest)

@@ -1,5 +1,5 @@
--- The first object of a tag in some bytes, which are read as the contents of a template are (document 01, "Reading an answer"):
--- in the order of the bytes, a template before what it holds. Malformed bytes anywhere make the whole malformed.
+-- The first object of a tag in some bytes, which are read as the contents of a template are (document 01, "Reading an
+-- answer"): in the order of the bytes, a template before what it holds. Malformed anywhere is malformed.
 -- Assumes nothing.
 use mathlib.Core.Bool.{Bool}
 use mathlib.Core.List.{List}
@@ -79,7 +79,8 @@ findOf tag bytes =
     if length bytes ≤? 65535 then firstTagged tag 4 bytes
     else Malformed
 
--- ---- what holds of it, proved in proofs/ for all bytes, levels and tags
---   unroll         firstTagged tag levels s ≡ findNext tag .. s: the steps allowed do not matter
+-- ---- what holds of it, proved in proofs/ (Laws, InTree, Examples) for all bytes, levels and tags
+--   unroll         the search is one step over itself: the steps allowed do not matter
 --   found-end, found-malformed, found-deep, found-node, found-leaf    the search at each thing that can be next
---   told           what is found is what the tree of the bytes says (specs/InTree)
+--   with-tree      what is found is what the tree of the bytes says (specs/InTree)
+--   find-inside    a place that is found ends within 65,535 bytes

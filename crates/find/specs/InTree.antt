@@ -1,5 +1,5 @@
--- What a search finds, by the tree of the bytes (tlv, specs/Tree): malformed exactly where there is no tree, absent exactly where
--- no object of the tree has the tag, else a place that has the first such object's value.
+-- What a search finds, by the tree of the bytes (tlv, specs/Tree): malformed exactly where there is no tree, absent
+-- exactly where no object of the tree has the tag, else a place that has the first such object's value.
 -- Assumes nothing.
 use mathlib.Core.Path.{_≡_}
 use mathlib.Core.List.{List}

@@ -1,12 +1,9 @@
 // The first object of a tag in a card's bytes: where its value stands and how long it is.
 //
 // The bytes are read as the contents of a template are, at most 65,535 of them and templates at most four
-// levels deep. `find` says the place; `emv_find` says it to a host in C, as one word.
+// levels deep. `find` says the place; `find_word` says it as one word, for a host in C.
 use tlv::Following;
 ghost use mathlib.Core.Path.{_≡_};
-ghost use mathlib.Core.Bool.{Bool};
-ghost use Prim.Native.Nat.{_≤_};
-ghost use lib.ListN.{length};
 ghost use Rattle.find.specs.Find.{here, firstOf, firstTagged, findOf};
 ghost use Rattle.find.specs.InTree.{Told, treeOf};
 ghost use Rattle.find.specs.Word.{wordOf, Inside};
@@ -17,8 +14,10 @@ pub const MOST: usize = 65535;
 // How many levels of templates may nest.
 pub const LEVELS: usize = 4;
 
-// The word where no object has the tag, and the word of malformed bytes.
+// The word where no object has the tag.
 pub const NONE: u64 = 0xFFFFFFFFFFFFFFFF;
+
+// The word of malformed bytes.
 pub const BROKEN: u64 = 0xFFFFFFFFFFFFFFFE;
 
 // Where a value stands: its first byte, counted from 0, and how many there are.
@@ -45,9 +44,8 @@ pub fn find(bytes: &[u8], tag: u32) -> Found
     walk(bytes, tag)
 }
 
-// The same for a host in C, as one word.
-#[no_mangle]
-pub extern "C" fn emv_find(bytes: &[u8], tag: u32) -> u64
+// The same as one word.
+pub fn find_word(bytes: &[u8], tag: u32) -> u64
     ensures { λ r. ⌜ r ≡ wordOf (findOf tag (now (bytes .entry))) ⌝ }
 {
     let found = find(bytes, tag);
