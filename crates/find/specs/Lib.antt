@@ -1,0 +1,3 @@
+pub mod Find
+pub mod InTree
+pub mod Word
