@@ -2,7 +2,7 @@
 -- Assumes nothing.
 use mathlib.Core.Bool.{Bool}
 use Prim.Native.Nat.{ℕ}
-use Rattle.basics.specs.Choice.{if}
+use Rattle.basics.specs.Choice.{if_then_else_}
 
 -- ---- refusals, in the order of their numbers
 
@@ -84,4 +84,4 @@ reasonMode = 11
 
 -- the reason of a test that has to pass: none where it does
 abbrev pub unless : Bool → ℕ → ℕ
-unless t n = if t reasonNone n
+unless t n = if t then reasonNone else n
