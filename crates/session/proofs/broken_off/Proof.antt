@@ -15,14 +15,14 @@ by-phase : (c : tie.Else2) (p : Phase) → let a = c .before .before .before .be
     a .phase ≡ p → brokenOff s (a .reason) (a .command .now) ≡ endsIn p s (a .reason) (a .command .now)
 by-phase c p e =
     let a = c .before .before .before .before .before .args in
-    admitted-in _ _ _ (c .before .before .if1 .left) (sym (c .before .keeps .ensures) ∙ not-false _ (c .if2 .left))
+    admitted-in _ _ _ (c .before .before .if1 .left) (sym (c .before .keeps .ensures .test) ∙ not-false _ (c .if2 .left))
     ∙ ap (λ (q : Phase). endsIn q (sessionOf (a .phase) (a .count) (a .bytes .now)) (a .reason) (a .command .now)) e
 
 returns : tie.Need-returns
 returns c = did-without-command _ (c .refused .ensures) (admitted-short _ _ _ (c .before .if1 .taken))
 
 returns-2 : tie.Need-returns-2
-returns-2 c = did-without-command _ (c .refused2 .ensures) (admitted-ranges _ _ _ (c .before .before .before .if1 .left) (sym (c .before .before .keeps .ensures) ∙ not-true _ (c .before .if2 .taken)))
+returns-2 c = did-without-command _ (c .refused2 .ensures) (admitted-ranges _ _ _ (c .before .before .before .if1 .left) (sym (c .before .before .keeps .ensures .test) ∙ not-true _ (c .before .if2 .taken)))
 
 returns-3 : tie.Need-returns-3
 returns-3 c = did-without-command _ (c .refused3 .ensures) (by-phase (c .before .before .before) _ (c .before .enum-told .given .1))
