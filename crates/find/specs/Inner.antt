@@ -1,5 +1,5 @@
--- What a private function asks of its caller. No rule stands here: a reader of the rules can pass it over. `find-inside`
--- in proofs/InTree says that it holds of whatever is found.
+-- What a private function asks of its caller. No rule stands here: a reader of the rules can pass it over.
+-- `find-inside` in proofs/InTree says that it holds of whatever is found.
 -- Assumes nothing.
 use Prim.Native.Nat.{_+_, _≤_}
 use Rattle.find.specs.declared.Span.{Span}
