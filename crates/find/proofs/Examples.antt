@@ -12,10 +12,10 @@ use Rattle.tlv.specs.Length.{lengthAt, twoBytes}
 use Rattle.tlv.specs.Object.{headerOf}
 use Rattle.tlv.specs.Tree.{nextOf}
 use Rattle.find.specs.Find.{firstOf, shifted, firstTagged, findOf}
-use Rattle.find.specs.Word.{wordOf}
+use Rattle.find.specs.Word.{findWord}
 
 abbrev word : List ℕ → ℕ → ℕ
-word bytes tag = wordOf (findOf tag bytes)
+word bytes tag = findWord (findOf tag bytes)
 
 abbrev none : ℕ
 none = 0xFFFFFFFFFFFFFFFF

@@ -28,7 +28,8 @@ use Rattle.find.specs.declared.Found.{Found}
 use Rattle.find.specs.declared.Found.the-variants.{At, Absent, Malformed}
 use Rattle.find.specs.Find.{span, here, firstOf, shifted, firstTagged, findOf}
 use Rattle.find.specs.InTree.{treeOf, Value, primitive, template, orElse, firstIn, IsValue, Stands, Finds, Told}
-use Rattle.find.specs.Word.{Inside}
+use Rattle.find.specs.Word.{findWord}
+use Rattle.find.specs.Inner.{Inside}
 use Rattle.find.proofs.Laws.{absent-first, first-malformed, malformed-first, first-assoc, shift-absent, shift-malformed, found-end, found-malformed, found-leaf, found-node, found-deep}
 use Rattle.find.proofs.Steps.{drop-take}
 
@@ -192,6 +193,11 @@ module _ (tag : ℕ) where
       by : (t : Bool) → leb (length s) 65535 ≡ t → Inside (if t (firstTagged tag 4 s) Malformed)
       by true e = inside s (parse 4 s) (firstTagged tag 4 s) (leb-true _ _ e) (told s)
       by false e = tt
+
+  pub place-word : (s : List ℕ) (p : Span) → findOf tag s ≡ At p → findWord (findOf tag s) < 0x1000000000000
+  place-word s p e =
+      let i = subst Inside e (find-inside s) in
+      subst⁻¹ (λ (r : Found). findWord r < 0x1000000000000) e (omega arith)
 
   -- ---- as the code has it: too many bytes, and what the walk gave
 

@@ -26,7 +26,7 @@ span a n = record { start = a; len = n }
 abbrev pub here : Bool → ℕ → ℕ → Found
 here same a n = if same then At (span a n) else Absent
 
--- of two parts, one behind the other: the first find; malformed where either part is
+-- of two parts, one behind the other: what the first has, else what the second has; malformed where either is
 unfoldable pub firstOf : Found → Found → Found
 firstOf Malformed r = Malformed
 firstOf (At p) Malformed = Malformed
@@ -34,7 +34,7 @@ firstOf (At p) Absent = At p
 firstOf (At p) (At q) = At p
 firstOf Absent r = r
 
--- the same find, where n bytes more stand in front
+-- the same, with n bytes more in front
 unfoldable pub shifted : ℕ → Found → Found
 shifted n Malformed = Malformed
 shifted n (At p) = At (span (n + p .start) (p .len))
@@ -83,4 +83,3 @@ findOf tag bytes =
 --   unroll         the search is one step over itself: the steps allowed do not matter
 --   found-end, found-malformed, found-deep, found-node, found-leaf    the search at each thing that can be next
 --   with-tree      what is found is what the tree of the bytes says (specs/InTree)
---   find-inside    a place that is found ends within 65,535 bytes

@@ -6,7 +6,8 @@ use tlv::Following;
 ghost use mathlib.Core.Path.{_≡_};
 ghost use Rattle.find.specs.Find.{here, firstOf, firstTagged, findOf};
 ghost use Rattle.find.specs.InTree.{Told, treeOf};
-ghost use Rattle.find.specs.Word.{wordOf, Inside};
+ghost use Rattle.find.specs.Word.{findWord};
+ghost use Rattle.find.specs.Inner.{Inside};
 
 // The most bytes that are looked through.
 pub const MOST: usize = 65535;
@@ -46,7 +47,7 @@ pub fn find(bytes: &[u8], tag: u32) -> Found
 
 // The same as one word.
 pub fn find_word(bytes: &[u8], tag: u32) -> u64
-    ensures { λ r. ⌜ r ≡ wordOf (findOf tag (now (bytes .entry))) ⌝ }
+    ensures { λ r. ⌜ r ≡ findWord (findOf tag (now (bytes .entry))) ⌝ }
 {
     let found = find(bytes, tag);
     word(found)
@@ -55,7 +56,7 @@ pub fn find_word(bytes: &[u8], tag: u32) -> u64
 // A find as one word: the place in bits 32 to 63, the length in bits 0 to 31.
 fn word(found: Found) -> u64
     requires { ⌜ Inside found ⌝ }
-    ensures { λ r. ⌜ r ≡ wordOf found ⌝ }
+    ensures { λ r. ⌜ r ≡ findWord found ⌝ }
 {
     match found {
         Found::At(p) => p.start as u64 * 0x100000000 + p.len as u64,

@@ -2,7 +2,8 @@
 -- Assumes nothing.
 use borrow.Author.Needs.{needs}
 use mathlib.Core.Path.{ap, subst⁻¹, _∙_}
-use Rattle.find.specs.Word.{wordOf, Inside}
+use Rattle.find.specs.Word.{findWord}
+use Rattle.find.specs.Inner.{Inside}
 use Rattle.find.proofs.InTree.{find-inside}
 use Rattle.find.proofs.find_word.Statement.{statement}
 use Rattle.find.proofs.find_word.Tie as tie
@@ -11,7 +12,7 @@ word-requires : tie.Need-word-requires
 word-requires c κs = subst⁻¹ Inside (c .find .ensures .0) (find-inside _ _)
 
 returns : tie.Need-returns
-returns c = c .word .ensures ∙ ap wordOf (c .before .find .ensures .0)
+returns c = c .word .ensures ∙ ap findWord (c .before .find .ensures .0)
 
 pub find-word-spec : {M : Type 1} → statement M
 find-word-spec = tie.close (tie.spec (λ c κs. search needs) word-requires returns)

@@ -3,7 +3,8 @@
 use borrow.Author.Needs.{needs}
 use mathlib.Core.Path.{ap, sym, subst}
 use native.Mathlib.Omega.{arith}
-use Rattle.find.specs.Word.{wordOf, Inside}
+use Rattle.find.specs.Word.{findWord}
+use Rattle.find.specs.Inner.{Inside}
 use Rattle.find.proofs.word.Statement.{statement}
 use Rattle.find.proofs.word.Tie as tie
 
@@ -14,7 +15,7 @@ add-result : tie.Need-add-result
 add-result c = let i = subst Inside (c .before .found .given .1) (c .before .before .before .pre) in omega arith
 
 returns : tie.Need-returns
-returns c = sym (ap wordOf (c .before .found .given .1))
+returns c = sym (ap findWord (c .before .found .given .1))
 
 pub word-spec : {M : Type 1} → statement M
 word-spec =
