@@ -45,7 +45,7 @@ use Rattle.record.specs.declared.Session.{Session}
 use Rattle.record.specs.declared.Reply.{Reply}
 use Rattle.record.specs.declared.Turn.{Turn}
 use Rattle.basics.specs.Reason.{refusedPhase, refusedBuffer, refusedRanges, reasonNone, reasonMissing, reasonLocator, reasonAboveLimit, reasonDataList, reasonCryptogram, reasonMode, unless}
-use Rattle.record.specs.Session.{stored, sessionOf, replyOf, failsTurn, commandsTurn}
+use Rattle.record.specs.Session.{sessionOf, replyOf, failsTurn, commandsTurn}
 use Rattle.store.specs.Held.{byteIn}
 use Rattle.record.specs.Ranges.{emvMode, locatorIn, completed, inRanges}
 use Rattle.record.specs.Clauses.{noResults}

@@ -2,7 +2,7 @@
 -- its length and what stands behind a command, a locator with bytes stays as it is, and a start that ends does so before any command. Each
 -- goes by the ways of Ways.antt.
 -- Assumes nothing.
-use mathlib.Core.Path.{_≡_, refl, sym, ap, subst, _∙_}
+use mathlib.Core.Path.{_≡_, refl, ap, subst, _∙_}
 use mathlib.Core.Bool.{true}
 use mathlib.Core.List.{List}
 use Prim.Native.Nat.{ℕ, _+_, _≤_}
