@@ -1,1 +1,4 @@
 pub mod Hosted
+pub mod Object
+pub mod Wipe
+pub mod Version
