@@ -49,6 +49,13 @@ extern "C" {
 /* The most bytes that a value has. */
 #define EMV_MOST_VALUE 254u
 
+/* What emv_find gives where no object has the tag, where the bytes are malformed, and where one was found. */
+#define EMV_FIND_NONE UINT64_MAX
+#define EMV_FIND_MALFORMED (UINT64_MAX - 1u)
+#define EMV_IS_FOUND(found) ((found) < EMV_FIND_MALFORMED)
+#define EMV_FOUND_PLACE(found) ((size_t)((found) >> 32))
+#define EMV_FOUND_LENGTH(found) ((size_t)((found) & 0xFFFFFFFFu))
+
 /* A version word taken apart: the library's version in three parts, and the record layout's. */
 #define EMV_VERSION_MAJOR(word) (((word) >> 24) & 0xFFu)
 #define EMV_VERSION_MINOR(word) (((word) >> 16) & 0xFFu)
@@ -127,6 +134,12 @@ uint32_t emv_object(const uint8_t *session, size_t session_len, uint32_t tag, ui
 
 /* Writes 0 over all lent bytes, of any number and whatever they held: 0. They hold no record then. */
 uint32_t emv_wipe(uint8_t *session, size_t session_len);
+
+/* The first object of a tag in a card's bytes, as in the answer to SELECT without its status bytes: the place where
+ * its value starts, counted from 0, in bits 32 to 63, and the value's length in bits 0 to 31. Templates are objects
+ * too, and come before what they hold; they nest four levels. EMV_FIND_NONE where no object has the tag;
+ * EMV_FIND_MALFORMED where the bytes are malformed anywhere, or over 65,535. */
+uint64_t emv_find(const uint8_t *bytes, size_t len, uint32_t tag);
 
 /* The library's version in bits 24 to 31, 16 to 23 and 8 to 15, and the record layout's in bits 0 to 7. */
 uint32_t emv_version(void);

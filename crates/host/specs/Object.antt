@@ -73,4 +73,5 @@ objectOf (some s) t l =
     else says (refusalWord refusedRanges) l
 
 -- what holds of it, proved in proofs/Objects:
---   object-apart    the word tells which of the five it is, and all but a value leave the lent bytes
+--   object-value    a word up to 254 is the length of a value that stands in front of the lent bytes
+--   object-kept     any other word leaves them
