@@ -14,7 +14,8 @@ ghost use Rattle.layout.specs.Word.{wordOf};
 ghost use Rattle.session.specs.Steps.{linkStep, stopStep};
 ghost use Rattle.session.specs.Start.{startStep};
 ghost use Rattle.session.specs.Answer.{answerStep};
-ghost use Rattle.host.specs.Hosted.{DidOver, Opened, admissionOf, hosted, countWord};
+ghost use Rattle.host.specs.Hosted.{DidOver, Opened, hosted, countWord};
+ghost use Rattle.host.specs.Inner.{admissionOf};
 ghost use Rattle.host.specs.Object.{DidCopy, objectIn, objectOf};
 ghost use Rattle.host.specs.Wipe.{Wiped};
 ghost use Rattle.host.specs.Version.{versionWord};
@@ -62,7 +63,8 @@ pub extern "C" fn emv_open(session: &mut [u8]) -> u32
 // Starts a session with the objects that the terminal brings.
 #[no_mangle]
 pub extern "C" fn emv_start(session: &mut [u8], terminal: &[u8], command: &mut [u8]) -> u32
-    ensures { λ r. ⌜ DidOver r (now (session .exit)) (now (command .exit)) (hosted (λ (s : Session) b. startStep s (now (terminal .entry)) b) (now (session .entry)) (now (command .entry))) ⌝ }
+    ensures { λ r. ⌜ DidOver r (now (session .exit)) (now (command .exit))
+        (hosted (λ (s : Session) b. startStep s (now (terminal .entry)) b) (now (session .entry)) (now (command .entry))) ⌝ }
 {
     let admission = admit(session, command.len());
     match admission {
@@ -78,7 +80,8 @@ pub extern "C" fn emv_start(session: &mut [u8], terminal: &[u8], command: &mut [
 // Takes the card's answer to the command that was handed out last, status bytes included.
 #[no_mangle]
 pub extern "C" fn emv_answer(session: &mut [u8], card: &[u8], command: &mut [u8]) -> u32
-    ensures { λ r. ⌜ DidOver r (now (session .exit)) (now (command .exit)) (hosted (λ (s : Session) b. answerStep s (now (card .entry)) b) (now (session .entry)) (now (command .entry))) ⌝ }
+    ensures { λ r. ⌜ DidOver r (now (session .exit)) (now (command .exit))
+        (hosted (λ (s : Session) b. answerStep s (now (card .entry)) b) (now (session .entry)) (now (command .entry))) ⌝ }
 {
     let admission = admit(session, command.len());
     match admission {
@@ -94,7 +97,8 @@ pub extern "C" fn emv_answer(session: &mut [u8], card: &[u8], command: &mut [u8]
 // The link to the card failed.
 #[no_mangle]
 pub extern "C" fn emv_link_failed(session: &mut [u8], command: &mut [u8]) -> u32
-    ensures { λ r. ⌜ DidOver r (now (session .exit)) (now (command .exit)) (hosted linkStep (now (session .entry)) (now (command .entry))) ⌝ }
+    ensures { λ r. ⌜ DidOver r (now (session .exit)) (now (command .exit))
+        (hosted linkStep (now (session .entry)) (now (command .entry))) ⌝ }
 {
     let admission = admit(session, command.len());
     match admission {
@@ -110,7 +114,8 @@ pub extern "C" fn emv_link_failed(session: &mut [u8], command: &mut [u8]) -> u32
 // The terminal stops the session.
 #[no_mangle]
 pub extern "C" fn emv_stop(session: &mut [u8], command: &mut [u8]) -> u32
-    ensures { λ r. ⌜ DidOver r (now (session .exit)) (now (command .exit)) (hosted stopStep (now (session .entry)) (now (command .entry))) ⌝ }
+    ensures { λ r. ⌜ DidOver r (now (session .exit)) (now (command .exit))
+        (hosted stopStep (now (session .entry)) (now (command .entry))) ⌝ }
 {
     let admission = admit(session, command.len());
     match admission {

@@ -1,5 +1,5 @@
--- The session record and the reply of a call (document 01, "Calls and their numbers"), built anew only here: a new field
--- is added here.
+-- The session record and the reply of a call (document 01, "Calls and their numbers"), built anew only here: a new
+-- field is added here.
 -- Assumes nothing.
 use mathlib.Core.List.{List}
 use Prim.Native.Nat.{ℕ}
