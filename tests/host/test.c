@@ -1,4 +1,5 @@
-/* Runs the C calls: whole purchases with every command byte, each refusal, objects read back, and that lent bytes stay.
+/* Runs the C calls: whole purchases with every command byte, each refusal, objects read back and found, and that lent bytes
+ * stay.
  * Prints `ok`, or the first line that fails. */
 #include <stdio.h>
 #include <stdlib.h>
@@ -320,6 +321,30 @@ static void wiping(void)
     all_refuse(sizeof session, sizeof command, REFUSED(EMV_REFUSED_RANGES));
 }
 
+/* The value of the first object of a tag starts at this place and has this length. */
+static int finds(const uint8_t *bytes, size_t n, uint32_t tag, size_t place, size_t length)
+{
+    uint64_t found = emv_find(bytes, n, tag);
+    return EMV_IS_FOUND(found) && EMV_FOUND_PLACE(found) == place && EMV_FOUND_LENGTH(found) == length;
+}
+
+static void finding(void)
+{
+    static uint8_t many[65536];
+    CHECK(finds(BYTES("\x6F\x0B\x84\x02\x41\x42\xA5\x05\x50\x00\x50\x01\x43"), 0x50, 10, 0)); /* the first of two */
+    CHECK(finds(BYTES("\x6F\x0B\x84\x02\x41\x42\xA5\x05\x50\x00\x50\x01\x43"), 0xA5, 8, 5));
+    CHECK(emv_find(BYTES("\x6F\x02\x84\x00"), 0x9F38) == EMV_FIND_NONE && emv_find(BYTES(""), 0x9F38) == EMV_FIND_NONE);
+    CHECK(emv_find(BYTES("\x6F\x02\x84\x00\x50"), 0x84) == EMV_FIND_MALFORMED); /* behind the object */
+    CHECK(finds(BYTES("\xE1\x06\xE1\x04\xE1\x02\xE1\x00"), 0xE1, 2, 6));
+    CHECK(emv_find(BYTES("\xE1\x08\xE1\x06\xE1\x04\xE1\x02\xE1\x00"), 0xE1) == EMV_FIND_MALFORMED);
+    many[0] = 0x50;
+    many[1] = 0x82;
+    many[2] = 0xFF;
+    many[3] = 0xFB;
+    CHECK(finds(many, 65535, 0x50, 4, 65531));
+    CHECK(emv_find(many, 65536, 0x50) == EMV_FIND_MALFORMED);
+}
+
 static void versions(void)
 {
     uint32_t word = emv_version();
@@ -339,6 +364,7 @@ int main(void)
     lent_bytes();
     objects();
     wiping();
+    finding();
     printf("ok\n");
     return 0;
 }

@@ -11,6 +11,8 @@ ghost use mathlib.Core.Path.{_≡_};
 ghost use Rattle.record.specs.declared.Session.{Session};
 ghost use Rattle.layout.specs.Layout.{recordSize, decoded, withHead};
 ghost use Rattle.layout.specs.Word.{wordOf};
+ghost use Rattle.find.specs.Find.{findOf};
+ghost use Rattle.find.specs.Word.{findWord};
 ghost use Rattle.session.specs.Steps.{linkStep, stopStep};
 ghost use Rattle.session.specs.Start.{startStep};
 ghost use Rattle.session.specs.Answer.{answerStep};
@@ -155,6 +157,14 @@ pub extern "C" fn emv_object(session: &[u8], tag: u32, value: &mut [u8]) -> u32
         return layout::refusal_word(basics::REFUSED_RANGES);
     }
     object_in(&session[HEAD..RECORD_SIZE], tag, value)
+}
+
+// The first object of a tag in a card's bytes: its value's place and length, none, or that the bytes are malformed.
+#[no_mangle]
+pub extern "C" fn emv_find(bytes: &[u8], tag: u32) -> u64
+    ensures { λ r. ⌜ r ≡ findWord (findOf tag (now (bytes .entry))) ⌝ }
+{
+    find::find_word(bytes, tag)
 }
 
 // Writes 0 over all lent bytes, which hold no record then.
