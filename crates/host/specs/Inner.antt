@@ -1,5 +1,5 @@
--- What `admit` promises for its callers' proofs: the first two tests of a call over lent bytes, as the code takes them apart.
--- A reader of the rules can pass this over: `over-refused` and `over-step` in proofs/Laws.antt tie it to `hosted`.
+-- What `admit` promises for its callers' proofs: the first two tests of a call over lent bytes, as the code has them.
+-- A reader of the rules can pass this over: `over-refused` and `over-step` (proofs/Laws) tie it to `hosted`.
 -- Assumes nothing.
 use mathlib.Core.List.{List}
 use mathlib.Core.Option.{Option, some, none}

@@ -2,13 +2,14 @@
 -- its length and what stands behind a command, a locator with bytes stays as it is, and a start that ends does so before any command. Each
 -- goes by the ways of Ways.antt.
 -- Assumes nothing.
-use mathlib.Core.Path.{_≡_, refl, sym, ap, subst, _∙_}
+use mathlib.Core.Path.{_≡_, refl, ap, subst, _∙_}
 use mathlib.Core.Bool.{true}
 use mathlib.Core.List.{List}
 use Prim.Native.Nat.{ℕ, _+_, _≤_}
 use native.Mathlib.Omega.{arith}
 use lib.ListN.{length, drop, length-append, length-drop}
 use lib.Seq.{drop-at}
+use Rattle.dictionary.specs.Named.{row94}
 use Rattle.dictionary.specs.Rows.{storeSize}
 use Rattle.dictionary.proofs.Named.{at-94}
 use Rattle.store.specs.Place.{Value, bytesOf, valueOf}
@@ -145,7 +146,7 @@ module _ (s : Session) (card buf : List ℕ) (n : length (locatorIn (stored s)) 
   Same st = valueOf (stored (st .reply .session)) 0x94 ≡ valueOf (stored s) 0x94
 
   reads : (a : Awaited) → Admitted s (length buf) → valueOf (stored (taken a s card)) 0x94 ≡ valueOf (stored s) 0x94
-  reads a i = read-value a (stored s) card (store-size s (i .ranges)) 0x94 4 at-94 n
+  reads a i = read-value a (stored s) card (store-size s (i .ranges)) 0x94 row94 at-94 n
 
   same-options : {st : Step} → Admitted s (length buf) → OptionsWay (taken Awaited.Options s card) buf st → Same st
   same-options i (OptionsWay.failed m r) = reads Awaited.Options i
@@ -154,9 +155,9 @@ module _ (s : Session) (card buf : List ℕ) (n : length (locatorIn (stored s)) 
   same-records : (a : Awaited) {st : Step} → Admitted s (length buf) → length (stored (taken a s card)) ≡ storeSize → RecordsWay (taken a s card) buf st → Same st
   same-records a i l (RecordsWay.failed m r) = reads a i
   same-records a i l RecordsWay.unlisted =
-      bits-other (stored (taken a s card)) (resultOf (stored (taken a s card))) l (result-length (stored (taken a s card))) 0x94 4 at-94 (λ z. omega arith) ∙ reads a i
+      bits-other (stored (taken a s card)) (resultOf (stored (taken a s card))) l (result-length (stored (taken a s card))) 0x94 row94 at-94 (λ z. omega arith) ∙ reads a i
   same-records a i l (RecordsWay.asked c f g) =
-      bits-other (stored (taken a s card)) (resultOf (stored (taken a s card))) l (result-length (stored (taken a s card))) 0x94 4 at-94 (λ z. omega arith) ∙ reads a i
+      bits-other (stored (taken a s card)) (resultOf (stored (taken a s card))) l (result-length (stored (taken a s card))) 0x94 row94 at-94 (λ z. omega arith) ∙ reads a i
 
   same-record : (p : Place) (a : Awaited) {st : Step} → Admitted s (length buf) → length (stored (taken a s card)) ≡ storeSize → RecordWay p (taken a s card) buf st → Same st
   same-record p a i l (RecordWay.next r e) = reads a i

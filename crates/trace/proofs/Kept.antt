@@ -9,6 +9,7 @@ use lib.ListN.{length}
 use borrow.Author.Tests.{le-leb}
 use Rattle.basics.specs.Number.{hasBit}
 use Rattle.basics.proofs.Laws.{if-no, both-yes}
+use Rattle.dictionary.specs.Named.{row82, row94, row95}
 use Rattle.dictionary.specs.declared.Found.the-variants.{At}
 use Rattle.dictionary.specs.Rows.{rows, rowAt, rowCount, storeSize, find, cryptogram}
 use Rattle.dictionary.specs.Form.{digitsFit, fitting}
@@ -87,24 +88,24 @@ mode-bytes [] m e = let z : _≡_ {A = ℕ} 0 1 = cc in omega arith
 mode-bytes (x ∷ v) m e = omega arith
 
 pub read-mode : (a : Awaited) (b s : List ℕ) → length b ≡ storeSize → has (bytesIn b 0x82) 2 8 ≡ true → valueOf (readAnswer a b s .store) 0x82 ≡ valueOf b 0x82
-read-mode a b s l m = read-value a b s l 0x82 2 at-82 (mode-bytes (bytesIn b 0x82) m)
+read-mode a b s l m = read-value a b s l 0x82 row82 at-82 (mode-bytes (bytesIn b 0x82) m)
 
 pub read-locator : (a : Awaited) (b s : List ℕ) → length b ≡ storeSize → accepts (locatorIn b) ≡ true → valueOf (readAnswer a b s .store) 0x94 ≡ valueOf b 0x94
-read-locator a b s l m = read-value a b s l 0x94 4 at-94 (λ z. omega (arith, accepted-length (locatorIn b) m .1))
+read-locator a b s l m = read-value a b s l 0x94 row94 at-94 (λ z. omega (arith, accepted-length (locatorIn b) m .1))
 
 -- ---- the result bits
 
 -- 95 takes any five bytes
-bits-fitting : (v : List ℕ) → length v ≡ 5 → fitting (rowAt 5) v ≡ true
+bits-fitting : (v : List ℕ) → length v ≡ 5 → fitting (rowAt row95) v ≡ true
 unfolding rows fitting digitsFit
 bits-fitting v e = both-yes _ _ (le-leb 5 (length v) (omega arith)) (both-yes _ _ (le-leb (length v) 5 (omega arith)) (if-no _ _ refl ∙ if-no _ _ refl))
 
 module _ (b v : List ℕ) (l : length b ≡ storeSize) (n : length v ≡ 5) where
-  put : withResults b v ≡ putAt rows b 5 v
+  put : withResults b v ≡ putAt rows b row95 v
   unfolding withResults
   put = ap (λ (k : ℕ). putAt rows b k v) results-place
 
-  room : length v ≤ rowAt 5 .greatest
+  room : length v ≤ rowAt row95 .greatest
   room = omega (arith, results-fit)
 
   here : 5 < rowCount
@@ -123,7 +124,7 @@ module _ (b v : List ℕ) (l : length b ≡ storeSize) (n : length v ≡ 5) wher
   bits-here = ap (λ (d : List ℕ). valueOf d 0x95) put ∙ put-here b 5 v l here room 0x95 at-95
 
   -- every other tag keeps its value, and what is there stays there
-  pub bits-other : (t j : ℕ) → find rows t ≡ At j → (j ≡ 5 → ⊥) → valueOf (withResults b v) t ≡ valueOf b t
+  pub bits-other : (t j : ℕ) → find rows t ≡ At j → (j ≡ row95 → ⊥) → valueOf (withResults b v) t ≡ valueOf b t
   bits-other t j e ne = ap (λ (d : List ℕ). valueOf d t) put ∙ put-named b 5 v l here room t j e ne
 
   pub bits-hold : (t : ℕ) → holds b t ≡ true → holds (withResults b v) t ≡ true

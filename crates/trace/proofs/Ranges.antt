@@ -10,6 +10,7 @@ use borrow.Author.Tests.{ltb-true}
 use Rattle.basics.specs.Choice.{every}
 use Rattle.basics.specs.Number.{hasBit}
 use Rattle.basics.proofs.Laws.{both-left, both-right}
+use Rattle.dictionary.specs.Named.{row5A, row5F24, row82, row8C, row94, row95, row9F10, row9F26, row9F27, row9F35, row9F36}
 use Rattle.dictionary.specs.declared.Found.the-variants.{At}
 use Rattle.dictionary.specs.Rows.{rows, rowAt, storeSize, find, start}
 use Rattle.dictionary.specs.TerminalType.{listed}
@@ -134,11 +135,11 @@ module _ (s : Session) (i : inRanges s ≡ true) (p : Place) (q : s .phase ≡ P
       waiting-keeps (analysedSession t) _ (s .count + 1) (bits-size b v l n) (bits-fits b v l n (record-after .fits))
       (record {
         runs = bits-runs b v l n (record-after .runs);
-        mode = ap (λ (x : Value). has (bytesOf x) 2 8) (bits-other b v l n 0x82 2 at-82 (λ z. omega arith)) ∙ mode;
+        mode = ap (λ (x : Value). has (bytesOf x) 2 8) (bits-other b v l n 0x82 row82 at-82 (λ z. omega arith)) ∙ mode;
         locator = ap accepts kept ∙ located;
-        some-5F24 = filled 0x5F24 8 at-5F24 (λ z. omega arith) (ltb-true 0 _ (both-left _ _ f));
-        some-5A = filled 0x5A 1 at-5A (λ z. omega arith) (ltb-true 0 _ (both-left _ _ (both-right _ _ f)));
-        some-8C = filled 0x8C 3 at-8C (λ z. omega arith) (ltb-true 0 _ (both-left _ _ (both-right _ _ (both-right _ _ f))));
+        some-5F24 = filled 0x5F24 row5F24 at-5F24 (λ z. omega arith) (ltb-true 0 _ (both-left _ _ f));
+        some-5A = filled 0x5A row5A at-5A (λ z. omega arith) (ltb-true 0 _ (both-left _ _ (both-right _ _ f)));
+        some-8C = filled 0x8C row8C at-8C (λ z. omega arith) (ltb-true 0 _ (both-left _ _ (both-right _ _ (both-right _ _ f))));
         count = omega (arith, record-on .count, d, ap total kept);
       })
     where
@@ -155,9 +156,9 @@ module _ (s : Session) (i : inRanges s ≡ true) (p : Place) (q : s .phase ≡ P
       n = result-length (stored t)
 
       kept : locatorIn (withResults b v) ≡ locatorIn b
-      kept = ap bytesOf (bits-other b v l n 0x94 4 at-94 (λ z. omega arith))
+      kept = ap bytesOf (bits-other b v l n 0x94 row94 at-94 (λ z. omega arith))
 
-      filled : (u j : ℕ) → find rows u ≡ At j → (j ≡ 5 → ⊥) → 0 < length (bytesIn b u) → 0 < length (bytesIn (withResults b v) u)
+      filled : (u j : ℕ) → find rows u ≡ At j → (j ≡ row95 → ⊥) → 0 < length (bytesIn b u) → 0 < length (bytesIn (withResults b v) u)
       filled u j e ne h = subst (λ (x : Value). 0 < length (bytesOf x)) (sym (bits-other b v l n u j e ne)) h
 
   record-keeps : {st : Step} → RecordWay p t buf st → inRanges (st .reply .session) ≡ true
@@ -212,8 +213,8 @@ stop-keeps s buf i = broken-keeps s reasonStopped buf (record { least = omega ar
 -- ---- start
 
 -- rows that a start may not set
-not-set : (hasBit (rowAt 2 .setters) start ≡ false) × (hasBit (rowAt 4 .setters) start ≡ false) × (hasBit (rowAt 21 .setters) start ≡ false)
-    × (hasBit (rowAt 23 .setters) start ≡ false) × (hasBit (rowAt 24 .setters) start ≡ false) × (hasBit (rowAt 27 .setters) start ≡ false)
+not-set : (hasBit (rowAt row82 .setters) start ≡ false) × (hasBit (rowAt row94 .setters) start ≡ false) × (hasBit (rowAt row9F10 .setters) start ≡ false)
+    × (hasBit (rowAt row9F26 .setters) start ≡ false) × (hasBit (rowAt row9F27 .setters) start ≡ false) × (hasBit (rowAt row9F36 .setters) start ≡ false)
 unfolding rows
 not-set = (refl, refl, refl, refl, refl, refl)
 
@@ -238,12 +239,12 @@ module _ (s : Session) (i : inRanges s ≡ true) (q : s .phase ≡ Phase.Fresh) 
       record {
         results = ap isThere (bits-here b noResults size refl);
         brought = λ k h m. bits-hold b noResults size refl (rowAt k .tag) (all-brought b (load-brought (stored s) bytes b e) k h m);
-        terminal = ap (λ (x : Value). listed (getD (bytesOf x) 0 0)) (bits-other b noResults size refl 0x9F35 26 at-9F35 (λ z. omega arith))
+        terminal = ap (λ (x : Value). listed (getD (bytesOf x) 0 0)) (bits-other b noResults size refl 0x9F35 row9F35 at-9F35 (λ z. omega arith))
             ∙ load-listed (stored s) bytes b e (store-size s i) (ap isThere (none-yet 0x9F35));
-        no-9F10 = lacking 0x9F10 21 at-9F10 (not-set .2) (λ z. omega arith);
-        no-9F26 = lacking 0x9F26 23 at-9F26 (not-set .3) (λ z. omega arith);
-        no-9F27 = lacking 0x9F27 24 at-9F27 (not-set .4) (λ z. omega arith);
-        no-9F36 = lacking 0x9F36 27 at-9F36 (not-set .5) (λ z. omega arith);
+        no-9F10 = lacking 0x9F10 row9F10 at-9F10 (not-set .2) (λ z. omega arith);
+        no-9F26 = lacking 0x9F26 row9F26 at-9F26 (not-set .3) (λ z. omega arith);
+        no-9F27 = lacking 0x9F27 row9F27 at-9F27 (not-set .4) (λ z. omega arith);
+        no-9F36 = lacking 0x9F36 row9F36 at-9F36 (not-set .5) (λ z. omega arith);
       }
 
   start-fails : inRanges (endedSession (loadedSession s b) (endOf (outcomeFor reasonDataList) reasonDataList)) ≡ true
@@ -254,8 +255,8 @@ module _ (s : Session) (i : inRanges s ≡ true) (q : s .phase ≡ Phase.Fresh) 
       waiting-keeps (loadedSession s b) Phase.Options (s .count + 1) (bits-size b noResults size refl) (bits-fits b noResults size refl fits)
       (record {
         runs = running;
-        no-82 = lacking 0x82 2 at-82 (not-set .0) (λ z. omega arith);
-        no-94 = lacking 0x94 4 at-94 (not-set .1) (λ z. omega arith);
+        no-82 = lacking 0x82 row82 at-82 (not-set .0) (λ z. omega arith);
+        no-94 = lacking 0x94 row94 at-94 (not-set .1) (λ z. omega arith);
         zero-95 = bits-here b noResults size refl;
         count = omega (arith, fresh-on .count);
       })
