@@ -55,18 +55,6 @@ endOf o n = record { outcome = o; reason = n }
 abbrev pub refusedReply : Session → ℕ → Reply
 refusedReply s n = record { session = s; answer = Answer.Refused (record { number = n }) }
 
--- the session ends with an outcome and a reason
-abbrev pub endsReply : Session → Outcome → ℕ → Reply
-endsReply s o n = record { session = endedSession s (endOf o n); answer = Answer.Outcome (endOf o n) }
-
--- the session ends for a reason other than 0
-abbrev pub failsReply : Session → ℕ → Reply
-failsReply s n = endsReply s (outcomeFor n) n
-
--- a command of n bytes is handed out, and the session waits on its answer
-abbrev pub commandsReply : Session → ℕ → Reply
-commandsReply s n = record { session = s; answer = Answer.Command (record { size = n }) }
-
 -- ---- turns: a reply without the store
 
 -- a turn with the store that it left
