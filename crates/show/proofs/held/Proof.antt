@@ -2,17 +2,17 @@
 use Prim.Native.Nat.{_-_}
 use borrow.Author.Needs.{needs}
 use Rattle.dictionary.specs.Rows.{rowCount}
-use Rattle.show.proofs.objects.Statement.{statement}
-use Rattle.show.proofs.objects.Tie as tie
+use Rattle.show.proofs.held.Statement.{statement}
+use Rattle.show.proofs.held.Tie as tie
 
 abbrev Inv-loop : tie.InvT-loop
-Inv-loop store row₀ row = Unit {0}
+Inv-loop store in-bits row₀ row = Unit {0}
 
 abbrev μ-loop : tie.MeasureT-loop
-μ-loop store row₀ row = rowCount - row
+μ-loop store in-bits row₀ row = rowCount - row
 
-pub objects-spec : {M : Type 1} → statement M
-objects-spec =
+pub held-spec : {M : Type 1} → statement M
+held-spec =
     tie.close
     (tie.spec
     Inv-loop
