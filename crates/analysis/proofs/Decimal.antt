@@ -5,7 +5,8 @@ use Prim.Native.Nat.{ℕ, _+_, _*_}
 use native.Mathlib.Omega.{arith}
 use lib.ListN.{length}
 use Rattle.basics.specs.Number.{nibbles}
-use Rattle.analysis.specs.Digits.{decimalFrom, decimal, twoDigits, dateOf, amountOf}
+use Rattle.analysis.specs.Digits.{decimalFrom, decimal, dateOf, amountOf}
+use Rattle.analysis.specs.Inner.{twoDigits}
 use Rattle.analysis.proofs.Value.{front-whole}
 
 pub decimal-three : (a b c : ℕ) → decimal (a ∷ b ∷ c ∷ []) ≡ twoDigits a * 10000 + twoDigits b * 100 + twoDigits c

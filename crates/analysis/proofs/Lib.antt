@@ -2,6 +2,7 @@ pub mod Bench
 pub mod Bits
 pub mod Decimal
 pub mod ByRow
+pub mod Examples
 pub mod Laws
 pub mod Listed
 pub mod Lowest

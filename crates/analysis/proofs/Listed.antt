@@ -1,12 +1,12 @@
 -- Types compared with the numbers that a rule lists. Assumes nothing.
 use mathlib.Core.Bool.{true, false}
 use mathlib.Core.Logic.{_⊎_, inl, inr}
-use mathlib.Core.Path.{_≡_}
+use mathlib.Core.Path.{_≡_, sym, _∙_}
 use Prim.Native.Nat.{ℕ, _≤_, _<_}
 use native.Mathlib.Omega.{arith}
 use lib.Dec.{eqb}
-use borrow.Author.Tests.{eq-eqb, ne-eqb, eqb-false}
-use Rattle.basics.proofs.Laws.{bool-cases, either-left, either-right, either-no}
+use borrow.Author.Tests.{eq-eqb, ne-eqb, eqb-true, eqb-false}
+use Rattle.basics.proofs.Laws.{bool-cases, either-left, either-right, either-no, either-false}
 use Rattle.analysis.specs.Digits.{oneOf}
 use Rattle.analysis.specs.Restrictions.{atmType}
 
@@ -16,6 +16,10 @@ is-one x a b (inr e) = either-right _ _ (eq-eqb x b e)
 
 pub is-none : (x a b : ℕ) → ((x ≡ a) ⊎ (x ≡ b) → ⊥) → oneOf x a b ≡ false
 is-none x a b h = either-no _ _ (ne-eqb x a (λ e. h (inl e))) (ne-eqb x b (λ e. h (inr e)))
+
+pub one-is : (x a b : ℕ) → oneOf x a b ≡ true → (x ≡ a) ⊎ (x ≡ b)
+one-is x a b e =
+    elim (bool-cases (eqb x a)) [ inl y ↦ inl (eqb-true x a y) | inr n ↦ inr (eqb-true x b (sym (either-false _ n) ∙ e)) ]
 
 pub atm-type : (k : ℕ) → 0x14 ≤ k → k ≤ 0x16 → atmType k ≡ true
 atm-type k l h =

@@ -11,7 +11,8 @@ use lib.ListN.{getD}
 use Rattle.basics.proofs.Order.{le-or-gt}
 use Rattle.basics.specs.Choice.{if, both, either}
 use Rattle.analysis.specs.Bits.{bit, bitIn}
-use Rattle.analysis.specs.Choice.{holdsBit, heldIn, lowestFrom, lowestBit, heldAt, capabilityOf, consulted, choiceBy, choiceOf, forcedAt, unforcedAt}
+use Rattle.analysis.specs.Choice.{holdsBit, lowestFrom, lowestBit, heldAt, capabilityOf, choiceBy, choiceOf}
+use Rattle.analysis.specs.Inner.{heldIn, consulted, forcedAt, unforcedAt}
 use Rattle.analysis.specs.declared.choice.Lowest.the-variants.{Bit, NoBit}
 use Rattle.analysis.specs.declared.choice.Pair.{Pair}
 use Rattle.analysis.specs.declared.choice.Capability.the-variants.{OnlineOnly, OnlineCapable, OfflineOnly, Unlisted}

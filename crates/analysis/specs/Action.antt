@@ -1,8 +1,10 @@
--- Action analysis over a session's store (document 01, "Result bits and the choice" and, for the limit, "Commands and steps"): the
--- result bits 95, the three pairs of action codes, the choice and the transaction limit, from the values of the tags that the rules name.
--- A running session in its ranges holds 9A, 9C, 9F02, 9F09, 9F1A, 9F35 and DF8120 to DF8124, each at its length, and 5F24 when the bits are made.
--- Document 01 leaves open what comes of a store that lacks one of them. Here an absent value reads as no bytes, and a byte past a value's
--- end as 0: so a missing date, amount, type or terminal's code is zero, and a missing version or country is unlike any that has bytes.
+-- Action analysis over a session's store (document 01, "Result bits and the choice" and, for the limit, "Commands and
+-- steps"): the result bits 95, the three pairs of action codes, the choice and the transaction limit, from the values of
+-- the tags that the rules name.
+-- A running session in its ranges holds 9A, 9C, 9F02, 9F09, 9F1A, 9F35 and DF8120 to DF8124, each at its length, and 5F24
+-- when the bits are made. Document 01 leaves open what comes of a store that lacks one of them. Here an absent value reads
+-- as no bytes, and a byte past a value's end as 0: so a missing date, amount, type or terminal's code is zero, and a
+-- missing version or country is unlike any that has bytes.
 -- Assumes nothing.
 use mathlib.Core.Bool.{Bool}
 use mathlib.Core.List.{List, [], _∷_}
@@ -41,14 +43,19 @@ aboveLimit store = amountAbove (bytesIn store 0x9F02) (limitOf store)
 -- byte 2 b5: the application usage control against type, capabilities, countries, transaction type and other amount
 unfoldable pub usageIn : List ℕ → Bool
 usageIn store =
-    usageOf (valueOf store 0x9F07) (terminalType store) (valueOf store 0x9F40) (valueOf store 0x5F28) (bytesIn store 0x9F1A)
+    usageOf (valueOf store 0x9F07)
+    (terminalType store) (valueOf store 0x9F40)
+    (valueOf store 0x5F28) (bytesIn store 0x9F1A)
     (transactionType store) (valueOf store 0x9F03)
 
 -- byte 2: version, expiration date, effective date, usage
 unfoldable pub restrictionsOf : List ℕ → ℕ
 restrictionsOf store =
-    restrictionBits (otherVersion (valueOf store 0x9F08) (bytesIn store 0x9F09)) (expired (bytesIn store 0x9A) (bytesIn store 0x5F24))
-    (notYetEffective (valueOf store 0x5F25) (bytesIn store 0x9A)) (usageIn store)
+    restrictionBits
+    (otherVersion (valueOf store 0x9F08) (bytesIn store 0x9F09))
+    (expired (bytesIn store 0x9A) (bytesIn store 0x5F24))
+    (notYetEffective (valueOf store 0x5F25) (bytesIn store 0x9A))
+    (usageIn store)
 
 -- the five bytes of 95
 unfoldable pub resultOf : List ℕ → List ℕ

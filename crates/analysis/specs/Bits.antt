@@ -1,10 +1,11 @@
--- Bits of a value (document 01, "Result bits and the choice"): by byte and b8 to b1, as the rules name them, and by one number.
+-- Bits of a value (document 01, "Result bits and the choice"): by byte and b8 to b1, as the rules name them, and by one
+-- number.
 -- Assumes nothing.
 use mathlib.Core.Bool.{Bool}
 use mathlib.Core.List.{List}
 use Prim.Native.Nat.{ℕ, _+_, _-_, _/_, _%_, _^_}
 use lib.ListN.{getD}
-use Rattle.basics.specs.Choice.{if}
+use Rattle.basics.specs.Choice.{if_then_else_}
 use Rattle.basics.specs.Number.{hasBit}
 
 -- bit b of a byte is set: b8 is the highest, b1 the lowest
@@ -13,7 +14,7 @@ bitIn x b = hasBit x (2 ^ (b - 1))
 
 -- what bit b adds to a byte where a test sets it
 abbrev pub worth : ℕ → Bool → ℕ
-worth b set = if set (2 ^ (b - 1)) 0
+worth b set = if set then 2 ^ (b - 1) else 0
 
 -- bit b of byte n of a value is set: the first byte is byte 1; past the end no bit is set
 abbrev pub has : List ℕ → ℕ → ℕ → Bool

@@ -1,4 +1,5 @@
--- The result bits, 95 (document 01, "Result bits and the choice"): the floor limit's byte, and the five bytes put together.
+-- The result bits, 95 (document 01, "Result bits and the choice"): the floor limit's byte, and the five bytes put
+-- together.
 -- Assumes nothing.
 use mathlib.Core.List.{List, [], _∷_}
 use Prim.Native.Nat.{ℕ}

@@ -15,7 +15,7 @@ ghost use lib.ListN.{getD};
 ghost use Rattle.dictionary.specs.Rows.{rows};
 ghost use Rattle.store.specs.Place.{bytesOf, valueAt, valueOf};
 ghost use Rattle.store.specs.Held.{bytesIn};
-ghost use Rattle.analysis.specs.Choice.{pairOf};
+ghost use Rattle.analysis.specs.Choice.{pairOf, p1Of, p1For};
 ghost use Rattle.analysis.specs.Restrictions.{otherVersion, notYetEffective, atAtm, countryOf, cashback};
 ghost use Rattle.analysis.specs.Action.{limitOf, aboveLimit, usageIn, restrictionsOf, resultOf, terminalType, codesOf, chosen};
 
@@ -41,7 +41,8 @@ pub fn codes_of(bytes: &[u8]) -> [Pair; 3]
 
 // What is asked for on a result.
 pub fn choice_for(bytes: &[u8], result: [u8; 5]) -> Choice
-    ensures { λ r. ⌜ r ≡ chosen (now (bytes .entry)) result ⌝ }
+    ensures choice { λ r. ⌜ r ≡ chosen (now (bytes .entry)) result ⌝ }
+    ensures number { λ r. ⌜ p1Of r ≡ p1For result (terminalType (now (bytes .entry))) (codesOf (now (bytes .entry))) ⌝ }
 {
     choice::choose(result, terminal_type(bytes), codes_of(bytes))
 }

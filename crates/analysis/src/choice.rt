@@ -3,7 +3,8 @@ use crate::byte;
 ghost use mathlib.Core.Path.{_≡_};
 ghost use Prim.Native.Nat.{_<_};
 ghost use Rattle.analysis.specs.Value.{given};
-ghost use Rattle.analysis.specs.Choice.{lowestFrom, heldIn, lowestBit, capabilityOf, consulted as isConsulted, forcedAt, unforcedAt, choiceOf, p1Of, cardCode, pairOf};
+ghost use Rattle.analysis.specs.Choice.{lowestFrom, lowestBit, capabilityOf, choiceOf, p1Of, p1For, cardCode, pairOf};
+ghost use Rattle.analysis.specs.Inner.{heldIn, consulted as isConsulted, forcedAt, unforcedAt};
 
 // The action codes of a stage, five bytes each.
 pub struct Pair {
@@ -65,7 +66,8 @@ pub fn card_code(stage: usize, there: bool, code: &[u8]) -> [u8; 5]
 
 // The choice: the first stage that the type consults and that holds a bit forces it, and else the type alone gives it.
 pub fn choose(bits: [u8; 5], kind: u8, pairs: [Pair; 3]) -> Choice
-    ensures { λ r. ⌜ r ≡ choiceOf bits kind pairs ⌝ }
+    ensures choice { λ r. ⌜ r ≡ choiceOf bits kind pairs ⌝ }
+    ensures number { λ r. ⌜ p1Of r ≡ p1For bits kind pairs ⌝ }
 {
     let capability = capability_of(kind);
     let mut stage = 0;

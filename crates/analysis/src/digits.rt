@@ -1,9 +1,8 @@
 // Dates and amounts, two digits to a byte, compared as decimal numbers.
 ghost use mathlib.Core.Path.{_≡_};
-ghost use mathlib.Core.List.{[], _∷_};
-ghost use Prim.Native.Nat.{_+_, _≤_};
-ghost use lib.ListN.{getD};
-ghost use Rattle.analysis.specs.Digits.{decimal, twoDigits, dateOf, laterThan, amountOf, amountAbove};
+ghost use Prim.Native.Nat.{_≤_};
+ghost use Rattle.analysis.specs.Digits.{dateOf, laterThan, amountOf, amountAbove};
+ghost use Rattle.analysis.specs.Inner.{twoDigits, sixDigits};
 
 // Date a, YYMMDD, is later than date b. Of each the first three bytes count, and bytes past the end are 0.
 pub fn later(a: &[u8], b: &[u8]) -> bool
@@ -36,7 +35,7 @@ pub fn amount_of(s: &[u8]) -> u64
 // The six digits in the three bytes from a place on.
 fn six_digits(s: &[u8], i: usize) -> u64
     requires { ⌜ i ≤ 3 ⌝ }
-    ensures { λ r. ⌜ (r ≡ decimal (getD (now (s .entry)) i 0 ∷ getD (now (s .entry)) (i + 1) 0 ∷ getD (now (s .entry)) (i + 2) 0 ∷ [])) × (r ≤ 1666665) ⌝ }
+    ensures { λ r. ⌜ (r ≡ sixDigits (now (s .entry)) i) × (r ≤ 1666665) ⌝ }
 {
     two_digits(basics::byte_at(s, i)) * 10000
         + two_digits(basics::byte_at(s, i + 1)) * 100

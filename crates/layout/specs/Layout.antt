@@ -1,14 +1,13 @@
--- The session record as bytes (docs/HOST.md has the table by offset): a head of the layout's version, the code of the phase and the
--- count of commands handed out, and behind it the store as it stands.
+-- The session record as bytes (docs/HOST.md has the table by offset): a head of the layout's version, the code of the
+-- phase and the count of commands handed out, and behind it the store as it stands.
 -- Assumes nothing.
 use mathlib.Core.Path.{_≡_}
 use mathlib.Core.Bool.{Bool}
 use mathlib.Core.List.{List, [], _∷_, _++_}
 use mathlib.Core.Option.{Option, some, none}
 use Prim.Native.Nat.{ℕ, _+_}
-use lib.Dec.{eqb, leb}
 use lib.ListN.{length, getD, take, drop}
-use Rattle.basics.specs.Choice.{if, both}
+use Rattle.basics.specs.Choice.{if_then_else_, _and_, _≤?_, _=?_}
 use Rattle.basics.specs.Front.{inFront}
 use Rattle.dictionary.specs.Rows.{storeSize}
 use Rattle.analysis.specs.declared.choice.Choice.{Choice}
@@ -50,37 +49,51 @@ onCryptogram = 3
 abbrev pub onEnded : ℕ
 onEnded = 4
 
--- what the head says of a phase: the record's number, the P1 asked for, or the outcome and its reason; 0 where there is none
+-- a code of its three bytes
+abbrev pub code : ℕ → ℕ → ℕ → Code
+code n d r = record { number = n; datum = d; reason = r }
+
+-- what the head says of a phase: the record's number, the P1 asked for, or the outcome and its reason; 0 where there is
+-- none
 abbrev pub codeOf : Phase → Code
-codeOf Phase.Fresh = record { number = onFresh; datum = 0; reason = 0 }
-codeOf Phase.Options = record { number = onOptions; datum = 0; reason = 0 }
-codeOf (Phase.Record p) = record { number = onRecord; datum = p .number; reason = 0 }
-codeOf (Phase.Cryptogram a) = record { number = onCryptogram; datum = p1Of (a .choice); reason = 0 }
-codeOf (Phase.Ended e) = record { number = onEnded; datum = outcomeNumber (e .outcome); reason = e .reason }
+codeOf Phase.Fresh          = code onFresh 0 0
+codeOf Phase.Options        = code onOptions 0 0
+codeOf (Phase.Record p)     = code onRecord (p .number) 0
+codeOf (Phase.Cryptogram a) = code onCryptogram (p1Of (a .choice)) 0
+codeOf (Phase.Ended e)      = code onEnded (outcomeNumber (e .outcome)) (e .reason)
 
--- the way back: any code is read as some phase, and is that phase's code only where a phase has it
+-- the way back: any code is read as some phase, and is that phase's code only where a phase has it.
+-- the choice that a P1 asks for; a decline where none has it
 unfoldable pub choiceFrom : ℕ → Choice
-choiceFrom p1 = if (eqb p1 0x40) Choice.Offline (if (eqb p1 0x80) Choice.Online Choice.Decline)
+choiceFrom p1 =
+    if p1 =? 0x40 then Choice.Offline
+    else if p1 =? 0x80 then Choice.Online
+    else Choice.Decline
 
+-- the outcome of a number; the last one where none has it
 unfoldable pub outcomeFrom : ℕ → Outcome
 outcomeFrom n =
-    if (eqb n 0) Outcome.Approved
-    (if (eqb n 1) Outcome.OnlineRequest
-    (if (eqb n 2) Outcome.Declined
-    (if (eqb n 3) Outcome.Ended
-    Outcome.SelectNext)))
+    if n =? 0 then Outcome.Approved
+    else if n =? 1 then Outcome.OnlineRequest
+    else if n =? 2 then Outcome.Declined
+    else if n =? 3 then Outcome.Ended
+    else Outcome.SelectNext
 
+-- the phase of a code; the last one where none has its number
 unfoldable pub phaseOf : Code → Phase
 phaseOf c =
-    if (eqb (c .number) onFresh) Phase.Fresh
-    (if (eqb (c .number) onOptions) Phase.Options
-    (if (eqb (c .number) onRecord) (Phase.Record (record { number = c .datum }))
-    (if (eqb (c .number) onCryptogram) (Phase.Cryptogram (record { choice = choiceFrom (c .datum) }))
-    (Phase.Ended (record { outcome = outcomeFrom (c .datum); reason = c .reason })))))
+    if c .number =? onFresh then Phase.Fresh
+    else if c .number =? onOptions then Phase.Options
+    else if c .number =? onRecord then Phase.Record (record { number = c .datum })
+    else if c .number =? onCryptogram then Phase.Cryptogram (record { choice = choiceFrom (c .datum) })
+    else Phase.Ended (record { outcome = outcomeFrom (c .datum); reason = c .reason })
 
 -- two codes are the same
 unfoldable pub sameCode : Code → Code → Bool
-sameCode a b = both (eqb (a .number) (b .number)) (both (eqb (a .datum) (b .datum)) (eqb (a .reason) (b .reason)))
+sameCode a b =
+    a .number =? b .number
+    and a .datum =? b .datum
+    and a .reason =? b .reason
 
 -- ---- the record
 
@@ -94,26 +107,36 @@ encoded s = headOf (s .phase) (s .count) ++ stored s
 
 -- the bytes l with a record in front: those behind it stay, and so do all where they are too few
 unfoldable pub withRecord : Session → List ℕ → List ℕ
-withRecord s l = if (leb recordSize (length l)) (encoded s ++ drop recordSize l) l
+withRecord s l =
+    if recordSize ≤? length l then encoded s ++ drop recordSize l
+    else l
 
 -- the bytes l with a head in front: those behind it stay, and so do all where they are too few for a record
 unfoldable pub withHead : Phase → ℕ → List ℕ → List ℕ
-withHead p n l = if (leb recordSize (length l)) (inFront (headOf p n) l) l
+withHead p n l =
+    if recordSize ≤? length l then inFront (headOf p n) l
+    else l
 
--- the code in a head, and the session in a phase with the count and the store that the bytes have
+-- the code in a head
 abbrev pub codeIn : List ℕ → Code
-codeIn l = record { number = getD l 1 0; datum = getD l 2 0; reason = getD l 3 0 }
+codeIn l = code (getD l 1 0) (getD l 2 0) (getD l 3 0)
 
+-- the session in a phase with the count and the store that the bytes have
 abbrev pub sessionIn : Phase → List ℕ → Session
 sessionIn p l = sessionOf p (getD l 4 0) (take storeSize (drop headSize l))
 
 -- the bytes hold a record: enough of them, of this version, with the code of a phase
 unfoldable pub holdsRecord : List ℕ → Bool
-holdsRecord l = both (leb recordSize (length l)) (both (eqb (getD l 0 0) version) (sameCode (codeOf (phaseOf (codeIn l))) (codeIn l)))
+holdsRecord l =
+    recordSize ≤? length l
+    and getD l 0 0 =? version
+    and sameCode (codeOf (phaseOf (codeIn l))) (codeIn l)
 
 -- the session that bytes hold, none where they hold no record
 unfoldable pub decoded : List ℕ → Option Session
-decoded l = if (holdsRecord l) (some (sessionIn (phaseOf (codeIn l)) l)) none
+decoded l =
+    if holdsRecord l then some (sessionIn (phaseOf (codeIn l)) l)
+    else none
 
 -- what holds of the two, proved in proofs/Laws:
 --   decode-encode    the record in front of any bytes is read back as it was
@@ -123,7 +146,7 @@ decoded l = if (holdsRecord l) (some (sessionIn (phaseOf (codeIn l)) l)) none
 
 -- writing says whether the bytes were enough
 pub record Wrote (s : Session) (before : List ℕ) (r : Bool) (after : List ℕ) : Type 0 where
-  pub enough : r ≡ leb recordSize (length before)
+  pub enough : r ≡ (recordSize ≤? length before)
   pub bytes : after ≡ withRecord s before
 
 -- what is said of the bytes: the session's phase and count, or that there is no record

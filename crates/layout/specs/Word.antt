@@ -1,4 +1,5 @@
--- A call's answer as one number of 32 bits (docs/HOST.md): a command below 65,536, an outcome from there on, a refusal from 131,072 on.
+-- A call's answer as one number of 32 bits (docs/HOST.md): a command below 65,536, an outcome from there on, a refusal
+-- from 131,072 on.
 -- Assumes nothing.
 use Prim.Native.Nat.{ℕ, _+_, _*_, min}
 use Rattle.record.specs.declared.End.{End}
@@ -24,6 +25,7 @@ outcomeWord e = outcomes + outcomeNumber (e .outcome) * 256 + e .reason
 abbrev pub refusalWord : ℕ → ℕ
 refusalWord n = refusals + n
 
+-- an answer of a call
 abbrev pub wordOf : Answer → ℕ
 wordOf (Answer.Command c) = commandWord (c .size)
 wordOf (Answer.Outcome e) = outcomeWord e

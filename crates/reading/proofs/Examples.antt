@@ -4,12 +4,13 @@ use mathlib.Core.Path.{_≡_, refl}
 use mathlib.Core.List.{List, [], _∷_, _++_, map}
 use Prim.Native.Nat.{ℕ}
 use lib.ListN.{replicate}
+use Rattle.basics.specs.Recursion.{recurse, recurseBy}
 use Rattle.basics.specs.Choice.{if, both}
 use Rattle.basics.specs.Number.{numberFrom}
 use Rattle.tlv.specs.Tag.{tagSize, secondByte, tagAt, firstByte, isTemplate, isPrivate}
 use Rattle.tlv.specs.Length.{lengthAt, oneByte}
 use Rattle.tlv.specs.Object.{headerOf}
-use Rattle.tlv.specs.Tree.{count, nextOf, withLeaf, withNode, parseBy, parse}
+use Rattle.tlv.specs.Tree.{count, nextOf, withLeaf, withNode, parse}
 use Rattle.dictionary.specs.Rows.{rows, storeSize, past, find}
 use Rattle.dictionary.specs.Form.{digitsFit, fitting}
 use Rattle.store.specs.Place.{offsetIn, placeAt, held, valueAt, putAt, valueIn}
@@ -67,7 +68,7 @@ cryptograms = refl
 levels : map (body (file 1))
     ((0x70 ∷ 0x06 ∷ 0xE1 ∷ 0x04 ∷ 0xE1 ∷ 0x02 ∷ 0xE1 ∷ 0x00 ∷ []) ∷ (0x70 ∷ 0x08 ∷ 0xE1 ∷ 0x06 ∷ 0xE1 ∷ 0x04 ∷ 0xE1 ∷ 0x02 ∷ 0xE1 ∷ 0x00 ∷ []) ∷ [])
     ≡ (0 ∷ 4 ∷ []) ∷ (2 ∷ 0 ∷ []) ∷ []
-unfolding readBody bodyOf headerOf tagAt tagSize lengthAt firstByte isTemplate isPrivate numberFrom if both parse parseBy nextOf withNode count templateParts items takeAll
+unfolding readBody bodyOf headerOf tagAt tagSize lengthAt firstByte isTemplate isPrivate numberFrom if both parse recurse recurseBy nextOf withNode count templateParts items takeAll
 levels = refl
 
 -- a wrong outer tag keeps the count, and so does an object that is not allowed; a second object, or a byte behind, makes it 0:
@@ -82,11 +83,11 @@ counts : map (body (file 1))
     ∷ (0x70 ∷ 0x04 ∷ 0x82 ∷ 0x02 ∷ 0x19 ∷ 0x80 ∷ [])
     ∷ [])
     ≡ (2 ∷ 1 ∷ []) ∷ (2 ∷ 2 ∷ []) ∷ (2 ∷ 1 ∷ []) ∷ (2 ∷ 1 ∷ []) ∷ (2 ∷ 0 ∷ []) ∷ (2 ∷ 0 ∷ []) ∷ (3 ∷ 2 ∷ []) ∷ []
-unfolding readBody bodyOf headerOf tagAt tagSize lengthAt firstByte isTemplate isPrivate numberFrom if both parse parseBy nextOf withLeaf withNode count primitiveParts templateParts items takeAll takeNext takeItem rows past find allowed mayCome mayStand
+unfolding readBody bodyOf headerOf tagAt tagSize lengthAt firstByte isTemplate isPrivate numberFrom if both parse recurse recurseBy nextOf withLeaf withNode count primitiveParts templateParts items takeAll takeNext takeItem rows past find allowed mayCome mayStand
 counts = refl
 
 -- 70 for the other two answers, and 57 in place of 80
 others : map (body Options) ((0x70 ∷ 0x00 ∷ []) ∷ (0x57 ∷ 0x00 ∷ []) ∷ (0x77 ∷ 0x00 ∷ []) ∷ []) ++ map (body Cryptogram) ((0x70 ∷ 0x00 ∷ []) ∷ (0x57 ∷ 0x00 ∷ []) ∷ (0x77 ∷ 0x00 ∷ []) ∷ [])
     ≡ (2 ∷ 1 ∷ []) ∷ (2 ∷ 1 ∷ []) ∷ (0 ∷ 1 ∷ []) ∷ (2 ∷ 1 ∷ []) ∷ (2 ∷ 1 ∷ []) ∷ (0 ∷ 1 ∷ []) ∷ []
-unfolding readBody bodyOf headerOf tagAt tagSize lengthAt firstByte isTemplate isPrivate numberFrom if both parse parseBy nextOf count primitiveParts templateParts items takeAll
+unfolding readBody bodyOf headerOf tagAt tagSize lengthAt firstByte isTemplate isPrivate numberFrom if both parse recurse recurseBy nextOf count primitiveParts templateParts items takeAll
 others = refl

@@ -6,7 +6,8 @@ use Prim.Native.Nat.{ℕ, _+_, _≤_, _<_}
 use native.Mathlib.Omega.{arith}
 use lib.ListN.{length}
 use Rattle.basics.specs.Choice.{both, every}
-use Rattle.dictionary.specs.Rows.{rows, rowAt, find}
+use Rattle.dictionary.specs.Rows.{rows, rowAt, rowCount, storeSize, find}
+use Rattle.dictionary.specs.Named.{row5A, row82, row8C, row94, row95, row5F24}
 use Rattle.dictionary.specs.declared.Found.the-variants.{At}
 use Rattle.dictionary.specs.Form.{fitting}
 use Rattle.dictionary.proofs.Fit.{fits-length}
@@ -35,79 +36,79 @@ putIn s k v = storedSession s (record { bytes = putAt rows (stored s) k v })
 pub approved-at-none : inRanges (endedSession freshSession (endOf Outcome.Approved reasonNone)) ≡ true
 approved-at-none = ended-keeps freshSession Outcome.Approved reasonNone (decided .0) refl empty-fits (omega arith)
 
-account-apart : apartFrom runningTags (rowAt 1) ≡ true
+account-apart : apartFrom runningTags (rowAt row5A) ≡ true
 unfolding rows every both apartFrom
 account-apart = refl
 
 -- waiting on processing options with an account number in the store
-pub options-with-5A : (s : Session) → inRanges s ≡ true → s .phase ≡ Phase.Options → (v : List ℕ) → fitting (rowAt 1) v ≡ true → inRanges (putIn s 1 v) ≡ true
+pub options-with-5A : (s : Session) → inRanges s ≡ true → s .phase ≡ Phase.Options → (v : List ℕ) → fitting (rowAt row5A) v ≡ true → inRanges (putIn s row5A v) ≡ true
 options-with-5A s e q v w =
-    clauses-pass (putIn s 1 v)
+    clauses-pass (putIn s row5A v)
     (record {
-      size = put-size b 1 v l h g;
-      fits = fits-kept b 1 v l h w (store-fits s e);
-      phase = subst (λ (p : Phase). InPhase p (putIn s 1 v)) (sym q) after;
+      size = put-size b row5A v l h g;
+      fits = fits-kept b row5A v l h w (store-fits s e);
+      phase = subst (λ (p : Phase). InPhase p (putIn s row5A v)) (sym q) after;
     })
   where
     b : List ℕ
     b = stored s
 
-    l : length b ≡ 943
+    l : length b ≡ storeSize
     l = store-size s e
 
-    h : 1 < 36
+    h : row5A < rowCount
     h = omega arith
 
-    g : length v ≤ rowAt 1 .greatest
-    g = fits-length (rowAt 1) v w .1
+    g : length v ≤ rowAt row5A .greatest
+    g = fits-length (rowAt row5A) v w .1
 
     c : OnOptions (s .count) b
     c = on-options s e q
 
-    after : OnOptions (s .count) (putAt rows b 1 v)
+    after : OnOptions (s .count) (putAt rows b row5A v)
     after = record {
-      runs = put-runs b 1 v l h g account-apart (c .runs);
-      no-82 = put-named b 1 v l h g 0x82 2 at-82 (λ z. omega arith) ∙ c .no-82;
-      no-94 = put-named b 1 v l h g 0x94 4 at-94 (λ z. omega arith) ∙ c .no-94;
-      zero-95 = put-named b 1 v l h g 0x95 5 at-95 (λ z. omega arith) ∙ c .zero-95;
+      runs = put-runs b row5A v l h g account-apart (c .runs);
+      no-82 = put-named b row5A v l h g 0x82 row82 at-82 (λ z. omega arith) ∙ c .no-82;
+      no-94 = put-named b row5A v l h g 0x94 row94 at-94 (λ z. omega arith) ∙ c .no-94;
+      zero-95 = put-named b row5A v l h g 0x95 row95 at-95 (λ z. omega arith) ∙ c .zero-95;
       count = c .count;
     }
 
 -- waiting on the cryptogram with any five result bytes, zeros too
-pub cryptogram-with-any-95 : (s : Session) (a : Asked) → inRanges s ≡ true → s .phase ≡ Phase.Cryptogram a → (v : List ℕ) → fitting (rowAt 5) v ≡ true → inRanges (putIn s 5 v) ≡ true
+pub cryptogram-with-any-95 : (s : Session) (a : Asked) → inRanges s ≡ true → s .phase ≡ Phase.Cryptogram a → (v : List ℕ) → fitting (rowAt row95) v ≡ true → inRanges (putIn s row95 v) ≡ true
 cryptogram-with-any-95 s a e q v w =
-    clauses-pass (putIn s 5 v)
+    clauses-pass (putIn s row95 v)
     (record {
-      size = put-size b 5 v l h g;
-      fits = fits-kept b 5 v l h w (store-fits s e);
-      phase = subst (λ (p : Phase). InPhase p (putIn s 5 v)) (sym q) after;
+      size = put-size b row95 v l h g;
+      fits = fits-kept b row95 v l h w (store-fits s e);
+      phase = subst (λ (p : Phase). InPhase p (putIn s row95 v)) (sym q) after;
     })
   where
     b : List ℕ
     b = stored s
 
-    l : length b ≡ 943
+    l : length b ≡ storeSize
     l = store-size s e
 
-    h : 5 < 36
+    h : row95 < rowCount
     h = omega arith
 
-    g : length v ≤ rowAt 5 .greatest
-    g = fits-length (rowAt 5) v w .1
+    g : length v ≤ rowAt row95 .greatest
+    g = fits-length (rowAt row95) v w .1
 
     c : OnCryptogram (s .count) b
     c = on-cryptogram s e a q
 
-    same : (t j : ℕ) → find rows t ≡ At j → (j ≡ 5 → ⊥) → valueOf b t ≡ valueOf (putAt rows b 5 v) t
-    same t j x y = sym (put-named b 5 v l h g t j x y)
+    same : (t j : ℕ) → find rows t ≡ At j → (j ≡ row95 → ⊥) → valueOf b t ≡ valueOf (putAt rows b row95 v) t
+    same t j x y = sym (put-named b row95 v l h g t j x y)
 
-    after : OnCryptogram (s .count) (putAt rows b 5 v)
+    after : OnCryptogram (s .count) (putAt rows b row95 v)
     after = record {
-      runs = put-runs b 5 v l h g results-apart (c .runs);
-      mode = subst (λ (x : Value). has (bytesOf x) 2 8 ≡ true) (same 0x82 2 at-82 (λ z. omega arith)) (c .mode);
-      locator = subst (λ (x : Value). accepts (bytesOf x) ≡ true) (same 0x94 4 at-94 (λ z. omega arith)) (c .locator);
-      some-5F24 = subst (λ (x : Value). 0 < length (bytesOf x)) (same 0x5F24 8 at-5F24 (λ z. omega arith)) (c .some-5F24);
-      some-5A = subst (λ (x : Value). 0 < length (bytesOf x)) (same 0x5A 1 at-5A (λ z. omega arith)) (c .some-5A);
-      some-8C = subst (λ (x : Value). 0 < length (bytesOf x)) (same 0x8C 3 at-8C (λ z. omega arith)) (c .some-8C);
-      count = c .count ∙ ap (λ (x : Value). 2 + total (bytesOf x)) (same 0x94 4 at-94 (λ z. omega arith));
+      runs = put-runs b row95 v l h g results-apart (c .runs);
+      mode = subst (λ (x : Value). has (bytesOf x) 2 8 ≡ true) (same 0x82 row82 at-82 (λ z. omega arith)) (c .mode);
+      locator = subst (λ (x : Value). accepts (bytesOf x) ≡ true) (same 0x94 row94 at-94 (λ z. omega arith)) (c .locator);
+      some-5F24 = subst (λ (x : Value). 0 < length (bytesOf x)) (same 0x5F24 row5F24 at-5F24 (λ z. omega arith)) (c .some-5F24);
+      some-5A = subst (λ (x : Value). 0 < length (bytesOf x)) (same 0x5A row5A at-5A (λ z. omega arith)) (c .some-5A);
+      some-8C = subst (λ (x : Value). 0 < length (bytesOf x)) (same 0x8C row8C at-8C (λ z. omega arith)) (c .some-8C);
+      count = c .count ∙ ap (λ (x : Value). 2 + total (bytesOf x)) (same 0x94 row94 at-94 (λ z. omega arith));
     }

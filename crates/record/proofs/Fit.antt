@@ -13,18 +13,19 @@ use Rattle.basics.specs.Choice.{both, either, every}
 use Rattle.basics.proofs.Laws.{both-yes, both-true, both-no-left}
 use Rattle.dictionary.specs.declared.Attributes.{Attributes}
 use Rattle.dictionary.specs.Rows.{Row, rows, rowAt, rowCount, storeSize, optional}
-use Rattle.dictionary.specs.Packing.{attributesOf, codeOf, attributesIn}
+use Rattle.dictionary.specs.Packing.{attributesOf, rowOf, codeOf, attributesIn}
 use Rattle.dictionary.specs.Form.{fitting, digitsFit}
 use Rattle.dictionary.proofs.Fit.{too-short, by-form}
 use Rattle.dictionary.proofs.Table.{column}
 use Rattle.dictionary.proofs.Packing.{code-unpacks}
-use Rattle.store.specs.Place.{room, offsetIn, placeAt, valueAt, lengthByte}
+use Rattle.store.specs.Place.{Value, absent, present, room, offsetIn, placeAt, held, valueAt, lengthByte}
 use Rattle.store.proofs.Laws.{zero-absent, held-bytes, there-is, length-byte-at}
 use Rattle.store.proofs.Places.{offset-next}
-use Rattle.store.proofs.Rows.{row-inside}
-use Rattle.record.specs.Ranges.{valueFits, placeFits, objectFits, allFit, isBrought, brought}
+use Rattle.store.proofs.Rows.{rows-length, row-inside}
+use Rattle.record.specs.Ranges.{valueFits, objectFits, allFit, isBrought, brought}
+use Rattle.record.specs.Inner.{placeFits, broughtBy, placeKeeps, allKeep}
 use Rattle.record.proofs.Every.{every-both, every-either}
-use Rattle.record.proofs.Tags.{rows-length, row-found, value-is, held-is, length-is}
+use Rattle.record.proofs.Tags.{row-found, value-is, held-is, length-is}
 
 -- the value in a place that is not empty
 abbrev pub placed : List ℕ → List ℕ
@@ -67,16 +68,16 @@ object-place b k h =
 
 -- the object of row k is brought by its place's first byte
 object-there : (b : List ℕ) (k : ℕ) → k < rowCount
-    → isBrought b (rowAt k) ≡ either (eqb (rowAt k .must) optional) (not (eqb (getD (placeAt rows b k) 0 0) 0))
+    → isBrought b (rowAt k) ≡ broughtBy (rowAt k .must) (getD (placeAt rows b k) 0 0)
 unfolding isBrought lengthByte
 object-there b k h = ap (either (eqb (rowAt k .must) optional)) (held-is b _ k (row-found k h) refl refl ∙ there-is rows b k)
 
 -- and by the byte where its place starts
 pub object-brought : (b : List ℕ) (k : ℕ) → k < rowCount
-    → isBrought b (rowAt k) ≡ either (eqb (rowAt k .must) optional) (not (eqb (getD b (offsetIn rows k) 0) 0))
+    → isBrought b (rowAt k) ≡ broughtBy (rowAt k .must) (getD b (offsetIn rows k) 0)
 unfolding lengthByte
 object-brought b k h =
-    object-there b k h ∙ ap (λ (n : ℕ). either (eqb (rowAt k .must) optional) (not (eqb n 0))) (length-byte-at rows b k)
+    object-there b k h ∙ ap (broughtBy (rowAt k .must)) (length-byte-at rows b k)
 
 -- ---- both tests at once
 
@@ -84,14 +85,21 @@ object-brought b k h =
 abbrev pub objectKeeps : Bool → List ℕ → Row → Bool
 objectKeeps asked b r = both (objectFits b r) (either (not asked) (isBrought b r))
 
+-- a place fits by what its row says beside the tag
+untagged : (r : Row) (p : List ℕ) → placeFits r p ≡ placeFits (rowOf (attributesOf r)) p
+unfolding placeFits fitting
+untagged r p = ap (both (leb (getD p 0 0) (room r))) (same (held p))
+  where
+    same : (v : Value) → valueFits r v ≡ valueFits (rowOf (attributesOf r)) v
+    same absent = refl
+    same (present w) = refl
+
 -- the same of what stands in its place
-abbrev pub placeKeeps : Bool → Row → List ℕ → Bool
-placeKeeps asked r p = both (placeFits r p) (either (not asked) (either (eqb (r .must) optional) (not (eqb (getD p 0 0) 0))))
+pub object-keeps : (asked : Bool) (b : List ℕ) (k : ℕ) → k < rowCount → objectKeeps asked b (rowAt k) ≡ placeKeeps asked (attributesOf (rowAt k)) (placeAt rows b k)
+object-keeps asked b k h =
+    ap₂ both (object-place b k h ∙ untagged (rowAt k) (placeAt rows b k)) (ap (either (not asked)) (object-there b k h))
 
-pub object-keeps : (asked : Bool) (b : List ℕ) (k : ℕ) → k < rowCount → objectKeeps asked b (rowAt k) ≡ placeKeeps asked (rowAt k) (placeAt rows b k)
-object-keeps asked b k h = ap₂ both (object-place b k h) (ap (either (not asked)) (object-there b k h))
-
-pub all-keeps : (asked : Bool) (b : List ℕ) → both (allFit b) (either (not asked) (brought b)) ≡ every (objectKeeps asked b) rows
+pub all-keeps : (asked : Bool) (b : List ℕ) → allKeep asked b ≡ every (objectKeeps asked b) rows
 unfolding allFit brought
 all-keeps asked b =
     sym (every-both (objectFits b) (λ r. either (not asked) (isBrought b r)) rows

@@ -1,7 +1,7 @@
 -- The ranges test passes exactly when every clause holds: `clauses` and `clauses-pass`, from one pair of laws for each part.
 -- Assumes nothing.
 use mathlib.Core.Path.{_≡_, refl, sym, ap, _∙_}
-use mathlib.Core.Bool.{true, false}
+use mathlib.Core.Bool.{Bool, true, false}
 use mathlib.Core.Logic.{_⊎_, inl, inr}
 use mathlib.Core.List.{List}
 use Prim.Native.Nat.{ℕ, _+_, _≤_, _<_}
@@ -19,10 +19,10 @@ use Rattle.record.specs.declared.Phase.{Phase}
 use Rattle.record.specs.declared.Session.{Session}
 use Rattle.record.specs.Session.{stored}
 use Rattle.store.specs.Held.{holds}
-use Rattle.record.specs.Ranges.{objectFits, allFit, isBrought, brought, cryptogramAbsent, running, recordsIn, completed, freshRanges, optionsRanges, recordRanges, cryptogramRanges, endedRanges, phaseRanges, inRanges}
-use Rattle.record.specs.Clauses.{Fits, Running, OnFresh, OnOptions, OnRecord, OnCryptogram, OnEnded, InPhase, Ranges}
+use Rattle.record.specs.Ranges.{objectFits, allFit, isBrought, brought, cryptogramAbsent, running, recordsIn, completed, freshRanges, optionsRanges, recordRanges, cryptogramRanges, mostCommands, endedRanges, phaseRanges, inRanges}
+use Rattle.record.specs.Clauses.{Fits, Running, OnFresh, OnOptions, OnRecord, OnCryptogram, OnEnded, InPhase, Ranges, Tells}
 use Rattle.record.proofs.Every.{every-all}
-use Rattle.record.proofs.Tags.{rows-length}
+use Rattle.store.proofs.Rows.{rows-length}
 use Rattle.record.proofs.Values.{absent-of, is-lacking, zeros-of, zeros-are, zero-results, results-zero}
 
 -- ---- every stored object fits
@@ -182,11 +182,11 @@ cryptogram-passes n b c =
 
 pub ended-clauses : (x : End) (n : ℕ) → endedRanges x n ≡ true → OnEnded x n
 unfolding endedRanges
-ended-clauses x n e = record { count = leb-true n 130 (both-left _ _ e); reason = both-right _ _ e }
+ended-clauses x n e = record { count = leb-true n mostCommands (both-left _ _ e); reason = both-right _ _ e }
 
 pub ended-passes : (x : End) (n : ℕ) → OnEnded x n → endedRanges x n ≡ true
 unfolding endedRanges
-ended-passes x n c = both-yes _ _ (le-leb n 130 (c .count)) (c .reason)
+ended-passes x n c = both-yes _ _ (le-leb n mostCommands (c .count)) (c .reason)
 
 -- ---- the whole test
 
@@ -219,3 +219,7 @@ unfolding inRanges
 clauses-pass s r =
     both-yes _ _ (eq-eqb (length (stored s)) storeSize (r .size))
     (both-yes _ _ (fits-all (stored s) (r .fits)) (phase-passes (s .phase) s (r .phase)))
+
+-- so the test's answer tells both ways
+pub tells : (s : Session) {r : Bool} → r ≡ inRanges s → Tells s r
+tells s e = record { test = e; clauses = λ y. clauses s (sym e ∙ y); passes = λ c. e ∙ clauses-pass s c }

@@ -5,6 +5,7 @@ pub mod Fit
 pub mod Values
 pub mod Laws
 pub mod Stored
+pub mod Examples
 pub mod Reasons
 pub mod Phases
 pub mod Allowed

@@ -17,6 +17,7 @@ use Rattle.basics.proofs.Laws.{both-yes, both-right, either-false}
 use Rattle.basics.proofs.Order.{equal-or-not}
 use Rattle.basics.proofs.Table.{at}
 use Rattle.dictionary.specs.Rows.{Row, rows, blank, rowAt, rowCount, storeSize, find, start, card, cryptogram}
+use Rattle.dictionary.specs.Named.{row95}
 use Rattle.dictionary.specs.declared.Found.{Found}
 use Rattle.dictionary.specs.declared.Found.the-variants.{At, Unknown}
 use Rattle.dictionary.specs.Form.{fitting}
@@ -25,11 +26,11 @@ use Rattle.dictionary.proofs.Find.{found}
 use Rattle.dictionary.proofs.Fit.{fits-length}
 use Rattle.store.specs.Place.{Value, absent, present, bytesOf, isThere, offsetIn, lengthByte, valueAt, valueOf, putAt}
 use Rattle.store.proofs.Laws.{lies, put-length, put-get, put-other, place-other, length-byte-at, by-row, unknown-absent, empty-holds-nothing}
-use Rattle.store.proofs.Rows.{fits-row, rows-size}
+use Rattle.store.proofs.Rows.{rows-length, fits-row, rows-size}
 use Rattle.store.specs.Held.{holds, isZero}
 use Rattle.record.specs.Ranges.{valueFits, allFit, cryptogramTags}
 use Rattle.record.specs.Clauses.{ObjectFits, Fits, Running}
-use Rattle.record.proofs.Tags.{row-found, rows-length, value-is, length-is}
+use Rattle.record.proofs.Tags.{row-found, value-is, length-is}
 use Rattle.record.proofs.Values.{zeros-of}
 use Rattle.record.proofs.Laws.{fits-all}
 
@@ -62,7 +63,7 @@ empty-value k = rw rows-size at (empty-holds-nothing rows k)
 
 pub empty-fits : Fits (replicate storeSize 0)
 empty-fits k h =
-    let z = length-byte-at rows (replicate storeSize 0) k ∙ zeros-at 943 (offsetIn rows k) in
+    let z = length-byte-at rows (replicate storeSize 0) k ∙ zeros-at storeSize (offsetIn rows k) in
     row-fits (replicate storeSize 0) k h (omega arith) (ap (valueFits (rowAt k)) (empty-value k))
 
 -- a store of zeros is the empty one
@@ -188,7 +189,7 @@ pub card-apart : (k : ℕ) → k < rowCount → hasBit (rowAt k .setters) card �
 card-apart k h e a = rule cardRow (apartFrom (0x95 ∷ runningTags)) card-test k h (both-yes _ _ e (ap not (ne-eqb _ _ a)))
 
 -- the result bits are the session's own
-pub results-apart : apartFrom runningTags (rowAt 5) ≡ true
+pub results-apart : apartFrom runningTags (rowAt row95) ≡ true
 unfolding rows every both apartFrom
 results-apart = refl
 

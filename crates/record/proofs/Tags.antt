@@ -1,6 +1,6 @@
 -- What a store holds of a tag is what stands in its row's place: the specifications speak of tags, the code of rows.
 -- Assumes nothing.
-use mathlib.Core.Path.{_≡_, refl, sym, ap, _∙_}
+use mathlib.Core.Path.{_≡_, sym, ap, _∙_}
 use mathlib.Core.Bool.{Bool, true, false, not}
 use mathlib.Core.List.{List}
 use Prim.Native.Nat.{ℕ, _<_}
@@ -14,6 +14,8 @@ use Rattle.dictionary.specs.declared.Found.the-variants.{At}
 use Rattle.dictionary.proofs.Rule.{rows-proper, proper-rising, find-row}
 use Rattle.store.specs.Place.{valueAt, valueOf, bytesOf, isThere, lengthByte}
 use Rattle.store.proofs.Laws.{by-row}
+use Rattle.store.proofs.Rows.{rows-length}
+use Rattle.dictionary.specs.Named.{row94}
 use Rattle.dictionary.proofs.Named.{at-94}
 use Rattle.locator.specs.declared.Checked.{Checked}
 use Rattle.locator.specs.declared.Extent.{Extent}
@@ -22,10 +24,6 @@ use Rattle.locator.proofs.Laws.{is-accepted, is-rejected}
 use Rattle.record.specs.Ranges.{locatorIn, recordsIn}
 use Rattle.store.specs.Held.{holds, lacks, bytesIn, notEmpty, isZero, zeroed, lengthFound, lengthIn}
 use Rattle.record.proofs.Tests.{some-not-none}
-
-pub rows-length : length rows ≡ 36
-unfolding rows
-rows-length = refl
 
 -- every row is found by its tag
 pub row-found : (k : ℕ) → k < rowCount → find rows (rowAt k .tag) ≡ At k
@@ -65,9 +63,9 @@ module _ (b : List ℕ) (t k : ℕ) (e : find rows t ≡ At k) where
 
 -- ---- the stored locator, by what a check of the row's value says
 
-module _ (b : List ℕ) {v : List ℕ} (p : v ≡ bytesOf (valueAt rows b 4)) where
+module _ (b : List ℕ) {v : List ℕ} (p : v ≡ bytesOf (valueAt rows b row94)) where
   located : v ≡ locatorIn b
-  located = p ∙ bytes-are b 0x94 4 at-94
+  located = p ∙ bytes-are b 0x94 row94 at-94
 
   pub located-no : checked v ≡ Checked.Rejected → accepts (locatorIn b) ≡ false
   located-no e = is-rejected _ (ap checked (sym located) ∙ e)

@@ -9,6 +9,7 @@ use borrow.Author.Tests.{eq-eqb, eqb-true}
 use Rattle.basics.specs.Choice.{every}
 use Rattle.basics.proofs.Laws.{both-yes, both-left, both-right}
 use Rattle.dictionary.specs.Rows.{rows, rowAt, find, required}
+use Rattle.dictionary.specs.Named.{row95}
 use Rattle.dictionary.specs.declared.Found.the-variants.{At}
 use Rattle.dictionary.specs.Form.{fitting}
 use Rattle.dictionary.proofs.Find.{found}
@@ -18,7 +19,7 @@ use Rattle.store.specs.Place.{Value, absent, present, bytesOf, isThere, valueOf
 use Rattle.store.specs.Held.{holds, lacks, bytesIn, isZero, zeroed}
 use Rattle.record.specs.Ranges.{valueFits}
 use Rattle.record.specs.Clauses.{Fits, Running, noResults}
-use Rattle.record.proofs.Tags.{rows-length}
+use Rattle.store.proofs.Rows.{rows-length}
 
 -- ---- there or absent
 
@@ -84,16 +85,16 @@ brought-there b r t k e m =
     subst (λ (n : ℕ). holds b n ≡ true) (w .1) (r .brought k (omega (arith, rows-length)) m)
 
 -- five bytes in 95
-results-length : rowAt 5 .least ≡ 5
+results-length : rowAt row95 .least ≡ 5
 unfolding rows
 results-length = refl
 
-results-most : rowAt 5 .greatest ≡ 5
+results-most : rowAt row95 .greatest ≡ 5
 unfolding rows
 results-most = refl
 
 pub results-five : (b : List ℕ) → Fits b → holds b 0x95 ≡ true → length (bytesIn b 0x95) ≡ 5
-results-five b f h = omega (arith, held-length b f 0x95 5 at-95 h, results-length, results-most)
+results-five b f h = omega (arith, held-length b f 0x95 row95 at-95 h, results-length, results-most)
 
 -- 95 that is there and zero
 pub zero-results : (b : List ℕ) → Fits b → holds b 0x95 ≡ true → zeroed b 0x95 ≡ true → valueOf b 0x95 ≡ present noResults

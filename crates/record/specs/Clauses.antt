@@ -2,7 +2,7 @@
 -- Ranges.antt exactly when these hold of it (`clauses` and `clauses-pass` in proofs/Laws).
 -- Assumes nothing.
 use mathlib.Core.Path.{_≡_}
-use mathlib.Core.Bool.{true}
+use mathlib.Core.Bool.{Bool, true}
 use mathlib.Core.List.{List, [], _∷_}
 use Prim.Native.Nat.{ℕ, _+_, _≤_, _<_}
 use lib.ListN.{length, replicate}
@@ -17,7 +17,7 @@ use Rattle.record.specs.declared.Session.{Session}
 use Rattle.record.specs.Numbers.{goesWith}
 use Rattle.record.specs.Session.{stored}
 use Rattle.store.specs.Held.{holds, bytesIn, byteIn, lengthIn}
-use Rattle.record.specs.Ranges.{valueFits, emvMode, locatorIn, recordsIn, mostCommands}
+use Rattle.record.specs.Ranges.{valueFits, emvMode, locatorIn, recordsIn, mostCommands, inRanges}
 
 -- the object of a row fits it: its length byte, and its value
 pub record ObjectFits (b : List ℕ) (r : Row) : Type 0 where
@@ -32,7 +32,8 @@ Fits b = (k : ℕ) → k < rowCount → ObjectFits b (rowAt k)
 abbrev pub noResults : List ℕ
 noResults = 0 ∷ 0 ∷ 0 ∷ 0 ∷ 0 ∷ []
 
--- every running session: 95 and all that a start must bring, a listed terminal type, nothing of the cryptogram's answer
+-- every running session: 95 and all that a start must bring, a listed terminal type, nothing of the cryptogram's
+-- answer
 pub record Running (b : List ℕ) : Type 0 where
   pub results : holds b 0x95 ≡ true
   pub brought : (k : ℕ) → k < rowCount → rowAt k .must ≡ required → holds b (rowAt k .tag) ≡ true
@@ -82,14 +83,22 @@ pub record OnEnded (e : End) (n : ℕ) : Type 0 where
 
 -- the clauses of a phase
 abbrev pub InPhase : Phase → Session → Type 0
-InPhase Phase.Fresh s = OnFresh (s .count) (stored s)
-InPhase Phase.Options s = OnOptions (s .count) (stored s)
-InPhase (Phase.Record p) s = OnRecord p (s .count) (stored s)
+InPhase Phase.Fresh          s = OnFresh (s .count) (stored s)
+InPhase Phase.Options        s = OnOptions (s .count) (stored s)
+InPhase (Phase.Record p)     s = OnRecord p (s .count) (stored s)
 InPhase (Phase.Cryptogram a) s = OnCryptogram (s .count) (stored s)
-InPhase (Phase.Ended e) s = OnEnded e (s .count)
+InPhase (Phase.Ended e)      s = OnEnded e (s .count)
 
 -- every clause; the store's size is that of its type
 pub record Ranges (s : Session) : Type 0 where
   pub size : length (stored s) ≡ storeSize
   pub fits : Fits (stored s)
   pub phase : InPhase (s .phase) s
+
+-- ---- handed back
+
+-- what a test of a record says: the test's answer, which is yes where every clause holds, and only there
+pub record Tells (s : Session) (r : Bool) : Type 0 where
+  pub test : r ≡ inRanges s
+  pub clauses : r ≡ true → Ranges s
+  pub passes : Ranges s → r ≡ true

@@ -4,14 +4,14 @@
 use mathlib.Core.Bool.{Bool, true}
 use mathlib.Core.List.{List, [], _∷_}
 use Prim.Native.Nat.{ℕ, _+_}
-use lib.Dec.{eqb, leb}
-use lib.ListN.{length, getD}
-use Rattle.basics.specs.Choice.{both, either, every}
+use lib.ListN.{length}
+use Rattle.basics.specs.Choice.{every, _and_, _or_, _≤?_, _=?_}
+use Rattle.basics.specs.Number.{between}
 use Rattle.dictionary.specs.Rows.{Row, rows, optional, storeSize}
 use Rattle.dictionary.specs.Form.{fitting}
 use Rattle.dictionary.specs.TerminalType.{listed}
-use Rattle.store.specs.Place.{Value, absent, present, held, valueOf, room}
-use Rattle.basics.specs.Number.{between}
+use Rattle.store.specs.Place.{Value, absent, present, valueOf, room}
+use Rattle.store.specs.Held.{holds, lacks, bytesIn, notEmpty, byteIn, isZero, zeroed, lengthIn}
 use Rattle.locator.specs.Records.{accepts, total}
 use Rattle.analysis.specs.Bits.{has}
 use Rattle.record.specs.declared.Place.{Place}
@@ -20,7 +20,6 @@ use Rattle.record.specs.declared.Phase.{Phase}
 use Rattle.record.specs.declared.Session.{Session}
 use Rattle.record.specs.Numbers.{goesWith}
 use Rattle.record.specs.Session.{stored}
-use Rattle.store.specs.Held.{holds, lacks, bytesIn, notEmpty, byteIn, isZero, zeroed, lengthIn}
 
 -- ---- every phase: every stored length and digit fits the dictionary
 
@@ -29,13 +28,11 @@ abbrev pub valueFits : Row → Value → Bool
 valueFits r absent = true
 valueFits r (present v) = fitting r v
 
--- what stands in a row's place: its length byte lies in the row's room, and its value fits
-unfoldable pub placeFits : Row → List ℕ → Bool
-placeFits r p = both (leb (getD p 0 0) (room r)) (valueFits r (held p))
-
 -- the object of a row: its length byte lies in the row's room, and its value fits
 unfoldable pub objectFits : List ℕ → Row → Bool
-objectFits b r = both (leb (lengthIn b (r .tag)) (room r)) (valueFits r (valueOf b (r .tag)))
+objectFits b r =
+    lengthIn b (r .tag) ≤? room r
+    and valueFits r (valueOf b (r .tag))
 
 -- the objects of all rows
 unfoldable pub allFit : List ℕ → Bool
@@ -45,8 +42,9 @@ allFit b = every (objectFits b) rows
 
 -- the object of a row is there if a start must bring it
 unfoldable pub isBrought : List ℕ → Row → Bool
-isBrought b r = either (eqb (r .must) optional) (holds b (r .tag))
+isBrought b r = r .must =? optional or holds b (r .tag)
 
+-- and so for all rows
 unfoldable pub brought : List ℕ → Bool
 brought b = every (isBrought b) rows
 
@@ -54,12 +52,17 @@ brought b = every (isBrought b) rows
 abbrev pub cryptogramTags : List ℕ
 cryptogramTags = 0x9F10 ∷ 0x9F26 ∷ 0x9F27 ∷ 0x9F36 ∷ []
 
+-- none of them is there
 unfoldable pub cryptogramAbsent : List ℕ → Bool
 cryptogramAbsent b = every (lacks b) cryptogramTags
 
 -- the result bits, the objects required of a start, a terminal type on the list, nothing of the cryptogram's answer
 unfoldable pub running : List ℕ → Bool
-running b = both (holds b 0x95) (both (brought b) (both (listed (byteIn b 0x9F35 1)) (cryptogramAbsent b)))
+running b =
+    holds b 0x95
+    and brought b
+    and listed (byteIn b 0x9F35 1)
+    and cryptogramAbsent b
 
 -- ---- after the processing options
 
@@ -86,36 +89,38 @@ completed b = every (notEmpty b) neededTags
 
 -- fresh: nothing was handed out, and the store is all zeros
 unfoldable pub freshRanges : ℕ → List ℕ → Bool
-freshRanges n b = both (eqb n 0) (every isZero b)
+freshRanges n b =
+    n =? 0
+    and every isZero b
 
 -- on processing options: no 82 or 94 yet, 95 is zero, one command
 unfoldable pub optionsRanges : ℕ → List ℕ → Bool
 optionsRanges n b =
-    both (running b)
-    (both (lacks b 0x82)
-    (both (lacks b 0x94)
-    (both (zeroed b 0x95)
-    (eqb n 1))))
+    running b
+    and lacks b 0x82
+    and lacks b 0x94
+    and zeroed b 0x95
+    and n =? 1
 
 -- on the k-th record: EMV mode, 95 is zero, an accepted locator, k is 1 to R, 1 + k commands
 unfoldable pub recordRanges : Place → ℕ → List ℕ → Bool
 recordRanges p n b =
-    both (running b)
-    (both (emvMode b)
-    (both (zeroed b 0x95)
-    (both (accepts (locatorIn b))
-    (both (between 1 (p .number) (recordsIn b))
-    (eqb n (1 + p .number))))))
+    running b
+    and emvMode b
+    and zeroed b 0x95
+    and accepts (locatorIn b)
+    and between 1 (p .number) (recordsIn b)
+    and n =? 1 + p .number
 
--- on the cryptogram: EMV mode, what it needs is there, an accepted locator, 2 + R commands; that it holds one of the three choices is the
--- phase's type
+-- on the cryptogram: EMV mode, what it needs is there, an accepted locator, 2 + R commands; that it holds one of the
+-- three choices is the phase's type
 unfoldable pub cryptogramRanges : ℕ → List ℕ → Bool
 cryptogramRanges n b =
-    both (running b)
-    (both (emvMode b)
-    (both (completed b)
-    (both (accepts (locatorIn b))
-    (eqb n (2 + recordsIn b)))))
+    running b
+    and emvMode b
+    and completed b
+    and accepts (locatorIn b)
+    and n =? 2 + recordsIn b
 
 -- the most commands: processing options, 128 records, the cryptogram
 abbrev pub mostCommands : ℕ
@@ -123,17 +128,23 @@ mostCommands = 130
 
 -- ended: a count that a session can reach, and an outcome that goes with its reason
 unfoldable pub endedRanges : End → ℕ → Bool
-endedRanges e n = both (leb n mostCommands) (goesWith (e .outcome) (e .reason))
+endedRanges e n =
+    n ≤? mostCommands
+    and goesWith (e .outcome) (e .reason)
 
 -- ---- the test
 
+-- the clauses of a phase
 abbrev pub phaseRanges : Phase → Session → Bool
-phaseRanges Phase.Fresh s = freshRanges (s .count) (stored s)
-phaseRanges Phase.Options s = optionsRanges (s .count) (stored s)
-phaseRanges (Phase.Record p) s = recordRanges p (s .count) (stored s)
+phaseRanges Phase.Fresh          s = freshRanges (s .count) (stored s)
+phaseRanges Phase.Options        s = optionsRanges (s .count) (stored s)
+phaseRanges (Phase.Record p)     s = recordRanges p (s .count) (stored s)
 phaseRanges (Phase.Cryptogram a) s = cryptogramRanges (s .count) (stored s)
-phaseRanges (Phase.Ended e) s = endedRanges e (s .count)
+phaseRanges (Phase.Ended e)      s = endedRanges e (s .count)
 
 -- a session record keeps its ranges; the store's size is that of its type
 unfoldable pub inRanges : Session → Bool
-inRanges s = both (eqb (length (stored s)) storeSize) (both (allFit (stored s)) (phaseRanges (s .phase) s))
+inRanges s =
+    length (stored s) =? storeSize
+    and allFit (stored s)
+    and phaseRanges (s .phase) s

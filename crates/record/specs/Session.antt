@@ -1,4 +1,5 @@
--- The session record and the reply of a call (document 01, "Calls and their numbers"), built anew only here: a new field is added here.
+-- The session record and the reply of a call (document 01, "Calls and their numbers"), built anew only here: a new field
+-- is added here.
 -- Assumes nothing.
 use mathlib.Core.List.{List}
 use Prim.Native.Nat.{ℕ}
@@ -76,11 +77,14 @@ replyOf t b = record { session = sessionOf (t .phase) (t .count) b; answer = t .
 abbrev pub refusedTurn : Phase → ℕ → ℕ → Turn
 refusedTurn p k n = record { phase = p; count = k; answer = Answer.Refused (record { number = n }) }
 
+-- the session ends with an outcome and a reason
 abbrev pub endsTurn : ℕ → Outcome → ℕ → Turn
 endsTurn k o n = record { phase = Phase.Ended (endOf o n); count = k; answer = Answer.Outcome (endOf o n) }
 
+-- the session ends for a reason other than 0
 abbrev pub failsTurn : ℕ → ℕ → Turn
 failsTurn k n = endsTurn k (outcomeFor n) n
 
+-- a command of n bytes is handed out, and the session waits in a phase on its answer
 abbrev pub commandsTurn : Phase → ℕ → ℕ → Turn
 commandsTurn p k n = record { phase = p; count = k; answer = Answer.Command (record { size = n }) }

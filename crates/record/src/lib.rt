@@ -11,18 +11,18 @@ use dictionary::{
 use locator::Checked;
 use store::Store;
 ghost use mathlib.Core.Path.{_≡_};
-ghost use Prim.Native.Nat.{_<_};
-ghost use mathlib.Core.Bool.{not};
-ghost use lib.Dec.{eqb};
 ghost use lib.ListN.{length, getD};
-ghost use Rattle.basics.specs.Choice.{both, either, every};
-ghost use Rattle.dictionary.specs.Rows.{Row, optional, storeSize};
-ghost use Rattle.dictionary.specs.Packing.{attributesOf};
+ghost use Rattle.basics.specs.Choice.{both, every};
+ghost use Rattle.dictionary.specs.Rows.{storeSize};
+ghost use Rattle.dictionary.specs.Packing.{rowOf};
 ghost use Rattle.store.specs.Place.{room};
 ghost use Rattle.record.specs.Numbers.{outcomeNumber, goesWith, outcomeFor};
 ghost use Rattle.record.specs.Session.{sessionOf, freshSession, waitingSession, replyOf, refusedTurn, endsTurn, failsTurn, commandsTurn};
 ghost use Rattle.store.specs.Held.{isZero};
-ghost use Rattle.record.specs.Ranges.{placeFits, allFit, brought, cryptogramAbsent as cryptogramAbsentIn, emvMode, completed, running, freshRanges, optionsRanges, recordRanges, cryptogramRanges, endedRanges, inRanges};
+ghost use Rattle.record.specs.Ranges.{allFit, brought, cryptogramAbsent as cryptogramAbsentIn, emvMode, completed, running};
+ghost use Rattle.record.specs.Ranges.{freshRanges, optionsRanges, recordRanges, cryptogramRanges, endedRanges};
+ghost use Rattle.record.specs.Clauses.{Tells};
+ghost use Rattle.record.specs.Inner.{broughtBy, placeKeeps, allKeep};
 
 // How a session ends.
 pub enum Outcome {
@@ -209,7 +209,7 @@ pub fn reply_of(turn: Turn, store: Store) -> Reply
 
 // Whether a session record keeps its ranges.
 pub fn in_ranges(session: Session) -> bool
-    ensures { λ r. ⌜ r ≡ inRanges session ⌝ }
+    ensures { λ r. ⌜ Tells session r ⌝ }
 {
     let phase = session.phase;
     let store = session.store;
@@ -218,7 +218,7 @@ pub fn in_ranges(session: Session) -> bool
 
 // The same of a session's parts, with the store's bytes shared.
 pub fn keeps(phase: Phase, count: u8, bytes: &[u8]) -> bool
-    ensures { λ r. ⌜ r ≡ inRanges (sessionOf phase count (now (bytes .entry))) ⌝ }
+    ensures { λ r. ⌜ Tells (sessionOf phase count (now (bytes .entry))) r ⌝ }
 {
     if bytes.len() != SIZE {
         return false;
@@ -414,7 +414,7 @@ pub fn is_complete(bytes: &[u8]) -> bool
 // Every stored object fits its row; where `asked`, what a start must bring is there too. One walk for both.
 fn all_keep(bytes: &[u8], asked: bool) -> bool
     requires { ⌜ length (now bytes) ≡ storeSize ⌝ }
-    ensures { λ r. ⌜ r ≡ both (allFit (now (bytes .entry))) (either (not asked) (brought (now (bytes .entry)))) ⌝ }
+    ensures { λ r. ⌜ r ≡ allKeep asked (now (bytes .entry)) ⌝ }
 {
     let codes = dictionary::codes();
     let mut at = 0;
@@ -434,8 +434,8 @@ fn all_keep(bytes: &[u8], asked: bool) -> bool
 // Whether a row's place is in order: empty, where `asked` only if no start must bring the object; or with a
 // length byte in its room, a value that is long enough and digits that fit.
 fn place_keeps(place: &[u8], a: Attributes, asked: bool) -> bool
-    requires { ⌜ 0 < length (now place) ⌝ }
-    ensures { λ r. ⌜ ((x : Row) → a ≡ attributesOf x → room x ≡ length (now (place .entry)) → r ≡ both (placeFits x (now (place .entry))) (either (not asked) (either (eqb (x .must) optional) (not (eqb (getD (now (place .entry)) 0 0) 0))))) ⌝ }
+    requires { ⌜ length (now place) ≡ room (rowOf a) ⌝ }
+    ensures { λ r. ⌜ r ≡ placeKeeps asked a (now (place .entry)) ⌝ }
 {
     let stored = basics::wide(place[0]);
     if stored == 0 {
@@ -473,7 +473,7 @@ pub fn all_brought(bytes: &[u8]) -> bool
 
 // A row's object is there, by the length byte of the place at `at`, if a start must bring it.
 fn is_brought(must: u8, bytes: &[u8], at: usize) -> bool
-    ensures { λ r. ⌜ r ≡ either (eqb must optional) (not (eqb (getD (now (bytes .entry)) at 0) 0)) ⌝ }
+    ensures { λ r. ⌜ r ≡ broughtBy must (getD (now (bytes .entry)) at 0) ⌝ }
 {
     if must == 0 {
         return true;

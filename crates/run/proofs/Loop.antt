@@ -25,7 +25,8 @@ use Rattle.run.specs.declared.Header.{Header}
 use Rattle.run.specs.declared.Front.{Front}
 use Rattle.run.specs.declared.Turn.{Turn}
 use Rattle.run.specs.Encoding.{headerSize, bufferAt, endOf, headerIn, isWhole, frontIn, callBy, callIn, withCall, callsOf, highFirst}
-use Rattle.run.specs.Playing.{answerBytes, replyBytes, repliesOf, replySize, leftIn, overBuffer, Plays, Turns}
+use Rattle.run.specs.Playing.{answerBytes, replyBytes, repliesOf, replySize, leftIn, Plays}
+use Rattle.run.specs.Inner.{overBuffer, Turns}
 use Rattle.run.proofs.Read.{front-whole, front-is, whole-end, calls-end, calls-malformed, calls-call}
 
 -- ---- the bytes that come in

@@ -1,4 +1,4 @@
--- The laws of reading calls from bytes. Each call takes up bytes, so the number of calls allowed does not matter (`unroll`); then one law
+-- The laws of reading calls from bytes. Each call takes up bytes, so the bound of the recursion does not matter (`unroll`); then one law
 -- for each way out of a step.
 -- Assumes nothing.
 use mathlib.Core.Path.{_≡_, refl, sym, ap, subst, _∙_}
@@ -6,18 +6,19 @@ use mathlib.Core.Bool.{true, false}
 use mathlib.Core.Logic.{inl, inr}
 use mathlib.Core.List.{List, [], _∷_}
 use mathlib.Core.Option.{Option, some, none}
-use Prim.Native.Nat.{ℕ, zero, suc, _+_, _≤_, _<_}
+use Prim.Native.Nat.{ℕ, suc, _+_, _≤_, _<_}
 use native.Mathlib.Omega.{arith}
 use lib.ListN.{length, drop, length-drop}
 use lib.Dec.{leb}
 use borrow.Author.Tests.{leb-true, le-leb, lt-leb}
 use Rattle.basics.proofs.Laws.{if-ind, if-yes, if-no, both-yes, both-no-left, both-no-right, both-left, both-right}
 use Rattle.basics.proofs.Order.{le-or-gt}
+use Rattle.basics.proofs.Recursion.{AsksShorter, recurse-unroll}
 use Rattle.trace.specs.Calls.{Call}
 use Rattle.run.specs.declared.Header.{Header}
 use Rattle.run.specs.declared.Front.{Front}
 use Rattle.run.specs.declared.Counted.{Counted}
-use Rattle.run.specs.Encoding.{headerSize, endOf, headerIn, isKind, isWhole, frontIn, callIn, withCall, oneMore, nextCall, callsBy, callsOf, countedOf}
+use Rattle.run.specs.Encoding.{headerSize, endOf, headerIn, isKind, isWhole, frontIn, callIn, withCall, oneMore, nextCall, callsOf, countedOf}
 
 -- two tests that hold together are the same
 pub same-test : (a b c d : ℕ) → (a ≤ b → c ≤ d) → (c ≤ d → a ≤ b) → leb a b ≡ leb c d
@@ -69,7 +70,7 @@ pub front-short : (s : List ℕ) → length s < headerSize → frontIn s ≡ Fro
 unfolding frontIn isWhole
 front-short s l = if-no _ _ (both-no-left _ _ (lt-leb headerSize (length s) l))
 
--- ---- the number of calls allowed does not matter
+-- ---- the bound of the recursion does not matter
 
 abbrev Reader : Type 0
 Reader = List ℕ → Option (List Call)
@@ -80,19 +81,13 @@ more-same k k′ s same Front.Malformed e = refl
 more-same k k′ s same (Front.Call h) e =
     ap (withCall (callIn s h)) (same (drop (endOf h) s) (omega (arith, length-drop (endOf h) s, front-end s h e)))
 
-next-same : (k k′ : Reader) (s : List ℕ) → ((v : List ℕ) → length v < length s → k v ≡ k′ v) → nextCall k s ≡ nextCall k′ s
+next-same : AsksShorter nextCall
 next-same k k′ [] same = refl
 next-same k k′ (b ∷ s) same = more-same k k′ (b ∷ s) same (frontIn (b ∷ s)) refl
 
-enough : (n m : ℕ) (s : List ℕ) → length s < n → length s < m → callsBy n s ≡ callsBy m s
-unfolding callsBy
-enough zero m s p q = absurd (omega arith)
-enough (suc n) zero s p q = absurd (omega arith)
-enough (suc n) (suc m) s p q = next-same (callsBy n) (callsBy m) s (λ v h. enough n m v (omega arith) (omega arith))
-
 pub unroll : (s : List ℕ) → callsOf s ≡ nextCall callsOf s
-unfolding callsOf callsBy
-unroll s = next-same (callsBy (length s)) callsOf s (λ v h. enough (length s) (suc (length v)) v h (omega arith))
+unfolding callsOf
+unroll s = recurse-unroll none nextCall next-same s
 
 -- ---- one law for each way out of a step
 

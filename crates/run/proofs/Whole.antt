@@ -18,7 +18,8 @@ use Rattle.run.specs.declared.Counted.{Counted}
 use Rattle.run.specs.declared.Said.{Said}
 use Rattle.run.specs.declared.Ran.{Ran}
 use Rattle.run.specs.Encoding.{callsOf, countedOf}
-use Rattle.run.specs.Playing.{replySize, repliesOf, leftIn, playedOf, saidOf, Plays, Runs, Ready, listed}
+use Rattle.run.specs.Playing.{replySize, repliesOf, leftIn, playedOf, saidOf, Plays, Runs}
+use Rattle.run.specs.Inner.{Ready, callsRead}
 
 -- ---- what counting tells
 
@@ -26,17 +27,17 @@ pub counted-none : (x : Option (List Call)) → countedOf x ≡ Counted.Malforme
 counted-none none e = refl
 counted-none (some cs) e = let z : _≡_ {A = ℕ} 0 1 = cc in absurd (omega arith)
 
-pub counted-some : (x : Option (List Call)) (n : ℕ) → countedOf x ≡ Counted.Calls n → (x ≡ some (listed x)) × (length (listed x) ≡ n)
+pub counted-some : (x : Option (List Call)) (n : ℕ) → countedOf x ≡ Counted.Calls n → (x ≡ some (callsRead x)) × (length (callsRead x) ≡ n)
 counted-some none n e = let z : _≡_ {A = ℕ} 0 1 = cc in absurd (omega arith)
 counted-some (some cs) n e = (refl, cc)
 
-pub ready : (x : Option (List Call)) (r : List ℕ) → x ≡ some (listed x) → replySize * length (listed x) ≤ length r → Ready x r
+pub ready : (x : Option (List Call)) (r : List ℕ) → x ≡ some (callsRead x) → replySize * length (callsRead x) ≤ length r → Ready x r
 ready none r e h = let z : _≡_ {A = ℕ} 0 1 = cc in absurd (omega arith)
 ready (some cs) r e h = h
 
-pub ready-listed : (x : Option (List Call)) (r : List ℕ) → Ready x r → (x ≡ some (listed x)) × (replySize * length (listed x) ≤ length r)
-ready-listed none r h = absurd h
-ready-listed (some cs) r h = (refl, h)
+pub ready-read : (x : Option (List Call)) (r : List ℕ) → Ready x r → (x ≡ some (callsRead x)) × (replySize * length (callsRead x) ≤ length r)
+ready-read none r h = absurd h
+ready-read (some cs) r h = (refl, h)
 
 -- ---- the result
 

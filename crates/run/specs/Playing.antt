@@ -1,25 +1,22 @@
--- What playing a list of calls in bytes leaves: the session, both slices, and the claim over the calls that were played.
+-- What playing a list of calls in bytes leaves: the session, both slices, and the claim over the calls played.
 -- Assumes nothing.
 use mathlib.Core.Path.{_≡_}
 use mathlib.Core.List.{List, [], _∷_, _++_}
 use mathlib.Core.Option.{Option, some, none}
-use Prim.Native.Nat.{ℕ, _*_, _≤_}
-use lib.Dec.{leb}
+use Prim.Native.Nat.{ℕ, _*_}
 use lib.ListN.{length, take, drop}
-use Rattle.basics.specs.Choice.{if}
+use Rattle.basics.specs.Choice.{if_then_else_, _≤?_}
 use Rattle.record.specs.declared.Session.{Session}
 use Rattle.record.specs.declared.Answer.{Answer}
 use Rattle.record.specs.declared.Reply.{Reply}
 use Rattle.record.specs.Numbers.{outcomeNumber}
 use Rattle.record.specs.Session.{freshSession}
-use Rattle.session.specs.Steps.{Step}
-use Rattle.trace.specs.Calls.{Call, step, Made, play, final}
+use Rattle.trace.specs.Calls.{Call, Made, play, final}
 use Rattle.trace.specs.Claim.{Proper}
 use Rattle.run.specs.declared.Header.{Header}
 use Rattle.run.specs.declared.Said.{Said}
 use Rattle.run.specs.declared.Ran.{Ran}
-use Rattle.run.specs.declared.Turn.{Turn}
-use Rattle.run.specs.Encoding.{headerIn, bufferAt, endOf, callIn, callsOf, highFirst}
+use Rattle.run.specs.Encoding.{headerIn, bufferAt, endOf, callsOf, highFirst}
 
 -- ---- the replies
 
@@ -29,14 +26,16 @@ answerBytes (Answer.Command x) = 0 ∷ highFirst 2 (x .size)
 answerBytes (Answer.Outcome e) = 1 ∷ outcomeNumber (e .outcome) ∷ e .reason ∷ []
 answerBytes (Answer.Refused r) = 2 ∷ 0 ∷ r .number ∷ []
 
--- and the session's count
+-- four bytes: what the call handed back, and the session's count
 abbrev pub replyBytes : Reply → List ℕ
 replyBytes r = answerBytes (r .answer) ++ (r .session .count ∷ [])
 
+-- the replies of all calls, in order
 unfoldable pub repliesOf : List Made → List ℕ
 repliesOf [] = []
 repliesOf (m ∷ ms) = replyBytes (m .step .reply) ++ repliesOf ms
 
+-- the length of a reply
 abbrev pub replySize : ℕ
 replySize = 4
 
@@ -46,6 +45,7 @@ replySize = 4
 abbrev pub behindBuffer : List ℕ → Header → List ℕ → List ℕ → List ℕ
 behindBuffer s h buf rest = take (bufferAt h) s ++ (buf ++ rest)
 
+-- the same of every call in turn
 unfoldable pub leftIn : List ℕ → List Made → List ℕ
 leftIn s [] = s
 leftIn s (m ∷ ms) = behindBuffer s (headerIn s) (m .step .buffer) (leftIn (drop (endOf (headerIn s)) s) ms)
@@ -55,7 +55,9 @@ leftIn s (m ∷ ms) = behindBuffer s (headerIn s) (m .step .buffer) (leftIn (dro
 -- the calls that are played: those that the bytes are read as, where there is room for their replies; else none
 abbrev pub playedOf : Option (List Call) → List ℕ → List Call
 playedOf none replies = []
-playedOf (some cs) replies = if (leb (replySize * length cs) (length replies)) cs []
+playedOf (some cs) replies =
+    if replySize * length cs ≤? length replies then cs
+    else []
 
 -- what is said, by its number: 0 played, 1 no list of calls, 2 too little room for the replies
 abbrev pub saidNumber : Said → ℕ
@@ -63,9 +65,12 @@ saidNumber Said.Played = 0
 saidNumber Said.Malformed = 1
 saidNumber Said.TooShort = 2
 
+-- what is said of the calls that the bytes are read as
 abbrev pub saidOf : Option (List Call) → List ℕ → Said
 saidOf none replies = Said.Malformed
-saidOf (some cs) replies = if (leb (replySize * length cs) (length replies)) Said.Played Said.TooShort
+saidOf (some cs) replies =
+    if replySize * length cs ≤? length replies then Said.Played
+    else Said.TooShort
 
 -- the calls cs are played on a fresh session: the session s at the end, and both slices
 pub record Plays (s : Session) (calls′ replies′ calls replies : List ℕ) (cs : List Call) : Type 0 where
@@ -78,25 +83,3 @@ pub record Runs (r : Ran) (calls′ replies′ calls replies : List ℕ) (cs : L
   pub said : r .said ≡ saidOf (callsOf calls) replies
   pub played : Plays (r .session) calls′ replies′ calls replies cs
   pub claim : Proper (play freshSession cs) (r .session)
-
--- ---- the parts of a run
-
--- there is a list of calls, and room for its replies
-abbrev pub Ready : Option (List Call) → List ℕ → Type 0
-Ready none replies = ⊥
-Ready (some cs) replies = replySize * length cs ≤ length replies
-
-abbrev pub listed : Option (List Call) → List Call
-listed none = []
-listed (some cs) = cs
-
--- a step of the call at the front of s, with its buffer in its place
-abbrev pub overBuffer : List ℕ → Header → Step → Step
-overBuffer s h st = record { reply = st .reply; buffer = behindBuffer s h (st .buffer) (drop (endOf h) s) }
-
--- the call at the front of the calls is played
-pub record Turns (r : Turn) (calls′ replies′ : List ℕ) (s : Session) (calls replies : List ℕ) : Type 0 where
-  pub session : r .session ≡ step s (callIn calls (headerIn calls)) .reply .session
-  pub size : r .size ≡ endOf (headerIn calls)
-  pub calls-after : calls′ ≡ overBuffer calls (headerIn calls) (step s (callIn calls (headerIn calls))) .buffer
-  pub replies-after : replies′ ≡ replyBytes (step s (callIn calls (headerIn calls)) .reply) ++ drop replySize replies

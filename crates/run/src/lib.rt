@@ -23,7 +23,8 @@ ghost use Rattle.record.specs.Session.{freshSession};
 ghost use Rattle.session.specs.Steps.{Did};
 ghost use Rattle.trace.specs.Calls.{Call, step as stepOf};
 ghost use Rattle.run.specs.Encoding.{headerSize, endOf, isKind, headerIn, isWhole, frontIn, callBy, callIn, callsOf, countedOf, Sized, encoded};
-ghost use Rattle.run.specs.Playing.{replyBytes, overBuffer, Plays, Turns, Runs, playedOf, saidNumber, Ready, listed};
+ghost use Rattle.run.specs.Playing.{replyBytes, Plays, Runs, playedOf, saidNumber};
+ghost use Rattle.run.specs.Inner.{overBuffer, Turns, Ready, callsRead};
 
 // What a run says: all calls were played, the bytes are no list of calls, or `replies` is too short for
 // the replies. In the last two cases nothing is played and nothing is written.
@@ -197,7 +198,7 @@ fn four(s: &[u8]) -> usize
 // Plays every call of a list of calls, on a fresh session.
 fn play_all(calls: &mut [u8], replies: &mut [u8]) -> Session
     requires { ⌜ Ready (callsOf (now calls)) (now replies) ⌝ }
-    ensures { λ r. ⌜ Plays r (now (calls .exit)) (now (replies .exit)) (now (calls .entry)) (now (replies .entry)) (listed (callsOf (now (calls .entry)))) ⌝ }
+    ensures { λ r. ⌜ Plays r (now (calls .exit)) (now (replies .exit)) (now (calls .entry)) (now (replies .entry)) (callsRead (callsOf (now (calls .entry)))) ⌝ }
 {
     let mut session = record::fresh();
     let mut at = 0;

@@ -10,9 +10,10 @@ use Prim.Native.Nat.{ℕ, suc, _+_, _-_, _/_, _≤_, _<_}
 use native.Mathlib.Omega.{arith}
 use types.Run.{OneOf}
 use denote.Enum.Declared.{tagOf}
+use lib.Dec.{eqb}
 use lib.ListN.{length, take}
 use borrow.Author.Tests.{lt-ltb, le-ltb, eq-eqb, ne-eqb, not-true, not-false}
-use Rattle.basics.specs.Choice.{if, both}
+use Rattle.basics.specs.Choice.{if}
 use Rattle.basics.proofs.Laws.{if-yes, if-no, if-ind}
 use Rattle.dictionary.specs.Rows.{rows, rowAt}
 use Rattle.dictionary.specs.Named.{placeFound, placeOf}
@@ -44,8 +45,8 @@ use Rattle.record.specs.declared.Session.{Session}
 use Rattle.record.specs.declared.Reply.{Reply}
 use Rattle.record.specs.declared.Turn.{Turn}
 use Rattle.basics.specs.Reason.{refusedPhase, refusedBuffer, refusedRanges, reasonNone, reasonMissing, reasonLocator, reasonAboveLimit, reasonDataList, reasonCryptogram, reasonMode, unless}
-use Rattle.record.specs.Session.{stored, replyOf, failsReply, failsTurn, commandsTurn}
-use Rattle.store.specs.Held.{holds, byteIn}
+use Rattle.record.specs.Session.{stored, sessionOf, replyOf, failsTurn, commandsTurn}
+use Rattle.store.specs.Held.{byteIn}
 use Rattle.record.specs.Ranges.{emvMode, locatorIn, completed, inRanges}
 use Rattle.record.specs.Clauses.{noResults}
 use Rattle.record.proofs.Tags.{bytes-are}
@@ -58,9 +59,10 @@ use Rattle.session.specs.declared.Mode.{Mode}
 use Rattle.session.specs.declared.Limit.{Limit}
 use Rattle.session.specs.declared.Decided.{Decided}
 use Rattle.session.specs.declared.Decision.{Decision}
-use Rattle.session.specs.Steps.{Step, Did, withoutCommand, refuses, fails, withStore, withResults, leastBuffer, admitted, handOut}
-use Rattle.session.specs.Start.{askOptions, startLoaded, startIn, refusalNumber}
-use Rattle.session.specs.Answer.{accepted, askFound, optionsRead, askCryptogram, analysed, recordsRead, decision, concluded, cryptogramRead, neededNumber, modeNumber, limitNumber, decidedEnd, endFor}
+use Rattle.session.specs.Steps.{Step, Did, withoutCommand, refuses, endBy, fails, withResults, leastBuffer, admitted, handOut}
+use Rattle.session.specs.Start.{askOptions, startLoaded, startIn}
+use Rattle.session.specs.Answer.{askFound, optionsThere, storedReason, optionsRead, askCryptogram, analysed, recordsRead, decision, endFor, cryptogramThere, cryptogramEnd}
+use Rattle.session.specs.Inner.{refusalNumber, neededNumber, modeNumber, limitNumber, decidedEnd}
 
 -- ---- a step by an equation
 
@@ -77,18 +79,18 @@ did-without-command b e f = did-as f (record { reply = reply-as b e; buffer = re
 
 -- ---- the refusals that every call checks first
 
-module _ {A : Type 0} (s : Session) (size : ℕ) (refused : ℕ → A) (step : A) where
-  pub admitted-short : size < leastBuffer → admitted s size refused step ≡ refused refusedBuffer
+module _ (s : Session) (buf : List ℕ) (step : Step) where
+  pub admitted-short : length buf < leastBuffer → admitted s buf step ≡ refuses s refusedBuffer buf
   unfolding admitted
-  admitted-short h = if-yes _ _ (lt-ltb size leastBuffer h)
+  admitted-short h = if-yes _ _ (lt-ltb (length buf) leastBuffer h)
 
-  pub admitted-ranges : leastBuffer ≤ size → inRanges s ≡ false → admitted s size refused step ≡ refused refusedRanges
+  pub admitted-ranges : leastBuffer ≤ length buf → inRanges s ≡ false → admitted s buf step ≡ refuses s refusedRanges buf
   unfolding admitted
-  admitted-ranges h e = if-no _ _ (le-ltb size leastBuffer h) ∙ if-no _ _ e
+  admitted-ranges h e = if-no _ _ (le-ltb (length buf) leastBuffer h) ∙ if-yes _ _ (ap not e)
 
-  pub admitted-in : leastBuffer ≤ size → inRanges s ≡ true → admitted s size refused step ≡ step
+  pub admitted-in : leastBuffer ≤ length buf → inRanges s ≡ true → admitted s buf step ≡ step
   unfolding admitted
-  admitted-in h e = if-no _ _ (le-ltb size leastBuffer h) ∙ if-yes _ _ e
+  admitted-in h e = if-no _ _ (le-ltb (length buf) leastBuffer h) ∙ if-no _ _ (ap not e)
 
 -- ---- an answer that is accepted, or not
 
@@ -122,19 +124,19 @@ module _ (P : reading.Outcome → Type 0) (b : List ℕ) (same : (r n : ℕ) →
 unread-store : (a : Awaited) (b s : List ℕ) → (reading.readAnswer a b s .reason ≡ 0 → ⊥) → reading.readAnswer a b s .store ≡ b
 unread-store a b s = read-ind (λ (o : reading.Outcome). (o .reason ≡ 0 → ⊥) → o .store ≡ b) b (λ r n h z. refl) (λ n c z. absurd (z refl)) a s
 
--- the answer s, awaited as a and read as r, left the store d
-module _ {A : Type 0} (t : Session) (a : Awaited) (s : List ℕ) (failed : Session → ℕ → A) (go : Session → A) {r : Reading} {d : List ℕ}
-    (g : reading.Gives r d (reading.readAnswer a (stored t) s)) where
-  pub accepted-yes : r .verdict ≡ Accepted → accepted t (reading.readAnswer a (stored t) s) (failed t) go ≡ go (withStore t d)
-  unfolding accepted
-  accepted-yes e = if-yes _ _ (eq-eqb _ 0 (sym (g .reason) ∙ ap reading.numberOf e)) ∙ ap (λ (b : List ℕ). go (withStore t b)) (sym (g .store))
+-- the answer s, awaited as a and read as r on the store b, left the store d
+module _ (a : Awaited) (b s : List ℕ) {r : Reading} {d : List ℕ} (g : reading.Gives r d (reading.readAnswer a b s)) where
+  abbrev o : reading.Outcome
+  o = reading.readAnswer a b s
 
-  pub accepted-no : OneOf (1 ∷ 2 ∷ 3 ∷ []) (tagOf verdict-type (r .verdict))
-      → accepted t (reading.readAnswer a (stored t) s) (failed t) go ≡ failed (withStore t d) (reading.numberOf (r .verdict))
-  unfolding accepted
-  accepted-no h =
-      let z : (reading.readAnswer a (stored t) s .reason ≡ 0 → ⊥) = λ e. not-accepted (r .verdict) h (g .reason ∙ e) in
-      if-no _ _ (ne-eqb _ 0 z) ∙ ap₂ (λ (b : List ℕ) (n : ℕ). failed (withStore t b) n) (sym (g .store ∙ unread-store a (stored t) s z)) (sym (g .reason))
+  pub read-yes : {A : Type 0} (go : List ℕ → A) (failed : A) → r .verdict ≡ Accepted → if (eqb (o .reason) 0) (go (o .store)) failed ≡ go d
+  read-yes go failed e = if-yes _ _ (eq-eqb _ 0 (sym (g .reason) ∙ ap reading.numberOf e)) ∙ ap go (sym (g .store))
+
+  pub read-no : {A : Type 0} (going : A) (failed : List ℕ → ℕ → A) → OneOf (1 ∷ 2 ∷ 3 ∷ []) (tagOf verdict-type (r .verdict))
+      → if (eqb (o .reason) 0) going (failed b (o .reason)) ≡ failed d (reading.numberOf (r .verdict))
+  read-no going failed h =
+      let z : (o .reason ≡ 0 → ⊥) = λ e. not-accepted (r .verdict) h (g .reason ∙ e) in
+      if-no _ _ (ne-eqb _ 0 z) ∙ ap₂ failed (sym (g .store ∙ unread-store a b s z)) (sym (g .reason))
 
 -- ---- what the code's two-case answers say of their tests
 
@@ -204,15 +206,19 @@ not-fresh (Phase.Record p) s bytes buf h = refl
 not-fresh (Phase.Cryptogram a) s bytes buf h = refl
 not-fresh (Phase.Ended e) s bytes buf h = refl
 
--- the loading said r and left the store d
-module _ (s : Session) (buf : List ℕ) {r : Said} {d : List ℕ} where
-  pub loading-refused : {f : Refusal} (x : Loaded) → Loads r d (stored s) x → r ≡ Said.Refused f → startLoaded s buf x ≡ refuses (withStore s d) (refusalNumber r) buf
+-- the loading of a fresh session said r and left the store d
+module _ (n : ℕ) (b buf : List ℕ) {r : Said} {d : List ℕ} where
+  pub loading-refused : {f : Refusal} (x : Loaded) → Loads r d b x → r ≡ Said.Refused f
+      → startLoaded (sessionOf Phase.Fresh n b) buf x ≡ refuses (sessionOf Phase.Fresh n d) (refusalNumber r) buf
   loading-refused x g e =
       let w = was-refused x g e in
-      ap (startLoaded s buf) (w .0) ∙ ap₂ (λ (b : List ℕ) (y : Said). refuses (withStore s b) (refusalNumber y) buf) (sym (w .1)) (sym e)
+      ap (startLoaded (sessionOf Phase.Fresh n b) buf) (w .0)
+      ∙ ap₂ (λ (c : List ℕ) (y : Said). refuses (sessionOf Phase.Fresh n c) (refusalNumber y) buf) (sym (w .1)) (sym e)
 
-  pub loading-taken : {k : List ℕ} (x : Loaded) → Loads r d (stored s) x → r ≡ Said.Taken → k ≡ putAt rows d 5 noResults → startLoaded s buf x ≡ askOptions (withStore s k) buf
-  loading-taken x g e f = ap (startLoaded s buf) (was-taken x g e) ∙ ap (λ (b : List ℕ). askOptions (withStore s b) buf) (results-stored d noResults f)
+  pub loading-taken : {k : List ℕ} (x : Loaded) → Loads r d b x → r ≡ Said.Taken → k ≡ putAt rows d 5 noResults
+      → startLoaded (sessionOf Phase.Fresh n b) buf x ≡ askOptions n k buf
+  loading-taken x g e f =
+      ap (startLoaded (sessionOf Phase.Fresh n b) buf) (was-taken x g e) ∙ ap (λ (c : List ℕ). askOptions n c buf) (results-stored d noResults f)
 
 -- ---- a record of the locator, by the row's value and a number
 
@@ -228,77 +234,74 @@ found-there v k {r} {w} f e =
 
 -- ---- a command that carries a filled list, by what was written
 
-module _ (s : Session) (p : Phase) (buf : List ℕ) {b : List ℕ} {t : Turn} {w : Written} where
+module _ (n : ℕ) (d : List ℕ) (p : Phase) (buf : List ℕ) {b : List ℕ} {t : Turn} {w : Written} where
   pub handed-none : (x : Option (List ℕ)) → w ≡ writtenOf x → b ≡ bufferWith x buf → w ≡ NoCommand
-      → t ≡ failsTurn (s .count) reasonDataList → Did (replyOf t (stored s)) b (handOut s p buf x)
-  handed-none none e f g h = record { reply = reply-as (stored s) h; buffer = f }
+      → t ≡ failsTurn n reasonDataList → Did (replyOf t d) b (handOut n d p buf x)
+  handed-none none e f g h = record { reply = reply-as d h; buffer = f }
   handed-none (some c) e f g h = let z : _≡_ {A = ℕ} 0 1 = cc in absurd (omega arith)
 
-  pub handed-some : {n : Handed} (x : Option (List ℕ)) → w ≡ writtenOf x → b ≡ bufferWith x buf → w ≡ Command n
-      → t ≡ commandsTurn p (s .count + 1) (n .len) → Did (replyOf t (stored s)) b (handOut s p buf x)
+  pub handed-some : {m : Handed} (x : Option (List ℕ)) → w ≡ writtenOf x → b ≡ bufferWith x buf → w ≡ Command m
+      → t ≡ commandsTurn p (n + 1) (m .len) → Did (replyOf t d) b (handOut n d p buf x)
   handed-some none e f g h = let z : _≡_ {A = ℕ} 0 1 = cc in absurd (omega arith)
-  handed-some {n} (some c) e f g h =
-      let z : n ≡ record { len = length c } = cc in
-      record { reply = reply-as (stored s) (h ∙ ap (λ (m : Handed). commandsTurn p (s .count + 1) (m .len)) z); buffer = f }
+  handed-some {m} (some c) e f g h =
+      let z : m ≡ record { len = length c } = cc in
+      record { reply = reply-as d (h ∙ ap (λ (y : Handed). commandsTurn p (n + 1) (y .len)) z); buffer = f }
 
--- ---- after the processing options
+module _ (n : ℕ) (b buf : List ℕ) where
+  -- ---- after the processing options
 
-module _ (s : Session) (buf : List ℕ) where
-  abbrev there : Bool
-  there = both (holds (stored s) 0x82) (holds (stored s) 0x94)
-
-  pub options-missing : there ≡ false → optionsRead s buf ≡ fails s reasonMissing buf
+  -- a reason of the store ends the session
+  stops : (m : ℕ) → storedReason b ≡ suc m → optionsRead n b buf ≡ fails n b (suc m) buf
   unfolding optionsRead
-  options-missing e = if-no _ _ e
+  stops m e = if-no _ _ (ne-eqb (storedReason b) 0 (λ z. omega (arith, z, e))) ∙ ap (λ (r : ℕ). fails n b r buf) e
 
-  pub options-mode : there ≡ true → emvMode (stored s) ≡ false → optionsRead s buf ≡ fails s reasonMode buf
-  unfolding optionsRead
-  options-mode e m = if-yes _ _ e ∙ if-no _ _ m
+  pub options-missing : optionsThere b ≡ false → optionsRead n b buf ≡ fails n b reasonMissing buf
+  unfolding storedReason
+  options-missing e = stops 3 (if-yes _ _ (ap not e))
 
-  pub options-locator : there ≡ true → emvMode (stored s) ≡ true → accepts (locatorIn (stored s)) ≡ false → optionsRead s buf ≡ fails s reasonLocator buf
-  unfolding optionsRead
-  options-locator e m a = if-yes _ _ e ∙ if-yes _ _ m ∙ if-no _ _ a
+  pub options-mode : optionsThere b ≡ true → emvMode b ≡ false → optionsRead n b buf ≡ fails n b reasonMode buf
+  unfolding storedReason
+  options-mode e m = stops 10 (if-no _ _ (ap not e) ∙ if-yes _ _ (ap not m))
 
-  pub options-ask : (x : Found) → there ≡ true → emvMode (stored s) ≡ true → accepts (locatorIn (stored s)) ≡ true
-      → recordAt (locatorIn (stored s)) 1 ≡ x → optionsRead s buf ≡ askFound s 1 buf x
-  unfolding optionsRead
-  options-ask x e m a f = if-yes _ _ e ∙ if-yes _ _ m ∙ if-yes _ _ a ∙ ap (askFound s 1 buf) f
+  pub options-locator : optionsThere b ≡ true → emvMode b ≡ true → accepts (locatorIn b) ≡ false → optionsRead n b buf ≡ fails n b reasonLocator buf
+  unfolding storedReason
+  options-locator e m a = stops 4 (if-no _ _ (ap not e) ∙ if-no _ _ (ap not m) ∙ if-yes _ _ (ap not a))
+
+  pub options-ask : (x : Found) → optionsThere b ≡ true → emvMode b ≡ true → accepts (locatorIn b) ≡ true
+      → recordAt (locatorIn b) 1 ≡ x → optionsRead n b buf ≡ askFound n b 1 buf x
+  unfolding optionsRead storedReason
+  options-ask x e m a f =
+      if-yes _ _ (eq-eqb _ 0 (if-no _ _ (ap not e) ∙ if-no _ _ (ap not m) ∙ if-no _ _ (ap not a))) ∙ ap (askFound n b 1 buf) f
 
   -- ---- after the last record
 
-  pub records-limit : aboveLimit (stored s) ≡ true → recordsRead s buf ≡ fails s reasonAboveLimit buf
+  pub records-limit : aboveLimit b ≡ true → recordsRead n b buf ≡ fails n b reasonAboveLimit buf
   unfolding recordsRead
   records-limit e = if-yes _ _ e
 
-  pub records-missing : aboveLimit (stored s) ≡ false → completed (stored s) ≡ false → recordsRead s buf ≡ fails s reasonMissing buf
+  pub records-missing : aboveLimit b ≡ false → completed b ≡ false → recordsRead n b buf ≡ fails n b reasonMissing buf
   unfolding recordsRead
-  records-missing e f = if-no _ _ e ∙ if-no _ _ f
+  records-missing e f = if-no _ _ e ∙ if-yes _ _ (ap not f)
 
-  pub records-analysed : aboveLimit (stored s) ≡ false → completed (stored s) ≡ true → recordsRead s buf ≡ analysed s buf
+  pub records-analysed : aboveLimit b ≡ false → completed b ≡ true → recordsRead n b buf ≡ analysed n b buf
   unfolding recordsRead
-  records-analysed e f = if-no _ _ e ∙ if-yes _ _ f
+  records-analysed e f = if-no _ _ e ∙ if-no _ _ (ap not f)
 
--- ---- the result bits, found
-
--- the bits as they are found, stored and chosen on
-pub analysed-as : (s : Session) (buf : List ℕ) {r k : List ℕ} {x : Choice} → r ≡ resultOf (stored s) → x ≡ chosen (stored s) r
-    → k ≡ putAt rows (stored s) 5 r → analysed s buf ≡ askCryptogram (withStore s k) x buf
-unfolding analysed
-analysed-as s buf {r} e f g =
-    ap₂ (λ (b : List ℕ) (c : Choice). askCryptogram (withStore s b) c buf)
-    (ap (withResults (stored s)) (sym e) ∙ results-stored (stored s) r g)
-    (ap (chosen (stored s)) (sym e) ∙ sym f)
+  -- the result bits as they are found, stored and chosen on
+  pub analysed-as : {r k : List ℕ} {x : Choice} → r ≡ resultOf b → x ≡ chosen b r → k ≡ putAt rows b 5 r → analysed n b buf ≡ askCryptogram n k x buf
+  unfolding analysed
+  analysed-as {r} e f g =
+      ap₂ (λ (c : List ℕ) (x : Choice). askCryptogram n c x buf)
+      (ap (withResults b) (sym e) ∙ results-stored b r g)
+      (ap (chosen b) (sym e) ∙ sym f)
 
 -- ---- the answer to the cryptogram
 
-module _ (a : Asked) (s : Session) where
-  abbrev brought : Bool
-  brought = both (holds (stored s) 0x9F27) (both (holds (stored s) 0x9F36) (holds (stored s) 0x9F26))
+module _ (a : Asked) (b : List ℕ) where
+  pub cryptogram-missing : cryptogramThere b ≡ false → cryptogramEnd a b ≡ endBy reasonMissing
+  unfolding cryptogramEnd
+  cryptogram-missing e = if-yes _ _ (ap not e)
 
-  pub cryptogram-missing : brought ≡ false → cryptogramRead a s ≡ failsReply s reasonMissing
-  unfolding cryptogramRead
-  cryptogram-missing e = if-no _ _ e
-
-  pub cryptogram-decided : brought ≡ true → cryptogramRead a s ≡ concluded s (decision (a .choice) (byteIn (stored s) 0x9F27 1 / 64))
-  unfolding cryptogramRead
-  cryptogram-decided e = if-yes _ _ e
+  pub cryptogram-decided : cryptogramThere b ≡ true → cryptogramEnd a b ≡ endFor (decision (a .choice) (byteIn b 0x9F27 1 / 64))
+  unfolding cryptogramEnd
+  cryptogram-decided e = if-no _ _ (ap not e)

@@ -1,3 +1,4 @@
 pub mod Steps
 pub mod Start
 pub mod Answer
+pub mod Inner

@@ -1,22 +1,26 @@
--- A call's step: the reply that is given and the command buffer that is left; and the refusals that every call checks first
--- (document 01, "Calls and their numbers").
+-- A call's step: the reply that is given and the command buffer that is left; and the refusals that every call checks
+-- first (document 01, "Calls and their numbers"). Past the refusals a step goes by the session's count and the bytes of
+-- its store.
 -- Assumes nothing.
 use mathlib.Core.Path.{_≡_}
+use mathlib.Core.Bool.{not}
 use mathlib.Core.List.{List}
 use mathlib.Core.Option.{Option, some, none}
 use Prim.Native.Nat.{ℕ, _+_}
-use lib.Dec.{ltb}
 use lib.ListN.{length}
-use Rattle.basics.specs.Choice.{if}
+use Rattle.basics.specs.Choice.{if_then_else_, _<?_}
 use Rattle.basics.specs.Front.{inFront}
+use Rattle.basics.specs.Reason.{refusedBuffer, refusedRanges, refusedPhase, reasonDataList, reasonLink, reasonStopped}
 use Rattle.dictionary.specs.Rows.{rows}
 use Rattle.dictionary.specs.Named.{placeOf}
 use Rattle.store.specs.Place.{putAt}
+use Rattle.record.specs.declared.End.{End}
 use Rattle.record.specs.declared.Phase.{Phase}
 use Rattle.record.specs.declared.Session.{Session}
 use Rattle.record.specs.declared.Reply.{Reply}
-use Rattle.basics.specs.Reason.{refusedBuffer, refusedRanges, refusedPhase, reasonDataList, reasonLink, reasonStopped}
-use Rattle.record.specs.Session.{waitingSession, storedSession, refusedReply, failsReply, commandsReply}
+use Rattle.record.specs.declared.Turn.{Turn}
+use Rattle.record.specs.Numbers.{outcomeFor}
+use Rattle.record.specs.Session.{stored, endOf, refusedReply, replyOf, endsTurn, commandsTurn}
 use Rattle.record.specs.Ranges.{inRanges}
 
 -- ---- a call's step
@@ -31,25 +35,34 @@ pub record Did (r : Reply) (b : List ℕ) (s : Step) : Type 0 where
   pub reply : r ≡ s .reply
   pub buffer : b ≡ s .buffer
 
+-- the same of a turn r, with the store b that it left
+abbrev pub DidIn : Turn → List ℕ → List ℕ → Step → Type 0
+DidIn r b buf s = Did (replyOf r b) buf s
+
 -- no command: the whole buffer stays
 abbrev pub withoutCommand : Reply → List ℕ → Step
 withoutCommand r buf = record { reply = r; buffer = buf }
 
--- a refusal, by its number
+-- a refusal, by its number: the session stays, too
 abbrev pub refuses : Session → ℕ → List ℕ → Step
 refuses s n buf = withoutCommand (refusedReply s n) buf
 
--- the session ends for a reason other than 0
-abbrev pub fails : Session → ℕ → List ℕ → Step
-fails s n buf = withoutCommand (failsReply s n) buf
+-- a session of count n and store b ends, with an outcome and its reason
+abbrev pub ended : ℕ → List ℕ → End → Reply
+ended n b e = replyOf (endsTurn n (e .outcome) (e .reason)) b
 
--- a command fills the front of the buffer, and the session waits on its answer in a phase, with one command more
-abbrev pub commands : Session → Phase → List ℕ → List ℕ → Step
-commands s p c buf = record { reply = commandsReply (waitingSession s p (s .count + 1)) (length c); buffer = inFront c buf }
+-- a reason other than 0, with its outcome
+abbrev pub endBy : ℕ → End
+endBy reason = endOf (outcomeFor reason) reason
 
--- the session with a store of these bytes
-abbrev pub withStore : Session → List ℕ → Session
-withStore s b = storedSession s (record { bytes = b })
+-- a session of count n and store b ends for a reason other than 0
+abbrev pub fails : ℕ → List ℕ → ℕ → List ℕ → Step
+fails n b reason buf = withoutCommand (ended n b (endBy reason)) buf
+
+-- a command fills the front of the buffer: a session of count n and store b waits on its answer in a phase, with one
+-- command more
+abbrev pub commands : ℕ → List ℕ → Phase → List ℕ → List ℕ → Step
+commands n b p c buf = record { reply = replyOf (commandsTurn p (n + 1) (length c)) b; buffer = inFront c buf }
 
 -- the store with these result bits in 95
 unfoldable pub withResults : List ℕ → List ℕ → List ℕ
@@ -61,33 +74,38 @@ withResults b v = putAt rows b (placeOf 0x95) v
 abbrev pub leastBuffer : ℕ
 leastBuffer = 261
 
--- the buffer's size (22), then the session's ranges (25), then the call's own step
-unfoldable pub admitted : {A : Type 0} → Session → ℕ → (ℕ → A) → A → A
-admitted s size refused step = if (ltb size leastBuffer) (refused refusedBuffer) (if (inRanges s) step (refused refusedRanges))
+-- a call is refused for the buffer's size (22), then for the session's ranges (25); else its own step is taken
+unfoldable pub admitted : Session → List ℕ → Step → Step
+admitted s buf step =
+    if length buf <? leastBuffer then refuses s refusedBuffer buf
+    else if not (inRanges s) then refuses s refusedRanges buf
+    else step
 
 -- ---- a command that carries a filled list
 
 -- a list that is broken, or that fills to a length no command can carry, ends the session with reason 7
-abbrev pub handOut : Session → Phase → List ℕ → Option (List ℕ) → Step
-handOut s p buf none = fails s reasonDataList buf
-handOut s p buf (some c) = commands s p c buf
+abbrev pub handOut : ℕ → List ℕ → Phase → List ℕ → Option (List ℕ) → Step
+handOut n b p buf none = fails n b reasonDataList buf
+handOut n b p buf (some c) = commands n b p c buf
 
 -- ---- link failed and stop
 
--- a running session ends for a reason, count and store untouched; others are refused
-abbrev pub endsIn : Phase → Session → ℕ → Reply
-endsIn Phase.Fresh s n = refusedReply s refusedPhase
-endsIn Phase.Options s n = failsReply s n
-endsIn (Phase.Record p) s n = failsReply s n
-endsIn (Phase.Cryptogram a) s n = failsReply s n
-endsIn (Phase.Ended e) s n = refusedReply s refusedPhase
+-- a running session ends for a reason, count and store untouched; others are refused (21)
+abbrev pub endsIn : Phase → Session → ℕ → List ℕ → Step
+endsIn Phase.Fresh s reason buf = refuses s refusedPhase buf
+endsIn Phase.Options s reason buf = fails (s .count) (stored s) reason buf
+endsIn (Phase.Record p) s reason buf = fails (s .count) (stored s) reason buf
+endsIn (Phase.Cryptogram a) s reason buf = fails (s .count) (stored s) reason buf
+endsIn (Phase.Ended e) s reason buf = refuses s refusedPhase buf
 
--- no command comes, so the buffer counts by its size alone
-abbrev pub brokenOff : Session → ℕ → ℕ → Reply
-brokenOff s n size = admitted s size (refusedReply s) (endsIn (s .phase) s n)
+-- the refusals of every call, then the end
+abbrev pub brokenOff : Session → ℕ → List ℕ → Step
+brokenOff s reason buf = admitted s buf (endsIn (s .phase) s reason buf)
 
+-- the call link failed: reason 9
 abbrev pub linkStep : Session → List ℕ → Step
-linkStep s buf = withoutCommand (brokenOff s reasonLink (length buf)) buf
+linkStep s buf = brokenOff s reasonLink buf
 
+-- the call stop: reason 10
 abbrev pub stopStep : Session → List ℕ → Step
-stopStep s buf = withoutCommand (brokenOff s reasonStopped (length buf)) buf
+stopStep s buf = brokenOff s reasonStopped buf

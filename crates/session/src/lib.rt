@@ -16,21 +16,21 @@ use store::Store;
 use terminal::Said;
 ghost use mathlib.Core.Path.{_≡_};
 ghost use mathlib.Core.Bool.{not};
-ghost use mathlib.Core.List.{List};
-ghost use Prim.Native.Nat.{ℕ, _≤_, _<_};
+ghost use Prim.Native.Nat.{_+_, _≤_, _<_};
 ghost use lib.ListN.{length};
-ghost use Rattle.basics.specs.Choice.{both};
+ghost use Rattle.basics.specs.Front.{inFront};
 ghost use Rattle.basics.specs.Reason.{reasonMissing, reasonAboveLimit, reasonMode, unless};
 ghost use Rattle.dictionary.specs.Rows.{storeSize};
 ghost use Rattle.locator.specs.Command.{readRecord};
 ghost use Rattle.analysis.specs.Action.{aboveLimit};
-ghost use Rattle.terminal.specs.Terminal.{load as loadOf};
-ghost use Rattle.record.specs.Session.{sessionOf, replyOf};
-ghost use Rattle.store.specs.Held.{holds};
+ghost use Rattle.record.specs.Session.{sessionOf, replyOf, commandsTurn};
 ghost use Rattle.record.specs.Ranges.{emvMode, completed};
-ghost use Rattle.session.specs.Steps.{Did, commands as commandsStep, leastBuffer, brokenOff, linkStep, stopStep};
-ghost use Rattle.session.specs.Start.{askOptions, startLoaded, startStep, refusalNumber};
-ghost use Rattle.session.specs.Answer.{optionsRead, optionsStep, askCryptogram, analysed, recordsRead, recordRead, recordStep, decision, cryptogramRead, cryptogramReply, answerStep, neededNumber, modeNumber, limitNumber, decidedEnd, endFor};
+ghost use Rattle.session.specs.Steps.{Did, DidIn, ended, leastBuffer, brokenOff, linkStep, stopStep};
+ghost use Rattle.session.specs.Start.{askOptions, startFresh, startStep};
+ghost use Rattle.session.specs.Answer.{recordPhase, optionsThere, optionsRead, optionsStep};
+ghost use Rattle.session.specs.Answer.{askCryptogram, analysed, recordsRead, recordRead, recordStep};
+ghost use Rattle.session.specs.Answer.{decision, endFor, cryptogramThere, cryptogramEnd, cryptogramReply, answerStep};
+ghost use Rattle.session.specs.Inner.{refusalNumber, neededNumber, modeNumber, limitNumber, decidedEnd};
 
 // The least command buffer.
 pub const LEAST_BUFFER: usize = 261;
@@ -107,7 +107,8 @@ pub fn stop(session: Session, command: &mut [u8]) -> Reply
 
 // `start` on a session's parts, the store lent.
 pub fn start_in(phase: Phase, count: u8, store: &mut [u8], terminal: &[u8], command: &mut [u8]) -> Turn
-    ensures { λ r. ⌜ Did (replyOf r (now (store .exit))) (now (command .exit)) (startStep (sessionOf phase count (now (store .entry))) (now (terminal .entry)) (now (command .entry))) ⌝ }
+    ensures { λ r. ⌜ DidIn r (now (store .exit)) (now (command .exit))
+        (startStep (sessionOf phase count (now (store .entry))) (now (terminal .entry)) (now (command .entry))) ⌝ }
 {
     if command.len() < LEAST_BUFFER {
         return record::refused(phase, count, basics::REFUSED_BUFFER);
@@ -123,7 +124,8 @@ pub fn start_in(phase: Phase, count: u8, store: &mut [u8], terminal: &[u8], comm
 
 // `answer` on a session's parts, the store lent.
 pub fn answer_in(phase: Phase, count: u8, store: &mut [u8], card: &[u8], command: &mut [u8]) -> Turn
-    ensures { λ r. ⌜ Did (replyOf r (now (store .exit))) (now (command .exit)) (answerStep (sessionOf phase count (now (store .entry))) (now (card .entry)) (now (command .entry))) ⌝ }
+    ensures { λ r. ⌜ DidIn r (now (store .exit)) (now (command .exit))
+        (answerStep (sessionOf phase count (now (store .entry))) (now (card .entry)) (now (command .entry))) ⌝ }
 {
     if command.len() < LEAST_BUFFER {
         return record::refused(phase, count, basics::REFUSED_BUFFER);
@@ -142,23 +144,26 @@ pub fn answer_in(phase: Phase, count: u8, store: &mut [u8], card: &[u8], command
 
 // `link_failed` on a session's parts, the store shared.
 pub fn link_failed_in(phase: Phase, count: u8, bytes: &[u8], command: &mut [u8]) -> Turn
-    ensures { λ r. ⌜ Did (replyOf r (now (bytes .entry))) (now (command .exit)) (linkStep (sessionOf phase count (now (bytes .entry))) (now (command .entry))) ⌝ }
+    ensures { λ r. ⌜ DidIn r (now (bytes .entry)) (now (command .exit))
+        (linkStep (sessionOf phase count (now (bytes .entry))) (now (command .entry))) ⌝ }
 {
-    broken_off(phase, count, bytes, basics::REASON_LINK, command.len())
+    broken_off(phase, count, bytes, basics::REASON_LINK, command)
 }
 
 // `stop` on a session's parts, the store shared.
 pub fn stop_in(phase: Phase, count: u8, bytes: &[u8], command: &mut [u8]) -> Turn
-    ensures { λ r. ⌜ Did (replyOf r (now (bytes .entry))) (now (command .exit)) (stopStep (sessionOf phase count (now (bytes .entry))) (now (command .entry))) ⌝ }
+    ensures { λ r. ⌜ DidIn r (now (bytes .entry)) (now (command .exit))
+        (stopStep (sessionOf phase count (now (bytes .entry))) (now (command .entry))) ⌝ }
 {
-    broken_off(phase, count, bytes, basics::REASON_STOPPED, command.len())
+    broken_off(phase, count, bytes, basics::REASON_STOPPED, command)
 }
 
 // A running session ends for a reason; no command comes.
-fn broken_off(phase: Phase, count: u8, bytes: &[u8], reason: u8, size: usize) -> Turn
-    ensures { λ r. ⌜ replyOf r (now (bytes .entry)) ≡ brokenOff (sessionOf phase count (now (bytes .entry))) reason size ⌝ }
+fn broken_off(phase: Phase, count: u8, bytes: &[u8], reason: u8, command: &mut [u8]) -> Turn
+    ensures { λ r. ⌜ DidIn r (now (bytes .entry)) (now (command .exit))
+        (brokenOff (sessionOf phase count (now (bytes .entry))) reason (now (command .entry))) ⌝ }
 {
-    if size < LEAST_BUFFER {
+    if command.len() < LEAST_BUFFER {
         return record::refused(phase, count, basics::REFUSED_BUFFER);
     }
     if !record::keeps(phase, count, bytes) {
@@ -177,7 +182,8 @@ fn broken_off(phase: Phase, count: u8, bytes: &[u8], reason: u8, size: usize) ->
 fn load_objects(count: u8, store: &mut [u8], terminal: &[u8], command: &mut [u8]) -> Turn
     requires { ⌜ (leastBuffer ≤ length (now command)) × (count < 255) ⌝ }
     requires { ⌜ length (now store) ≡ storeSize ⌝ }
-    ensures { λ r. ⌜ Did (replyOf r (now (store .exit))) (now (command .exit)) (startLoaded (sessionOf Phase.Fresh count (now (store .entry))) (now (command .entry)) (loadOf (now (store .entry)) (now (terminal .entry)))) ⌝ }
+    ensures { λ r. ⌜ DidIn r (now (store .exit)) (now (command .exit))
+        (startFresh (sessionOf Phase.Fresh count (now (store .entry))) (now (terminal .entry)) (now (command .entry))) ⌝ }
 {
     let said = terminal::load(store, terminal);
     let Said::Taken = said else {
@@ -201,7 +207,8 @@ fn refusal_number(said: Said) -> u8
 // The command for the processing options.
 fn ask_options(count: u8, bytes: &[u8], command: &mut [u8]) -> Turn
     requires { ⌜ (leastBuffer ≤ length (now command)) × (count < 255) ⌝ }
-    ensures { λ r. ⌜ Did (replyOf r (now (bytes .entry))) (now (command .exit)) (askOptions (sessionOf Phase.Fresh count (now (bytes .entry))) (now (command .entry))) ⌝ }
+    ensures { λ r. ⌜ DidIn r (now (bytes .entry)) (now (command .exit))
+        (askOptions count (now (bytes .entry)) (now (command .entry))) ⌝ }
 {
     let Written::Command(c) = data_list::processing_options(bytes, command) else {
         return record::fails(count, basics::REASON_DATA_LIST);
@@ -213,7 +220,8 @@ fn ask_options(count: u8, bytes: &[u8], command: &mut [u8]) -> Turn
 fn take_options(count: u8, store: &mut [u8], card: &[u8], command: &mut [u8]) -> Turn
     requires { ⌜ (leastBuffer ≤ length (now command)) × (count < 255) ⌝ }
     requires { ⌜ length (now store) ≡ storeSize ⌝ }
-    ensures { λ r. ⌜ Did (replyOf r (now (store .exit))) (now (command .exit)) (optionsStep (sessionOf Phase.Options count (now (store .entry))) (now (card .entry)) (now (command .entry))) ⌝ }
+    ensures { λ r. ⌜ DidIn r (now (store .exit)) (now (command .exit))
+        (optionsStep count (now (store .entry)) (now (card .entry)) (now (command .entry))) ⌝ }
 {
     let read = reading::read_answer(store, Awaited::Options, card);
     let verdict = read.verdict;
@@ -226,7 +234,8 @@ fn take_options(count: u8, store: &mut [u8], card: &[u8], command: &mut [u8]) ->
 // After the processing options: the first record is asked for.
 fn after_options(count: u8, bytes: &[u8], command: &mut [u8]) -> Turn
     requires { ⌜ (leastBuffer ≤ length (now command)) × (count < 255) ⌝ }
-    ensures { λ r. ⌜ Did (replyOf r (now (bytes .entry))) (now (command .exit)) (optionsRead (sessionOf Phase.Options count (now (bytes .entry))) (now (command .entry))) ⌝ }
+    ensures { λ r. ⌜ DidIn r (now (bytes .entry)) (now (command .exit))
+        (optionsRead count (now (bytes .entry)) (now (command .entry))) ⌝ }
 {
     let Needed::Complete = options_there(bytes) else {
         return record::fails(count, basics::REASON_MISSING);
@@ -244,11 +253,12 @@ fn after_options(count: u8, bytes: &[u8], command: &mut [u8]) -> Turn
     ask_record(count, wanted, 1, command)
 }
 
-// The command for a record, the k-th that the locator names, whatever the phase and the store are.
+// The command for a record, the k-th that the locator names.
 fn ask_record(count: u8, wanted: locator::CardRecord, k: u8, command: &mut [u8]) -> Turn
     requires { ⌜ (leastBuffer ≤ length (now command)) × (count < 255) ⌝ }
     requires { ⌜ wanted .file < 32 ⌝ }
-    ensures { λ r. ⌜ ((p : Phase) (b : List ℕ) → Did (replyOf r b) (now (command .exit)) (commandsStep (sessionOf p count b) (Phase.Record (record { number = k })) (readRecord wanted) (now (command .entry)))) ⌝ }
+    ensures turn { λ r. ⌜ r ≡ commandsTurn (recordPhase k) (count + 1) (length (readRecord wanted)) ⌝ }
+    ensures buffer { λ _. ⌜ now (command .exit) ≡ inFront (readRecord wanted) (now (command .entry)) ⌝ }
 {
     let size = locator::read_record(wanted, command);
     record::commands(Phase::Record(Place { number: k }), count + 1, size)
@@ -258,7 +268,8 @@ fn ask_record(count: u8, wanted: locator::CardRecord, k: u8, command: &mut [u8])
 fn take_record(place: Place, count: u8, store: &mut [u8], card: &[u8], command: &mut [u8]) -> Turn
     requires { ⌜ (leastBuffer ≤ length (now command)) × (count < 255) ⌝ }
     requires { ⌜ length (now store) ≡ storeSize ⌝ }
-    ensures { λ r. ⌜ Did (replyOf r (now (store .exit))) (now (command .exit)) (recordStep place (sessionOf (Phase.Record place) count (now (store .entry))) (now (card .entry)) (now (command .entry))) ⌝ }
+    ensures { λ r. ⌜ DidIn r (now (store .exit)) (now (command .exit))
+        (recordStep place count (now (store .entry)) (now (card .entry)) (now (command .entry))) ⌝ }
 {
     let k = basics::wide(place.number);
     let found = locator::record_at(store::value(&store[..], ROW_94), k);
@@ -278,7 +289,8 @@ fn take_record(place: Place, count: u8, store: &mut [u8], card: &[u8], command: 
 fn after_record(place: Place, count: u8, store: &mut [u8], command: &mut [u8]) -> Turn
     requires { ⌜ (leastBuffer ≤ length (now command)) × (count < 255) ⌝ }
     requires { ⌜ length (now store) ≡ storeSize ⌝ }
-    ensures { λ r. ⌜ Did (replyOf r (now (store .exit))) (now (command .exit)) (recordRead place (sessionOf (Phase.Record place) count (now (store .entry))) (now (command .entry))) ⌝ }
+    ensures { λ r. ⌜ DidIn r (now (store .exit)) (now (command .exit))
+        (recordRead place count (now (store .entry)) (now (command .entry))) ⌝ }
 {
     let number = place.number;
     let k = basics::wide(number) + 1;
@@ -289,11 +301,12 @@ fn after_record(place: Place, count: u8, store: &mut [u8], command: &mut [u8]) -
     ask_record(count, wanted, number + 1, command)
 }
 
-// After the last record, in whatever phase: the limit, what is needed, and then the cryptogram.
+// After the last record: the limit, what is needed, and then the cryptogram.
 fn after_records(count: u8, store: &mut [u8], command: &mut [u8]) -> Turn
     requires { ⌜ (leastBuffer ≤ length (now command)) × (count < 255) ⌝ }
     requires { ⌜ length (now store) ≡ storeSize ⌝ }
-    ensures { λ r. ⌜ ((p : Phase) → Did (replyOf r (now (store .exit))) (now (command .exit)) (recordsRead (sessionOf p count (now (store .entry))) (now (command .entry)))) ⌝ }
+    ensures { λ r. ⌜ DidIn r (now (store .exit)) (now (command .exit))
+        (recordsRead count (now (store .entry)) (now (command .entry))) ⌝ }
 {
     let Limit::Within = limit_in(&store[..]) else {
         return record::fails(count, basics::REASON_ABOVE_LIMIT);
@@ -308,7 +321,8 @@ fn after_records(count: u8, store: &mut [u8], command: &mut [u8]) -> Turn
 fn analyse(count: u8, store: &mut [u8], command: &mut [u8]) -> Turn
     requires { ⌜ (leastBuffer ≤ length (now command)) × (count < 255) ⌝ }
     requires { ⌜ length (now store) ≡ storeSize ⌝ }
-    ensures { λ r. ⌜ ((p : Phase) → Did (replyOf r (now (store .exit))) (now (command .exit)) (analysed (sessionOf p count (now (store .entry))) (now (command .entry)))) ⌝ }
+    ensures { λ r. ⌜ DidIn r (now (store .exit)) (now (command .exit))
+        (analysed count (now (store .entry)) (now (command .entry))) ⌝ }
 {
     let result = analysis::action::result_of(&store[..]);
     let choice = analysis::action::choice_for(&store[..], result);
@@ -319,7 +333,8 @@ fn analyse(count: u8, store: &mut [u8], command: &mut [u8]) -> Turn
 // The command for the cryptogram.
 fn ask_cryptogram(choice: Choice, count: u8, bytes: &[u8], command: &mut [u8]) -> Turn
     requires { ⌜ (leastBuffer ≤ length (now command)) × (count < 255) ⌝ }
-    ensures { λ r. ⌜ ((p : Phase) → Did (replyOf r (now (bytes .entry))) (now (command .exit)) (askCryptogram (sessionOf p count (now (bytes .entry))) choice (now (command .entry)))) ⌝ }
+    ensures { λ r. ⌜ DidIn r (now (bytes .entry)) (now (command .exit))
+        (askCryptogram count (now (bytes .entry)) choice (now (command .entry))) ⌝ }
 {
     let p1 = analysis::choice::p1(choice);
     let Written::Command(c) = data_list::generate_ac(bytes, p1, command) else {
@@ -331,7 +346,7 @@ fn ask_cryptogram(choice: Choice, count: u8, bytes: &[u8], command: &mut [u8]) -
 // The answer to the cryptogram: no command follows it.
 fn take_cryptogram(asked: Asked, count: u8, store: &mut [u8], card: &[u8]) -> Turn
     requires { ⌜ length (now store) ≡ storeSize ⌝ }
-    ensures { λ r. ⌜ replyOf r (now (store .exit)) ≡ cryptogramReply asked (sessionOf (Phase.Cryptogram asked) count (now (store .entry))) (now (card .entry)) ⌝ }
+    ensures { λ r. ⌜ replyOf r (now (store .exit)) ≡ cryptogramReply asked count (now (store .entry)) (now (card .entry)) ⌝ }
 {
     let read = reading::read_answer(store, Awaited::Cryptogram, card);
     let verdict = read.verdict;
@@ -343,7 +358,7 @@ fn take_cryptogram(asked: Asked, count: u8, store: &mut [u8], card: &[u8]) -> Tu
 
 // The outcome, by the type of the cryptogram that came.
 fn decide(asked: Asked, count: u8, bytes: &[u8]) -> Turn
-    ensures { λ r. ⌜ replyOf r (now (bytes .entry)) ≡ cryptogramRead asked (sessionOf (Phase.Cryptogram asked) count (now (bytes .entry))) ⌝ }
+    ensures { λ r. ⌜ replyOf r (now (bytes .entry)) ≡ ended count (now (bytes .entry)) (cryptogramEnd asked (now (bytes .entry))) ⌝ }
 {
     let Needed::Complete = cryptogram_there(bytes) else {
         return record::fails(count, basics::REASON_MISSING);
@@ -383,7 +398,7 @@ fn decision_for(choice: Choice, kind: u8) -> Decided
 
 // 82 and 94 are there.
 fn options_there(bytes: &[u8]) -> Needed
-    ensures { λ r. ⌜ neededNumber r ≡ unless (both (holds (now (bytes .entry)) 0x82) (holds (now (bytes .entry)) 0x94)) reasonMissing ⌝ }
+    ensures { λ r. ⌜ neededNumber r ≡ unless (optionsThere (now (bytes .entry))) reasonMissing ⌝ }
 {
     if store::is_there(bytes, ROW_82) {
         if store::is_there(bytes, ROW_94) {
@@ -425,7 +440,7 @@ fn card_complete(bytes: &[u8]) -> Needed
 
 // 9F27, 9F36 and 9F26 are there.
 fn cryptogram_there(bytes: &[u8]) -> Needed
-    ensures { λ r. ⌜ neededNumber r ≡ unless (both (holds (now (bytes .entry)) 0x9F27) (both (holds (now (bytes .entry)) 0x9F36) (holds (now (bytes .entry)) 0x9F26))) reasonMissing ⌝ }
+    ensures { λ r. ⌜ neededNumber r ≡ unless (cryptogramThere (now (bytes .entry))) reasonMissing ⌝ }
 {
     if store::is_there(bytes, ROW_9F27) {
         if store::is_there(bytes, ROW_9F36) {

@@ -1,5 +1,5 @@
--- The store (document 01, "Dictionary" and "The shape of some places"): a fixed place for each row of a table, with room for every
--- row at its greatest length at once. What holds here holds of every table.
+-- The store (document 01, "Dictionary" and "The shape of some places"): a fixed place for each row of a table, with
+-- room for every row at its greatest length at once. What holds here holds of every table.
 -- Assumes nothing.
 use mathlib.Core.Bool.{Bool, true, false}
 use mathlib.Core.List.{List, [], _∷_, _++_}

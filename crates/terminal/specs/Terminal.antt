@@ -1,4 +1,4 @@
--- Start bytes (document 01, refusals 20, 23 and 24; "Dictionary"): a run of whole primitive objects that the terminal brings.
+-- Start bytes (document 01, refusals 20, 23 and 24; "Dictionary"): whole primitive objects that the terminal brings.
 -- Assumes nothing.
 use mathlib.Core.Path.{_≡_}
 use mathlib.Core.Bool.{Bool, true, false, not}
@@ -19,7 +19,7 @@ use Rattle.record.specs.Ranges.{brought}
 use Rattle.basics.specs.Reason.{refusedBytes, refusedObject, refusedAbsent}
 use Rattle.terminal.specs.declared.Said.{Said}
 
--- ---- taking them
+-- ---- taking the objects
 
 -- a terminal type must be listed
 unfoldable pub typeListed : ℕ → List ℕ → Bool
@@ -102,7 +102,8 @@ pub record Loads (r : Said) (c b : List ℕ) (x : Loaded) : Type 0 where
   pub store : c ≡ leftOf b x
 
 -- ---- what holds of it, proved in proofs/ (Laws, Twice, Examples) for all stores, bytes and objects
---   load-by            a loaded store comes by at most 1,024 bytes that are a run whose objects are all set, and all is brought
+--   load-by            a loaded store comes by at most 1,024 bytes that are a run whose objects are all set; all is
+--                      brought
 --   load-holds         what each put of a settable object keeps holds of the store that is loaded
 --   load-brought       all that a start must bring is there
 --   load-size          the store keeps its size

@@ -13,7 +13,8 @@ use Rattle.tlv.specs.Tree.{Forest, end, leaf, node}
 -- a tag's bytes
 unfoldable pub tagBytes : ℕ → List ℕ
 tagBytes t =
-    if (ltb t 0x100) (t ∷ []) (if (ltb t 0x10000) (t / 0x100 ∷ t % 0x100 ∷ []) (t / 0x10000 ∷ t / 0x100 % 0x100 ∷ t % 0x100 ∷ []))
+    if (ltb t 0x100) (t ∷ [])
+    (if (ltb t 0x10000) (t / 0x100 ∷ t % 0x100 ∷ []) (t / 0x10000 ∷ t / 0x100 % 0x100 ∷ t % 0x100 ∷ []))
 
 -- a number is a well-formed tag: its bytes are one whole tag
 unfoldable pub wellFormedTag : ℕ → Bool
@@ -38,15 +39,17 @@ abbrev pub Deep : (ℕ → Type 0) → ℕ → Type 0
 Deep p zero = ⊥
 Deep p (suc l) = p l
 
--- a tree that can be encoded: well-formed tags, primitive at leaves and of templates at nodes, contents of at most 65,535 bytes,
--- templates nested at most so many levels deep
+-- a tree that can be encoded: well-formed tags, primitive at leaves and of templates at nodes, contents of at most
+-- 65,535 bytes, templates nested at most so many levels deep
 abbrev pub Encodable : Forest → ℕ → Type 0
 Encodable end levels = Unit {0}
-Encodable (leaf t v r) levels = (wellFormedTag t ≡ true) × (isTemplate t ≡ false) × (length v < 0x10000) × Encodable r levels
+Encodable (leaf t v r) levels =
+    (wellFormedTag t ≡ true) × (isTemplate t ≡ false) × (length v < 0x10000) × Encodable r levels
 Encodable (node t f r) levels =
-    (wellFormedTag t ≡ true) × (isTemplate t ≡ true) × (length (encode f) < 0x10000) × Deep (Encodable f) levels × Encodable r levels
+    (wellFormedTag t ≡ true) × (isTemplate t ≡ true) × (length (encode f) < 0x10000) × Deep (Encodable f) levels
+    × Encodable r levels
 
--- ---- what holds of it, proved in proofs/Encoding for all tags, lengths, values and trees, whatever bytes stand behind
+-- ---- what holds of it, proved in proofs/Encoding for all tags, lengths, values and trees, whatever stands behind
 --   number-tag        a tag's bytes are its number
 --   tag-encoded       a well-formed tag's bytes are read as that tag
 --   length-encoded    a length's bytes are read as that length

@@ -1,4 +1,4 @@
--- Primitive objects one behind the other (document 01, refusal 20): whole, with nothing in between, and no template among them.
+-- Primitive objects one behind the other (document 01, refusal 20): whole, with nothing in between, no template.
 -- Assumes nothing.
 use mathlib.Core.Bool.{Bool, true, false}
 use mathlib.Core.List.{List, [], _∷_}
@@ -52,6 +52,6 @@ isRun none = false
 isRun (some os) = true
 
 -- ---- what holds of it, proved in proofs/Primitives for all lists
---   unroll                                            primitives s ≡ nextObject primitives s
+--   unroll            primitives s ≡ nextObject primitives s
 --   primitives-end, primitives-broken, primitives-object    the objects at each thing that can stand at the front
---   primitive-fits                                    a primitive object lies inside its list and takes two bytes at least
+--   primitive-fits    a primitive object lies inside its list and takes two bytes at least

@@ -1,5 +1,5 @@
--- The tree of an encoding (document 01, "Reading an answer"): the objects within a template, in order, templates nested at
--- most so many levels deep, and how many objects there are, templates included.
+-- The tree of an encoding (document 01, "Reading an answer"): the objects within a template, in order, templates
+-- nested at most so many levels deep, and how many objects there are, templates included.
 -- Assumes nothing.
 use mathlib.Core.List.{List, [], _∷_}
 use mathlib.Core.Option.{Option, some, none}
@@ -12,7 +12,7 @@ use Rattle.tlv.specs.declared.Following.{Following}
 use Rattle.tlv.specs.declared.Following.the-variants.{End, Inner, Malformed}
 use Rattle.tlv.specs.Object.{headerOf, valueIn, behind}
 
--- objects one behind the other: a leaf is a primitive object with its tag and value, a node a template with what it holds
+-- objects one behind the other: a leaf is a primitive object with tag and value, a node a template with what it holds
 pub data Forest : Type 0 where
   end : Forest
   leaf : ℕ → List ℕ → Forest → Forest
@@ -56,9 +56,11 @@ abbrev pub oneObject : (ℕ → List ℕ → Option Forest) → ℕ → List ℕ
 oneObject k levels s End = some end
 oneObject k levels s Malformed = none
 oneObject k levels s (Inner h) =
-    if (h .template) (nested k levels (h .tag) (valueIn s h) (behind s h)) (withLeaf (h .tag) (valueIn s h) (k levels (behind s h)))
+    if (h .template) (nested k levels (h .tag) (valueIn s h) (behind s h))
+    (withLeaf (h .tag) (valueIn s h) (k levels (behind s h)))
 
--- one step of the parse: the object that is next, and what k parses of the bytes in it and behind it, by the levels still allowed
+-- one step of the parse: the object that is next, and what k parses of the bytes in it and behind it, by the levels
+-- still allowed
 abbrev pub parseNext : (List ℕ → ℕ → Option Forest) → List ℕ → ℕ → Option Forest
 parseNext k s levels = oneObject (λ l v. k v l) levels s (nextOf s)
 
@@ -68,7 +70,8 @@ unfoldable pub parse : ℕ → List ℕ → Option Forest
 parse levels s = recurse (λ l. none) parseNext s levels
 
 -- ---- what holds of it, proved in proofs/ (NextObject, Tree, Encoding) for all lists, levels and trees
---   next-fits       an object that is next starts its value at 2 or later and ends inside the list; its class is its tag's
+--   next-fits       an object that is next starts its value at 2 or later and ends inside the list; its class is
+--                   its tag's
 --   next-end        nothing is next exactly where nothing is left
 --   next-join       with bytes behind the list, the same object is next
 --   unroll          parse levels s ≡ oneObject parse levels s (nextOf s): the steps allowed do not matter

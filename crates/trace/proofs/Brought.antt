@@ -29,6 +29,7 @@ use Rattle.reading.specs.Taking.{Item, item, items, byCard, mayStand, mayCome, 
 use Rattle.reading.specs.Answer.{Outcome, Body, primitive, template, answerBit, bodyOf, bodyCount, optionsParts, primitiveParts, templateParts, takenParts, readTree, readBody, isRead, readAnswer}
 use Rattle.reading.proofs.Kept.{All, all-holds}
 use Rattle.trace.specs.Order.{isLocator, firstLocator, bodyLocator, broughtLocator}
+use Rattle.trace.proofs.Rules.{no}
 
 -- the bytes of the locator's row
 abbrev held : List ℕ → List ℕ
@@ -38,9 +39,6 @@ held b = bytesOf (valueAt rows b 4)
 row-94 : (rowAt 4 .tag ≡ 0x94) × (hasBit (rowAt 4 .templates) in70 ≡ false) × (rowAt 4 .least ≡ 4) × (byCard (rowAt 4) ≡ true)
 unfolding rows
 row-94 = (refl, refl, refl, refl)
-
-no : {P : Type 0} → false ≡ true → P
-no e = let z : _≡_ {A = ℕ} 0 1 = cc in absurd (omega arith)
 
 -- after an object that is not allowed nothing is good
 bad-stays : (answer : ℕ) (w : Work) (is : List Item) → w .good ≡ false → takeAll answer w is .good ≡ false

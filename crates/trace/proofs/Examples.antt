@@ -1,9 +1,9 @@
--- Worked lists of calls, computed: what the step functions hand out and where they leave the session; and document 01's own example of the
--- published order, from the card's bytes to the three commands.
+-- Worked lists of calls, computed: what the step functions hand out, the locator that is accepted and where the session is left; and
+-- document 01's own example of the published order, from the card's bytes to the three commands.
 -- Assumes nothing.
 use mathlib.Core.Path.{_≡_, refl}
 use mathlib.Core.List.{List, [], _∷_}
-use mathlib.Core.Option.{some}
+use mathlib.Core.Option.{some, none}
 use Prim.Native.Nat.{ℕ}
 use lib.ListN.{length, replicate}
 use Rattle.basics.specs.Recursion.{recurse, recurseBy}
@@ -28,16 +28,16 @@ use Rattle.data_list.specs.Filling.{fillingOf, filledBy}
 use Rattle.data_list.specs.Commands.{optionsOf, processingOptions}
 use Rattle.record.specs.declared.Phase.{Phase}
 use Rattle.record.specs.Numbers.{goesWith, outcomeFor}
-use Rattle.basics.specs.Reason.{reasonLink}
+use Rattle.basics.specs.Reason.{reasonLink, reasonMode}
 use Rattle.store.specs.Held.{lengthIn}
 use Rattle.record.specs.Ranges.{isBrought, brought, cryptogramAbsent, running, optionsRanges, inRanges, allFit, objectFits, freshRanges, endedRanges}
 use Rattle.record.specs.Session.{freshSession, endOf}
 use Rattle.terminal.specs.Terminal.{typeListed, settable, setObject, setAll, load}
 use Rattle.session.specs.Steps.{withResults, admitted}
 use Rattle.session.specs.Start.{askOptions}
-use Rattle.session.specs.Answer.{accepted, optionsRead, optionsStep}
+use Rattle.session.specs.Answer.{accepted, optionsRead, optionsStep, optionsReason}
 use Rattle.trace.specs.Calls.{Call, start, answer, link-failed, stop, play, final, commands, taken}
-use Rattle.trace.specs.Order.{broughtLocator, options, record-command, cryptogram, published}
+use Rattle.trace.specs.Order.{broughtLocator, firstAnswer, acceptedLocator, options, record-command, cryptogram, published}
 
 -- ---- lists of calls
 
@@ -50,9 +50,15 @@ startBytes =
     0xDF ∷ 0x81 ∷ 0x22 ∷ 0x05 ∷ 0x00 ∷ 0x00 ∷ 0x00 ∷ 0x00 ∷ 0x00 ∷ 0xDF ∷ 0x81 ∷ 0x23 ∷ 0x06 ∷ 0x00 ∷ 0x00 ∷ 0x00 ∷ 0x01 ∷ 0x00 ∷ 0x00 ∷
     0xDF ∷ 0x81 ∷ 0x24 ∷ 0x06 ∷ 0x00 ∷ 0x00 ∷ 0x00 ∷ 0x02 ∷ 0x00 ∷ 0x00 ∷ []
 
--- 82 of 00 80 and the locator 08 01 01 00
+abbrev locator : List ℕ
+locator = 0x08 ∷ 0x01 ∷ 0x01 ∷ 0x00 ∷ []
+
+-- 82 of 00 80 and this locator; and the same with 82 of 00 00
 abbrev optionsAnswer : List ℕ
 optionsAnswer = 0x80 ∷ 0x06 ∷ 0x00 ∷ 0x80 ∷ 0x08 ∷ 0x01 ∷ 0x01 ∷ 0x00 ∷ 0x90 ∷ 0x00 ∷ []
+
+abbrev stripeAnswer : List ℕ
+stripeAnswer = 0x80 ∷ 0x06 ∷ 0x00 ∷ 0x00 ∷ 0x08 ∷ 0x01 ∷ 0x01 ∷ 0x00 ∷ 0x90 ∷ 0x00 ∷ []
 
 abbrev lent : List ℕ
 lent = replicate 261 0
@@ -63,36 +69,53 @@ optionsCommand = 0x80 ∷ 0xA8 ∷ 0x00 ∷ 0x00 ∷ 0x02 ∷ 0x83 ∷ 0x00 ∷ 
 abbrev recordCommand : List ℕ
 recordCommand = 0x00 ∷ 0xB2 ∷ 0x01 ∷ 0x0C ∷ 0x00 ∷ []
 
--- a start and the answer to processing options: processing options and the first record are handed out
-pub begins : commands (play freshSession (start startBytes lent ∷ answer optionsAnswer lent ∷ [])) ≡ optionsCommand ∷ recordCommand ∷ []
-unfolding commands play final taken admitted endedRanges outcomeFor inRanges allFit objectFits lengthIn lengthByte freshRanges optionsRanges running cryptogramAbsent askOptions processingOptions optionsOf filledBy fillingOf listEntries recurse recurseBy along lengthBytes optionsStep accepted optionsRead recordAt kth nth accepts wholeEntries entriesOf keeps sumOf recordsOf runOf readAnswer goodLength goodStatus isRead readBody bodyOf primitiveParts optionsParts takeAll takeNext takeItem allowed mayCome mayStand withResults placeOf load primitives withObject primitiveOf headerOf tagAt tagSize secondByte thirdByte lengthAt firstByte isTemplate isPrivate numberFrom if both either every rows past find settable setObject setAll fitting digitsFit numeric nibbles typeListed listed offsetIn placeAt held valueAt putAt valueIn brought isBrought
-begins = refl
+-- a start and the answer to processing options
+abbrev begun : List Call
+begun = start startBytes lent ∷ answer optionsAnswer lent ∷ []
 
 -- a stop before the start, a start with a buffer of one byte and a second start are refused and change nothing
 abbrev interrupted : List Call
 interrupted = stop lent ∷ start startBytes (0x00 ∷ []) ∷ start startBytes lent ∷ start startBytes lent ∷ answer optionsAnswer lent ∷ []
 
-pub refused-between : (commands (play freshSession interrupted) ≡ optionsCommand ∷ recordCommand ∷ []) × (length (taken (play freshSession interrupted)) ≡ 2)
-unfolding commands play final taken admitted endedRanges outcomeFor inRanges allFit objectFits lengthIn lengthByte freshRanges optionsRanges running cryptogramAbsent askOptions processingOptions optionsOf filledBy fillingOf listEntries recurse recurseBy along lengthBytes optionsStep accepted optionsRead recordAt kth nth accepts wholeEntries entriesOf keeps sumOf recordsOf runOf readAnswer goodLength goodStatus isRead readBody bodyOf primitiveParts optionsParts takeAll takeNext takeItem allowed mayCome mayStand withResults placeOf load primitives withObject primitiveOf headerOf tagAt tagSize secondByte thirdByte lengthAt firstByte isTemplate isPrivate numberFrom if both either every rows past find settable setObject setAll fitting digitsFit numeric nibbles typeListed listed offsetIn placeAt held valueAt putAt valueIn brought isBrought
-refused-between = (refl, refl)
-
 -- the link fails on processing options: the session has ended with reason 9, and a later answer is refused
 abbrev torn : List Call
 torn = start startBytes lent ∷ link-failed lent ∷ answer optionsAnswer lent ∷ []
 
-pub link-fails : (commands (play freshSession torn) ≡ optionsCommand ∷ []) × (length (taken (play freshSession torn)) ≡ 2)
-    × (final freshSession torn .phase ≡ Phase.Ended (endOf (outcomeFor reasonLink) reasonLink))
-unfolding commands play final taken admitted endedRanges goesWith outcomeFor inRanges allFit objectFits lengthIn lengthByte freshRanges optionsRanges running cryptogramAbsent askOptions processingOptions optionsOf filledBy fillingOf listEntries recurse recurseBy along lengthBytes optionsStep accepted optionsRead recordAt kth nth accepts wholeEntries entriesOf keeps sumOf recordsOf runOf readAnswer goodLength goodStatus isRead readBody bodyOf primitiveParts optionsParts takeAll takeNext takeItem allowed mayCome mayStand withResults placeOf load primitives withObject primitiveOf headerOf tagAt tagSize secondByte thirdByte lengthAt firstByte isTemplate isPrivate numberFrom if both either every rows past find settable setObject setAll fitting digitsFit numeric nibbles typeListed listed offsetIn placeAt held valueAt putAt valueIn brought isBrought
-link-fails = (refl, refl, refl)
+-- the answer has byte 2 b8 of 82 clear: the rules give it reason 11, and its locator is not accepted
+abbrev notEmv : List Call
+notEmv = start startBytes lent ∷ answer stripeAnswer lent ∷ []
+
+pub record Worked : Type 0 where
+  begun-sent : commands (play freshSession begun) ≡ optionsCommand ∷ recordCommand ∷ []
+  begun-accepted : acceptedLocator (play freshSession begun) ≡ some locator
+  interrupted-sent : commands (play freshSession interrupted) ≡ optionsCommand ∷ recordCommand ∷ []
+  interrupted-taken : length (taken (play freshSession interrupted)) ≡ 2
+  torn-sent : commands (play freshSession torn) ≡ optionsCommand ∷ []
+  torn-taken : length (taken (play freshSession torn)) ≡ 2
+  torn-end : final freshSession torn .phase ≡ Phase.Ended (endOf (outcomeFor reasonLink) reasonLink)
+  not-emv-brought : broughtLocator stripeAnswer ≡ some locator
+  not-emv-accepted : acceptedLocator (play freshSession notEmv) ≡ none
+  not-emv-end : final freshSession notEmv .phase ≡ Phase.Ended (endOf (outcomeFor reasonMode) reasonMode)
+
+pub worked : Worked
+unfolding commands play final taken acceptedLocator firstAnswer broughtLocator optionsReason admitted endedRanges goesWith outcomeFor inRanges allFit objectFits lengthIn lengthByte freshRanges optionsRanges running cryptogramAbsent askOptions processingOptions optionsOf filledBy fillingOf listEntries recurse recurseBy along lengthBytes optionsStep accepted optionsRead recordAt kth nth accepts wholeEntries entriesOf keeps sumOf recordsOf runOf readAnswer goodLength goodStatus isRead readBody bodyOf primitiveParts optionsParts takeAll takeNext takeItem allowed mayCome mayStand withResults placeOf load primitives withObject primitiveOf headerOf tagAt tagSize secondByte thirdByte lengthAt firstByte isTemplate isPrivate numberFrom if both either every rows past find settable setObject setAll fitting digitsFit numeric nibbles typeListed listed offsetIn placeAt held valueAt putAt valueIn brought isBrought
+worked =
+    record {
+      begun-sent = refl;
+      begun-accepted = refl;
+      interrupted-sent = refl;
+      interrupted-taken = refl;
+      torn-sent = refl;
+      torn-taken = refl;
+      torn-end = refl;
+      not-emv-brought = refl;
+      not-emv-accepted = refl;
+      not-emv-end = refl;
+    }
 
 -- ---- the published order
 
--- the answer brings the locator 08 01 01 00
-pub brings : broughtLocator optionsAnswer ≡ some (0x08 ∷ 0x01 ∷ 0x01 ∷ 0x00 ∷ [])
-unfolding broughtLocator bodyOf headerOf tagAt tagSize lengthAt firstByte isTemplate isPrivate numberFrom if both
-brings = refl
-
 -- processing options, 00 B2 01 0C 00, cryptogram
-pub order : published cryptogram (some (0x08 ∷ 0x01 ∷ 0x01 ∷ 0x00 ∷ [])) ≡ options ∷ record-command recordCommand ∷ cryptogram ∷ []
+pub order : published cryptogram (some locator) ≡ options ∷ record-command recordCommand ∷ cryptogram ∷ []
 unfolding published entriesOf recordsOf runOf
 order = refl

@@ -1,4 +1,4 @@
+pub mod Rules
 pub mod Brought
 pub mod Trace
 pub mod Examples
-pub mod Rules

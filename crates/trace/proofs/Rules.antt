@@ -1,25 +1,43 @@
--- The accepted locator goes by what the first answer's step hands back: a command exactly where the rules give that answer no reason.
+-- What an answer's step hands back, by the rules: a command to a session that waits on processing options exactly where the rules give no
+-- reason (by their tests in order), and none taken before that one (by induction over the calls, since start alone leads out of fresh).
 -- Assumes nothing.
-use mathlib.Core.Path.{_≡_, refl, sym}
+use mathlib.Core.Path.{_≡_, refl, sym, ap, subst, _∙_}
 use mathlib.Core.Bool.{Bool, true, false}
-use mathlib.Core.List.{List}
+use mathlib.Core.Logic.{_⊎_, inl, inr}
+use mathlib.Core.List.{List, [], _∷_}
+use mathlib.Core.Option.{some}
 use Prim.Native.Nat.{ℕ}
 use native.Mathlib.Omega.{arith}
 use lib.Dec.{eqb}
+use lib.ListN.{length}
 use Rattle.basics.specs.Choice.{if, both}
+use Rattle.basics.proofs.Laws.{if-ind, if-yes, if-no, bool-cases}
 use Rattle.basics.specs.Reason.{reasonNone, reasonMissing, reasonLocator, reasonMode}
 use Rattle.locator.specs.declared.Found.{Found}
 use Rattle.locator.specs.Records.{accepts, recordAt}
 use Rattle.locator.proofs.Laws.{accepted-total, record-there}
 use Rattle.reading.specs.declared.Awaited.{Awaited}
 use Rattle.reading.specs.Answer as reading
+use Rattle.record.specs.declared.Phase.{Phase}
 use Rattle.record.specs.declared.Session.{Session}
+use Rattle.record.specs.declared.Reply.{Reply}
 use Rattle.record.specs.Session.{stored}
 use Rattle.store.specs.Held.{holds}
 use Rattle.record.specs.Ranges.{emvMode, locatorIn}
-use Rattle.session.specs.Steps.{Step, fails, withStore}
-use Rattle.session.specs.Answer.{accepted, askFound, optionsRead, optionsStep, storedReason, optionsReason}
-use Rattle.trace.specs.Calls.{isCommand}
+use Rattle.session.specs.Steps.{Step, withoutCommand, fails, withStore, admitted, endsIn, brokenOff}
+use Rattle.session.specs.Start.{startStep}
+use Rattle.session.specs.Answer.{accepted, askFound, optionsRead, optionsStep, storedReason, optionsReason, answerIn, answerStep}
+use Rattle.basics.specs.Reason.{reasonLink, reasonStopped}
+use Rattle.session.proofs.Ways as ways
+use Rattle.session.proofs.Ways.{OptionsWay, AnswerWay, answer-way, StartWay, start-way}
+use Rattle.trace.specs.Calls.{Call, start, answer, link-failed, stop, step, Made, made, play, isRefusal, isCommand, isAnswer, taken}
+use Rattle.trace.specs.Order.{firstAnswer}
+use Rattle.trace.specs.Claim.{isRunning}
+
+pub no : {P : Type 0} → false ≡ true → P
+no e = let z : _≡_ {A = ℕ} 0 1 = cc in absurd (omega arith)
+
+-- ---- a command exactly where the rules give no reason
 
 abbrev hands : Step → Bool
 hands st = isCommand (st .reply .answer)
@@ -59,3 +77,134 @@ by-reason s buf o false e = sym e
 pub hands-by-rules : (s : Session) (card buf : List ℕ) → hands (optionsStep s card buf) ≡ eqb (optionsReason (stored s) card) 0
 unfolding optionsStep accepted optionsReason
 hands-by-rules s card buf = let o = reading.readAnswer Awaited.Options (stored s) card in by-reason s buf o (eqb (o .reason) 0) refl
+
+-- ---- the call answer, by the session's phase
+
+module _ (s : Session) (card buf : List ℕ) where
+  -- on a session that waits on processing options it hands back a command only where the rules give no reason
+  pub sent-by-rules : s .phase ≡ Phase.Options → hands (answerStep s card buf) ≡ true → eqb (optionsReason (stored s) card) 0 ≡ true
+  unfolding admitted
+  sent-by-rules q =
+      if-ind P _ _ _ (λ e h. no h)
+      (λ e. if-ind P _ _ _ (λ r. subst (λ (p : Phase). P (answerIn p s card buf)) (sym q) (λ h. sym (hands-by-rules s card buf) ∙ h)) (λ r h. no h))
+    where
+      P : Step → Type 0
+      P st = hands st ≡ true → eqb (optionsReason (stored s) card) 0 ≡ true
+
+  -- it is refused while the session does not run
+  pub answer-off : isRunning (s .phase) ≡ false → isRefusal (answerStep s card buf .reply .answer) ≡ true
+  unfolding admitted
+  answer-off n = if-ind P _ _ _ (λ e. refl) (λ e. if-ind P _ _ _ (λ r. go (s .phase) n) (λ r. refl))
+    where
+      P : Step → Type 0
+      P st = isRefusal (st .reply .answer) ≡ true
+
+      go : (p : Phase) → isRunning p ≡ false → P (answerIn p s card buf)
+      go Phase.Fresh e = refl
+      go Phase.Options e = no (sym e)
+      go (Phase.Record p) e = no (sym e)
+      go (Phase.Cryptogram a) e = no (sym e)
+      go (Phase.Ended x) e = refl
+
+-- ---- the first answer that is taken
+
+-- no answer was taken yet, or the session has ended
+abbrev early : Phase → Bool
+early Phase.Fresh = true
+early Phase.Options = true
+early (Phase.Record p) = false
+early (Phase.Cryptogram a) = false
+early (Phase.Ended e) = true
+
+waits : (p : Phase) → early p ≡ true → isRunning p ≡ true → p ≡ Phase.Options
+waits Phase.Fresh e r = no r
+waits Phase.Options e r = refl
+waits (Phase.Record p) e r = no e
+waits (Phase.Cryptogram a) e r = no e
+waits (Phase.Ended x) e r = no r
+
+-- that stays so with a call that is refused or is no answer
+abbrev Stays : Call → Step → Type 0
+Stays c st = (isRefusal (st .reply .answer) ≡ true) ⊎ (isAnswer c ≡ false) → early (st .reply .session .phase) ≡ true
+
+module _ (s : Session) (e : early (s .phase) ≡ true) where
+  start-stays : (bytes buf : List ℕ) → Stays (start bytes buf) (startStep s bytes buf)
+  start-stays bytes buf = go (start-way s bytes buf)
+    where
+      go : {st : Step} → StartWay s bytes buf st → Stays (start bytes buf) st
+      go (StartWay.refused n) = λ x. e
+      go (StartWay.unlisted b i q f) = λ x. refl
+      go (StartWay.asked b c i q f g) = λ x. refl
+
+  answer-stays : (card buf : List ℕ) → Stays (answer card buf) (answerStep s card buf)
+  answer-stays card buf (inl r) = go (answer-way s card buf) r
+    where
+      P : Step → Type 0
+      P st = isRefusal (st .reply .answer) ≡ true → early (st .reply .session .phase) ≡ true
+
+      first : {st : Step} → OptionsWay (ways.taken Awaited.Options s card) buf st → P st
+      first (OptionsWay.failed n r) = λ x. no x
+      first (OptionsWay.first r m a f) = λ x. no x
+
+      go : {st : Step} → AnswerWay s card buf st → P st
+      go (AnswerWay.refused n) = λ x. e
+      go (AnswerWay.unread n i r) = λ x. no x
+      go (AnswerWay.options i q z w) = first w
+      go (AnswerWay.recorded p r i q f w) = λ x. no (sym (ap early q) ∙ e)
+      go (AnswerWay.cryptogram a i q w) = λ x. no (sym (ap early q) ∙ e)
+  answer-stays card buf (inr f) = no (sym f)
+
+  broken-stays : (c : Call) (n : ℕ) (buf : List ℕ) → Stays c (withoutCommand (brokenOff s n (length buf)) buf)
+  unfolding admitted
+  broken-stays c n buf = if-ind P _ _ _ (λ b x. e) (λ b. if-ind P _ _ _ (λ r. go (s .phase)) (λ r x. e))
+    where
+      P : Reply → Type 0
+      P y = Stays c (withoutCommand y buf)
+
+      go : (p : Phase) → P (endsIn p s n)
+      go Phase.Fresh = λ x. e
+      go Phase.Options = λ x. refl
+      go (Phase.Record p) = λ x. refl
+      go (Phase.Cryptogram a) = λ x. refl
+      go (Phase.Ended z) = λ x. e
+
+  stays : (c : Call) → Stays c (step s c)
+  stays (start bytes buf) = start-stays bytes buf
+  stays (answer card buf) = answer-stays card buf
+  stays (link-failed buf) = broken-stays (link-failed buf) reasonLink buf
+  stays (stop buf) = broken-stays (stop buf) reasonStopped buf
+
+  -- an answer is taken on processing options alone
+  taken-waits : (c : Call) → isAnswer c ≡ true → isRefusal (step s c .reply .answer) ≡ false → s .phase ≡ Phase.Options
+  taken-waits (start bytes buf) a r = no a
+  taken-waits (answer card buf) a r = waits (s .phase) e (go (bool-cases (isRunning (s .phase))))
+    where
+      go : (isRunning (s .phase) ≡ true) ⊎ (isRunning (s .phase) ≡ false) → isRunning (s .phase) ≡ true
+      go (inl y) = y
+      go (inr n) = no (sym r ∙ answer-off s card buf n)
+  taken-waits (link-failed buf) a r = no a
+  taken-waits (stop buf) a r = no a
+
+  -- one call: it is the first answer taken, or that comes later
+  one-call : (c : Call) (tk : List Made) (m : Made) → let st = step s c in
+      (early (st .reply .session .phase) ≡ true → firstAnswer tk ≡ some m → m .before .phase ≡ Phase.Options)
+      → firstAnswer (if (isRefusal (st .reply .answer)) tk (made s c st ∷ tk)) ≡ some m → m .before .phase ≡ Phase.Options
+  unfolding firstAnswer
+  one-call c tk m later f = elim (bool-cases (isRefusal (step s c .reply .answer))) [
+    | inl r ↦ later (stays c (inl r)) (sym (ap firstAnswer (if-yes _ _ r)) ∙ f)
+    | inr n ↦ elim (bool-cases (isAnswer c)) [
+      | inl a ↦ (let g : some (made s c (step s c)) ≡ some m = sym (ap firstAnswer (if-no _ _ n) ∙ if-yes _ _ a) ∙ f in
+          let h : made s c (step s c) ≡ m = cc in subst (λ (x : Made). x .before .phase ≡ Phase.Options) h (taken-waits c a n))
+      | inr a ↦ later (stays c (inr a)) (sym (ap firstAnswer (if-no _ _ n) ∙ if-no _ _ a) ∙ f)
+    ]
+  ]
+
+first-in : (s : Session) (cs : List Call) (m : Made) → early (s .phase) ≡ true → firstAnswer (taken (play s cs)) ≡ some m → m .before .phase ≡ Phase.Options
+unfolding play taken firstAnswer
+first-in s [] m e f = let z : _≡_ {A = ℕ} 0 1 = cc in absurd (omega arith)
+first-in s (c ∷ cs) m e f = one-call s e c _ m (first-in (step s c .reply .session) cs m) f
+
+-- from a fresh session on, the first answer taken comes while processing options are waited on
+pub first-on-options : (s : Session) (cs : List Call) (m : Made) → s .phase ≡ Phase.Fresh → firstAnswer (taken (play s cs)) ≡ some m
+    → m .before .phase ≡ Phase.Options
+first-on-options s cs m q f = first-in s cs m (ap early q) f

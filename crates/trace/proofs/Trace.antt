@@ -10,6 +10,7 @@ use Prim.Native.Nat.{ℕ, _+_, _-_, _≤_}
 use native.Mathlib.Omega.{arith}
 use lib.ListN.{length, getD, take, drop, length-append, length-take, length-drop, length-map}
 use lib.Seq.{take-at, drop-at}
+use lib.Dec.{eqb}
 use borrow.Author.Tests.{eq-eqb, ne-eqb}
 use Rattle.basics.specs.Choice.{if}
 use Rattle.basics.proofs.Laws.{if-ind, if-yes, if-no, bool-cases, either-left, both-yes, both-no-left, both-no-right}
@@ -38,18 +39,16 @@ use Rattle.record.proofs.Phases.{store-size, on-fresh, on-options, on-record, c
 use Rattle.session.specs.Steps as steps
 use Rattle.session.specs.Steps.{Step, withoutCommand, refuses, withStore, withResults, admitted, endsIn, brokenOff}
 use Rattle.session.specs.Start.{startStep}
-use Rattle.session.specs.Answer.{answerIn, answerStep}
+use Rattle.session.specs.Answer.{optionsReason, answerStep}
 use Rattle.session.proofs.Kept.{read-locator}
 use Rattle.session.proofs.Ways as ways
 use Rattle.session.proofs.Ways.{OptionsWay, RecordsWay, RecordWay, CryptogramWay, AnswerWay, answer-way, StartWay, start-way, analysedSession, choiceIn, loadedSession}
 use Rattle.session.proofs.Ranges.{start-keeps, answer-keeps, link-keeps, stop-keeps}
 use Rattle.trace.specs.Calls.{Call, start, answer, link-failed, stop, step, Made, made, play, final, isRefusal, isCommand, isOutcome, said, commandIn, commands, taken, lastOf, isAnswer, anAnswer, notAnswered, unanswered}
-use Rattle.trace.specs.Order.{broughtLocator, firstAnswer, acceptedLocator, Kind, options, record-command, cryptogram, kindOf, published}
+use Rattle.trace.specs.Order.{broughtLocator, firstAnswer, locatorOf, acceptedLocator, Kind, options, record-command, cryptogram, kindOf, published}
 use Rattle.trace.specs.Claim.{Proper, isFresh, isRunning, isEnded, noneTaken, lastCommand, lastOutcome, most, oneIf}
 use Rattle.trace.proofs.Brought.{locator-brought}
-
-no : {P : Type 0} → false ≡ true → P
-no e = let z : _≡_ {A = ℕ} 0 1 = cc in absurd (omega arith)
+use Rattle.trace.proofs.Rules.{no, sent-by-rules, answer-off}
 
 -- ---- the kinds of commands
 
@@ -140,6 +139,21 @@ no-record l k a e = empty (drop k (records l)) (length-drop k (records l) ∙ om
         let w = record-there l (k + 1) (record { file = 0; number = 0 }) a (omega arith) h in
         let z : _≡_ {A = ℕ} 0 1 = cc in omega arith
 
+-- ---- the locator that is accepted among calls that were taken
+
+abbrev acceptedIn : List Made → Option (List ℕ)
+acceptedIn tk = locatorOf (firstAnswer tk)
+
+-- an answer in front is the first; other calls are passed over
+module _ (m : Made) (tk : List Made) where
+  answer-first : isAnswer (m .call) ≡ true → firstAnswer (m ∷ tk) ≡ some m
+  unfolding firstAnswer
+  answer-first e = if-yes _ _ e
+
+  passed-over : isAnswer (m .call) ≡ false → firstAnswer (m ∷ tk) ≡ firstAnswer tk
+  unfolding firstAnswer
+  passed-over e = if-no _ _ e
+
 -- ---- the last call taken, or what the session was before
 
 abbrev by : Bool → (Made → Bool) → Option Made → Bool
@@ -199,7 +213,7 @@ record Run (s : Session) (sent : List (List ℕ)) (tk : List Made) (f : Session)
   ended : isEnded (f .phase) ≡ by (isEnded (s .phase)) (λ m. isOutcome (said m)) (lastOf tk)
   waiting : isRunning (f .phase) ≡ true → Waits (isRunning (s .phase)) sent tk
   calls : length tk + oneIf (isEnded (s .phase)) ≡ length sent + oneIf (isEnded (f .phase))
-  order : Front (map kindOf sent) (rest (s .phase) (locatorIn (stored s)) (firstAnswer tk))
+  order : Front (map kindOf sent) (rest (s .phase) (locatorIn (stored s)) (acceptedIn tk))
   ranges : inRanges f ≡ true
 
 no-calls : (s : Session) → inRanges s ≡ true → Run s [] [] s
@@ -211,7 +225,7 @@ no-calls s i =
 abbrev Goes : Session → Call → Step → Type 0
 Goes s c st =
     (sent : List (List ℕ)) (tk : List Made) (f : Session) → Run (st .reply .session) sent tk f
-    → Run s (commandIn (st .reply .answer) (st .buffer) ++ sent) (if (isRefusal (st .reply .answer)) tk (made c st ∷ tk)) f
+    → Run s (commandIn (st .reply .answer) (st .buffer) ++ sent) (if (isRefusal (st .reply .answer)) tk (made s c st ∷ tk)) f
 
 goes-refused : (s : Session) (c : Call) (n : ℕ) (buf : List ℕ) → Goes s c (refuses s n buf)
 goes-refused s c n buf sent tk f r = subst (λ (x : List Made). Run s sent x f) (sym (if-yes _ _ refl)) r
@@ -231,16 +245,16 @@ goes-ended s c b o n buf e sent tk f r =
     })
   where
     m : Made
-    m = made c (withoutCommand (endsReply (withStore s b) o n) buf)
+    m = made s c (withoutCommand (endsReply (withStore s b) o n) buf)
 
-    left : Front (map kindOf sent) (rest (s .phase) (locatorIn (stored s)) (firstAnswer (m ∷ tk))) × (length sent ≡ 0)
+    left : Front (map kindOf sent) (rest (s .phase) (locatorIn (stored s)) (acceptedIn (m ∷ tk))) × (length sent ≡ 0)
     left = none-left sent _ (r .order)
 
 -- with a command: what is left begins with it
 abbrev Next : Session → Call → List ℕ → Phase → List ℕ → List ℕ → Type 0
 Next s c b p x buf =
-    (sent : List (List ℕ)) (tk : List Made) → Front (map kindOf sent) (rest p (locatorIn b) (firstAnswer tk))
-    → Front (kindOf x ∷ map kindOf sent) (rest (s .phase) (locatorIn (stored s)) (firstAnswer (made c (steps.commands (withStore s b) p x buf) ∷ tk)))
+    (sent : List (List ℕ)) (tk : List Made) → Front (map kindOf sent) (rest p (locatorIn b) (acceptedIn tk))
+    → Front (kindOf x ∷ map kindOf sent) (rest (s .phase) (locatorIn (stored s)) (acceptedIn (made s c (steps.commands (withStore s b) p x buf) ∷ tk)))
 
 goes-sent : (s : Session) (c : Call) (b : List ℕ) (p : Phase) (x buf : List ℕ) → isEnded (s .phase) ≡ false → isRunning p ≡ true
     → (isRunning (s .phase) ≡ true → isAnswer c ≡ true) → Next s c b p x buf → Goes s c (steps.commands (withStore s b) p x buf)
@@ -259,7 +273,7 @@ goes-sent s c b p x buf e q z next sent tk f r =
     }))
   where
     m : Made
-    m = made c (steps.commands (withStore s b) p x buf)
+    m = made s c (steps.commands (withStore s b) p x buf)
 
     sent-bytes : take (length x) (x ++ drop (length x) buf) ≡ x
     sent-bytes = take-at x (drop (length x) buf) (length x) refl
@@ -267,7 +281,6 @@ goes-sent s c b p x buf e q z next sent tk f r =
 -- ---- start
 
 start-goes : (s : Session) (bytes buf : List ℕ) → Goes s (start bytes buf) (startStep s bytes buf)
-unfolding firstAnswer
 start-goes s bytes buf = go (start-way s bytes buf)
   where
     go : {st : Step} → StartWay s bytes buf st → Goes s (start bytes buf) st
@@ -275,8 +288,11 @@ start-goes s bytes buf = go (start-way s bytes buf)
     go (StartWay.unlisted b i q e) = goes-ended s (start bytes buf) (withResults b noResults) _ _ buf (ap isEnded q)
     go (StartWay.asked b c i q e f) =
         goes-sent s (start bytes buf) (withResults b noResults) Phase.Options c buf (ap isEnded q) refl (λ w. no (sym (ap isRunning q) ∙ w))
-        (λ sent tk h. subst (λ (p : Phase). Front (kindOf c ∷ map kindOf sent) (rest p (locatorIn (stored s)) (firstAnswer tk))) (sym q)
-        (front-cons (kindOf c) options (map kindOf sent) (published cryptogram (firstAnswer tk)) (drop 1 (published cryptogram (firstAnswer tk))) (published-front (firstAnswer tk)) (kind-options c (list.options-proper (stored (loadedSession s b)) c f)) h))
+        (λ sent tk h. let m = made s (start bytes buf) (steps.commands (loadedSession s b) Phase.Options c buf) in
+        subst (λ (p : Phase). Front (kindOf c ∷ map kindOf sent) (rest p (locatorIn (stored s)) (acceptedIn (m ∷ tk)))) (sym q)
+        (subst (λ (x : Option Made). Front (kindOf c ∷ map kindOf sent) (published cryptogram (locatorOf x))) (sym (passed-over m tk refl))
+        (front-cons (kindOf c) options (map kindOf sent) (published cryptogram (acceptedIn tk)) (drop 1 (published cryptogram (acceptedIn tk)))
+        (published-front (acceptedIn tk)) (kind-options c (list.options-proper (stored (loadedSession s b)) c f)) h)))
 
 -- ---- answer
 
@@ -285,13 +301,15 @@ module _ (s : Session) (card buf : List ℕ) where
   call = answer card buf
 
   options-goes : inRanges s ≡ true → s .phase ≡ Phase.Options → reading.readAnswer Awaited.Options (stored s) card .reason ≡ 0
-      → {st : Step} → OptionsWay (ways.taken Awaited.Options s card) buf st → Goes s call st
-  unfolding firstAnswer published
-  options-goes i q z (OptionsWay.failed n r) = goes-ended s call _ _ n buf (ap isEnded q)
-  options-goes i q z (OptionsWay.first r m a e) =
+      → {st : Step} → OptionsWay (ways.taken Awaited.Options s card) buf st
+      → (isCommand (st .reply .answer) ≡ true → eqb (optionsReason (stored s) card) 0 ≡ true) → Goes s call st
+  unfolding published
+  options-goes i q z (OptionsWay.failed n r) k = goes-ended s call _ _ n buf (ap isEnded q)
+  options-goes i q z (OptionsWay.first r v a e) k =
       goes-sent s call b (Phase.Record (record { number = 1 })) (readRecord r) buf (ap isEnded q) refl (λ w. refl)
-      (λ sent tk h. subst (λ (p : Phase). Front (kindOf (readRecord r) ∷ map kindOf sent) (rest p (locatorIn (stored s)) (if true (broughtLocator card) none))) (sym q)
-      (subst (λ (x : Option (List ℕ)). Front (kindOf (readRecord r) ∷ map kindOf sent) (drop 1 (published cryptogram x))) (sym (if-yes _ _ refl ∙ here))
+      (λ sent tk h. subst (λ (p : Phase). Front (kindOf (readRecord r) ∷ map kindOf sent) (rest p (locatorIn (stored s)) (acceptedIn (m ∷ tk)))) (sym q)
+      (subst (λ (x : Option (List ℕ)). Front (kindOf (readRecord r) ∷ map kindOf sent) (drop 1 (published cryptogram x)))
+      (sym (ap locatorOf (answer-first m tk refl) ∙ if-yes _ _ (k refl) ∙ here))
       (front-cons (kindOf (readRecord r)) (reads r) (map kindOf sent) (drop 1 (published cryptogram (some l))) (map reads (drop 1 (records l)) ++ (cryptogram ∷ []))
       (ap (λ (x : List CardRecord). map reads x ++ (cryptogram ∷ [])) (next-record l 0 r e)) (kind-record r) h)))
     where
@@ -300,6 +318,9 @@ module _ (s : Session) (card buf : List ℕ) where
 
       l : List ℕ
       l = locatorIn b
+
+      m : Made
+      m = made s call (steps.commands (withStore s b) (Phase.Record (record { number = 1 })) (readRecord r) buf)
 
       here : broughtLocator card ≡ some l
       here =
@@ -322,7 +343,7 @@ module _ (s : Session) (card buf : List ℕ) where
     records-goes e RecordsWay.unlisted = goes-ended s call _ _ _ buf (ap isEnded q)
     records-goes e (RecordsWay.asked c f g) =
         goes-sent s call (withResults b (resultOf b)) _ c buf (ap isEnded q) refl (λ w. refl)
-        (λ sent tk h. left (kindOf c ∷ map kindOf sent) (firstAnswer (made call (steps.commands (analysedSession (ways.taken w s card)) (Phase.Cryptogram (record { choice = choiceIn (ways.taken w s card) })) c buf) ∷ tk))
+        (λ sent tk h. left (kindOf c ∷ map kindOf sent) (acceptedIn (made s call (steps.commands (analysedSession (ways.taken w s card)) (Phase.Cryptogram (record { choice = choiceIn (ways.taken w s card) })) c buf) ∷ tk))
         (front-cons (kindOf c) cryptogram (map kindOf sent) (map reads (drop (p .number) (records (locatorIn b))) ++ (cryptogram ∷ [])) []
         (ap (λ (x : List CardRecord). map reads x ++ (cryptogram ∷ [])) (no-record (locatorIn b) (p .number) (ap accepts same ∙ on-record s i p q .locator) e))
         (kind-cryptogram c (list.cryptogram-proper (stored (analysedSession (ways.taken w s card))) c (p1Of (choiceIn (ways.taken w s card))) g)) h))
@@ -330,7 +351,7 @@ module _ (s : Session) (card buf : List ℕ) where
     record-goes : {st : Step} → RecordWay p (ways.taken w s card) buf st → Goes s call st
     record-goes (RecordWay.next r e) =
         goes-sent s call b (Phase.Record (record { number = p .number + 1 })) (readRecord r) buf (ap isEnded q) refl (λ w. refl)
-        (λ sent tk h. left (kindOf (readRecord r) ∷ map kindOf sent) (firstAnswer (made call (steps.commands (ways.taken w s card) (Phase.Record (record { number = p .number + 1 })) (readRecord r) buf) ∷ tk))
+        (λ sent tk h. left (kindOf (readRecord r) ∷ map kindOf sent) (acceptedIn (made s call (steps.commands (ways.taken w s card) (Phase.Record (record { number = p .number + 1 })) (readRecord r) buf) ∷ tk))
         (front-cons (kindOf (readRecord r)) (reads r) (map kindOf sent) (map reads (drop (p .number) (records (locatorIn b))) ++ (cryptogram ∷ []))
         (map reads (drop (p .number + 1) (records (locatorIn b))) ++ (cryptogram ∷ []))
         (ap (λ (x : List CardRecord). map reads x ++ (cryptogram ∷ [])) (next-record (locatorIn b) (p .number) r e)) (kind-record r) h))
@@ -340,34 +361,20 @@ module _ (s : Session) (card buf : List ℕ) where
   cryptogram-goes e (CryptogramWay.failed n r) = goes-ended s call _ _ n buf e
   cryptogram-goes e (CryptogramWay.decides o g) = goes-ended s call _ o _ buf e
 
-  -- an answer is refused while the session does not run
-  answer-off : isRunning (s .phase) ≡ false → isRefusal (answerStep s card buf .reply .answer) ≡ true
-  unfolding admitted
-  answer-off n = if-ind P _ _ _ (λ e. refl) (λ e. if-ind P _ _ _ (λ r. go (s .phase) n) (λ r. refl))
-    where
-      P : Step → Type 0
-      P st = isRefusal (st .reply .answer) ≡ true
-
-      go : (p : Phase) → isRunning p ≡ false → P (answerIn p s card buf)
-      go Phase.Fresh e = refl
-      go Phase.Options e = no (sym e)
-      go (Phase.Record p) e = no (sym e)
-      go (Phase.Cryptogram a) e = no (sym e)
-      go (Phase.Ended x) e = refl
-
   answer-goes : Goes s call (answerStep s card buf)
-  answer-goes = go (answer-way s card buf) answer-off
+  answer-goes = go (answer-way s card buf) (answer-off s card buf) (sent-by-rules s card buf)
     where
       runs : (isRunning (s .phase) ≡ false → false ≡ true) → (isRunning (s .phase) ≡ true) ⊎ (isRunning (s .phase) ≡ false) → isEnded (s .phase) ≡ false
       runs o (inl y) = running-is (s .phase) y .1
       runs o (inr n) = no (o n)
 
-      go : {st : Step} → AnswerWay s card buf st → (isRunning (s .phase) ≡ false → isRefusal (st .reply .answer) ≡ true) → Goes s call st
-      go (AnswerWay.refused n) o = goes-refused s call n buf
-      go (AnswerWay.unread n i r) o = goes-ended s call (stored s) _ n buf (runs o (bool-cases (isRunning (s .phase))))
-      go (AnswerWay.options i q z w) o = options-goes (i .ranges) q z w
-      go (AnswerWay.recorded p r i q e w) o = record-goes (i .ranges) p q (Awaited.Record (record { number = r .file })) w
-      go (AnswerWay.cryptogram a i q w) o = cryptogram-goes (ap isEnded q) w
+      go : {st : Step} → AnswerWay s card buf st → (isRunning (s .phase) ≡ false → isRefusal (st .reply .answer) ≡ true)
+          → (s .phase ≡ Phase.Options → isCommand (st .reply .answer) ≡ true → eqb (optionsReason (stored s) card) 0 ≡ true) → Goes s call st
+      go (AnswerWay.refused n) o k = goes-refused s call n buf
+      go (AnswerWay.unread n i r) o k = goes-ended s call (stored s) _ n buf (runs o (bool-cases (isRunning (s .phase))))
+      go (AnswerWay.options i q z w) o k = options-goes (i .ranges) q z w (k q)
+      go (AnswerWay.recorded p r i q e w) o k = record-goes (i .ranges) p q (Awaited.Record (record { number = r .file })) w
+      go (AnswerWay.cryptogram a i q w) o k = cryptogram-goes (ap isEnded q) w
 
 -- ---- link failed and stop
 
@@ -427,9 +434,9 @@ pub always : (s : Session) (cs : List Call) → s .phase ≡ Phase.Fresh → inR
 unfolding acceptedLocator unanswered
 always s cs q i =
     record {
-      order = front-take (map kindOf (commands ms)) (published cryptogram (firstAnswer (taken ms))) front ∙ ap (λ (n : ℕ). take n (published cryptogram (firstAnswer (taken ms)))) number;
+      order = front-take (map kindOf (commands ms)) (published cryptogram (acceptedIn (taken ms))) front ∙ ap (λ (n : ℕ). take n (published cryptogram (acceptedIn (taken ms)))) number;
       count = omega (arith, r .count, on-fresh s i q .count);
-      bound = omega (arith, front-length (map kindOf (commands ms)) (published cryptogram (firstAnswer (taken ms))) front, number, published-length (firstAnswer (taken ms)));
+      bound = omega (arith, front-length (map kindOf (commands ms)) (published cryptogram (acceptedIn (taken ms))) front, number, published-length (acceptedIn (taken ms)));
       never-over = few;
       fresh = r .fresh ∙ ap (λ (p : Phase). by (isFresh p) (λ m. false) (lastOf (taken ms))) q ∙ none-fresh (lastOf (taken ms));
       running = r .running ∙ ap (λ (p : Phase). by (isRunning p) (λ m. isCommand (said m)) (lastOf (taken ms))) q ∙ none-running (lastOf (taken ms));
@@ -446,8 +453,8 @@ always s cs q i =
     r : Run s (commands (play s cs)) (taken (play s cs)) (final s cs)
     r = runs-on s cs i
 
-    front : Front (map kindOf (commands ms)) (published cryptogram (firstAnswer (taken ms)))
-    front = subst (λ (p : Phase). Front (map kindOf (commands ms)) (rest p (locatorIn (stored s)) (firstAnswer (taken ms)))) q (r .order)
+    front : Front (map kindOf (commands ms)) (published cryptogram (acceptedIn (taken ms)))
+    front = subst (λ (p : Phase). Front (map kindOf (commands ms)) (rest p (locatorIn (stored s)) (acceptedIn (taken ms)))) q (r .order)
 
     number : length (map kindOf (commands ms)) ≡ length (commands ms)
     number = length-map (commands ms) kindOf

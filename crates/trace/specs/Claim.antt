@@ -14,6 +14,7 @@ use Rattle.trace.specs.Order.{kindOf, cryptogram, acceptedLocator, publi
 
 -- ---- what a session says of itself
 
+-- no call was taken yet
 abbrev pub isFresh : Phase → Bool
 isFresh Phase.Fresh = true
 isFresh Phase.Options = false
@@ -21,6 +22,7 @@ isFresh (Phase.Record p) = false
 isFresh (Phase.Cryptogram a) = false
 isFresh (Phase.Ended e) = false
 
+-- it waits on an answer: to processing options, to a record command, to the cryptogram
 abbrev pub isRunning : Phase → Bool
 isRunning Phase.Fresh = false
 isRunning Phase.Options = true
@@ -28,6 +30,7 @@ isRunning (Phase.Record p) = true
 isRunning (Phase.Cryptogram a) = true
 isRunning (Phase.Ended e) = false
 
+-- it has an outcome
 abbrev pub isEnded : Phase → Bool
 isEnded Phase.Fresh = false
 isEnded Phase.Options = false
@@ -37,45 +40,51 @@ isEnded (Phase.Ended e) = true
 
 -- ---- what the last call that was not refused says
 
+-- there is none
 abbrev pub noneTaken : Option Made → Bool
 noneTaken none = true
 noneTaken (some m) = false
 
+-- it handed back a command
 abbrev pub lastCommand : Option Made → Bool
 lastCommand none = false
 lastCommand (some m) = isCommand (said m)
 
+-- it handed back an outcome
 abbrev pub lastOutcome : Option Made → Bool
 lastOutcome none = false
 lastOutcome (some m) = isOutcome (said m)
 
--- the most commands, by the accepted locator
+-- ---- the claim
+
+-- the most commands: 1 while no locator is accepted, 2 + R from then on
 abbrev pub most : Option (List ℕ) → ℕ
 most none = 1
 most (some l) = 2 + total l
 
+-- 1 where a test passes, else 0
 abbrev pub oneIf : Bool → ℕ
 oneIf true = 1
 oneIf false = 0
 
--- ---- the claim after a list of calls that were made, the last of which left the session s
-
+-- after the calls ms, the last of which handed back the session s
 pub record Proper (ms : List Made) (s : Session) : Type 0 where
-  -- the commands handed out are the first N of the published order
+  -- the N commands handed out are the first N of the published order
   pub order : map kindOf (commands ms) ≡ take (length (commands ms)) (published cryptogram (acceptedLocator ms))
   -- N is the count that the session reports
   pub count : s .count ≡ length (commands ms)
-  -- at most 1 while no locator is accepted, at most 2 + R after
+  -- N is at most 1 while no locator is accepted, and at most 2 + R from then on
   pub bound : length (commands ms) ≤ most (acceptedLocator ms)
-  -- never over 130
+  -- N is never over 130
   pub never-over : length (commands ms) ≤ 130
-  -- fresh exactly when no call was taken; running exactly when the last one taken handed back a command; ended exactly when an outcome
+  -- the session says that it is fresh exactly when every call was refused; that it runs exactly when the last call not
+  -- refused handed back a command; and that it has ended exactly when that call handed back an outcome
   pub fresh : isFresh (s .phase) ≡ noneTaken (lastOf (taken ms))
   pub running : isRunning (s .phase) ≡ lastCommand (lastOf (taken ms))
   pub ended : isEnded (s .phase) ≡ lastOutcome (lastOf (taken ms))
-  -- while it runs exactly one command is unanswered, the last one handed out
+  -- while the session runs exactly one command is unanswered, the last one handed out
   pub one-unanswered : isRunning (s .phase) ≡ true → length (unanswered ms) ≡ 1
   pub last-unanswered : isRunning (s .phase) ≡ true → lastOf (unanswered ms) ≡ lastOf (commands ms)
-  -- the calls taken number N, and one more once the session has ended, so never over 131
+  -- the calls not refused are N, and one more once the session has ended; so they are never over 131
   pub calls : length (taken ms) ≡ length (commands ms) + oneIf (isEnded (s .phase))
   pub never-over-131 : length (taken ms) ≤ 131

@@ -1,69 +1,103 @@
--- The accepted locator and the published order (both document 01's terms, "What demand 3 counts").
+-- The accepted locator and the published order (document 01, "What demand 3 counts").
 -- Assumes nothing.
 use mathlib.Core.Bool.{Bool}
 use mathlib.Core.List.{List, [], _∷_, _++_, map}
 use mathlib.Core.Option.{Option, some, none}
 use Prim.Native.Nat.{ℕ, _-_}
-use lib.Dec.{ltb, eqb}
 use lib.ListN.{length, getD, take, drop}
-use Rattle.basics.specs.Choice.{if, both}
+use Rattle.basics.specs.Choice.{if_then_else_, _and_, _<?_, _=?_}
+use Rattle.basics.specs.Reason.{reasonNone}
 use Rattle.locator.specs.Records.{records}
 use Rattle.locator.specs.Command.{readRecord}
 use Rattle.reading.specs.Taking.{Item, items}
 use Rattle.reading.specs.Answer.{Body, primitive, template, bodyOf}
-use Rattle.trace.specs.Calls.{Made, taken, said, isCommand, cardBytes}
+use Rattle.record.specs.declared.Session.{Session}
+use Rattle.record.specs.Session.{stored}
+use Rattle.session.specs.Answer.{optionsReason}
+use Rattle.trace.specs.Calls.{Call, start, answer, link-failed, stop, Made, taken, isAnswer}
 
--- ---- the locator that card bytes bring, by their tree alone
+-- ---- the locator that card bytes bring: read from their objects alone, not from the store
 
--- a 94 directly inside a 77, at any level, that is not empty
+-- a 94 that is not empty, directly inside a 77, at any level
 abbrev pub isLocator : Item → Bool
-isLocator i = both (eqb (i .tag) 0x94) (both (eqb (i .around) 0x77) (ltb 0 (length (i .value))))
+isLocator i =
+    i .tag =? 0x94
+    and i .around =? 0x77
+    and 0 <? length (i .value)
 
+-- the first such object
 unfoldable pub firstLocator : List Item → Option (List ℕ)
 firstLocator [] = none
-firstLocator (i ∷ is) = if (isLocator i) (some (i .value)) (firstLocator is)
+firstLocator (i ∷ is) =
+    if isLocator i then some (i .value)
+    else firstLocator is
 
--- under 80 the bytes behind the first two, else the 94 in a 77; an empty one is none
+-- under 80 the bytes behind the two of 82, where there are any; in a template the 94 inside a 77
 abbrev pub bodyLocator : Option Body → Option (List ℕ)
 bodyLocator none = none
-bodyLocator (some (primitive t v)) = if (both (eqb t 0x80) (ltb 2 (length v))) (some (drop 2 v)) none
+bodyLocator (some (primitive t v)) =
+    if t =? 0x80 and 2 <? length v then some (drop 2 v)
+    else none
 bodyLocator (some (template t f)) = firstLocator (items t f)
 
--- the status bytes behind the body are no part of it
+-- of all card bytes but the last two, which are the status
 unfoldable pub broughtLocator : List ℕ → Option (List ℕ)
 broughtLocator card = bodyLocator (bodyOf (take (length card - 2) card))
 
--- ---- accepted locator: what the first answer taken brings, unless the rules end the session there
+-- ---- the accepted locator
 
--- an answer for which the rules give no reason, and no other, hands back a command (`hands-by-rules` in proofs/Rules, over `optionsReason`); `play`
--- takes what a call hands back from its step function, which is the rules'
-abbrev pub acceptedBy : Made → Option (List ℕ) → Option (List ℕ) → Option (List ℕ)
-acceptedBy m none later = later
-acceptedBy m (some card) later = if (isCommand (said m)) (broughtLocator card) none
-
-unfoldable pub firstAnswer : List Made → Option (List ℕ)
+-- the first answer among calls
+unfoldable pub firstAnswer : List Made → Option Made
 firstAnswer [] = none
-firstAnswer (m ∷ ms) = acceptedBy m (cardBytes (m .call)) (firstAnswer ms)
+firstAnswer (m ∷ ms) =
+    if isAnswer (m .call) then some m
+    else firstAnswer ms
 
+-- the locator that card bytes bring, where the rules give this answer no reason on the store of the session before it.
+-- `optionsReason` is the reason of an answer to processing options: the first answer taken is always that one
+-- (`first-on-options` in proofs/Rules).
+abbrev pub locatorFor : Session → List ℕ → Option (List ℕ)
+locatorFor s card =
+    if optionsReason (stored s) card =? reasonNone then broughtLocator card
+    else none
+
+-- by the call: only an answer brings card bytes
+abbrev pub locatorBy : Session → Call → Option (List ℕ)
+locatorBy s (start bytes buf) = none
+locatorBy s (answer card buf) = locatorFor s card
+locatorBy s (link-failed buf) = none
+locatorBy s (stop buf) = none
+
+-- by the first answer, if there is one; before it none is accepted
+abbrev pub locatorOf : Option Made → Option (List ℕ)
+locatorOf none = none
+locatorOf (some m) = locatorBy (m .before) (m .call)
+
+-- refused calls are passed over
 unfoldable pub acceptedLocator : List Made → Option (List ℕ)
-acceptedLocator ms = firstAnswer (taken ms)
+acceptedLocator ms = locatorOf (firstAnswer (taken ms))
 
--- ---- published order
+-- ---- the published order
 
--- a command as it is compared: processing options by 80 A8 in front, the cryptogram by 80 AE, a record command in all its bytes
+-- a command as it is compared: a record command in all its bytes
 pub data Kind : Type 0 where
   options : Kind
   record-command : List ℕ → Kind
   cryptogram : Kind
 
--- the two bytes in front of a command
+-- a command begins with these two bytes
 abbrev pub isFront : ℕ → ℕ → List ℕ → Bool
-isFront a b c = both (eqb (getD c 0 0) a) (eqb (getD c 1 0) b)
+isFront a b c = getD c 0 0 =? a and getD c 1 0 =? b
 
+-- 80 A8 in front is processing options, 80 AE the cryptogram
 unfoldable pub kindOf : List ℕ → Kind
-kindOf c = if (isFront 0x80 0xA8 c) options (if (isFront 0x80 0xAE c) cryptogram (record-command c))
+kindOf c =
+    if isFront 0x80 0xA8 c then options
+    else if isFront 0x80 0xAE c then cryptogram
+    else record-command c
 
--- without an accepted locator only processing options; with one, a command for each of its records in turn and then the last command
+-- processing options alone while no locator is accepted; with one, behind it a command for each of its records, entry
+-- by entry, and then the last command
 unfoldable pub published : Kind → Option (List ℕ) → List Kind
 published last none = options ∷ []
 published last (some l) = options ∷ (map (λ r. record-command (readRecord r)) (records l) ++ (last ∷ []))

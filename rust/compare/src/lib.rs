@@ -2,7 +2,7 @@
 //!
 //! After each call the reply word, the whole command buffer, the count and the whole session slice
 //! must be equal. `rng`, `objects`, `terminal`, `card`, `damage` and `play` draw the sessions; `run`
-//! makes the calls and counts what occurred.
+//! makes the calls and counts what occurred. `reading` compares single readings, with the object count that no call hands out.
 
 #![forbid(unsafe_code)]
 
@@ -10,6 +10,7 @@ pub mod card;
 pub mod damage;
 pub mod objects;
 pub mod play;
+pub mod reading;
 pub mod rng;
 pub mod run;
 pub mod side;

@@ -124,7 +124,8 @@ fn cases() -> Vec<Case> {
     let broken = record(&content);
     let name = |what: &str, answer: &[u8], objects: u32| {
         let mut store = [0; model::STORE_SIZE];
-        let (_, count) = model::read_record(&mut store, 1, answer);
+        let (_, count) =
+            model::read_answer(&mut store, model::reading::AnswerTo::Record, 1, answer);
         assert_eq!(count, objects, "{what}");
         format!(
             "answer: {what}, {} bytes, {objects} objects",

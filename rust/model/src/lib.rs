@@ -26,6 +26,7 @@ pub mod tlv;
 pub use dictionary::STORE_SIZE;
 pub use session::{COMMAND_SIZE, SESSION_SIZE};
 
+use reading::AnswerTo;
 use reason::Reason;
 use session::{Refusal, Reply, Session};
 use store::Store;
@@ -82,16 +83,16 @@ pub fn count(session: &[u8]) -> u32 {
     session::count(session).map_or(NO_COUNT, u32::from)
 }
 
-/// Reads one record's answer, status bytes included, into a store that keeps its ranges.
+/// Reads one answer, status bytes included, into a store of any bytes. `file` is the record's, and counts for a record alone.
 ///
 /// Gives the reason (0 if none) and the number of objects in the answer's tree. Above file 10 the status alone counts.
-pub fn read_record(store: &mut Store, file: u8, answer: &[u8]) -> (u8, u32) {
+pub fn read_answer(store: &mut Store, to: AnswerTo, file: u8, answer: &[u8]) -> (u8, u32) {
     let record = locator::Record { file, number: 1 };
     match reading::body(answer) {
         Err(reason) => (reason as u8, 0),
-        Ok(_) if !record.is_read() => (0, 0),
+        Ok(_) if to == AnswerTo::Record && !record.is_read() => (0, 0),
         Ok(body) => {
-            let (result, count) = reading::read(store, reading::AnswerTo::Record, body);
+            let (result, count) = reading::read(store, to, body);
             (result.map_or_else(|reason| reason as u8, |()| 0), count)
         }
     }

@@ -6,7 +6,7 @@ use crate::store::{self, Store};
 use crate::tlv::{self, Tag};
 
 /// The greatest depth of templates; the outer one is the first.
-const LEVELS: u32 = 4;
+pub const LEVELS: u32 = 4;
 
 /// The command that an answer belongs to.
 #[derive(Clone, Copy, Debug, PartialEq, Eq)]
@@ -71,7 +71,7 @@ fn read_template(store: &mut Store, answer_to: AnswerTo, outer: Tag, contents: &
     (Ok(()), walk.count)
 }
 
-/// Reads an answer of tag 80: the values stand one behind the other.
+/// Reads an answer of tag 80: the values stand one behind the other. They are taken as objects of a template 77 are.
 fn read_format_1(store: &mut Store, answer_to: AnswerTo, value: &[u8]) -> Result<(), Reason> {
     match answer_to {
         AnswerTo::Options => {
@@ -79,21 +79,41 @@ fn read_format_1(store: &mut Store, answer_to: AnswerTo, value: &[u8]) -> Result
                 return Err(Reason::Malformed);
             }
             let (profile, locator) = value.split_at(2);
-            store::put(store, Object::InterchangeProfile, profile);
-            store::put(store, Object::FileLocator, locator);
+            put_all(
+                store,
+                &[
+                    (Object::InterchangeProfile, profile),
+                    (Object::FileLocator, locator),
+                ],
+            )
         }
         AnswerTo::Cryptogram => {
             if !(11..=43).contains(&value.len()) {
                 return Err(Reason::Malformed);
             }
-            store::put(store, Object::CryptogramInformation, &value[..1]);
-            store::put(store, Object::TransactionCounter, &value[1..3]);
-            store::put(store, Object::Cryptogram, &value[3..11]);
-            if value.len() > 11 {
-                store::put(store, Object::IssuerApplicationData, &value[11..]);
-            }
+            let objects = [
+                (Object::CryptogramInformation, &value[..1]),
+                (Object::TransactionCounter, &value[1..3]),
+                (Object::Cryptogram, &value[3..11]),
+                (Object::IssuerApplicationData, &value[11..]),
+            ];
+            let brought = if value.len() > 11 { 4 } else { 3 };
+            put_all(store, &objects[..brought])
         }
-        AnswerTo::Record => return Err(Reason::Malformed),
+        AnswerTo::Record => Err(Reason::Malformed),
+    }
+}
+
+/// Stores objects that fit their rows, unless one of them has a value already.
+fn put_all(store: &mut Store, objects: &[(Object, &[u8])]) -> Result<(), Reason> {
+    if objects
+        .iter()
+        .any(|&(object, _)| store::has_value(store, object))
+    {
+        return Err(Reason::NotAllowed);
+    }
+    for &(object, value) in objects {
+        store::put(store, object, value);
     }
     Ok(())
 }

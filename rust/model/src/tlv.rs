@@ -65,3 +65,19 @@ pub fn split_object(bytes: &[u8]) -> Option<(Tag, &[u8], &[u8])> {
     let (value, rest) = rest.split_at_checked(length)?;
     Some((tag, value, rest))
 }
+
+/// How many objects the tree of some bytes has, templates and what is in them; none if it is no tree of at most so many levels.
+///
+/// Each object is one, and a template is one and its contents.
+pub fn count_objects(bytes: &[u8], levels: u32) -> Option<u32> {
+    if bytes.is_empty() {
+        return Some(0);
+    }
+    let (tag, value, rest) = split_object(bytes)?;
+    let inside = if tag.is_template() {
+        count_objects(value, levels.checked_sub(1)?)?
+    } else {
+        0
+    };
+    Some(1 + inside + count_objects(rest, levels)?)
+}

@@ -5,6 +5,7 @@ mod common;
 use common::{hex, Host};
 use model::data_list;
 use model::dictionary::Object;
+use model::reading::AnswerTo;
 use model::store::{self, Store};
 use model::STORE_SIZE;
 
@@ -13,7 +14,7 @@ fn read(body: &str) -> (u8, u32, Store) {
     let mut store = [0; STORE_SIZE];
     let mut answer = hex(body);
     answer.extend([0x90, 0x00]);
-    let (reason, count) = model::read_record(&mut store, 1, &answer);
+    let (reason, count) = model::read_answer(&mut store, AnswerTo::Record, 1, &answer);
     (reason, count, store)
 }
 

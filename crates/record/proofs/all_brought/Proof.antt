@@ -2,19 +2,18 @@
 -- Assumes nothing.
 use borrow.Author.Tests.{not-true, not-false}
 use mathlib.Core.Path.{_≡_, refl, sym, ap, ap₂, _∙_}
-use mathlib.Core.Bool.{not}
 use Prim.Native.Nat.{ℕ, _-_}
 use native.Mathlib.Omega.{arith}
-use lib.Dec.{eqb}
 use lib.ListN.{getD, drop}
-use Rattle.basics.specs.Choice.{either, every}
+use Rattle.basics.specs.Choice.{every}
 use Rattle.dictionary.specs.declared.Attributes.{Attributes}
-use Rattle.dictionary.specs.Rows.{rows, blank, rowAt, optional}
+use Rattle.dictionary.specs.Rows.{rows, blank, rowAt, rowCount}
 use Rattle.dictionary.specs.Packing.{attributesOf}
 use Rattle.store.specs.Place.{offsetIn}
 use Rattle.record.specs.Ranges.{isBrought, brought}
+use Rattle.record.specs.Inner.{broughtBy}
 use Rattle.record.proofs.Every.{every-no, every-yes, every-done}
-use Rattle.record.proofs.Tags.{rows-length}
+use Rattle.store.proofs.Rows.{rows-length}
 use Rattle.record.proofs.Fit.{row-read, Stands, stands, object-brought}
 use Rattle.record.proofs.all_brought.Statement.{statement}
 use Rattle.record.proofs.all_brought.Tie as tie
@@ -28,7 +27,7 @@ abbrev Inv-loop : tie.InvT-loop
 Inv-loop bytes codes at₀ row₀ at row = (at ≡ offsetIn rows row) × (brought bytes ≡ every (isBrought bytes) (drop row rows))
 
 abbrev μ-loop : tie.MeasureT-loop
-μ-loop bytes codes at₀ row₀ at row = 36 - row
+μ-loop bytes codes at₀ row₀ at row = rowCount - row
 
 loop-holds : tie.Need-loop-holds Inv-loop μ-loop
 unfolding brought offsetIn rows
@@ -53,7 +52,7 @@ told c =
     let b = c .before .before .before .before .before .before .args .bytes .now in
     object-brought b (lp .row) (omega arith)
     ∙ sym (c .is-brought .ensures
-    ∙ ap₂ (λ (m n : ℕ). either (eqb m optional) (not (eqb n 0))) (ap (λ (a : Attributes). a .must) (read (c .before))) (ap (λ (n : ℕ). getD b n 0) (lp .inv .0)))
+    ∙ ap₂ broughtBy (ap (λ (a : Attributes). a .must) (read (c .before))) (ap (λ (n : ℕ). getD b n 0) (lp .inv .0)))
 
 returns : tie.Need-returns Inv-loop μ-loop
 returns c =

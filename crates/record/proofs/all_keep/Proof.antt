@@ -1,19 +1,18 @@
 -- `record::all_keep` meets its contract. The invariant: the next row's place starts at `at`, and the rows from here on decide.
 -- Assumes nothing.
 use borrow.Author.Tests.{not-true, not-false}
-use mathlib.Core.Path.{_≡_, refl, sym, ap, _∙_}
-use mathlib.Core.Bool.{not}
+use mathlib.Core.Path.{_≡_, refl, sym, ap₂, _∙_}
 use Prim.Native.Nat.{_+_, _-_}
 use native.Mathlib.Omega.{arith}
-use lib.ListN.{length, take, drop, length-take, length-drop}
-use Rattle.basics.specs.Choice.{both, either, every}
-use Rattle.dictionary.specs.Rows.{rows, blank, rowAt}
+use lib.ListN.{drop, length-take, length-drop}
+use Rattle.basics.specs.Choice.{every}
+use Rattle.dictionary.specs.Rows.{rows, blank, rowAt, rowCount}
 use Rattle.dictionary.specs.Packing.{attributesOf}
-use Rattle.store.specs.Place.{room, offsetIn}
-use Rattle.record.specs.Ranges.{allFit, brought}
+use Rattle.store.specs.Place.{offsetIn}
+use Rattle.record.specs.Inner.{placeKeeps, allKeep}
 use Rattle.record.proofs.Every.{every-no, every-yes, every-done}
-use Rattle.record.proofs.Tags.{rows-length}
-use Rattle.record.proofs.Fit.{row-read, Stands, stands, place-part, objectKeeps, placeKeeps, object-keeps, all-keeps}
+use Rattle.store.proofs.Rows.{rows-length}
+use Rattle.record.proofs.Fit.{row-read, Stands, stands, place-part, objectKeeps, object-keeps, all-keeps}
 use Rattle.record.proofs.all_keep.Statement.{statement}
 use Rattle.record.proofs.all_keep.Tie as tie
 use Rattle.record.proofs.all_keep.Reads as reads
@@ -24,10 +23,10 @@ use Rattle.dictionary.proofs.unpacked.Reads as unpacked
 
 abbrev Inv-loop : tie.InvT-loop
 Inv-loop bytes asked codes at₀ row₀ at row =
-    (at ≡ offsetIn rows row) × (both (allFit bytes) (either (not asked) (brought bytes)) ≡ every (objectKeeps asked bytes) (drop row rows))
+    (at ≡ offsetIn rows row) × (allKeep asked bytes ≡ every (objectKeeps asked bytes) (drop row rows))
 
 abbrev μ-loop : tie.MeasureT-loop
-μ-loop bytes asked codes at₀ row₀ at row = 36 - row
+μ-loop bytes asked codes at₀ row₀ at row = rowCount - row
 
 loop-holds : tie.Need-loop-holds Inv-loop μ-loop
 unfolding offsetIn rows
@@ -54,10 +53,9 @@ told c =
     let a = u .before .before .before .before .before .args in
     let g = u .unpacked .result .greatest in
     let s = stood u in
-    let n : room (rowAt (lp .row)) ≡ length (take (lp .at + g + 1 - lp .at) (drop (lp .at) (a .bytes .now))) = simp (length-take, length-drop) (omega arith) in
     object-keeps (a .asked) (a .bytes .now) (lp .row) (omega arith)
-    ∙ ap (placeKeeps (a .asked) (rowAt (lp .row))) (sym (place-part (a .bytes .now) (lp .row) (lp .at) g (lp .inv .0) s))
-    ∙ sym (c .place-keeps .ensures (rowAt (lp .row)) (read u) n)
+    ∙ ap₂ (placeKeeps (a .asked)) (sym (read u)) (sym (place-part (a .bytes .now) (lp .row) (lp .at) g (lp .inv .0) s))
+    ∙ sym (c .place-keeps .ensures)
 
 returns : tie.Need-returns Inv-loop μ-loop
 returns c =

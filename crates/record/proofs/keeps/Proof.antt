@@ -9,22 +9,25 @@ use Rattle.basics.proofs.Laws.{both-true, both-no-left}
 use Rattle.record.specs.declared.Phase.{Phase}
 use Rattle.record.specs.Session.{sessionOf}
 use Rattle.record.specs.Ranges.{allFit, phaseRanges, inRanges}
+use Rattle.record.specs.Clauses.{Tells}
+use Rattle.record.proofs.Laws.{tells}
 use Rattle.record.proofs.keeps.Statement.{statement}
 use Rattle.record.proofs.keeps.Tie as tie
 
--- where the size is right, the phase decides
+-- where the size is right, the phase decides; what the test says of the clauses follows (`tells`)
 by-phase : (c : tie.Else1) (p : Phase) {r : Bool} → let a = c .before .before .args in a .phase ≡ p
     → r ≡ both (allFit (a .bytes .now)) (phaseRanges p (sessionOf (a .phase) (a .count) (a .bytes .now)))
-    → r ≡ inRanges (sessionOf (a .phase) (a .count) (a .bytes .now))
+    → Tells (sessionOf (a .phase) (a .count) (a .bytes .now)) r
 unfolding inRanges
 by-phase c p e h =
     let a = c .before .before .args in
-    h ∙ ap (λ (q : Phase). both (allFit (a .bytes .now)) (phaseRanges q (sessionOf (a .phase) (a .count) (a .bytes .now)))) (sym e)
-    ∙ sym (both-true _ (eq-eqb _ _ (c .if1 .left)))
+    tells (sessionOf (a .phase) (a .count) (a .bytes .now))
+    (h ∙ ap (λ (q : Phase). both (allFit (a .bytes .now)) (phaseRanges q (sessionOf (a .phase) (a .count) (a .bytes .now)))) (sym e)
+    ∙ sym (both-true _ (eq-eqb _ _ (c .if1 .left))))
 
 returns : tie.Need-returns
 unfolding inRanges
-returns c = sym (both-no-left _ _ (ne-eqb _ _ (c .if1 .taken)))
+returns c = tells _ (sym (both-no-left _ _ (ne-eqb _ _ (c .if1 .taken))))
 
 returns-2 : tie.Need-returns-2
 returns-2 c = by-phase (c .before .before .before) _ (c .before .enum-told .given .1) (c .fresh-keeps .ensures)

@@ -9,16 +9,16 @@ use lib.ListN.{length, take, drop, length-take, length-drop}
 use borrow.Author.Needs.{needs}
 use Rattle.tlv.proofs.Laws.{tail-is}
 use Rattle.run.specs.Encoding.{isWhole, callsOf}
-use Rattle.run.specs.Playing.{listed, Turns}
+use Rattle.run.specs.Inner.{callsRead, Turns}
 use Rattle.run.proofs.Read.{whole-end}
-use Rattle.run.proofs.Whole.{ready-listed}
+use Rattle.run.proofs.Whole.{ready-read}
 use Rattle.run.proofs.Loop.{Going, going-start, going-whole, going-room, going-turn, going-end}
 use Rattle.run.proofs.play_all.Statement.{statement}
 use Rattle.run.proofs.play_all.Tie as tie
 
 abbrev Inv-loop : tie.InvT-loop
 Inv-loop calls₀ replies₀ session₀ at₀ out₀ calls replies session at out =
-    Going calls₀ replies₀ (listed (callsOf calls₀)) calls replies session at out × (length calls ≡ length calls₀) × (length replies ≡ length replies₀)
+    Going calls₀ replies₀ (callsRead (callsOf calls₀)) calls replies session at out × (length calls ≡ length calls₀) × (length replies ≡ length replies₀)
 
 abbrev μ-loop : tie.MeasureT-loop
 μ-loop calls₀ replies₀ session₀ at₀ out₀ calls replies session at out = length calls - at
@@ -51,7 +51,7 @@ size-at c =
     (omega arith, omega (arith, length-drop (lp .at) (lp .calls), c .before .before .before .loop-test .taken))
 
 loop-holds : tie.Need-loop-holds Inv-loop μ-loop
-loop-holds c = let k = ready-listed _ _ (c .before .before .before .pre) in (going-start _ _ _ _ (c .fresh .ensures) (k .0) (k .1), refl, refl)
+loop-holds c = let k = ready-read _ _ (c .before .before .before .pre) in (going-start _ _ _ _ (c .fresh .ensures) (k .0) (k .1), refl, refl)
 
 sub-one-call-2 : tie.Need-sub-one-call-2 Inv-loop μ-loop
 sub-one-call-2 c = let k = room-at (c .before) in omega arith

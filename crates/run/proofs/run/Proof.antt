@@ -6,14 +6,14 @@ use native.Mathlib.Omega.{arith}
 use lib.ListN.{length}
 use borrow.Author.Needs.{needs}
 use Rattle.run.specs.Encoding.{callsOf}
-use Rattle.run.specs.Playing.{listed}
+use Rattle.run.specs.Inner.{callsRead}
 use Rattle.run.proofs.Back.{read-back}
 use Rattle.run.proofs.Whole.{counted-none, counted-some, ready, runs-none, runs-short, runs-played}
 use Rattle.run.proofs.run.Statement.{statement}
 use Rattle.run.proofs.run.Tie as tie
 
 -- past the count the bytes are a list of so many calls
-counted : (c : tie.After-n) → let x = callsOf (c .before .before .before .before .before .before .args .calls .now) in (x ≡ some (listed x)) × (length (listed x) ≡ c .n .given .0 .0)
+counted : (c : tie.After-n) → let x = callsOf (c .before .before .before .before .before .before .args .calls .now) in (x ≡ some (callsRead x)) × (length (callsRead x) ≡ c .n .given .0 .0)
 counted c = counted-some _ _ (sym (c .before .before .count-calls .ensures) ∙ c .n .given .1)
 
 returns : tie.Need-returns

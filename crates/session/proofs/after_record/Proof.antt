@@ -5,24 +5,22 @@ use mathlib.Core.Path.{_≡_, ap}
 use Prim.Native.Nat.{ℕ, _+_}
 use native.Mathlib.Omega.{arith}
 use Rattle.locator.specs.declared.Found.{Found}
-use Rattle.record.specs.declared.Phase.{Phase}
-use Rattle.record.specs.Session.{sessionOf}
 use Rattle.session.specs.Answer.{nextFound, recordRead}
-use Rattle.session.proofs.Laws.{did-as, found-as, found-there}
+use Rattle.session.proofs.Laws.{did-as, reply-as, found-as, found-there}
 use Rattle.session.proofs.after_record.Statement.{statement}
 use Rattle.session.proofs.after_record.Tie as tie
 
 -- the record behind this one decides
-next : (c : tie.After-record-at) (x : Found) → let a = c .before .before .before .before .before .before .args in let s = sessionOf (Phase.Record (a .place)) (a .count) (a .store .now) in c .record-at .result ≡ x
-    → recordRead (a .place) s (a .command .now) ≡ nextFound s (a .place .number + 1) (a .command .now) x
+next : (c : tie.After-record-at) (x : Found) → let a = c .before .before .before .before .before .before .args in c .record-at .result ≡ x
+    → recordRead (a .place) (a .count) (a .store .now) (a .command .now) ≡ nextFound (a .count) (a .store .now) (a .place .number + 1) (a .command .now) x
 unfolding recordRead
 next c x e =
     let a = c .before .before .before .before .before .before .args in
-    ap (nextFound (sessionOf (Phase.Record (a .place)) (a .count) (a .store .now)) (a .place .number + 1) (a .command .now))
+    ap (nextFound (a .count) (a .store .now) (a .place .number + 1) (a .command .now))
     (found-as (c .record-at .ensures) e _ _ (c .before .value .ensures) (ap (λ (n : ℕ). n + 1) (c .before .before .before .wide .ensures .0)))
 
 returns : tie.Need-returns
-returns c = did-as (next (c .before .before .before .before .before .before .before .before .before) Found.Nothing (c .before .before .before .before .before .before .before .enum-told .given .1)) (c .before .before .before .before .after-records .ensures _)
+returns c = did-as (next (c .before .before .before .before .before .before .before .before .before) Found.Nothing (c .before .before .before .before .before .before .before .enum-told .given .1)) (c .before .before .before .before .after-records .ensures)
 
 add-ask-record : tie.Need-add-ask-record
 add-ask-record c = omega (arith, found-there _ _ (c .before .before .before .record-at .ensures) (c .before .found .given .1) .1, c .before .before .before .before .before .before .wide .ensures .0)
@@ -33,7 +31,7 @@ ask-record-requires c κs = (search needs, found-there _ _ (c .before .before .b
 returns-2 : tie.Need-returns-2
 returns-2 c =
     let f = c .before .before .before .before .before in
-    did-as (next (f .before .before) (Found.At (f .found .given .0 .0)) (f .found .given .1)) (c .before .before .ask-record .ensures (Phase.Record (f .before .before .before .before .before .before .before .before .args .place)) _)
+    did-as (next (f .before .before) (Found.At (f .found .given .0 .0)) (f .found .given .1)) (record { reply = reply-as _ (c .before .before .ask-record .ensures .0); buffer = c .before .before .ask-record .ensures .1 })
 
 pub after-record-spec : {M : Type 1} → statement M
 after-record-spec =

@@ -4,7 +4,6 @@ use borrow.Author.Needs.{needs}
 use mathlib.Core.Path.{_≡_}
 use mathlib.Core.Bool.{false}
 use Rattle.analysis.specs.Action.{aboveLimit}
-use Rattle.record.specs.Session.{sessionOf}
 use Rattle.session.proofs.Laws.{did-as, did-without-command, is-complete, is-missing, is-above, is-within, records-limit, records-missing, records-analysed}
 use Rattle.session.proofs.after_records.Statement.{statement}
 use Rattle.session.proofs.after_records.Tie as tie
@@ -14,23 +13,23 @@ within : (c : tie.After-enum-told) → aboveLimit (c .before .before .before .be
 within c = is-within _ (c .before .before .limit-in .ensures) (c .enum-told .given .1)
 
 returns : tie.Need-returns
-returns c = λ p.
+returns c =
     let a = c .before .before .before .before .before .before .before .args in
-    did-without-command _ (c .fails .ensures) (records-limit (sessionOf p (a .count) (a .store .now)) _ (is-above _ (c .before .before .before .limit-in .ensures) (c .before .enum-told2 .given .1)))
+    did-without-command _ (c .fails .ensures) (records-limit (a .count) (a .store .now) _ (is-above _ (c .before .before .before .limit-in .ensures) (c .before .enum-told2 .given .1)))
 
 returns-2 : tie.Need-returns-2
-returns-2 c = λ p.
+returns-2 c =
     let k = c .before .before .before in
     let a = k .before .before .before .before .before .before .before .before .args in
     did-without-command _ (c .fails2 .ensures)
-    (records-missing (sessionOf p (a .count) (a .store .now)) _ (within (k .before .before)) (is-missing _ (k .card-complete .ensures) (c .before .enum-told4 .given .1)))
+    (records-missing (a .count) (a .store .now) _ (within (k .before .before)) (is-missing _ (k .card-complete .ensures) (c .before .enum-told4 .given .1)))
 
 returns-3 : tie.Need-returns-3
-returns-3 c = λ p.
+returns-3 c =
     let k = c .before .before .before .before .before .before .before .before .before in
     let a = k .before .before .before .before .before .before .before .before .args in
-    did-as (records-analysed (sessionOf p (a .count) (a .store .now)) _ (within (k .before .before)) (is-complete _ (k .card-complete .ensures) (c .before .before .before .before .before .before .before .enum-told3 .given .1)))
-    (c .before .before .before .before .analyse .ensures p)
+    did-as (records-analysed (a .count) (a .store .now) _ (within (k .before .before)) (is-complete _ (k .card-complete .ensures) (c .before .before .before .before .before .before .before .enum-told3 .given .1)))
+    (c .before .before .before .before .analyse .ensures)
 
 pub after-records-spec : {M : Type 1} → statement M
 after-records-spec =

@@ -5,7 +5,6 @@ use mathlib.Core.Path.{ap, _∙_}
 use native.Mathlib.Omega.{arith}
 use lib.ListN.{length}
 use Rattle.analysis.proofs.Laws.{result-length}
-use Rattle.record.specs.Session.{sessionOf}
 use Rattle.session.proofs.Laws.{did-as, results-fit, analysed-as}
 use Rattle.session.proofs.analyse.Statement.{statement}
 use Rattle.session.proofs.analyse.Tie as tie
@@ -15,10 +14,10 @@ put-requires c κs =
     (search needs, (omega arith, omega (arith, results-fit, ap length (c .before .before .before .before .result-of .ensures) ∙ result-length (c .before .before .before .before .before .before .before .before .args .store .now))))
 
 returns : tie.Need-returns
-returns c = λ p.
+returns c =
     let a = c .before .before .before .before .before .before .before .before .before .before .before .before .before .before .before .before .args in
-    did-as (analysed-as (sessionOf p (a .count) (a .store .now)) _ (c .before .before .before .before .before .before .before .before .before .before .before .before .result-of .ensures) (c .before .before .before .before .before .before .before .before .before .before .choice-for .ensures) (c .before .before .before .before .before .before .before .put .ensures .0))
-    (c .before .before .ask-cryptogram .ensures p)
+    did-as (analysed-as (a .count) (a .store .now) _ (c .before .before .before .before .before .before .before .before .before .before .before .before .result-of .ensures) (c .before .before .before .before .before .before .before .before .before .before .choice-for .ensures) (c .before .before .before .before .before .before .before .put .ensures .0))
+    (c .before .before .ask-cryptogram .ensures)
 
 pub analyse-spec : {M : Type 1} → statement M
 analyse-spec =

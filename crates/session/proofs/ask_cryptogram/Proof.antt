@@ -5,31 +5,29 @@ use mathlib.Core.Path.{ap, _∙_}
 use Prim.Native.Nat.{ℕ}
 use Rattle.data_list.specs.Commands.{writtenOf, bufferWith, generateAc}
 use Rattle.analysis.specs.Choice.{p1Of}
-use Rattle.record.specs.declared.Phase.{Phase}
-use Rattle.record.specs.Session.{sessionOf}
-use Rattle.session.specs.Answer.{askCryptogram}
+use Rattle.session.specs.Answer.{cryptogramPhase, askCryptogram}
 use Rattle.session.proofs.Laws.{handed-none, handed-some}
 use Rattle.session.proofs.ask_cryptogram.Statement.{statement}
 use Rattle.session.proofs.ask_cryptogram.Tie as tie
 
 returns : tie.Need-returns
 unfolding askCryptogram
-returns c = λ q.
+returns c =
     let g = c .before .before .before .before .before in
     let a = c .before .before .before .before .before .before .before .before .before .before .args in
     let p = c .before .before .before .before .before .before .before .p1 .ensures in
-    handed-none (sessionOf q (a .count) (a .bytes .now)) (Phase.Cryptogram (record { choice = a .choice })) (a .command .now) (generateAc (p1Of (a .choice)) (a .bytes .now))
+    handed-none (a .count) (a .bytes .now) (cryptogramPhase (a .choice)) (a .command .now) (generateAc (p1Of (a .choice)) (a .bytes .now))
     (g .generate-ac .ensures .0 ∙ ap (λ (n : ℕ). writtenOf (generateAc n (a .bytes .now))) p)
     (g .generate-ac .ensures .1 .0 ∙ ap (λ (n : ℕ). bufferWith (generateAc n (a .bytes .now)) (a .command .now)) p)
     (c .before .enum-told .given .1) (c .fails .ensures)
 
 returns-2 : tie.Need-returns-2
 unfolding askCryptogram
-returns-2 c = λ q.
+returns-2 c =
     let g = c .before .before .before .before .before .before in
     let a = c .before .before .before .before .before .before .before .before .before .before .before .args in
     let p = c .before .before .before .before .before .before .before .before .p1 .ensures in
-    handed-some (sessionOf q (a .count) (a .bytes .now)) (Phase.Cryptogram (record { choice = a .choice })) (a .command .now) (generateAc (p1Of (a .choice)) (a .bytes .now))
+    handed-some (a .count) (a .bytes .now) (cryptogramPhase (a .choice)) (a .command .now) (generateAc (p1Of (a .choice)) (a .bytes .now))
     (g .generate-ac .ensures .0 ∙ ap (λ (n : ℕ). writtenOf (generateAc n (a .bytes .now))) p)
     (g .generate-ac .ensures .1 .0 ∙ ap (λ (n : ℕ). bufferWith (generateAc n (a .bytes .now)) (a .command .now)) p)
     (c .before .before .c .given .1) (c .commands .ensures)

@@ -6,38 +6,38 @@ use mathlib.Core.Path.{_≡_, sym, ap, _∙_}
 use Rattle.record.specs.declared.Phase.{Phase}
 use Rattle.record.specs.Session.{sessionOf}
 use Rattle.session.specs.Steps.{endsIn, brokenOff}
-use Rattle.session.proofs.Laws.{reply-as, admitted-short, admitted-ranges, admitted-in}
+use Rattle.session.proofs.Laws.{did-without-command, admitted-short, admitted-ranges, admitted-in}
 use Rattle.session.proofs.broken_off.Statement.{statement}
 use Rattle.session.proofs.broken_off.Tie as tie
 
 -- past the refusals the phase decides
-by-phase : (c : tie.Else2) (p : Phase) → let a = c .before .before .before .before .args in let s = sessionOf (a .phase) (a .count) (a .bytes .now) in
-    a .phase ≡ p → brokenOff s (a .reason) (a .size) ≡ endsIn p s (a .reason)
+by-phase : (c : tie.Else2) (p : Phase) → let a = c .before .before .before .before .before .args in let s = sessionOf (a .phase) (a .count) (a .bytes .now) in
+    a .phase ≡ p → brokenOff s (a .reason) (a .command .now) ≡ endsIn p s (a .reason) (a .command .now)
 by-phase c p e =
-    let a = c .before .before .before .before .args in
-    admitted-in _ _ _ _ (c .before .before .if1 .left) (sym (c .before .keeps .ensures) ∙ not-false _ (c .if2 .left))
-    ∙ ap (λ (q : Phase). endsIn q (sessionOf (a .phase) (a .count) (a .bytes .now)) (a .reason)) e
+    let a = c .before .before .before .before .before .args in
+    admitted-in _ _ _ (c .before .before .if1 .left) (sym (c .before .keeps .ensures .test) ∙ not-false _ (c .if2 .left))
+    ∙ ap (λ (q : Phase). endsIn q (sessionOf (a .phase) (a .count) (a .bytes .now)) (a .reason) (a .command .now)) e
 
 returns : tie.Need-returns
-returns c = reply-as _ (c .refused .ensures) ∙ sym (admitted-short _ _ _ _ (c .before .if1 .taken))
+returns c = did-without-command _ (c .refused .ensures) (admitted-short _ _ _ (c .before .if1 .taken))
 
 returns-2 : tie.Need-returns-2
-returns-2 c = reply-as _ (c .refused2 .ensures) ∙ sym (admitted-ranges _ _ _ _ (c .before .before .before .if1 .left) (sym (c .before .before .keeps .ensures) ∙ not-true _ (c .before .if2 .taken)))
+returns-2 c = did-without-command _ (c .refused2 .ensures) (admitted-ranges _ _ _ (c .before .before .before .if1 .left) (sym (c .before .before .keeps .ensures .test) ∙ not-true _ (c .before .if2 .taken)))
 
 returns-3 : tie.Need-returns-3
-returns-3 c = reply-as _ (c .refused3 .ensures) ∙ sym (by-phase (c .before .before .before) _ (c .before .enum-told .given .1))
+returns-3 c = did-without-command _ (c .refused3 .ensures) (by-phase (c .before .before .before) _ (c .before .enum-told .given .1))
 
 returns-4 : tie.Need-returns-4
-returns-4 c = reply-as _ (c .fails .ensures) ∙ sym (by-phase (c .before .before .before) _ (c .before .enum-told2 .given .1))
+returns-4 c = did-without-command _ (c .fails .ensures) (by-phase (c .before .before .before) _ (c .before .enum-told2 .given .1))
 
 returns-5 : tie.Need-returns-5
-returns-5 c = reply-as _ (c .fails2 .ensures) ∙ sym (by-phase (c .before .before .before) _ (c .before .enum-told3 .given .1))
+returns-5 c = did-without-command _ (c .fails2 .ensures) (by-phase (c .before .before .before) _ (c .before .enum-told3 .given .1))
 
 returns-6 : tie.Need-returns-6
-returns-6 c = reply-as _ (c .fails3 .ensures) ∙ sym (by-phase (c .before .before .before) _ (c .before .enum-told4 .given .1))
+returns-6 c = did-without-command _ (c .fails3 .ensures) (by-phase (c .before .before .before) _ (c .before .enum-told4 .given .1))
 
 returns-7 : tie.Need-returns-7
-returns-7 c = reply-as _ (c .refused4 .ensures) ∙ sym (by-phase (c .before .before .before) _ (c .before .enum-told5 .given .1))
+returns-7 c = did-without-command _ (c .refused4 .ensures) (by-phase (c .before .before .before) _ (c .before .enum-told5 .given .1))
 
 pub broken-off-spec : {M : Type 1} → statement M
 broken-off-spec =

@@ -9,32 +9,29 @@ use lib.ListN.{getD}
 use Rattle.dictionary.proofs.Named.{at-9F27}
 use Rattle.record.proofs.Tags.{bytes-are}
 use Rattle.record.specs.declared.Outcome.{Outcome}
-use Rattle.record.specs.declared.Phase.{Phase}
-use Rattle.record.specs.declared.Session.{Session}
-use Rattle.record.specs.Session.{sessionOf}
-use Rattle.session.specs.Answer.{decision, concluded, cryptogramRead}
+use Rattle.session.specs.Steps.{ended}
+use Rattle.session.specs.Answer.{decision, endFor, cryptogramEnd}
 use Rattle.session.proofs.Laws.{reply-as, is-complete, is-missing, decides-nothing, decides-on, cryptogram-missing, cryptogram-decided}
 use Rattle.session.proofs.decide.Statement.{statement}
 use Rattle.session.proofs.decide.Tie as tie
 
--- the session's parts as a record
-abbrev session : tie.After-shared-slice-known → Session
-session c = let a = c .before .args in sessionOf (Phase.Cryptogram (a .asked)) (a .count) (a .bytes .now)
-
 -- the decision, by the type that was read
-concludes : (c : tie.After-decision-for) (o : Option Outcome) → let a = c .before .before .before .before .before .before .before .args in let s = session (c .before .before .before .before .before .before) in
-    decision (a .asked .choice) (c .before .byte-at .result / 64) ≡ o → cryptogramRead (a .asked) s ≡ concluded s o
+concludes : (c : tie.After-decision-for) (o : Option Outcome) → let a = c .before .before .before .before .before .before .before .args in
+    decision (a .asked .choice) (c .before .byte-at .result / 64) ≡ o → ended (a .count) (a .bytes .now) (cryptogramEnd (a .asked) (a .bytes .now)) ≡ ended (a .count) (a .bytes .now) (endFor o)
 concludes c o e =
     let a = c .before .before .before .before .before .before .before .args in
-    let s = session (c .before .before .before .before .before .before) in
     let t = c .before .before .before in
-    cryptogram-decided _ s (is-complete _ (t .before .before .cryptogram-there .ensures) (t .enum-told .given .1))
-    ∙ ap (λ (n : ℕ). concluded s (decision (a .asked .choice) (n / 64)))
+    ap (ended (a .count) (a .bytes .now))
+    (cryptogram-decided _ _ (is-complete _ (t .before .before .cryptogram-there .ensures) (t .enum-told .given .1))
+    ∙ ap (λ (n : ℕ). endFor (decision (a .asked .choice) (n / 64)))
     (sym (c .before .byte-at .ensures ∙ ap (λ (v : List ℕ). getD v 0 0) (c .before .before .value .ensures ∙ bytes-are _ _ _ at-9F27)))
-    ∙ ap (concluded s) e
+    ∙ ap endFor e)
 
 returns : tie.Need-returns
-returns c = reply-as _ (c .fails .ensures) ∙ sym (cryptogram-missing _ (session (c .before .before .before .before)) (is-missing _ (c .before .before .before .cryptogram-there .ensures) (c .before .enum-told2 .given .1)))
+returns c =
+    let a = c .before .before .before .before .before .args in
+    reply-as _ (c .fails .ensures)
+    ∙ ap (ended (a .count) (a .bytes .now)) (sym (cryptogram-missing (a .asked) _ (is-missing _ (c .before .before .before .cryptogram-there .ensures) (c .before .enum-told2 .given .1))))
 
 returns-2 : tie.Need-returns-2
 returns-2 c = reply-as _ (c .fails2 .ensures) ∙ sym (concludes (c .before .before .before) none (decides-nothing _ (c .before .before .before .decision-for .ensures) (c .before .enum-told3 .given .1)))

@@ -16,20 +16,20 @@ use Rattle.session.proofs.start_in.Tie as tie
 
 -- past the refusals the record keeps its ranges, and the phase decides
 ranged : (c : tie.Else2) → let a = c .before .before .before .before .before .before .before .args in inRanges (sessionOf (a .phase) (a .count) (a .store .now)) ≡ true
-ranged c = sym (c .before .keeps .ensures) ∙ not-false _ (c .if2 .left)
+ranged c = sym (c .before .keeps .ensures .test) ∙ not-false _ (c .if2 .left)
 
 by-phase : (c : tie.Else2) (p : Phase) → let a = c .before .before .before .before .before .before .before .args in a .phase ≡ p
     → startStep (sessionOf (a .phase) (a .count) (a .store .now)) (a .terminal .now) (a .command .now) ≡ startIn p (sessionOf p (a .count) (a .store .now)) (a .terminal .now) (a .command .now)
 by-phase c p e =
     let a = c .before .before .before .before .before .before .before .args in
-    admitted-in _ _ _ _ (c .before .before .before .if1 .left) (ranged c) ∙ ap (λ (q : Phase). startIn q (sessionOf q (a .count) (a .store .now)) (a .terminal .now) (a .command .now)) e
+    admitted-in _ _ _ (c .before .before .before .if1 .left) (ranged c) ∙ ap (λ (q : Phase). startIn q (sessionOf q (a .count) (a .store .now)) (a .terminal .now) (a .command .now)) e
 
 returns : tie.Need-returns
-returns c = did-without-command _ (c .refused .ensures) (admitted-short _ _ _ _ (c .before .if1 .taken))
+returns c = did-without-command _ (c .refused .ensures) (admitted-short _ _ _ (c .before .if1 .taken))
 
 returns-2 : tie.Need-returns-2
 returns-2 c =
-    did-without-command _ (c .refused2 .ensures) (admitted-ranges _ _ _ _ (c .before .before .before .before .if1 .left) (sym (c .before .before .keeps .ensures) ∙ not-true _ (c .before .if2 .taken)))
+    did-without-command _ (c .refused2 .ensures) (admitted-ranges _ _ _ (c .before .before .before .before .if1 .left) (sym (c .before .before .keeps .ensures .test) ∙ not-true _ (c .before .if2 .taken)))
 
 returns-3 : tie.Need-returns-3
 returns-3 c =

@@ -3,10 +3,10 @@
 use borrow.Author.Needs.{needs}
 use mathlib.Core.Path.{sym, ap, _∙_}
 use Rattle.reading.specs.declared.Awaited.{Awaited}
-use Rattle.record.specs.declared.Phase.{Phase}
-use Rattle.record.specs.Session.{sessionOf, failsReply, failsTurn}
-use Rattle.session.specs.Answer.{cryptogramRead, cryptogramReply}
-use Rattle.session.proofs.Laws.{reply-as, accepted-yes, accepted-no}
+use Rattle.record.specs.Session.{failsTurn}
+use Rattle.session.specs.Steps.{ended, endBy}
+use Rattle.session.specs.Answer.{cryptogramEnd, cryptogramReply}
+use Rattle.session.proofs.Laws.{reply-as, read-yes, read-no}
 use Rattle.session.proofs.take_cryptogram.Statement.{statement}
 use Rattle.session.proofs.take_cryptogram.Tie as tie
 
@@ -15,16 +15,16 @@ unfolding cryptogramReply
 returns c =
     let a = c .before .before .before .before .before .before .before .before .before .args in
     reply-as _ (c .fails .ensures ∙ ap (failsTurn (a .count)) (c .before .number .ensures))
-    ∙ sym (accepted-no (sessionOf (Phase.Cryptogram (a .asked)) (a .count) (a .store .now)) Awaited.Cryptogram (a .card .now) failsReply (cryptogramRead (a .asked))
-    (c .before .before .before .before .before .read-answer .ensures .0) (c .before .before .match .keys2))
+    ∙ sym (read-no Awaited.Cryptogram (a .store .now) (a .card .now) (c .before .before .before .before .before .read-answer .ensures .0)
+    _ (λ b n. ended (a .count) b (endBy n)) (c .before .before .match .keys2))
 
 returns-2 : tie.Need-returns-2
 unfolding cryptogramReply
 returns-2 c =
     let a = c .before .before .before .before .before .before .before .before .before .before .args in
     c .decide .ensures
-    ∙ sym (accepted-yes (sessionOf (Phase.Cryptogram (a .asked)) (a .count) (a .store .now)) Awaited.Cryptogram (a .card .now) failsReply (cryptogramRead (a .asked))
-    (c .before .before .before .before .before .before .read-answer .ensures .0) (c .before .before .enum-told .given .1))
+    ∙ sym (read-yes Awaited.Cryptogram (a .store .now) (a .card .now) (c .before .before .before .before .before .before .read-answer .ensures .0)
+    (λ b. ended (a .count) b (cryptogramEnd (a .asked) b)) _ (c .before .before .enum-told .given .1))
 
 pub take-cryptogram-spec : {M : Type 1} → statement M
 take-cryptogram-spec =

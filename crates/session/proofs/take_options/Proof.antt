@@ -3,11 +3,10 @@
 use borrow.Author.Needs.{needs}
 use mathlib.Core.Path.{ap, _∙_}
 use Rattle.reading.specs.declared.Awaited.{Awaited}
-use Rattle.record.specs.declared.Phase.{Phase}
-use Rattle.record.specs.Session.{sessionOf, failsTurn}
+use Rattle.record.specs.Session.{failsTurn}
 use Rattle.session.specs.Steps.{fails}
 use Rattle.session.specs.Answer.{optionsRead, optionsStep}
-use Rattle.session.proofs.Laws.{did-as, did-without-command, accepted-yes, accepted-no}
+use Rattle.session.proofs.Laws.{did-as, did-without-command, read-yes, read-no}
 use Rattle.session.proofs.take_options.Statement.{statement}
 use Rattle.session.proofs.take_options.Tie as tie
 
@@ -16,16 +15,16 @@ unfolding optionsStep
 returns c =
     let a = c .before .before .before .before .before .before .before .before .before .before .args in
     did-without-command _ (c .fails .ensures ∙ ap (failsTurn (a .count)) (c .before .number .ensures))
-    (accepted-no (sessionOf Phase.Options (a .count) (a .store .now)) Awaited.Options (a .card .now) (λ t n. fails t n (a .command .now)) (λ t. optionsRead t (a .command .now))
-    (c .before .before .before .before .before .read-answer .ensures .0) (c .before .before .match .keys2))
+    (read-no Awaited.Options (a .store .now) (a .card .now) (c .before .before .before .before .before .read-answer .ensures .0)
+    _ (λ b n. fails (a .count) b n (a .command .now)) (c .before .before .match .keys2))
 
 returns-2 : tie.Need-returns-2
 unfolding optionsStep
 returns-2 c =
     let a = c .before .before .before .before .before .before .before .before .before .before .before .before .before .before .args in
     did-as
-    (accepted-yes (sessionOf Phase.Options (a .count) (a .store .now)) Awaited.Options (a .card .now) (λ t n. fails t n (a .command .now)) (λ t. optionsRead t (a .command .now))
-    (c .before .before .before .before .before .before .before .before .before .read-answer .ensures .0) (c .before .before .before .before .before .enum-told .given .1))
+    (read-yes Awaited.Options (a .store .now) (a .card .now) (c .before .before .before .before .before .before .before .before .before .read-answer .ensures .0)
+    (λ b. optionsRead (a .count) b (a .command .now)) _ (c .before .before .before .before .before .enum-told .given .1))
     (c .before .before .after-options .ensures)
 
 pub take-options-spec : {M : Type 1} → statement M

@@ -6,6 +6,7 @@ use mathlib.Core.Path.{_≡_, sym, ap, _∙_}
 use mathlib.Core.Bool.{not}
 use Rattle.basics.specs.Number.{hasBit}
 use Rattle.basics.proofs.Laws.{both-true, both-no-left}
+use Rattle.dictionary.proofs.Fit.{row-fits}
 use Rattle.dictionary.specs.declared.Attributes.{Attributes}
 use Rattle.terminal.specs.Terminal.{settable}
 use Rattle.terminal.proofs.is_settable.Statement.{statement}
@@ -25,7 +26,7 @@ returns-2 c =
     let f = c .before in
     let m = f .before in
     let e = m .before .before .attributes-of .ensures in
-    sym (both-true _ (sym (start-bit e) ∙ eq-eqb _ _ (m .if1 .left)) ∙ both-no-left _ _ (sym (f .fits2 .ensures _ e) ∙ not-true _ (c .if2 .taken)))
+    sym (both-true _ (sym (start-bit e) ∙ eq-eqb _ _ (m .if1 .left)) ∙ both-no-left _ _ (sym (row-fits _ _ (f .fits2 .ensures) e) ∙ not-true _ (c .if2 .taken)))
 
 returns-3 : tie.Need-returns-3
 unfolding settable
@@ -34,7 +35,7 @@ returns-3 c =
     let m = f .before in
     let e = m .before .before .attributes-of .ensures in
     sym (both-true _ (sym (start-bit e) ∙ eq-eqb _ _ (m .if1 .left))
-    ∙ both-true _ (sym (f .fits2 .ensures _ e) ∙ not-false _ (c .before .before .if2 .left))
+    ∙ both-true _ (sym (row-fits _ _ (f .fits2 .ensures) e) ∙ not-false _ (c .before .before .if2 .left))
     ∙ both-no-left _ _ (ap not (sym (c .before .is-there .ensures) ∙ c .if3 .taken)))
 
 returns-4 : tie.Need-returns-4
@@ -45,7 +46,7 @@ returns-4 c =
     let e = m .before .before .attributes-of .ensures in
     c .is-type-listed .ensures
     ∙ sym (both-true _ (sym (start-bit e) ∙ eq-eqb _ _ (m .if1 .left))
-    ∙ both-true _ (sym (f .fits2 .ensures _ e) ∙ not-false _ (c .before .before .before .if2 .left))
+    ∙ both-true _ (sym (row-fits _ _ (f .fits2 .ensures) e) ∙ not-false _ (c .before .before .before .if2 .left))
     ∙ both-true _ (ap not (sym (c .before .before .is-there .ensures) ∙ c .before .if3 .left)))
 
 pub is-settable-spec : {M : Type 1} → statement M

@@ -2,13 +2,16 @@
 use mathlib.Core.Path.{ap₂, _∙_}
 use borrow.Author.Needs.{needs}
 use Rattle.analysis.specs.Action.{chosen}
-use Rattle.analysis.specs.Choice.{choiceOf}
+use Rattle.analysis.specs.Choice.{choiceOf, p1For}
 use Rattle.analysis.proofs.action.choice_for.Statement.{statement}
 use Rattle.analysis.proofs.action.choice_for.Tie as tie
 
 returns : tie.Need-returns
 unfolding chosen
-returns c = c .choose .ensures ∙ ap₂ (choiceOf _) (c .before .before .terminal-type .ensures) (c .before .codes-of .ensures)
+returns c =
+    let k = c .before .before .terminal-type .ensures in
+    let p = c .before .codes-of .ensures in
+    (c .choose .ensures .0 ∙ ap₂ (choiceOf _) k p, c .choose .ensures .1 ∙ ap₂ (p1For _) k p)
 
 pub choice-for-spec : {M : Type 1} → statement M
 choice-for-spec =

@@ -5,7 +5,8 @@ use mathlib.Core.Path.{_≡_, sym, ap, _∙_}
 use Prim.Native.Nat.{ℕ, _-_, _≤_, _<_}
 use native.Mathlib.Omega.{arith}
 use borrow.Author.Count.{below-more}
-use Rattle.analysis.specs.Choice.{heldIn, lowestFrom}
+use Rattle.analysis.specs.Choice.{lowestFrom}
+use Rattle.analysis.specs.Inner.{heldIn}
 use Rattle.analysis.proofs.Lowest.{lowest-is, lowest-none}
 use Rattle.analysis.proofs.Stages.{zero-byte}
 use Rattle.analysis.proofs.choice.byte_bit.Statement.{statement}

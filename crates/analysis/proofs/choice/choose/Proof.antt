@@ -1,5 +1,6 @@
 -- `choice::choose` meets its contract. The loop's invariant: no stage before this one is consulted and holds a bit.
--- Then the first that does decides (`choice-by-stage`), and after the last the type alone (`choice-by-type`). Assumes nothing.
+-- Then the first that does decides (`choice-by-stage`), and after the last the type alone (`choice-by-type`); the number follows
+-- (`asks`). Assumes nothing.
 use mathlib.Core.Logic.{inl, inr}
 use mathlib.Core.Path.{sym, ap, _∙_}
 use Prim.Native.Nat.{_-_, _≤_}
@@ -8,6 +9,7 @@ use borrow.Author.Count.{below-more}
 use borrow.Author.Needs.{needs}
 use Rattle.basics.proofs.Laws.{both-no-left, both-no-right}
 use Rattle.analysis.specs.Choice.{someBit, heldAt}
+use Rattle.analysis.proofs.Laws.{asks}
 use Rattle.analysis.proofs.Stages.{Unforced, choice-by-stage, choice-by-type}
 use Rattle.analysis.proofs.choice.choose.Statement.{statement}
 use Rattle.analysis.proofs.choice.choose.Tie as tie
@@ -27,11 +29,12 @@ returns c =
     let lp = c .before .before .before .before .before .before .before .before .loop in
     let a = c .before .before .before .before .before .before .before .before .before .before .args in
     let rc = c .before .before .before .before .before .before .before .before .before .capability-of in
-    c .forced .ensures
+    asks (a .bits) (a .kind) (a .t3)
+    (c .forced .ensures
     ∙ sym (choice-by-stage (a .bits) (a .kind) (a .t3) (rc .result) (rc .ensures) (lp .stage) (omega arith)
     (sym (c .before .before .before .before .before .before .consulted .ensures) ∙ c .before .before .before .before .before .if1 .taken)
     (ap someBit (sym (c .before .before .before .stage-bit .ensures) ∙ c .before .enum-told .given .1))
-    (lp .inv .1))
+    (lp .inv .1)))
 
 loop-again : tie.Need-loop-again Inv-loop μ-loop
 unfolding heldAt
@@ -47,7 +50,8 @@ returns-2 c =
     let lp = c .before .before .loop in
     let a = c .before .before .before .before .args in
     let rc = c .before .before .before .capability-of in
-    c .unforced .ensures ∙ sym (choice-by-type (a .bits) (a .kind) (a .t3) (rc .result) (rc .ensures) (λ m h. lp .inv .1 m (omega arith)))
+    asks (a .bits) (a .kind) (a .t3)
+    (c .unforced .ensures ∙ sym (choice-by-type (a .bits) (a .kind) (a .t3) (rc .result) (rc .ensures) (λ m h. lp .inv .1 m (omega arith))))
 
 pub choose-spec : {M : Type 1} → statement M
 choose-spec =

@@ -5,7 +5,7 @@ use Prim.Native.Nat.{ℕ}
 use borrow.Author.Needs.{needs}
 use borrow.Author.Tests.{eq-eqb, ne-eqb}
 use Rattle.basics.proofs.Laws.{either-left, either-false}
-use Rattle.analysis.specs.Choice.{laterStage, consulted as isConsulted}
+use Rattle.analysis.specs.Inner.{laterStage, consulted as isConsulted}
 use Rattle.analysis.specs.declared.choice.Capability.the-variants.{OnlineOnly, OnlineCapable, OfflineOnly, Unlisted}
 use Rattle.analysis.specs.declared.choice.Capability.{Capability}
 use Rattle.analysis.proofs.choice.consulted.Statement.{statement}

@@ -5,7 +5,7 @@ use borrow.Author.Needs.{needs}
 use borrow.Author.Tests.{not-true, not-false}
 use Rattle.basics.proofs.Laws.{both-yes, both-no-left, either-left}
 use Rattle.basics.specs.Choice.{both, either}
-use Rattle.analysis.specs.Choice.{heldIn}
+use Rattle.analysis.specs.Inner.{heldIn}
 use Rattle.analysis.proofs.choice.held.Statement.{statement}
 use Rattle.analysis.proofs.choice.held.Tie as tie
 

@@ -5,7 +5,7 @@ use Prim.Native.Nat.{_+_}
 use native.Mathlib.Omega.{arith}
 use lib.ListN.{getD}
 use borrow.Author.Needs.{needs}
-use Rattle.analysis.specs.Digits.{twoDigits}
+use Rattle.analysis.specs.Inner.{twoDigits}
 use Rattle.analysis.proofs.Decimal.{decimal-three}
 use Rattle.analysis.proofs.digits.six_digits.Statement.{statement}
 use Rattle.analysis.proofs.digits.six_digits.Tie as tie

@@ -3,7 +3,7 @@
 use mathlib.Core.Path.{refl}
 use native.Mathlib.Omega.{arith}
 use borrow.Author.Needs.{needs}
-use Rattle.analysis.specs.Digits.{twoDigits}
+use Rattle.analysis.specs.Inner.{twoDigits}
 use Rattle.analysis.proofs.digits.two_digits.Statement.{statement}
 use Rattle.analysis.proofs.digits.two_digits.Tie as tie
 

@@ -1,0 +1,305 @@
+-- Result bits and the choice on both sides of each rule's edge, by computation: each needed bit alone, and all bits but it.
+-- Assumes nothing.
+use mathlib.Core.Path.{_≡_, refl}
+use mathlib.Core.Bool.{true, false}
+use mathlib.Core.List.{List, [], _∷_, map}
+use Prim.Native.Nat.{ℕ}
+use lib.ListN.{replicate}
+use Rattle.basics.specs.Alike.{alike}
+use Rattle.basics.specs.Choice.{if, both, either}
+use Rattle.basics.specs.Number.{nibbles}
+use Rattle.dictionary.specs.Named.{placeOf}
+use Rattle.dictionary.specs.Rows.{rows, past, find, storeSize}
+use Rattle.store.specs.Place.{Value, absent, present, offsetIn, placeAt, held, valueAt, putAt, valueIn}
+use Rattle.analysis.specs.Action.{aboveLimit, limitOf, usageIn, restrictionsOf, resultOf, codesOf, chosen}
+use Rattle.analysis.specs.Bits.{bit}
+use Rattle.analysis.specs.Choice.{denial, online, default, holdsBit, lowestFrom, lowestBit, noBits, allBits, cardCode, heldAt, capabilityAt, choiceOf, p1Of, p1For}
+use Rattle.analysis.specs.Digits.{decimalFrom, dateOf, laterThan, amountOf, amountAbove}
+use Rattle.analysis.specs.Restrictions.{otherVersion, expired, notYetEffective, atAtm, countryOf, cashback, placeMet, cashMet, goodsMet, cashbackMet, usageBroken, usageOf, restrictionBits}
+use Rattle.analysis.specs.Result.{floorBits, resultBits}
+use Rattle.analysis.specs.Value.{front}
+use Rattle.analysis.specs.declared.choice.Choice.the-variants.{Decline, Online, Offline}
+use Rattle.analysis.specs.declared.choice.Lowest.the-variants.{Bit, NoBit}
+use Rattle.analysis.specs.declared.restrictions.Country.the-variants.{Home, Abroad, NotGiven}
+
+-- ---- dates, amounts and versions
+
+-- equal, one day after, one day before; the first of a year after the last of another; no century is read
+dates : map (laterThan (0x25 ∷ 0x12 ∷ 0x31 ∷ []))
+    ((0x25 ∷ 0x12 ∷ 0x31 ∷ []) ∷ (0x25 ∷ 0x12 ∷ 0x30 ∷ []) ∷ (0x26 ∷ 0x01 ∷ 0x01 ∷ []) ∷ (0x00 ∷ 0x01 ∷ 0x01 ∷ []) ∷ (0x99 ∷ 0x12 ∷ 0x31 ∷ []) ∷ [])
+    ≡ false ∷ true ∷ false ∷ true ∷ false ∷ []
+unfolding laterThan dateOf front decimalFrom nibbles
+dates = refl
+
+-- expired by the transaction date after the expiration date, not yet effective by the effective date after the transaction date
+expirations : map (expired (0x25 ∷ 0x12 ∷ 0x31 ∷ [])) ((0x25 ∷ 0x12 ∷ 0x30 ∷ []) ∷ (0x25 ∷ 0x12 ∷ 0x31 ∷ []) ∷ []) ≡ true ∷ false ∷ []
+unfolding laterThan dateOf front decimalFrom nibbles
+expirations = refl
+
+effective-dates : map (λ (v : Value). notYetEffective v (0x25 ∷ 0x12 ∷ 0x31 ∷ []))
+    (present (0x26 ∷ 0x01 ∷ 0x01 ∷ []) ∷ present (0x25 ∷ 0x12 ∷ 0x31 ∷ []) ∷ absent ∷ [])
+    ≡ true ∷ false ∷ false ∷ []
+unfolding notYetEffective laterThan dateOf front decimalFrom nibbles
+effective-dates = refl
+
+-- equal, one above, one below; the highest digit of twelve
+amounts : map (amountAbove (0 ∷ 0 ∷ 0 ∷ 0 ∷ 0x10 ∷ 0x00 ∷ []))
+    ((0 ∷ 0 ∷ 0 ∷ 0 ∷ 0x10 ∷ 0x00 ∷ []) ∷ (0 ∷ 0 ∷ 0 ∷ 0 ∷ 0x09 ∷ 0x99 ∷ []) ∷ (0 ∷ 0 ∷ 0 ∷ 0 ∷ 0x10 ∷ 0x01 ∷ []) ∷ (0x10 ∷ 0 ∷ 0 ∷ 0 ∷ 0 ∷ 0 ∷ []) ∷ [])
+    ≡ false ∷ true ∷ false ∷ false ∷ []
+unfolding amountAbove amountOf front decimalFrom nibbles
+amounts = refl
+
+-- another amount: absent, zero, one, and the highest digit alone
+other-amounts : map cashback (absent ∷ present (0 ∷ 0 ∷ 0 ∷ 0 ∷ 0 ∷ 0 ∷ []) ∷ present (0 ∷ 0 ∷ 0 ∷ 0 ∷ 0 ∷ 0x01 ∷ []) ∷ present (0x10 ∷ 0 ∷ 0 ∷ 0 ∷ 0 ∷ 0 ∷ []) ∷ [])
+    ≡ false ∷ false ∷ true ∷ true ∷ []
+unfolding cashback amountOf front decimalFrom nibbles
+other-amounts = refl
+
+-- the card's version: absent, the reader's, unlike it in the last byte and in the first
+versions : map (λ (v : Value). otherVersion v (0x00 ∷ 0x02 ∷ [])) (absent ∷ present (0x00 ∷ 0x02 ∷ []) ∷ present (0x00 ∷ 0x03 ∷ []) ∷ present (0x01 ∷ 0x02 ∷ []) ∷ [])
+    ≡ false ∷ false ∷ true ∷ true ∷ []
+unfolding otherVersion alike both
+versions = refl
+
+-- ---- usage
+
+-- an ATM's types, with cash among the additional capabilities
+atm-types : map (λ k. atAtm k (present (0x80 ∷ 0 ∷ 0 ∷ 0 ∷ 0 ∷ []))) (0x13 ∷ 0x14 ∷ 0x15 ∷ 0x16 ∷ 0x17 ∷ 0x24 ∷ 0x26 ∷ 0x34 ∷ [])
+    ≡ false ∷ true ∷ true ∷ true ∷ false ∷ false ∷ false ∷ false ∷ []
+unfolding atAtm both either
+atm-types = refl
+
+-- cash: byte 1 b8 alone, every other bit, no capabilities
+atm-cash : map (atAtm 0x14) (present (0x80 ∷ 0 ∷ 0 ∷ 0 ∷ 0 ∷ []) ∷ present (0x7F ∷ 0xFF ∷ 0xFF ∷ 0xFF ∷ 0xFF ∷ []) ∷ absent ∷ []) ≡ true ∷ false ∷ false ∷ []
+unfolding atAtm both either
+atm-cash = refl
+
+-- the issuer's country: the terminal's, another, absent
+countries : map (λ (v : Value). countryOf v (0x08 ∷ 0x40 ∷ [])) (present (0x08 ∷ 0x40 ∷ []) ∷ present (0x08 ∷ 0x26 ∷ []) ∷ absent ∷ []) ≡ Home ∷ Abroad ∷ NotGiven ∷ []
+unfolding countryOf alike both if
+countries = refl
+
+-- the place: byte 1 b2 at an ATM, b1 elsewhere
+place-atm : map (λ u. placeMet u true) ((0x02 ∷ 0x00 ∷ []) ∷ (0xFD ∷ 0xFF ∷ []) ∷ []) ≡ true ∷ false ∷ []
+unfolding placeMet if
+place-atm = refl
+
+place-other : map (λ u. placeMet u false) ((0x01 ∷ 0x00 ∷ []) ∷ (0xFE ∷ 0xFF ∷ []) ∷ []) ≡ true ∷ false ∷ []
+unfolding placeMet if
+place-other = refl
+
+-- transaction types with no bit set: cash for 01 and 17, goods and services for 00 and 09
+cash-types : map (cashMet (0 ∷ 0 ∷ []) Home) (0x01 ∷ 0x17 ∷ 0x00 ∷ 0x02 ∷ 0x08 ∷ 0x09 ∷ 0x16 ∷ 0x18 ∷ 0x20 ∷ [])
+    ≡ false ∷ false ∷ true ∷ true ∷ true ∷ true ∷ true ∷ true ∷ true ∷ []
+unfolding cashMet if either
+cash-types = refl
+
+goods-types : map (goodsMet (0 ∷ 0 ∷ []) Home) (0x00 ∷ 0x09 ∷ 0x01 ∷ 0x02 ∷ 0x08 ∷ 0x10 ∷ 0x16 ∷ 0x17 ∷ 0x20 ∷ [])
+    ≡ false ∷ false ∷ true ∷ true ∷ true ∷ true ∷ true ∷ true ∷ true ∷ []
+unfolding goodsMet if either
+goods-types = refl
+
+-- cash: byte 1 b8 at home, b7 abroad, nothing where the country is not given
+cash-home : map (λ u. cashMet u Home 0x01) ((0x80 ∷ 0x00 ∷ []) ∷ (0x7F ∷ 0xFF ∷ []) ∷ []) ≡ true ∷ false ∷ []
+unfolding cashMet if either
+cash-home = refl
+
+cash-abroad : map (λ u. cashMet u Abroad 0x17) ((0x40 ∷ 0x00 ∷ []) ∷ (0xBF ∷ 0xFF ∷ []) ∷ []) ≡ true ∷ false ∷ []
+unfolding cashMet if either
+cash-abroad = refl
+
+cash-anywhere : cashMet (0x00 ∷ 0x00 ∷ []) NotGiven 0x01 ≡ true
+unfolding cashMet if either
+cash-anywhere = refl
+
+-- goods and services: byte 1 b6 or b4 at home, b5 or b3 abroad
+goods-home : map (λ u. goodsMet u Home 0x00) ((0x20 ∷ 0x00 ∷ []) ∷ (0x08 ∷ 0x00 ∷ []) ∷ (0xD7 ∷ 0xFF ∷ []) ∷ []) ≡ true ∷ true ∷ false ∷ []
+unfolding goodsMet if either
+goods-home = refl
+
+goods-abroad : map (λ u. goodsMet u Abroad 0x09) ((0x10 ∷ 0x00 ∷ []) ∷ (0x04 ∷ 0x00 ∷ []) ∷ (0xEB ∷ 0xFF ∷ []) ∷ []) ≡ true ∷ true ∷ false ∷ []
+unfolding goodsMet if either
+goods-abroad = refl
+
+-- cashback: byte 2 b8 at home, b7 abroad, nothing where none is asked for
+cashback-home : map (λ u. cashbackMet u Home true) ((0x00 ∷ 0x80 ∷ []) ∷ (0xFF ∷ 0x7F ∷ []) ∷ []) ≡ true ∷ false ∷ []
+unfolding cashbackMet if
+cashback-home = refl
+
+cashback-abroad : map (λ u. cashbackMet u Abroad true) ((0x00 ∷ 0x40 ∷ []) ∷ (0xFF ∷ 0xBF ∷ []) ∷ []) ≡ true ∷ false ∷ []
+unfolding cashbackMet if
+cashback-abroad = refl
+
+cashback-not-asked : cashbackMet (0x00 ∷ 0x00 ∷ []) Home false ≡ true
+unfolding cashbackMet if
+cashback-not-asked = refl
+
+-- goods at home with cashback at no ATM: all three bits, each of them missing, and no control
+usage-whole : map (λ (v : Value). usageOf v 0x22 absent (present (0x08 ∷ 0x40 ∷ [])) (0x08 ∷ 0x40 ∷ []) 0x00 (present (0 ∷ 0 ∷ 0 ∷ 0 ∷ 0 ∷ 0x01 ∷ [])))
+    (present (0x21 ∷ 0x80 ∷ []) ∷ present (0x20 ∷ 0x80 ∷ []) ∷ present (0x01 ∷ 0x80 ∷ []) ∷ present (0x21 ∷ 0x00 ∷ []) ∷ absent ∷ [])
+    ≡ false ∷ true ∷ true ∷ true ∷ false ∷ []
+unfolding usageBroken placeMet cashMet goodsMet cashbackMet atAtm countryOf cashback amountOf front decimalFrom nibbles alike both either if
+usage-whole = refl
+
+-- cash at home at an ATM
+usage-cash : map (λ (v : Value). usageOf v 0x14 (present (0x80 ∷ 0 ∷ 0 ∷ 0 ∷ 0 ∷ [])) (present (0x08 ∷ 0x40 ∷ [])) (0x08 ∷ 0x40 ∷ []) 0x01 absent)
+    (present (0x82 ∷ 0x00 ∷ []) ∷ present (0x81 ∷ 0x00 ∷ []) ∷ present (0x02 ∷ 0x00 ∷ []) ∷ [])
+    ≡ false ∷ true ∷ true ∷ []
+unfolding usageBroken placeMet cashMet goodsMet cashbackMet atAtm countryOf cashback alike both either if
+usage-cash = refl
+
+-- ---- result bits
+
+-- byte 2: each test at its bit
+restriction-bits : restrictionBits true false false false ∷ restrictionBits false true false false ∷ restrictionBits false false true false ∷ restrictionBits false false false true
+    ∷ restrictionBits false false false false ∷ []
+    ≡ 0x80 ∷ 0x40 ∷ 0x20 ∷ 0x10 ∷ 0x00 ∷ []
+unfolding if
+restriction-bits = refl
+
+-- byte 4: the floor limit, at it and one above it
+floor-bits : map (λ a. floorBits a (0 ∷ 0 ∷ 0 ∷ 0 ∷ 0x10 ∷ 0x00 ∷ [])) ((0 ∷ 0 ∷ 0 ∷ 0 ∷ 0x10 ∷ 0x00 ∷ []) ∷ (0 ∷ 0 ∷ 0 ∷ 0 ∷ 0x10 ∷ 0x01 ∷ []) ∷ []) ≡ 0x00 ∷ 0x80 ∷ []
+unfolding amountAbove amountOf front decimalFrom nibbles if
+floor-bits = refl
+
+-- each byte at its place
+result-bytes : resultBits 0xF0 0x80 ≡ 0x80 ∷ 0xF0 ∷ 0x00 ∷ 0x80 ∷ 0x00 ∷ []
+result-bytes = refl
+
+-- ---- the choice
+
+-- bits by number: byte 1 b8, byte 1 b1, byte 2 b8, byte 5 b1; and one that the codes do not have
+bit-numbers : map (λ s. lowestBit s (record { card = s; terminal = noBits }))
+    ((0x80 ∷ 0 ∷ 0 ∷ 0 ∷ 0 ∷ []) ∷ (0x01 ∷ 0 ∷ 0 ∷ 0 ∷ 0 ∷ []) ∷ (0 ∷ 0x80 ∷ 0 ∷ 0 ∷ 0 ∷ []) ∷ (0 ∷ 0 ∷ 0 ∷ 0 ∷ 0x01 ∷ []) ∷ noBits ∷ [])
+    ≡ Bit 0 ∷ Bit 7 ∷ Bit 8 ∷ Bit 39 ∷ NoBit ∷ []
+unfolding lowestBit lowestFrom holdsBit bit both either if
+bit-numbers = refl
+
+-- held by the card's code alone, by the terminal's alone, by neither
+held-bits : map (lowestBit (0x80 ∷ 0 ∷ 0 ∷ 0 ∷ 0 ∷ []))
+    (record { card = 0x80 ∷ 0 ∷ 0 ∷ 0 ∷ 0 ∷ []; terminal = noBits } ∷ record { card = noBits; terminal = 0x80 ∷ 0 ∷ 0 ∷ 0 ∷ 0 ∷ [] }
+    ∷ record { card = 0x7F ∷ 0xFF ∷ 0xFF ∷ 0xFF ∷ 0xFF ∷ []; terminal = 0x7F ∷ 0xFF ∷ 0xFF ∷ 0xFF ∷ 0xFF ∷ [] } ∷ [])
+    ≡ Bit 0 ∷ Bit 0 ∷ NoBit ∷ []
+unfolding lowestBit lowestFrom holdsBit bit both either if
+held-bits = refl
+
+-- an absent card code: zeros for denial, ones for online and default
+absent-codes : map (λ s. cardCode s absent) (denial ∷ online ∷ default ∷ [])
+    ≡ (0x00 ∷ 0x00 ∷ 0x00 ∷ 0x00 ∷ 0x00 ∷ []) ∷ (0xFF ∷ 0xFF ∷ 0xFF ∷ 0xFF ∷ 0xFF ∷ []) ∷ (0xFF ∷ 0xFF ∷ 0xFF ∷ 0xFF ∷ 0xFF ∷ []) ∷ []
+unfolding cardCode if
+absent-codes = refl
+
+-- P1 by the type, 95 of 80 00 00 00 00 and the terminal's codes: for denial, online and default
+abbrev asked : List ℕ → List ℕ → List ℕ → ℕ → ℕ
+asked d o f kind = p1For (0x80 ∷ 0 ∷ 0 ∷ 0 ∷ 0 ∷ []) kind
+    (record { card = noBits; terminal = d } ∷ record { card = noBits; terminal = o } ∷ record { card = noBits; terminal = f } ∷ [])
+
+-- types that end in 1 to 6, and in 0 and 7, which no session takes
+abbrev endings : List ℕ
+endings = 0x21 ∷ 0x22 ∷ 0x23 ∷ 0x24 ∷ 0x25 ∷ 0x26 ∷ 0x20 ∷ 0x27 ∷ []
+
+-- a bit in no code; in the online code; in the default code; in the denial code and all others
+no-bit : map (asked noBits noBits noBits) endings ≡ 0x80 ∷ 0x40 ∷ 0x40 ∷ 0x80 ∷ 0x40 ∷ 0x40 ∷ 0x00 ∷ 0x00 ∷ []
+unfolding p1For heldAt lowestBit lowestFrom holdsBit bit both either if
+no-bit = refl
+
+online-bit : map (asked noBits allBits noBits) endings ≡ 0x80 ∷ 0x80 ∷ 0x40 ∷ 0x80 ∷ 0x80 ∷ 0x40 ∷ 0x00 ∷ 0x00 ∷ []
+unfolding p1For heldAt lowestBit lowestFrom holdsBit bit both either if
+online-bit = refl
+
+default-bit : map (asked noBits noBits allBits) endings ≡ 0x80 ∷ 0x40 ∷ 0x00 ∷ 0x80 ∷ 0x40 ∷ 0x00 ∷ 0x00 ∷ 0x00 ∷ []
+unfolding p1For heldAt lowestBit lowestFrom holdsBit bit both either if
+default-bit = refl
+
+denial-bit : map (asked allBits allBits allBits) endings ≡ 0x00 ∷ 0x00 ∷ 0x00 ∷ 0x00 ∷ 0x00 ∷ 0x00 ∷ 0x00 ∷ 0x00 ∷ []
+unfolding p1For heldAt lowestBit lowestFrom holdsBit bit both either if
+denial-bit = refl
+
+-- the number of each choice
+choice-numbers : map p1Of (Decline ∷ Offline ∷ Online ∷ []) ≡ 0x00 ∷ 0x40 ∷ 0x80 ∷ []
+choice-numbers = refl
+
+-- ---- the tags that the rules name, in a store of a purchase
+
+-- a store with a value under a tag
+abbrev with : List ℕ → ℕ → List ℕ → List ℕ
+with b t v = putAt rows b (placeOf t) v
+
+-- 10.00 on 31 December 2025 at both limits, with a card of the reader's version that expires on that day; type 22, codes of zeros
+abbrev purchase : List ℕ
+purchase =
+    with (with (with (with (with (with (with (with (with (with (with (with (replicate storeSize 0)
+    0x9A (0x25 ∷ 0x12 ∷ 0x31 ∷ [])) 0x5F24 (0x25 ∷ 0x12 ∷ 0x31 ∷ [])) 0x9C (0x00 ∷ []))
+    0x9F02 (0 ∷ 0 ∷ 0 ∷ 0 ∷ 0x10 ∷ 0x00 ∷ [])) 0xDF8123 (0 ∷ 0 ∷ 0 ∷ 0 ∷ 0x10 ∷ 0x00 ∷ [])) 0xDF8124 (0 ∷ 0 ∷ 0 ∷ 0 ∷ 0x10 ∷ 0x00 ∷ []))
+    0x9F09 (0x00 ∷ 0x02 ∷ [])) 0x9F1A (0x08 ∷ 0x40 ∷ [])) 0x9F35 (0x22 ∷ []))
+    0xDF8120 noBits) 0xDF8121 noBits) 0xDF8122 noBits
+
+-- one object more, or changed
+abbrev changed : ℕ → List ℕ → List ℕ
+changed t v = resultOf (with purchase t v)
+
+results : resultOf purchase
+    ∷ changed 0x9F08 (0x00 ∷ 0x03 ∷ [])
+    ∷ changed 0x5F24 (0x25 ∷ 0x12 ∷ 0x30 ∷ [])
+    ∷ changed 0x5F25 (0x26 ∷ 0x01 ∷ 0x01 ∷ [])
+    ∷ changed 0x9F07 (0x00 ∷ 0x00 ∷ [])
+    ∷ changed 0xDF8123 (0 ∷ 0 ∷ 0 ∷ 0 ∷ 0x09 ∷ 0x99 ∷ [])
+    ∷ []
+    ≡ (0x80 ∷ 0x00 ∷ 0 ∷ 0x00 ∷ 0 ∷ [])
+    ∷ (0x80 ∷ 0x80 ∷ 0 ∷ 0x00 ∷ 0 ∷ [])
+    ∷ (0x80 ∷ 0x40 ∷ 0 ∷ 0x00 ∷ 0 ∷ [])
+    ∷ (0x80 ∷ 0x20 ∷ 0 ∷ 0x00 ∷ 0 ∷ [])
+    ∷ (0x80 ∷ 0x10 ∷ 0 ∷ 0x00 ∷ 0 ∷ [])
+    ∷ (0x80 ∷ 0x00 ∷ 0 ∷ 0x80 ∷ 0 ∷ [])
+    ∷ []
+unfolding resultOf restrictionsOf usageIn otherVersion notYetEffective usageBroken placeMet cashMet goodsMet cashbackMet atAtm countryOf cashback
+    amountAbove amountOf laterThan dateOf front decimalFrom nibbles alike both either if
+    putAt placeOf valueIn valueAt placeAt held offsetIn find past rows
+results = refl
+
+-- usage: 9F07 lets goods at home be bought at no ATM; then abroad by 5F28, at home by it, with cashback by 9F03, cash by 9C,
+-- at an ATM by 9F35 and 9F40
+abbrev used : List (ℕ × List ℕ) → List ℕ
+used [] = with purchase 0x9F07 (0x21 ∷ 0x00 ∷ [])
+used ((t, v) ∷ more) = with (used more) t v
+
+abbrev home : ℕ × List ℕ
+home = (0x5F28, 0x08 ∷ 0x40 ∷ [])
+
+usages : map usageIn
+    (used []
+    ∷ used ((0x5F28, 0x08 ∷ 0x26 ∷ []) ∷ [])
+    ∷ used (home ∷ [])
+    ∷ used ((0x9F1A, 0x08 ∷ 0x26 ∷ []) ∷ home ∷ [])
+    ∷ used ((0x9F03, 0 ∷ 0 ∷ 0 ∷ 0 ∷ 0 ∷ 0x01 ∷ []) ∷ home ∷ [])
+    ∷ used ((0x9C, 0x01 ∷ []) ∷ home ∷ [])
+    ∷ used ((0x9F35, 0x14 ∷ []) ∷ [])
+    ∷ used ((0x9F40, 0x80 ∷ 0 ∷ 0 ∷ 0 ∷ 0 ∷ []) ∷ (0x9F35, 0x14 ∷ []) ∷ [])
+    ∷ [])
+    ≡ false ∷ true ∷ false ∷ true ∷ true ∷ true ∷ false ∷ true ∷ []
+unfolding usageIn usageBroken placeMet cashMet goodsMet cashbackMet atAtm countryOf cashback amountOf front decimalFrom nibbles alike both either if
+    putAt placeOf valueIn valueAt placeAt held offsetIn find past rows
+usages = refl
+
+-- the transaction limit DF8124: at it, and one above it
+limits : aboveLimit purchase ∷ aboveLimit (with purchase 0xDF8124 (0 ∷ 0 ∷ 0 ∷ 0 ∷ 0x09 ∷ 0x99 ∷ [])) ∷ [] ≡ false ∷ true ∷ []
+unfolding aboveLimit limitOf amountAbove amountOf front decimalFrom nibbles if
+    putAt placeOf valueIn valueAt placeAt held offsetIn find past rows
+limits = refl
+
+-- P1 in that store with the three card codes of zeros, a terminal's type, and a code of ones
+abbrev asks : ℕ → ℕ → ℕ
+asks kind t =
+    p1Of (chosen (with (with (with (with (with purchase 0x9F0E noBits) 0x9F0F noBits) 0x9F0D noBits) 0x9F35 (kind ∷ [])) t allBits) (0x80 ∷ 0 ∷ 0 ∷ 0 ∷ 0 ∷ []))
+
+-- type 22 by the denial codes 9F0E and DF8121, the online codes 9F0F and DF8122, the default codes 9F0D and DF8120
+codes-22 : map (asks 0x22) (0x9F0E ∷ 0xDF8121 ∷ 0x9F0F ∷ 0xDF8122 ∷ 0x9F0D ∷ 0xDF8120 ∷ []) ≡ 0x00 ∷ 0x00 ∷ 0x80 ∷ 0x80 ∷ 0x40 ∷ 0x40 ∷ []
+unfolding chosen codesOf cardCode choiceOf capabilityAt heldAt lowestBit lowestFrom holdsBit bit front both either if
+    putAt placeOf valueIn valueAt placeAt held offsetIn find past rows
+codes-22 = refl
+
+-- type 23 by the same
+codes-23 : map (asks 0x23) (0x9F0E ∷ 0xDF8121 ∷ 0x9F0F ∷ 0xDF8122 ∷ 0x9F0D ∷ 0xDF8120 ∷ []) ≡ 0x00 ∷ 0x00 ∷ 0x40 ∷ 0x40 ∷ 0x00 ∷ 0x00 ∷ []
+unfolding chosen codesOf cardCode choiceOf capabilityAt heldAt lowestBit lowestFrom holdsBit bit front both either if
+    putAt placeOf valueIn valueAt placeAt held offsetIn find past rows
+codes-23 = refl

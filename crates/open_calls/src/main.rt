@@ -1,0 +1,113 @@
+// Calls every open function that no other proved code calls, so that each has a caller that must meet what it asks.
+//
+// Each call stands in a function that asks nothing and hands on its own arguments: a condition that some
+// arguments do not meet is refused here. `tests/called` names the functions that nothing calls.
+use dictionary::SIZE;
+use layout::{Held, RECORD_SIZE};
+use record::Session;
+use run::Said;
+
+fn main() {
+    statements();
+    parts();
+    calls();
+}
+
+// ---- functions that stand for a statement
+
+fn statements() {
+    line(b"bench::rows", bench::rows());
+    line(b"trace::most_commands", trace::most_commands());
+    let rows = dictionary::used_rows();
+    line(b"dictionary::used_rows, the last", rows[30]);
+}
+
+// ---- the record
+
+fn parts() {
+    line(b"run::said_number", basics::wide(said_number(Said::Played)));
+    if in_ranges(record::fresh()) {
+        show::text(b"record::in_ranges: a fresh session is\n");
+    }
+    let held = decode(b"");
+    let Held::Nothing = held else {
+        return;
+    };
+    show::text(b"layout::decode: no bytes hold no record\n");
+}
+
+fn in_ranges(session: Session) -> bool {
+    record::in_ranges(session)
+}
+
+fn decode(bytes: &[u8]) -> Held {
+    let mut store = [0u8; SIZE];
+    layout::decode(bytes, &mut store)
+}
+
+fn said_number(said: Said) -> u8 {
+    run::said_number(said)
+}
+
+// ---- the exported calls
+
+fn calls() {
+    let mut session = [0u8; RECORD_SIZE];
+    let mut command = [0u8; 261];
+    let mut store = [0u8; SIZE];
+    line(b"emv_session_size", host::emv_session_size());
+    word(b"emv_open", open(&mut session));
+    word(b"emv_start", start(&mut session, b"", &mut command));
+    word(b"emv_answer", answer(&mut session, b"\x90\x00", &mut command));
+    word(b"emv_link_failed", link_failed(&mut session, &mut command));
+    word(b"emv_stop", stop(&mut session, &mut command));
+    word(b"emv_count", count(&session));
+    word(b"emv_test_read", test_read(&mut store, 1, 1, b"\x70\x00\x90\x00"));
+}
+
+fn open(session: &mut [u8]) -> u32 {
+    host::emv_open(session)
+}
+
+fn start(session: &mut [u8], terminal: &[u8], command: &mut [u8]) -> u32 {
+    host::emv_start(session, terminal, command)
+}
+
+fn answer(session: &mut [u8], card: &[u8], command: &mut [u8]) -> u32 {
+    host::emv_answer(session, card, command)
+}
+
+fn link_failed(session: &mut [u8], command: &mut [u8]) -> u32 {
+    host::emv_link_failed(session, command)
+}
+
+fn stop(session: &mut [u8], command: &mut [u8]) -> u32 {
+    host::emv_stop(session, command)
+}
+
+fn count(session: &[u8]) -> u32 {
+    host::emv_count(session)
+}
+
+fn test_read(store: &mut [u8], awaited: u32, file: u8, card: &[u8]) -> u32 {
+    reading_test::emv_test_read(store, awaited, file, card)
+}
+
+// ---- lines
+
+fn line(name: &[u8], number: usize) {
+    show::text(name);
+    show::text(b": ");
+    show::number(number);
+    show::text(b"\n");
+}
+
+// A result word by its upper and its lower half.
+fn word(name: &[u8], word: u32) {
+    show::text(name);
+    show::text(b": ");
+    show::number((word / 65536) as usize);
+    show::text(b" ");
+    show::number((word % 65536) as usize);
+    show::text(b"\n");
+}

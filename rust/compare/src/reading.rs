@@ -1,0 +1,344 @@
+//! Single readings: one answer read by the model and by the library, with its reason, its object count and the whole store.
+//!
+//! The count is compared with the tree's as well, which is counted apart from any reading.
+
+use crate::objects::{self, TEMPLATES, UNKNOWN};
+use crate::rng::Rng;
+use crate::step::Hex;
+use crate::{card, damage};
+use model::dictionary::Object;
+use model::reading::{self, AnswerTo};
+use model::store::Store;
+use model::{tlv, STORE_SIZE};
+use std::fmt::Write as _;
+
+/// The answers by the library's numbers.
+const ANSWERS: [AnswerTo; 3] = [AnswerTo::Options, AnswerTo::Record, AnswerTo::Cryptogram];
+
+/// The side that is compared with the model: the library's word of one reading.
+#[cfg(feature = "library")]
+use reading_test::read as other;
+
+/// Without the library the model is compared with itself.
+#[cfg(not(feature = "library"))]
+fn other(store: &mut [u8], awaited: u32, file: u8, card: &[u8]) -> u32 {
+    let (Ok(store), Some(&to)) = (store.try_into(), ANSWERS.get(awaited as usize)) else {
+        return NOT_READ;
+    };
+    let (reason, count) = model::read_answer(store, to, file, card);
+    u32::from(reason) << 16 | count
+}
+
+/// The word where nothing is read.
+const NOT_READ: u32 = 0xFFFF_FFFF;
+
+/// What some readings reached.
+#[derive(Clone, Debug, Default, PartialEq, Eq)]
+pub struct Reached {
+    /// Readings made.
+    pub readings: u64,
+    /// By answer (options, record, cryptogram) and reason, 0 to 3.
+    pub reasons: [[u64; 4]; 3],
+    /// Accepted under tag 80, by answer.
+    pub format_1: [u64; 3],
+    /// Reason 2 under tag 80, counted as one object, by answer.
+    pub format_1_refused: [u64; 3],
+    /// A template of another tag than the answer's, counted as its whole tree of more than one object, by answer.
+    pub other_template: [u64; 3],
+    /// A primitive object of another tag than 80, by answer.
+    pub other_primitive: [u64; 3],
+    /// Accepted or not allowed trees by their depth, 1 to 4.
+    pub depths: [u64; 4],
+    /// Trees of five levels, which are malformed.
+    pub five_levels: u64,
+    /// Records above file 10 with a good status.
+    pub unread: u64,
+    /// Answers under 2 bytes, and over 258.
+    pub lengths: [u64; 2],
+    /// The greatest count.
+    pub greatest: u32,
+}
+
+impl Reached {
+    /// What should be reached and never was.
+    pub fn missing(&self) -> Vec<String> {
+        let mut missing = Vec::new();
+        let mut need = |counts: &[u64], what: &str| {
+            for (i, _) in counts.iter().enumerate().filter(|(_, &count)| count == 0) {
+                missing.push(format!("{what} {i}"));
+            }
+        };
+        for (answer, reasons) in ["options", "record", "cryptogram"]
+            .iter()
+            .zip(&self.reasons)
+        {
+            need(reasons, &format!("{answer} with reason"));
+        }
+        let [options, _, cryptogram] = self.format_1;
+        need(&[options, cryptogram], "accepted under 80");
+        need(&self.format_1_refused, "refused under 80");
+        need(&self.other_template, "another template");
+        need(&self.other_primitive, "another primitive object");
+        need(&self.depths, "depth 1 +");
+        need(&[self.five_levels], "five levels");
+        need(&[self.unread], "a file above 10");
+        need(&self.lengths, "length out of range");
+        need(&[u64::from(self.greatest >= 120)], "a count of 120");
+        missing
+    }
+
+    /// Counts one reading.
+    fn count(&mut self, reading: &Reading, reason: u8, count: u32) {
+        let answer = reading.awaited as usize;
+        self.readings += 1;
+        self.reasons[answer][usize::from(reason)] += 1;
+        self.greatest = self.greatest.max(count);
+        let length = reading.card.len();
+        self.lengths[0] += u64::from(length < 2);
+        self.lengths[1] += u64::from(length > 258);
+        let Ok(body) = reading::body(&reading.card) else {
+            return;
+        };
+        if reading.is_unread() {
+            self.unread += 1;
+            return;
+        }
+        let Some((tag, _, [])) = tlv::split_object(body) else {
+            return;
+        };
+        let wanted = if answer == 1 { 0x70 } else { 0x77 };
+        match (tag.is_template(), tag.number) {
+            (false, 0x80) if reason == 0 => self.format_1[answer] += 1,
+            (false, 0x80) => self.format_1_refused[answer] += u64::from((reason, count) == (2, 1)),
+            (false, _) => self.other_primitive[answer] += u64::from(count == 1),
+            (true, number) if number != wanted => {
+                self.other_template[answer] += u64::from(count > 1);
+            }
+            (true, _) => match depth(body) {
+                Some(levels @ 1..=4) => self.depths[levels as usize - 1] += u64::from(count > 0),
+                Some(5) => self.five_levels += 1,
+                _ => {}
+            },
+        }
+    }
+}
+
+/// The depth of a tree's templates, up to 8; none for bytes that are no tree.
+fn depth(body: &[u8]) -> Option<u32> {
+    (0..=8).find(|&levels| tlv::count_objects(body, levels).is_some())
+}
+
+/// One reading: a store, the answer's number, a record's file, and the card's bytes.
+struct Reading {
+    store: Vec<u8>,
+    awaited: u32,
+    file: u8,
+    card: Vec<u8>,
+}
+
+impl Reading {
+    /// Draws a reading, mostly of the answer that is awaited.
+    fn draw(rng: &mut Rng) -> Reading {
+        let awaited = rng.below(3) as u32;
+        let mut session = damage::built_record(rng);
+        session[1] = if rng.one_in(5) {
+            rng.within(1..=3) as u8
+        } else {
+            awaited as u8 + 1
+        };
+        session[2] = 1;
+        if rng.one_in(3) {
+            session[5..].fill(0);
+        }
+        let mut card = match rng.below(6) {
+            0 => {
+                let tree = any_tree(rng);
+                answer_of(rng, tree)
+            }
+            1 => {
+                let tree = many_objects(rng);
+                answer_of(rng, tree)
+            }
+            _ => {
+                let faults = rng.one_in(2);
+                card::answer(rng, &session, faults)
+            }
+        };
+        if rng.one_in(12) {
+            damage::bytes(rng, &mut card);
+        }
+        let mut store = session.split_off(5);
+        if rng.one_in(20) {
+            rng.fill(&mut store);
+        }
+        let file = match rng.below(8) {
+            0 => rng.within(9..=12) as u8,
+            1 => rng.byte(),
+            _ => rng.within(1..=10) as u8,
+        };
+        Reading {
+            store,
+            awaited,
+            file,
+            card,
+        }
+    }
+
+    /// Whether only the status counts.
+    fn is_unread(&self) -> bool {
+        self.awaited == 1 && self.file > 10
+    }
+
+    /// The object count by the tree: none are counted of a bad answer, of bytes that are no tree, or of a file above 10.
+    fn tree_count(&self) -> u32 {
+        let Ok(body) = reading::body(&self.card) else {
+            return 0;
+        };
+        match tlv::split_object(body) {
+            Some((_, _, [])) if !self.is_unread() => {
+                tlv::count_objects(body, reading::LEVELS).unwrap_or(0)
+            }
+            _ => 0,
+        }
+    }
+
+    /// Reads on both sides; an error says what differs.
+    fn compare(&self, reached: &mut Reached) -> Result<(), String> {
+        let to = ANSWERS[self.awaited as usize];
+        let mut store: Store = self.store[..].try_into().expect("a store has its size");
+        let (reason, count) = model::read_answer(&mut store, to, self.file, &self.card);
+        let mut store_other = self.store.clone();
+        let word = other(&mut store_other, self.awaited, self.file, &self.card);
+        let (reason_other, count_other) = ((word >> 16) as u8, word & 0xFFFF);
+        reached.count(self, reason, count);
+        let tree = self.tree_count();
+        if (reason, count, count) != (reason_other, count_other, tree) {
+            return Err(format!(
+                "model: reason {reason}, {count} objects; other: {word:08X}; the tree has {tree}"
+            ));
+        }
+        match store.iter().zip(&store_other).position(|(a, b)| a != b) {
+            Some(at) => Err(format!("store at {at}")),
+            None => Ok(()),
+        }
+    }
+
+    /// Reads nothing: a store of another size, or a number that is no answer. All bytes stay.
+    fn compare_unread(&self, rng: &mut Rng) -> Result<(), String> {
+        let mut store = self.store.clone();
+        let awaited = if rng.one_in(2) {
+            store.resize(
+                rng.pick(&[0, 1, STORE_SIZE - 1, STORE_SIZE + 1, 2000]),
+                0x55,
+            );
+            self.awaited
+        } else {
+            rng.bits() as u32 | 4
+        };
+        let before = store.clone();
+        let word = other(&mut store, awaited, self.file, &self.card);
+        if word != NOT_READ || store != before {
+            return Err(format!(
+                "store of {} bytes, answer {awaited}: {word:08X}",
+                store.len()
+            ));
+        }
+        Ok(())
+    }
+}
+
+/// A body with its status, mostly good.
+fn answer_of(rng: &mut Rng, mut body: Vec<u8>) -> Vec<u8> {
+    body.extend(if rng.one_in(20) {
+        [0x6A, 0x83]
+    } else {
+        [0x90, 0x00]
+    });
+    body
+}
+
+/// An outer template of up to five levels, with objects before and behind each inner one.
+fn any_tree(rng: &mut Rng) -> Vec<u8> {
+    let levels = rng.within(1..=5);
+    let mut inner = some_objects(rng);
+    for level in 1..=levels {
+        let outer = rng.pick(&[0x70, 0x77]);
+        let tag = if level == levels && rng.percent(80) {
+            outer
+        } else {
+            rng.pick(&TEMPLATES)
+        };
+        inner = objects::object(rng, tag, &inner);
+        if level < levels && inner.len() < 180 {
+            let mut with = if rng.one_in(2) {
+                some_objects(rng)
+            } else {
+                Vec::new()
+            };
+            with.extend(inner);
+            with.extend(some_objects(rng));
+            inner = with;
+        }
+    }
+    inner
+}
+
+/// A few objects: unknown ones, private ones of the terminal, known ones that may stand or not.
+fn some_objects(rng: &mut Rng) -> Vec<u8> {
+    let mut list = Vec::new();
+    for _ in 0..rng.below(3) {
+        let (tag, value) = match rng.below(4) {
+            0 => {
+                let object = rng.pick(&Object::ALL);
+                (object.row().tag, objects::good_value(rng, object))
+            }
+            1 => (0xDF8120 + rng.below(5) as u32, vec![0; rng.below(7)]),
+            _ => (rng.pick(&UNKNOWN), vec![0; rng.below(4)]),
+        };
+        if value.len() < 24 {
+            objects::put_object(rng, &mut list, tag, &value);
+        }
+    }
+    list
+}
+
+/// A template with as many empty objects as it has room for, or fewer.
+fn many_objects(rng: &mut Rng) -> Vec<u8> {
+    let empty: [&[u8]; 3] = [&[0x50, 0x00], &[0xC1, 0x00], &[0xE1, 0x00]];
+    let mut content: Vec<u8> = Vec::new();
+    for _ in 0..rng.pick(&[1, 60, 125, 126, 126, 127]) {
+        content.extend(rng.pick(&empty));
+    }
+    let tag = rng.pick(&[0x70, 0x77]);
+    let mut body = vec![tag, 0x81, content.len() as u8];
+    body.extend(content);
+    body
+}
+
+/// Makes this many readings on both sides, from a seed on; an error has the first that differs.
+pub fn run_many(readings: u64, seed: u64) -> Result<Reached, String> {
+    let mut reached = Reached::default();
+    for seed in seed..seed + readings {
+        let mut rng = Rng::new(seed);
+        let reading = Reading::draw(&mut rng);
+        let unread = if seed % 16 == 0 {
+            reading.compare_unread(&mut rng)
+        } else {
+            Ok(())
+        };
+        unread
+            .and_then(|()| reading.compare(&mut reached))
+            .map_err(|what| describe(seed, &reading, &what))?;
+    }
+    Ok(reached)
+}
+
+/// A reading that differs, as text.
+fn describe(seed: u64, reading: &Reading, what: &str) -> String {
+    let mut out = String::new();
+    let _ = writeln!(out, "seed {seed}: {what}");
+    let _ = writeln!(out, "answer {} of file {}", reading.awaited, reading.file);
+    let _ = writeln!(out, "card  {}", Hex(&reading.card));
+    let _ = writeln!(out, "store {}", Hex(&reading.store));
+    out
+}
