@@ -139,10 +139,12 @@ fn wrong_length(size: usize, reason: u8) {
 
 // Where the answer cannot be read, counted from 0, and why. Where all its objects can be, the outer one is at fault.
 fn malformed(walk: Walk) {
-    match walk.ended {
-        tree::BROKEN => malformed_at(walk.at, b"no whole object"),
-        tree::FIFTH => malformed_at(walk.at, b"template on the fifth level"),
-        tree::BEHIND => malformed_at(walk.at, b"behind the one object of an answer"),
+    let at = walk.at;
+    let ended = walk.ended;
+    match ended {
+        tree::BROKEN => malformed_at(at, b"no whole object"),
+        tree::FIFTH => malformed_at(at, b"template on the fifth level"),
+        tree::BEHIND => malformed_at(at, b"behind the one object of an answer"),
         _ => malformed_at(0, b"outer tag or body that this answer does not take"),
     }
 }
