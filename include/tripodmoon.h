@@ -2,12 +2,19 @@
  * docs/HOST.md has the record's layout, the words and how to embed it.
  *
  * The session lies in bytes that the host lends to every call. No call keeps anything between calls,
- * allocates, or does input or output. Lent slices must not overlap. */
+ * allocates, or does input or output. Lent slices must not overlap. A pointer with length 0 is not read or
+ * written, and must not be null. */
 #ifndef TRIPODMOON_H
 #define TRIPODMOON_H
 
 #include <stddef.h>
 #include <stdint.h>
+
+/* The library takes lengths of 64 bits: a host with a shorter size_t stops here, not at a call. */
+#if defined(SIZE_MAX) && SIZE_MAX < 0xFFFFFFFFFFFFFFFF
+#error "tripodmoon needs a size_t of 64 bits: the library is built for x86-64"
+#endif
+typedef char emv_size_t_has_64_bits[sizeof(size_t) == 8 ? 1 : -1];
 
 #ifdef __cplusplus
 extern "C" {
@@ -28,6 +35,35 @@ extern "C" {
 #define EMV_OUTCOME(word) (((word) >> 8) & 0xFFu)
 #define EMV_REASON(word) ((word) & 0xFFu)
 #define EMV_REFUSAL(word) ((word) & 0xFFu)
+
+/* The words of emv_object beside a length and a refusal, told by the same bits. */
+#define EMV_ABSENT 0x00030000u
+#define EMV_UNKNOWN 0x00040000u
+#define EMV_NEEDED 0x00050000u
+#define EMV_IS_VALUE(word) ((((word) >> 16) & 0xFFu) == 0u)
+#define EMV_IS_ABSENT(word) ((((word) >> 16) & 0xFFu) == 3u)
+#define EMV_IS_UNKNOWN(word) ((((word) >> 16) & 0xFFu) == 4u)
+#define EMV_IS_NEEDED(word) ((((word) >> 16) & 0xFFu) == 5u)
+#define EMV_LENGTH(word) ((word) & 0xFFFFu)
+
+/* The most bytes that a value has. */
+#define EMV_MOST_VALUE 254u
+
+/* What emv_find gives where no object has the tag, where the bytes are malformed, and where one was found. */
+#define EMV_FIND_NONE UINT64_MAX
+#define EMV_FIND_MALFORMED (UINT64_MAX - 1u)
+#define EMV_IS_FOUND(found) ((found) < EMV_FIND_MALFORMED)
+#define EMV_FOUND_PLACE(found) ((size_t)((found) >> 32))
+#define EMV_FOUND_LENGTH(found) ((size_t)((found) & 0xFFFFFFFFu))
+
+/* A version word taken apart: the library's version in three parts, and the record layout's. */
+#define EMV_VERSION_MAJOR(word) (((word) >> 24) & 0xFFu)
+#define EMV_VERSION_MINOR(word) (((word) >> 16) & 0xFFu)
+#define EMV_VERSION_PATCH(word) (((word) >> 8) & 0xFFu)
+#define EMV_VERSION_LAYOUT(word) ((word) & 0xFFu)
+
+/* The version that this header is of, as emv_version gives it. */
+#define EMV_VERSION 0x00010001u
 
 /* Outcomes. */
 #define EMV_APPROVED 0u
@@ -89,6 +125,24 @@ uint32_t emv_stop(uint8_t *session, size_t session_len, uint8_t *command, size_t
 /* How many commands the session has handed out, 0 to 255; EMV_NO_COUNT where the bytes hold no record.
  * The record's ranges are not tested: a count of a record in its ranges is at most 130. */
 uint32_t emv_count(const uint8_t *session, size_t session_len);
+
+/* Reads an object of the session back by its tag, as 0x9F26: the length of its value, 0 to 254, with the value in
+ * front of the lent bytes and the rest as it was. Otherwise all lent bytes stay, and the word is the first of
+ * refusal 25; EMV_UNKNOWN, a tag that the dictionary does not have; EMV_ABSENT; EMV_NEEDED + the length, where
+ * fewer bytes are lent. */
+uint32_t emv_object(const uint8_t *session, size_t session_len, uint32_t tag, uint8_t *value, size_t value_len);
+
+/* Writes 0 over all lent bytes, of any number and whatever they held: 0. They hold no record then. */
+uint32_t emv_wipe(uint8_t *session, size_t session_len);
+
+/* The first object of a tag in a card's bytes, as in the answer to SELECT without its status bytes: the place where
+ * its value starts, counted from 0, in bits 32 to 63, and the value's length in bits 0 to 31. Templates are objects
+ * too, and come before what they hold; they nest four levels. EMV_FIND_NONE where no object has the tag;
+ * EMV_FIND_MALFORMED where the bytes are malformed anywhere, or over 65,535. */
+uint64_t emv_find(const uint8_t *bytes, size_t len, uint32_t tag);
+
+/* The library's version in bits 24 to 31, 16 to 23 and 8 to 15, and the record layout's in bits 0 to 7. */
+uint32_t emv_version(void);
 
 #ifdef __cplusplus
 }

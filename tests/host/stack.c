@@ -14,6 +14,7 @@
 
 static uint8_t session[EMV_SESSION_SIZE];
 static uint8_t command[EMV_LEAST_BUFFER];
+static uint8_t value[EMV_MOST_VALUE];
 static const uint8_t *lent;
 static size_t lent_len;
 static uint32_t word;
@@ -51,6 +52,9 @@ static void call_answer(void) { word = emv_answer(session, sizeof session, lent,
 static void call_link_failed(void) { word = emv_link_failed(session, sizeof session, command, sizeof command); }
 static void call_stop(void) { word = emv_stop(session, sizeof session, command, sizeof command); }
 static void call_count(void) { word = emv_count(session, sizeof session); }
+static void call_object(void) { word = emv_object(session, sizeof session, 0x9F26, value, sizeof value); }
+static void call_find(void) { word = (uint32_t)emv_find(lent, lent_len, 0x9F7F); }
+static void call_wipe(void) { word = emv_wipe(session, sizeof session); }
 
 /* Makes a call, prints its depth and holds the word to what is expected. */
 static void measure(const char *name, void (*call)(void), const uint8_t *bytes, size_t n, uint32_t expected)
@@ -88,6 +92,7 @@ int main(void)
     measure("answer, a record of four levels", call_answer, BYTES(FOUR_LEVELS), 5);
     measure("answer, the last record", call_answer, BYTES(RECORD), 11);
     measure("answer, the cryptogram", call_answer, BYTES(CRYPTOGRAM), EMV_OUTCOMES + EMV_ONLINE_REQUEST * 256u);
+    measure("object", call_object, BYTES(""), 8);
     measure("answer, refused", call_answer, BYTES(CRYPTOGRAM), EMV_REFUSALS + EMV_REFUSED_PHASE);
     measure("open", call_open, BYTES(""), 0);
     measure("start", call_start, BYTES(TERMINAL), 8);
@@ -95,6 +100,8 @@ int main(void)
     measure("open", call_open, BYTES(""), 0);
     measure("start", call_start, BYTES(TERMINAL), 8);
     measure("stop", call_stop, BYTES(""), EMV_OUTCOMES + EMV_ENDED * 256u + EMV_REASON_STOPPED);
+    measure("find, four levels", call_find, (const uint8_t *)FOUR_LEVELS, sizeof(FOUR_LEVELS) - 3, 2);
+    measure("wipe", call_wipe, BYTES(""), 0);
     printf("%6lu  deepest, of %lu at most\n", (unsigned long)deepest, (unsigned long)MOST);
     return deepest <= MOST ? 0 : 1;
 }

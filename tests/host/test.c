@@ -1,4 +1,5 @@
-/* Runs the C calls: whole purchases with every command byte, each refusal, and that lent bytes stay.
+/* Runs the C calls: whole purchases with every command byte, each refusal, objects read back and found, and that lent bytes
+ * stay.
  * Prints `ok`, or the first line that fails. */
 #include <stdio.h>
 #include <stdlib.h>
@@ -249,13 +250,121 @@ static void lent_bytes(void)
     CHECK(emv_start(session, EMV_SESSION_SIZE, terminal, sizeof terminal, command, EMV_LEAST_BUFFER) == 8);
 }
 
+/* Lends so many bytes for an object's value: the bytes that are no part of the value, and the session, stay. */
+#define UNWRITTEN 0xEEu
+static uint8_t value[EMV_MOST_VALUE + BEHIND];
+
+static uint32_t object_in(uint32_t tag, size_t lent)
+{
+    uint32_t word;
+    size_t i;
+    remember();
+    memset(value, UNWRITTEN, sizeof value);
+    word = emv_object(session, sizeof session, tag, value, lent);
+    CHECK(all_stays());
+    for (i = EMV_IS_VALUE(word) ? EMV_LENGTH(word) : 0; i < sizeof value; i++)
+        CHECK(value[i] == UNWRITTEN);
+    return word;
+}
+
+/* The object has exactly these bytes: read whole, refused with a byte less, and told to be needed. */
+static int holds(uint32_t tag, const uint8_t *bytes, size_t n)
+{
+    if (n != 0)
+        CHECK(object_in(tag, n - 1) == EMV_NEEDED + n);
+    return object_in(tag, n) == n && memcmp(value, bytes, n) == 0 && object_in(tag, sizeof value) == n;
+}
+
+static void objects(void)
+{
+    static const uint32_t sent_online[] = {0x9F26, 0x9F27, 0x9F10, 0x9F36, 0x95, 0x9A, 0x9C, 0x9F02, 0x5F2A, 0x82, 0x9F1A};
+    size_t i;
+    reopen(); /* a fresh session holds nothing */
+    for (i = 0; i < sizeof sent_online / sizeof *sent_online; i++)
+        CHECK(object_in(sent_online[i], sizeof value) == EMV_ABSENT && object_in(sent_online[i], 0) == EMV_ABSENT);
+    CHECK(EMV_IS_ABSENT(object_in(0x5A, 0)));
+    CHECK(object_in(0x9F12, sizeof value) == EMV_UNKNOWN && EMV_IS_UNKNOWN(object_in(0, 0)));
+    CHECK(object_in(0x70, sizeof value) == EMV_UNKNOWN && object_in(0x1009F26, sizeof value) == EMV_UNKNOWN);
+
+    begin(0x22);
+    CHECK(holds(0x9F02, BYTES("\x00\x00\x00\x00\x12\x34")) && holds(0x9F35, BYTES("\x22")));
+    CHECK(holds(0x95, BYTES("\x00\x00\x00\x00\x00")) && holds(0x94, BYTES("\x08\x01\x01\x00")));
+    CHECK(object_in(0x9F26, sizeof value) == EMV_ABSENT);
+    CHECK(commands(answer(BYTES(RECORD_ONLINE)), BYTES("\x80\xAE\x80\x00\x05\x80\x00\x00\x00\x00\x00")));
+    CHECK(holds(0x5A, BYTES("\x47\x61\x73\x90\x01\x01\x00\x10")) && holds(0x95, BYTES("\x80\x00\x00\x00\x00")));
+    CHECK(answer(BYTES("\x77\x17\x9F\x27\x01\x80\x9F\x36\x02\x00\x01\x9F\x26\x08\x01\x02\x03\x04\x05\x06\x07\x08\x9F\x10\x00\x90\x00")) ==
+          OUTCOME_OF(EMV_ONLINE_REQUEST, EMV_REASON_NONE));
+    CHECK(holds(0x9F26, BYTES("\x01\x02\x03\x04\x05\x06\x07\x08")) && holds(0x9F36, BYTES("\x00\x01")) && holds(0x9F27, BYTES("\x80")));
+    CHECK(holds(0x9F10, BYTES(""))); /* there, and empty */
+
+    CHECK(emv_object(session, EMV_SESSION_SIZE - 1, 0x9F26, value, sizeof value) == REFUSED(EMV_REFUSED_RANGES));
+    CHECK(emv_object(session, 0, 0x9F12, value, 0) == REFUSED(EMV_REFUSED_RANGES));
+    session[4] = 131; /* a count that no session reaches */
+    CHECK(object_in(0x9F26, sizeof value) == REFUSED(EMV_REFUSED_RANGES) && object_in(0x9F12, 0) == REFUSED(EMV_REFUSED_RANGES));
+    session[4] = 3;
+    session[0] = 2; /* another version */
+    CHECK(object_in(0x9F26, sizeof value) == REFUSED(EMV_REFUSED_RANGES));
+}
+
+static void wiping(void)
+{
+    size_t i, n;
+    begin(0x22);
+    remember();
+    for (n = 0; n <= sizeof session; n += sizeof session / 4) {
+        CHECK(emv_wipe(session, n) == 0);
+        for (i = 0; i < sizeof session; i++)
+            CHECK(session[i] == (i < n ? 0 : session_before[i]));
+        CHECK(count() == (n == 0 ? 2 : EMV_NO_COUNT));
+    }
+    CHECK(object_in(0x9F02, sizeof value) == REFUSED(EMV_REFUSED_RANGES));
+    all_refuse(sizeof session, sizeof command, REFUSED(EMV_REFUSED_RANGES));
+}
+
+/* The value of the first object of a tag starts at this place and has this length. */
+static int finds(const uint8_t *bytes, size_t n, uint32_t tag, size_t place, size_t length)
+{
+    uint64_t found = emv_find(bytes, n, tag);
+    return EMV_IS_FOUND(found) && EMV_FOUND_PLACE(found) == place && EMV_FOUND_LENGTH(found) == length;
+}
+
+static void finding(void)
+{
+    static uint8_t many[65536];
+    CHECK(finds(BYTES("\x6F\x0B\x84\x02\x41\x42\xA5\x05\x50\x00\x50\x01\x43"), 0x50, 10, 0)); /* the first of two */
+    CHECK(finds(BYTES("\x6F\x0B\x84\x02\x41\x42\xA5\x05\x50\x00\x50\x01\x43"), 0xA5, 8, 5));
+    CHECK(emv_find(BYTES("\x6F\x02\x84\x00"), 0x9F38) == EMV_FIND_NONE && emv_find(BYTES(""), 0x9F38) == EMV_FIND_NONE);
+    CHECK(emv_find(BYTES("\x6F\x02\x84\x00\x50"), 0x84) == EMV_FIND_MALFORMED); /* behind the object */
+    CHECK(finds(BYTES("\xE1\x06\xE1\x04\xE1\x02\xE1\x00"), 0xE1, 2, 6));
+    CHECK(emv_find(BYTES("\xE1\x08\xE1\x06\xE1\x04\xE1\x02\xE1\x00"), 0xE1) == EMV_FIND_MALFORMED);
+    many[0] = 0x50;
+    many[1] = 0x82;
+    many[2] = 0xFF;
+    many[3] = 0xFB;
+    CHECK(finds(many, 65535, 0x50, 4, 65531));
+    CHECK(emv_find(many, 65536, 0x50) == EMV_FIND_MALFORMED);
+}
+
+static void versions(void)
+{
+    uint32_t word = emv_version();
+    CHECK(word == EMV_VERSION);
+    CHECK(EMV_VERSION_MAJOR(word) == 0 && EMV_VERSION_MINOR(word) == 1 && EMV_VERSION_PATCH(word) == 0);
+    reopen();
+    CHECK(EMV_VERSION_LAYOUT(word) == session[0]);
+}
+
 int main(void)
 {
+    versions();
     layout();
     purchases();
     reasons();
     refusals();
     lent_bytes();
+    objects();
+    wiping();
+    finding();
     printf("ok\n");
     return 0;
 }

@@ -1,10 +1,10 @@
--- Action analysis over a session's store (document 01, "Result bits and the choice" and, for the limit, "Commands and
--- steps"): the result bits 95, the three pairs of action codes, the choice and the transaction limit, from the values of
--- the tags that the rules name.
--- A running session in its ranges holds 9A, 9C, 9F02, 9F09, 9F1A, 9F35 and DF8120 to DF8124, each at its length, and 5F24
--- when the bits are made. Document 01 leaves open what comes of a store that lacks one of them. Here an absent value reads
--- as no bytes, and a byte past a value's end as 0: so a missing date, amount, type or terminal's code is zero, and a
--- missing version or country is unlike any that has bytes.
+-- Action analysis over a session's store (document 01, "Result bits and the choice" and, for the limit, "Commands
+-- and steps"): the result bits 95, the three pairs of action codes, the choice and the transaction limit, from the
+-- values of the tags that the rules name. A running session in its ranges holds 9A, 9C, 9F02, 9F09, 9F1A, 9F35 and
+-- DF8120 to DF8124, each at its length, and 5F24 when the bits are made. Document 01 leaves open what comes of a
+-- store that lacks one of them. Here an absent value reads as no bytes, and a byte past a value's end as 0: so a
+-- missing date, amount, type or terminal's code is zero, and a missing version or country is unlike any that has
+-- bytes.
 -- Assumes nothing.
 use mathlib.Core.Bool.{Bool}
 use mathlib.Core.List.{List, [], _∷_}

@@ -1,5 +1,5 @@
--- Bits of a value (document 01, "Result bits and the choice"): by byte and b8 to b1, as the rules name them, and by one
--- number.
+-- Bits of a value (document 01, "Result bits and the choice"): by byte and b8 to b1, as the rules name them, and by
+-- one number.
 -- Assumes nothing.
 use mathlib.Core.Bool.{Bool}
 use mathlib.Core.List.{List}

@@ -1,7 +1,7 @@
--- What private functions promise, for their callers' proofs: digits byte by byte, a stage's bits within one byte, and
--- the choice stage by stage. No rule of document 01 stands here: a reader of the rules can pass it over. Laws tie it to
--- the rules: `decimal-three` and `decimal-six` (proofs/Decimal) to specs/Digits; `byte-found`, `byte-clear`, `all-clear`,
--- `choice-by-stage` and `choice-by-type` (proofs/Stages) to specs/Choice.
+-- What private functions promise, for their callers' proofs: digits byte by byte, a stage's bits within one byte,
+-- and the choice stage by stage. No rule of document 01 stands here: a reader of the rules can pass it over. Laws
+-- tie it to the rules: `decimal-three` and `decimal-six` (proofs/Decimal) to specs/Digits; `byte-found`,
+-- `byte-clear`, `all-clear`, `choice-by-stage` and `choice-by-type` (proofs/Stages) to specs/Choice.
 -- Assumes nothing.
 use mathlib.Core.Bool.{Bool, false}
 use mathlib.Core.List.{List, [], _∷_}

@@ -3,8 +3,7 @@
 use mathlib.Core.Bool.{Bool}
 use mathlib.Core.List.{List, [], _∷_}
 use Prim.Native.Nat.{ℕ, _+_, _*_, _/_, _%_}
-use lib.Dec.{eqb, leb}
-use Rattle.basics.specs.Choice.{both}
+use Rattle.basics.specs.Choice.{_and_, _≤?_, _=?_}
 
 -- the bytes s behind the number n, high byte first
 unfoldable pub numberFrom : ℕ → List ℕ → ℕ
@@ -22,8 +21,8 @@ nibbles (b ∷ s) = b / 16 ∷ b % 16 ∷ nibbles s
 
 -- the bit of weight 1, 2, 4, .. 128 of a byte is set
 abbrev pub hasBit : ℕ → ℕ → Bool
-hasBit b weight = eqb (b / weight % 2) 1
+hasBit b weight = b / weight % 2 =? 1
 
 -- a number lies between two others, both counted in
 abbrev pub between : ℕ → ℕ → ℕ → Bool
-between low n high = both (leb low n) (leb n high)
+between low n high = low ≤? n and n ≤? high

@@ -2,31 +2,31 @@
 -- Assumes nothing.
 use mathlib.Core.Bool.{Bool}
 use Prim.Native.Nat.{ℕ}
-use Rattle.basics.specs.Choice.{if}
+use Rattle.basics.specs.Choice.{if_then_else_}
 
 -- ---- refusals, in the order of their numbers
 
--- too many start bytes, or not whole primitive objects one behind the other
+-- more than 1,024 start bytes, or other than whole primitive objects
 abbrev pub refusedBytes : ℕ
 refusedBytes = 20
 
--- a start on a session that is not fresh, another call on one that is not running
+-- a start once the session has begun, or another call before it has or after its end
 abbrev pub refusedPhase : ℕ
 refusedPhase = 21
 
--- the command buffer is too short
+-- the command buffer has no room for the longest command
 abbrev pub refusedBuffer : ℕ
 refusedBuffer = 22
 
--- a known start object that may not be set, does not fit or comes twice, or a terminal type that is not listed
+-- a known object that is not a start's, does not fit its row or comes again; or a terminal type outside the list
 abbrev pub refusedObject : ℕ
 refusedObject = 23
 
--- an object that a start must bring is absent
+-- a mandatory object of a start is missing
 abbrev pub refusedAbsent : ℕ
 refusedAbsent = 24
 
--- the session record breaks its ranges
+-- the session record is out of its ranges
 abbrev pub refusedRanges : ℕ
 refusedRanges = 25
 
@@ -36,19 +36,19 @@ refusedRanges = 25
 abbrev pub reasonNone : ℕ
 reasonNone = 0
 
--- status bytes other than 90 00
+-- the status of the card is not 90 00
 abbrev pub reasonStatus : ℕ
 reasonStatus = 1
 
--- a malformed answer
+-- an answer of wrong length, encoding, outer tag or body
 abbrev pub reasonMalformed : ℕ
 reasonMalformed = 2
 
--- an object that is not allowed
+-- an object that the card may not set so
 abbrev pub reasonNotAllowed : ℕ
 reasonNotAllowed = 3
 
--- an object that is missing
+-- an object that the next step needs and the card did not send
 abbrev pub reasonMissing : ℕ
 reasonMissing = 4
 
@@ -56,7 +56,7 @@ reasonMissing = 4
 abbrev pub reasonLocator : ℕ
 reasonLocator = 5
 
--- an amount above the transaction limit
+-- an amount over the reader's transaction limit
 abbrev pub reasonAboveLimit : ℕ
 reasonAboveLimit = 6
 
@@ -76,12 +76,12 @@ reasonLink = 9
 abbrev pub reasonStopped : ℕ
 reasonStopped = 10
 
--- the card is not in EMV mode
+-- the card's profile says no EMV mode
 abbrev pub reasonMode : ℕ
 reasonMode = 11
 
--- ---- the first reason met decides
+-- ---- tests in their order
 
 -- the reason of a test that has to pass: none where it does
 abbrev pub unless : Bool → ℕ → ℕ
-unless t n = if t reasonNone n
+unless t n = if t then reasonNone else n

@@ -30,11 +30,11 @@ use Rattle.record.specs.declared.Session.{Session}
 use Rattle.record.specs.Clauses.{noResults}
 use Rattle.store.specs.Held.{lengthIn}
 use Rattle.record.specs.Ranges.{isBrought, brought, cryptogramAbsent, running, optionsRanges, inRanges, allFit, objectFits, freshRanges}
-use Rattle.record.specs.Session.{freshSession, waitingSession}
+use Rattle.record.specs.Session.{freshSession, sessionOf}
 use Rattle.terminal.specs.Terminal.{typeListed, settable, setObject, setAll, load, Loaded, loaded, refusal}
-use Rattle.session.specs.Steps.{Step, refuses, commands, withStore, withResults, leastBuffer}
+use Rattle.session.specs.Steps.{Step, commands, withResults, leastBuffer}
 use Rattle.session.specs.Start.{askOptions, startLoaded}
-use Rattle.session.specs.Answer.{accepted, optionsRead, optionsStep, answerStep}
+use Rattle.session.specs.Answer.{storedReason, optionsRead, optionsStep, answerStep}
 use Rattle.session.proofs.Laws.{admitted-in}
 use Rattle.bench.specs.BenchTable.{nothing, startBytes, started, optionsAnswer, HandsOut, Begins}
 
@@ -48,7 +48,7 @@ first-store = storeOf (load nothing startBytes)
 
 -- the session after it
 abbrev waiting : Session
-waiting = waitingSession (withStore freshSession first-store) Phase.Options 1
+waiting = sessionOf Phase.Options 1 first-store
 
 abbrev optionsCommand : List ℕ
 optionsCommand = 0x80 ∷ 0xA8 ∷ 0x00 ∷ 0x00 ∷ 0x02 ∷ 0x83 ∷ 0x00 ∷ 0x00 ∷ []
@@ -61,12 +61,12 @@ waiting-in : inRanges waiting ≡ true
 unfolding inRanges allFit objectFits lengthIn lengthByte optionsRanges running cryptogramAbsent brought isBrought withResults placeOf load primitives withObject primitiveOf headerOf tagAt tagSize secondByte thirdByte lengthAt firstByte isTemplate isPrivate numberFrom if both either every rows past find settable setObject setAll fitting digitsFit numeric nibbles typeListed listed offsetIn placeAt held valueAt putAt valueIn recurse recurseBy
 waiting-in = refl
 
-asks : (buf : List ℕ) → startLoaded freshSession buf (load nothing startBytes) ≡ commands (withStore freshSession first-store) Phase.Options optionsCommand buf
+asks : (buf : List ℕ) → startLoaded freshSession buf (load nothing startBytes) ≡ commands 0 first-store Phase.Options optionsCommand buf
 unfolding askOptions processingOptions optionsOf filledBy fillingOf listEntries recurse recurseBy along lengthBytes withResults placeOf load primitives withObject primitiveOf headerOf tagAt tagSize secondByte thirdByte lengthAt firstByte isTemplate isPrivate numberFrom if both either every rows past find settable setObject setAll fitting digitsFit numeric nibbles typeListed listed offsetIn placeAt held valueAt putAt valueIn brought isBrought
 asks buf = refl
 
-reads : (buf : List ℕ) → HandsOut (0x00 ∷ 0xB2 ∷ 0x01 ∷ 0x0C ∷ 0x00 ∷ []) buf (optionsStep waiting optionsAnswer buf)
-unfolding optionsStep accepted optionsRead recordAt kth nth accepts wholeEntries entriesOf keeps sumOf recordsOf runOf readAnswer goodLength goodStatus isRead readBody bodyOf primitiveParts optionsParts takeAll takeNext takeItem allowed mayCome mayStand withResults placeOf load primitives withObject primitiveOf headerOf tagAt tagSize secondByte thirdByte lengthAt firstByte isTemplate isPrivate numberFrom if both either every rows past find settable setObject setAll fitting digitsFit numeric nibbles typeListed listed offsetIn placeAt held valueAt putAt valueIn brought isBrought recurse recurseBy
+reads : (buf : List ℕ) → HandsOut (0x00 ∷ 0xB2 ∷ 0x01 ∷ 0x0C ∷ 0x00 ∷ []) buf (optionsStep 1 first-store optionsAnswer buf)
+unfolding optionsStep storedReason optionsRead recordAt kth nth accepts wholeEntries entriesOf keeps sumOf recordsOf runOf readAnswer goodLength goodStatus isRead readBody bodyOf primitiveParts optionsParts takeAll takeNext takeItem allowed mayCome mayStand withResults placeOf load primitives withObject primitiveOf headerOf tagAt tagSize secondByte thirdByte lengthAt firstByte isTemplate isPrivate numberFrom if both either every rows past find settable setObject setAll fitting digitsFit numeric nibbles typeListed listed offsetIn placeAt held valueAt putAt valueIn brought isBrought recurse recurseBy
 reads buf = record { answer = refl; bytes = refl }
 
 -- a step by an equation
@@ -76,10 +76,10 @@ hands-as e h = record { answer = ap (λ (x : Step). x .reply .answer) e ∙ h .a
 pub begins : (first second : List ℕ) → leastBuffer ≤ length first → leastBuffer ≤ length second → Begins first second
 begins first second h k = record { options = hands-as starts (record { answer = refl; bytes = refl }); record-1 = hands-as answers (reads second) }
   where
-    starts : started first ≡ commands (withStore freshSession first-store) Phase.Options optionsCommand first
-    starts = admitted-in freshSession (length first) (λ n. refuses freshSession n first) _ h fresh-in ∙ asks first
+    starts : started first ≡ commands 0 first-store Phase.Options optionsCommand first
+    starts = admitted-in freshSession first _ h fresh-in ∙ asks first
 
-    answers : answerStep (started first .reply .session) optionsAnswer second ≡ optionsStep waiting optionsAnswer second
+    answers : answerStep (started first .reply .session) optionsAnswer second ≡ optionsStep 1 first-store optionsAnswer second
     answers =
         ap (λ (x : Step). answerStep (x .reply .session) optionsAnswer second) starts
-        ∙ admitted-in waiting (length second) (λ n. refuses waiting n second) _ k waiting-in
+        ∙ admitted-in waiting second _ k waiting-in

@@ -15,6 +15,7 @@ use Rattle.basics.proofs.Laws.{if-yes, if-no, both-yes, both-no-left, both-no-r
 use Rattle.basics.proofs.Order.{le-or-gt}
 use Rattle.tlv.specs.Encoding.{lengthBytes}
 use Rattle.dictionary.specs.Rows.{Row, rows}
+use Rattle.dictionary.specs.Named.{row8C, row9F38}
 use Rattle.dictionary.proofs.Named.{at-8C, at-9F38}
 use Rattle.store.specs.Place.{bytesOf, valueAt}
 use Rattle.store.proofs.Laws.{by-row}
@@ -96,13 +97,13 @@ unfolding cryptogramOf
 cryptogram-some p1 v h k = if-yes _ _ (both-yes _ _ (le-leb 1 (length v) h) (le-leb (length v) 255 k))
 
 -- the lists, by their rows
-pub options-of : (store list : List ℕ) → list ≡ bytesOf (valueAt rows store 29) → processingOptions store ≡ optionsOf (filled rows store list)
+pub options-of : (store list : List ℕ) → list ≡ bytesOf (valueAt rows store row9F38) → processingOptions store ≡ optionsOf (filled rows store list)
 unfolding processingOptions
-options-of store list p = ap (λ (l : List ℕ). optionsOf (filled rows store l)) (ap bytesOf (by-row rows store 0x9F38 29 at-9F38) ∙ sym p)
+options-of store list p = ap (λ (l : List ℕ). optionsOf (filled rows store l)) (ap bytesOf (by-row rows store 0x9F38 row9F38 at-9F38) ∙ sym p)
 
-pub cryptogram-of : (p1 : ℕ) (store list : List ℕ) → list ≡ bytesOf (valueAt rows store 3) → generateAc p1 store ≡ cryptogramOf p1 (filled rows store list)
+pub cryptogram-of : (p1 : ℕ) (store list : List ℕ) → list ≡ bytesOf (valueAt rows store row8C) → generateAc p1 store ≡ cryptogramOf p1 (filled rows store list)
 unfolding generateAc
-cryptogram-of p1 store list p = ap (λ (l : List ℕ). cryptogramOf p1 (filled rows store l)) (ap bytesOf (by-row rows store 0x8C 3 at-8C) ∙ sym p)
+cryptogram-of p1 store list p = ap (λ (l : List ℕ). cryptogramOf p1 (filled rows store l)) (ap bytesOf (by-row rows store 0x8C row8C at-8C) ∙ sym p)
 
 -- ---- the parts of a command
 

@@ -3,19 +3,18 @@
 use mathlib.Core.Bool.{Bool, true}
 use mathlib.Core.List.{List, [], _∷_}
 use Prim.Native.Nat.{ℕ}
-use lib.Dec.{ltb, leb, eqb}
 use lib.ListN.{length}
-use Rattle.basics.specs.Choice.{if, both, every}
+use Rattle.basics.specs.Choice.{if_then_else_, _and_, _≤?_, _<?_, _=?_, every}
 use Rattle.basics.specs.Number.{nibbles}
 use Rattle.dictionary.specs.Rows.{Row, formN, formCn}
 
 -- a four-bit digit is decimal
 abbrev pub isDigit : ℕ → Bool
-isDigit d = ltb d 10
+isDigit d = d <? 10
 
 -- a four-bit digit is F
 abbrev pub isF : ℕ → Bool
-isF d = eqb d 15
+isF d = d =? 15
 
 -- n: every digit is 0 to 9
 unfoldable pub numeric : List ℕ → Bool
@@ -24,7 +23,9 @@ numeric v = every isDigit (nibbles v)
 -- digits 0 to 9, and from the first that is none only Fs to the end
 unfoldable pub digitsThenFs : List ℕ → Bool
 digitsThenFs [] = true
-digitsThenFs (d ∷ s) = if (isDigit d) (digitsThenFs s) (every isF (d ∷ s))
+digitsThenFs (d ∷ s) =
+    if isDigit d then digitsThenFs s
+    else every isF (d ∷ s)
 
 -- cn: any digits and then any Fs
 unfoldable pub compressed : List ℕ → Bool
@@ -32,8 +33,14 @@ compressed v = digitsThenFs (nibbles v)
 
 -- what the form asks of the digits; b asks nothing
 unfoldable pub digitsFit : ℕ → List ℕ → Bool
-digitsFit form v = if (eqb form formN) (numeric v) (if (eqb form formCn) (compressed v) true)
+digitsFit form v =
+    if form =? formN then numeric v
+    else if form =? formCn then compressed v
+    else true
 
 -- the length is in range and the digits fit
 unfoldable pub fitting : Row → List ℕ → Bool
-fitting r v = both (leb (r .least) (length v)) (both (leb (length v) (r .greatest)) (digitsFit (r .form) v))
+fitting r v =
+    r .least ≤? length v
+    and length v ≤? r .greatest
+    and digitsFit (r .form) v

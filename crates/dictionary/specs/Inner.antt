@@ -5,19 +5,20 @@
 use mathlib.Core.Bool.{Bool}
 use mathlib.Core.List.{List, [], _∷_}
 use Prim.Native.Nat.{ℕ, suc, _/_, _%_}
-use lib.Dec.{eqb}
-use Rattle.basics.specs.Choice.{if, both, every}
+use Rattle.basics.specs.Choice.{if_then_else_, _and_, _=?_, every}
 use Rattle.dictionary.specs.Form.{isDigit}
 
 -- both digits of a byte are decimal
 unfoldable pub isDigits : ℕ → Bool
-isDigits b = both (isDigit (b / 16)) (isDigit (b % 16))
+isDigits b = isDigit (b / 16) and isDigit (b % 16)
 
 -- how many bytes at the front are decimal digits
 unfoldable pub digitBytes : List ℕ → ℕ
 digitBytes [] = 0
-digitBytes (b ∷ v) = if (isDigits b) (suc (digitBytes v)) 0
+digitBytes (b ∷ v) =
+    if isDigits b then suc (digitBytes v)
+    else 0
 
 -- every byte is FF
 unfoldable pub onlyFs : List ℕ → Bool
-onlyFs v = every (λ b. eqb b 0xFF) v
+onlyFs v = every (λ b. b =? 0xFF) v

@@ -2,9 +2,8 @@
 -- Assumes nothing.
 use mathlib.Core.List.{List, [], _∷_}
 use Prim.Native.Nat.{ℕ, _+_}
-use lib.Dec.{eqb}
 use lib.ListN.{getD}
-use Rattle.basics.specs.Choice.{if}
+use Rattle.basics.specs.Choice.{if_then_else_, _=?_}
 use Rattle.dictionary.specs.declared.Found.{Found}
 use Rattle.dictionary.specs.declared.Found.the-variants.{At, Unknown}
 
@@ -152,4 +151,6 @@ past n (At k) = At (n + k)
 -- the first row of a table that has the tag
 unfoldable pub find : List Row → ℕ → Found
 find [] t = Unknown
-find (r ∷ rs) t = if (eqb (r .tag) t) (At 0) (past 1 (find rs t))
+find (r ∷ rs) t =
+    if r .tag =? t then At 0
+    else past 1 (find rs t)

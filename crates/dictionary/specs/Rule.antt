@@ -5,23 +5,22 @@
 use mathlib.Core.Bool.{Bool, true}
 use mathlib.Core.List.{List, [], _∷_}
 use Prim.Native.Nat.{ℕ}
-use lib.Dec.{ltb, leb}
-use Rattle.basics.specs.Choice.{both, every}
+use Rattle.basics.specs.Choice.{_and_, _≤?_, _<?_, every}
 use Rattle.tlv.specs.Encoding.{wellFormedTag}
 use Rattle.dictionary.specs.Rows.{Row}
 
 -- a row by itself
 abbrev pub properRow : Row → Bool
-properRow r = both (wellFormedTag (r .tag)) (leb (r .least) (r .greatest))
+properRow r = wellFormedTag (r .tag) and r .least ≤? r .greatest
 
 -- a tag is below the first tag of the rows behind it
 abbrev pub belowNext : ℕ → List Row → Bool
 belowNext t [] = true
-belowNext t (r ∷ rs) = ltb t (r .tag)
+belowNext t (r ∷ rs) = t <? r .tag
 
 unfoldable pub rising : List Row → Bool
 rising [] = true
-rising (r ∷ rs) = both (belowNext (r .tag) rs) (rising rs)
+rising (r ∷ rs) = belowNext (r .tag) rs and rising rs
 
 unfoldable pub proper : List Row → Bool
-proper table = both (rising table) (every properRow table)
+proper table = rising table and every properRow table

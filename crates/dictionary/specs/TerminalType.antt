@@ -2,8 +2,8 @@
 -- Assumes nothing.
 use mathlib.Core.Bool.{Bool}
 use Prim.Native.Nat.{ℕ}
-use Rattle.basics.specs.Choice.{either}
+use Rattle.basics.specs.Choice.{_or_}
 use Rattle.basics.specs.Number.{between}
 
 unfoldable pub listed : ℕ → Bool
-listed t = either (between 0x11 t 0x16) (either (between 0x21 t 0x26) (between 0x34 t 0x36))
+listed t = between 0x11 t 0x16 or between 0x21 t 0x26 or between 0x34 t 0x36

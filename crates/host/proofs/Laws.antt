@@ -22,16 +22,17 @@ use Rattle.record.specs.Session.{sessionOf, replyOf}
 use Rattle.session.specs.Steps.{Step, Did, leastBuffer, linkStep, stopStep}
 use Rattle.session.specs.Start.{startStep}
 use Rattle.session.specs.Answer.{answerStep}
-use Rattle.session.proofs.Calls.{Came, answer-came, start-came, link-came, stop-came}
-use Rattle.session.proofs.Sizes.{Small, SmallStep, answer-small, start-small, link-small, stop-small}
+use Rattle.trace.proofs.EveryCall.{Came, answer-came, start-came, link-came, stop-came}
 use Rattle.layout.specs.declared.Head.{Head}
 use Rattle.layout.specs.declared.Held.{Held}
 use Rattle.layout.specs.Layout.{headSize, recordSize, withRecord, withHead, decoded, heldOf}
 use Rattle.layout.specs.Word.{outcomes, refusals, refusalWord, outcomeWord, wordOf}
 use Rattle.layout.proofs.Lists.{put-head}
 use Rattle.layout.proofs.Laws.{held-store, written-back, command-length, command-below, outcome-below}
+use Rattle.host.proofs.Sizes.{Small, SmallStep, answer-small, start-small, link-small, stop-small}
 use Rattle.host.specs.declared.Admission.{Admission}
-use Rattle.host.specs.Hosted.{Hosted, DidOver, refuses, carries, stepped, hosted, heldAdmission, admissionOf, countWord}
+use Rattle.host.specs.Hosted.{Hosted, DidOver, refuses, carries, stepped, hosted, countWord}
+use Rattle.host.specs.Inner.{heldAdmission, admissionOf}
 
 -- ---- what bytes hold, as the code takes it apart
 

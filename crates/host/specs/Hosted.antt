@@ -1,19 +1,18 @@
--- A call over bytes that a host lends (docs/HOST.md): the session as a record in front of its bytes, the answer as one word.
+-- A call over bytes that a host lends (docs/HOST.md): the session as a record in front of its bytes, the answer as one
+-- word.
 -- Assumes nothing.
 use mathlib.Core.Path.{_≡_}
 use mathlib.Core.List.{List}
 use mathlib.Core.Option.{Option, some, none}
 use Prim.Native.Nat.{ℕ}
-use lib.Dec.{leb, ltb}
 use lib.ListN.{length}
-use Rattle.basics.specs.Choice.{if}
+use Rattle.basics.specs.Choice.{if_then_else_, _≤?_, _<?_}
 use Rattle.record.specs.declared.Session.{Session}
 use Rattle.basics.specs.Reason.{refusedBuffer, refusedRanges}
 use Rattle.record.specs.Session.{freshSession}
 use Rattle.session.specs.Steps.{Step, leastBuffer}
 use Rattle.layout.specs.Layout.{recordSize, withRecord, decoded}
 use Rattle.layout.specs.Word.{refusalWord, wordOf}
-use Rattle.host.specs.declared.Admission.{Admission}
 
 -- ---- what a call leaves
 
@@ -35,7 +34,12 @@ refuses n l buf = record { word = refusalWord n; session = l; buffer = buf }
 
 -- a step: its answer's word, its session in front of the lent bytes, its buffer
 abbrev pub carries : List ℕ → Step → Hosted
-carries l st = record { word = wordOf (st .reply .answer); session = withRecord (st .reply .session) l; buffer = st .buffer }
+carries l st =
+    record {
+      word = wordOf (st .reply .answer);
+      session = withRecord (st .reply .session) l;
+      buffer = st .buffer;
+    }
 
 -- ---- the four calls, by the step that each takes on a session and a buffer
 
@@ -46,22 +50,19 @@ stepped step l buf (some s) = carries l (step s buf)
 
 -- the buffer's size (22), then the record (25), then the step
 unfoldable pub hosted : (Session → List ℕ → Step) → List ℕ → List ℕ → Hosted
-hosted step l buf = if (ltb (length buf) leastBuffer) (refuses refusedBuffer l buf) (stepped step l buf (decoded l))
-
--- the first two as the code takes them apart: a call is taken on the head of a record, or its refusal's word is given
-abbrev pub heldAdmission : Option Session → Admission
-heldAdmission none = Admission.Refused (refusalWord refusedRanges)
-heldAdmission (some s) = Admission.Taken (record { phase = s .phase; count = s .count })
-
-abbrev pub admissionOf : List ℕ → ℕ → Admission
-admissionOf l size = if (ltb size leastBuffer) (Admission.Refused (refusalWord refusedBuffer)) (heldAdmission (decoded l))
+hosted step l buf =
+    if length buf <? leastBuffer then refuses refusedBuffer l buf
+    else stepped step l buf (decoded l)
 
 -- ---- opening and counting
 
 -- a fresh record is written: 0, or 25 where the bytes are too few
 abbrev pub openWord : List ℕ → ℕ
-openWord l = if (leb recordSize (length l)) 0 (refusalWord refusedRanges)
+openWord l =
+    if recordSize ≤? length l then 0
+    else refusalWord refusedRanges
 
+-- the word, and the bytes before and after
 pub record Opened (w : ℕ) (before after : List ℕ) : Type 0 where
   pub word : w ≡ openWord before
   pub session : after ≡ withRecord freshSession before

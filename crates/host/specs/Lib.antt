@@ -1,1 +1,5 @@
 pub mod Hosted
+pub mod Inner
+pub mod Object
+pub mod Wipe
+pub mod Version

@@ -3,6 +3,7 @@
 // The session lies in bytes that the host lends to every call, as the record of `layout`; a call works on
 // the store in its place, and nothing is kept between calls. A call gives one word: a command's length, an outcome with its reason, or a
 // refusal, which leaves all lent bytes as they were. docs/HOST.md has the layout and the words.
+use dictionary::Found;
 use layout::{Head, Held, HEAD, RECORD_SIZE};
 use record::{Phase, Turn};
 use session::LEAST_BUFFER;
@@ -10,10 +11,16 @@ ghost use mathlib.Core.Path.{_≡_};
 ghost use Rattle.record.specs.declared.Session.{Session};
 ghost use Rattle.layout.specs.Layout.{recordSize, decoded, withHead};
 ghost use Rattle.layout.specs.Word.{wordOf};
+ghost use Rattle.find.specs.Find.{findOf};
+ghost use Rattle.find.specs.Word.{findWord};
 ghost use Rattle.session.specs.Steps.{linkStep, stopStep};
 ghost use Rattle.session.specs.Start.{startStep};
 ghost use Rattle.session.specs.Answer.{answerStep};
-ghost use Rattle.host.specs.Hosted.{DidOver, Opened, admissionOf, hosted, countWord};
+ghost use Rattle.host.specs.Hosted.{DidOver, Opened, hosted, countWord};
+ghost use Rattle.host.specs.Inner.{admissionOf};
+ghost use Rattle.host.specs.Object.{DidCopy, objectIn, objectOf};
+ghost use Rattle.host.specs.Wipe.{Wiped};
+ghost use Rattle.host.specs.Version.{versionWord};
 
 // Whether a call is taken, on the record of a head, or the word of its refusal.
 pub enum Admission {
@@ -23,6 +30,17 @@ pub enum Admission {
 
 // The count where the bytes hold no record.
 const NO_COUNT: u32 = 0xFFFFFFFF;
+
+// The words of an object that is absent, of a tag that the dictionary does not have, and in front of the length
+// of a value that the lent bytes have no room for.
+const ABSENT: u32 = 0x30000;
+const UNKNOWN: u32 = 0x40000;
+const NEEDED: u32 = 0x50000;
+
+// The library's version.
+const MAJOR: u32 = 0;
+const MINOR: u32 = 1;
+const PATCH: u32 = 0;
 
 // How many bytes a host lends for a session.
 #[no_mangle]
@@ -47,7 +65,8 @@ pub extern "C" fn emv_open(session: &mut [u8]) -> u32
 // Starts a session with the objects that the terminal brings.
 #[no_mangle]
 pub extern "C" fn emv_start(session: &mut [u8], terminal: &[u8], command: &mut [u8]) -> u32
-    ensures { λ r. ⌜ DidOver r (now (session .exit)) (now (command .exit)) (hosted (λ (s : Session) b. startStep s (now (terminal .entry)) b) (now (session .entry)) (now (command .entry))) ⌝ }
+    ensures { λ r. ⌜ DidOver r (now (session .exit)) (now (command .exit))
+        (hosted (λ (s : Session) b. startStep s (now (terminal .entry)) b) (now (session .entry)) (now (command .entry))) ⌝ }
 {
     let admission = admit(session, command.len());
     match admission {
@@ -63,7 +82,8 @@ pub extern "C" fn emv_start(session: &mut [u8], terminal: &[u8], command: &mut [
 // Takes the card's answer to the command that was handed out last, status bytes included.
 #[no_mangle]
 pub extern "C" fn emv_answer(session: &mut [u8], card: &[u8], command: &mut [u8]) -> u32
-    ensures { λ r. ⌜ DidOver r (now (session .exit)) (now (command .exit)) (hosted (λ (s : Session) b. answerStep s (now (card .entry)) b) (now (session .entry)) (now (command .entry))) ⌝ }
+    ensures { λ r. ⌜ DidOver r (now (session .exit)) (now (command .exit))
+        (hosted (λ (s : Session) b. answerStep s (now (card .entry)) b) (now (session .entry)) (now (command .entry))) ⌝ }
 {
     let admission = admit(session, command.len());
     match admission {
@@ -79,7 +99,8 @@ pub extern "C" fn emv_answer(session: &mut [u8], card: &[u8], command: &mut [u8]
 // The link to the card failed.
 #[no_mangle]
 pub extern "C" fn emv_link_failed(session: &mut [u8], command: &mut [u8]) -> u32
-    ensures { λ r. ⌜ DidOver r (now (session .exit)) (now (command .exit)) (hosted linkStep (now (session .entry)) (now (command .entry))) ⌝ }
+    ensures { λ r. ⌜ DidOver r (now (session .exit)) (now (command .exit))
+        (hosted linkStep (now (session .entry)) (now (command .entry))) ⌝ }
 {
     let admission = admit(session, command.len());
     match admission {
@@ -95,7 +116,8 @@ pub extern "C" fn emv_link_failed(session: &mut [u8], command: &mut [u8]) -> u32
 // The terminal stops the session.
 #[no_mangle]
 pub extern "C" fn emv_stop(session: &mut [u8], command: &mut [u8]) -> u32
-    ensures { λ r. ⌜ DidOver r (now (session .exit)) (now (command .exit)) (hosted stopStep (now (session .entry)) (now (command .entry))) ⌝ }
+    ensures { λ r. ⌜ DidOver r (now (session .exit)) (now (command .exit))
+        (hosted stopStep (now (session .entry)) (now (command .entry))) ⌝ }
 {
     let admission = admit(session, command.len());
     match admission {
@@ -118,6 +140,52 @@ pub extern "C" fn emv_count(session: &[u8]) -> u32
         return NO_COUNT;
     };
     basics::wide32(head.count)
+}
+
+// Reads an object of the session back: its length, with the value in front of the lent bytes, or a word that says
+// why not, with all of them as they were.
+#[no_mangle]
+pub extern "C" fn emv_object(session: &[u8], tag: u32, value: &mut [u8]) -> u32
+    ensures { λ r. ⌜ DidCopy r (now (value .exit)) (objectOf (decoded (now (session .entry))) tag (now (value .entry))) ⌝ }
+{
+    let held = layout::head_in(session);
+    let Held::Record(head) = held else {
+        return layout::refusal_word(basics::REFUSED_RANGES);
+    };
+    let phase = head.phase;
+    if !record::keeps(phase, head.count, &session[HEAD..RECORD_SIZE]) {
+        return layout::refusal_word(basics::REFUSED_RANGES);
+    }
+    object_in(&session[HEAD..RECORD_SIZE], tag, value)
+}
+
+// The first object of a tag in a card's bytes: its value's place and length, none, or that the bytes are malformed.
+#[no_mangle]
+pub extern "C" fn emv_find(bytes: &[u8], tag: u32) -> u64
+    ensures { λ r. ⌜ r ≡ findWord (findOf tag (now (bytes .entry))) ⌝ }
+{
+    find::find_word(bytes, tag)
+}
+
+// Writes 0 over all lent bytes, which hold no record then.
+#[no_mangle]
+pub extern "C" fn emv_wipe(session: &mut [u8]) -> u32
+    ensures { λ r. ⌜ Wiped r (now (session .entry)) (now (session .exit)) ⌝ }
+{
+    let mut i = 0;
+    while i < session.len() {
+        session[i] = 0;
+        i += 1;
+    }
+    0
+}
+
+// The library's version, a byte for each part, and the record layout's in the lowest byte.
+#[no_mangle]
+pub extern "C" fn emv_version() -> u32
+    ensures { λ r. ⌜ r ≡ versionWord ⌝ }
+{
+    MAJOR * 0x1000000 + MINOR * 0x10000 + PATCH * 0x100 + basics::wide32(layout::layout_version())
 }
 
 // A buffer that is too short is refused before bytes that hold no record.
@@ -143,4 +211,24 @@ fn finish(turn: Turn, session: &mut [u8]) -> u32
     layout::put_head(phase, turn.count, session);
     let answer = turn.answer;
     layout::word(answer)
+}
+
+// The object of a tag in a store: the tag, then whether it is there, then the room for it.
+fn object_in(bytes: &[u8], tag: u32, value: &mut [u8]) -> u32
+    ensures { λ r. ⌜ DidCopy r (now (value .exit)) (objectIn (now (bytes .entry)) tag (now (value .entry))) ⌝ }
+{
+    let found = dictionary::lookup(tag);
+    let Found::At(row) = found else {
+        return UNKNOWN;
+    };
+    if !store::is_there(bytes, row) {
+        return ABSENT;
+    }
+    let v = store::value(bytes, row);
+    let size = v.len() as u32;
+    if value.len() < v.len() {
+        return NEEDED + size;
+    }
+    bytes::copy(v, value);
+    size
 }

@@ -2,8 +2,7 @@
 -- Assumes nothing.
 use mathlib.Core.Path.{_≡_, refl}
 use mathlib.Core.Bool.{true, false}
-use mathlib.Core.List.{List, [], _∷_, map}
-use Prim.Native.Nat.{ℕ}
+use mathlib.Core.List.{[], _∷_, map}
 use Rattle.basics.specs.Choice.{if, both}
 use Rattle.analysis.specs.declared.choice.Choice.{Choice}
 use Rattle.record.specs.declared.Outcome.{Outcome}

@@ -53,8 +53,8 @@ onEnded = 4
 abbrev pub code : ℕ → ℕ → ℕ → Code
 code n d r = record { number = n; datum = d; reason = r }
 
--- what the head says of a phase: the record's number, the P1 asked for, or the outcome and its reason; 0 where there is
--- none
+-- what the head says of a phase: the record's number, the P1 asked for, or the outcome and its reason; 0 where there
+-- is none
 abbrev pub codeOf : Phase → Code
 codeOf Phase.Fresh          = code onFresh 0 0
 codeOf Phase.Options        = code onOptions 0 0

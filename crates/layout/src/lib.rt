@@ -14,6 +14,7 @@ ghost use lib.ListN.{length};
 ghost use Rattle.dictionary.specs.Rows.{storeSize};
 ghost use Rattle.record.specs.Session.{sessionOf};
 ghost use Rattle.layout.specs.Layout.{recordSize, choiceFrom, outcomeFrom, codeOf, phaseOf, codeIn, sameCode, withHead, decoded, heldOf, Wrote, Decodes};
+ghost use Rattle.layout.specs.Layout.{version as layoutVersion};
 ghost use Rattle.layout.specs.Word.{commandWord, outcomeWord, refusalWord, wordOf};
 
 // The layout's version, the first byte of every record.
@@ -63,6 +64,13 @@ pub fn session_size() -> usize
     ensures { λ r. ⌜ r ≡ recordSize ⌝ }
 {
     RECORD_SIZE
+}
+
+// The layout's version.
+pub fn layout_version() -> u8
+    ensures { λ r. ⌜ r ≡ layoutVersion ⌝ }
+{
+    VERSION
 }
 
 // Writes the record of these parts in front of the bytes, and says whether there were enough.

@@ -62,6 +62,11 @@ fn calls() {
     word(b"emv_link_failed", link_failed(&mut session, &mut command));
     word(b"emv_stop", stop(&mut session, &mut command));
     word(b"emv_count", count(&session));
+    let mut value = [0u8; 254];
+    word(b"emv_object", object(&session, 0x9F02, &mut value));
+    word(b"emv_wipe", wipe(&mut session));
+    word(b"emv_version", host::emv_version());
+    found(b"emv_find", find(b"\x6F\x04\x84\x02\x41\x42", 0x84));
     word(b"emv_test_read", test_read(&mut store, 1, 1, b"\x70\x00\x90\x00"));
 }
 
@@ -89,6 +94,18 @@ fn count(session: &[u8]) -> u32 {
     host::emv_count(session)
 }
 
+fn object(session: &[u8], tag: u32, value: &mut [u8]) -> u32 {
+    host::emv_object(session, tag, value)
+}
+
+fn wipe(session: &mut [u8]) -> u32 {
+    host::emv_wipe(session)
+}
+
+fn find(bytes: &[u8], tag: u32) -> u64 {
+    host::emv_find(bytes, tag)
+}
+
 fn test_read(store: &mut [u8], awaited: u32, file: u8, card: &[u8]) -> u32 {
     reading_test::emv_test_read(store, awaited, file, card)
 }
@@ -109,5 +126,15 @@ fn word(name: &[u8], word: u32) {
     show::number((word / 65536) as usize);
     show::text(b" ");
     show::number((word % 65536) as usize);
+    show::text(b"\n");
+}
+
+// A place by its two halves.
+fn found(name: &[u8], place: u64) {
+    show::text(name);
+    show::text(b": ");
+    show::number((place / 0x100000000) as usize);
+    show::text(b" ");
+    show::number((place % 0x100000000) as usize);
     show::text(b"\n");
 }

@@ -6,9 +6,9 @@ use mathlib.Core.Bool.{Bool, true}
 use mathlib.Core.List.{List, [], _∷_}
 use mathlib.Core.Option.{Option, some, none}
 use Prim.Native.Nat.{ℕ, _+_, _-_, _%_}
-use lib.Dec.{leb, eqb}
 use lib.ListN.{length, getD, take, drop}
-use Rattle.basics.specs.Choice.{if, both}
+use Rattle.basics.specs.Choice.{if_then_else_, _and_, _≤?_, _=?_}
+use Rattle.basics.specs.Number.{between}
 use Rattle.basics.specs.Reason.{reasonNone, reasonStatus, reasonMalformed, reasonNotAllowed}
 use Rattle.tlv.specs.declared.Front.{Front}
 use Rattle.tlv.specs.declared.Front.the-variants.{Object, Broken}
@@ -61,9 +61,10 @@ templateBody t (some f) = some (template t f)
 abbrev pub frontBody : List ℕ → Front → Option Body
 frontBody s Broken = none
 frontBody s (Object h) =
-    if (eqb (h .start + h .len) (length s))
-    (if (h .template) (templateBody (h .tag) (parse 3 (valueIn s h))) (some (primitive (h .tag) (valueIn s h))))
-    none
+    if h .start + h .len =? length s then
+      if h .template then templateBody (h .tag) (parse 3 (valueIn s h))
+      else some (primitive (h .tag) (valueIn s h))
+    else none
 
 -- the body's tree, or none where the encoding is malformed
 unfoldable pub bodyOf : List ℕ → Option Body
@@ -91,9 +92,9 @@ templateTag Cryptogram = 0x77
 -- under 80, processing options: two bytes for 82 and the rest, a multiple of 4, for 94
 unfoldable pub optionsParts : List ℕ → Option (List Item)
 optionsParts v =
-    if (both (both (leb 6 (length v)) (leb (length v) 250)) (eqb ((length v - 2) % 4) 0))
-    (some (item 0x77 0x82 (take 2 v) ∷ item 0x77 0x94 (drop 2 v) ∷ []))
-    none
+    if between 6 (length v) 250 and (length v - 2) % 4 =? 0 then
+      some (item 0x77 0x82 (take 2 v) ∷ item 0x77 0x94 (drop 2 v) ∷ [])
+    else none
 
 -- what is left of a cryptogram's body is 9F10, if anything is
 unfoldable pub issuerPart : List ℕ → List Item
@@ -103,21 +104,29 @@ issuerPart (a ∷ v) = item 0x77 0x9F10 (a ∷ v) ∷ []
 -- under 80, cryptogram: 9F27, 9F36, 9F26, and 9F10 if any bytes are left; 11 to 43 in all
 unfoldable pub cryptogramParts : List ℕ → Option (List Item)
 cryptogramParts v =
-    if (both (leb 11 (length v)) (leb (length v) 43))
-    (some
-    (item 0x77 0x9F27 (take 1 v) ∷ item 0x77 0x9F36 (take 2 (drop 1 v)) ∷ item 0x77 0x9F26 (take 8 (drop 3 v)) ∷
-    issuerPart (drop 11 v)))
-    none
+    if between 11 (length v) 43 then
+      some
+      (item 0x77 0x9F27 (take 1 v) ∷
+      item 0x77 0x9F36 (take 2 (drop 1 v)) ∷
+      item 0x77 0x9F26 (take 8 (drop 3 v)) ∷
+      issuerPart (drop 11 v))
+    else none
 
 -- what a primitive body brings, or none where the outer tag or body is wrong
 unfoldable pub primitiveParts : Awaited → ℕ → List ℕ → Option (List Item)
-primitiveParts Options t v = if (eqb t 0x80) (optionsParts v) none
+primitiveParts Options t v =
+    if t =? 0x80 then optionsParts v
+    else none
 primitiveParts (Record f) t v = none
-primitiveParts Cryptogram t v = if (eqb t 0x80) (cryptogramParts v) none
+primitiveParts Cryptogram t v =
+    if t =? 0x80 then cryptogramParts v
+    else none
 
 -- what a template brings: its primitive objects at every level, or none where the outer tag is wrong
 unfoldable pub templateParts : Awaited → ℕ → Forest → Option (List Item)
-templateParts a t f = if (eqb t (templateTag a)) (some (items t f)) none
+templateParts a t f =
+    if t =? templateTag a then some (items t f)
+    else none
 
 abbrev pub partsOf : Awaited → Body → Option (List Item)
 partsOf a (primitive t v) = primitiveParts a t v
@@ -127,7 +136,9 @@ partsOf a (template t f) = templateParts a t f
 
 -- after the objects: the store as they left it if all were allowed, else as it was
 abbrev pub judged : List ℕ → ℕ → Work → Outcome
-judged b n w = if (w .good) (outcome reasonNone n (w .store)) (outcome reasonNotAllowed n b)
+judged b n w =
+    if w .good then outcome reasonNone n (w .store)
+    else outcome reasonNotAllowed n b
 
 -- a wrong outer tag or body is reason 2, its count the tree's; else the objects are taken in order
 abbrev pub takenParts : Awaited → List ℕ → ℕ → Option (List Item) → Outcome
@@ -146,22 +157,23 @@ readBody a b s = readTree a b (bodyOf s)
 -- files 1 to 10 are read; of the others only the status is
 unfoldable pub isRead : Awaited → Bool
 isRead Options = true
-isRead (Record f) = leb (f .number) 10
+isRead (Record f) = f .number ≤? 10
 isRead Cryptogram = true
 
 -- the two status bytes at the end are 90 00
 unfoldable pub goodStatus : List ℕ → Bool
-goodStatus s = both (eqb (getD s (length s - 2) 0) 0x90) (eqb (getD s (length s - 1) 0) 0)
+goodStatus s = getD s (length s - 2) 0 =? 0x90 and getD s (length s - 1) 0 =? 0
 
 -- an answer has 2 to 258 bytes
 unfoldable pub goodLength : List ℕ → Bool
-goodLength s = both (leb 2 (length s)) (leb (length s) 258)
+goodLength s = between 2 (length s) 258
 
 -- a whole answer, status bytes included, into the store b
 unfoldable pub readAnswer : Awaited → List ℕ → List ℕ → Outcome
 readAnswer a b s =
-    if (goodLength s)
-    (if (goodStatus s)
-    (if (isRead a) (readBody a b (take (length s - 2) s)) (outcome reasonNone 0 b))
-    (outcome reasonStatus 0 b))
-    (outcome reasonMalformed 0 b)
+    if goodLength s then
+      if goodStatus s then
+        if isRead a then readBody a b (take (length s - 2) s)
+        else outcome reasonNone 0 b
+      else outcome reasonStatus 0 b
+    else outcome reasonMalformed 0 b

@@ -6,7 +6,7 @@ use mathlib.Core.List.{List}
 use mathlib.Core.Option.{Option, some, none}
 use Prim.Native.Nat.{ℕ, _-_}
 use lib.ListN.{length, take}
-use Rattle.basics.specs.Choice.{if, both}
+use Rattle.basics.specs.Choice.{if_then_else_, _and_}
 use Rattle.tlv.specs.Tree.{Forest, end, leaf, node, count, parse}
 use Rattle.reading.specs.declared.Awaited.{Awaited}
 use Rattle.reading.specs.Answer.{goodLength, goodStatus, isRead}
@@ -26,7 +26,9 @@ isOne (node t f r) = isEnd r
 -- the objects of a tree that is one object, this one included; 0 for any other tree and for malformed bytes
 abbrev pub oneCount : Option Forest → ℕ
 oneCount none = 0
-oneCount (some f) = if (isOne f) (count f) 0
+oneCount (some f) =
+    if isOne f then count f
+    else 0
 
 -- the objects of a body: templates nest four levels, the outer one counted
 unfoldable pub bodyObjects : List ℕ → ℕ
@@ -34,4 +36,6 @@ bodyObjects s = oneCount (parse 4 s)
 
 -- the objects of an answer: those of its body, where length and status are good and more than the status is read
 unfoldable pub answerObjects : Awaited → List ℕ → ℕ
-answerObjects a s = if (both (goodLength s) (both (goodStatus s) (isRead a))) (bodyObjects (take (length s - 2) s)) 0
+answerObjects a s =
+    if goodLength s and goodStatus s and isRead a then bodyObjects (take (length s - 2) s)
+    else 0

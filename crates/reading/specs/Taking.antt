@@ -4,8 +4,7 @@
 use mathlib.Core.Bool.{Bool, true, false, not}
 use mathlib.Core.List.{List, [], _∷_, _++_}
 use Prim.Native.Nat.{ℕ}
-use lib.Dec.{eqb}
-use Rattle.basics.specs.Choice.{if, both}
+use Rattle.basics.specs.Choice.{if_then_else_, _and_, _=?_}
 use Rattle.basics.specs.Number.{hasBit}
 use Rattle.tlv.specs.Tag.{isPrivate}
 use Rattle.tlv.specs.Tree.{Forest, end, leaf, node}
@@ -33,7 +32,9 @@ items a (node t f r) = items t f ++ items a r
 -- a template is one of a set of templates
 abbrev pub standsIn : ℕ → ℕ → Bool
 standsIn templates around =
-    if (eqb around 0x70) (hasBit templates in70) (if (eqb around 0x77) (hasBit templates in77) false)
+    if around =? 0x70 then hasBit templates in70
+    else if around =? 0x77 then hasBit templates in77
+    else false
 
 -- a row's object may stand directly inside this template
 unfoldable pub mayStand : Row → ℕ → Bool
@@ -46,11 +47,14 @@ byCard r = hasBit (r .setters) card
 -- the card may bring a row's object in this answer, directly inside this template, with this value: it fits the row
 unfoldable pub mayCome : ℕ → Row → ℕ → List ℕ → Bool
 mayCome answer r around v =
-    both (byCard r) (both (hasBit (r .answers) answer) (both (mayStand r around) (fitting r v)))
+    byCard r
+    and hasBit (r .answers) answer
+    and mayStand r around
+    and fitting r v
 
 -- the card may set row k's object so, and no non-empty one is there
 unfoldable pub allowed : ℕ → List ℕ → ℕ → ℕ → List ℕ → Bool
-allowed answer b k around v = both (mayCome answer (rowAt k) around v) (isFree rows b k)
+allowed answer b k around v = mayCome answer (rowAt k) around v and isFree rows b k
 
 -- the store while objects are taken, and whether every one so far was allowed
 pub record Work : Type 0 where
@@ -63,20 +67,24 @@ work g b = record { good = g; store = b }
 -- a known object: private ones that the card may not set are skipped
 abbrev pub takeKnown : ℕ → List ℕ → Item → ℕ → Work
 takeKnown answer b i k =
-    if (both (isPrivate (i .tag)) (not (byCard (rowAt k)))) (work true b)
-    (if (allowed answer b k (i .around) (i .value)) (work true (putAt rows b k (i .value))) (work false b))
+    if isPrivate (i .tag) and not (byCard (rowAt k)) then work true b
+    else if allowed answer b k (i .around) (i .value) then work true (putAt rows b k (i .value))
+    else work false b
 
+-- by its row in the table; an unknown one is skipped
 abbrev pub takeFound : ℕ → List ℕ → Item → Found → Work
 takeFound answer b i Unknown = work true b
 takeFound answer b i (At k) = takeKnown answer b i k
 
--- one object: unknown ones are skipped
+-- one object
 unfoldable pub takeItem : ℕ → List ℕ → Item → Work
 takeItem answer b i = takeFound answer b i (find rows (i .tag))
 
 -- nothing is taken after an object that is not allowed
 unfoldable pub takeNext : ℕ → Work → Item → Work
-takeNext answer w i = if (w .good) (takeItem answer (w .store) i) w
+takeNext answer w i =
+    if w .good then takeItem answer (w .store) i
+    else w
 
 -- one object after the other
 unfoldable pub takeAll : ℕ → Work → List Item → Work

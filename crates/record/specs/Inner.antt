@@ -1,6 +1,6 @@
--- What private functions promise, for their callers' proofs: what is asked of a row's object, by the bytes of its place.
--- No rule of document 01 stands here: a reader of the rules can pass it over. proofs/Fit ties it to specs/Ranges:
--- `object-keeps` and `all-keeps` to `allFit` and `brought`, `object-brought` to `isBrought`.
+-- What private functions promise, for their callers' proofs: what is asked of a row's object, by the bytes of its
+-- place. No rule of document 01 stands here: a reader of the rules can pass it over. proofs/Fit ties it to
+-- specs/Ranges: `object-keeps` and `all-keeps` to `allFit` and `brought`, `object-brought` to `isBrought`.
 -- Assumes nothing.
 use mathlib.Core.Bool.{Bool, not}
 use mathlib.Core.List.{List}
@@ -23,7 +23,8 @@ placeFits r p =
 abbrev pub broughtBy : ℕ → ℕ → Bool
 broughtBy must first = must =? optional or not (first =? 0)
 
--- what is asked of a place, by what its row says: its object fits, and where `asked` it is there if a start must bring it
+-- what is asked of a place, by what its row says: its object fits, and where `asked` it is there if a start must
+-- bring it
 abbrev pub placeKeeps : Bool → Attributes → List ℕ → Bool
 placeKeeps asked a p =
     placeFits (rowOf a) p

@@ -1,5 +1,5 @@
--- The numbers of outcomes (document 02, Item 1), and which reason goes with which outcome (document 01, "Calls and their
--- numbers").
+-- The numbers of outcomes (document 02, Item 1), and which reason goes with which outcome (document 01, "Calls and
+-- their numbers").
 -- Assumes nothing.
 use mathlib.Core.Bool.{Bool, not}
 use Prim.Native.Nat.{ℕ}

@@ -1,5 +1,5 @@
--- The session record and the reply of a call (document 01, "Calls and their numbers"), built anew only here: a new field
--- is added here.
+-- The session record and the reply of a call (document 01, "Calls and their numbers"), built anew only here: a new
+-- field is added here.
 -- Assumes nothing.
 use mathlib.Core.List.{List}
 use Prim.Native.Nat.{ℕ}
@@ -54,18 +54,6 @@ endOf o n = record { outcome = o; reason = n }
 -- a refusal, by its number; the session is as it was
 abbrev pub refusedReply : Session → ℕ → Reply
 refusedReply s n = record { session = s; answer = Answer.Refused (record { number = n }) }
-
--- the session ends with an outcome and a reason
-abbrev pub endsReply : Session → Outcome → ℕ → Reply
-endsReply s o n = record { session = endedSession s (endOf o n); answer = Answer.Outcome (endOf o n) }
-
--- the session ends for a reason other than 0
-abbrev pub failsReply : Session → ℕ → Reply
-failsReply s n = endsReply s (outcomeFor n) n
-
--- a command of n bytes is handed out, and the session waits on its answer
-abbrev pub commandsReply : Session → ℕ → Reply
-commandsReply s n = record { session = s; answer = Answer.Command (record { size = n }) }
 
 -- ---- turns: a reply without the store
 

@@ -18,8 +18,6 @@ use Rattle.record.specs.declared.Answer.{Answer}
 use Rattle.record.specs.declared.Reply.{Reply}
 use Rattle.record.specs.Session.{freshSession}
 use Rattle.session.specs.Steps.{Step, Did}
-use Rattle.session.proofs.Calls.{answer-long}
-use Rattle.session.proofs.Long.{start-long}
 use Rattle.trace.specs.Calls.{Call, step, play, final}
 use Rattle.run.specs.declared.Header.{Header}
 use Rattle.run.specs.declared.Front.{Front}
@@ -27,6 +25,7 @@ use Rattle.run.specs.declared.Turn.{Turn}
 use Rattle.run.specs.Encoding.{headerSize, bufferAt, endOf, headerIn, isWhole, frontIn, callBy, callIn, withCall, callsOf, highFirst}
 use Rattle.run.specs.Playing.{answerBytes, replyBytes, repliesOf, replySize, leftIn, Plays}
 use Rattle.run.specs.Inner.{overBuffer, Turns}
+use Rattle.run.proofs.Long.{start-long, answer-long}
 use Rattle.run.proofs.Read.{front-whole, front-is, whole-end, calls-end, calls-malformed, calls-call}
 
 -- ---- the bytes that come in

@@ -16,7 +16,7 @@ use borrow.Author.Tests.{lt-ltb, le-ltb, eq-eqb, ne-eqb, not-true, not-false}
 use Rattle.basics.specs.Choice.{if}
 use Rattle.basics.proofs.Laws.{if-yes, if-no, if-ind}
 use Rattle.dictionary.specs.Rows.{rows, rowAt}
-use Rattle.dictionary.specs.Named.{placeFound, placeOf}
+use Rattle.dictionary.specs.Named.{placeFound, placeOf, row94, row95}
 use Rattle.dictionary.proofs.Named.{at-94, at-95}
 use Rattle.store.specs.Place.{bytesOf, valueAt, putAt}
 use Rattle.locator.specs.declared.CardRecord.{CardRecord}
@@ -45,7 +45,7 @@ use Rattle.record.specs.declared.Session.{Session}
 use Rattle.record.specs.declared.Reply.{Reply}
 use Rattle.record.specs.declared.Turn.{Turn}
 use Rattle.basics.specs.Reason.{refusedPhase, refusedBuffer, refusedRanges, reasonNone, reasonMissing, reasonLocator, reasonAboveLimit, reasonDataList, reasonCryptogram, reasonMode, unless}
-use Rattle.record.specs.Session.{stored, sessionOf, replyOf, failsTurn, commandsTurn}
+use Rattle.record.specs.Session.{sessionOf, replyOf, failsTurn, commandsTurn}
 use Rattle.store.specs.Held.{byteIn}
 use Rattle.record.specs.Ranges.{emvMode, locatorIn, completed, inRanges}
 use Rattle.record.specs.Clauses.{noResults}
@@ -182,16 +182,16 @@ decides-on {x} {d} (some o) e f = ap (λ (y : End). some (y .outcome)) (sym e �
 -- ---- the result bits
 
 -- 95 has room for them
-pub results-fit : rowAt 5 .greatest ≡ 5
+pub results-fit : rowAt row95 .greatest ≡ 5
 unfolding rows
 results-fit = refl
 
-pub results-place : placeOf 0x95 ≡ 5
+pub results-place : placeOf 0x95 ≡ row95
 unfolding placeOf
 results-place = ap placeFound at-95
 
 -- the bits as they are stored
-pub results-stored : (b v : List ℕ) {k : List ℕ} → k ≡ putAt rows b 5 v → withResults b v ≡ k
+pub results-stored : (b v : List ℕ) {k : List ℕ} → k ≡ putAt rows b row95 v → withResults b v ≡ k
 unfolding withResults
 results-stored b v g = ap (λ (n : ℕ). putAt rows b n v) results-place ∙ sym g
 
@@ -215,7 +215,7 @@ module _ (n : ℕ) (b buf : List ℕ) {r : Said} {d : List ℕ} where
       ap (startLoaded (sessionOf Phase.Fresh n b) buf) (w .0)
       ∙ ap₂ (λ (c : List ℕ) (y : Said). refuses (sessionOf Phase.Fresh n c) (refusalNumber y) buf) (sym (w .1)) (sym e)
 
-  pub loading-taken : {k : List ℕ} (x : Loaded) → Loads r d b x → r ≡ Said.Taken → k ≡ putAt rows d 5 noResults
+  pub loading-taken : {k : List ℕ} (x : Loaded) → Loads r d b x → r ≡ Said.Taken → k ≡ putAt rows d row95 noResults
       → startLoaded (sessionOf Phase.Fresh n b) buf x ≡ askOptions n k buf
   loading-taken x g e f =
       ap (startLoaded (sessionOf Phase.Fresh n b) buf) (was-taken x g e) ∙ ap (λ (c : List ℕ). askOptions n c buf) (results-stored d noResults f)
@@ -223,8 +223,8 @@ module _ (n : ℕ) (b buf : List ℕ) {r : Said} {d : List ℕ} where
 -- ---- a record of the locator, by the row's value and a number
 
 module _ {v : List ℕ} {k : ℕ} {r x : Found} (f : r ≡ recordAt v k) (e : r ≡ x) where
-  pub found-as : (b : List ℕ) (n : ℕ) → v ≡ bytesOf (valueAt rows b 4) → k ≡ n → recordAt (locatorIn b) n ≡ x
-  found-as b n p q = sym (f ∙ ap₂ recordAt (p ∙ bytes-are b 0x94 4 at-94) q) ∙ e
+  pub found-as : (b : List ℕ) (n : ℕ) → v ≡ bytesOf (valueAt rows b row94) → k ≡ n → recordAt (locatorIn b) n ≡ x
+  found-as b n p q = sym (f ∙ ap₂ recordAt (p ∙ bytes-are b 0x94 row94 at-94) q) ∙ e
 
 -- one that is there has a file of five bits, and is one of the first 128
 pub found-there : (v : List ℕ) (k : ℕ) {r : Found} {w : CardRecord} → r ≡ recordAt v k → r ≡ Found.At w → (w .file < 32) × (k ≤ 128)
@@ -288,7 +288,7 @@ module _ (n : ℕ) (b buf : List ℕ) where
   records-analysed e f = if-no _ _ e ∙ if-no _ _ (ap not f)
 
   -- the result bits as they are found, stored and chosen on
-  pub analysed-as : {r k : List ℕ} {x : Choice} → r ≡ resultOf b → x ≡ chosen b r → k ≡ putAt rows b 5 r → analysed n b buf ≡ askCryptogram n k x buf
+  pub analysed-as : {r k : List ℕ} {x : Choice} → r ≡ resultOf b → x ≡ chosen b r → k ≡ putAt rows b row95 r → analysed n b buf ≡ askCryptogram n k x buf
   unfolding analysed
   analysed-as {r} e f g =
       ap₂ (λ (c : List ℕ) (x : Choice). askCryptogram n c x buf)

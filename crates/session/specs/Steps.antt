@@ -1,6 +1,6 @@
 -- A call's step: the reply that is given and the command buffer that is left; and the refusals that every call checks
--- first (document 01, "Calls and their numbers"). Past the refusals a step goes by the session's count and the bytes of
--- its store.
+-- first (document 01, "Calls and their numbers"). Past the refusals a step goes by the session's count and the bytes
+-- of its store.
 -- Assumes nothing.
 use mathlib.Core.Path.{_≡_}
 use mathlib.Core.Bool.{not}

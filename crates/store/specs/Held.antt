@@ -1,12 +1,11 @@
--- What a store holds of a tag: there, absent, not empty, its bytes one by one (document 01, "Dictionary": one of length 0 is present and
--- empty).
+-- What a store holds of a tag: there, absent, not empty, its bytes one by one (document 01, "Dictionary": one of length 0
+-- is present and empty).
 -- Assumes nothing.
 use mathlib.Core.Bool.{Bool, not}
 use mathlib.Core.List.{List}
 use Prim.Native.Nat.{ℕ, _-_}
-use lib.Dec.{eqb, ltb}
 use lib.ListN.{length, getD}
-use Rattle.basics.specs.Choice.{every}
+use Rattle.basics.specs.Choice.{_<?_, _=?_, every}
 use Rattle.dictionary.specs.Rows.{rows, find}
 use Rattle.dictionary.specs.declared.Found.{Found}
 use Rattle.store.specs.Place.{valueOf, bytesOf, isThere, lengthByte}
@@ -25,14 +24,14 @@ bytesIn b t = bytesOf (valueOf b t)
 
 -- it is there and not empty
 abbrev pub notEmpty : List ℕ → ℕ → Bool
-notEmpty b t = ltb 0 (length (bytesIn b t))
+notEmpty b t = 0 <? length (bytesIn b t)
 
 -- its byte n, the first is byte 1; 0 past the end
 abbrev pub byteIn : List ℕ → ℕ → ℕ → ℕ
 byteIn b t n = getD (bytesIn b t) (n - 1) 0
 
 abbrev pub isZero : ℕ → Bool
-isZero x = eqb x 0
+isZero x = x =? 0
 
 -- all its bytes are zero
 abbrev pub zeroed : List ℕ → ℕ → Bool

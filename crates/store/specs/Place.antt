@@ -4,9 +4,8 @@
 use mathlib.Core.Bool.{Bool, true, false}
 use mathlib.Core.List.{List, [], _∷_, _++_}
 use Prim.Native.Nat.{ℕ, zero, suc, _+_, _-_}
-use lib.Dec.{eqb}
 use lib.ListN.{length, getD, take, drop}
-use Rattle.basics.specs.Choice.{if}
+use Rattle.basics.specs.Choice.{if_then_else_, _=?_}
 use Rattle.dictionary.specs.Rows.{Row, rows, rowIn, rowAt, find}
 use Rattle.store.specs.declared.Span.{Span}
 use Rattle.dictionary.specs.declared.Found.{Found}
@@ -49,7 +48,9 @@ placeAt table b k = take (room (rowIn table k)) (drop (offsetIn table k) b)
 -- what a place holds: its first byte is 0 where the object is absent, else the length + 1
 unfoldable pub held : List ℕ → Value
 held [] = absent
-held (n ∷ v) = if (eqb n 0) absent (present (take (n - 1) v))
+held (n ∷ v) =
+    if n =? 0 then absent
+    else present (take (n - 1) v)
 
 -- the value of row k
 unfoldable pub valueAt : List Row → List ℕ → ℕ → Value
@@ -61,7 +62,7 @@ lengthByte table b k = getD (placeAt table b k) 0 0
 
 -- row k holds no bytes: absent, or present and empty
 abbrev pub isFree : List Row → List ℕ → ℕ → Bool
-isFree table b k = eqb (length (bytesOf (valueAt table b k))) 0
+isFree table b k = length (bytesOf (valueAt table b k)) =? 0
 
 -- the bytes with a length byte and the value v at the place o; bytes behind v stay
 abbrev pub writtenAt : List ℕ → ℕ → List ℕ → List ℕ
@@ -73,7 +74,9 @@ putAt table b k v = writtenAt b (offsetIn table k) v
 
 -- the same where a test passes, else the store as it was
 abbrev pub putIf : Bool → List Row → List ℕ → ℕ → List ℕ → List ℕ
-putIf t table b k v = if t (putAt table b k v) b
+putIf t table b k v =
+    if t then putAt table b k v
+    else b
 
 -- a row's place in the dictionary's store, and the greatest length of its value
 abbrev pub spanOf : ℕ → Span

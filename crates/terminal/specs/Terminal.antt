@@ -5,9 +5,8 @@ use mathlib.Core.Bool.{Bool, true, false, not}
 use mathlib.Core.List.{List, [], _∷_}
 use mathlib.Core.Option.{Option, some, none}
 use Prim.Native.Nat.{ℕ}
-use lib.Dec.{leb, eqb}
 use lib.ListN.{length, getD}
-use Rattle.basics.specs.Choice.{if, both}
+use Rattle.basics.specs.Choice.{if_then_else_, _and_, _≤?_, _=?_}
 use Rattle.basics.specs.Number.{hasBit}
 use Rattle.tlv.specs.Primitives.{Object, primitives}
 use Rattle.dictionary.specs.declared.Found.{Found}
@@ -23,17 +22,23 @@ use Rattle.terminal.specs.declared.Said.{Said}
 
 -- a terminal type must be listed
 unfoldable pub typeListed : ℕ → List ℕ → Bool
-typeListed t v = if (eqb t 0x9F35) (listed (getD v 0 0)) true
+typeListed t v =
+    if t =? 0x9F35 then listed (getD v 0 0)
+    else true
 
 -- a known object that a start may set, of a length and digits that fit, not there yet; a terminal type is listed
 unfoldable pub settable : List ℕ → ℕ → Object → Bool
 settable b k o =
-    both (hasBit (rowAt k .setters) start) (both (fitting (rowAt k) (o .value))
-    (both (not (isThere (valueAt rows b k))) (typeListed (o .tag) (o .value))))
+    hasBit (rowAt k .setters) start
+    and fitting (rowAt k) (o .value)
+    and not (isThere (valueAt rows b k))
+    and typeListed (o .tag) (o .value)
 
 abbrev pub setFound : List ℕ → Object → Found → Option (List ℕ)
 setFound b o Found.Unknown = some b
-setFound b o (Found.At k) = if (settable b k o) (some (putAt rows b k (o .value))) none
+setFound b o (Found.At k) =
+    if settable b k o then some (putAt rows b k (o .value))
+    else none
 
 -- one object: unknown ones are skipped
 unfoldable pub setObject : List ℕ → Object → Option (List ℕ)
@@ -66,7 +71,9 @@ pub data Loaded : Type 0 where
 
 -- all that a start must bring is there
 abbrev pub afterRequired : List ℕ → Loaded
-afterRequired b = if (brought b) (loaded b) (refusal refusedAbsent)
+afterRequired b =
+    if brought b then loaded b
+    else refusal refusedAbsent
 
 abbrev pub afterSetting : Option (List ℕ) → Loaded
 afterSetting none = refusal refusedObject
@@ -82,7 +89,9 @@ mostBytes = 1024
 
 -- the start bytes s into the store b
 unfoldable pub load : List ℕ → List ℕ → Loaded
-load b s = if (leb (length s) mostBytes) (afterRun b (primitives s)) (refusal refusedBytes)
+load b s =
+    if length s ≤? mostBytes then afterRun b (primitives s)
+    else refusal refusedBytes
 
 -- ---- what the call hands back
 

@@ -4,25 +4,28 @@ use mathlib.Core.Path.{_≡_}
 use mathlib.Core.Bool.{Bool, true, false}
 use mathlib.Core.List.{List, [], _∷_, _++_}
 use Prim.Native.Nat.{ℕ, zero, suc, _/_, _%_, _<_}
-use lib.Dec.{ltb, eqb}
 use lib.ListN.{length}
-use Rattle.basics.specs.Choice.{if, both}
+use Rattle.basics.specs.Choice.{if_then_else_, _and_, _<?_, _=?_}
 use Rattle.tlv.specs.Tag.{tagSize, isTemplate}
 use Rattle.tlv.specs.Tree.{Forest, end, leaf, node}
 
 -- a tag's bytes
 unfoldable pub tagBytes : ℕ → List ℕ
 tagBytes t =
-    if (ltb t 0x100) (t ∷ [])
-    (if (ltb t 0x10000) (t / 0x100 ∷ t % 0x100 ∷ []) (t / 0x10000 ∷ t / 0x100 % 0x100 ∷ t % 0x100 ∷ []))
+    if t <? 0x100 then t ∷ []
+    else if t <? 0x10000 then t / 0x100 ∷ t % 0x100 ∷ []
+    else t / 0x10000 ∷ t / 0x100 % 0x100 ∷ t % 0x100 ∷ []
 
 -- a number is a well-formed tag: its bytes are one whole tag
 unfoldable pub wellFormedTag : ℕ → Bool
-wellFormedTag t = both (ltb t 0x1000000) (eqb (tagSize (tagBytes t)) (length (tagBytes t)))
+wellFormedTag t = t <? 0x1000000 and tagSize (tagBytes t) =? length (tagBytes t)
 
 -- a length in as few bytes as it can be
 unfoldable pub lengthBytes : ℕ → List ℕ
-lengthBytes n = if (ltb n 0x80) (n ∷ []) (if (ltb n 0x100) (0x81 ∷ n ∷ []) (0x82 ∷ n / 0x100 ∷ n % 0x100 ∷ []))
+lengthBytes n =
+    if n <? 0x80 then n ∷ []
+    else if n <? 0x100 then 0x81 ∷ n ∷ []
+    else 0x82 ∷ n / 0x100 ∷ n % 0x100 ∷ []
 
 -- an object: tag, length, value
 abbrev pub objectBytes : ℕ → List ℕ → List ℕ

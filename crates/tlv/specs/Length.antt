@@ -2,8 +2,7 @@
 -- Assumes nothing.
 use mathlib.Core.List.{List, [], _∷_}
 use Prim.Native.Nat.{ℕ, _+_, _*_}
-use lib.Dec.{ltb, eqb}
-use Rattle.basics.specs.Choice.{if}
+use Rattle.basics.specs.Choice.{if_then_else_, _<?_, _=?_}
 use Rattle.tlv.specs.declared.LengthFront.{LengthFront}
 use Rattle.tlv.specs.declared.LengthFront.the-variants.{Sized, Unsized}
 
@@ -25,4 +24,8 @@ twoBytes (a ∷ b ∷ s) = sized (a * 256 + b) 3
 -- 00 to 7F is the length itself, 81 has one byte more, 82 two; 80 and 83 up are refused
 unfoldable pub lengthAt : List ℕ → LengthFront
 lengthAt [] = Unsized
-lengthAt (a ∷ s) = if (ltb a 0x80) (sized a 1) (if (eqb a 0x81) (oneByte s) (if (eqb a 0x82) (twoBytes s) Unsized))
+lengthAt (a ∷ s) =
+    if a <? 0x80 then sized a 1
+    else if a =? 0x81 then oneByte s
+    else if a =? 0x82 then twoBytes s
+    else Unsized

@@ -2,9 +2,8 @@
 -- Assumes nothing.
 use mathlib.Core.List.{List}
 use Prim.Native.Nat.{ℕ, _+_}
-use lib.Dec.{leb}
 use lib.ListN.{length, take, drop}
-use Rattle.basics.specs.Choice.{if}
+use Rattle.basics.specs.Choice.{if_then_else_, _≤?_}
 use Rattle.tlv.specs.declared.Tag.{Tag}
 use Rattle.tlv.specs.declared.TagFront.{TagFront}
 use Rattle.tlv.specs.declared.TagFront.the-variants.{Tagged, Untagged}
@@ -24,7 +23,8 @@ header t a n = record { tag = t; start = a; len = n; template = isTemplate t; pr
 abbrev pub withLength : List ℕ → Tag → LengthFront → Front
 withLength s t Unsized = Broken
 withLength s t (Sized e) =
-    if (leb (t .size + e .size + e .len) (length s)) (Object (header (t .number) (t .size + e .size) (e .len))) Broken
+    if t .size + e .size + e .len ≤? length s then Object (header (t .number) (t .size + e .size) (e .len))
+    else Broken
 
 -- a tag: its length follows it
 abbrev pub withTag : List ℕ → TagFront → Front

@@ -4,7 +4,7 @@ use mathlib.Core.Bool.{Bool, true, false}
 use mathlib.Core.List.{List, [], _∷_}
 use mathlib.Core.Option.{Option, some, none}
 use Prim.Native.Nat.{ℕ}
-use Rattle.basics.specs.Choice.{if}
+use Rattle.basics.specs.Choice.{if_then_else_}
 use Rattle.basics.specs.Recursion.{recurse}
 use Rattle.tlv.specs.declared.Front.{Front}
 use Rattle.tlv.specs.Object.{headerOf, valueIn, behind}
@@ -25,7 +25,9 @@ withObject o (some os) = some (o ∷ os)
 -- a template, known or not, is no primitive object
 abbrev pub primitiveFront : Front → Front
 primitiveFront Front.Broken = Front.Broken
-primitiveFront (Front.Object h) = if (h .template) Front.Broken (Front.Object h)
+primitiveFront (Front.Object h) =
+    if h .template then Front.Broken
+    else Front.Object h
 
 -- the primitive object at the front of the bytes
 unfoldable pub primitiveOf : List ℕ → Front

@@ -3,35 +3,42 @@
 use mathlib.Core.Bool.{Bool}
 use mathlib.Core.List.{List, [], _∷_}
 use Prim.Native.Nat.{ℕ, _/_, _%_}
-use lib.Dec.{ltb, leb, eqb}
 use lib.ListN.{take}
-use Rattle.basics.specs.Choice.{if}
+use Rattle.basics.specs.Choice.{if_then_else_, _≤?_, _<?_, _=?_}
 use Rattle.basics.specs.Number.{number, hasBit}
 use Rattle.tlv.specs.declared.TagFront.{TagFront}
 use Rattle.tlv.specs.declared.TagFront.the-variants.{Tagged, Untagged}
 
 -- the low five bits of a first byte, all set, say that another byte follows
 abbrev pub isFollowed : ℕ → Bool
-isFollowed b = eqb (b % 32) 31
+isFollowed b = b % 32 =? 31
 
 -- a later byte with its top bit set is followed by another
 abbrev pub goesOn : ℕ → Bool
-goesOn b = leb 0x80 b
+goesOn b = 0x80 ≤? b
 
 -- with a third byte the tag ends: 3 bytes, or 0 where that byte asks for a fourth or is missing
 unfoldable pub thirdByte : List ℕ → ℕ
 thirdByte [] = 0
-thirdByte (b ∷ s) = if (goesOn b) 0 3
+thirdByte (b ∷ s) =
+    if goesOn b then 0
+    else 3
 
 -- with a second byte, which is not 80
 unfoldable pub secondByte : List ℕ → ℕ
 secondByte [] = 0
-secondByte (b ∷ s) = if (eqb b 0x80) 0 (if (goesOn b) (thirdByte s) 2)
+secondByte (b ∷ s) =
+    if b =? 0x80 then 0
+    else if goesOn b then thirdByte s
+    else 2
 
 -- how many bytes at the front are a tag, 0 where no whole tag stands there; the first byte is not 00
 unfoldable pub tagSize : List ℕ → ℕ
 tagSize [] = 0
-tagSize (b ∷ s) = if (eqb b 0) 0 (if (isFollowed b) (secondByte s) 1)
+tagSize (b ∷ s) =
+    if b =? 0 then 0
+    else if isFollowed b then secondByte s
+    else 1
 
 -- a tag of k bytes that are the number n
 abbrev pub tagged : ℕ → ℕ → TagFront
@@ -39,11 +46,16 @@ tagged n k = Tagged (record { number = n; size = k })
 
 -- the tag at the front: its bytes as one number, and their count
 unfoldable pub tagAt : List ℕ → TagFront
-tagAt s = if (eqb (tagSize s) 0) Untagged (tagged (number (take (tagSize s) s)) (tagSize s))
+tagAt s =
+    if tagSize s =? 0 then Untagged
+    else tagged (number (take (tagSize s) s)) (tagSize s)
 
 -- the first byte of a tag that is given as a number
 unfoldable pub firstByte : ℕ → ℕ
-firstByte t = if (ltb t 0x100) t (if (ltb t 0x10000) (t / 0x100) (t / 0x10000))
+firstByte t =
+    if t <? 0x100 then t
+    else if t <? 0x10000 then t / 0x100
+    else t / 0x10000
 
 -- a template has bit b6 set in its first byte
 unfoldable pub isTemplate : ℕ → Bool
@@ -51,7 +63,7 @@ isTemplate t = hasBit (firstByte t) 32
 
 -- the two top bits of the first byte mark the private class
 unfoldable pub isPrivate : ℕ → Bool
-isPrivate t = eqb (firstByte t / 64) 3
+isPrivate t = firstByte t / 64 =? 3
 
 -- ---- what holds of it, proved in proofs/Laws and proofs/Prefix for all lists
 --   tag-fits         a tag has 1 to 3 bytes, all inside the list

@@ -4,7 +4,7 @@
 use mathlib.Core.List.{List, [], _∷_}
 use mathlib.Core.Option.{Option, some, none}
 use Prim.Native.Nat.{ℕ, zero, suc, _+_}
-use Rattle.basics.specs.Choice.{if}
+use Rattle.basics.specs.Choice.{if_then_else_}
 use Rattle.basics.specs.Recursion.{recurse}
 use Rattle.tlv.specs.declared.Front.{Front}
 use Rattle.tlv.specs.declared.Front.the-variants.{Object, Broken}
@@ -56,8 +56,8 @@ abbrev pub oneObject : (ℕ → List ℕ → Option Forest) → ℕ → List ℕ
 oneObject k levels s End = some end
 oneObject k levels s Malformed = none
 oneObject k levels s (Inner h) =
-    if (h .template) (nested k levels (h .tag) (valueIn s h) (behind s h))
-    (withLeaf (h .tag) (valueIn s h) (k levels (behind s h)))
+    if h .template then nested k levels (h .tag) (valueIn s h) (behind s h)
+    else withLeaf (h .tag) (valueIn s h) (k levels (behind s h))
 
 -- one step of the parse: the object that is next, and what k parses of the bytes in it and behind it, by the levels
 -- still allowed

@@ -14,6 +14,7 @@ use Rattle.basics.specs.Choice.{if, both}
 use Rattle.basics.specs.Number.{hasBit}
 use Rattle.basics.proofs.Laws.{if-ind, if-yes, if-no, both-yes, both-left, both-right, both-no-left}
 use Rattle.basics.proofs.Order.{equal-or-not}
+use Rattle.dictionary.specs.Named.{row94}
 use Rattle.dictionary.specs.declared.Found.{Found}
 use Rattle.dictionary.specs.declared.Found.the-variants.{At, Unknown}
 use Rattle.dictionary.specs.Rows.{rows, rowAt, find, storeSize, in70}
@@ -33,10 +34,10 @@ use Rattle.trace.proofs.Rules.{no}
 
 -- the bytes of the locator's row
 abbrev held : List ℕ → List ℕ
-held b = bytesOf (valueAt rows b 4)
+held b = bytesOf (valueAt rows b row94)
 
 -- that row: its tag, where its object may stand, and how long it is at least
-row-94 : (rowAt 4 .tag ≡ 0x94) × (hasBit (rowAt 4 .templates) in70 ≡ false) × (rowAt 4 .least ≡ 4) × (byCard (rowAt 4) ≡ true)
+row-94 : (rowAt row94 .tag ≡ 0x94) × (hasBit (rowAt row94 .templates) in70 ≡ false) × (rowAt row94 .least ≡ 4) × (byCard (rowAt row94) ≡ true)
 unfolding rows
 row-94 = (refl, refl, refl, refl)
 
@@ -64,7 +65,7 @@ stays answer w is v l n e =
     omega (arith, ap length h))) ∙ h) w is (all-any is) (l, e) .1
 
 -- what stands in a template that its row names
-stands : (around : ℕ) → mayStand (rowAt 4) around ≡ true → around ≡ 0x77
+stands : (around : ℕ) → mayStand (rowAt row94) around ≡ true → around ≡ 0x77
 unfolding mayStand
 stands around e = go (equal-or-not around 0x70) (equal-or-not around 0x77)
   where
@@ -94,8 +95,8 @@ module _ (answer : ℕ) (b : List ℕ) (i : Item) (is : List Item) (l : length b
   bad : Goes (work false b)
   bad g h = no (sym (bad-stays answer (work false b) is refl) ∙ g)
 
-  is-4 : (k : ℕ) → find rows (i .tag) ≡ At k → i .tag ≡ 0x94 → k ≡ 4
-  is-4 k f t = let z : At k ≡ At 4 = sym f ∙ ap (find rows) t ∙ at-94 in cc
+  is-94 : (k : ℕ) → find rows (i .tag) ≡ At k → i .tag ≡ 0x94 → k ≡ row94
+  is-94 k f t = let z : At k ≡ At row94 = sym f ∙ ap (find rows) t ∙ at-94 in cc
 
   put : (k : ℕ) → find rows (i .tag) ≡ At k → allowed answer b k (i .around) (i .value) ≡ true → Goes (work true (putAt rows b k (i .value)))
   unfolding allowed mayCome firstLocator
@@ -115,9 +116,9 @@ module _ (answer : ℕ) (b : List ℕ) (i : Item) (is : List Item) (l : length b
           skip (not-94 i n) (putAt rows b k (i .value)) size
           (ap bytesOf (put-other rows b k (i .value) fit 4 (λ z. n (sym (found rows (i .tag) k f .1) ∙ ap (λ (j : ℕ). rowAt j .tag) (sym z) ∙ row-94 .0))) ∙ e)
       go (inl t) = λ g h.
-          let q = is-4 k f t in
-          let s : mayStand (rowAt 4) (i .around) ≡ true = subst (λ (j : ℕ). mayStand (rowAt j) (i .around) ≡ true) q (both-left _ _ here-fits) in
-          let y : rowAt 4 .least ≤ length (i .value) = subst (λ (j : ℕ). rowAt j .least ≤ length (i .value)) q (fits-length (rowAt k) (i .value) (both-right _ _ here-fits) .0) in
+          let q = is-94 k f t in
+          let s : mayStand (rowAt row94) (i .around) ≡ true = subst (λ (j : ℕ). mayStand (rowAt j) (i .around) ≡ true) q (both-left _ _ here-fits) in
+          let y : rowAt row94 .least ≤ length (i .value) = subst (λ (j : ℕ). rowAt j .least ≤ length (i .value)) q (fits-length (rowAt k) (i .value) (both-right _ _ here-fits) .0) in
           let n : 0 < length (i .value) = omega (arith, row-94 .2) in
           let here : held (putAt rows b k (i .value)) ≡ i .value =
           subst (λ (j : ℕ). bytesOf (valueAt rows (putAt rows b k (i .value)) j) ≡ i .value) q (ap bytesOf (put-get rows b k (i .value) fit)) in
@@ -127,7 +128,7 @@ module _ (answer : ℕ) (b : List ℕ) (i : Item) (is : List Item) (l : length b
   known : (k : ℕ) → find rows (i .tag) ≡ At k → Goes (takeKnown answer b i k)
   known k f =
       if-ind Goes _ _ _
-      (λ s. skip (not-94 i (λ t. no (sym (subst (λ (j : ℕ). not (byCard (rowAt j)) ≡ false) (sym (is-4 k f t)) (ap not (row-94 .3))) ∙ both-right _ _ s))) b l e)
+      (λ s. skip (not-94 i (λ t. no (sym (subst (λ (j : ℕ). not (byCard (rowAt j)) ≡ false) (sym (is-94 k f t)) (ap not (row-94 .3))) ∙ both-right _ _ s))) b l e)
       (λ s. if-ind Goes _ _ _ (put k f) (λ a. bad))
 
   one : Goes (takeNext answer (work true b) i)
@@ -135,7 +136,7 @@ module _ (answer : ℕ) (b : List ℕ) (i : Item) (is : List Item) (l : length b
   one = subst Goes (sym (if-yes _ _ refl)) (go (find rows (i .tag)) refl)
     where
       go : (x : Found) → find rows (i .tag) ≡ x → Goes (takeFound answer b i x)
-      go Unknown f = skip (not-94 i (λ t. let z : Unknown ≡ At 4 = sym f ∙ ap (find rows) t ∙ at-94 in let n : _≡_ {A = ℕ} 0 1 = cc in omega arith)) b l e
+      go Unknown f = skip (not-94 i (λ t. let z : Unknown ≡ At row94 = sym f ∙ ap (find rows) t ∙ at-94 in let n : _≡_ {A = ℕ} 0 1 = cc in omega arith)) b l e
       go (At k) f = known k f
 
 brings : (answer : ℕ) (b : List ℕ) (is : List Item) → length b ≡ storeSize → held b ≡ [] → Brings answer is (work true b) is
@@ -193,5 +194,5 @@ pub locator-brought : (b card : List ℕ) → length b ≡ storeSize → bytesOf
     → 0 < length (bytesOf (valueOf (readAnswer Awaited.Options b card .store) 0x94))
     → broughtLocator card ≡ some (bytesOf (valueOf (readAnswer Awaited.Options b card .store) 0x94))
 locator-brought b card l e z h =
-    let same : bytesOf (valueOf (readAnswer Awaited.Options b card .store) 0x94) ≡ held (readAnswer Awaited.Options b card .store) = ap bytesOf (by-row rows _ 0x94 4 at-94) in
-    read-brought b l (sym (ap bytesOf (by-row rows b 0x94 4 at-94)) ∙ e) card z (subst (λ (v : List ℕ). 0 < length v) same h) ∙ ap some (sym same)
+    let same : bytesOf (valueOf (readAnswer Awaited.Options b card .store) 0x94) ≡ held (readAnswer Awaited.Options b card .store) = ap bytesOf (by-row rows _ 0x94 row94 at-94) in
+    read-brought b l (sym (ap bytesOf (by-row rows b 0x94 row94 at-94)) ∙ e) card z (subst (λ (v : List ℕ). 0 < length v) same h) ∙ ap some (sym same)

@@ -35,7 +35,7 @@ use Rattle.record.specs.Session.{freshSession, endOf}
 use Rattle.terminal.specs.Terminal.{typeListed, settable, setObject, setAll, load}
 use Rattle.session.specs.Steps.{withResults, admitted}
 use Rattle.session.specs.Start.{askOptions}
-use Rattle.session.specs.Answer.{accepted, optionsRead, optionsStep, optionsReason}
+use Rattle.session.specs.Answer.{storedReason, optionsRead, optionsStep, optionsReason}
 use Rattle.trace.specs.Calls.{Call, start, answer, link-failed, stop, play, final, commands, taken}
 use Rattle.trace.specs.Order.{broughtLocator, firstAnswer, acceptedLocator, options, record-command, cryptogram, published}
 
@@ -98,7 +98,7 @@ pub record Worked : Type 0 where
   not-emv-end : final freshSession notEmv .phase ≡ Phase.Ended (endOf (outcomeFor reasonMode) reasonMode)
 
 pub worked : Worked
-unfolding commands play final taken acceptedLocator firstAnswer broughtLocator optionsReason admitted endedRanges goesWith outcomeFor inRanges allFit objectFits lengthIn lengthByte freshRanges optionsRanges running cryptogramAbsent askOptions processingOptions optionsOf filledBy fillingOf listEntries recurse recurseBy along lengthBytes optionsStep accepted optionsRead recordAt kth nth accepts wholeEntries entriesOf keeps sumOf recordsOf runOf readAnswer goodLength goodStatus isRead readBody bodyOf primitiveParts optionsParts takeAll takeNext takeItem allowed mayCome mayStand withResults placeOf load primitives withObject primitiveOf headerOf tagAt tagSize secondByte thirdByte lengthAt firstByte isTemplate isPrivate numberFrom if both either every rows past find settable setObject setAll fitting digitsFit numeric nibbles typeListed listed offsetIn placeAt held valueAt putAt valueIn brought isBrought
+unfolding commands play final taken acceptedLocator firstAnswer broughtLocator optionsReason admitted endedRanges goesWith outcomeFor inRanges allFit objectFits lengthIn lengthByte freshRanges optionsRanges running cryptogramAbsent askOptions processingOptions optionsOf filledBy fillingOf listEntries recurse recurseBy along lengthBytes optionsStep storedReason optionsRead recordAt kth nth accepts wholeEntries entriesOf keeps sumOf recordsOf runOf readAnswer goodLength goodStatus isRead readBody bodyOf primitiveParts optionsParts takeAll takeNext takeItem allowed mayCome mayStand withResults placeOf load primitives withObject primitiveOf headerOf tagAt tagSize secondByte thirdByte lengthAt firstByte isTemplate isPrivate numberFrom if both either every rows past find settable setObject setAll fitting digitsFit numeric nibbles typeListed listed offsetIn placeAt held valueAt putAt valueIn brought isBrought
 worked =
     record {
       begun-sent = refl;

@@ -1,5 +1,5 @@
 -- What an answer's step hands back, by the rules: a command to a session that waits on processing options exactly where the rules give no
--- reason (by their tests in order), and none taken before that one (by induction over the calls, since start alone leads out of fresh).
+-- reason (a store without one has a first record), and none taken before that one (by induction over the calls, since start alone leads out of fresh).
 -- Assumes nothing.
 use mathlib.Core.Path.{_≡_, refl, sym, ap, subst, _∙_}
 use mathlib.Core.Bool.{Bool, true, false}
@@ -9,10 +9,9 @@ use mathlib.Core.Option.{some}
 use Prim.Native.Nat.{ℕ}
 use native.Mathlib.Omega.{arith}
 use lib.Dec.{eqb}
-use lib.ListN.{length}
-use Rattle.basics.specs.Choice.{if, both}
+use borrow.Author.Tests.{eqb-true}
+use Rattle.basics.specs.Choice.{if}
 use Rattle.basics.proofs.Laws.{if-ind, if-yes, if-no, bool-cases}
-use Rattle.basics.specs.Reason.{reasonNone, reasonMissing, reasonLocator, reasonMode}
 use Rattle.locator.specs.declared.Found.{Found}
 use Rattle.locator.specs.Records.{accepts, recordAt}
 use Rattle.locator.proofs.Laws.{accepted-total, record-there}
@@ -20,16 +19,14 @@ use Rattle.reading.specs.declared.Awaited.{Awaited}
 use Rattle.reading.specs.Answer as reading
 use Rattle.record.specs.declared.Phase.{Phase}
 use Rattle.record.specs.declared.Session.{Session}
-use Rattle.record.specs.declared.Reply.{Reply}
 use Rattle.record.specs.Session.{stored}
-use Rattle.store.specs.Held.{holds}
-use Rattle.record.specs.Ranges.{emvMode, locatorIn}
-use Rattle.session.specs.Steps.{Step, withoutCommand, fails, withStore, admitted, endsIn, brokenOff}
+use Rattle.record.specs.Ranges.{locatorIn}
+use Rattle.session.specs.Steps.{Step, fails, admitted, brokenOff}
 use Rattle.session.specs.Start.{startStep}
-use Rattle.session.specs.Answer.{accepted, askFound, optionsRead, optionsStep, storedReason, optionsReason, answerIn, answerStep}
+use Rattle.session.specs.Answer.{askFound, storedReason, optionsRead, optionsStep, optionsReason, answerIn, answerStep}
 use Rattle.basics.specs.Reason.{reasonLink, reasonStopped}
-use Rattle.session.proofs.Ways as ways
-use Rattle.session.proofs.Ways.{OptionsWay, AnswerWay, answer-way, StartWay, start-way}
+use Rattle.trace.proofs.Ways as ways
+use Rattle.trace.proofs.Ways.{stored-none, OptionsWay, AnswerWay, answer-way, StartWay, start-way, BrokenWay, broken-way}
 use Rattle.trace.specs.Calls.{Call, start, answer, link-failed, stop, step, Made, made, play, isRefusal, isCommand, isAnswer, taken}
 use Rattle.trace.specs.Order.{firstAnswer}
 use Rattle.trace.specs.Claim.{isRunning}
@@ -42,17 +39,6 @@ no e = let z : _≡_ {A = ℕ} 0 1 = cc in absurd (omega arith)
 abbrev hands : Step → Bool
 hands st = isCommand (st .reply .answer)
 
--- the three tests, one after the other
-by-tests : (t : Session) (buf : List ℕ) (x y z : Bool) (f : Found) → (z ≡ true → f ≡ Found.Nothing → ⊥)
-    → hands (if x (if y (if z (askFound t 1 buf f) (fails t reasonLocator buf)) (fails t reasonMode buf)) (fails t reasonMissing buf))
-    ≡ eqb (if x (if y (if z reasonNone reasonLocator) reasonMode) reasonMissing) 0
-unfolding if
-by-tests t buf false y z f h = refl
-by-tests t buf true false z f h = refl
-by-tests t buf true true false f h = refl
-by-tests t buf true true true Found.Nothing h = absurd (h refl refl)
-by-tests t buf true true true (Found.At r) h = refl
-
 -- a locator that is accepted has a first record
 there : (l : List ℕ) → accepts l ≡ true → recordAt l 1 ≡ Found.Nothing → ⊥
 there l a e =
@@ -60,23 +46,27 @@ there l a e =
     let z : _≡_ {A = ℕ} 0 1 = cc in
     omega arith
 
-read-hands : (t : Session) (buf : List ℕ) → hands (optionsRead t buf) ≡ eqb (storedReason (stored t)) 0
-unfolding optionsRead
-read-hands t buf =
-    let b = stored t in
-    by-tests t buf (both (holds b 0x82) (holds b 0x94)) (emvMode b) (accepts (locatorIn b)) (recordAt (locatorIn b) 1)
-    (λ a e. there (locatorIn b) a e)
-
-by-reason : (s : Session) (buf : List ℕ) (o : reading.Outcome) (x : Bool) → eqb (o .reason) 0 ≡ x
-    → hands (if x (optionsRead (withStore s (o .store)) buf) (fails s (o .reason) buf)) ≡ eqb (if x (storedReason (o .store)) (o .reason)) 0
+by-test : (n : ℕ) (b buf : List ℕ) (x : Bool) → eqb (storedReason b) 0 ≡ x → (f : Found) → recordAt (locatorIn b) 1 ≡ f
+    → hands (if x (askFound n b 1 buf f) (fails n b (storedReason b) buf)) ≡ x
 unfolding if
-by-reason s buf o true e = read-hands (withStore s (o .store)) buf
-by-reason s buf o false e = sym e
+by-test n b buf false e f g = refl
+by-test n b buf true e Found.Nothing g = absurd (there (locatorIn b) (stored-none b (eqb-true (storedReason b) 0 e) .1) g)
+by-test n b buf true e (Found.At r) g = refl
+
+read-hands : (n : ℕ) (b buf : List ℕ) → hands (optionsRead n b buf) ≡ eqb (storedReason b) 0
+unfolding optionsRead
+read-hands n b buf = by-test n b buf (eqb (storedReason b) 0) refl (recordAt (locatorIn b) 1) refl
+
+by-reason : (n : ℕ) (b buf : List ℕ) (o : reading.Outcome) (x : Bool) → eqb (o .reason) 0 ≡ x
+    → hands (if x (optionsRead n (o .store) buf) (fails n b (o .reason) buf)) ≡ eqb (if x (storedReason (o .store)) (o .reason)) 0
+unfolding if
+by-reason n b buf o true e = read-hands n (o .store) buf
+by-reason n b buf o false e = sym e
 
 -- a command comes exactly where the rules give no reason
-pub hands-by-rules : (s : Session) (card buf : List ℕ) → hands (optionsStep s card buf) ≡ eqb (optionsReason (stored s) card) 0
-unfolding optionsStep accepted optionsReason
-hands-by-rules s card buf = let o = reading.readAnswer Awaited.Options (stored s) card in by-reason s buf o (eqb (o .reason) 0) refl
+pub hands-by-rules : (n : ℕ) (b card buf : List ℕ) → hands (optionsStep n b card buf) ≡ eqb (optionsReason b card) 0
+unfolding optionsStep optionsReason
+hands-by-rules n b card buf = let o = reading.readAnswer Awaited.Options b card in by-reason n b buf o (eqb (o .reason) 0) refl
 
 -- ---- the call answer, by the session's phase
 
@@ -86,7 +76,8 @@ module _ (s : Session) (card buf : List ℕ) where
   unfolding admitted
   sent-by-rules q =
       if-ind P _ _ _ (λ e h. no h)
-      (λ e. if-ind P _ _ _ (λ r. subst (λ (p : Phase). P (answerIn p s card buf)) (sym q) (λ h. sym (hands-by-rules s card buf) ∙ h)) (λ r h. no h))
+      (λ e. if-ind P _ _ _ (λ r h. no h)
+      (λ r. subst (λ (p : Phase). P (answerIn p s card buf)) (sym q) (λ h. sym (hands-by-rules (s .count) (stored s) card buf) ∙ h)))
     where
       P : Step → Type 0
       P st = hands st ≡ true → eqb (optionsReason (stored s) card) 0 ≡ true
@@ -94,7 +85,7 @@ module _ (s : Session) (card buf : List ℕ) where
   -- it is refused while the session does not run
   pub answer-off : isRunning (s .phase) ≡ false → isRefusal (answerStep s card buf .reply .answer) ≡ true
   unfolding admitted
-  answer-off n = if-ind P _ _ _ (λ e. refl) (λ e. if-ind P _ _ _ (λ r. go (s .phase) n) (λ r. refl))
+  answer-off n = if-ind P _ _ _ (λ e. refl) (λ e. if-ind P _ _ _ (λ r. refl) (λ r. go (s .phase) n))
     where
       P : Step → Type 0
       P st = isRefusal (st .reply .answer) ≡ true
@@ -154,19 +145,12 @@ module _ (s : Session) (e : early (s .phase) ≡ true) where
       go (AnswerWay.cryptogram a i q w) = λ x. no (sym (ap early q) ∙ e)
   answer-stays card buf (inr f) = no (sym f)
 
-  broken-stays : (c : Call) (n : ℕ) (buf : List ℕ) → Stays c (withoutCommand (brokenOff s n (length buf)) buf)
-  unfolding admitted
-  broken-stays c n buf = if-ind P _ _ _ (λ b x. e) (λ b. if-ind P _ _ _ (λ r. go (s .phase)) (λ r x. e))
+  broken-stays : (c : Call) (n : ℕ) (buf : List ℕ) → Stays c (brokenOff s n buf)
+  broken-stays c n buf = go (broken-way s n buf)
     where
-      P : Reply → Type 0
-      P y = Stays c (withoutCommand y buf)
-
-      go : (p : Phase) → P (endsIn p s n)
-      go Phase.Fresh = λ x. e
-      go Phase.Options = λ x. refl
-      go (Phase.Record p) = λ x. refl
-      go (Phase.Cryptogram a) = λ x. refl
-      go (Phase.Ended z) = λ x. e
+      go : {st : Step} → BrokenWay s n buf st → Stays c st
+      go (BrokenWay.refused m) = λ x. e
+      go (BrokenWay.broken i) = λ x. refl
 
   stays : (c : Call) → Stays c (step s c)
   stays (start bytes buf) = start-stays bytes buf

@@ -32,18 +32,18 @@ use Rattle.record.specs.declared.Phase.{Phase}
 use Rattle.record.specs.declared.Session.{Session}
 use Rattle.record.specs.declared.Reply.{Reply}
 use Rattle.basics.specs.Reason.{reasonLink, reasonStopped}
-use Rattle.record.specs.Session.{stored, endsReply}
+use Rattle.record.specs.Session.{stored, endOf}
 use Rattle.record.specs.Ranges.{locatorIn, inRanges}
 use Rattle.record.specs.Clauses.{noResults}
 use Rattle.record.proofs.Phases.{store-size, on-fresh, on-options, on-record, count-most}
 use Rattle.session.specs.Steps as steps
-use Rattle.session.specs.Steps.{Step, withoutCommand, refuses, withStore, withResults, admitted, endsIn, brokenOff}
+use Rattle.session.specs.Steps.{Step, withoutCommand, refuses, withResults, admitted, endsIn, brokenOff}
 use Rattle.session.specs.Start.{startStep}
-use Rattle.session.specs.Answer.{optionsReason, answerStep}
-use Rattle.session.proofs.Kept.{read-locator}
-use Rattle.session.proofs.Ways as ways
-use Rattle.session.proofs.Ways.{OptionsWay, RecordsWay, RecordWay, CryptogramWay, AnswerWay, answer-way, StartWay, start-way, analysedSession, choiceIn, loadedSession}
-use Rattle.session.proofs.Ranges.{start-keeps, answer-keeps, link-keeps, stop-keeps}
+use Rattle.session.specs.Answer.{recordPhase, optionsReason, cryptogramPhase, answerStep}
+use Rattle.trace.proofs.Kept.{read-locator}
+use Rattle.trace.proofs.Ways as ways
+use Rattle.trace.proofs.Ways.{OptionsWay, RecordsWay, RecordWay, CryptogramWay, AnswerWay, answer-way, StartWay, start-way, analysedSession, choiceIn, loadedSession}
+use Rattle.trace.proofs.Ranges.{start-keeps, answer-keeps, link-keeps, stop-keeps}
 use Rattle.trace.specs.Calls.{Call, start, answer, link-failed, stop, step, Made, made, play, final, isRefusal, isCommand, isOutcome, said, commandIn, commands, taken, lastOf, isAnswer, anAnswer, notAnswered, unanswered}
 use Rattle.trace.specs.Order.{broughtLocator, firstAnswer, locatorOf, acceptedLocator, Kind, options, record-command, cryptogram, kindOf, published}
 use Rattle.trace.specs.Claim.{Proper, isFresh, isRunning, isEnded, noneTaken, lastCommand, lastOutcome, most, oneIf}
@@ -230,7 +230,7 @@ Goes s c st =
 goes-refused : (s : Session) (c : Call) (n : ℕ) (buf : List ℕ) → Goes s c (refuses s n buf)
 goes-refused s c n buf sent tk f r = subst (λ (x : List Made). Run s sent x f) (sym (if-yes _ _ refl)) r
 
-goes-ended : (s : Session) (c : Call) (b : List ℕ) (o : Outcome) (n : ℕ) (buf : List ℕ) → isEnded (s .phase) ≡ false → Goes s c (withoutCommand (endsReply (withStore s b) o n) buf)
+goes-ended : (s : Session) (c : Call) (b : List ℕ) (o : Outcome) (n : ℕ) (buf : List ℕ) → isEnded (s .phase) ≡ false → Goes s c (withoutCommand (steps.ended (s .count) b (endOf o n)) buf)
 goes-ended s c b o n buf e sent tk f r =
     subst (λ (x : List Made). Run s sent x f) (sym (if-no _ _ refl))
     (record {
@@ -245,7 +245,7 @@ goes-ended s c b o n buf e sent tk f r =
     })
   where
     m : Made
-    m = made s c (withoutCommand (endsReply (withStore s b) o n) buf)
+    m = made s c (withoutCommand (steps.ended (s .count) b (endOf o n)) buf)
 
     left : Front (map kindOf sent) (rest (s .phase) (locatorIn (stored s)) (acceptedIn (m ∷ tk))) × (length sent ≡ 0)
     left = none-left sent _ (r .order)
@@ -254,10 +254,10 @@ goes-ended s c b o n buf e sent tk f r =
 abbrev Next : Session → Call → List ℕ → Phase → List ℕ → List ℕ → Type 0
 Next s c b p x buf =
     (sent : List (List ℕ)) (tk : List Made) → Front (map kindOf sent) (rest p (locatorIn b) (acceptedIn tk))
-    → Front (kindOf x ∷ map kindOf sent) (rest (s .phase) (locatorIn (stored s)) (acceptedIn (made s c (steps.commands (withStore s b) p x buf) ∷ tk)))
+    → Front (kindOf x ∷ map kindOf sent) (rest (s .phase) (locatorIn (stored s)) (acceptedIn (made s c (steps.commands (s .count) b p x buf) ∷ tk)))
 
 goes-sent : (s : Session) (c : Call) (b : List ℕ) (p : Phase) (x buf : List ℕ) → isEnded (s .phase) ≡ false → isRunning p ≡ true
-    → (isRunning (s .phase) ≡ true → isAnswer c ≡ true) → Next s c b p x buf → Goes s c (steps.commands (withStore s b) p x buf)
+    → (isRunning (s .phase) ≡ true → isAnswer c ≡ true) → Next s c b p x buf → Goes s c (steps.commands (s .count) b p x buf)
 goes-sent s c b p x buf e q z next sent tk f r =
     subst (λ (y : List Made). Run s (take (length x) (x ++ drop (length x) buf) ∷ sent) y f) (sym (if-no _ _ refl))
     (subst (λ (y : List ℕ). Run s (y ∷ sent) (m ∷ tk) f) (sym sent-bytes)
@@ -273,7 +273,7 @@ goes-sent s c b p x buf e q z next sent tk f r =
     }))
   where
     m : Made
-    m = made s c (steps.commands (withStore s b) p x buf)
+    m = made s c (steps.commands (s .count) b p x buf)
 
     sent-bytes : take (length x) (x ++ drop (length x) buf) ≡ x
     sent-bytes = take-at x (drop (length x) buf) (length x) refl
@@ -288,7 +288,7 @@ start-goes s bytes buf = go (start-way s bytes buf)
     go (StartWay.unlisted b i q e) = goes-ended s (start bytes buf) (withResults b noResults) _ _ buf (ap isEnded q)
     go (StartWay.asked b c i q e f) =
         goes-sent s (start bytes buf) (withResults b noResults) Phase.Options c buf (ap isEnded q) refl (λ w. no (sym (ap isRunning q) ∙ w))
-        (λ sent tk h. let m = made s (start bytes buf) (steps.commands (loadedSession s b) Phase.Options c buf) in
+        (λ sent tk h. let m = made s (start bytes buf) (steps.commands (s .count) (stored (loadedSession s b)) Phase.Options c buf) in
         subst (λ (p : Phase). Front (kindOf c ∷ map kindOf sent) (rest p (locatorIn (stored s)) (acceptedIn (m ∷ tk)))) (sym q)
         (subst (λ (x : Option Made). Front (kindOf c ∷ map kindOf sent) (published cryptogram (locatorOf x))) (sym (passed-over m tk refl))
         (front-cons (kindOf c) options (map kindOf sent) (published cryptogram (acceptedIn tk)) (drop 1 (published cryptogram (acceptedIn tk)))
@@ -320,7 +320,7 @@ module _ (s : Session) (card buf : List ℕ) where
       l = locatorIn b
 
       m : Made
-      m = made s call (steps.commands (withStore s b) (Phase.Record (record { number = 1 })) (readRecord r) buf)
+      m = made s call (steps.commands (s .count) b (recordPhase 1) (readRecord r) buf)
 
       here : broughtLocator card ≡ some l
       here =
@@ -343,7 +343,7 @@ module _ (s : Session) (card buf : List ℕ) where
     records-goes e RecordsWay.unlisted = goes-ended s call _ _ _ buf (ap isEnded q)
     records-goes e (RecordsWay.asked c f g) =
         goes-sent s call (withResults b (resultOf b)) _ c buf (ap isEnded q) refl (λ w. refl)
-        (λ sent tk h. left (kindOf c ∷ map kindOf sent) (acceptedIn (made s call (steps.commands (analysedSession (ways.taken w s card)) (Phase.Cryptogram (record { choice = choiceIn (ways.taken w s card) })) c buf) ∷ tk))
+        (λ sent tk h. left (kindOf c ∷ map kindOf sent) (acceptedIn (made s call (steps.commands (s .count) (stored (analysedSession (ways.taken w s card))) (cryptogramPhase (choiceIn (ways.taken w s card))) c buf) ∷ tk))
         (front-cons (kindOf c) cryptogram (map kindOf sent) (map reads (drop (p .number) (records (locatorIn b))) ++ (cryptogram ∷ [])) []
         (ap (λ (x : List CardRecord). map reads x ++ (cryptogram ∷ [])) (no-record (locatorIn b) (p .number) (ap accepts same ∙ on-record s i p q .locator) e))
         (kind-cryptogram c (list.cryptogram-proper (stored (analysedSession (ways.taken w s card))) c (p1Of (choiceIn (ways.taken w s card))) g)) h))
@@ -351,7 +351,7 @@ module _ (s : Session) (card buf : List ℕ) where
     record-goes : {st : Step} → RecordWay p (ways.taken w s card) buf st → Goes s call st
     record-goes (RecordWay.next r e) =
         goes-sent s call b (Phase.Record (record { number = p .number + 1 })) (readRecord r) buf (ap isEnded q) refl (λ w. refl)
-        (λ sent tk h. left (kindOf (readRecord r) ∷ map kindOf sent) (acceptedIn (made s call (steps.commands (ways.taken w s card) (Phase.Record (record { number = p .number + 1 })) (readRecord r) buf) ∷ tk))
+        (λ sent tk h. left (kindOf (readRecord r) ∷ map kindOf sent) (acceptedIn (made s call (steps.commands (s .count) (stored (ways.taken w s card)) (recordPhase (p .number + 1)) (readRecord r) buf) ∷ tk))
         (front-cons (kindOf (readRecord r)) (reads r) (map kindOf sent) (map reads (drop (p .number) (records (locatorIn b))) ++ (cryptogram ∷ []))
         (map reads (drop (p .number + 1) (records (locatorIn b))) ++ (cryptogram ∷ []))
         (ap (λ (x : List CardRecord). map reads x ++ (cryptogram ∷ [])) (next-record (locatorIn b) (p .number) r e)) (kind-record r) h))
@@ -378,15 +378,15 @@ module _ (s : Session) (card buf : List ℕ) where
 
 -- ---- link failed and stop
 
-broken-goes : (s : Session) (c : Call) (n : ℕ) (buf : List ℕ) → Goes s c (withoutCommand (brokenOff s n (length buf)) buf)
+broken-goes : (s : Session) (c : Call) (n : ℕ) (buf : List ℕ) → Goes s c (brokenOff s n buf)
 unfolding admitted
 broken-goes s c n buf =
-    if-ind P _ _ _ (λ e. goes-refused s c _ buf) (λ e. if-ind P _ _ _ (λ r. go (s .phase) refl) (λ r. goes-refused s c _ buf))
+    if-ind P _ _ _ (λ e. goes-refused s c _ buf) (λ e. if-ind P _ _ _ (λ r. goes-refused s c _ buf) (λ r. go (s .phase) refl))
   where
-    P : Reply → Type 0
-    P y = Goes s c (withoutCommand y buf)
+    P : Step → Type 0
+    P = Goes s c
 
-    go : (p : Phase) → s .phase ≡ p → P (endsIn p s n)
+    go : (p : Phase) → s .phase ≡ p → P (endsIn p s n buf)
     go Phase.Fresh q = goes-refused s c _ buf
     go Phase.Options q = goes-ended s c (stored s) _ n buf (ap isEnded q)
     go (Phase.Record p) q = goes-ended s c (stored s) _ n buf (ap isEnded q)

@@ -1,7 +1,7 @@
-//! The library's seven calls over slices, with their result words as they are (docs/HOST.md).
+//! The library's calls over slices, with their result words as they are (docs/HOST.md).
 //!
 //! Each slice passes as its pointer and its length, so the calls are safe for slices of any length.
-//! [`Session`](crate::Session) takes the words apart.
+//! [`Session`](crate::Session) and [`find`](crate::find) take the words apart.
 
 #![allow(unsafe_code)]
 
@@ -35,6 +35,16 @@ extern "C" {
     ) -> u32;
     fn emv_stop(session: *mut u8, session_len: usize, command: *mut u8, command_len: usize) -> u32;
     fn emv_count(session: *const u8, session_len: usize) -> u32;
+    fn emv_object(
+        session: *const u8,
+        session_len: usize,
+        tag: u32,
+        value: *mut u8,
+        value_len: usize,
+    ) -> u32;
+    fn emv_find(bytes: *const u8, len: usize, tag: u32) -> u64;
+    fn emv_wipe(session: *mut u8, session_len: usize) -> u32;
+    fn emv_version() -> u32;
 }
 
 /// Bytes that a session record needs.
@@ -109,4 +119,38 @@ pub fn stop(session: &mut [u8], command: &mut [u8]) -> u32 {
 pub fn count(session: &[u8]) -> u32 {
     // SAFETY: pointer and length are those of one slice, which the call only reads.
     unsafe { emv_count(session.as_ptr(), session.len()) }
+}
+
+/// Reads an object back: the length of its value, which stands in front of the lent bytes then, or a
+/// word that says why not.
+pub fn object(session: &[u8], tag: u32, value: &mut [u8]) -> u32 {
+    // SAFETY: each pointer and length are those of one slice; the one lent for writing overlaps nothing.
+    unsafe {
+        emv_object(
+            session.as_ptr(),
+            session.len(),
+            tag,
+            value.as_mut_ptr(),
+            value.len(),
+        )
+    }
+}
+
+/// The first object of a tag in a card's bytes: place and length of its value, or a word that says
+/// that there is none or that the bytes are malformed.
+pub fn find(bytes: &[u8], tag: u32) -> u64 {
+    // SAFETY: pointer and length are those of one slice, which the call only reads.
+    unsafe { emv_find(bytes.as_ptr(), bytes.len(), tag) }
+}
+
+/// Writes 0 over all bytes: 0.
+pub fn wipe(session: &mut [u8]) -> u32 {
+    // SAFETY: pointer and length are those of one slice lent for writing.
+    unsafe { emv_wipe(session.as_mut_ptr(), session.len()) }
+}
+
+/// The library's version in three bytes, and the record layout's in the lowest.
+pub fn version() -> u32 {
+    // SAFETY: the call takes nothing and reads no memory of the host.
+    unsafe { emv_version() }
 }

@@ -21,6 +21,19 @@
 //! keep a session across power loss. Bytes that hold no record, or one outside its ranges, are
 //! refused with number 25 at the next call.
 //!
+//! After an online request [`Session::object`] reads back what is sent to the acquirer;
+//! [`Session::wipe`] forgets the session. [`find`] looks through other bytes of the card, as the
+//! answer to SELECT:
+//!
+//! ```
+//! use tripodmoon::{find, Found};
+//!
+//! let answer = [0x6F, 0x09, 0x84, 0x02, 0x41, 0x42, 0xA5, 0x03, 0x50, 0x01, 0x43];
+//! assert_eq!(find(&answer, 0x50), Found::Value(&[0x43]));
+//! assert_eq!(find(&answer, 0x9F38), Found::Absent);
+//! assert_eq!(find(&answer[..10], 0x50), Found::Malformed);
+//! ```
+//!
 //! The C calls, the result words and the record's layout are described in docs/HOST.md, the rules
 //! of the session in document 01.
 
@@ -91,6 +104,71 @@ pub enum Reply<'b> {
     },
     /// The call was refused, 20 to 25 (see [`refusal_text`]); session and buffer are as before.
     Refused(u8),
+}
+
+/// The most bytes that a value has.
+pub const MOST_VALUE: usize = 254;
+
+/// What a session says of an object. `'b` is the time the bytes for its value are lent for.
+#[derive(Clone, Copy, Debug, PartialEq, Eq)]
+pub enum Object<'b> {
+    /// Its value, which may be empty. It stands at the front of the lent bytes.
+    Value(&'b [u8]),
+    /// The session does not hold it.
+    Absent,
+    /// The dictionary does not have the tag.
+    Unknown,
+    /// Its value has so many bytes, and fewer were lent.
+    Needed(usize),
+    /// The call was refused with 25: the bytes hold no record within its ranges.
+    Refused(u8),
+}
+
+/// What a search of a card's bytes finds.
+#[derive(Clone, Copy, Debug, PartialEq, Eq)]
+pub enum Found<'c> {
+    /// The value of the first object of the tag.
+    Value(&'c [u8]),
+    /// No object has the tag.
+    Absent,
+    /// The bytes are malformed, nest more than four levels, or are over 65,535.
+    Malformed,
+}
+
+/// The first object of a tag in a card's bytes, templates counted and before what they hold.
+pub fn find(bytes: &[u8], tag: u32) -> Found<'_> {
+    match calls::find(bytes, tag) {
+        u64::MAX => Found::Absent,
+        word if word == u64::MAX - 1 => Found::Malformed,
+        word => {
+            let [place, length] = [word >> 32, word & 0xFFFF_FFFF].map(|half| half as usize);
+            Found::Value(&bytes[place..place + length])
+        }
+    }
+}
+
+/// The version of the linked library, and of the record's layout.
+#[derive(Clone, Copy, Debug, PartialEq, Eq)]
+pub struct Version {
+    /// The library's first part.
+    pub major: u8,
+    /// The library's second part.
+    pub minor: u8,
+    /// The library's third part.
+    pub patch: u8,
+    /// The record layout's version, the first byte of every record.
+    pub layout: u8,
+}
+
+/// The version of the linked library.
+pub fn version() -> Version {
+    let [major, minor, patch, layout] = calls::version().to_be_bytes();
+    Version {
+        major,
+        minor,
+        patch,
+        layout,
+    }
 }
 
 /// What a reason means; 0 is none. The words are those of the program `replay`.
@@ -185,6 +263,27 @@ impl Session {
     pub fn stop<'b>(&mut self, command: &'b mut [u8]) -> Reply<'b> {
         let word = calls::stop(&mut self.bytes, command);
         reply(word, command)
+    }
+
+    /// Reads an object back by its tag, as 0x9F26, into lent bytes; [`MOST_VALUE`] of them are always
+    /// enough. All but a value leave them as they were.
+    pub fn object<'b>(&self, tag: u32, value: &'b mut [u8]) -> Object<'b> {
+        let word = calls::object(&self.bytes, tag, value);
+        let [_, kind, high, low] = word.to_be_bytes();
+        let length = usize::from(u16::from_be_bytes([high, low]));
+        match kind {
+            0 => Object::Value(&value[..length]),
+            2 => Object::Refused(low),
+            3 => Object::Absent,
+            4 => Object::Unknown,
+            5 => Object::Needed(length),
+            _ => panic!("libhost.a gave an unknown result word"),
+        }
+    }
+
+    /// Writes 0 over the record, which is none then: every later call is refused with 25.
+    pub fn wipe(&mut self) {
+        calls::wipe(&mut self.bytes);
     }
 
     /// The count of commands handed out, or none where the bytes hold no record.

@@ -1,6 +1,9 @@
 //! The wrapper's types over the linked library.
 
-use tripodmoon::{calls, Outcome, Reply, Session, COMMAND_SIZE, SESSION_SIZE};
+use tripodmoon::{
+    calls, find, version, Found, Object, Outcome, Reply, Session, Version, COMMAND_SIZE,
+    MOST_VALUE, SESSION_SIZE,
+};
 
 /// The objects that a start must bring.
 const TERMINAL: [u8; 88] = [
@@ -95,4 +98,90 @@ fn short_session_bytes() {
     assert_eq!(calls::count(&short), calls::NO_COUNT);
     assert_eq!(calls::count(&[]), calls::NO_COUNT);
     assert_eq!(short, [1; SESSION_SIZE - 1]);
+}
+
+/// The object has exactly these bytes: a byte less is too few, and bytes behind the value stay.
+fn holds(session: &Session, tag: u32, bytes: &[u8]) {
+    let mut value = [7; MOST_VALUE];
+    assert_eq!(session.object(tag, &mut value), Object::Value(bytes));
+    assert!(value[bytes.len()..].iter().all(|byte| *byte == 7));
+    if !bytes.is_empty() {
+        let mut short = vec![7; bytes.len() - 1];
+        assert_eq!(session.object(tag, &mut short), Object::Needed(bytes.len()));
+        assert!(short.iter().all(|byte| *byte == 7));
+    }
+}
+
+#[test]
+fn objects_sent_online() {
+    let mut session = Session::new();
+    let mut buffer = [0; COMMAND_SIZE];
+    let mut value = [7; MOST_VALUE];
+    assert_eq!(session.object(0x9F02, &mut value), Object::Absent);
+    assert_eq!(session.object(0x50, &mut []), Object::Unknown);
+    session.start(&TERMINAL, &mut buffer);
+    for answer in [
+        &[0x80, 0x06, 0x00, 0x80, 0x08, 0x01, 0x01, 0x00, 0x90, 0x00][..],
+        &[
+            0x70, 0x14, 0x5F, 0x24, 0x03, 0x30, 0x12, 0x31, 0x5A, 0x08, 0x47, 0x61, 0x73, 0x90,
+            0x01, 0x01, 0x00, 0x10, 0x8C, 0x02, 0x95, 0x05, 0x90, 0x00,
+        ],
+        &[
+            0x77, 0x17, 0x9F, 0x27, 0x01, 0x80, 0x9F, 0x36, 0x02, 0x00, 0x01, 0x9F, 0x26, 0x08, 1,
+            2, 3, 4, 5, 6, 7, 8, 0x9F, 0x10, 0x00, 0x90, 0x00,
+        ],
+    ] {
+        session.answer(answer, &mut buffer);
+    }
+    assert_eq!(session.count(), Some(3));
+    holds(&session, 0x9F26, &[1, 2, 3, 4, 5, 6, 7, 8]);
+    holds(&session, 0x9F36, &[0x00, 0x01]);
+    holds(&session, 0x9F10, &[]);
+    holds(
+        &session,
+        0x5A,
+        &[0x47, 0x61, 0x73, 0x90, 0x01, 0x01, 0x00, 0x10],
+    );
+    holds(&session, 0x95, &[0x80, 0x00, 0x00, 0x00, 0x00]);
+    holds(&session, 0x9F02, &[0x00, 0x00, 0x00, 0x00, 0x12, 0x34]);
+    assert_eq!(session.object(0x57, &mut value), Object::Absent);
+    assert_eq!(session.object(0x50, &mut value), Object::Unknown);
+    assert_eq!(value, [7; MOST_VALUE]);
+
+    session.wipe();
+    assert_eq!(*session.as_bytes(), [0; SESSION_SIZE]);
+    assert_eq!(session.object(0x9F26, &mut value), Object::Refused(25));
+    assert_eq!(session.object(0x50, &mut []), Object::Refused(25));
+    assert_eq!(session.count(), None);
+    assert_eq!(calls::wipe(&mut []), 0);
+}
+
+#[test]
+fn found_in_card_bytes() {
+    let answer = [
+        0x6F, 0x0B, 0x84, 0x02, 0x41, 0x42, 0xA5, 0x05, 0x50, 0x00, 0x50, 0x01, 0x43,
+    ];
+    assert_eq!(find(&answer, 0x84), Found::Value(&[0x41, 0x42]));
+    assert_eq!(find(&answer, 0x50), Found::Value(&[])); // the first of two
+    assert_eq!(find(&answer, 0xA5), Found::Value(&answer[8..]));
+    assert_eq!(find(&answer, 0x4F), Found::Absent);
+    assert_eq!(find(&[], 0x4F), Found::Absent);
+    assert_eq!(find(&answer[..12], 0x84), Found::Malformed);
+    let five = [0xE1, 0x08, 0xE1, 0x06, 0xE1, 0x04, 0xE1, 0x02, 0xE1, 0x00];
+    assert_eq!(find(&five[2..], 0xE2), Found::Absent);
+    assert_eq!(find(&five, 0xE1), Found::Malformed);
+    assert_eq!(find(&[0x50; 65_536], 0x50), Found::Malformed);
+}
+
+#[test]
+fn version_of_the_layout() {
+    let version = version();
+    assert_eq!(version.layout, Session::new().as_bytes()[0]);
+    let expected = Version {
+        major: 0,
+        minor: 1,
+        patch: 0,
+        layout: 1,
+    };
+    assert_eq!(version, expected);
 }

@@ -16,7 +16,7 @@ put-requires c κs =
 returns : tie.Need-returns
 returns c =
     let a = c .before .before .before .before .before .before .before .before .before .before .before .before .before .before .before .before .args in
-    did-as (analysed-as (a .count) (a .store .now) _ (c .before .before .before .before .before .before .before .before .before .before .before .before .result-of .ensures) (c .before .before .before .before .before .before .before .before .before .before .choice-for .ensures) (c .before .before .before .before .before .before .before .put .ensures .0))
+    did-as (analysed-as (a .count) (a .store .now) _ (c .before .before .before .before .before .before .before .before .before .before .before .before .result-of .ensures) (c .before .before .before .before .before .before .before .before .before .before .choice-for .ensures .0) (c .before .before .before .before .before .before .before .put .ensures .0))
     (c .before .before .ask-cryptogram .ensures)
 
 pub analyse-spec : {M : Type 1} → statement M

@@ -1,0 +1,13 @@
+-- What a private function asks of its caller. No rule stands here: a reader of the rules can pass it over.
+-- `find-inside` in proofs/InTree says that it holds of whatever is found.
+-- Assumes nothing.
+use Prim.Native.Nat.{_+_, _≤_}
+use Rattle.find.specs.declared.Span.{Span}
+use Rattle.find.specs.declared.Found.{Found}
+use Rattle.find.specs.declared.Found.the-variants.{At, Absent, Malformed}
+
+-- a value within the first 65,535 bytes, so that place and length each have room
+abbrev pub Inside : Found → Type 0
+Inside (At p) = p .start + p .len ≤ 65535
+Inside Absent = Unit {0}
+Inside Malformed = Unit {0}

@@ -1,0 +1,4 @@
+pub mod Find
+pub mod InTree
+pub mod Word
+pub mod Inner

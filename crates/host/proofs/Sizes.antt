@@ -1,0 +1,73 @@
+-- What a call hands out is small: a command has at most 261 bytes, an outcome has a reason of at most 11. A number of 16 bits holds either.
+-- Assumes nothing.
+use mathlib.Core.List.{List}
+use Prim.Native.Nat.{ℕ, _≤_}
+use native.Mathlib.Omega.{arith}
+use Rattle.data_list.proofs.Commands.{options-proper, cryptogram-proper}
+use Rattle.analysis.specs.Choice.{p1Of}
+use Rattle.record.specs.declared.Answer.{Answer}
+use Rattle.record.specs.declared.Place.{Place}
+use Rattle.record.specs.declared.Reply.{Reply}
+use Rattle.record.specs.declared.Session.{Session}
+use Rattle.basics.specs.Reason.{reasonMode, reasonLink, reasonStopped}
+use Rattle.record.specs.Session.{stored}
+use Rattle.session.specs.Steps.{Step, leastBuffer, linkStep, stopStep}
+use Rattle.session.specs.Start.{startStep}
+use Rattle.session.specs.Answer.{answerStep}
+use Rattle.trace.proofs.Ways.{OptionsWay, RecordsWay, RecordWay, CryptogramWay, AnswerWay, answer-way, analysedSession, choiceIn, loadedSession, StartWay, start-way, BrokenWay, broken-way}
+
+abbrev pub Small : Answer → Type 0
+Small (Answer.Command c) = c .size ≤ leastBuffer
+Small (Answer.Outcome e) = e .reason ≤ reasonMode
+Small (Answer.Refused r) = Unit {0}
+
+abbrev pub SmallStep : Step → Type 0
+SmallStep st = Small (st .reply .answer)
+
+small-cryptogram : {t : Session} {q : Reply} → CryptogramWay t q → Small (q .answer)
+small-cryptogram (CryptogramWay.failed n r) = r .most
+small-cryptogram (CryptogramWay.decides o g) = omega arith
+
+module _ {buf : List ℕ} where
+  small-options : {t : Session} {st : Step} → OptionsWay t buf st → SmallStep st
+  small-options (OptionsWay.failed n r) = r .most
+  small-options (OptionsWay.first r m a e) = omega arith
+
+  small-records : {t : Session} {st : Step} → RecordsWay t buf st → SmallStep st
+  small-records (RecordsWay.failed n r) = r .most
+  small-records RecordsWay.unlisted = omega arith
+  small-records {t} (RecordsWay.asked c f g) = cryptogram-proper (stored (analysedSession t)) c (p1Of (choiceIn t)) g .most
+
+  small-record : (p : Place) {t : Session} {st : Step} → RecordWay p t buf st → SmallStep st
+  small-record p (RecordWay.next r e) = omega arith
+  small-record p (RecordWay.last e w) = small-records w
+
+  small-answer : {s : Session} {card : List ℕ} {st : Step} → AnswerWay s card buf st → SmallStep st
+  small-answer (AnswerWay.refused n) = tt
+  small-answer (AnswerWay.unread n i r) = r .most
+  small-answer (AnswerWay.options i q z w) = small-options w
+  small-answer (AnswerWay.recorded p r i q e w) = small-record p w
+  small-answer (AnswerWay.cryptogram a i q w) = small-cryptogram w
+
+  small-start : {s : Session} {bytes : List ℕ} {st : Step} → StartWay s bytes buf st → SmallStep st
+  small-start (StartWay.refused n) = tt
+  small-start (StartWay.unlisted b i q e) = omega arith
+  small-start {s} (StartWay.asked b c i q e f) = options-proper (stored (loadedSession s b)) c f .most
+
+small-broken : {s : Session} {n : ℕ} {buf : List ℕ} {st : Step} → n ≤ reasonMode → BrokenWay s n buf st → SmallStep st
+small-broken h (BrokenWay.refused m) = tt
+small-broken h (BrokenWay.broken i) = h
+
+module _ (s : Session) (bytes buf : List ℕ) where
+  pub answer-small : SmallStep (answerStep s bytes buf)
+  answer-small = small-answer (answer-way s bytes buf)
+
+  pub start-small : SmallStep (startStep s bytes buf)
+  start-small = small-start (start-way s bytes buf)
+
+module _ (s : Session) (buf : List ℕ) where
+  pub link-small : SmallStep (linkStep s buf)
+  link-small = small-broken (omega arith) (broken-way s reasonLink buf)
+
+  pub stop-small : SmallStep (stopStep s buf)
+  stop-small = small-broken (omega arith) (broken-way s reasonStopped buf)

@@ -1,0 +1,131 @@
+-- What the reading of an answer and the result bits leave of what the ranges speak of: each put is one that its row allows.
+-- Assumes nothing.
+use mathlib.Core.Path.{_≡_, refl, sym, ap, subst, _∙_}
+use mathlib.Core.Bool.{true}
+use mathlib.Core.List.{List, [], _∷_}
+use Prim.Native.Nat.{ℕ, _≤_, _<_}
+use native.Mathlib.Omega.{arith}
+use lib.ListN.{length}
+use borrow.Author.Tests.{le-leb}
+use Rattle.basics.specs.Number.{hasBit}
+use Rattle.basics.proofs.Laws.{if-no, both-yes}
+use Rattle.dictionary.specs.Named.{row82, row94, row95}
+use Rattle.dictionary.specs.declared.Found.the-variants.{At}
+use Rattle.dictionary.specs.Rows.{rows, rowAt, rowCount, storeSize, find, cryptogram}
+use Rattle.dictionary.specs.Form.{digitsFit, fitting}
+use Rattle.dictionary.proofs.Fit.{fits-length}
+use Rattle.dictionary.proofs.Named.{at-82, at-94, at-95}
+use Rattle.store.specs.Place.{Value, present, bytesOf, valueOf, putAt}
+use Rattle.store.proofs.Laws.{by-row}
+use Rattle.locator.specs.Records.{accepts}
+use Rattle.locator.proofs.Laws.{accepted-length}
+use Rattle.reading.specs.declared.Awaited.{Awaited}
+use Rattle.reading.specs.Taking.{Item}
+use Rattle.reading.specs.Answer.{answerBit, readAnswer}
+use Rattle.reading.proofs.Kept.{Put, read-holds, read-grows}
+use Rattle.analysis.specs.Bits.{has}
+use Rattle.store.specs.Held.{holds, bytesIn}
+use Rattle.record.specs.Ranges.{locatorIn}
+use Rattle.record.specs.Clauses.{Fits, Running, noResults}
+use Rattle.record.proofs.Stored.{put-size, put-here, put-named, put-holds, put-apart, put-runs, fits-kept, apart-rest, card-apart, runningTags, results-apart}
+use Rattle.session.specs.Steps.{withResults}
+use Rattle.session.proofs.Laws.{results-fit, results-place}
+
+-- what a running session holds before its result bits are set
+pub record Waits (b : List ℕ) : Type 0 where
+  pub size : length b ≡ storeSize
+  pub fits : Fits b
+  pub runs : Running b
+  pub zero-95 : valueOf b 0x95 ≡ present noResults
+
+-- ---- the reading of an answer
+
+-- an answer other than the cryptogram's brings nothing that only the cryptogram's may
+abbrev pub Plain : Awaited → Type 0
+Plain a = (x : ℕ) → hasBit x (answerBit a) ≡ true → x ≡ cryptogram → ⊥
+
+pub options-plain : Plain Awaited.Options
+options-plain x h e = let w = ap (λ (n : ℕ). hasBit n 1) e in let z : _≡_ {A = ℕ} 0 1 = cc in omega arith
+
+pub record-plain : (n : ℕ) → Plain (Awaited.Record (record { number = n }))
+record-plain n x h e = let w = ap (λ (m : ℕ). hasBit m 2) e in let z : _≡_ {A = ℕ} 0 1 = cc in omega arith
+
+pub read-waits : (a : Awaited) → Plain a → (b s : List ℕ) → Waits b → Waits (readAnswer a b s .store)
+read-waits a n b s w =
+    let h = read-holds P a step b s (w .size, (w .fits, w .runs, w .zero-95)) in
+    record { size = h .0; fits = h .1 .0; runs = h .1 .1; zero-95 = h .1 .2 }
+  where
+    P : List ℕ → Type 0
+    P d = Fits d × Running d × (valueOf d 0x95 ≡ present noResults)
+
+    step : (d : List ℕ) (k : ℕ) (i : Item) → length d ≡ storeSize → Unit {0} → Put (answerBit a) d k i → P d → P (putAt rows d k (i .value))
+    step d k i l q p h =
+        let g = fits-length (rowAt k) (i .value) (p .fits) .1 in
+        let f = card-apart k (p .row) (p .card) (λ e. n _ (p .brought) e) in (
+          fits-kept d k (i .value) l (p .row) (p .fits) (h .0),
+          put-runs d k (i .value) l (p .row) g (apart-rest 0x95 runningTags (rowAt k) f) (h .1),
+          put-apart d k (i .value) l (p .row) g (0x95 ∷ runningTags) f 0 (omega arith) ∙ h .2,
+        )
+
+-- every answer leaves a store of its size whose objects fit
+pub read-fits : (a : Awaited) (b s : List ℕ) → length b ≡ storeSize → Fits b → (length (readAnswer a b s .store) ≡ storeSize) × Fits (readAnswer a b s .store)
+read-fits a b s l f = read-holds Fits a (λ d k i m q p h. fits-kept d k (i .value) m (p .row) (p .fits) h) b s (l, f)
+
+pub read-size : (a : Awaited) (b s : List ℕ) → length b ≡ storeSize → length (readAnswer a b s .store) ≡ storeSize
+read-size a b s l = read-grows a b s l .size ∙ l
+
+-- a tag whose value has bytes keeps it
+pub read-value : (a : Awaited) (b s : List ℕ) → length b ≡ storeSize → (t k : ℕ) → find rows t ≡ At k → (length (bytesIn b t) ≡ 0 → ⊥)
+    → valueOf (readAnswer a b s .store) t ≡ valueOf b t
+read-value a b s l t k e n =
+    by-row rows _ t k e
+    ∙ read-grows a b s l .kept k (λ z. n (ap (λ (x : Value). length (bytesOf x)) (by-row rows b t k e) ∙ z))
+    ∙ sym (by-row rows b t k e)
+
+-- 82 with a bit set has bytes, and so has an accepted 94
+mode-bytes : (v : List ℕ) → has v 2 8 ≡ true → length v ≡ 0 → ⊥
+mode-bytes [] m e = let z : _≡_ {A = ℕ} 0 1 = cc in omega arith
+mode-bytes (x ∷ v) m e = omega arith
+
+pub read-mode : (a : Awaited) (b s : List ℕ) → length b ≡ storeSize → has (bytesIn b 0x82) 2 8 ≡ true → valueOf (readAnswer a b s .store) 0x82 ≡ valueOf b 0x82
+read-mode a b s l m = read-value a b s l 0x82 row82 at-82 (mode-bytes (bytesIn b 0x82) m)
+
+pub read-locator : (a : Awaited) (b s : List ℕ) → length b ≡ storeSize → accepts (locatorIn b) ≡ true → valueOf (readAnswer a b s .store) 0x94 ≡ valueOf b 0x94
+read-locator a b s l m = read-value a b s l 0x94 row94 at-94 (λ z. omega (arith, accepted-length (locatorIn b) m .1))
+
+-- ---- the result bits
+
+-- 95 takes any five bytes
+bits-fitting : (v : List ℕ) → length v ≡ 5 → fitting (rowAt row95) v ≡ true
+unfolding rows fitting digitsFit
+bits-fitting v e = both-yes _ _ (le-leb 5 (length v) (omega arith)) (both-yes _ _ (le-leb (length v) 5 (omega arith)) (if-no _ _ refl ∙ if-no _ _ refl))
+
+module _ (b v : List ℕ) (l : length b ≡ storeSize) (n : length v ≡ 5) where
+  put : withResults b v ≡ putAt rows b row95 v
+  unfolding withResults
+  put = ap (λ (k : ℕ). putAt rows b k v) results-place
+
+  room : length v ≤ rowAt row95 .greatest
+  room = omega (arith, results-fit)
+
+  here : 5 < rowCount
+  here = omega arith
+
+  pub bits-size : length (withResults b v) ≡ storeSize
+  bits-size = ap length put ∙ put-size b 5 v l here room
+
+  pub bits-fits : Fits b → Fits (withResults b v)
+  bits-fits f = subst (λ (d : List ℕ). Fits d) (sym put) (fits-kept b 5 v l here (bits-fitting v n) f)
+
+  pub bits-runs : Running b → Running (withResults b v)
+  bits-runs r = subst (λ (d : List ℕ). Running d) (sym put) (put-runs b 5 v l here room results-apart r)
+
+  pub bits-here : valueOf (withResults b v) 0x95 ≡ present v
+  bits-here = ap (λ (d : List ℕ). valueOf d 0x95) put ∙ put-here b 5 v l here room 0x95 at-95
+
+  -- every other tag keeps its value, and what is there stays there
+  pub bits-other : (t j : ℕ) → find rows t ≡ At j → (j ≡ row95 → ⊥) → valueOf (withResults b v) t ≡ valueOf b t
+  bits-other t j e ne = ap (λ (d : List ℕ). valueOf d t) put ∙ put-named b 5 v l here room t j e ne
+
+  pub bits-hold : (t : ℕ) → holds b t ≡ true → holds (withResults b v) t ≡ true
+  bits-hold t h = ap (λ (d : List ℕ). holds d t) put ∙ put-holds b 5 v l here room t h
