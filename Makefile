@@ -6,10 +6,14 @@
 # The archive is proved and built by `rt staticlib host` where it is missing or older than a crate that it has.
 PREFIX = /usr/local
 DESTDIR =
-VERSION = 1.0.0
 
 archive = target/staticlib/libhost.a
 header = include/tripodmoon.h
+
+# The three parts of the library's version, from the header.
+word = $(shell sed -n 's/^.define EMV_VERSION \(0x[0-9A-Fa-f]*\)u$$/\1/p' $(header))
+version = $(shell echo $$(($(word) >> 24)).$$(($(word) >> 16 & 255)).$$(($(word) >> 8 & 255)))
+
 headers = $(DESTDIR)$(PREFIX)/include
 folder = $(DESTDIR)$(PREFIX)/lib/tripodmoon
 package = $(DESTDIR)$(PREFIX)/lib/pkgconfig/tripodmoon.pc
@@ -29,7 +33,7 @@ install: $(archive)
 	cp $(header) '$(headers)/tripodmoon.h'
 	cp $(archive) '$(folder)/libhost.a'
 	printf '%s\n' 'prefix=$(PREFIX)' 'includedir=$${prefix}/include' 'libdir=$${prefix}/lib/tripodmoon' '' \
-	    'Name: tripodmoon' 'Description: One contactless payment session in EMV mode, proved' 'Version: $(VERSION)' \
+	    'Name: tripodmoon' 'Description: One contactless payment session in EMV mode, proved' 'Version: $(version)' \
 	    'Cflags: -I$${includedir}' 'Libs: -L$${libdir} -lhost' >'$(package)'
 	chmod 644 '$(headers)/tripodmoon.h' '$(folder)/libhost.a' '$(package)'
 
