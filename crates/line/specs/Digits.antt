@@ -45,7 +45,8 @@ pairOf [] = Pair.Broken
 pairOf (a ∷ []) = Pair.Broken
 pairOf (a ∷ b ∷ s) = if isPair a b then Pair.Byte (record { byte = pairByte a b }) else Pair.Broken
 
--- the bytes that a text spells up to the first place that spells none, and the number of the problem there, 0 at the end
+-- the bytes that a text spells up to the first place that spells none, and the number of the problem there;
+-- 0 at the text's end
 pub record Spelling : Type 0 where
   pub bytes : List ℕ
   pub problem : ℕ

@@ -118,7 +118,7 @@ pub fn answered(card: &[u8], reason: u8, view: View) {
         return;
     }
     let n = card.len() - 2;
-    let walk = tree::walked(&card[..n], view);
+    let walk = show::tree::walked(&card[..n], view);
     if 258 < card.len() {
         wrong_length(card.len(), reason);
         return;
