@@ -29,6 +29,16 @@ behind-stop : meaning (115 ∷ 116 ∷ 111 ∷ 112 ∷ 32 ∷ 57 ∷ []) lent �
 unfolding meaning lent isBlank front past alike named said alone if both either
 behind-stop = refl
 
+-- "session": a fresh session from there
+renews : meaning (115 ∷ 101 ∷ 115 ∷ 115 ∷ 105 ∷ 111 ∷ 110 ∷ []) lent ≡ plain Line.Session lent
+unfolding meaning lent isBlank front past alike named said alone if both either
+renews = refl
+
+-- "#!stop": a comment from its first character
+skips : meaning (35 ∷ 33 ∷ 115 ∷ 116 ∷ 111 ∷ 112 ∷ []) lent ≡ plain Line.Blank lent
+unfolding meaning lent isBlank front past alike named said if both either
+skips = refl
+
 -- "buffer 260" and a carriage return
 sizes : meaning (98 ∷ 117 ∷ 102 ∷ 102 ∷ 101 ∷ 114 ∷ 32 ∷ 50 ∷ 54 ∷ 48 ∷ 13 ∷ []) lent ≡ plain (Line.Buffer (record { bytes = 260 })) lent
 unfolding meaning lent isBlank front past alike digitOf named said alone decimalFrom sized if both either every

@@ -4,9 +4,8 @@ use mathlib.Core.Bool.{Bool}
 use mathlib.Core.Path.{_≡_}
 use mathlib.Core.List.{List, [], _∷_, _++_}
 use Prim.Native.Nat.{ℕ, _+_, _*_, _-_}
-use lib.Dec.{ltb, leb}
 use lib.ListN.{length, take}
-use Rattle.basics.specs.Choice.{if, both, every}
+use Rattle.basics.specs.Choice.{if_then_else_, _and_, _≤?_, _<?_, every}
 use Rattle.basics.specs.Front.{inFront}
 use Rattle.basics.specs.Number.{between}
 use Rattle.line.specs.declared.Decoded.{Decoded}
@@ -27,22 +26,27 @@ numberProblem = 6
 -- the value of a hexadecimal digit '0' to '9', 'A' to 'F', 'a' to 'f'; 16 for any other character
 unfoldable pub digitOf : ℕ → ℕ
 digitOf c =
-    if (between 48 c 57) (c - 48)
-    (if (between 65 c 70) (c - 55)
-    (if (between 97 c 102) (c - 87)
-    16))
+    if between 48 c 57 then c - 48
+    else if between 65 c 70 then c - 55
+    else if between 97 c 102 then c - 87
+    else 16
 
 -- two characters are hexadecimal digits
 abbrev pub isPair : ℕ → ℕ → Bool
-isPair a b = both (ltb (digitOf a) 16) (ltb (digitOf b) 16)
+isPair a b = digitOf a <? 16 and digitOf b <? 16
+
+-- the byte of two hexadecimal digits
+abbrev pub pairByte : ℕ → ℕ → ℕ
+pairByte a b = digitOf a * 16 + digitOf b
 
 -- the first two characters as a byte
 unfoldable pub pairOf : List ℕ → Pair
 pairOf [] = Pair.Broken
 pairOf (a ∷ []) = Pair.Broken
-pairOf (a ∷ b ∷ s) = if (isPair a b) (Pair.Byte (record { byte = digitOf a * 16 + digitOf b })) Pair.Broken
+pairOf (a ∷ b ∷ s) = if isPair a b then Pair.Byte (record { byte = pairByte a b }) else Pair.Broken
 
--- the bytes that a text spells up to the first place that spells none, and the number of the problem there, 0 at the text's end
+-- the bytes that a text spells up to the first place that spells none, and the number of the problem there;
+-- 0 at the text's end
 pub record Spelling : Type 0 where
   pub bytes : List ℕ
   pub problem : ℕ
@@ -57,15 +61,17 @@ after bs r = record { bytes = bs ++ r .bytes; problem = r .problem }
 -- blanks are skipped between bytes; a byte is two hexadecimal digits side by side
 unfoldable pub spelled : List ℕ → Spelling
 spelled [] = stopped 0
-spelled (a ∷ []) = if (isBlank a) (stopped 0) (stopped hexProblem)
+spelled (a ∷ []) = if isBlank a then stopped 0 else stopped hexProblem
 spelled (a ∷ b ∷ s) =
-    if (isBlank a)
-    (spelled (b ∷ s))
-    (if (isPair a b) (after ((digitOf a * 16 + digitOf b) ∷ []) (spelled s)) (stopped hexProblem))
+    if isBlank a then spelled (b ∷ s)
+    else if isPair a b then after (pairByte a b ∷ []) (spelled s)
+    else stopped hexProblem
 
 -- no more bytes than there is room for
 unfoldable pub within : ℕ → Spelling → Spelling
-within room r = if (leb (length (r .bytes)) room) r (record { bytes = take room (r .bytes); problem = roomProblem })
+within room r =
+    if length (r .bytes) ≤? room then r
+    else record { bytes = take room (r .bytes); problem = roomProblem }
 
 -- what a decoding reports of a spelling
 abbrev pub decoded : Spelling → Decoded
@@ -87,11 +93,17 @@ decimalFrom n (c ∷ s) = decimalFrom (n * 10 + digitOf c) s
 
 -- a character is a decimal digit
 abbrev pub isDecimal : ℕ → Bool
-isDecimal c = ltb (digitOf c) 10
+isDecimal c = digitOf c <? 10
 
--- a buffer's length: one or more decimal digits whose number is at most 4,096
+-- a text is one or more decimal digits whose number is at most 4,096
+abbrev pub isSize : List ℕ → Bool
+isSize w =
+    0 <? length w
+    and every isDecimal w
+    and decimalFrom 0 w ≤? 4096
+
+-- a buffer's length: such a number
 unfoldable pub sized : List ℕ → Line
 sized w =
-    if (both (ltb 0 (length w)) (both (every isDecimal w) (leb (decimalFrom 0 w) 4096)))
-    (Line.Buffer (record { bytes = decimalFrom 0 w }))
-    (Line.Wrong (record { number = numberProblem }))
+    if isSize w then Line.Buffer (record { bytes = decimalFrom 0 w })
+    else Line.Wrong (record { number = numberProblem })

@@ -3,14 +3,13 @@
 use mathlib.Core.Path.{_≡_}
 use mathlib.Core.List.{List, [], _∷_}
 use Prim.Native.Nat.{ℕ}
-use lib.Dec.{ltb, eqb}
 use lib.ListN.{length}
-use Rattle.basics.specs.Choice.{if}
+use Rattle.basics.specs.Choice.{if_then_else_, _<?_, _=?_}
 use Rattle.line.specs.declared.Decoded.{Decoded}
 use Rattle.line.specs.declared.Kind.the-variants.{Blank}
 use Rattle.line.specs.declared.Line.{Line}
 use Rattle.line.specs.declared.Word.{Word}
-use Rattle.line.specs.declared.Word.the-variants.{Absent, Start, Answer, LinkFailed, Stop, Buffer, Unknown}
+use Rattle.line.specs.declared.Word.the-variants.{Absent, Start, Answer, LinkFailed, Stop, Buffer, Session, Unknown}
 use Rattle.line.specs.Text.{of, past, uncommented, wordOf, behind}
 use Rattle.basics.specs.Alike.{alike}
 use Rattle.line.specs.Digits.{Spelling, spelled, within, decoded, placed, sized}
@@ -20,7 +19,7 @@ pub record Spelt : Type 0 where
   pub text : List ℕ
   pub word : Word
 
--- the words: none, "start", "answer", "link-failed", "stop" and "buffer"
+-- the words: none, "start", "answer", "link-failed", "stop", "buffer" and "session"
 abbrev pub words : List Spelt
 words =
     record { text = []; word = Absent }
@@ -29,32 +28,33 @@ words =
     ∷ record { text = 108 ∷ 105 ∷ 110 ∷ 107 ∷ 45 ∷ 102 ∷ 97 ∷ 105 ∷ 108 ∷ 101 ∷ 100 ∷ []; word = LinkFailed }
     ∷ record { text = 115 ∷ 116 ∷ 111 ∷ 112 ∷ []; word = Stop }
     ∷ record { text = 98 ∷ 117 ∷ 102 ∷ 102 ∷ 101 ∷ 114 ∷ []; word = Buffer }
+    ∷ record { text = 115 ∷ 101 ∷ 115 ∷ 115 ∷ 105 ∷ 111 ∷ 110 ∷ []; word = Session }
     ∷ []
 
 -- the word of a table with these characters
 abbrev pub wordIn : List Spelt → List ℕ → Word
 wordIn [] w = Unknown
-wordIn (e ∷ es) w = if (alike w (e .text)) (e .word) (wordIn es w)
+wordIn (e ∷ es) w = if alike w (e .text) then e .word else wordIn es w
 
 -- which word it is
 unfoldable pub named : List ℕ → Word
 named w = wordIn words w
 
--- a problem by its number: 1 the line is too long, 2 unknown word, 3 not a pair of hexadecimal digits, 4 no room for the bytes,
--- 5 something stands behind, 6 no number up to 4,096
+-- a problem by its number: 1 the line is too long, 2 unknown word, 3 not a pair of hexadecimal digits,
+-- 4 no room for the bytes, 5 something stands behind, 6 no number up to 4,096
 abbrev pub wrong : ℕ → Line
 wrong p = Line.Wrong (record { number = p })
 
 -- a line behind whose words only blanks stand
 unfoldable pub alone : List ℕ → Line → Line
-alone rest line = if (eqb (length (past (of Blank) rest)) 0) line (wrong 5)
+alone rest line = if length (past (of Blank) rest) =? 0 then line else wrong 5
 
 -- a start or an answer with the bytes that were decoded
 unfoldable pub startLine : Decoded → Line
-startLine d = if (eqb (d .problem) 0) (Line.Start (record { size = d .size })) (wrong (d .problem))
+startLine d = if d .problem =? 0 then Line.Start (record { size = d .size }) else wrong (d .problem)
 
 unfoldable pub answerLine : Decoded → Line
-answerLine d = if (eqb (d .problem) 0) (Line.Answer (record { size = d .size })) (wrong (d .problem))
+answerLine d = if d .problem =? 0 then Line.Answer (record { size = d .size }) else wrong (d .problem)
 
 -- what a line says, and the lent bytes then
 pub record Meaning : Type 0 where
@@ -77,6 +77,7 @@ said Answer rest out = bringing answerLine (within (length out) (spelled rest)) 
 said LinkFailed rest out = plain (alone rest Line.LinkFailed) out
 said Stop rest out = plain (alone rest Line.Stop) out
 said Buffer rest out = plain (alone (behind rest) (sized (wordOf rest))) out
+said Session rest out = plain (alone rest Line.Session) out
 said Unknown rest out = plain (wrong 2) out
 
 -- a text without a comment
@@ -85,7 +86,7 @@ saidBy text out = said (named (wordOf text)) (behind text) out
 
 -- a line of at most 8,192 characters: what it says without its comment
 unfoldable pub meaning : List ℕ → List ℕ → Meaning
-meaning line out = if (ltb 8192 (length line)) (plain (wrong 1) out) (saidBy (uncommented line) out)
+meaning line out = if 8192 <? length line then plain (wrong 1) out else saidBy (uncommented line) out
 
 -- the line r and the lent bytes at exit are those of a meaning
 pub record Says (r : Line) (exit : List ℕ) (m : Meaning) : Type 0 where

@@ -1,11 +1,11 @@
 // One line of a text file of calls: `parse` says which call it asks for and puts the call's bytes into
 // the front of a lent slice.
 //
-//     start HEX      answer HEX      link-failed      stop      buffer N
+//     start HEX      answer HEX      link-failed      stop      buffer N      session
 //
 // Blanks (space, tab, carriage return) may stand around words and between the bytes of HEX; a byte is
-// two hexadecimal digits side by side, small or capital. `#` starts a comment to the line's end. N is
-// a decimal number, at most 4,096. A line with no word is blank.
+// two hexadecimal digits side by side, small or capital. `#` starts a comment to the line's end, so `#!` in
+// front of a file does too. N is a decimal number, at most 4,096. A line with no word is blank.
 ghost use mathlib.Core.Path.{_≡_};
 ghost use Prim.Native.Nat.{_≤_};
 ghost use lib.ListN.{length};
@@ -35,6 +35,7 @@ pub enum Line {
     LinkFailed,
     Stop,
     Buffer(Size),
+    Session,
     Wrong(Problem),
 }
 
@@ -65,6 +66,7 @@ enum Word {
     LinkFailed,
     Stop,
     Buffer,
+    Session,
     Unknown,
 }
 
@@ -108,6 +110,7 @@ pub fn parse(line: &[u8], out: &mut [u8]) -> Line
         Word::LinkFailed => alone(rest, Line::LinkFailed),
         Word::Stop => alone(rest, Line::Stop),
         Word::Buffer => alone(behind_word(rest), size_line(first_word(rest))),
+        Word::Session => alone(rest, Line::Session),
         Word::Unknown => Line::Wrong(Problem { number: WORD }),
     }
 }
@@ -207,6 +210,9 @@ fn word_named(w: &[u8]) -> Word
     }
     if basics::same(w, b"buffer") {
         return Word::Buffer;
+    }
+    if basics::same(w, b"session") {
+        return Word::Session;
     }
     Word::Unknown
 }

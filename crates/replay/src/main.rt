@@ -1,23 +1,31 @@
 // Plays a text file of calls on a fresh session: the file named by the argument, or standard input where
-// there is none. Each call's reply is a line; behind the last stand the objects that the session holds.
-// A line that is wrong is reported by its number, and nothing behind it is played.
+// there is none. Each call's reply is a line, with lines below it that say more; behind the last stand the objects
+// that the session holds. A line that is wrong is reported by its number, and nothing behind it is played.
 //
-// The file is read in parts of 4,096 bytes. What a line means is the library `line`'s matter.
-use libc::STDIN_FILENO;
+// The file is read in parts of 4,096 bytes. What a line means is the library `line`'s matter. What is wrong goes to
+// standard error. With --tell the exit status that is due goes to descriptor 3: 0 where all was played, else 1.
+mod arguments;
+mod why;
+
+use libc::{STDERR_FILENO, STDIN_FILENO};
 use line::{Line, LONGEST, MOST};
-use record::{Reply, Session};
+use record::{Answer, Phase, Reply, Session};
+use show::tree::View;
 ghost use mathlib.Core.Path.{_≡_};
 ghost use Prim.Native.Nat.{_≤_};
 ghost use lib.ListN.{length};
 
-// What is carried from line to line: the session, the length of the command buffer that is lent, the
-// number of the line that is read, how many of its characters are there, and whether to go on.
+// What is carried from line to line: the session, the length of the command buffer that is lent, what is shown, the
+// number of the line that is read, how many of its characters are there, whether to go on, and whether a line or the
+// file was wrong.
 struct Progress {
     session: Session,
     buffer: usize,
+    view: View,
     number: usize,
     filled: usize,
     going: bool,
+    wrong: bool,
 }
 
 // Room for the longest line and one character more, by which a longer one is known.
@@ -26,43 +34,66 @@ const ROOM: usize = MOST + 1;
 // The length of the command buffer where none is asked for.
 const USUAL: usize = 261;
 
+// The descriptor on which the exit status is told.
+const TELLING: i32 = 3;
+
 fn main() {
-    if os::arg_count() < 2 {
-        play(STDIN_FILENO);
-        return;
+    let asked = arguments::read();
+    let good = !asked.wrong && played(asked.file, asked.view);
+    if asked.tell {
+        tell(good);
+    }
+}
+
+fn tell(good: bool) {
+    if good {
+        io::write_all(TELLING, b"0");
+    } else {
+        io::write_all(TELLING, b"1");
+    }
+}
+
+// Plays the file that an argument names, or standard input: whether all of it was played.
+fn played(file: usize, view: View) -> bool {
+    if file == 0 {
+        return play(STDIN_FILENO, view);
     }
     let mut path = io::buffer();
-    let n = os::arg(1, &mut path);
+    let n = os::arg(file, &mut path);
     let fd = os::open_read(&path[..n]);
     if fd < 0 {
-        report(1, b"the file cannot be read");
-        return;
+        os::fail(&path[..n]);
+        return false;
     }
-    play(fd);
+    let good = play(fd, view);
     libc::close(fd);
+    good
 }
 
 // ---- the file's lines
 
 // Plays all of a file. A proved loop has to end, so it counts its turns from a number that no file uses up.
-fn play(fd: i32) {
+fn play(fd: i32, view: View) -> bool {
     let mut line = [0u8; ROOM];
-    let mut state = beginning();
+    let mut state = beginning(view);
     let mut turns = u64::MAX;
     while turns > 0 && state.going {
         state = play_part(state, fd, &mut line);
         turns -= 1;
     }
+    !state.wrong
 }
 
-fn beginning() -> Progress {
+fn beginning(view: View) -> Progress {
     let session = record::fresh();
     Progress {
         session,
         buffer: USUAL,
+        view,
         number: 1,
         filled: 0,
         going: true,
+        wrong: false,
     }
 }
 
@@ -73,8 +104,8 @@ fn play_part(state: Progress, fd: i32, line: &mut [u8]) -> Progress
     let mut part = [0u8; 4096];
     let got = libc::read(fd, &mut part);
     if got < 0 {
-        report(state.number, b"the file cannot be read");
-        return stopped(state);
+        os::fail(b"replay: the file cannot be read");
+        return failed(state);
     }
     if got == 0 {
         return finish(play_line(state, line));
@@ -154,9 +185,10 @@ fn play_line(state: Progress, line: &[u8]) -> Progress {
     match said {
         Line::Blank => next_line(state),
         Line::Buffer(size) => next_line(with_buffer(state, size.bytes)),
+        Line::Session => next_line(renewed(state)),
         Line::Wrong(problem) => {
-            report_problem(state.number, problem.number);
-            stopped(state)
+            report(state.number, problem.number);
+            failed(state)
         }
         _ => next_line(made(state, said, &bytes)),
     }
@@ -175,14 +207,27 @@ fn made(state: Progress, said: Line, bytes: &[u8]) -> Progress {
     let mut space = [0u8; LONGEST];
     let size = least(state.buffer, LONGEST);
     let session = state.session;
-    let after = shown(session, said, bytes, &mut space[..size]);
+    let view = state.view;
+    let after = shown(session, said, bytes, &mut space[..size], view);
     with_session(state, after)
 }
 
-// Makes a call and shows its reply.
-fn shown(session: Session, said: Line, bytes: &[u8], command: &mut [u8]) -> Session {
+// Makes a call and shows its reply, and below it what it is due to.
+fn shown(session: Session, said: Line, bytes: &[u8], command: &mut [u8], view: View) -> Session {
     let reply = call(session, said, bytes, command);
     show::reply_in_words(reply, command);
+    let answer = reply.answer;
+    match said {
+        Line::Start(brought) => {
+            let size = brought.size;
+            why::start_refused(front(bytes, size), refusal_in(answer));
+        }
+        Line::Answer(brought) => {
+            let size = brought.size;
+            why::answered(front(bytes, size), reason_in(answer), view);
+        }
+        _ => show::text(b""),
+    }
     reply.session
 }
 
@@ -194,8 +239,8 @@ fn call(session: Session, said: Line, bytes: &[u8], command: &mut [u8]) -> Reply
             session::start(session, front(bytes, size), command)
         }
         Line::Answer(brought) => {
-            show::text(b"answer: ");
             let size = brought.size;
+            answer_line(front(bytes, size));
             session::answer(session, front(bytes, size), command)
         }
         Line::LinkFailed => {
@@ -209,18 +254,42 @@ fn call(session: Session, said: Line, bytes: &[u8], command: &mut [u8]) -> Reply
     }
 }
 
+// The word for an answer, with its status bytes.
+fn answer_line(card: &[u8]) {
+    if card.len() < 2 {
+        show::text(b"answer without status bytes: ");
+        return;
+    }
+    let n = card.len() - 2;
+    show::text(b"answer");
+    show::bytes(&card[n..]);
+    show::text(b": ");
+}
+
+// The number of a refusal, 0 where a call is not refused.
+fn refusal_in(answer: Answer) -> u8 {
+    match answer {
+        Answer::Refused(refusal) => refusal.number,
+        _ => 0,
+    }
+}
+
+// The reason of an outcome, 0 where there is none.
+fn reason_in(answer: Answer) -> u8 {
+    match answer {
+        Answer::Outcome(end) => end.reason,
+        _ => 0,
+    }
+}
+
 // ---- the state, with one thing changed
 
 // The next line, with nothing of it there yet.
 fn next_line(state: Progress) -> Progress {
-    let session = state.session;
-    Progress {
-        session,
-        buffer: state.buffer,
-        number: counted(state.number),
-        filled: 0,
-        going: state.going,
-    }
+    let mut out = state;
+    out.number = counted(state.number);
+    out.filled = 0;
+    out
 }
 
 // One more; the greatest number stays.
@@ -252,40 +321,63 @@ fn stopped(state: Progress) -> Progress {
     out
 }
 
-// ---- the end
+fn failed(state: Progress) -> Progress {
+    let mut out = state;
+    out.going = false;
+    out.wrong = true;
+    out
+}
+
+// ---- the end of a session
+
+// A fresh session and the usual buffer; first what the session before it holds.
+fn renewed(state: Progress) -> Progress {
+    let session = state.session;
+    let phase = session.phase;
+    match phase {
+        Phase::Fresh => show::text(b""),
+        _ => holding(state),
+    }
+    show::text(b"session: fresh\n");
+    with_buffer(with_session(state, record::fresh()), USUAL)
+}
 
 // Shows the objects held, unless a line was wrong, and plays no more.
 fn finish(state: Progress) -> Progress {
     if state.going {
-        let session = state.session;
-        let store = session.store;
-        let held = store.bytes;
-        show::text(b"objects held:\n");
-        show::objects(&held);
+        holding(state);
     }
     stopped(state)
 }
 
-// ---- what is wrong
-
-fn report_problem(number: usize, problem: u8) {
-    match problem {
-        line::LONG => report(number, b"longer than 8,192 characters"),
-        line::WORD => report(number, b"unknown word"),
-        line::HEX => report(
-            number,
-            b"odd hexadecimal digit: a byte is two digits side by side",
-        ),
-        line::BEHIND => report(number, b"something stands behind the call"),
-        line::NUMBER => report(number, b"a buffer is a number up to 4,096"),
-        _ => report(number, b"too many bytes"),
-    }
+fn holding(state: Progress) {
+    let session = state.session;
+    let store = session.store;
+    let bytes = store.bytes;
+    let view = state.view;
+    show::text(b"objects held:\n");
+    show::held(&bytes, view.bits);
 }
 
-fn report(number: usize, words: &[u8]) {
-    show::text(b"line ");
-    show::number(number);
-    show::text(b": ");
-    show::text(words);
-    show::text(b"\n");
+// ---- what is wrong
+
+// A line that is wrong, by its number, with what was expected.
+fn report(number: usize, problem: u8) {
+    complain(b"replay: line ");
+    io::print_decimal(STDERR_FILENO, number as u64);
+    match problem {
+        line::LONG => complain(b": expected at most 8,192 characters"),
+        line::WORD => complain(
+            b": unknown word; expected start HEX, answer HEX, link-failed, stop, buffer N or session",
+        ),
+        line::HEX => complain(b": expected bytes, each two hexadecimal digits side by side"),
+        line::BEHIND => complain(b": expected nothing more but a comment, which # starts"),
+        line::NUMBER => complain(b": expected a number up to 4,096 behind buffer"),
+        _ => complain(b": expected at most 4,096 bytes"),
+    }
+    complain(b"\n");
+}
+
+fn complain(words: &[u8]) {
+    io::write_all(STDERR_FILENO, words);
 }

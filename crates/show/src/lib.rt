@@ -1,4 +1,9 @@
 // Writes what the programs show to standard output: bytes in hexadecimal, numbers, replies and data objects.
+//
+// `tree` shows the objects of a card's answer, `bits` the bits of an object in words.
+pub mod bits;
+pub mod tree;
+
 use record::{Answer, End, Outcome, Reply};
 
 // Text, as it is.
@@ -74,7 +79,7 @@ pub fn reply_in_words(reply: Reply, buffer: &[u8]) {
     let answer = reply.answer;
     match answer {
         Answer::Command(issued) => {
-            command(issued.size, buffer);
+            named_command(issued.size, buffer);
         }
         Answer::Outcome(end) => {
             ending(end);
@@ -89,6 +94,45 @@ pub fn reply_in_words(reply: Reply, buffer: &[u8]) {
     text(b", count ");
     number(basics::wide(record::count(session)));
     text(b"\n");
+}
+
+// A command by its name, with its bytes: the front of the buffer.
+fn named_command(size: usize, buffer: &[u8]) {
+    text(b"command ");
+    if size <= buffer.len() {
+        let sent = &buffer[..size];
+        command_name(sent);
+        text(b":");
+        bytes(sent);
+    }
+}
+
+// The name of a command, by its instruction byte (Book C-2, chapter 5).
+fn command_name(sent: &[u8]) {
+    match basics::byte_at(sent, 1) {
+        0xA8 => text(b"GET PROCESSING OPTIONS"),
+        0xB2 => record_name(basics::byte_at(sent, 2), basics::byte_at(sent, 3)),
+        0xAE => cryptogram_name(basics::byte_at(sent, 2)),
+        _ => text(b"unknown"),
+    }
+}
+
+// A record by its number, P1, and its file, the top five bits of P2.
+fn record_name(p1: u8, p2: u8) {
+    text(b"READ RECORD file ");
+    number(basics::wide(p2 / 8));
+    text(b" record ");
+    number(basics::wide(p1));
+}
+
+// A cryptogram by what P1 asks for.
+fn cryptogram_name(p1: u8) {
+    match p1 {
+        0x00 => text(b"GENERATE AC decline"),
+        0x40 => text(b"GENERATE AC offline"),
+        0x80 => text(b"GENERATE AC online"),
+        _ => text(b"GENERATE AC"),
+    }
 }
 
 // An outcome and its reason, each by its number and in words.
@@ -152,20 +196,49 @@ fn refusal_words(number: u8) {
 
 // The objects that a store holds: tag, name and value, a line each.
 pub fn objects(store: &[u8]) {
+    held(store, false);
+}
+
+// The same, with the bits in words where they are asked for.
+pub fn held(store: &[u8], in_bits: bool) {
     let mut row: usize = 0;
     while row < dictionary::ROWS {
         if store::is_there(store, row) {
-            object(dictionary::tag(row), store::value(store, row));
+            held_object(dictionary::tag(row), store::value(store, row), in_bits);
         }
         row += 1;
     }
 }
 
-// One object, and a new line.
-fn object(number: u32, value: &[u8]) {
+fn held_object(number: u32, value: &[u8], in_bits: bool) {
+    object(number, value);
+    if in_bits {
+        bits::lines(number, value, 0);
+    }
+}
+
+// A margin of four spaces and two more for each level, at most five.
+pub fn margin(levels: usize) {
+    match levels {
+        0 => text(b"    "),
+        1 => text(b"      "),
+        2 => text(b"        "),
+        3 => text(b"          "),
+        4 => text(b"            "),
+        _ => text(b"              "),
+    }
+}
+
+// A tag and its name.
+pub fn named(number: u32) {
     tag(number);
     text(b" ");
     name(number);
+}
+
+// One object, and a new line.
+pub fn object(number: u32, value: &[u8]) {
+    named(number);
     text(b":");
     bytes(value);
     if value.len() == 0 {
@@ -204,6 +277,9 @@ fn short_name(tag: u32) {
     match tag {
         0x57 => text(b"Track 2 Equivalent Data"),
         0x5A => text(b"Application PAN"),
+        0x70 => text(b"READ RECORD Response Message Template"),
+        0x77 => text(b"Response Message Template Format 2"),
+        0x80 => text(b"Response Message Template Format 1"),
         0x82 => text(b"Application Interchange Profile"),
         0x8C => text(b"CDOL1"),
         0x94 => text(b"Application File Locator"),

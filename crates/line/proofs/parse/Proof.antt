@@ -52,7 +52,11 @@ returns-7 c =
 
 returns-8 : tie.Need-returns-8
 unfolding said
-returns-8 c = says-as (by-word (c .before .before) _ (c .enum-told7 .given .1)) (record { line = refl; lent = refl })
+returns-8 c = says-as (by-word (c .before .before .before) _ (c .before .enum-told7 .given .1)) (record { line = c .alone4 .ensures; lent = refl })
+
+returns-9 : tie.Need-returns-9
+unfolding said
+returns-9 c = says-as (by-word (c .before .before) _ (c .enum-told8 .given .1)) (record { line = refl; lent = refl })
 
 pub parse-spec : {M : Type 1} → statement M
 parse-spec =
@@ -80,6 +84,8 @@ parse-spec =
     (λ c κs. search needs)
     (λ c κs. search needs)
     (λ c. search needs)
+    (λ c κs. search needs)
+    (λ c. search needs)
     returns-2
     (λ c. search needs)
     returns-3
@@ -88,4 +94,5 @@ parse-spec =
     returns-5
     returns-6
     returns-7
-    returns-8)
+    returns-8
+    returns-9)

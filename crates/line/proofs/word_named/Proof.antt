@@ -24,6 +24,9 @@ past4 c = past3 (c .before .before .before) ∙ if-no _ _ (sym (c .before .same4
 past5 : (c : tie.Else5) → let w = c .before .before .before .before .before .before .before .before .before .before .before .before .before .before .before .before .args .w .now in named w ≡ wordIn (drop 5 words) w
 past5 c = past4 (c .before .before .before) ∙ if-no _ _ (sym (c .before .same5 .ensures) ∙ c .if5 .left)
 
+past6 : (c : tie.Else6) → let w = c .before .before .before .before .before .before .before .before .before .before .before .before .before .before .before .before .before .before .before .args .w .now in named w ≡ wordIn (drop 6 words) w
+past6 c = past5 (c .before .before .before) ∙ if-no _ _ (sym (c .before .same6 .ensures) ∙ c .if6 .left)
+
 returns : tie.Need-returns
 unfolding named
 returns c = sym (if-yes _ _ (sym (c .before .same .ensures) ∙ c .if1 .taken))
@@ -44,7 +47,10 @@ returns-6 : tie.Need-returns-6
 returns-6 c = sym (past5 (c .before .before .before) ∙ if-yes _ _ (sym (c .before .same6 .ensures) ∙ c .if6 .taken))
 
 returns-7 : tie.Need-returns-7
-returns-7 c = sym (past5 (c .before .before .before) ∙ if-no _ _ (sym (c .before .same6 .ensures) ∙ c .if6 .left))
+returns-7 c = sym (past6 (c .before .before .before) ∙ if-yes _ _ (sym (c .before .same7 .ensures) ∙ c .if7 .taken))
+
+returns-8 : tie.Need-returns-8
+returns-8 c = sym (past6 (c .before .before .before) ∙ if-no _ _ (sym (c .before .same7 .ensures) ∙ c .if7 .left))
 
 pub word-named-spec : {M : Type 1} → statement M
 word-named-spec =
@@ -68,4 +74,7 @@ word-named-spec =
     (λ c. search needs)
     (λ c κs. search needs)
     returns-6
-    returns-7)
+    (λ c. search needs)
+    (λ c κs. search needs)
+    returns-7
+    returns-8)

@@ -28,5 +28,4 @@ play-spec =
     (λ c. omega arith)
     (λ c. omega arith)
     loop-again
-    (λ c. search needs)
     (λ c. search needs))

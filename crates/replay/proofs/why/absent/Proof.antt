@@ -1,24 +1,23 @@
 -- One row to a turn of the loop. Assumes nothing.
-use Prim.Native.Nat.{_-_}
 use borrow.Author.Needs.{needs}
+use Prim.Native.Nat.{_-_}
 use Rattle.dictionary.specs.Rows.{rowCount}
-use Rattle.show.proofs.objects.Statement.{statement}
-use Rattle.show.proofs.objects.Tie as tie
+use Rattle.replay.proofs.why.absent.Statement.{statement}
+use Rattle.replay.proofs.why.absent.Tie as tie
 
 abbrev Inv-loop : tie.InvT-loop
-Inv-loop store row₀ row = Unit {0}
+Inv-loop start row₀ row = Unit {0}
 
 abbrev μ-loop : tie.MeasureT-loop
-μ-loop store row₀ row = rowCount - row
+μ-loop start row₀ row = rowCount - row
 
-pub objects-spec : {M : Type 1} → statement M
-objects-spec =
+pub absent-spec : {M : Type 1} → statement M
+absent-spec =
     tie.close
     (tie.spec
     Inv-loop
     μ-loop
     (λ c. search needs)
-    (λ c κs. search needs)
     (λ c κs. search needs)
     (λ c κs. search needs)
     (λ c κs. search needs)

@@ -1,0 +1,189 @@
+// The objects of a card's answer, without its status bytes, as an indented tree, and where the first stands that
+// cannot be read (document 01, "Reading an answer").
+//
+// `walked` goes through the bytes in order. What stands next is `tlv::next`'s matter; the ends of the templates that
+// are open stand in an array.
+use crate::{bits, bytes, margin, named, object, text};
+use tlv::{Following, Header};
+
+// What is shown: the tree, and the bits of its objects in words.
+pub struct View {
+    pub tree: bool,
+    pub bits: bool,
+}
+
+// How a walk ended. WALKING: it has not.
+pub const WALKING: u8 = 0;
+
+pub const WHOLE: u8 = 1;
+
+pub const BROKEN: u8 = 2;
+
+pub const FIFTH: u8 = 3;
+
+pub const BEHIND: u8 = 4;
+
+// How many templates may be open, the outer one counted.
+const LEVELS: usize = 4;
+
+// A walk: the place that is next, counted from 0, how many templates are open, where each ends, and how the walk
+// ended.
+pub struct Walk {
+    pub at: usize,
+    open: usize,
+    ends: [usize; LEVELS],
+    pub ended: u8,
+}
+
+// The whole walk. A proved loop has to end, so it counts its turns from a number that no answer uses up.
+pub fn walked(body: &[u8], view: View) -> Walk {
+    let mut w = Walk {
+        at: 0,
+        open: 0,
+        ends: [0; LEVELS],
+        ended: WALKING,
+    };
+    let mut turns: usize = 65536;
+    while turns > 0 && w.ended == WALKING {
+        w = step(w, body, view);
+        turns -= 1;
+    }
+    w
+}
+
+// The next object, or the end of the template that is open.
+fn step(w: Walk, body: &[u8], view: View) -> Walk {
+    let at = w.at;
+    let rest = part(body, at, end_of(w, body.len()));
+    if w.open == 0 && 0 < at {
+        return behind(w, rest, view);
+    }
+    let following = tlv::next(rest);
+    match following {
+        Following::End => closed(w, rest, view),
+        Following::Malformed => stopped(w, BROKEN, rest, view),
+        Following::Inner(h) => met(w, h, rest, view),
+    }
+}
+
+// Where the innermost open template ends; the answer's end where none is open.
+fn end_of(w: Walk, all: usize) -> usize {
+    let ends = w.ends;
+    let open = w.open;
+    if open == 0 {
+        return all;
+    }
+    if LEVELS < open {
+        return all;
+    }
+    ends[open - 1]
+}
+
+// The bytes from one place to another; none where there is no such part.
+fn part(s: &[u8], from: usize, to: usize) -> &[u8] {
+    if to < from {
+        return &s[..0];
+    }
+    if s.len() < to {
+        return &s[..0];
+    }
+    &s[from..to]
+}
+
+// Behind the outer object no byte may stand.
+fn behind(w: Walk, rest: &[u8], view: View) -> Walk {
+    if rest.len() == 0 {
+        return ending(w, WHOLE);
+    }
+    stopped(w, BEHIND, rest, view)
+}
+
+// The contents are used up. An answer with no object at all cannot be read.
+fn closed(w: Walk, rest: &[u8], view: View) -> Walk {
+    if w.open == 0 {
+        return stopped(w, BROKEN, rest, view);
+    }
+    let mut out = w;
+    out.open = w.open - 1;
+    out
+}
+
+// An object: a template is opened, unless it stands on the fifth level; past a primitive object the walk goes on.
+fn met(w: Walk, h: Header, rest: &[u8], view: View) -> Walk {
+    let at = w.at;
+    let start = plus(at, h.start);
+    let end = plus(start, h.len);
+    if !h.template {
+        if view.tree {
+            primitive(h.tag, part(rest, h.start, plus(h.start, h.len)), w.open, view);
+        }
+        return moved(w, end);
+    }
+    if LEVELS <= w.open {
+        return stopped(w, FIFTH, rest, view);
+    }
+    if view.tree {
+        template(h.tag, w.open);
+    }
+    opened(w, start, end)
+}
+
+// The sum; the greatest number where it is greater.
+fn plus(a: usize, b: usize) -> usize {
+    if a <= usize::MAX - b {
+        return a + b;
+    }
+    usize::MAX
+}
+
+// ---- the walk, with one thing changed
+
+fn moved(w: Walk, at: usize) -> Walk {
+    let mut out = w;
+    out.at = at;
+    out
+}
+
+fn ending(w: Walk, how: u8) -> Walk {
+    let mut out = w;
+    out.ended = how;
+    out
+}
+
+fn opened(w: Walk, start: usize, end: usize) -> Walk {
+    let mut out = w;
+    let open = w.open;
+    if open < LEVELS {
+        out.ends[open] = end;
+        out.open = open + 1;
+    }
+    out.at = start;
+    out
+}
+
+// The walk stops; the bytes that it does not reach are shown.
+fn stopped(w: Walk, how: u8, rest: &[u8], view: View) -> Walk {
+    if view.tree && rest.len() != 0 {
+        margin(w.open);
+        text(b"not read:");
+        bytes(rest);
+        text(b"\n");
+    }
+    ending(w, how)
+}
+
+// ---- lines
+
+fn primitive(tag: u32, value: &[u8], levels: usize, view: View) {
+    margin(levels);
+    object(tag, value);
+    if view.bits {
+        bits::lines(tag, value, plus(levels, 1));
+    }
+}
+
+fn template(tag: u32, levels: usize) {
+    margin(levels);
+    named(tag);
+    text(b"\n");
+}
