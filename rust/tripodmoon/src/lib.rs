@@ -35,7 +35,7 @@
 //! ```
 //!
 //! The C calls, the result words and the record's layout are described in docs/HOST.md, the rules
-//! of the session in document 01.
+//! of the session in docs/SPEC-MAP.md.
 
 #![no_std]
 
