@@ -125,7 +125,10 @@ int main(void)
         word = n ? emv_answer(session, sizeof session, card, n, command, sizeof command)
                  : emv_link_failed(session, sizeof session, command, sizeof command);
     }
-    printf("%s %u, reason %u\n", EMV_IS_OUTCOME(word) ? "outcome" : "refused", (unsigned)EMV_OUTCOME(word), (unsigned)EMV_REASON(word));
+    if (EMV_IS_REFUSAL(word)) /* a start that is wrong: this program's fault, and not the card's */
+        printf("refused  %u\n", (unsigned)EMV_REFUSAL(word));
+    else
+        printf("outcome  %u, reason %u\n", (unsigned)EMV_OUTCOME(word), (unsigned)EMV_REASON(word));
     if (EMV_IS_OUTCOME(word) && EMV_OUTCOME(word) == EMV_ONLINE_REQUEST)
         show("online", message, online(session, sizeof session, message));
     emv_wipe(session, sizeof session);

@@ -30,7 +30,7 @@ transactionType store = byteIn store 0x9C 1
 
 -- ---- the transaction limit
 
--- the limit in force
+-- the transaction limit, DF8124
 unfoldable pub limitOf : List ℕ → List ℕ
 limitOf store = bytesIn store 0xDF8124
 

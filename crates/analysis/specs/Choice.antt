@@ -82,7 +82,8 @@ heldAt result pairs stage = someBit (lowestBit result (getD pairs stage noPair))
 
 -- ---- the choice
 
--- where a type that ends in a digit lets the terminal decide; no running session has a type with another ending
+-- what the last digit of the terminal type allows: 1 and 4 online only, 2 and 5 both, 3 and 6 offline only; no running
+-- session has a type with another ending
 unfoldable pub capabilityAt : ℕ → Capability
 capabilityAt digit =
     if oneOf digit 1 4 then OnlineOnly
@@ -102,10 +103,10 @@ capabilityOf kind = capabilityAt (lastDigit kind)
 abbrev pub choiceBy : Capability → Bool → Bool → Bool → Choice
 choiceBy r             true  o     d     = Decline
 choiceBy OnlineOnly    false o     d     = Online
-choiceBy OnlineCapable false true  d     = Online
-choiceBy OnlineCapable false false d     = Offline
 choiceBy OfflineOnly   false o     true  = Decline
 choiceBy OfflineOnly   false o     false = Offline
+choiceBy OnlineCapable false true  d     = Online
+choiceBy OnlineCapable false false d     = Offline
 choiceBy Unlisted      false o     d     = Decline
 
 -- the choice from result bits, terminal's type and pairs of codes
@@ -124,7 +125,7 @@ p1Of Decline = 0x00
 p1Of Offline = 0x40
 p1Of Online = 0x80
 
--- P1 from result bits, terminal's type and pairs of codes, case by case in the rule's order
+-- the same rule with P1 itself, case by case: `p1For` is P1 of `choiceOf` (law `p1-is`)
 unfoldable pub p1For : List ℕ → ℕ → List Pair → ℕ
 p1For result kind pairs =
     if heldAt result pairs denial then 0x00

@@ -21,8 +21,17 @@ pub record Row : Type 0 where
   pub must : ℕ
 
 abbrev pub row : ℕ → ℕ → ℕ → ℕ → ℕ → ℕ → ℕ → ℕ → Row
-row t a g f s p w m =
-    record { tag = t; least = a; greatest = g; form = f; setters = s; templates = p; answers = w; must = m }
+row tag least greatest form setters templates answers must =
+    record {
+      tag = tag;
+      least = least;
+      greatest = greatest;
+      form = form;
+      setters = setters;
+      templates = templates;
+      answers = answers;
+      must = must;
+    }
 
 -- ---- the columns' values
 
@@ -36,7 +45,7 @@ formN = 1
 abbrev pub formCn : ℕ
 formCn = 2
 
--- who may set an object
+-- bits of `setters`: who may set an object
 abbrev pub start : ℕ
 start = 1
 
@@ -46,7 +55,7 @@ card = 2
 abbrev pub session : ℕ
 session = 4
 
--- the template directly around an object; weights 4, 8, 16 and 32 are kept for A5, BF0C, 6F and no template
+-- bits of `templates`: the one directly around an object; weights 4, 8, 16 and 32 are kept for A5, BF0C, 6F and no template
 abbrev pub nowhere : ℕ
 nowhere = 0
 
@@ -56,7 +65,7 @@ in70 = 1
 abbrev pub in77 : ℕ
 in77 = 2
 
--- the answer that brings an object, by its command: GET PROCESSING OPTIONS, READ RECORD, GENERATE AC; weight 8 is kept
+-- bits of `answers`: the one that brings an object, by its command: GET PROCESSING OPTIONS, READ RECORD, GENERATE AC; weight 8 is kept
 -- for one more
 abbrev pub noAnswer : ℕ
 noAnswer = 0
@@ -133,7 +142,7 @@ rowIn table k = getD table k blank
 abbrev pub rowAt : ℕ → Row
 rowAt k = rowIn rows k
 
--- how many rows there are, and the size of a store with room for every row at its greatest length at once
+-- how many rows there are, and the size of a store with room for every row at once, at its greatest length and a length byte
 -- (`rows-length` and `rows-size` in the store's proofs compute both)
 abbrev pub rowCount : ℕ
 rowCount = 36

@@ -3,6 +3,9 @@
 // The session lies in bytes that the host lends to every call, as the record of `layout`; a call works on
 // the store in its place, and nothing is kept between calls. A call gives one word: a command's length, an outcome with its reason, or a
 // refusal, which leaves all lent bytes as they were. docs/HOST.md has the layout and the words.
+//
+// Beside these `emv_object` reads an object of the session back, `emv_find` finds one in other bytes of the card, and
+// `emv_wipe` forgets.
 use dictionary::Found;
 use layout::{Head, Held, HEAD, RECORD_SIZE};
 use record::{Phase, Turn};

@@ -31,7 +31,7 @@ numberOf BadStatus = reasonStatus
 numberOf Malformed = reasonMalformed
 numberOf NotAllowed = reasonNotAllowed
 
--- what a reading gives: the reason's number, how many objects it visited, and the store
+-- what one reading gives, which is no outcome of a session: the reason's number, how many objects it visited, the store
 pub record Outcome : Type 0 where
   pub reason : ℕ
   pub objects : ℕ
@@ -89,7 +89,8 @@ templateTag Options = 0x77
 templateTag (Record f) = 0x70
 templateTag Cryptogram = 0x77
 
--- under 80, processing options: two bytes for 82 and the rest, a multiple of 4, for 94
+-- under 80, processing options: two bytes for 82 and the rest, a multiple of 4, for 94; both are taken as if a 77 stood
+-- directly around them
 unfoldable pub optionsParts : List ℕ → Option (List Item)
 optionsParts v =
     if between 6 (length v) 250 and (length v - 2) % 4 =? 0 then
@@ -101,7 +102,7 @@ unfoldable pub issuerPart : List ℕ → List Item
 issuerPart [] = []
 issuerPart (a ∷ v) = item 0x77 0x9F10 (a ∷ v) ∷ []
 
--- under 80, cryptogram: 9F27, 9F36, 9F26, and 9F10 if any bytes are left; 11 to 43 in all
+-- under 80, cryptogram: 9F27, 9F36, 9F26, and 9F10 if any bytes are left; 11 to 43 in all; taken the same way
 unfoldable pub cryptogramParts : List ℕ → Option (List Item)
 cryptogramParts v =
     if between 11 (length v) 43 then
@@ -154,10 +155,10 @@ readTree a b (some body) = takenParts a b (bodyCount body) (partsOf a body)
 unfoldable pub readBody : Awaited → List ℕ → List ℕ → Outcome
 readBody a b s = readTree a b (bodyOf s)
 
--- files 1 to 10 are read; of the others only the status is
+-- a record of files 1 to 10 is read, and no accepted locator names file 0; of files 11 to 30 only length and status count
 unfoldable pub isRead : Awaited → Bool
 isRead Options = true
-isRead (Record f) = f .number ≤? 10
+isRead (Record file) = file .number ≤? 10
 isRead Cryptogram = true
 
 -- the two status bytes at the end are 90 00

@@ -29,7 +29,7 @@ items a end = []
 items a (leaf t v r) = item a t v ∷ items a r
 items a (node t f r) = items t f ++ items a r
 
--- a template is one of a set of templates
+-- a template is one of a set of templates; one other than 70 and 77 is in none
 abbrev pub standsIn : ℕ → ℕ → Bool
 standsIn templates around =
     if around =? 0x70 then hasBit templates in70
@@ -64,7 +64,7 @@ pub record Work : Type 0 where
 abbrev pub work : Bool → List ℕ → Work
 work g b = record { good = g; store = b }
 
--- a known object: private ones that the card may not set are skipped
+-- a known object is skipped if it is private and not for the card to set, stored if it is allowed, else not allowed
 abbrev pub takeKnown : ℕ → List ℕ → Item → ℕ → Work
 takeKnown answer b i k =
     if isPrivate (i .tag) and not (byCard (rowAt k)) then work true b

@@ -28,7 +28,7 @@ abbrev pub valueFits : Row → Value → Bool
 valueFits r absent = true
 valueFits r (present v) = fitting r v
 
--- the object of a row: its length byte lies in the row's room, and its value fits
+-- the object of a row: its length byte, length + 1, lies in the row's room, greatest + 1, and its value fits
 unfoldable pub objectFits : List ℕ → Row → Bool
 objectFits b r =
     lengthIn b (r .tag) ≤? room r
@@ -87,7 +87,7 @@ completed b = every (notEmpty b) neededTags
 
 -- ---- phase by phase, for a count and a store
 
--- fresh: nothing was handed out, and the store is all zeros
+-- fresh: nothing was handed out, and every byte of the store is zero, not only every length byte
 unfoldable pub freshRanges : ℕ → List ℕ → Bool
 freshRanges n b =
     n =? 0

@@ -104,7 +104,8 @@ nextFound n b k buf (Found.At r) = commands n b (recordPhase k) (readRecord r) b
 unfoldable pub recordRead : Place → ℕ → List ℕ → List ℕ → Step
 recordRead p n b buf = nextFound n b (p .number + 1) buf (recordAt (locatorIn b) (p .number + 1))
 
--- the answer is read by the file of the record that was asked for; a reason that the reading gives ends the session
+-- the answer is read by the file of the record that was asked for; a reason that the reading gives ends the session.
+-- A record in its ranges always has the one asked for.
 abbrev pub recordFound : Place → ℕ → List ℕ → List ℕ → List ℕ → Found → Step
 recordFound p n b card buf Found.Nothing = fails n b reasonLocator buf
 recordFound p n b card buf (Found.At r) =

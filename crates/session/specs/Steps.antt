@@ -62,7 +62,8 @@ fails n b reason buf = withoutCommand (ended n b (endBy reason)) buf
 -- a command fills the front of the buffer: a session of count n and store b waits on its answer in a phase, with one
 -- command more
 abbrev pub commands : ℕ → List ℕ → Phase → List ℕ → List ℕ → Step
-commands n b p c buf = record { reply = replyOf (commandsTurn p (n + 1) (length c)) b; buffer = inFront c buf }
+commands n b phase command buf =
+    record { reply = replyOf (commandsTurn phase (n + 1) (length command)) b; buffer = inFront command buf }
 
 -- the store with these result bits in 95
 unfoldable pub withResults : List ℕ → List ℕ → List ℕ
@@ -85,8 +86,8 @@ admitted s buf step =
 
 -- a list that is broken, or that fills to a length no command can carry, ends the session with reason 7
 abbrev pub handOut : ℕ → List ℕ → Phase → List ℕ → Option (List ℕ) → Step
-handOut n b p buf none = fails n b reasonDataList buf
-handOut n b p buf (some c) = commands n b p c buf
+handOut n b phase buf none = fails n b reasonDataList buf
+handOut n b phase buf (some command) = commands n b phase command buf
 
 -- ---- link failed and stop
 

@@ -33,7 +33,7 @@ byteIn b t n = getD (bytesIn b t) (n - 1) 0
 abbrev pub isZero : ℕ → Bool
 isZero x = x =? 0
 
--- all its bytes are zero
+-- all its bytes are zero; so they are where it is absent
 abbrev pub zeroed : List ℕ → ℕ → Bool
 zeroed b t = every isZero (bytesIn b t)
 

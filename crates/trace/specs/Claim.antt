@@ -67,7 +67,8 @@ abbrev pub oneIf : Bool → ℕ
 oneIf true = 1
 oneIf false = 0
 
--- after the calls ms, the last of which handed back the session s
+-- ms are the calls of a list made one after the other from a fresh session in its ranges (`play`), and s is the session that
+-- the last of them handed back, that fresh one where there are none (`final`); trace::most_commands promises it so
 pub record Proper (ms : List Made) (s : Session) : Type 0 where
   -- the N commands handed out are the first N of the published order
   pub order : map kindOf (commands ms) ≡ take (length (commands ms)) (published cryptogram (acceptedLocator ms))

@@ -97,7 +97,7 @@ kindOf c =
     else record-command c
 
 -- processing options alone while no locator is accepted; with one, behind it a command for each of its records, entry
--- by entry, and then the last command
+-- by entry, and then the last command, which is the cryptogram in EMV mode
 unfoldable pub published : Kind → Option (List ℕ) → List Kind
 published last none = options ∷ []
 published last (some l) = options ∷ (map (λ r. record-command (readRecord r)) (records l) ++ (last ∷ []))

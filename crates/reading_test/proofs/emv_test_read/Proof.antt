@@ -18,7 +18,7 @@ word-requires : tie.Need-word-requires
 word-requires c κs =
     let a = c .before .before .before .before .before .before .before .before .before .before .before .args in
     let e = c .before .before .read-answer .ensures in
-    count-small _ (a .store .now) (a .card .now) _ _ (e .0) (e .2)
+    count-small _ (a .store .now) (a .card .now) _ _ (e .0) (e .1 .1 .0)
 
 returns-3 : tie.Need-returns-3
 returns-3 c =
