@@ -97,6 +97,7 @@ static size_t online(const uint8_t *session, size_t session_len, uint8_t *messag
         if (EMV_IS_VALUE(word))
             n = put(message, n, asked[i], value, EMV_LENGTH(word));
     }
+    emv_wipe(value, sizeof value);
     return n;
 }
 

@@ -57,6 +57,7 @@ default = 2
 abbrev pub noBits : List ℕ
 noBits = 0x00 ∷ 0x00 ∷ 0x00 ∷ 0x00 ∷ 0x00 ∷ []
 
+-- a code of ones
 abbrev pub allBits : List ℕ
 allBits = 0xFF ∷ 0xFF ∷ 0xFF ∷ 0xFF ∷ 0xFF ∷ []
 
@@ -95,6 +96,7 @@ capabilityAt digit =
 abbrev pub lastDigit : ℕ → ℕ
 lastDigit kind = kind % 16
 
+-- by the terminal's type
 abbrev pub capabilityOf : ℕ → Capability
 capabilityOf kind = capabilityAt (lastDigit kind)
 

@@ -4,7 +4,7 @@ use mathlib.Core.Bool.{Bool}
 use Prim.Native.Nat.{ℕ}
 use Rattle.basics.specs.Choice.{if_then_else_}
 
--- ---- refusals, in the order of their numbers; they are checked in the order 22, 25, 21 and, of start bytes, 20, 23, 24
+-- ---- refusals, by their numbers; they are checked in the order 22, 25, 21 and, of start bytes, 20, 23, 24
 
 -- more than 1,024 start bytes, or other than whole primitive objects
 abbrev pub refusedBytes : ℕ

@@ -1,10 +1,12 @@
--- The bench table's marked rows (document 01, "Bench table"), a field for each, over the definitions that the calls' promises cite.
+-- The bench table's marked rows (document 01, "Bench table"), a field for each, over the definitions that the calls'
+-- promises cite.
 -- Assumes nothing.
 use mathlib.Core.Path.{_≡_}
 use mathlib.Core.List.{List, [], _∷_, _++_}
 use mathlib.Core.Option.{some}
 use Prim.Native.Nat.{ℕ, _≤_}
-use lib.ListN.{length, drop}
+use lib.ListN.{length}
+use Rattle.basics.specs.Front.{inFront}
 use Rattle.dictionary.specs.Rows.{rows}
 use Rattle.dictionary.specs.Named.{placeOf}
 use Rattle.store.specs.Place.{absent, present, valueOf, putAt}
@@ -33,6 +35,7 @@ recordBody s = readBody (Awaited.Record (record { number = 1 })) nothing s
 abbrev pub cardVersion : List ℕ
 cardVersion = 0x00 ∷ 0x02 ∷ []
 
+-- the store that holds the card's version and nothing else
 abbrev pub versionAlone : List ℕ
 versionAlone = putAt rows nothing (placeOf 0x9F08) cardVersion
 
@@ -44,7 +47,7 @@ pub record Stored (o : Outcome) : Type 0 where
 -- a step hands out a command: its length, and its bytes at the front of the buffer
 pub record HandsOut (command buffer : List ℕ) (s : Step) : Type 0 where
   pub answer : s .reply .answer ≡ Answer.Command (record { size = length command })
-  pub bytes : s .buffer ≡ command ++ drop (length command) buffer
+  pub bytes : s .buffer ≡ inFront command buffer
 
 -- all that a start must bring, and no 9F38
 abbrev pub startBytes : List ℕ
@@ -67,21 +70,25 @@ startBytes =
 abbrev pub started : List ℕ → Step
 started buffer = startStep freshSession startBytes buffer
 
+-- 82 of 00 80 and the locator 08 01 01 00
 abbrev pub optionsAnswer : List ℕ
 optionsAnswer = 0x80 ∷ 0x06 ∷ 0x00 ∷ 0x80 ∷ 0x08 ∷ 0x01 ∷ 0x01 ∷ 0x00 ∷ 0x90 ∷ 0x00 ∷ []
 
 -- the two commands, whatever buffers are lent
 pub record Begins (first second : List ℕ) : Type 0 where
   pub options : HandsOut (0x80 ∷ 0xA8 ∷ 0x00 ∷ 0x00 ∷ 0x02 ∷ 0x83 ∷ 0x00 ∷ 0x00 ∷ []) first (started first)
-  pub record-1 : HandsOut (0x00 ∷ 0xB2 ∷ 0x01 ∷ 0x0C ∷ 0x00 ∷ []) second (answerStep (started first .reply .session) optionsAnswer second)
+  pub record-1 : HandsOut (0x00 ∷ 0xB2 ∷ 0x01 ∷ 0x0C ∷ 0x00 ∷ []) second
+    (answerStep (started first .reply .session) optionsAnswer second)
 
 -- an amount and result bits as a data object list asks for them
 abbrev pub amount : List ℕ
 amount = 0x00 ∷ 0x00 ∷ 0x00 ∷ 0x00 ∷ 0x12 ∷ 0x34 ∷ []
 
+-- result bits of 80 00 00 80 00
 abbrev pub results : List ℕ
 results = 0x80 ∷ 0x00 ∷ 0x00 ∷ 0x80 ∷ 0x00 ∷ []
 
+-- each asked for at a shorter and at a longer length
 pub record Fills (store : List ℕ) : Type 0 where
   pub amount-2 : filled rows store (0x9F ∷ 0x02 ∷ 0x02 ∷ []) ≡ some (0x12 ∷ 0x34 ∷ [])
   pub amount-7 : filled rows store (0x9F ∷ 0x02 ∷ 0x07 ∷ []) ≡ some (0x00 ∷ amount)
@@ -92,6 +99,7 @@ pub record Fills (store : List ℕ) : Type 0 where
 abbrev pub zeros : List ℕ
 zeros = 0x00 ∷ 0x00 ∷ 0x00 ∷ 0x00 ∷ 0x00 ∷ []
 
+-- result bits of 80 00 00 00 00
 abbrev pub oneBit : List ℕ
 oneBit = 0x80 ∷ 0x00 ∷ 0x00 ∷ 0x00 ∷ 0x00 ∷ []
 
@@ -102,16 +110,22 @@ pub record Plain (store : List ℕ) : Type 0 where
   pub online : valueOf store 0xDF8122 ≡ present zeros
   pub default : valueOf store 0xDF8120 ≡ present zeros
 
+-- the choice by the type and the card's codes
 pub record Chooses (store : List ℕ) : Type 0 where
-  pub no-9F0F : valueOf store 0x9F35 ≡ present (0x22 ∷ []) → valueOf store 0x9F0F ≡ absent → chosen store oneBit ≡ Choice.Online
-  pub zero-9F0F : valueOf store 0x9F35 ≡ present (0x22 ∷ []) → valueOf store 0x9F0F ≡ present zeros → chosen store oneBit ≡ Choice.Offline
-  pub no-9F0D : valueOf store 0x9F35 ≡ present (0x23 ∷ []) → valueOf store 0x9F0D ≡ absent → chosen store oneBit ≡ Choice.Decline
+  pub no-9F0F : valueOf store 0x9F35 ≡ present (0x22 ∷ []) → valueOf store 0x9F0F ≡ absent
+    → chosen store oneBit ≡ Choice.Online
+  pub zero-9F0F : valueOf store 0x9F35 ≡ present (0x22 ∷ []) → valueOf store 0x9F0F ≡ present zeros
+    → chosen store oneBit ≡ Choice.Offline
+  pub no-9F0D : valueOf store 0x9F35 ≡ present (0x23 ∷ []) → valueOf store 0x9F0D ≡ absent
+    → chosen store oneBit ≡ Choice.Decline
 
 -- ---- the rows
 
-abbrev pub rowCount : ℕ
-rowCount = 9
+-- how many they are
+abbrev pub markedRows : ℕ
+markedRows = 9
 
+-- all marked rows
 pub record BenchTable : Type 0 where
   -- one object
   pub empty : recordBody (0x70 ∷ 0x00 ∷ []) ≡ outcome 0 1 nothing
@@ -124,10 +138,12 @@ pub record BenchTable : Type 0 where
   -- four levels, four objects
   pub four-levels : recordBody (0x70 ∷ 0x06 ∷ 0xE1 ∷ 0x04 ∷ 0xE1 ∷ 0x02 ∷ 0xE1 ∷ 0x00 ∷ []) ≡ outcome 0 4 nothing
   -- reason 2: a fifth level
-  pub five-levels : recordBody (0x70 ∷ 0x08 ∷ 0xE1 ∷ 0x06 ∷ 0xE1 ∷ 0x04 ∷ 0xE1 ∷ 0x02 ∷ 0xE1 ∷ 0x00 ∷ []) ≡ outcome 2 0 nothing
+  pub five-levels : recordBody (0x70 ∷ 0x08 ∷ 0xE1 ∷ 0x06 ∷ 0xE1 ∷ 0x04 ∷ 0xE1 ∷ 0x02 ∷ 0xE1 ∷ 0x00 ∷ [])
+    ≡ outcome 2 0 nothing
   -- no 9F38, and the first record
   pub begins : (first second : List ℕ) → leastBuffer ≤ length first → leastBuffer ≤ length second → Begins first second
   -- filling
-  pub fills : (store : List ℕ) → valueOf store 0x9F02 ≡ present amount → valueOf store 0x95 ≡ present results → Fills store
+  pub fills : (store : List ℕ) → valueOf store 0x9F02 ≡ present amount → valueOf store 0x95 ≡ present results
+    → Fills store
   -- the choice
   pub chooses : (store : List ℕ) → Plain store → Chooses store

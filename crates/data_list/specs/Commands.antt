@@ -63,8 +63,8 @@ abbrev pub writtenOf : Option (List ℕ) → Written
 writtenOf none = NoCommand
 writtenOf (some c) = handed (length c)
 
--- the number of what is handed back (document 01, "Calls and their numbers"): 0 with a command, else 7, a list that is broken
--- or fills to no command
+-- the number of what is handed back (document 01, "Calls and their numbers"): 0 with a command, else 7, a list that is
+-- broken or fills to no command
 abbrev pub writtenNumber : Written → ℕ
 writtenNumber (Command c) = reasonNone
 writtenNumber NoCommand = reasonDataList
@@ -74,7 +74,7 @@ abbrev pub listReason : Option (List ℕ) → ℕ
 listReason none = reasonDataList
 listReason (some c) = reasonNone
 
--- a command fills the front of the buffer; bytes behind it, and the whole buffer where there is no command, stay
+-- the buffer with the command in its front, or as it was where there is none
 abbrev pub bufferWith : Option (List ℕ) → List ℕ → List ℕ
 bufferWith none b = b
 bufferWith (some c) b = inFront c b

@@ -1,4 +1,5 @@
--- Data object list (document 01, "Commands and steps", filling; Book 3, 1.4): tags, each followed by one plain length byte, 0 to 255.
+-- Data object list (document 01, "Commands and steps", filling; Book 3, 1.4): tags, each followed by one plain length
+-- byte, 0 to 255.
 -- Assumes nothing.
 use mathlib.Core.List.{List, [], _∷_}
 use mathlib.Core.Option.{Option, some, none}
@@ -22,6 +23,7 @@ unfoldable pub withLength : Tag → List ℕ → EntryFront
 withLength t [] = Broken
 withLength t (n ∷ s) = Asked (entry (t .number) n) (t .size + 1)
 
+-- a whole tag, and its length byte behind it
 abbrev pub withTag : List ℕ → TagFront → EntryFront
 withTag s Untagged = Broken
 withTag s (Tagged t) = withLength t (drop (t .size) s)
@@ -57,5 +59,6 @@ askedTotal (e ∷ es) = e .asked + askedTotal es
 -- ---- what holds of it, proved in proofs/Entries for all lists
 --   entry-inside     an entry takes two bytes at least, all inside its list
 --   entry-kept       bytes behind the list do not change its entry
---   unroll           listEntries s ≡ along listEntries s; entries-end, entries-broken, entries-more: one law for each way out of a step
+--   unroll           listEntries s ≡ along listEntries s
+--   entries-end, entries-broken, entries-more    one law for each way out of a step
 --   entries-join     the entries of two whole lists, one behind the other, are the ones behind the others

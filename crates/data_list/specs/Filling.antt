@@ -1,5 +1,5 @@
--- Filling a data object list from a store (document 01, "Commands and steps", filling; Book 3, 1.4). What holds here holds of every
--- table of rows.
+-- Filling a data object list from a store (document 01, "Commands and steps", filling; Book 3, 1.4). What holds here
+-- holds of every table of rows.
 -- Assumes nothing.
 use mathlib.Core.List.{List, [], _∷_, _++_}
 use mathlib.Core.Option.{Option, some, none}
@@ -72,7 +72,7 @@ filledBy table store (some es) = some (fillingOf table store es)
 abbrev pub filled : List Row → List ℕ → List ℕ → Option (List ℕ)
 filled table store list = filledBy table store (listEntries list)
 
--- ---- what holds of it, proved in proofs/ (Fitting, Filling, Bytes) for all values, lengths, forms, tables, stores and lists
+-- ---- what holds of it, proved in proofs/ (Fitting, Filling, Bytes) for all values, lengths, forms, tables and stores
 --   fitted-length    a fitted value has the length that was asked
 --   fitted-own       at its own length a value stays as it is, padded and cut alike
 --   padded-twice     padding to a longer length and then to a longer one still is padding at once

@@ -6,6 +6,7 @@ use Rattle.dictionary.specs.declared.Found.{Found}
 use Rattle.dictionary.specs.declared.Found.the-variants.{At, Unknown}
 use Rattle.dictionary.specs.Rows.{rows, find}
 
+-- the row that a lookup found, the first where it found none
 abbrev pub placeFound : Found → ℕ
 placeFound Unknown = 0
 placeFound (At k) = k
@@ -14,6 +15,7 @@ placeFound (At k) = k
 unfoldable pub placeOf : ℕ → ℕ
 placeOf t = placeFound (find rows t)
 
+-- the tags that code uses, in the order of the constants
 unfoldable pub usedTags : List ℕ
 usedTags =
     0x5A ∷ 0x82 ∷ 0x8C ∷ 0x94 ∷ 0x95 ∷ 0x9A ∷ 0x9C ∷ 0x5F24 ∷

@@ -20,6 +20,7 @@ pub record Row : Type 0 where
   pub answers : ℕ
   pub must : ℕ
 
+-- a row by its columns
 abbrev pub row : ℕ → ℕ → ℕ → ℕ → ℕ → ℕ → ℕ → ℕ → Row
 row tag least greatest form setters templates answers must =
     record {
@@ -55,7 +56,8 @@ card = 2
 abbrev pub session : ℕ
 session = 4
 
--- bits of `templates`: the one directly around an object; weights 4, 8, 16 and 32 are kept for A5, BF0C, 6F and no template
+-- bits of `templates`: the one directly around an object; weights 4, 8, 16 and 32 are kept for A5, BF0C, 6F and no
+-- template
 abbrev pub nowhere : ℕ
 nowhere = 0
 
@@ -65,7 +67,8 @@ in70 = 1
 abbrev pub in77 : ℕ
 in77 = 2
 
--- bits of `answers`: the one that brings an object, by its command: GET PROCESSING OPTIONS, READ RECORD, GENERATE AC; weight 8 is kept
+-- bits of `answers`: the one that brings an object, by its command: GET PROCESSING OPTIONS, READ RECORD, GENERATE AC;
+-- weight 8 is kept
 -- for one more
 abbrev pub noAnswer : ℕ
 noAnswer = 0
@@ -91,6 +94,7 @@ required = 1
 
 -- ---- the table
 
+-- one row for each known tag
 unfoldable pub rows : List Row
 rows =
     row 0x57       0  19 formB  card    in70    anyAnswer  optional ∷
@@ -139,10 +143,12 @@ blank = row 0 0 0 0 0 0 0 0
 abbrev pub rowIn : List Row → ℕ → Row
 rowIn table k = getD table k blank
 
+-- row k of the dictionary
 abbrev pub rowAt : ℕ → Row
 rowAt k = rowIn rows k
 
--- how many rows there are, and the size of a store with room for every row at once, at its greatest length and a length byte
+-- how many rows there are, and the size of a store with room for every row at once, each at its greatest length and
+-- with a length byte
 -- (`rows-length` and `rows-size` in the store's proofs compute both)
 abbrev pub rowCount : ℕ
 rowCount = 36

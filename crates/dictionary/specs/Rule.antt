@@ -18,9 +18,11 @@ abbrev pub belowNext : ℕ → List Row → Bool
 belowNext t [] = true
 belowNext t (r ∷ rs) = t <? r .tag
 
+-- every tag is below the next one
 unfoldable pub rising : List Row → Bool
 rising [] = true
 rising (r ∷ rs) = belowNext (r .tag) rs and rising rs
 
+-- the whole rule: tags rise, and every row is in order
 unfoldable pub proper : List Row → Bool
 proper table = rising table and every properRow table

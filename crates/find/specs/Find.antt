@@ -53,7 +53,9 @@ nested k (suc levels) = k levels
 
 -- what an object holds, by what k finds in its contents: in a primitive object nothing
 abbrev pub held : (List ℕ → ℕ → Found) → List ℕ → ℕ → Header → Found
-held k s levels h = if h .template then shifted (h .start) (nested (k (valueIn s h)) levels) else Absent
+held k s levels h =
+    if h .template then shifted (h .start) (nested (k (valueIn s h)) levels)
+    else Absent
 
 -- what k finds behind an object
 abbrev pub after : (List ℕ → ℕ → Found) → List ℕ → ℕ → Header → Found

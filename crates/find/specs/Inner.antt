@@ -2,7 +2,6 @@
 -- `find-inside` in proofs/InTree says that it holds of whatever is found.
 -- Assumes nothing.
 use Prim.Native.Nat.{_+_, _≤_}
-use Rattle.find.specs.declared.Span.{Span}
 use Rattle.find.specs.declared.Found.{Found}
 use Rattle.find.specs.declared.Found.the-variants.{At, Absent, Malformed}
 

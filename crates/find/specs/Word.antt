@@ -1,7 +1,6 @@
 -- What a search finds, as one 64-bit word for a host.
 -- Assumes nothing.
 use Prim.Native.Nat.{ℕ, _+_, _*_}
-use Rattle.find.specs.declared.Span.{Span}
 use Rattle.find.specs.declared.Found.{Found}
 use Rattle.find.specs.declared.Found.the-variants.{At, Absent, Malformed}
 

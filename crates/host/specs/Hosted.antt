@@ -11,6 +11,8 @@ use Rattle.record.specs.declared.Session.{Session}
 use Rattle.basics.specs.Reason.{refusedBuffer, refusedRanges}
 use Rattle.record.specs.Session.{freshSession}
 use Rattle.session.specs.Steps.{Step, leastBuffer}
+use Rattle.session.specs.Start.{startStep}
+use Rattle.session.specs.Answer.{answerStep}
 use Rattle.layout.specs.Layout.{recordSize, withRecord, decoded}
 use Rattle.layout.specs.Word.{refusalWord, wordOf}
 
@@ -53,6 +55,13 @@ unfoldable pub hosted : (Session → List ℕ → Step) → List ℕ → List �
 hosted step l buf =
     if length buf <? leastBuffer then refuses refusedBuffer l buf
     else stepped step l buf (decoded l)
+
+-- the call start with the terminal's bytes, and the call answer with the card's
+abbrev pub startOver : List ℕ → List ℕ → List ℕ → Hosted
+startOver terminal l buf = hosted (λ (s : Session) b. startStep s terminal b) l buf
+
+abbrev pub answerOver : List ℕ → List ℕ → List ℕ → Hosted
+answerOver card l buf = hosted (λ (s : Session) b. answerStep s card b) l buf
 
 -- ---- opening and counting
 

@@ -11,15 +11,12 @@ use layout::{Head, Held, HEAD, RECORD_SIZE};
 use record::{Phase, Turn};
 use session::LEAST_BUFFER;
 ghost use mathlib.Core.Path.{_≡_};
-ghost use Rattle.record.specs.declared.Session.{Session};
 ghost use Rattle.layout.specs.Layout.{recordSize, decoded, withHead};
 ghost use Rattle.layout.specs.Word.{wordOf};
 ghost use Rattle.find.specs.Find.{findOf};
 ghost use Rattle.find.specs.Word.{findWord};
 ghost use Rattle.session.specs.Steps.{linkStep, stopStep};
-ghost use Rattle.session.specs.Start.{startStep};
-ghost use Rattle.session.specs.Answer.{answerStep};
-ghost use Rattle.host.specs.Hosted.{DidOver, Opened, hosted, countWord};
+ghost use Rattle.host.specs.Hosted.{DidOver, Opened, hosted, startOver, answerOver, countWord};
 ghost use Rattle.host.specs.Inner.{admissionOf};
 ghost use Rattle.host.specs.Object.{DidCopy, objectIn, objectOf};
 ghost use Rattle.host.specs.Wipe.{Wiped};
@@ -69,7 +66,7 @@ pub extern "C" fn emv_open(session: &mut [u8]) -> u32
 #[no_mangle]
 pub extern "C" fn emv_start(session: &mut [u8], terminal: &[u8], command: &mut [u8]) -> u32
     ensures { λ r. ⌜ DidOver r (now (session .exit)) (now (command .exit))
-        (hosted (λ (s : Session) b. startStep s (now (terminal .entry)) b) (now (session .entry)) (now (command .entry))) ⌝ }
+        (startOver (now (terminal .entry)) (now (session .entry)) (now (command .entry))) ⌝ }
 {
     let admission = admit(session, command.len());
     match admission {
@@ -86,7 +83,7 @@ pub extern "C" fn emv_start(session: &mut [u8], terminal: &[u8], command: &mut [
 #[no_mangle]
 pub extern "C" fn emv_answer(session: &mut [u8], card: &[u8], command: &mut [u8]) -> u32
     ensures { λ r. ⌜ DidOver r (now (session .exit)) (now (command .exit))
-        (hosted (λ (s : Session) b. answerStep s (now (card .entry)) b) (now (session .entry)) (now (command .entry))) ⌝ }
+        (answerOver (now (card .entry)) (now (session .entry)) (now (command .entry))) ⌝ }
 {
     let admission = admit(session, command.len());
     match admission {

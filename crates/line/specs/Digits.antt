@@ -43,7 +43,9 @@ pairByte a b = digitOf a * 16 + digitOf b
 unfoldable pub pairOf : List ℕ → Pair
 pairOf [] = Pair.Broken
 pairOf (a ∷ []) = Pair.Broken
-pairOf (a ∷ b ∷ s) = if isPair a b then Pair.Byte (record { byte = pairByte a b }) else Pair.Broken
+pairOf (a ∷ b ∷ s) =
+    if isPair a b then Pair.Byte (record { byte = pairByte a b })
+    else Pair.Broken
 
 -- the bytes that a text spells up to the first place that spells none, and the number of the problem there;
 -- 0 at the text's end
@@ -61,7 +63,9 @@ after bs r = record { bytes = bs ++ r .bytes; problem = r .problem }
 -- blanks are skipped between bytes; a byte is two hexadecimal digits side by side
 unfoldable pub spelled : List ℕ → Spelling
 spelled [] = stopped 0
-spelled (a ∷ []) = if isBlank a then stopped 0 else stopped hexProblem
+spelled (a ∷ []) =
+    if isBlank a then stopped 0
+    else stopped hexProblem
 spelled (a ∷ b ∷ s) =
     if isBlank a then spelled (b ∷ s)
     else if isPair a b then after (pairByte a b ∷ []) (spelled s)

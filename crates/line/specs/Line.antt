@@ -9,7 +9,8 @@ use Rattle.line.specs.declared.Decoded.{Decoded}
 use Rattle.line.specs.declared.Kind.the-variants.{Blank}
 use Rattle.line.specs.declared.Line.{Line}
 use Rattle.line.specs.declared.Word.{Word}
-use Rattle.line.specs.declared.Word.the-variants.{Absent, Start, Answer, LinkFailed, Stop, Buffer, Session, Unknown}
+use Rattle.line.specs.declared.Word.the-variants.{Absent, Start, Answer, LinkFailed, Stop, Buffer}
+use Rattle.line.specs.declared.Word.the-variants.{Session, Unknown}
 use Rattle.line.specs.Text.{of, past, uncommented, wordOf, behind}
 use Rattle.basics.specs.Alike.{alike}
 use Rattle.line.specs.Digits.{Spelling, spelled, within, decoded, placed, sized}
@@ -34,7 +35,9 @@ words =
 -- the word of a table with these characters
 abbrev pub wordIn : List Spelt → List ℕ → Word
 wordIn [] w = Unknown
-wordIn (e ∷ es) w = if alike w (e .text) then e .word else wordIn es w
+wordIn (e ∷ es) w =
+    if alike w (e .text) then e .word
+    else wordIn es w
 
 -- which word it is
 unfoldable pub named : List ℕ → Word
@@ -47,14 +50,20 @@ wrong p = Line.Wrong (record { number = p })
 
 -- a line behind whose words only blanks stand
 unfoldable pub alone : List ℕ → Line → Line
-alone rest line = if length (past (of Blank) rest) =? 0 then line else wrong 5
+alone rest line =
+    if length (past (of Blank) rest) =? 0 then line
+    else wrong 5
 
 -- a start or an answer with the bytes that were decoded
 unfoldable pub startLine : Decoded → Line
-startLine d = if d .problem =? 0 then Line.Start (record { size = d .size }) else wrong (d .problem)
+startLine d =
+    if d .problem =? 0 then Line.Start (record { size = d .size })
+    else wrong (d .problem)
 
 unfoldable pub answerLine : Decoded → Line
-answerLine d = if d .problem =? 0 then Line.Answer (record { size = d .size }) else wrong (d .problem)
+answerLine d =
+    if d .problem =? 0 then Line.Answer (record { size = d .size })
+    else wrong (d .problem)
 
 -- what a line says, and the lent bytes then
 pub record Meaning : Type 0 where
@@ -86,7 +95,9 @@ saidBy text out = said (named (wordOf text)) (behind text) out
 
 -- a line of at most 8,192 characters: what it says without its comment
 unfoldable pub meaning : List ℕ → List ℕ → Meaning
-meaning line out = if 8192 <? length line then plain (wrong 1) out else saidBy (uncommented line) out
+meaning line out =
+    if 8192 <? length line then plain (wrong 1) out
+    else saidBy (uncommented line) out
 
 -- the line r and the lent bytes at exit are those of a meaning
 pub record Says (r : Line) (exit : List ℕ) (m : Meaning) : Type 0 where

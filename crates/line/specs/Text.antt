@@ -20,12 +20,16 @@ of NotHash c = not (c =? 35)
 -- the longest part at the front whose characters all pass a test
 unfoldable pub front : (ℕ → Bool) → List ℕ → List ℕ
 front f [] = []
-front f (c ∷ s) = if f c then c ∷ front f s else []
+front f (c ∷ s) =
+    if f c then c ∷ front f s
+    else []
 
 -- what stands behind that part
 unfoldable pub past : (ℕ → Bool) → List ℕ → List ℕ
 past f [] = []
-past f (c ∷ s) = if f c then past f s else (c ∷ s)
+past f (c ∷ s) =
+    if f c then past f s
+    else (c ∷ s)
 
 -- a line without its comment: what stands before the first '#'
 abbrev pub uncommented : List ℕ → List ℕ

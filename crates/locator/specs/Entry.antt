@@ -1,5 +1,5 @@
--- One entry of the file locator, tag 94 (document 01, "Commands and steps", Locator; Book C-2, A.1.15; Book 3, the application
--- file locator): the file and the records that its four bytes name, and the rules that they keep.
+-- One entry of the file locator, tag 94 (document 01, "Commands and steps", Locator; Book C-2, A.1.15; Book 3, the
+-- application file locator): the file and the records that its four bytes name, and the rules that they keep.
 -- Assumes nothing.
 use mathlib.Core.Bool.{Bool}
 use mathlib.Core.List.{List}
@@ -25,8 +25,8 @@ fileOf e = e .sfi / 8
 abbrev pub countOf : Entry → ℕ
 countOf e = e .last + 1 - e .first
 
--- an entry keeps the rules: the low three bits of byte 1 are 0, the file number is 1 to 30, the first record is not 0,
--- the last is not below the first, and byte 4 is at most the number of its records
+-- an entry keeps the rules: no low bit in byte 1, a file number from 1 to 30, records numbered from 1 on, in order, and
+-- no more of them for offline authentication than there are
 unfoldable pub keeps : Entry → Bool
 keeps e =
     e .sfi % 8 =? 0

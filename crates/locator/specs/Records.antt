@@ -1,5 +1,5 @@
--- The file locator, tag 94, as a whole (document 01, "Commands and steps", Locator, and "What demand 3 counts"): its entries,
--- the records that it names in the published order, and when it is accepted. A locator is any list of bytes.
+-- The file locator, tag 94, as a whole (document 01, "Commands and steps", Locator, "What demand 3 counts"): its
+-- entries, the records that it names in the published order, and when it is accepted. A locator is any list of bytes.
 -- Assumes nothing.
 use mathlib.Core.Bool.{Bool}
 use mathlib.Core.List.{List, [], _∷_, _++_}
@@ -68,8 +68,8 @@ checked s =
     if accepts s then Accepted (record { records = total s })
     else Rejected
 
--- the number of a check's answer (document 01, "Calls and their numbers"): 0 where it gives no reason, else 5, a locator that
--- breaks its rules
+-- the number of a check's answer (document 01, "Calls and their numbers"): 0 where it gives no reason, else 5, a
+-- locator that breaks its rules
 abbrev pub checkedNumber : Checked → ℕ
 checkedNumber (Accepted e) = reasonNone
 checkedNumber Rejected = reasonLocator

@@ -37,6 +37,7 @@ pub record Outcome : Type 0 where
   pub objects : ℕ
   pub store : List ℕ
 
+-- a reading of these parts
 abbrev pub outcome : ℕ → ℕ → List ℕ → Outcome
 outcome r n b = record { reason = r; objects = n; store = b }
 
@@ -48,6 +49,7 @@ pub record Gives (r : Reading) (b : List ℕ) (o : Outcome) : Type 0 where
 
 -- ---- the body: one object with no byte behind it
 
+-- a primitive object with its value, or a template with the tree that it holds
 pub data Body : Type 0 where
   primitive : ℕ → List ℕ → Body
   template : ℕ → Forest → Body
@@ -129,6 +131,7 @@ templateParts a t f =
     if t =? templateTag a then some (items t f)
     else none
 
+-- by the kind of body
 abbrev pub partsOf : Awaited → Body → Option (List Item)
 partsOf a (primitive t v) = primitiveParts a t v
 partsOf a (template t f) = templateParts a t f
@@ -155,7 +158,7 @@ readTree a b (some body) = takenParts a b (bodyCount body) (partsOf a body)
 unfoldable pub readBody : Awaited → List ℕ → List ℕ → Outcome
 readBody a b s = readTree a b (bodyOf s)
 
--- a record of files 1 to 10 is read, and no accepted locator names file 0; of files 11 to 30 only length and status count
+-- a record of a file up to 10 is read (no accepted locator names file 0); of a higher one only length and status count
 unfoldable pub isRead : Awaited → Bool
 isRead Options = true
 isRead (Record file) = file .number ≤? 10

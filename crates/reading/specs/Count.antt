@@ -30,7 +30,7 @@ oneCount (some f) =
     if isOne f then count f
     else 0
 
--- the objects of a body: templates nest four levels, the outer one counted
+-- the objects of a body, its outer object one of them; at most four levels of templates
 unfoldable pub bodyObjects : List ℕ → ℕ
 bodyObjects s = oneCount (parse 4 s)
 

@@ -16,6 +16,7 @@ use Rattle.reading.specs.declared.Tally.{Tally}
 use Rattle.reading.specs.declared.Contents.{Contents}
 use Rattle.reading.specs.declared.Contents.the-variants.{Whole, Broken}
 use Rattle.reading.specs.Taking.{Work, items, takeAll}
+use Rattle.reading.specs.Answer.{Outcome, Gives}
 
 -- ---- the working copy
 
@@ -25,6 +26,10 @@ storeAfter b w Accepted = w
 storeAfter b w BadStatus = b
 storeAfter b w Malformed = b
 storeAfter b w NotAllowed = b
+
+-- the reading r, with the working copy w that it left of the store b, gives o
+abbrev pub GivesIn : Reading → List ℕ → List ℕ → Outcome → Type 0
+GivesIn r b w o = Gives r (storeAfter b w (r .verdict)) o
 
 -- a reading of these parts
 abbrev pub made : Verdict → ℕ → Reading

@@ -20,6 +20,7 @@ pub record Item : Type 0 where
   pub tag : ℕ
   pub value : List ℕ
 
+-- an object of these parts
 abbrev pub item : ℕ → ℕ → List ℕ → Item
 item a t v = record { around = a; tag = t; value = v }
 
@@ -61,6 +62,7 @@ pub record Work : Type 0 where
   pub good : Bool
   pub store : List ℕ
 
+-- a store of these parts
 abbrev pub work : Bool → List ℕ → Work
 work g b = record { good = g; store = b }
 

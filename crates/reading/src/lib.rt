@@ -21,7 +21,7 @@ ghost use Rattle.tlv.specs.Tag.{isPrivate};
 ghost use Rattle.tlv.specs.Tree.{parse};
 ghost use Rattle.reading.specs.Taking.{item, mayCome, byCard, standsIn, work, takeItem, takeNext, takeAll};
 ghost use Rattle.reading.specs.Count.{bodyObjects, answerObjects};
-ghost use Rattle.reading.specs.Inner.{storeAfter, made, Leaves, counted};
+ghost use Rattle.reading.specs.Inner.{made, Leaves, counted, GivesIn};
 ghost use Rattle.reading.specs.Answer.{Gives, numberOf, answerBit, templateTag, primitive, templateBody, optionsParts, issuerPart, cryptogramParts, takenParts, readTree, readBody, isRead, goodStatus, readAnswer};
 
 // A record's file.
@@ -44,7 +44,7 @@ pub enum Verdict {
     NotAllowed,
 }
 
-// A reading: its verdict, and how many objects it visited, templates included.
+// A reading: its verdict, and the count of objects in the answer's tree.
 pub struct Reading {
     pub verdict: Verdict,
     pub objects: usize,
@@ -174,7 +174,7 @@ fn template_tag(awaited: Awaited) -> u32
 // The body's one object, with no byte behind it, into a working copy.
 fn read_object(work: &mut [u8; SIZE], awaited: Awaited, body: &[u8]) -> Reading
     requires { ⌜ length (now work) ≡ storeSize ⌝ }
-    ensures given { λ r. ⌜ Gives r (storeAfter (now (work .entry)) (now (work .exit)) (r .verdict)) (readBody awaited (now (work .entry)) (now (body .entry))) ⌝ }
+    ensures given { λ r. ⌜ GivesIn r (now (work .entry)) (now (work .exit)) (readBody awaited (now (work .entry)) (now (body .entry))) ⌝ }
     ensures sized { λ _. ⌜ length (now (work .exit)) ≡ storeSize ⌝ }
     ensures half { λ r. ⌜ 2 * r .objects ≤ length (now (body .entry)) ⌝ }
 {
@@ -198,7 +198,7 @@ fn read_object(work: &mut [u8; SIZE], awaited: Awaited, body: &[u8]) -> Reading
 fn read_template(work: &mut [u8; SIZE], awaited: Awaited, tag: u32, value: &[u8]) -> Reading
     requires { ⌜ length (now work) ≡ storeSize ⌝ }
     requires { ⌜ length (now value) + 2 < 2 ^ 64 ⌝ }
-    ensures given { λ r. ⌜ Gives r (storeAfter (now (work .entry)) (now (work .exit)) (r .verdict)) (readTree awaited (now (work .entry)) (templateBody tag (parse 3 (now (value .entry))))) ⌝ }
+    ensures given { λ r. ⌜ GivesIn r (now (work .entry)) (now (work .exit)) (readTree awaited (now (work .entry)) (templateBody tag (parse 3 (now (value .entry))))) ⌝ }
     ensures sized { λ _. ⌜ length (now (work .exit)) ≡ storeSize ⌝ }
     ensures half { λ r. ⌜ 2 * r .objects ≤ 2 + length (now (value .entry)) ⌝ }
 {
@@ -230,7 +230,7 @@ fn read_template(work: &mut [u8; SIZE], awaited: Awaited, tag: u32, value: &[u8]
 // An answer that is a primitive object: 80, with its parts one behind the other.
 fn read_primitive(work: &mut [u8; SIZE], awaited: Awaited, tag: u32, value: &[u8]) -> Reading
     requires { ⌜ length (now work) ≡ storeSize ⌝ }
-    ensures given { λ r. ⌜ Gives r (storeAfter (now (work .entry)) (now (work .exit)) (r .verdict)) (readTree awaited (now (work .entry)) (some (primitive tag (now (value .entry))))) ⌝ }
+    ensures given { λ r. ⌜ GivesIn r (now (work .entry)) (now (work .exit)) (readTree awaited (now (work .entry)) (some (primitive tag (now (value .entry))))) ⌝ }
     ensures sized { λ _. ⌜ length (now (work .exit)) ≡ storeSize ⌝ }
     ensures one { λ r. ⌜ r .objects ≡ 1 ⌝ }
 {
@@ -244,10 +244,10 @@ fn read_primitive(work: &mut [u8; SIZE], awaited: Awaited, tag: u32, value: &[u8
     }
 }
 
-// Two bytes for 82 and the rest for 94.
+// The parts of a body under 80: the interchange profile, then the locator.
 fn read_options(work: &mut [u8; SIZE], value: &[u8]) -> Reading
     requires { ⌜ length (now work) ≡ storeSize ⌝ }
-    ensures given { λ r. ⌜ Gives r (storeAfter (now (work .entry)) (now (work .exit)) (r .verdict)) (takenParts Awaited.Options (now (work .entry)) 1 (optionsParts (now (value .entry)))) ⌝ }
+    ensures given { λ r. ⌜ GivesIn r (now (work .entry)) (now (work .exit)) (takenParts Awaited.Options (now (work .entry)) 1 (optionsParts (now (value .entry)))) ⌝ }
     ensures sized { λ _. ⌜ length (now (work .exit)) ≡ storeSize ⌝ }
     ensures one { λ r. ⌜ r .objects ≡ 1 ⌝ }
 {
@@ -273,7 +273,7 @@ fn read_options(work: &mut [u8; SIZE], value: &[u8]) -> Reading
 // 9F27, 9F36 and 9F26, and 9F10 if any bytes are left.
 fn read_cryptogram(work: &mut [u8; SIZE], value: &[u8]) -> Reading
     requires { ⌜ length (now work) ≡ storeSize ⌝ }
-    ensures given { λ r. ⌜ Gives r (storeAfter (now (work .entry)) (now (work .exit)) (r .verdict)) (takenParts Awaited.Cryptogram (now (work .entry)) 1 (cryptogramParts (now (value .entry)))) ⌝ }
+    ensures given { λ r. ⌜ GivesIn r (now (work .entry)) (now (work .exit)) (takenParts Awaited.Cryptogram (now (work .entry)) 1 (cryptogramParts (now (value .entry)))) ⌝ }
     ensures sized { λ _. ⌜ length (now (work .exit)) ≡ storeSize ⌝ }
     ensures one { λ r. ⌜ r .objects ≡ 1 ⌝ }
 {
@@ -321,7 +321,8 @@ fn read(
     requires { ⌜ length (now store) ≡ storeSize ⌝ }
     requires { ⌜ 2 * tally .objects + length (now bytes) < 2 ^ 64 ⌝ }
     requires { ⌜ 0 < answer ⌝ }
-    ensures left { λ r. ⌜ Leaves answer around (tally .objects) (work (tally .good) (now (store .entry))) (parse levels (now (bytes .entry))) r (now (store .exit)) ⌝ }
+    ensures left { λ r. ⌜ Leaves answer around (tally .objects) (work (tally .good) (now (store .entry)))
+        (parse levels (now (bytes .entry))) r (now (store .exit)) ⌝ }
     ensures half { λ r. ⌜ 2 * counted r ≤ 2 * tally .objects + length (now (bytes .entry)) ⌝ }
     ensures sized { λ _. ⌜ length (now (store .exit)) ≡ storeSize ⌝ }
 {

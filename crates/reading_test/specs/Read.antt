@@ -48,4 +48,6 @@ readWanted (Answer a) b s = readAs (readAnswer a b s)
 
 -- the same where the store has its size
 unfoldable pub readOver : ℕ → ℕ → List ℕ → List ℕ → Read
-readOver n file b s = if length b =? storeSize then readWanted (wantedOf n file) b s else notRead b
+readOver n file b s =
+    if length b =? storeSize then readWanted (wantedOf n file) b s
+    else notRead b

@@ -24,7 +24,7 @@ pub record ObjectFits (b : List ℕ) (r : Row) : Type 0 where
   pub length-byte : lengthIn b (r .tag) ≤ room r
   pub value : valueFits r (valueOf b (r .tag)) ≡ true
 
--- every stored length and digit fits the dictionary
+-- what is stored fits its row
 abbrev pub Fits : List ℕ → Type 0
 Fits b = (k : ℕ) → k < rowCount → ObjectFits b (rowAt k)
 
@@ -32,8 +32,8 @@ Fits b = (k : ℕ) → k < rowCount → ObjectFits b (rowAt k)
 abbrev pub noResults : List ℕ
 noResults = 0 ∷ 0 ∷ 0 ∷ 0 ∷ 0 ∷ []
 
--- every running session: 95 and all that a start must bring, a listed terminal type, nothing of the cryptogram's
--- answer
+-- every running session: the result bits, the required start objects, a terminal type of the list, no object of the
+-- cryptogram's answer
 pub record Running (b : List ℕ) : Type 0 where
   pub results : holds b 0x95 ≡ true
   pub brought : (k : ℕ) → k < rowCount → rowAt k .must ≡ required → holds b (rowAt k .tag) ≡ true

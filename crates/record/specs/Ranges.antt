@@ -21,7 +21,7 @@ use Rattle.record.specs.declared.Session.{Session}
 use Rattle.record.specs.Numbers.{goesWith}
 use Rattle.record.specs.Session.{stored}
 
--- ---- every phase: every stored length and digit fits the dictionary
+-- ---- in every phase: what is stored fits its row
 
 -- a value fits a row; absent is allowed
 abbrev pub valueFits : Row → Value → Bool

@@ -80,7 +80,8 @@ pub fn said_number(said: Said) -> u8
 
 // Plays the calls that stand in `calls`.
 pub fn run(calls: &mut [u8], replies: &mut [u8]) -> Ran
-    ensures { λ r. ⌜ Runs r (now (calls .exit)) (now (replies .exit)) (now (calls .entry)) (now (replies .entry)) (playedOf (callsOf (now (calls .entry))) (now (replies .entry))) ⌝ }
+    ensures { λ r. ⌜ Runs r (now (calls .exit)) (now (replies .exit)) (now (calls .entry)) (now (replies .entry))
+        (playedOf (callsOf (now (calls .entry))) (now (replies .entry))) ⌝ }
     ensures every_list { λ _. ⌜ ((cs : List Call) → Sized cs → callsOf (encoded cs) ≡ some cs) ⌝ }
 {
     let Counted::Calls(n) = count_calls(calls) else {
@@ -198,7 +199,8 @@ fn four(s: &[u8]) -> usize
 // Plays every call of a list of calls, on a fresh session.
 fn play_all(calls: &mut [u8], replies: &mut [u8]) -> Session
     requires { ⌜ Ready (callsOf (now calls)) (now replies) ⌝ }
-    ensures { λ r. ⌜ Plays r (now (calls .exit)) (now (replies .exit)) (now (calls .entry)) (now (replies .entry)) (callsRead (callsOf (now (calls .entry)))) ⌝ }
+    ensures { λ r. ⌜ Plays r (now (calls .exit)) (now (replies .exit)) (now (calls .entry)) (now (replies .entry))
+        (callsRead (callsOf (now (calls .entry)))) ⌝ }
 {
     let mut session = record::fresh();
     let mut at = 0;

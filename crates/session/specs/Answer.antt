@@ -119,7 +119,7 @@ recordStep p n b card buf = recordFound p n b card buf (recordAt (locatorIn b) (
 
 -- ---- the answer to the cryptogram
 
--- a cryptogram of type 10 (ARQC): online if 40 or 80 was asked
+-- a cryptogram of type 10 (ARQC) goes online unless a decline was asked for
 abbrev pub onlineFor : Choice → Option Outcome
 onlineFor Choice.Decline = none
 onlineFor Choice.Online = some Outcome.OnlineRequest

@@ -1,8 +1,8 @@
 // One contactless session in EMV mode: `start`, `answer`, `link_failed` and `stop`.
 //
 // Each call takes the session by value and a lent command buffer, and hands back the session and a
-// command, an outcome or a refusal. A command fills the front of the buffer; the bytes behind it, and
-// the whole buffer where no command comes, stay. A refusal changes nothing.
+// command, an outcome or a refusal. A command stands in the front of the buffer, which is left alone
+// otherwise. A refusal changes nothing.
 //
 // `start_in`, `answer_in`, `link_failed_in` and `stop_in` are the same calls on a session's parts with the
 // store lent or shared: a turn is handed back, and the store is not copied.

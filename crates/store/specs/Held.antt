@@ -1,5 +1,5 @@
--- What a store holds of a tag: there, absent, not empty, its bytes one by one (document 01, "Dictionary": one of length 0
--- is present and empty).
+-- What a store holds of a tag: there, absent, not empty, its bytes one by one (document 01, "Dictionary"; an object of
+-- no bytes is there).
 -- Assumes nothing.
 use mathlib.Core.Bool.{Bool, not}
 use mathlib.Core.List.{List}
@@ -30,6 +30,7 @@ notEmpty b t = 0 <? length (bytesIn b t)
 abbrev pub byteIn : List ℕ → ℕ → ℕ → ℕ
 byteIn b t n = getD (bytesIn b t) (n - 1) 0
 
+-- a byte is zero
 abbrev pub isZero : ℕ → Bool
 isZero x = x =? 0
 
@@ -42,5 +43,6 @@ abbrev pub lengthFound : List ℕ → Found → ℕ
 lengthFound b Found.Unknown = 0
 lengthFound b (Found.At k) = lengthByte rows b k
 
+-- by its row; 0 for an unknown tag
 unfoldable pub lengthIn : List ℕ → ℕ → ℕ
 lengthIn b t = lengthFound b (find rows t)

@@ -16,10 +16,12 @@ pub data Value : Type 0 where
   absent : Value
   present : List ℕ → Value
 
+-- its bytes, none where it is absent
 abbrev pub bytesOf : Value → List ℕ
 bytesOf absent = []
 bytesOf (present v) = v
 
+-- it is there, empty or not
 abbrev pub isThere : Value → Bool
 isThere absent = false
 isThere (present v) = true
@@ -84,6 +86,7 @@ spanOf k = record { at = offsetIn rows k; most = rowAt k .greatest }
 
 -- ---- by tag
 
+-- the value of the row that a lookup found
 abbrev pub valueFound : List Row → List ℕ → Found → Value
 valueFound table b Unknown = absent
 valueFound table b (At k) = valueAt table b k
@@ -92,5 +95,6 @@ valueFound table b (At k) = valueAt table b k
 unfoldable pub valueIn : List Row → List ℕ → ℕ → Value
 valueIn table b t = valueFound table b (find table t)
 
+-- the same in the dictionary
 abbrev pub valueOf : List ℕ → ℕ → Value
 valueOf b t = valueIn rows b t

@@ -34,6 +34,7 @@ settable b k o =
     and not (isThere (valueAt rows b k))
     and typeListed (o .tag) (o .value)
 
+-- by its row in the table; an unknown one is skipped
 abbrev pub setFound : List ℕ → Object → Found → Option (List ℕ)
 setFound b o Found.Unknown = some b
 setFound b o (Found.At k) =
@@ -49,6 +50,7 @@ abbrev pub andThen : Option (List ℕ) → (List ℕ → Option (List ℕ)) → 
 andThen none k = none
 andThen (some b) k = k b
 
+-- one object after the other, none where one may not be set
 unfoldable pub setAll : List ℕ → List Object → Option (List ℕ)
 setAll b [] = some b
 setAll b (o ∷ os) = andThen (setObject b o) (λ c. setAll c os)
@@ -65,6 +67,7 @@ Sets r c (some d) = (r ≡ true) × (c ≡ d)
 
 -- ---- what a start loads: a store, or a refusal by its number
 
+-- a store with all objects, or the number of a refusal
 pub data Loaded : Type 0 where
   refusal : ℕ → Loaded
   loaded : List ℕ → Loaded
@@ -75,10 +78,12 @@ afterRequired b =
     if brought b then loaded b
     else refusal refusedAbsent
 
+-- an object that may not be set is 23; else what a start must bring is looked for
 abbrev pub afterSetting : Option (List ℕ) → Loaded
 afterSetting none = refusal refusedObject
 afterSetting (some b) = afterRequired b
 
+-- bytes that are no run of primitive objects are 20; else the objects are set
 abbrev pub afterRun : List ℕ → Option (List Object) → Loaded
 afterRun b none = refusal refusedBytes
 afterRun b (some os) = afterSetting (setAll b os)

@@ -39,6 +39,7 @@ headerOf s = withTag s (tagAt s)
 abbrev pub valueIn : List ℕ → Header → List ℕ
 valueIn s h = take (h .len) (drop (h .start) s)
 
+-- the bytes behind the object
 abbrev pub behind : List ℕ → Header → List ℕ
 behind s h = drop (h .start + h .len) s
 

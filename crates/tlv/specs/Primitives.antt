@@ -14,6 +14,7 @@ pub record Object : Type 0 where
   pub tag : ℕ
   pub value : List ℕ
 
+-- an object of these parts
 abbrev pub object : ℕ → List ℕ → Object
 object t v = record { tag = t; value = v }
 

@@ -41,6 +41,7 @@ unfoldable pub withLeaf : ℕ → List ℕ → Option Forest → Option Forest
 withLeaf t v none = none
 withLeaf t v (some r) = some (leaf t v r)
 
+-- a run behind a template, malformed where its contents or the run are
 unfoldable pub withNode : ℕ → Option Forest → Option Forest → Option Forest
 withNode t none r = none
 withNode t (some f) none = none

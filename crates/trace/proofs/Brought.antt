@@ -59,7 +59,7 @@ stays : (answer : ℕ) (w : Work) (is : List Item) (v : List ℕ) → length (w 
     → held (takeAll answer w is .store) ≡ v
 stays answer w is v l n e =
     all-holds (λ b. held b ≡ v) any answer
-    (λ b k i m q p h. ap bytesOf (put-other rows b k (i .value) (fits-row b k (i .value) m (p .row) (fits-length (rowAt k) (i .value) (p .fits) .1)) 4
+    (λ b k i m q p h. ap bytesOf (put-other rows b k (i .value) (fits-row b k (i .value) m (p .row) (fits-length (rowAt k) (i .value) (p .fits) .1)) row94
     (λ z. let f = eqb-true _ 0 (p .free) in
     let g : length (held b) ≡ 0 = ap (λ (j : ℕ). length (bytesOf (valueAt rows b j))) z ∙ f in
     omega (arith, ap length h))) ∙ h) w is (all-any is) (l, e) .1
@@ -114,7 +114,7 @@ module _ (answer : ℕ) (b : List ℕ) (i : Item) (is : List Item) (l : length b
       go : (i .tag ≡ 0x94) ⊎ (i .tag ≡ 0x94 → ⊥) → Goes (work true (putAt rows b k (i .value)))
       go (inr n) =
           skip (not-94 i n) (putAt rows b k (i .value)) size
-          (ap bytesOf (put-other rows b k (i .value) fit 4 (λ z. n (sym (found rows (i .tag) k f .1) ∙ ap (λ (j : ℕ). rowAt j .tag) (sym z) ∙ row-94 .0))) ∙ e)
+          (ap bytesOf (put-other rows b k (i .value) fit row94 (λ z. n (sym (found rows (i .tag) k f .1) ∙ ap (λ (j : ℕ). rowAt j .tag) (sym z) ∙ row-94 .0))) ∙ e)
       go (inl t) = λ g h.
           let q = is-94 k f t in
           let s : mayStand (rowAt row94) (i .around) ≡ true = subst (λ (j : ℕ). mayStand (rowAt j) (i .around) ≡ true) q (both-left _ _ here-fits) in

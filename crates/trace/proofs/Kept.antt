@@ -108,24 +108,24 @@ module _ (b v : List ℕ) (l : length b ≡ storeSize) (n : length v ≡ 5) wher
   room : length v ≤ rowAt row95 .greatest
   room = omega (arith, results-fit)
 
-  here : 5 < rowCount
+  here : row95 < rowCount
   here = omega arith
 
   pub bits-size : length (withResults b v) ≡ storeSize
-  bits-size = ap length put ∙ put-size b 5 v l here room
+  bits-size = ap length put ∙ put-size b row95 v l here room
 
   pub bits-fits : Fits b → Fits (withResults b v)
-  bits-fits f = subst (λ (d : List ℕ). Fits d) (sym put) (fits-kept b 5 v l here (bits-fitting v n) f)
+  bits-fits f = subst (λ (d : List ℕ). Fits d) (sym put) (fits-kept b row95 v l here (bits-fitting v n) f)
 
   pub bits-runs : Running b → Running (withResults b v)
-  bits-runs r = subst (λ (d : List ℕ). Running d) (sym put) (put-runs b 5 v l here room results-apart r)
+  bits-runs r = subst (λ (d : List ℕ). Running d) (sym put) (put-runs b row95 v l here room results-apart r)
 
   pub bits-here : valueOf (withResults b v) 0x95 ≡ present v
-  bits-here = ap (λ (d : List ℕ). valueOf d 0x95) put ∙ put-here b 5 v l here room 0x95 at-95
+  bits-here = ap (λ (d : List ℕ). valueOf d 0x95) put ∙ put-here b row95 v l here room 0x95 at-95
 
   -- every other tag keeps its value, and what is there stays there
   pub bits-other : (t j : ℕ) → find rows t ≡ At j → (j ≡ row95 → ⊥) → valueOf (withResults b v) t ≡ valueOf b t
-  bits-other t j e ne = ap (λ (d : List ℕ). valueOf d t) put ∙ put-named b 5 v l here room t j e ne
+  bits-other t j e ne = ap (λ (d : List ℕ). valueOf d t) put ∙ put-named b row95 v l here room t j e ne
 
   pub bits-hold : (t : ℕ) → holds b t ≡ true → holds (withResults b v) t ≡ true
-  bits-hold t h = ap (λ (d : List ℕ). holds d t) put ∙ put-holds b 5 v l here room t h
+  bits-hold t h = ap (λ (d : List ℕ). holds d t) put ∙ put-holds b row95 v l here room t h

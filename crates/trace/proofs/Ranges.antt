@@ -231,7 +231,7 @@ module _ (s : Session) (i : inRanges s ≡ true) (q : s .phase ≡ Phase.Fresh) 
   fits : Fits b
   fits = all-fits b (load-fits (stored s) bytes b e (store-size s i) (fits-all (stored s) (store-fits s i)))
 
-  lacking : (t k : ℕ) → find rows t ≡ At k → hasBit (rowAt k .setters) start ≡ false → (k ≡ 5 → ⊥) → valueOf (withResults b noResults) t ≡ absent
+  lacking : (t k : ℕ) → find rows t ≡ At k → hasBit (rowAt k .setters) start ≡ false → (k ≡ row95 → ⊥) → valueOf (withResults b noResults) t ≡ absent
   lacking t k f n ne = bits-other b noResults size refl t k f ne ∙ load-untouched-of (stored s) bytes b e (store-size s i) t k f n ∙ none-yet t
 
   running : Running (withResults b noResults)

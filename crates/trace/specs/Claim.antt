@@ -67,8 +67,8 @@ abbrev pub oneIf : Bool → ℕ
 oneIf true = 1
 oneIf false = 0
 
--- ms are the calls of a list made one after the other from a fresh session in its ranges (`play`), and s is the session that
--- the last of them handed back, that fresh one where there are none (`final`); trace::most_commands promises it so
+-- ms are the calls of a list made one after the other from a fresh session in its ranges (`play`), and s is the session
+-- after them, that fresh one where there are none (`final`); trace::most_commands promises it so
 pub record Proper (ms : List Made) (s : Session) : Type 0 where
   -- the N commands handed out are the first N of the published order
   pub order : map kindOf (commands ms) ≡ take (length (commands ms)) (published cryptogram (acceptedLocator ms))
@@ -78,8 +78,8 @@ pub record Proper (ms : List Made) (s : Session) : Type 0 where
   pub bound : length (commands ms) ≤ most (acceptedLocator ms)
   -- N is never over 130
   pub never-over : length (commands ms) ≤ 130
-  -- the session says that it is fresh exactly when every call was refused; that it runs exactly when the last call not
-  -- refused handed back a command; and that it has ended exactly when that call handed back an outcome
+  -- the phase of the session agrees with the last call taken: fresh where there is none, running after a command, ended
+  -- after an outcome
   pub fresh : isFresh (s .phase) ≡ noneTaken (lastOf (taken ms))
   pub running : isRunning (s .phase) ≡ lastCommand (lastOf (taken ms))
   pub ended : isEnded (s .phase) ≡ lastOutcome (lastOf (taken ms))

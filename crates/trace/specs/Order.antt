@@ -89,15 +89,15 @@ pub data Kind : Type 0 where
 abbrev pub isFront : ℕ → ℕ → List ℕ → Bool
 isFront a b c = getD c 0 0 =? a and getD c 1 0 =? b
 
--- 80 A8 in front is processing options, 80 AE the cryptogram
+-- by its first two bytes
 unfoldable pub kindOf : List ℕ → Kind
 kindOf c =
     if isFront 0x80 0xA8 c then options
     else if isFront 0x80 0xAE c then cryptogram
     else record-command c
 
--- processing options alone while no locator is accepted; with one, behind it a command for each of its records, entry
--- by entry, and then the last command, which is the cryptogram in EMV mode
+-- without an accepted locator there is the first command alone; with one, its records' commands follow in their order
+-- and then the last command, which is the cryptogram in EMV mode
 unfoldable pub published : Kind → Option (List ℕ) → List Kind
 published last none = options ∷ []
 published last (some l) = options ∷ (map (λ r. record-command (readRecord r)) (records l) ++ (last ∷ []))

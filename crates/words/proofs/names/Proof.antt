@@ -1,7 +1,7 @@
 -- One row to a turn of the loop; the store keeps its size. Assumes nothing.
 use mathlib.Core.Path.{_≡_}
 use lib.ListN.{length}
-use Rattle.dictionary.specs.Rows.{storeSize}
+use Rattle.dictionary.specs.Rows.{rowCount, storeSize}
 use Prim.Native.Nat.{_-_}
 use borrow.Author.Needs.{needs}
 use Rattle.words.proofs.names.Statement.{statement}
@@ -11,7 +11,7 @@ abbrev Inv-loop : tie.InvT-loop
 Inv-loop store₀ row₀ t3 store row = length store ≡ storeSize
 
 abbrev μ-loop : tie.MeasureT-loop
-μ-loop store₀ row₀ t3 store row = 36 - row
+μ-loop store₀ row₀ t3 store row = rowCount - row
 
 pub names-spec : {M : Type 1} → statement M
 names-spec =
