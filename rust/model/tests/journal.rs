@@ -82,8 +82,9 @@ fn right_journals() {
 #[test]
 fn wrong_replies() {
     assert_eq!(after(7, &[hex("06 01 00")]), Unlike(8));
-    let online = command("05 000B 80AE800005800000000000");
-    assert_eq!(after(5, &[online, purchase()[6].clone()]), Unlike(6));
+    let mut online = purchase();
+    online[5] = command("05 000B 80AE800005800000000000");
+    assert_eq!(check(&online.concat()), Unlike(6));
     let mut byte_behind = purchase()[1].clone();
     byte_behind[263] = 1;
     assert_eq!(after(1, std::slice::from_ref(&byte_behind)), Unlike(2));
@@ -115,7 +116,7 @@ fn wrong_calls() {
     // Lengths, and bytes behind them.
     let mut not_zero = answer("02 FFFF");
     not_zero[260] = 1;
-    assert_eq!(after(2, &[not_zero]), Unlike(3));
+    assert_eq!(after(2, &[not_zero, hex("060302")]), Unlike(3));
     for text in ["02 0103", "02 FFFE", "02 0001 9001", "02 0000 01"] {
         assert_eq!(after(2, &[answer(text)]), Unlike(3), "{text}");
     }
@@ -127,6 +128,23 @@ fn wrong_calls() {
     }
     assert_eq!(after(8, &[hex("00")]), Unlike(9));
     assert_eq!(after(8, &[hex("06 00 00")]), Unlike(9));
+}
+
+#[test]
+fn full_bodies() {
+    let unknown = "50 82 0381"; // 4 bytes, and 897 behind them
+    let full = |length: &str| start(&format!("01 {length} {TERMINAL} {unknown}"));
+    let reply = purchase()[1].clone();
+    assert_eq!(after(0, &[full("0400"), reply.clone()]), Accepted(2));
+    for length in ["03FF", "0401", "1400", "FFFF"] {
+        let records = [full(length), reply.clone()];
+        assert_eq!(after(0, &records), Unlike(1), "{length}");
+    }
+    let full = |length: &str| answer(&format!("02 {length} {}", "6A".repeat(258)));
+    assert_eq!(after(2, &[full("0102"), hex("060301")]), Accepted(4));
+    for length in ["0101", "0103", "FFFF"] {
+        assert_eq!(after(2, &[full(length)]), Unlike(3), "{length}");
+    }
 }
 
 #[test]
