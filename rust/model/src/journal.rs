@@ -71,7 +71,7 @@ pub fn record_size(kind: u8) -> Option<usize> {
 
 /// Says whether a right kernel can have written these bytes.
 ///
-/// The end between two records is always right. A piece of a record is cut, whatever it holds.
+/// The end between two records is always right. A piece of a record of kind 1 to 6 is cut, whatever it holds.
 pub fn check(bytes: &[u8]) -> Verdict {
     let mut kernel = Kernel::fresh();
     let mut reply_due: Option<Vec<u8>> = None;
@@ -168,7 +168,7 @@ fn read_call(record: &[u8]) -> Option<Call<'_>> {
     match *record {
         [START, high, low, ref body @ ..] => counted(high, low, body).map(Call::Start),
         [ANSWER, 0xFF, 0xFF, ref body @ ..] => {
-            // Every answer of this length has the same reply.
+            // All answers over 258 bytes have the same reply, so any one of them will do.
             all_zero(body).then_some(Call::Answer(&[0; ANSWER_ROOM + 1]))
         }
         [ANSWER, high, low, ref body @ ..] => counted(high, low, body).map(Call::Answer),
