@@ -9,13 +9,17 @@
 //! - `reading`: a card's answer into a store, whole or not at all
 //! - `data_list`, `locator`, `analysis`: data object lists, the file locator, result bits and choice
 //! - `session`: the session record, its ranges and its steps
+//! - `journal`: the journal of a session, written from its calls and checked
 
 #![no_std]
 #![forbid(unsafe_code)]
 
+extern crate alloc;
+
 pub mod analysis;
 pub mod data_list;
 pub mod dictionary;
+pub mod journal;
 pub mod locator;
 pub mod reading;
 pub mod reason;
