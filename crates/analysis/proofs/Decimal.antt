@@ -1,13 +1,29 @@
--- Decimal numbers of three bytes, of six from two of three, and whole dates and amounts. Assumes nothing.
+-- Decimal numbers of three bytes, of six from two of three, whole amounts, dates by their digits, and the order of dates
+-- of one century.
+-- Assumes nothing.
+use mathlib.Core.Bool.{Bool, true, false}
 use mathlib.Core.List.{List, [], _∷_}
-use mathlib.Core.Path.{_≡_, ap}
+use mathlib.Core.Logic.{_⊎_, inl, inr}
+use mathlib.Core.Path.{_≡_, sym, ap, ap₂, _∙_}
 use Prim.Native.Nat.{ℕ, _+_, _*_}
 use native.Mathlib.Omega.{arith}
-use lib.ListN.{length}
+use lib.Dec.{ltb}
+use lib.ListN.{length, getD, drop}
+use borrow.Author.Tests.{ltb-true, ltb-false, lt-ltb, le-ltb}
 use Rattle.basics.specs.Number.{nibbles}
-use Rattle.analysis.specs.Digits.{decimalFrom, decimal, dateOf, amountOf}
+use Rattle.basics.proofs.Laws.{if-yes, if-no, bool-cases}
+use Rattle.analysis.specs.Digits.{decimalFrom, decimal, yearDigits, yearOf, dateOf, laterThan, amountOf}
 use Rattle.analysis.specs.Inner.{twoDigits}
-use Rattle.analysis.proofs.Value.{front-whole}
+use Rattle.analysis.specs.Value.{front}
+use Rattle.analysis.proofs.Value.{front-whole, front-one, front-three}
+
+pub decimal-one : (a : ℕ) → decimal (a ∷ []) ≡ twoDigits a
+unfolding decimalFrom nibbles twoDigits
+decimal-one a = omega arith
+
+pub decimal-two : (a b : ℕ) → decimal (a ∷ b ∷ []) ≡ twoDigits a * 100 + twoDigits b
+unfolding decimalFrom nibbles twoDigits
+decimal-two a b = omega arith
 
 pub decimal-three : (a b c : ℕ) → decimal (a ∷ b ∷ c ∷ []) ≡ twoDigits a * 10000 + twoDigits b * 100 + twoDigits c
 unfolding decimalFrom nibbles twoDigits
@@ -17,11 +33,54 @@ pub decimal-six : (a b c d e f : ℕ) → decimal (a ∷ b ∷ c ∷ d ∷ e ∷
 unfolding decimalFrom nibbles
 decimal-six a b c d e f = omega arith
 
--- of a whole date and a whole amount every digit counts
-pub whole-date : (s : List ℕ) → length s ≡ 3 → dateOf s ≡ decimal s
-unfolding dateOf
-whole-date s e = ap decimal (front-whole 3 s e)
-
+-- of a whole amount every digit counts
 pub whole-amount : (s : List ℕ) → length s ≡ 6 → amountOf s ≡ decimal s
 unfolding amountOf
 whole-amount s e = ap decimal (front-whole 6 s e)
+
+-- ---- dates
+
+pub year-digits : (s : List ℕ) → yearDigits s ≡ twoDigits (getD s 0 0)
+year-digits s = ap decimal (front-one s) ∙ decimal-one (getD s 0 0)
+
+pub month-and-day : (s : List ℕ) → decimal (drop 1 (front 3 s)) ≡ twoDigits (getD s 1 0) * 100 + twoDigits (getD s 2 0)
+month-and-day s = ap (λ (t : List ℕ). decimal (drop 1 t)) (front-three s) ∙ decimal-two (getD s 1 0) (getD s 2 0)
+
+six-digits : (s : List ℕ) → decimal (front 3 s) ≡ yearDigits s * 10000 + decimal (drop 1 (front 3 s))
+six-digits s =
+    let e = ap decimal (front-three s) ∙ decimal-three (getD s 0 0) (getD s 1 0) (getD s 2 0) in
+    let y = year-digits s in
+    let m = month-and-day s in
+    omega (arith, e, y, m)
+
+-- years 2000 to 2049 add a constant to the six digits, and so do 1950 to 1999
+recent : (s : List ℕ) → ltb (yearDigits s) 50 ≡ true → dateOf s ≡ 20000000 + decimal (front 3 s)
+unfolding dateOf yearOf
+recent s e =
+    let y = if-yes (2000 + yearDigits s) (1900 + yearDigits s) e in
+    let d = six-digits s in
+    omega (arith, y, d)
+
+former : (s : List ℕ) → ltb (yearDigits s) 50 ≡ false → dateOf s ≡ 19000000 + decimal (front 3 s)
+unfolding dateOf yearOf
+former s e =
+    let y = if-no (2000 + yearDigits s) (1900 + yearDigits s) e in
+    let d = six-digits s in
+    omega (arith, y, d)
+
+shifted : (k m n : ℕ) → ltb (k + m) (k + n) ≡ ltb m n
+shifted k m n = by (bool-cases (ltb m n))
+  where
+    by : (ltb m n ≡ true) ⊎ (ltb m n ≡ false) → ltb (k + m) (k + n) ≡ ltb m n
+    by (inl e) = let h = ltb-true m n e in lt-ltb (k + m) (k + n) (omega arith) ∙ sym e
+    by (inr e) = let h = ltb-false m n e in le-ltb (k + m) (k + n) (omega arith) ∙ sym e
+
+-- on dates of one century the order is that of their six digits
+pub one-century : (a b : List ℕ) → ltb (yearDigits a) 50 ≡ ltb (yearDigits b) 50
+    → laterThan a b ≡ ltb (decimal (front 3 b)) (decimal (front 3 a))
+unfolding laterThan
+one-century a b q = by (bool-cases (ltb (yearDigits a) 50))
+  where
+    by : (ltb (yearDigits a) 50 ≡ true) ⊎ (ltb (yearDigits a) 50 ≡ false) → ltb (dateOf b) (dateOf a) ≡ ltb (decimal (front 3 b)) (decimal (front 3 a))
+    by (inl e) = ap₂ ltb (recent b (sym q ∙ e)) (recent a e) ∙ shifted 20000000 (decimal (front 3 b)) (decimal (front 3 a))
+    by (inr e) = ap₂ ltb (former b (sym q ∙ e)) (former a e) ∙ shifted 19000000 (decimal (front 3 b)) (decimal (front 3 a))

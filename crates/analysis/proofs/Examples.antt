@@ -1,7 +1,7 @@
 -- Result bits and the choice on both sides of each rule's edge, by computation: each needed bit alone, and all bits but it.
 -- Assumes nothing.
 use mathlib.Core.Path.{_≡_, refl}
-use mathlib.Core.Bool.{true, false}
+use mathlib.Core.Bool.{Bool, true, false}
 use mathlib.Core.List.{List, [], _∷_, map}
 use Prim.Native.Nat.{ℕ}
 use lib.ListN.{replicate}
@@ -14,7 +14,7 @@ use Rattle.store.specs.Place.{Value, absent, present, offsetIn, placeAt, held, 
 use Rattle.analysis.specs.Action.{aboveLimit, limitOf, usageIn, restrictionsOf, resultOf, codesOf, chosen}
 use Rattle.analysis.specs.Bits.{bit}
 use Rattle.analysis.specs.Choice.{denial, online, default, holdsBit, lowestFrom, lowestBit, noBits, allBits, cardCode, heldAt, capabilityAt, choiceOf, p1Of, p1For}
-use Rattle.analysis.specs.Digits.{decimalFrom, dateOf, laterThan, amountOf, amountAbove}
+use Rattle.analysis.specs.Digits.{decimalFrom, yearOf, dateOf, laterThan, amountOf, amountAbove}
 use Rattle.analysis.specs.Restrictions.{otherVersion, expired, notYetEffective, atAtm, countryOf, cashback, placeMet, cashMet, goodsMet, cashbackMet, usageBroken, usageOf, restrictionBits}
 use Rattle.analysis.specs.Result.{floorBits, resultBits}
 use Rattle.analysis.specs.Value.{front}
@@ -24,23 +24,54 @@ use Rattle.analysis.specs.declared.restrictions.Country.the-variants.{Ho
 
 -- ---- dates, amounts and versions
 
--- equal, one day after, one day before; the first of a year after the last of another; no century is read
+-- equal, one day after, one day before; the first of a year after the last of another; 00 is 2000, and 99 is 1999
 dates : map (laterThan (0x25 ∷ 0x12 ∷ 0x31 ∷ []))
     ((0x25 ∷ 0x12 ∷ 0x31 ∷ []) ∷ (0x25 ∷ 0x12 ∷ 0x30 ∷ []) ∷ (0x26 ∷ 0x01 ∷ 0x01 ∷ []) ∷ (0x00 ∷ 0x01 ∷ 0x01 ∷ []) ∷ (0x99 ∷ 0x12 ∷ 0x31 ∷ []) ∷ [])
-    ≡ false ∷ true ∷ false ∷ true ∷ false ∷ []
-unfolding laterThan dateOf front decimalFrom nibbles
+    ≡ false ∷ true ∷ false ∷ true ∷ true ∷ []
+unfolding laterThan dateOf yearOf if front decimalFrom nibbles
 dates = refl
 
 -- expired by the transaction date after the expiration date, not yet effective by the effective date after the transaction date
 expirations : map (expired (0x25 ∷ 0x12 ∷ 0x31 ∷ [])) ((0x25 ∷ 0x12 ∷ 0x30 ∷ []) ∷ (0x25 ∷ 0x12 ∷ 0x31 ∷ []) ∷ []) ≡ true ∷ false ∷ []
-unfolding laterThan dateOf front decimalFrom nibbles
+unfolding laterThan dateOf yearOf if front decimalFrom nibbles
 expirations = refl
 
 effective-dates : map (λ (v : Value). notYetEffective v (0x25 ∷ 0x12 ∷ 0x31 ∷ []))
     (present (0x26 ∷ 0x01 ∷ 0x01 ∷ []) ∷ present (0x25 ∷ 0x12 ∷ 0x31 ∷ []) ∷ absent ∷ [])
     ≡ true ∷ false ∷ false ∷ []
-unfolding notYetEffective laterThan dateOf front decimalFrom nibbles
+unfolding notYetEffective laterThan dateOf yearOf if front decimalFrom nibbles
 effective-dates = refl
+
+-- the first and the last year of each half of the window
+years : map yearOf (0 ∷ 49 ∷ 50 ∷ 99 ∷ []) ≡ 2000 ∷ 2049 ∷ 1950 ∷ 1999 ∷ []
+unfolding yearOf if
+years = refl
+
+-- the transaction date today is after the expiration date; the effective date is after today
+abbrev across : List ℕ → List ℕ → List ℕ → List Bool
+across today expiration effective = expired today expiration ∷ notYetEffective (present effective) today ∷ []
+
+centuries :
+    across (0x25 ∷ 0x11 ∷ 0x16 ∷ []) (0x30 ∷ 0x12 ∷ 0x31 ∷ []) (0x99 ∷ 0x01 ∷ 0x01 ∷ [])
+    ∷ across (0x25 ∷ 0x11 ∷ 0x16 ∷ []) (0x30 ∷ 0x12 ∷ 0x31 ∷ []) (0x49 ∷ 0x01 ∷ 0x01 ∷ [])
+    ∷ across (0x25 ∷ 0x11 ∷ 0x16 ∷ []) (0x99 ∷ 0x12 ∷ 0x31 ∷ []) (0x50 ∷ 0x01 ∷ 0x01 ∷ [])
+    ∷ across (0x99 ∷ 0x12 ∷ 0x31 ∷ []) (0x00 ∷ 0x01 ∷ 0x01 ∷ []) (0x00 ∷ 0x01 ∷ 0x01 ∷ [])
+    ∷ across (0x25 ∷ 0x11 ∷ 0x16 ∷ []) (0x25 ∷ 0x11 ∷ 0x16 ∷ []) (0x25 ∷ 0x11 ∷ 0x16 ∷ [])
+    ∷ across (0x25 ∷ 0x11 ∷ 0x16 ∷ []) (0x25 ∷ 0x11 ∷ 0x15 ∷ []) (0x25 ∷ 0x11 ∷ 0x17 ∷ [])
+    ∷ across (0x50 ∷ 0x01 ∷ 0x01 ∷ []) (0x49 ∷ 0x12 ∷ 0x31 ∷ []) (0x49 ∷ 0x12 ∷ 0x31 ∷ [])
+    ∷ across (0x49 ∷ 0x01 ∷ 0x01 ∷ []) (0x49 ∷ 0x01 ∷ 0x01 ∷ []) (0x50 ∷ 0x01 ∷ 0x01 ∷ []) ∷ []
+    ≡ (false ∷ false ∷ []) ∷ (false ∷ true ∷ []) ∷ (true ∷ false ∷ []) ∷ (false ∷ true ∷ []) ∷ (false ∷ false ∷ []) ∷ (true ∷ true ∷ []) ∷ (false ∷ true ∷ []) ∷ (false ∷ false ∷ []) ∷ []
+unfolding notYetEffective laterThan dateOf yearOf if front decimalFrom nibbles
+centuries = refl
+
+-- the last year of the window and the first before it; month and day are compared as digits
+expiries : expired (0x25 ∷ 0x11 ∷ 0x16 ∷ []) (0x49 ∷ 0x12 ∷ 0x31 ∷ [])
+    ∷ expired (0x25 ∷ 0x11 ∷ 0x16 ∷ []) (0x50 ∷ 0x01 ∷ 0x01 ∷ [])
+    ∷ expired (0x00 ∷ 0x01 ∷ 0x01 ∷ []) (0x99 ∷ 0x12 ∷ 0x31 ∷ [])
+    ∷ expired (0x25 ∷ 0x13 ∷ 0x99 ∷ []) (0x25 ∷ 0x14 ∷ 0x00 ∷ []) ∷ []
+    ≡ false ∷ true ∷ true ∷ false ∷ []
+unfolding laterThan dateOf yearOf if front decimalFrom nibbles
+expiries = refl
 
 -- equal, one above, one below; the highest digit of twelve
 amounts : map (amountAbove (0 ∷ 0 ∷ 0 ∷ 0 ∷ 0x10 ∷ 0x00 ∷ []))
@@ -253,7 +284,7 @@ results : resultOf purchase
     ∷ (0x80 ∷ 0x00 ∷ 0 ∷ 0x80 ∷ 0 ∷ [])
     ∷ []
 unfolding resultOf restrictionsOf usageIn otherVersion notYetEffective usageBroken placeMet cashMet goodsMet cashbackMet atAtm countryOf cashback
-    amountAbove amountOf laterThan dateOf front decimalFrom nibbles alike both either if
+    amountAbove amountOf laterThan dateOf yearOf front decimalFrom nibbles alike both either if
     putAt placeOf valueIn valueAt placeAt held offsetIn find past rows
 results = refl
 

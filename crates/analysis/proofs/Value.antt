@@ -22,6 +22,11 @@ front-whole zero (x ∷ s) e = absurd (omega arith)
 front-whole (suc n) [] e = absurd (omega arith)
 front-whole (suc n) (x ∷ s) e = ap (λ (t : List ℕ). x ∷ t) (front-whole n s (omega arith))
 
+pub front-one : (s : List ℕ) → front 1 s ≡ getD s 0 0 ∷ []
+unfolding front
+front-one [] = refl
+front-one (a ∷ s) = refl
+
 pub front-five : (s : List ℕ) → front 5 s ≡ getD s 0 0 ∷ getD s 1 0 ∷ getD s 2 0 ∷ getD s 3 0 ∷ getD s 4 0 ∷ []
 unfolding front
 front-five [] = refl

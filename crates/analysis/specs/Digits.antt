@@ -1,10 +1,11 @@
--- Digits, dates and amounts (document 01, "Result bits and the choice"): bytes of two digits each, compared as decimal
--- numbers.
+-- Digits, dates and amounts (document 01, "Result bits and the choice"; the century: document 02, Item 2): bytes of two
+-- digits each, compared as decimal numbers.
 -- Assumes nothing.
 use mathlib.Core.Bool.{Bool}
 use mathlib.Core.List.{List, [], _∷_}
 use Prim.Native.Nat.{ℕ, _+_, _*_}
-use Rattle.basics.specs.Choice.{_or_, _<?_, _=?_}
+use lib.ListN.{drop}
+use Rattle.basics.specs.Choice.{if_then_else_, _or_, _<?_, _=?_}
 use Rattle.basics.specs.Number.{nibbles}
 use Rattle.analysis.specs.Value.{front}
 
@@ -21,11 +22,21 @@ decimalFrom n (d ∷ s) = decimalFrom (n * 10 + d) s
 abbrev pub decimal : List ℕ → ℕ
 decimal s = decimalFrom 0 (nibbles s)
 
--- a date, three bytes YYMMDD, as a number of six digits
-unfoldable pub dateOf : List ℕ → ℕ
-dateOf s = decimal (front 3 s)
+-- the two digits of a date's year
+abbrev pub yearDigits : List ℕ → ℕ
+yearDigits s = decimal (front 1 s)
 
--- date a is later than date b
+-- the year of two digits: 00 to 49 are 2000 to 2049, 50 to 99 are 1950 to 1999
+unfoldable pub yearOf : ℕ → ℕ
+yearOf yy =
+    if yy <? 50 then 2000 + yy
+    else 1900 + yy
+
+-- a date, three bytes YYMMDD, as a number of eight digits, YYYYMMDD; month and day are not checked
+unfoldable pub dateOf : List ℕ → ℕ
+dateOf s = yearOf (yearDigits s) * 10000 + decimal (drop 1 (front 3 s))
+
+-- date a is later than date b; an equal one is not
 unfoldable pub laterThan : List ℕ → List ℕ → Bool
 laterThan a b = dateOf b <? dateOf a
 
@@ -36,3 +47,7 @@ amountOf s = decimal (front 6 s)
 -- amount a is above amount b; an equal one is not
 unfoldable pub amountAbove : List ℕ → List ℕ → Bool
 amountAbove a b = amountOf b <? amountOf a
+
+-- ---- what holds of it, proved in proofs/Decimal
+--   one-century    on dates whose years are both 00 to 49, or both not, the later one is the greater number of six digits:
+--                  laterThan a b ≡ (decimal (front 3 b) <? decimal (front 3 a))

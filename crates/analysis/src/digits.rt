@@ -1,10 +1,10 @@
 // Dates and amounts, two digits to a byte, compared as decimal numbers.
 ghost use mathlib.Core.Path.{_≡_};
 ghost use Prim.Native.Nat.{_≤_};
-ghost use Rattle.analysis.specs.Digits.{dateOf, laterThan, amountOf, amountAbove};
+ghost use Rattle.analysis.specs.Digits.{yearOf, dateOf, laterThan, amountOf, amountAbove};
 ghost use Rattle.analysis.specs.Inner.{twoDigits, sixDigits};
 
-// Date a, YYMMDD, is later than date b. Of each the first three bytes count, and bytes past the end are 0.
+// Date a, YYMMDD, is later than date b, by years from 1950 to 2049. Of each the first three bytes count, and bytes past the end are 0.
 pub fn later(a: &[u8], b: &[u8]) -> bool
     ensures { λ r. ⌜ r ≡ laterThan (now (a .entry)) (now (b .entry)) ⌝ }
 {
@@ -18,11 +18,25 @@ pub fn above(a: &[u8], b: &[u8]) -> bool
     amount_of(b) < amount_of(a)
 }
 
-// The six digits of a date.
+// The eight digits of a date, YYYYMMDD.
 fn date_of(s: &[u8]) -> u64
     ensures { λ r. ⌜ r ≡ dateOf (now (s .entry)) ⌝ }
 {
-    six_digits(s, 0)
+    let year = year_of(two_digits(basics::byte_at(s, 0)));
+    let month = two_digits(basics::byte_at(s, 1));
+    let day = two_digits(basics::byte_at(s, 2));
+    year * 10000 + month * 100 + day
+}
+
+// The year of two digits: 00 to 49 are of this century.
+fn year_of(year: u64) -> u64
+    requires { ⌜ year ≤ 165 ⌝ }
+    ensures { λ r. ⌜ (r ≡ yearOf year) × (r ≤ 2065) ⌝ }
+{
+    if year < 50 {
+        return 2000 + year;
+    }
+    1900 + year
 }
 
 // The twelve digits of an amount.

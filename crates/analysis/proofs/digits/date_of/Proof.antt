@@ -1,17 +1,40 @@
--- `digits::date_of` meets its contract: a date is its first three bytes (`front-three`).
+-- `digits::date_of` meets its contract: the year's digits and those of month and day (`year-digits`, `month-and-day`).
 -- Assumes nothing.
-use mathlib.Core.Path.{sym, ap, _∙_}
+use mathlib.Core.List.{List}
+use mathlib.Core.Path.{_≡_, sym, ap, _∙_}
+use Prim.Native.Nat.{ℕ, _+_, _*_}
+use native.Mathlib.Omega.{arith}
+use lib.ListN.{getD}
 use borrow.Author.Needs.{needs}
-use Rattle.analysis.specs.Digits.{decimal, dateOf}
-use Rattle.analysis.proofs.Value.{front-three}
+use Rattle.analysis.specs.Digits.{yearOf, dateOf}
+use Rattle.analysis.specs.Inner.{twoDigits}
+use Rattle.analysis.proofs.Decimal.{year-digits, month-and-day}
 use Rattle.analysis.proofs.digits.date_of.Statement.{statement}
 use Rattle.analysis.proofs.digits.date_of.Tie as tie
 
 returns : tie.Need-returns
 unfolding dateOf
 returns c =
-    let s = c .before .before .args .s .now in
-    c .six-digits .ensures .0 ∙ sym (ap decimal (front-three s))
+    let s = c .before .before .before .before .before .before .before .before .args .s .now in
+    let x = c .before .before .before .before .before .two-digits .ensures .0 ∙ ap twoDigits (c .before .before .before .before .before .before .byte-at .ensures) in
+    let y = c .before .before .before .before .year-of .ensures .0 ∙ ap yearOf (x ∙ sym (year-digits s)) in
+    let m = c .before .before .two-digits2 .ensures .0 ∙ ap twoDigits (c .before .before .before .byte-at2 .ensures) in
+    let d = c .two-digits3 .ensures .0 ∙ ap twoDigits (c .before .byte-at3 .ensures) in
+    omega (arith, y, m, d, month-and-day s)
 
 pub date-of-spec : {M : Type 1} → statement M
-date-of-spec = tie.close (tie.spec (λ c κs. search needs) returns)
+date-of-spec =
+    tie.close
+    (tie.spec
+    (λ c κs. search needs)
+    (λ c κs. search needs)
+    (λ c κs. omega (arith, c .two-digits .ensures .1))
+    (λ c κs. search needs)
+    (λ c κs. search needs)
+    (λ c κs. search needs)
+    (λ c κs. search needs)
+    (λ c. search needs)
+    (λ c. search needs)
+    (λ c. search needs)
+    (λ c. search needs)
+    returns)
