@@ -139,12 +139,15 @@ fn action_code(rng: &mut Rng) -> Vec<u8> {
 
 /// A value that fits its row, from few values where two objects are compared.
 pub fn good_value(rng: &mut Rng, object: Object) -> Vec<u8> {
-    const DATES: [[u8; 3]; 6] = [
+    const DATES: [[u8; 3]; 9] = [
         [0x25, 0x06, 0x14],
         [0x25, 0x06, 0x15],
         [0x25, 0x06, 0x16],
         [0x99, 0x12, 0x31],
         [0x00, 0x01, 0x01],
+        [0x49, 0x12, 0x31],
+        [0x50, 0x01, 0x01],
+        [0x50, 0x01, 0x02],
         [0x25, 0x10, 0x01],
     ];
     let row = object.row();

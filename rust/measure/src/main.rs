@@ -85,8 +85,8 @@ fn terminal() -> Vec<u8> {
 fn purchase() -> Vec<Vec<u8>> {
     vec![
         hex("77 0A 82 02 1980 94 04 08010300 9000"),
-        record(&hex("57 10 4761739001010010D99122010000001F 5F34 01 01 9F08 02 0002")),
-        record(&hex("5A 08 4761739001010010 5F24 03 991231 5F25 03 200101 5F28 02 0056 9F07 02 FFC0")),
+        record(&hex("57 10 4761739001010010D49122010000001F 5F34 01 01 9F08 02 0002")),
+        record(&hex("5A 08 4761739001010010 5F24 03 491231 5F25 03 200101 5F28 02 0056 9F07 02 FFC0")),
         record(&hex(
             "8C 0F 9F0206 9F3704 9505 9A03 9C01 9F1A02 9F0D 05 0000000000 9F0E 05 0000000000 9F0F 05 0000000000",
         )),
@@ -97,7 +97,7 @@ fn purchase() -> Vec<Vec<u8>> {
 /// A full record: all twelve objects of template 70, then twelve unknown ones.
 fn full_record() -> Vec<u8> {
     let mut content = hex(
-        "57 13 4761739001010010D99122010000001F000000  5A 0A 4761739001010010FFFF  5F24 03 991231
+        "57 13 4761739001010010D49122010000001F000000  5A 0A 4761739001010010FFFF  5F24 03 491231
          5F25 03 200101  5F28 02 0056  5F34 01 01  9F07 02 FFC0  9F08 02 0002
          9F0D 05 0000000000  9F0E 05 0000000000  9F0F 05 0000000000
          8C 24 9F0206 9F0306 9F1A02 9505 5F2A02 9A03 9C01 9F3704 9F3501 9F4502 9F4C08 9F3403 9F2103",
@@ -111,7 +111,7 @@ fn full_record() -> Vec<u8> {
 }
 
 fn cases() -> Vec<Case> {
-    let short = record(&hex("9F08 02 0002 5F24 03 991231"));
+    let short = record(&hex("9F08 02 0002 5F24 03 491231"));
     let full = record(&full_record());
     let mut unknown = Vec::new();
     for i in 0..20 {

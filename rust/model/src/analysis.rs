@@ -40,19 +40,20 @@ type Pair = [[u8; 5]; 2];
 
 /// The terminal verification results after the last record.
 ///
-/// The store holds the mandatory objects of a start, and 5F24. Amounts and dates are digits, so their bytes compare as numbers.
+/// The store holds the mandatory objects of a start, and 5F24. Amounts are digits, so their bytes compare as numbers.
 pub fn result_bits(store: &Store) -> [u8; 5] {
     let value = |object| store::get(store, object);
-    let date = value(Object::TransactionDate);
+    let day = |object| value(object).map(in_century);
+    let date = day(Object::TransactionDate);
     let mut bits = [0x80, 0, 0, 0, 0];
     let version = value(Object::VersionCard);
     if version.is_some() && version != value(Object::VersionReader) {
         bits[1] |= 0x80;
     }
-    if date > value(Object::ExpirationDate) {
+    if date > day(Object::ExpirationDate) {
         bits[1] |= 0x40;
     }
-    let effective = value(Object::EffectiveDate);
+    let effective = day(Object::EffectiveDate);
     if effective.is_some() && effective > date {
         bits[1] |= 0x20;
     }
@@ -63,6 +64,12 @@ pub fn result_bits(store: &Store) -> [u8; 5] {
         bits[3] |= 0x80;
     }
     bits
+}
+
+/// A date with its century in front: years 00 to 49 are 2000 to 2049, 50 to 99 are 1950 to 1999.
+fn in_century(date: &[u8]) -> (u8, &[u8]) {
+    let before_2000 = matches!(date.first(), Some(0x50..=0xFF));
+    (if before_2000 { 19 } else { 20 }, date)
 }
 
 /// Whether the usage control, if it is there, allows the transaction.

@@ -82,7 +82,7 @@ fn filling() {
 }
 
 /// The record of the rows on the choice; 95 becomes 80 00 00 00 00.
-const RECORD: &str = "5F24 03 991231 5A 02 1234 8C 02 9505";
+const RECORD: &str = "5F24 03 491231 5A 02 1234 8C 02 9505";
 
 #[test]
 fn choice_by_codes_and_type() {

@@ -171,7 +171,7 @@ fn longest_journal() {
     // 130 commands and the outcome, each behind its call.
     let start = start_with(&[]);
     let record = hex("70 00 9000");
-    let last = hex("70 14 5F2403991231 5A081234567890123456 8C029505 9000");
+    let last = hex("70 14 5F2403491231 5A081234567890123456 8C029505 9000");
     let locator = hex("80 06 0080 08018000 9000");
     let cryptogram = hex("80 0B 80 0001 0102030405060708 9000");
     let mut calls = vec![Call::Start(&start), Call::Answer(&locator)];

@@ -7,9 +7,9 @@ use model::dictionary::{Object, REQUIRED_AT_START, ROWS};
 use model::{NO_COUNT, SESSION_SIZE};
 
 /// Content of a record that allows the purchase.
-const GOOD: &str = "5F24 03 991231 5A 08 1234567890123456 8C 02 9505";
+const GOOD: &str = "5F24 03 491231 5A 08 1234567890123456 8C 02 9505";
 /// The same with an online code of zeros, so that a terminal of type 22 asks for offline.
-const OFFLINE: &str = "5F24 03 991231 5A 08 1234567890123456 8C 02 9505 9F0F 05 0000000000";
+const OFFLINE: &str = "5F24 03 491231 5A 08 1234567890123456 8C 02 9505 9F0F 05 0000000000";
 
 fn cryptogram(information: &str) -> Vec<u8> {
     hex(&format!("80 0B {information} 0001 1122334455667788 9000"))
@@ -381,10 +381,10 @@ fn after_the_last_record() {
     assert_eq!(host.record(GOOD), 11);
     for missing in [
         "5A 01 12 8C 02 9505",
-        "5F24 03 991231 8C 02 9505",
-        "5F24 03 991231 5A 01 12",
-        "5F24 03 991231 5A 00 8C 02 9505",
-        "5F24 03 991231 5A 01 12 8C 00",
+        "5F24 03 491231 8C 02 9505",
+        "5F24 03 491231 5A 01 12",
+        "5F24 03 491231 5A 00 8C 02 9505",
+        "5F24 03 491231 5A 01 12 8C 00",
     ] {
         let mut host = Host::reading(&[], "08010100");
         assert_eq!(host.record(missing), ended(4), "{missing}");
@@ -393,7 +393,7 @@ fn after_the_last_record() {
     for list in ["9500", "9F", "00 01", "95", "95 80 95 80"] {
         let mut host = Host::reading(&[], "08010100");
         let length = hex(list).len();
-        let word = host.record(&format!("5F24 03 991231 5A 01 12 8C {length:02X} {list}"));
+        let word = host.record(&format!("5F24 03 491231 5A 01 12 8C {length:02X} {list}"));
         assert_eq!(word, ended(7), "{list}");
         assert_eq!(
             host.get(Object::VerificationResults),
@@ -401,10 +401,40 @@ fn after_the_last_record() {
         );
         assert_eq!(host.count(), 2);
     }
-    let host = Host::generating(&[], "5F24 03 991231 5A 01 12 8C 04 9580 5A7F");
+    let host = Host::generating(&[], "5F24 03 491231 5A 01 12 8C 04 9580 5A7F");
     assert_eq!(host.buffer[..5], hex("80AE8000FF"));
     assert_eq!(host.buffer[5 + 128..5 + 131], hex("12FFFF"));
     assert_eq!(host.buffer[260], 0);
+}
+
+/// Transaction date, expiration date, effective date if there is one, and whether the card is expired and not yet effective.
+const DATES: [(&str, &str, &str, bool, bool); 12] = [
+    ("251116", "301231", "990101", false, false),
+    ("251116", "301231", "490101", false, true),
+    ("251116", "491231", "", false, false),
+    ("251116", "500101", "", true, false),
+    ("251116", "991231", "500101", true, false),
+    ("000101", "991231", "", true, false),
+    ("991231", "000101", "000101", false, true),
+    ("251116", "251116", "251116", false, false),
+    ("251116", "251115", "251117", true, true),
+    ("500101", "491231", "491231", false, true),
+    ("490101", "490101", "500101", false, false),
+    ("251399", "251400", "", false, false),
+];
+
+#[test]
+fn dates_across_the_century() {
+    for (today, expiry, effective, expired, early) in DATES {
+        let mut record = format!("5A 01 12 8C 02 9505 5F24 03 {expiry}");
+        if !effective.is_empty() {
+            record += &format!(" 5F25 03 {effective}");
+        }
+        let host = Host::generating(&[&format!("9A 03 {today}")], &record);
+        let byte = u8::from(expired) << 6 | u8::from(early) << 5;
+        let bits = host.get(Object::VerificationResults).map(<[u8]>::to_vec);
+        assert_eq!(bits, Some(vec![0x80, byte, 0, 0, 0]), "{today} {expiry} {effective}");
+    }
 }
 
 #[test]
@@ -417,27 +447,27 @@ fn result_bits() {
     assert_eq!(dates("5F24 03 250615"), Some(hex("8000000000")));
     assert_eq!(dates("5F24 03 250614"), Some(hex("8040000000")));
     assert_eq!(
-        dates("5F24 03 991231 5F25 03 250615"),
+        dates("5F24 03 491231 5F25 03 250615"),
         Some(hex("8000000000"))
     );
     assert_eq!(
-        dates("5F24 03 991231 5F25 03 250616"),
+        dates("5F24 03 491231 5F25 03 250616"),
         Some(hex("8020000000"))
     );
     assert_eq!(
-        dates("5F24 03 991231 9F08 02 0002"),
+        dates("5F24 03 491231 9F08 02 0002"),
         Some(hex("8000000000"))
     );
     assert_eq!(
-        dates("5F24 03 991231 9F08 02 0003"),
+        dates("5F24 03 491231 9F08 02 0003"),
         Some(hex("8080000000"))
     );
-    let floor = |limit: &str| bits(&[&format!("DF8123 06 {limit}")], "5F24 03 991231");
+    let floor = |limit: &str| bits(&[&format!("DF8123 06 {limit}")], "5F24 03 491231");
     assert_eq!(floor("000000001234"), Some(hex("8000000000")));
     assert_eq!(floor("000000001233"), Some(hex("8000008000")));
 
     let usage = |changes: &[&str], record: &str| {
-        bits(changes, &format!("5F24 03 991231 {record}")).is_some_and(|bits| bits[1] == 0)
+        bits(changes, &format!("5F24 03 491231 {record}")).is_some_and(|bits| bits[1] == 0)
     };
     assert!(usage(&[], "9F07 02 0100"));
     assert!(!usage(&[], "9F07 02 FE00"));
