@@ -3,6 +3,7 @@
 // Each call stands in a function that asks nothing and hands on its own arguments: a condition that some
 // arguments do not meet is refused here. `tests/called` names the functions that nothing calls.
 use dictionary::SIZE;
+use journal::{Checker, Verdict};
 use layout::{Held, RECORD_SIZE};
 use record::Session;
 use run::Said;
@@ -11,6 +12,7 @@ fn main() {
     statements();
     parts();
     calls();
+    judge();
 }
 
 // ---- functions that stand for a statement
@@ -108,6 +110,24 @@ fn find(bytes: &[u8], tag: u32) -> u64 {
 
 fn test_read(store: &mut [u8], awaited: u32, file: u8, card: &[u8]) -> u32 {
     reading_test::emv_test_read(store, awaited, file, card)
+}
+
+// ---- a journal
+
+fn judge() {
+    let verdict = finish(feed(journal::begin(), b"\x07"));
+    let Verdict::Unlike(n) = verdict else {
+        return;
+    };
+    line(b"journal::finish: unlike", n);
+}
+
+fn feed(checker: Checker, part: &[u8]) -> Checker {
+    journal::feed(checker, part)
+}
+
+fn finish(checker: Checker) -> Verdict {
+    journal::finish(checker)
 }
 
 // ---- lines

@@ -1,0 +1,66 @@
+-- The record that is due behind a call. A command stands in the front of a zero buffer, so the whole buffer is the command with zeros
+-- behind it.
+-- Assumes nothing.
+use mathlib.Core.Path.{_≡_, refl, sym, ap, subst, _∙_}
+use mathlib.Core.List.{List, [], _∷_, _++_, append-nil}
+use mathlib.Core.Option.{Option, some, none}
+use Prim.Native.Nat.{ℕ, zero, suc, _+_, _-_, _≤_, _<_}
+use native.Mathlib.Omega.{arith}
+use lib.ListN.{length, take, drop, replicate}
+use lib.Seq.{take-append-seam, take-all}
+use Rattle.basics.specs.Alike.{alike}
+use Rattle.basics.specs.Choice.{if}
+use Rattle.record.specs.declared.Session.{Session}
+use Rattle.record.specs.declared.Reply.{Reply}
+use Rattle.session.specs.Steps.{Step, Did}
+use Rattle.trace.specs.Calls.{Call, step}
+use Rattle.trace.proofs.EveryCall.{Came}
+use Rattle.journal.specs.declared.Standing.{Standing}
+use Rattle.journal.specs.Record.{twoBytes, zeroPadded, mostCommand, lent, replyRecord}
+use Rattle.journal.specs.Verdict.{Expected, expected, replied, repliedBy, judgedBy}
+use Rattle.journal.specs.Inner.{wholeRecord, Stands}
+
+-- ---- zeros
+
+drop-zeros : (k n : ℕ) → drop {A = ℕ} k (replicate n 0) ≡ replicate (n - k) 0
+drop-zeros zero n = let e : n ≡ n - 0 = omega arith in ap (λ (m : ℕ). replicate m 0) e
+drop-zeros (suc k) zero = let e : 0 ≡ 0 - suc k = omega arith in ap (λ (m : ℕ). replicate m 0) e
+drop-zeros (suc k) (suc n) = let e : n - k ≡ suc n - suc k = omega arith in drop-zeros k n ∙ ap (λ (m : ℕ). replicate m 0) e
+
+-- a command in the front of a zero buffer is the command with zeros behind it
+in-front : (c : List ℕ) (n : ℕ) → c ++ drop (length c) (replicate n 0) ≡ zeroPadded n (take (length c) (c ++ drop (length c) (replicate n 0)))
+in-front c n =
+    ap (λ (l : List ℕ). c ++ l) (drop-zeros (length c) n)
+    ∙ ap (zeroPadded n) (sym (take-append-seam c (drop (length c) (replicate n 0))))
+
+pub whole-is : {s : Session} {st : Step} → Came s lent st → wholeRecord (st .reply .answer) (st .buffer) ≡ replyRecord (st .reply .answer) (st .buffer)
+whole-is (Came.refused n) = refl
+whole-is (Came.ended b o n) = refl
+whole-is (Came.sent b p c l) = ap (λ (v : List ℕ). 5 ∷ (twoBytes (length c) ++ v)) (in-front c mostCommand)
+
+-- ---- what stands for what is due
+
+pub stands-as : {x : Standing} {a b : Option Expected} → a ≡ b → Stands x a → Stands x b
+stands-as e d = record { is = d .is ∙ e; size = d .size }
+
+-- the reply that the code got is the step's
+pub did-due : {s : Session} {st : Step} {q : Reply} {buf : List ℕ} {x : Standing} → Came s lent st → Did q buf st
+    → Stands x (replied (q .session) (wholeRecord (q .answer) buf)) → Stands x (repliedBy st)
+did-due {s} {st} {q} {buf} c d h =
+    stands-as
+    (ap (λ (y : Reply). replied (y .session) (wholeRecord (y .answer) buf)) (d .reply)
+    ∙ ap (λ (v : List ℕ). replied (st .reply .session) (wholeRecord (st .reply .answer) v)) (d .buffer)
+    ∙ ap (replied (st .reply .session)) (whole-is c)) h
+
+-- ---- where a reply is due
+
+pub reply-due : (s : Session) (d r : List ℕ) → 0 < length d → judgedBy s d r ≡ if (alike r d) (some (expected s [])) none
+reply-due s [] r h = absurd (omega arith)
+reply-due s (b ∷ d) r h = refl
+
+-- ---- what the code builds
+
+-- a command's record is filled whole
+pub command-whole : (x y : ℕ) (v b : List ℕ) → v ≡ b → length b ≡ 261 → take 264 (5 ∷ x ∷ y ∷ (v ++ [])) ≡ 5 ∷ x ∷ y ∷ b
+command-whole x y v b e l =
+    ap (λ (w : List ℕ). 5 ∷ x ∷ y ∷ w) (ap (take 261) (append-nil v ∙ e) ∙ take-all 261 b (let g = l in omega arith))

@@ -1,0 +1,11 @@
+pub mod Walk
+pub mod Kept
+pub mod Pushed
+pub mod Byte
+pub mod Follow
+pub mod Due
+pub mod Reading
+pub mod Back
+pub mod Accepts
+pub mod Few
+pub mod Examples

@@ -1,0 +1,91 @@
+-- What a journal's bytes are judged to be (document 02, Item 1): accepted, or the number of the first record that is
+-- unlike what document 01 gives or is cut. Records count from 1.
+-- Assumes nothing.
+use mathlib.Core.Bool.{Bool}
+use mathlib.Core.List.{List, [], _∷_}
+use mathlib.Core.Option.{Option, some, none}
+use Prim.Native.Nat.{ℕ, zero, suc, _+_}
+use lib.ListN.{length, take, drop}
+use Rattle.basics.specs.Choice.{if_then_else_, _<?_, _=?_}
+use Rattle.basics.specs.Alike.{alike}
+use Rattle.record.specs.declared.Session.{Session}
+use Rattle.record.specs.Session.{freshSession}
+use Rattle.session.specs.Steps.{Step}
+use Rattle.trace.specs.Calls.{Call, step}
+use Rattle.journal.specs.declared.Verdict.{Verdict}
+use Rattle.journal.specs.Record.{sizeOf, callFrom, replyRecord}
+
+-- ---- what is due
+
+-- the session so far, and the reply's record that comes next; empty where a call comes next
+pub record Expected : Type 0 where
+  pub session : Session
+  pub due : List ℕ
+
+-- the same as a function of the two
+abbrev pub expected : Session → List ℕ → Expected
+expected s d = record { session = s; due = d }
+
+-- the session begins fresh, and a call comes first
+abbrev pub atFirst : Expected
+atFirst = expected freshSession []
+
+-- ---- one whole record: what is due behind it, or none where it is unlike what document 01 gives
+
+-- the reply of a call that is taken is due; a refused call has none, and is itself unlike
+abbrev pub replied : Session → List ℕ → Option Expected
+replied s [] = none
+replied s (b ∷ d) = some (expected s (b ∷ d))
+
+-- by what the call does
+abbrev pub repliedBy : Step → Option Expected
+repliedBy st = replied (st .reply .session) (replyRecord (st .reply .answer) (st .buffer))
+
+-- a record that stands for no call is unlike
+abbrev pub called : Session → Option Call → Option Expected
+called s none = none
+called s (some c) = repliedBy (step s c)
+
+-- where a call is due, by the call; where a reply is due, it must be that record byte for byte
+abbrev pub judgedBy : Session → List ℕ → List ℕ → Option Expected
+judgedBy s [] r = called s (callFrom r)
+judgedBy s (b ∷ d) r =
+    if alike r (b ∷ d) then some (expected s [])
+    else none
+
+abbrev pub judged : Expected → List ℕ → Option Expected
+judged e r = judgedBy (e .session) (e .due) r
+
+-- ---- all bytes
+
+-- an unlike record is named by its number n; behind a right one the journal goes on
+abbrev pub goesOn : (Expected → Verdict) → ℕ → Option Expected → Verdict
+goesOn k n none = Verdict.Unlike n
+goesOn k n (some e) = k e
+
+-- behind n right records: the end is accepted; an unknown kind is unlike, even as the last byte; a record with fewer
+-- bytes than its kind has is cut, whatever it holds; a whole one is judged, and k judges what stands behind it
+abbrev pub nextRecord : (Expected → ℕ → List ℕ → Verdict) → Expected → ℕ → List ℕ → Verdict
+nextRecord k e n [] = Verdict.Accepted n
+nextRecord k e n (b ∷ s) =
+    if sizeOf b =? 0 then Verdict.Unlike (n + 1)
+    else if length (b ∷ s) <? sizeOf b then Verdict.Cut (n + 1)
+    else goesOn (λ t. k t (n + 1) (drop (sizeOf b) (b ∷ s))) (n + 1) (judged e (take (sizeOf b) (b ∷ s)))
+
+-- record after record, at most so many
+unfoldable pub verdictBy : ℕ → Expected → ℕ → List ℕ → Verdict
+verdictBy zero e n s = Verdict.Accepted n
+verdictBy (suc k) e n s = nextRecord (verdictBy k) e n s
+
+-- each record has a byte at least, so one more than there are bytes is enough
+unfoldable pub verdictFrom : Expected → ℕ → List ℕ → Verdict
+verdictFrom e n s = verdictBy (suc (length s)) e n s
+
+-- the verdict over a whole journal
+unfoldable pub verdictOf : List ℕ → Verdict
+verdictOf s = verdictFrom atFirst 0 s
+
+-- ---- what holds of it, proved in proofs/
+--   unroll             verdictFrom e n s ≡ nextRecord verdictFrom e n s: the bound does not matter
+--   accepted-few       no accepted journal has more than 262 records
+--   written-accepted   the first m records of what calls write that records hold whole are accepted, with the number m
