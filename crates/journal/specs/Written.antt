@@ -1,0 +1,99 @@
+-- What a verdict says (document 02, Item 1), by what a right kernel writes: calls on a fresh session, none of them
+-- refused, are written as records, each call and its reply (`journalOf`), and a journal holds the first of them. The
+-- bytes and the command buffers of the calls are any.
+-- Assumes nothing.
+use mathlib.Core.Path.{_≡_}
+use mathlib.Core.Bool.{Bool, true, not}
+use mathlib.Core.Logic.{_⊎_}
+use mathlib.Core.List.{List, [], _∷_, _++_}
+use Prim.Native.Nat.{ℕ, _+_, _≤_, _<_}
+use lib.ListN.{length, getD, take}
+use Rattle.basics.specs.Choice.{every}
+use Rattle.record.specs.declared.Session.{Session}
+use Rattle.record.specs.Session.{freshSession}
+use Rattle.trace.specs.Calls.{Call, Made, play, refused}
+use Rattle.journal.specs.declared.Verdict.{Verdict}
+use Rattle.journal.specs.Record.{sizeOf, journalOf, joined}
+
+-- ---- what is written
+
+-- every entry is a byte (past its end a list reads as 0)
+abbrev pub Bytes : List ℕ → Type 0
+Bytes s = (i : ℕ) → getD s i 0 < 256
+
+-- none of the calls was refused
+abbrev pub noneRefused : List Made → Bool
+noneRefused ms = every (λ (m : Made). not (refused m)) ms
+
+-- calls on the session s, none of them refused, write these records first; they may write more
+pub record Writes (s : Session) (records : List (List ℕ)) : Type 0 where
+  pub calls : List Call
+  pub taken : noneRefused (play s calls) ≡ true
+  pub first : take (length records) (journalOf (play s calls)) ≡ records
+
+-- a right kernel writes these records first: the session is fresh
+abbrev pub Right : List (List ℕ) → Type 0
+Right records = Writes freshSession records
+
+-- ---- what stands behind right records
+
+-- the kind of the record that begins here
+abbrev pub kindOf : List ℕ → ℕ
+kindOf rest = getD rest 0 0
+
+-- the bytes of the record that begins here
+abbrev pub wholeIn : List ℕ → List ℕ
+wholeIn rest = take (sizeOf (kindOf rest)) rest
+
+-- a kind outside 1 to 6
+pub record Unknown (rest : List ℕ) : Type 0 where
+  pub some : 0 < length rest
+  pub kind : sizeOf (kindOf rest) ≡ 0
+
+-- a kind from 1 to 6, with fewer bytes than its record has
+pub record Short (rest : List ℕ) : Type 0 where
+  pub some : 0 < length rest
+  pub short : length rest < sizeOf (kindOf rest)
+
+-- a kind from 1 to 6 and a whole record, which no right kernel writes behind these records
+pub record Wrong (records : List (List ℕ)) (rest : List ℕ) : Type 0 where
+  pub kind : 0 < sizeOf (kindOf rest)
+  pub whole : sizeOf (kindOf rest) ≤ length rest
+  pub wrong : Right (records ++ (wholeIn rest ∷ [])) → ⊥
+
+-- ---- the three verdicts on the bytes s
+
+-- accepted: m right records, one behind the other, and nothing else
+pub record IsAccepted (s : List ℕ) (m : ℕ) : Type 0 where
+  pub records : List (List ℕ)
+  pub count : length records ≡ m
+  pub right : Right records
+  pub bytes : joined records ≡ s
+
+-- unlike n: n - 1 right records, and behind them one of an unknown kind, or a whole one that continues them in no way
+pub record IsUnlike (s : List ℕ) (n : ℕ) : Type 0 where
+  pub records : List (List ℕ)
+  pub rest : List ℕ
+  pub count : length records + 1 ≡ n
+  pub right : Right records
+  pub next : Unknown rest ⊎ Wrong records rest
+  pub bytes : joined records ++ rest ≡ s
+
+-- cut n: n - 1 right records, and behind them a piece of a record that is too short
+pub record IsCut (s : List ℕ) (n : ℕ) : Type 0 where
+  pub records : List (List ℕ)
+  pub rest : List ℕ
+  pub count : length records + 1 ≡ n
+  pub right : Right records
+  pub next : Short rest
+  pub bytes : joined records ++ rest ≡ s
+
+-- one of the three
+abbrev pub Exact : List ℕ → Verdict → Type 0
+Exact s (Verdict.Accepted m) = IsAccepted s m
+Exact s (Verdict.Unlike n) = IsUnlike s n
+Exact s (Verdict.Cut n) = IsCut s n
+
+-- ---- what holds of it, proved in proofs/
+--   exact              of bytes s: verdictOf s ≡ v exactly where Exact s v
+--   written-accepted   the first m records of what any calls write, refused ones among them, are accepted with number m
