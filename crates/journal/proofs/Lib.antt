@@ -7,5 +7,6 @@ pub mod Due
 pub mod Reading
 pub mod Back
 pub mod Accepts
+pub mod WrittenBuffer
 pub mod Few
 pub mod Examples
