@@ -8,5 +8,6 @@ pub mod Reading
 pub mod Back
 pub mod Accepts
 pub mod WrittenBuffer
+pub mod WrittenCall
 pub mod Few
 pub mod Examples
