@@ -9,5 +9,6 @@ pub mod Back
 pub mod Accepts
 pub mod WrittenBuffer
 pub mod WrittenCall
+pub mod Written
 pub mod Few
 pub mod Examples
