@@ -10,5 +10,6 @@ pub mod Accepts
 pub mod WrittenBuffer
 pub mod WrittenCall
 pub mod Written
+pub mod ExactCall
 pub mod Few
 pub mod Examples
