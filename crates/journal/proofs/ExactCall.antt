@@ -62,10 +62,10 @@ module _ (n a b : ℕ) (body : List ℕ) (high : a < 256) (low : b < 256) (whole
 
 -- ---- each kind
 
-same-some : {A : Type 0} {a b : A} → some a ≡ some b → a ≡ b
+pub same-some : {A : Type 0} {a b : A} → some a ≡ some b → a ≡ b
 same-some e = cc
 
-nothing : {A P : Type 0} {a : A} → none ≡ some a → P
+pub nothing : {A P : Type 0} {a : A} → none ≡ some a → P
 nothing e = let z : _≡_ {A = ℕ} 0 1 = cc in absurd (omega arith)
 
 abbrev Is : List ℕ → Call → Option Call → Type 0

@@ -11,5 +11,6 @@ pub mod WrittenBuffer
 pub mod WrittenCall
 pub mod Written
 pub mod ExactCall
+pub mod ExactCalls
 pub mod Few
 pub mod Examples
