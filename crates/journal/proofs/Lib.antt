@@ -12,5 +12,6 @@ pub mod WrittenCall
 pub mod Written
 pub mod ExactCall
 pub mod ExactCalls
+pub mod Exact
 pub mod Few
 pub mod Examples
