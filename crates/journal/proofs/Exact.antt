@@ -3,7 +3,7 @@
 -- Assumes nothing.
 use mathlib.Core.Path.{_≡_, refl, sym, ap, subst, _∙_}
 use mathlib.Core.Bool.{true, false}
-use mathlib.Core.Logic.{_⊎_, inl, inr}
+use mathlib.Core.Logic.{_↔_, _⊎_, inl, inr}
 use mathlib.Core.List.{List, [], _∷_, _++_, append-nil, append-assoc}
 use mathlib.Core.Option.{Option, some, none}
 use Prim.Native.Nat.{ℕ, zero, suc, _+_, _≤_, _<_}
@@ -142,3 +142,63 @@ module _ (s : List ℕ) (g : Bytes s) where
   says v q =
       let x = subst (Split atFirst 0 s) q (split (suc (length s)) atFirst 0 s (omega arith)) in
       stopped (0 + length (x .records)) (x .records) refl (x .walks) (x .bytes) (x .stops)
+
+-- ---- and of nothing else
+
+-- the verdict behind right records
+after : (s : List ℕ) (rs : List (List ℕ)) (rest : List ℕ) (w : Walked atFirst rs) → joined rs ++ rest ≡ s
+    → verdictOf s ≡ verdictFrom (w .last) (0 + length rs) rest
+unfolding verdictOf
+after s rs rest w e = ap (verdictFrom atFirst 0) (sym e) ∙ verdict-behind 0 rest (w .walks)
+
+by-number : (f : ℕ → Verdict) (n m : ℕ) → n + 1 ≡ m → f (0 + n + 1) ≡ f m
+by-number f n m c = let e : 0 + n + 1 ≡ m = omega arith in ap f e
+
+-- a whole record that no right kernel writes there is judged to be none
+wrong-judged : (rs : List (List ℕ)) (u : Expected) (r : List ℕ) → Walks atFirst rs u → 0 < length r → length r ≡ sizeOf (getD r 0 0) → Bytes (joined rs ++ r)
+    → (Right (rs ++ (r ∷ [])) → ⊥) → judged u r ≡ none
+wrong-judged rs u r w h z g f = go (judged u r) refl
+  where
+    go : (o : Option Expected) → judged u r ≡ o → o ≡ none
+    go none j = refl
+    go (some t) j = absurd (f (walks-right (walks-snoc r w h z j) (subst Bytes (sym (joined-snoc rs r)) g)))
+
+wrong-unlike : (rs : List (List ℕ)) (rest : List ℕ) (u : Expected) (n : ℕ) → Walks atFirst rs u → Wrong rs rest → Bytes (joined rs ++ rest)
+    → verdictFrom u n rest ≡ Verdict.Unlike (n + 1)
+wrong-unlike rs rest u n w x g =
+    let r = take (sizeOf (kindOf rest)) rest in
+    let more = drop (sizeOf (kindOf rest)) rest in
+    let a : r ++ more ≡ rest = take-append-drop (sizeOf (kindOf rest)) rest in
+    let l : length r ≡ sizeOf (kindOf rest) = length-take-le (sizeOf (kindOf rest)) rest (x .whole) in
+    let k : getD r 0 0 ≡ kindOf rest = getD-take (sizeOf (kindOf rest)) rest 0 0 (x .kind) in
+    let z : length r ≡ sizeOf (getD r 0 0) = l ∙ ap sizeOf (sym k) in
+    let h : 0 < length r = omega (arith, x .kind) in
+    let b : Bytes ((joined rs ++ r) ++ more) =
+          subst Bytes (ap (λ (v : List ℕ). joined rs ++ v) (sym a) ∙ sym (append-assoc (joined rs) r more)) g in
+    ap (verdictFrom u n) (sym a) ∙ whole u n r more h z
+    ∙ ap (goesOn (λ t. verdictFrom t (n + 1) more) (n + 1)) (wrong-judged rs u r w h z (bytes-front (joined rs ++ r) more b) (x .wrong))
+
+module _ (s : List ℕ) (g : Bytes s) where
+  unlike-said : (rs : List (List ℕ)) (rest : List ℕ) (w : Walked atFirst rs) → joined rs ++ rest ≡ s → Unknown rest ⊎ Wrong rs rest
+      → verdictFrom (w .last) (0 + length rs) rest ≡ Verdict.Unlike (0 + length rs + 1)
+  unlike-said rs rest w e (inl x) =
+      ap (verdictFrom (w .last) (0 + length rs)) (sym (append-nil rest)) ∙ unknown (w .last) (0 + length rs) rest [] (x .some) (x .kind)
+  unlike-said rs rest w e (inr x) = wrong-unlike rs rest (w .last) (0 + length rs) (w .walks) x (subst Bytes (sym e) g)
+
+  said : (v : Verdict) → Exact s v → verdictOf s ≡ v
+  said (Verdict.Accepted m) x =
+      let w = right-walked (x .records) (x .right) in
+      let e : 0 + length (x .records) ≡ m = omega (arith, x .count) in
+      after s (x .records) [] w (append-nil (joined (x .records)) ∙ x .bytes) ∙ ends (w .last) (0 + length (x .records)) ∙ ap Verdict.Accepted e
+  said (Verdict.Unlike n) x =
+      let w = right-walked (x .records) (x .right) in
+      after s (x .records) (x .rest) w (x .bytes) ∙ unlike-said (x .records) (x .rest) w (x .bytes) (x .next)
+      ∙ by-number Verdict.Unlike (length (x .records)) n (x .count)
+  said (Verdict.Cut n) x =
+      let w = right-walked (x .records) (x .right) in
+      after s (x .records) (x .rest) w (x .bytes) ∙ cut (w .last) (0 + length (x .records)) (x .rest) (x .next .some) (x .next .short)
+      ∙ by-number Verdict.Cut (length (x .records)) n (x .count)
+
+-- the verdict is v exactly where v says what holds of the bytes
+pub exact : (s : List ℕ) → Bytes s → (v : Verdict) → (verdictOf s ≡ v) ↔ Exact s v
+exact s g v = (says s g v, said s g v)
