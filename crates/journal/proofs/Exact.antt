@@ -17,11 +17,11 @@ use Rattle.record.specs.Session.{freshSession}
 use Rattle.journal.specs.declared.Verdict.{Verdict}
 use Rattle.journal.specs.Record.{sizeOf, joined}
 use Rattle.journal.specs.Verdict.{Expected, expected, atFirst, judged, goesOn, nextRecord, verdictFrom, verdictOf}
-use Rattle.journal.specs.Written.{Bytes, Right, kindOf, wholeIn, Unknown, Short, Wrong, IsAccepted, IsUnlike, IsCut, Exact}
+use Rattle.journal.specs.Written.{Bytes, Right, WritesBytes, kindOf, wholeIn, Unknown, Short, Wrong, IsAccepted, IsUnlike, IsCut, Exact}
 use Rattle.journal.proofs.Walk.{unroll, ends, unknown, cut, whole}
 use Rattle.journal.proofs.Written.{Walks, Walked, verdict-behind, all-walked}
-use Rattle.journal.proofs.ExactCall.{same-some, nothing}
-use Rattle.journal.proofs.ExactCalls.{bytes-front, writes}
+use Rattle.journal.proofs.ExactCall.{same-some, nothing, bytes-front}
+use Rattle.journal.proofs.ExactCalls.{writes}
 
 -- ---- one record more behind
 
@@ -111,7 +111,11 @@ right-walked : (rs : List (List ℕ)) → Right rs → Walked atFirst rs
 right-walked rs x = subst (Walked atFirst) (x .first) (all-walked freshSession (x .calls) (length rs))
 
 walks-right : {u : Expected} {rs : List (List ℕ)} → Walks atFirst rs u → Bytes (joined rs) → Right rs
-walks-right w g = writes w freshSession refl g
+walks-right w g = writes w freshSession refl g .writes
+
+-- right records of bytes are written by calls of bytes
+pub right-bytes : (rs : List (List ℕ)) → Right rs → Bytes (joined rs) → WritesBytes freshSession rs
+right-bytes rs x g = writes (right-walked rs x .walks) freshSession refl g
 
 -- ---- the verdict says so
 

@@ -6,19 +6,42 @@ use mathlib.Core.Bool.{true, false}
 use mathlib.Core.Logic.{_⊎_, inl, inr}
 use mathlib.Core.List.{List, [], _∷_, _++_}
 use mathlib.Core.Option.{Option, some, none}
-use Prim.Native.Nat.{ℕ, _+_, _-_, _*_, _/_, _%_, _≤_, _<_}
+use Prim.Native.Nat.{ℕ, zero, suc, _+_, _-_, _*_, _/_, _%_, _≤_, _<_}
 use native.Mathlib.Omega.{arith}
-use lib.ListN.{length, getD, take, drop, replicate, length-drop, length-replicate, take-append-drop}
-use lib.Seq.{length-take-le}
+use lib.ListN.{length, getD, take, drop, replicate, length-drop, length-replicate, take-append-drop, List·getD-append, List·getD-eq-default}
+use lib.Seq.{length-take-le, getD-append-add}
 use borrow.Author.Tests.{eqb-true, le-leb, lt-leb}
 use Rattle.basics.specs.Choice.{if, every}
 use Rattle.basics.proofs.Laws.{if-yes, if-no, if-ind, both-left, both-right}
+use Rattle.basics.proofs.Order.{le-or-gt}
 use Rattle.store.specs.Held.{isZero}
 use Rattle.trace.specs.Calls.{Call, answer}
 use Rattle.journal.specs.Record.{sizeOf, sized, recordLength, broughtIn, fits, isLong, lent, longAnswer}
 use Rattle.journal.specs.Record.{callRecord, startFrom, answerFrom, callFrom}
-use Rattle.journal.specs.Written.{Bytes}
+use Rattle.journal.specs.Written.{Bytes, BytesIn}
 use Rattle.journal.proofs.Reading.{fits-length, size-start, size-answer}
+
+-- ---- bytes
+
+pub bytes-front : (r more : List ℕ) → Bytes (r ++ more) → Bytes r
+bytes-front r more g i = elim (le-or-gt (length r) i) [
+  | inl h ↦ omega (arith, List·getD-eq-default r 0 h)
+  | inr h ↦ omega (arith, List·getD-append r more 0 i h, g i)
+]
+
+pub bytes-behind : (r more : List ℕ) → Bytes (r ++ more) → Bytes more
+bytes-behind r more g i = omega (arith, getD-append-add r more i 0, g (length r + i))
+
+bytes-take : (n : ℕ) (l : List ℕ) → Bytes l → Bytes (take n l)
+bytes-take n l g = bytes-front (take n l) (drop n l) (subst Bytes (sym (take-append-drop n l)) g)
+
+bytes-drop : (n : ℕ) (l : List ℕ) → Bytes l → Bytes (drop n l)
+bytes-drop n l g = bytes-behind (take n l) (drop n l) (subst Bytes (sym (take-append-drop n l)) g)
+
+bytes-zeros : (n : ℕ) → Bytes (replicate n 0)
+bytes-zeros zero i = omega arith
+bytes-zeros (suc n) zero = omega arith
+bytes-zeros (suc n) (suc i) = bytes-zeros n i
 
 -- ---- zeros
 
@@ -41,8 +64,8 @@ long-zeros r e = both-right _ _ e
 
 -- ---- a length and its bytes
 
-three : {a b c d : ℕ} {s t : List ℕ} → a ≡ b → c ≡ d → s ≡ t → a ∷ c ∷ s ≡ b ∷ d ∷ t
-three p q r = cc
+bytes-same : {a b c d : ℕ} {s t : List ℕ} → a ≡ b → c ≡ d → s ≡ t → a ∷ c ∷ s ≡ b ∷ d ∷ t
+bytes-same p q r = cc
 
 module _ (n a b : ℕ) (body : List ℕ) (high : a < 256) (low : b < 256) (whole : length body ≡ n) where
   sized-back : (k : ℕ) → fits n (k ∷ a ∷ b ∷ body) ≡ true → sized n (broughtIn (k ∷ a ∷ b ∷ body)) ≡ a ∷ b ∷ body
@@ -50,7 +73,7 @@ module _ (n a b : ℕ) (body : List ℕ) (high : a < 256) (low : b < 256) (whole
       let m : a * 256 + b ≤ n = fits-length n (k ∷ a ∷ b ∷ body) f in
       let l : length (take (a * 256 + b) body) ≡ a * 256 + b = length-take-le (a * 256 + b) body (omega arith) in
       let g : n - length (take (a * 256 + b) body) ≡ length (drop (a * 256 + b) body) = omega (arith, length-drop (a * 256 + b) body) in
-      three (omega arith) (omega arith)
+      bytes-same (omega arith) (omega arith)
       (ap (λ (x : ℕ). take (a * 256 + b) body ++ replicate x 0) g
       ∙ ap (λ (v : List ℕ). take (a * 256 + b) body ++ v) (sym (zeros-only (drop (a * 256 + b) body) (fits-zeros n (k ∷ a ∷ b ∷ body) f)))
       ∙ take-append-drop (a * 256 + b) body)
@@ -58,7 +81,7 @@ module _ (n a b : ℕ) (body : List ℕ) (high : a < 256) (low : b < 256) (whole
   long-back : (k : ℕ) → isLong (k ∷ a ∷ b ∷ body) ≡ true → 255 ∷ 255 ∷ replicate n 0 ≡ a ∷ b ∷ body
   long-back k f =
       let l : a * 256 + b ≡ 65535 = long-length (k ∷ a ∷ b ∷ body) f in
-      three (omega arith) (omega arith) (ap (λ (x : ℕ). replicate x 0) (sym whole) ∙ sym (zeros-only body (long-zeros (k ∷ a ∷ b ∷ body) f)))
+      bytes-same (omega arith) (omega arith) (ap (λ (x : ℕ). replicate x 0) (sym whole) ∙ sym (zeros-only body (long-zeros (k ∷ a ∷ b ∷ body) f)))
 
 -- ---- each kind
 
@@ -125,3 +148,21 @@ call-is r c g l =
     (λ _. if-ind (Is r c) _ _ _ (λ e. let k = eqb-true (getD r 0 0) 3 e in found r c _ (alone 3 r (l ∙ size-alone (getD r 0 0) (inl k)) k))
     (λ _. if-ind (Is r c) _ _ _ (λ e. let k = eqb-true (getD r 0 0) 4 e in found r c _ (alone 4 r (l ∙ size-alone (getD r 0 0) (inr k)) k))
     (λ _ q. nothing q))))
+
+-- ---- and the call is of bytes
+
+abbrev Brings : Call → Option Call → Type 0
+Brings c o = o ≡ some c → BytesIn c
+
+brings : (c d : Call) → BytesIn d → Brings c (some d)
+brings c d g q = subst BytesIn (same-some q) g
+
+pub call-bytes : (r : List ℕ) (c : Call) → Bytes r → callFrom r ≡ some c → BytesIn c
+unfolding callFrom
+call-bytes r c g =
+    let z : Bytes lent = bytes-zeros 261 in
+    let b : Bytes (broughtIn r) = bytes-take (recordLength r) (drop 3 r) (bytes-drop 3 r g) in
+    if-ind (Brings c) _ _ _ (λ _. if-ind (Brings c) _ _ _ (λ _. brings c _ (b, z)) (λ _ q. nothing q))
+    (λ _. if-ind (Brings c) _ _ _
+      (λ _. if-ind (Brings c) _ _ _ (λ _. brings c _ (bytes-zeros 259, z)) (λ _. if-ind (Brings c) _ _ _ (λ _. brings c _ (b, z)) (λ _ q. nothing q)))
+    (λ _. if-ind (Brings c) _ _ _ (λ _. brings c _ z) (λ _. if-ind (Brings c) _ _ _ (λ _. brings c _ z) (λ _ q. nothing q))))

@@ -11,7 +11,7 @@ use lib.ListN.{length, getD, take}
 use Rattle.basics.specs.Choice.{every}
 use Rattle.record.specs.declared.Session.{Session}
 use Rattle.record.specs.Session.{freshSession}
-use Rattle.trace.specs.Calls.{Call, Made, play, refused}
+use Rattle.trace.specs.Calls.{Call, start, answer, link-failed, stop, Made, play, refused}
 use Rattle.journal.specs.declared.Verdict.{Verdict}
 use Rattle.journal.specs.Record.{sizeOf, journalOf, joined}
 
@@ -34,6 +34,23 @@ pub record Writes (s : Session) (records : List (List ℕ)) : Type 0 where
 -- a right kernel writes these records first: the session is fresh
 abbrev pub Right : List (List ℕ) → Type 0
 Right records = Writes freshSession records
+
+-- what comes in with a call is bytes, and so is the buffer that is lent
+abbrev pub BytesIn : Call → Type 0
+BytesIn (start bytes buf) = Bytes bytes × Bytes buf
+BytesIn (answer card buf) = Bytes card × Bytes buf
+BytesIn (link-failed buf) = Bytes buf
+BytesIn (stop buf) = Bytes buf
+
+-- so it is with each of the calls
+abbrev pub AllBytesIn : List Call → Type 0
+AllBytesIn [] = Unit {0}
+AllBytesIn (c ∷ cs) = BytesIn c × AllBytesIn cs
+
+-- the same by calls of bytes: right records of bytes are always written so
+pub record WritesBytes (s : Session) (records : List (List ℕ)) : Type 0 where
+  pub writes : Writes s records
+  pub bytes : AllBytesIn (writes .calls)
 
 -- ---- what stands behind right records
 
@@ -96,4 +113,5 @@ Exact s (Verdict.Cut n) = IsCut s n
 
 -- ---- what holds of it, proved in proofs/
 --   exact              of bytes s: verdictOf s ≡ v exactly where Exact s v
+--   right-bytes        right records of bytes are written by calls of bytes
 --   written-accepted   the first m records of what any calls write, refused ones among them, are accepted with number m
