@@ -2,7 +2,6 @@
 -- (`split`); right records are those that calls write (`Written`, `ExactCalls`).
 -- Assumes nothing.
 use mathlib.Core.Path.{_≡_, refl, sym, ap, subst, _∙_}
-use mathlib.Core.Bool.{true, false}
 use mathlib.Core.Logic.{_↔_, _⊎_, inl, inr}
 use mathlib.Core.List.{List, [], _∷_, _++_, append-nil, append-assoc}
 use mathlib.Core.Option.{Option, some, none}
@@ -16,8 +15,8 @@ use Rattle.basics.proofs.Laws.{if-ind}
 use Rattle.record.specs.Session.{freshSession}
 use Rattle.journal.specs.declared.Verdict.{Verdict}
 use Rattle.journal.specs.Record.{sizeOf, joined}
-use Rattle.journal.specs.Verdict.{Expected, expected, atFirst, judged, goesOn, nextRecord, verdictFrom, verdictOf}
-use Rattle.journal.specs.Written.{Bytes, Right, WritesBytes, kindOf, wholeIn, Unknown, Short, Wrong, IsAccepted, IsUnlike, IsCut, Exact}
+use Rattle.journal.specs.Verdict.{Expected, atFirst, judged, goesOn, verdictFrom, verdictOf}
+use Rattle.journal.specs.Written.{Bytes, Right, WritesBytes, kindOf, wholeIn, Unknown, Short, Wrong, Exact}
 use Rattle.journal.proofs.Walk.{unroll, ends, unknown, cut, whole}
 use Rattle.journal.proofs.Written.{Walks, Walked, verdict-behind, all-walked}
 use Rattle.journal.proofs.ExactCall.{same-some, nothing, bytes-front}

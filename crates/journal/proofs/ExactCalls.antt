@@ -2,24 +2,21 @@
 -- the second is its reply.
 -- Assumes nothing.
 use mathlib.Core.Path.{_≡_, refl, sym, ap, ap₂, subst, _∙_}
-use mathlib.Core.Bool.{Bool, true, false, not}
-use mathlib.Core.Logic.{inl, inr}
+use mathlib.Core.Bool.{true, false, not}
 use mathlib.Core.List.{List, [], _∷_, _++_}
 use mathlib.Core.Option.{Option, some, none}
-use Prim.Native.Nat.{ℕ, zero, suc, _+_, _≤_, _<_}
+use Prim.Native.Nat.{ℕ, suc, _<_}
 use native.Mathlib.Omega.{arith}
-use lib.ListN.{length, getD, take, List·getD-append, List·getD-eq-default}
-use lib.Seq.{getD-append-add}
-use Rattle.basics.specs.Choice.{if, both, every}
+use lib.ListN.{length, take}
+use Rattle.basics.specs.Choice.{every}
 use Rattle.basics.specs.Alike.{alike}
 use Rattle.basics.proofs.Laws.{if-no, if-ind, both-yes}
-use Rattle.basics.proofs.Order.{le-or-gt}
 use Rattle.basics.proofs.Alike.{alike-eq}
 use Rattle.record.specs.declared.Session.{Session}
 use Rattle.session.specs.Steps.{Step}
-use Rattle.trace.specs.Calls.{Call, Made, step, play, isRefusal, refused}
+use Rattle.trace.specs.Calls.{Call, step, play, isRefusal, refused}
 use Rattle.trace.proofs.EveryCall.{Came}
-use Rattle.journal.specs.Record.{sizeOf, callRecord, callFrom, journalOf, joined}
+use Rattle.journal.specs.Record.{callRecord, callFrom, journalOf, joined}
 use Rattle.journal.specs.Verdict.{Expected, expected, repliedBy, called, judged, judgedBy}
 use Rattle.journal.specs.Written.{Bytes, BytesIn, noneRefused, WritesBytes}
 use Rattle.journal.proofs.Kept.{call-came}

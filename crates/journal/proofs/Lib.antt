@@ -6,12 +6,11 @@ pub mod Follow
 pub mod Due
 pub mod Reading
 pub mod Back
-pub mod Accepts
+pub mod Few
 pub mod WrittenBuffer
 pub mod WrittenCall
 pub mod Written
 pub mod ExactCall
 pub mod ExactCalls
 pub mod Exact
-pub mod Few
 pub mod Examples

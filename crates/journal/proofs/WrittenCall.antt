@@ -1,10 +1,10 @@
 -- A call that is taken, with any bytes and any buffer, is read back from its record as a call with the same reply: an answer too long for a
 -- record is read as another such one (`answer-long`), the buffer as zeros (`WrittenBuffer`), and a start too long for a record is refused.
 -- Assumes nothing.
-use mathlib.Core.Path.{_≡_, refl, sym, ap, ap₂, subst, _∙_}
-use mathlib.Core.Bool.{Bool, true, false}
+use mathlib.Core.Path.{_≡_, refl, sym, ap, ap₂, _∙_}
+use mathlib.Core.Bool.{true, false}
 use mathlib.Core.Logic.{inl, inr}
-use mathlib.Core.List.{List, [], _∷_, _++_}
+use mathlib.Core.List.{List, [], _∷_}
 use mathlib.Core.Option.{some}
 use Prim.Native.Nat.{ℕ, _+_, _-_, _≤_, _<_}
 use native.Mathlib.Omega.{arith}
@@ -27,11 +27,11 @@ use Rattle.trace.specs.Calls.{Call, start, answer, link-failed, stop, step, isR
 use Rattle.trace.proofs.Rules.{no}
 use Rattle.trace.proofs.Long.{answer-long}
 use Rattle.trace.proofs.EveryCall.{Came, buffer-length, start-came, answer-came, link-came, stop-came}
-use Rattle.journal.specs.Record.{sizeOf, sized, lent, longAnswer, callRecord, replyRecord, callFrom}
-use Rattle.journal.specs.Verdict.{Expected, expected, repliedBy, called, judged}
+use Rattle.journal.specs.Record.{sizeOf, sized, lent, longAnswer, callRecord, callFrom}
+use Rattle.journal.specs.Verdict.{expected, repliedBy, called, judged}
 use Rattle.journal.proofs.Due.{whole-is, reply-due}
 use Rattle.journal.proofs.Back.{start-back, answer-back, long-back, link-back, stop-back}
-use Rattle.journal.proofs.WrittenBuffer.{SameStep, room, buffer-same, same-reply, same-due, dueBy}
+use Rattle.journal.proofs.WrittenBuffer.{room, buffer-same, same-reply, same-due, dueBy}
 
 -- ---- a start with over 1,024 bytes is refused
 
