@@ -21,6 +21,7 @@ use Rattle.journal.specs.Record.{sizeOf, callRecord, journalOf, joined}
 use Rattle.journal.specs.Verdict.{Expected, expected, atFirst, judged, goesOn, verdictFrom, verdictOf}
 use Rattle.journal.proofs.Walk.{ends, whole}
 use Rattle.journal.proofs.Kept.{call-came}
+use Rattle.journal.proofs.Few.{accepted-few}
 use Rattle.journal.proofs.WrittenBuffer.{dueBy}
 use Rattle.journal.proofs.WrittenCall.{read, call-judged, due-there, due-sized, due-judged}
 
@@ -94,3 +95,7 @@ written-accepted cs m h =
     let w = all-walked freshSession cs m in
     let e : 0 + length rs ≡ m = omega (arith, length-take-le m (journalOf (play freshSession cs)) h) in
     ap (verdictFrom atFirst 0) (sym (append-nil (joined rs))) ∙ verdict-behind 0 [] (w .walks) ∙ ends (w .last) (0 + length rs) ∙ ap Verdict.Accepted e
+
+-- so no calls write more than 262 records
+pub written-few : (cs : List Call) → length (journalOf (play freshSession cs)) ≤ 262
+written-few cs = accepted-few _ _ (written-accepted cs (length (journalOf (play freshSession cs))) (omega arith))

@@ -1,6 +1,6 @@
 -- What a verdict says (document 02, Item 1), by what a right kernel writes: calls on a fresh session, none of them
 -- refused, are written as records, each call and its reply (`journalOf`), and a journal holds the first of them. The
--- bytes and the command buffers of the calls are any.
+-- calls may bring any bytes, and any command buffers.
 -- Assumes nothing.
 use mathlib.Core.Path.{_≡_}
 use mathlib.Core.Bool.{Bool, true, not}
@@ -111,7 +111,8 @@ Exact s (Verdict.Accepted m) = IsAccepted s m
 Exact s (Verdict.Unlike n) = IsUnlike s n
 Exact s (Verdict.Cut n) = IsCut s n
 
--- ---- what holds of it, proved in proofs/
+-- ---- what holds of it, proved in proofs/ (Exact; Written)
 --   exact              of bytes s: verdictOf s ≡ v exactly where Exact s v
 --   right-bytes        right records of bytes are written by calls of bytes
 --   written-accepted   the first m records of what any calls write, refused ones among them, are accepted with number m
+--   written-few        no calls write more than 262 records
