@@ -8,12 +8,10 @@ use native.Mathlib.Omega.{arith}
 use lib.Dec.{eqb, ltb}
 use lib.ListN.{length, take, drop}
 use Rattle.basics.proofs.Laws.{if-ind}
-use Rattle.record.proofs.Phases.{fresh-keeps}
 use Rattle.journal.specs.declared.Verdict.{Verdict}
 use Rattle.journal.specs.Record.{sizeOf}
 use Rattle.journal.specs.Verdict.{Expected, atFirst, judged, goesOn, verdictBy, verdictFrom, verdictOf}
-use Rattle.journal.specs.Inner.{Kept}
-use Rattle.journal.proofs.Kept.{judged-kept, few-records}
+use Rattle.journal.proofs.Kept.{Kept, first-kept, judged-kept, few-records}
 
 same-number : (n m : ℕ) → Verdict.Accepted n ≡ Verdict.Accepted m → n ≡ m
 same-number n m q = cc
@@ -42,4 +40,4 @@ few-by (suc k) e n m (b ∷ s) h q =
 
 pub accepted-few : (s : List ℕ) (m : ℕ) → verdictOf s ≡ Verdict.Accepted m → m ≤ 262
 unfolding verdictOf verdictFrom
-accepted-few s m q = few-by _ atFirst 0 m s (record { ranges = fresh-keeps; few = omega arith }) q
+accepted-few s m q = few-by _ atFirst 0 m s first-kept q
