@@ -10,17 +10,19 @@ use Prim.Native.Nat.{ℕ, suc, _+_, _≤_, _<_}
 use native.Mathlib.Omega.{arith}
 use native.Mathlib.Numerals.{add-one}
 use lib.Dec.{eqb, ltb}
-use lib.ListN.{length, getD, take, set, length-set, length-replicate}
+use lib.ListN.{length, getD, take, set, replicate, length-set, length-replicate}
 use lib.Seq.{take-suc, take-all, length-take-le}
 use borrow.Author.Tests.{eq-eqb, ne-eqb, lt-ltb, le-ltb, ltb-true}
-use Rattle.basics.proofs.Laws.{if-yes, if-no, if-ind, bool-cases}
+use Rattle.basics.proofs.Laws.{if-yes, if-no, if-ind, bool-cases, either-left, either-no}
+use Rattle.basics.specs.Choice.{either}
 use Rattle.basics.proofs.Order.{equal-or-not}
 use Rattle.journal.specs.declared.Verdict.{Verdict}
 use Rattle.journal.specs.declared.Standing.{Standing}
 use Rattle.journal.specs.declared.Checker.{Checker}
-use Rattle.journal.specs.Verdict.{Expected, judged, verdictOf}
-use Rattle.journal.specs.Inner.{dueIn, standingBy, firstChecker, goesFurther, frontSize, holding, judging, wholeOr, pushed, pushedAll, Follows, verdictAt}
-use Rattle.journal.proofs.Pushed.{State, Keeps, KeepsAt, step-keeps, first-keeps, says-unlike, says-accepted, says-cut}
+use Rattle.journal.specs.declared.WantedRecord.{WantedRecord}
+use Rattle.journal.specs.Verdict.{Expected, judged, verdictOf, frontSize, wantedBy, wantedOf}
+use Rattle.journal.specs.Inner.{dueIn, standingBy, firstChecker, goesFurther, holding, judging, wholeOr, pushed, pushedAll, Follows, verdictAt, wantedAt}
+use Rattle.journal.proofs.Pushed.{State, Keeps, KeepsAt, step-keeps, first-keeps, says-unlike, says-accepted, says-cut, wanted-unlike}
 use Rattle.journal.proofs.Byte.{stateOf, Fine, state-step, due-back, size-most}
 use Rattle.journal.proofs.Kept.{few-records}
 
@@ -147,6 +149,16 @@ module _ (c : Checker) where
   unfolding verdictAt
   says-many r l n = sym (if-yes _ _ r ∙ if-no _ _ (ne-eqb (c .length) 0 l) ∙ ap Verdict.Cut (if-no _ _ (le-ltb (c .records) 1000 n)))
 
+-- every way out of `wanted`
+module _ (c : Checker) where
+  pub wants-none : either (c .standing .right) (ltb 264 (c .standing .size)) ≡ true → record { bytes = replicate 264 0; size = 0 } ≡ wantedAt c
+  unfolding wantedAt
+  wants-none e = sym (if-yes _ _ e)
+
+  pub wants-due : c .standing .right ≡ false → c .standing .size ≤ 264 → record { bytes = c .standing .due; size = c .standing .size } ≡ wantedAt c
+  unfolding wantedAt
+  wants-due r h = sym (if-no _ _ (either-no _ _ r (le-ltb 264 (c .standing .size) h)))
+
 module _ (c : Checker) (s : List ℕ) (h : Behind c s) where
   keeps-as : (r : Bool) → c .standing .right ≡ r → Keeps r (dueIn (c .standing)) (c .records) (take (c .length) (c .held)) s
   keeps-as r e = subst (λ (x : Bool). Keeps x (dueIn (c .standing)) (c .records) (take (c .length) (c .held)) s) e (h .keeps)
@@ -168,6 +180,23 @@ module _ (c : Checker) (s : List ℕ) (h : Behind c s) where
     | inr r ↦ sym (says-wrong c r) ∙ says-unlike s (dueIn (c .standing)) (c .records) (take (c .length) (c .held)) (keeps-as false r)
   ]
 
+  -- no record was unlike
+  wanted-right : c .standing .right ≡ true → [] ≡ wantedOf s
+  unfolding verdictAt wantedOf
+  wanted-right r =
+      sym (ap (wantedBy s) (if-yes _ _ r) ∙ if-ind (λ (v : Verdict). wantedBy s v ≡ []) (eqb (c .length) 0) _ _ (λ w. refl) (λ w. refl))
+      ∙ ap (wantedBy s) verdict-said
+
+  wanted-said : take (wantedAt c .size) (wantedAt c .bytes) ≡ wantedOf s
+  wanted-said = elim (bool-cases (c .standing .right)) [
+    | inl r ↦ ap held (sym (wants-none c (either-left _ _ r))) ∙ wanted-right r
+    | inr r ↦ ap held (sym (wants-due c r (let e = h .size in let k = h .keeps .fits in omega arith)))
+        ∙ wanted-unlike s (dueIn (c .standing)) (c .records) (take (c .length) (c .held)) (keeps-as false r)
+  ]
+    where
+      held : WantedRecord → List ℕ
+      held w = take (w .size) (w .bytes)
+
 -- a checker that was fed the bytes s says the verdict over them
 pub verdict-follows : (s : List ℕ) → verdictAt (pushedAll firstChecker s) ≡ verdictOf s
 verdict-follows s = verdict-said (pushedAll firstChecker s) s (behind-all s)
@@ -175,3 +204,12 @@ verdict-follows s = verdict-said (pushedAll firstChecker s) s (behind-all s)
 -- what `finish` promises
 pub finished : (c : Checker) (v : Verdict) → v ≡ verdictAt c → (v ≡ verdictAt c) × ((s : List ℕ) → Follows c s → v ≡ verdictOf s)
 finished c v e = (e, λ s h. e ∙ ap verdictAt h ∙ verdict-follows s)
+
+-- what `wanted` promises
+pub wanted-follows : (c : Checker) (w : WantedRecord) → w ≡ wantedAt c → w .size ≤ 264
+    → (w ≡ wantedAt c) × ((w .size ≤ 264) × ((s : List ℕ) → Follows c s → take (w .size) (w .bytes) ≡ wantedOf s))
+wanted-follows c w e l =
+    (e, (l, λ s h. ap held (e ∙ ap wantedAt h) ∙ wanted-said (pushedAll firstChecker s) s (behind-all s)))
+  where
+    held : WantedRecord → List ℕ
+    held w = take (w .size) (w .bytes)

@@ -107,7 +107,7 @@ not-ended s c (Phase.Ended x) q r = no (sym r ∙ ended-refuses s c x q)
 same-some : {A : Type 0} {a b : A} → some a ≡ some b → a ≡ b
 same-some e = cc
 
-nothing : {A P : Type 0} {t : A} → none ≡ some t → P
+pub nothing : {A P : Type 0} {t : A} → none ≡ some t → P
 nothing e = let z : _≡_ {A = ℕ} 0 1 = cc in absurd (omega arith)
 
 lent-call : (r : List ℕ) (c : Call) → callFrom r ≡ some c → bufferOf c ≡ lent

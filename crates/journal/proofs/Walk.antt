@@ -18,7 +18,7 @@ use Rattle.basics.proofs.Order.{equal-or-not}
 use Rattle.record.specs.declared.Session.{Session}
 use Rattle.journal.specs.declared.Verdict.{Verdict}
 use Rattle.journal.specs.Record.{sizeOf, callFrom}
-use Rattle.journal.specs.Verdict.{Expected, judgedBy, judged, goesOn, nextRecord, verdictBy, verdictFrom}
+use Rattle.journal.specs.Verdict.{Expected, judgedBy, judged, goesOn, nextRecord, verdictBy, verdictFrom, frontSize, dueThen, dueBehind}
 
 -- ---- the bound of the recursion does not matter
 
@@ -73,6 +73,15 @@ whole e n (b ∷ s) more h z =
     ∙ if-no _ _ (le-ltb (length (b ∷ (s ++ more))) (sizeOf b) (omega (arith, length-append s more)))
     ∙ goes-same _ _ (n + 1) (judged e (take (sizeOf b) (b ∷ (s ++ more)))) (λ t. ap (verdictFrom t (n + 1)) (drop-at (b ∷ s) more (sizeOf b) z))
     ∙ ap (λ (r : List ℕ). goesOn (λ t. verdictFrom t (n + 1) more) (n + 1) (judged e r)) (take-at (b ∷ s) more (sizeOf b) z)
+
+-- what is due behind a whole record at the front, and so behind those that follow it
+pub due-whole : (m : ℕ) (e : Expected) (l more : List ℕ) → 0 < length l → length l ≡ frontSize l
+    → dueBehind (suc m) e (l ++ more) ≡ dueThen (λ t. dueBehind m t more) (judged e l)
+unfolding dueBehind
+due-whole m e [] more h z = absurd (omega arith)
+due-whole m e (b ∷ s) more h z =
+    ap (λ (r : List ℕ). dueThen (λ t. dueBehind m t (drop (sizeOf b) (b ∷ (s ++ more)))) (judged e r)) (take-at (b ∷ s) more (sizeOf b) z)
+    ∙ ap (λ (r : List ℕ). dueThen (λ t. dueBehind m t r) (judged e (b ∷ s))) (drop-at (b ∷ s) more (sizeOf b) z)
 
 -- ---- no bytes are no record
 

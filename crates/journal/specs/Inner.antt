@@ -1,21 +1,22 @@
 -- The checker itself, for every checker: the first one, the one behind each byte more, and what is said where the
 -- journal ends. It follows the code, and a reader of the rules can pass it over: a checker that was fed the bytes s, in
--- whatever parts (`Follows`), says `verdictOf` of them.
+-- whatever parts (`Follows`), says `verdictOf` and `wantedOf` of them.
 -- Assumes nothing.
 use mathlib.Core.Path.{_≡_}
 use mathlib.Core.Bool.{Bool, true, false}
 use mathlib.Core.List.{List, [], _∷_, _++_}
 use mathlib.Core.Option.{Option, some, none}
 use Prim.Native.Nat.{ℕ, _+_}
-use lib.ListN.{length, getD, take, set, replicate}
-use Rattle.basics.specs.Choice.{if_then_else_, _and_, _≤?_, _<?_, _=?_}
+use lib.ListN.{length, take, set, replicate}
+use Rattle.basics.specs.Choice.{if_then_else_, _and_, _or_, _≤?_, _<?_, _=?_}
 use Rattle.record.specs.declared.Answer.{Answer}
 use Rattle.record.specs.Numbers.{outcomeNumber}
 use Rattle.journal.specs.declared.Verdict.{Verdict}
 use Rattle.journal.specs.declared.Standing.{Standing}
 use Rattle.journal.specs.declared.Checker.{Checker}
-use Rattle.journal.specs.Record.{sizeOf, twoBytes, zeroPadded}
-use Rattle.journal.specs.Verdict.{Expected, expected, atFirst, judged}
+use Rattle.journal.specs.declared.WantedRecord.{WantedRecord}
+use Rattle.journal.specs.Record.{twoBytes, zeroPadded}
+use Rattle.journal.specs.Verdict.{Expected, expected, atFirst, judged, frontSize}
 
 -- ---- what is due
 
@@ -47,10 +48,6 @@ firstChecker = record { standing = standingOf atFirst; held = replicate 1027 0; 
 -- no record was unlike, and every number is within its bound; else a checker stays as it is
 abbrev pub goesFurther : Checker → Bool
 goesFurther c = c .standing .right and c .length <? 1027 and c .standing .size ≤? 264 and c .records <? 1000
-
--- the size of the record that these bytes begin with
-abbrev pub frontSize : List ℕ → ℕ
-frontSize h = sizeOf (getD h 0 0)
 
 -- the bytes h are held, one more than before
 abbrev pub holding : Checker → List ℕ → Checker
@@ -101,3 +98,9 @@ verdictAt c =
       if c .length =? 0 then Verdict.Accepted (c .records)
       else Verdict.Cut (heldNumber (c .records))
     else Verdict.Unlike (c .records)
+
+-- what was due where a record was unlike, of size 0 where none was
+unfoldable pub wantedAt : Checker → WantedRecord
+wantedAt c =
+    if c .standing .right or 264 <? c .standing .size then record { bytes = replicate 264 0; size = 0 }
+    else record { bytes = c .standing .due; size = c .standing .size }

@@ -4,8 +4,8 @@
 use mathlib.Core.Bool.{Bool}
 use mathlib.Core.List.{List, [], _∷_}
 use mathlib.Core.Option.{Option, some, none}
-use Prim.Native.Nat.{ℕ, zero, suc, _+_}
-use lib.ListN.{length, take, drop}
+use Prim.Native.Nat.{ℕ, zero, suc, _+_, _-_}
+use lib.ListN.{length, getD, take, drop}
 use Rattle.basics.specs.Choice.{if_then_else_, _<?_, _=?_}
 use Rattle.basics.specs.Alike.{alike}
 use Rattle.record.specs.declared.Session.{Session}
@@ -84,6 +84,33 @@ verdictFrom e n s = verdictBy (suc (length s)) e n s
 -- the verdict over a whole journal
 unfoldable pub verdictOf : List ℕ → Verdict
 verdictOf s = verdictFrom atFirst 0 s
+
+-- ---- the right record in the place of an unlike one
+
+-- the size of the record that these bytes begin with
+abbrev pub frontSize : List ℕ → ℕ
+frontSize s = sizeOf (getD s 0 0)
+
+-- what k says of what is due behind a record; nothing is due behind an unlike one
+abbrev pub dueThen : (Expected → List ℕ) → Option Expected → List ℕ
+dueThen k none = []
+dueThen k (some e) = k e
+
+-- the reply's record that is due behind the first m records, where e is due at their front; no bytes where a call is due
+unfoldable pub dueBehind : ℕ → Expected → List ℕ → List ℕ
+dueBehind zero e s = e .due
+dueBehind (suc m) e s = dueThen (λ t. dueBehind m t (drop (frontSize s) s)) (judged e (take (frontSize s) s))
+
+-- where record n is unlike and a reply was due, that reply's record; else no bytes: where a call was due, a right kernel
+-- may have no record there or more than one
+abbrev pub wantedBy : List ℕ → Verdict → List ℕ
+wantedBy s (Verdict.Accepted n) = []
+wantedBy s (Verdict.Unlike n) = dueBehind (n - 1) atFirst s
+wantedBy s (Verdict.Cut n) = []
+
+-- the one right record in the place of the first unlike one of a whole journal
+unfoldable pub wantedOf : List ℕ → List ℕ
+wantedOf s = wantedBy s (verdictOf s)
 
 -- ---- what holds of it, proved in proofs/
 --   unroll             verdictFrom e n s ≡ nextRecord verdictFrom e n s: the bound does not matter

@@ -17,9 +17,9 @@ ghost use Rattle.store.specs.Held.{isZero};
 ghost use Rattle.record.specs.Numbers.{outcomeNumber};
 ghost use Rattle.journal.specs.Record.{sizeOf, twoBytes, recordLength, fits as fitsIn, isLong, startFrom, answerFrom, callFrom};
 ghost use Rattle.journal.specs.Record.{linkFrom, stopFrom};
-ghost use Rattle.journal.specs.Verdict.{expected, replied as repliedOf, called as calledOf, judged, verdictOf};
+ghost use Rattle.journal.specs.Verdict.{expected, replied as repliedOf, called as calledOf, judged, verdictOf, wantedOf};
 ghost use Rattle.journal.specs.Inner.{wholeRecord, dueIn, standingOf, standingBy};
-ghost use Rattle.journal.specs.Inner.{firstChecker, pushed, pushedAll, verdictAt, Follows};
+ghost use Rattle.journal.specs.Inner.{firstChecker, pushed, pushedAll, verdictAt, wantedAt, Follows};
 
 // What a journal is: accepted, with the number of its records; or the number of the first record that is
 // unlike what the rules give, or of the one that is cut. Records count from 1.
@@ -45,6 +45,13 @@ pub struct Checker {
     pub held: [u8; 1027],
     pub length: usize,
     pub records: usize,
+}
+
+// The one right record in the place of an unlike one, in the front of `bytes`; of size 0 where no record is
+// unlike, and where a call was due, as then none or more than one would be right.
+pub struct WantedRecord {
+    pub bytes: [u8; 264],
+    pub size: usize,
 }
 
 // The size of a record by its kind, 0 where there is no such kind.
@@ -117,6 +124,24 @@ pub fn finish(checker: Checker) -> Verdict
         return Verdict::Cut(checker.records);
     }
     Verdict::Cut(checker.records + 1)
+}
+
+// The right record where one is unlike and a reply was due.
+pub fn wanted(checker: Checker) -> WantedRecord
+    ensures wanted { λ r. ⌜ r ≡ wantedAt checker ⌝ }
+    ensures size { λ r. ⌜ r .size ≤ 264 ⌝ }
+    ensures follows { λ r. ⌜ ((s : List ℕ) → Follows checker s → take (r .size) (r .bytes) ≡ wantedOf s) ⌝ }
+{
+    let standing = checker.standing;
+    let size = standing.size;
+    if standing.right || 264 < size {
+        return WantedRecord {
+            bytes: [0u8; 264],
+            size: 0,
+        };
+    }
+    let bytes = standing.due;
+    WantedRecord { bytes, size }
 }
 
 // The checker behind one byte more.
