@@ -8,6 +8,7 @@ use Prim.Native.Nat.{ℕ, zero, suc, _+_, _-_}
 use lib.ListN.{length, getD, take, drop}
 use Rattle.basics.specs.Choice.{if_then_else_, _<?_, _=?_}
 use Rattle.basics.specs.Alike.{alike}
+use Rattle.basics.specs.Recursion.{recurse}
 use Rattle.record.specs.declared.Session.{Session}
 use Rattle.record.specs.Session.{freshSession}
 use Rattle.session.specs.Steps.{Step}
@@ -72,14 +73,13 @@ nextRecord k e n (b ∷ s) =
     else if length (b ∷ s) <? sizeOf b then Verdict.Cut (n + 1)
     else goesOn (λ t. k t (n + 1) (drop (sizeOf b) (b ∷ s))) (n + 1) (judged e (take (sizeOf b) (b ∷ s)))
 
--- record after record, at most so many
-unfoldable pub verdictBy : ℕ → Expected → ℕ → List ℕ → Verdict
-verdictBy zero e n s = Verdict.Accepted n
-verdictBy (suc k) e n s = nextRecord (verdictBy k) e n s
+-- the same with the bytes first
+abbrev pub nextBytes : (List ℕ → Expected → ℕ → Verdict) → List ℕ → Expected → ℕ → Verdict
+nextBytes k s e n = nextRecord (λ t m v. k v t m) e n s
 
--- each record has a byte at least, so one more than there are bytes is enough
+-- record after record
 unfoldable pub verdictFrom : Expected → ℕ → List ℕ → Verdict
-verdictFrom e n s = verdictBy (suc (length s)) e n s
+verdictFrom e n s = recurse (λ e n. Verdict.Accepted n) nextBytes s e n
 
 -- the verdict over a whole journal
 unfoldable pub verdictOf : List ℕ → Verdict
