@@ -23,7 +23,7 @@ use Rattle.journal.specs.declared.WantedRecord.{WantedRecord}
 use Rattle.journal.specs.Verdict.{Expected, judged, verdictOf, frontSize, wantedBy, wantedOf}
 use Rattle.journal.specs.Inner.{dueIn, standingBy, firstChecker, goesFurther, holding, judging, wholeOr, pushed, pushedAll, Follows, verdictAt, wantedAt}
 use Rattle.journal.proofs.Pushed.{State, Keeps, KeepsAt, step-keeps, first-keeps, says-unlike, says-accepted, says-cut, wanted-unlike}
-use Rattle.journal.proofs.Byte.{stateOf, Fine, state-step, due-back, size-most}
+use Rattle.journal.proofs.Byte.{stateOf, Fine, stays-wrong, state-step, due-back, size-most}
 use Rattle.journal.proofs.Kept.{few-records}
 
 -- ---- bytes one by one
@@ -43,6 +43,12 @@ unfolding pushedAll
 pushed-more c d r v i b k l e p =
     p ∙ ap (λ (x : Checker). pushed x b) k ∙ ap (pushed (pushedAll c (take i v))) e ∙ sym (pushed-append c (take i v) (getD v i 0 ∷ []))
     ∙ ap (pushedAll c) (sym (take-suc v i 0 l) ∙ ap (λ (m : ℕ). take m v) (sym (add-one i)))
+
+-- behind an unlike record nothing changes
+pub stays-all : (c : Checker) (v : List ℕ) → c .standing .right ≡ false → c ≡ pushedAll c v
+unfolding pushedAll
+stays-all c [] e = refl
+stays-all c (b ∷ v) e = stays-all c v e ∙ ap (λ (x : Checker). pushedAll x v) (stays-wrong c b e)
 
 -- what `feed` promises
 pub fed : (c r : Checker) (v w : List ℕ) → r ≡ pushedAll c v → v ≡ w → (r ≡ pushedAll c w) × ((s : List ℕ) → Follows c s → Follows r (s ++ w))

@@ -94,11 +94,15 @@ pub fn begin() -> Checker
     }
 }
 
-// The checker behind one part more.
+// The checker behind one part more. Behind an unlike record nothing is looked at.
 pub fn feed(checker: Checker, part: &[u8]) -> Checker
     ensures checker { λ r. ⌜ r ≡ pushedAll checker (now (part .entry)) ⌝ }
     ensures follows { λ r. ⌜ ((s : List ℕ) → Follows checker s → Follows r (s ++ now (part .entry))) ⌝ }
 {
+    let standing = checker.standing;
+    if !standing.right {
+        return checker;
+    }
     let mut next = checker;
     let mut i = 0;
     while i < part.len() {
