@@ -113,6 +113,8 @@ unfoldable pub wantedOf : List ℕ → List ℕ
 wantedOf s = wantedBy s (verdictOf s)
 
 -- ---- what holds of it, proved in proofs/
---   unroll             verdictFrom e n s ≡ nextRecord verdictFrom e n s: the bound does not matter
+--   unroll             verdictFrom e n s ≡ nextRecord verdictFrom e n s
+--   wanted-only        where record n is unlike and wantedOf has bytes, these continue the n - 1 records before it, and
+--                      nothing else does
 --   accepted-few       no accepted journal has more than 262 records
 --   written-accepted   the first m records of what calls write that records hold whole are accepted, with the number m
