@@ -14,3 +14,4 @@ pub mod ExactCall
 pub mod ExactCalls
 pub mod Exact
 pub mod Examples
+pub mod RightRecord
