@@ -15,3 +15,4 @@ pub mod ExactCalls
 pub mod Exact
 pub mod Examples
 pub mod RightRecord
+pub mod Told

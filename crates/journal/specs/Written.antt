@@ -4,7 +4,7 @@
 -- Assumes nothing.
 use mathlib.Core.Path.{_≡_}
 use mathlib.Core.Bool.{Bool, true, not}
-use mathlib.Core.Logic.{_⊎_}
+use mathlib.Core.Logic.{_⊎_, _↔_}
 use mathlib.Core.List.{List, [], _∷_, _++_}
 use Prim.Native.Nat.{ℕ, _+_, _≤_, _<_}
 use lib.ListN.{length, getD, take}
@@ -14,6 +14,7 @@ use Rattle.record.specs.Session.{freshSession}
 use Rattle.trace.specs.Calls.{Call, start, answer, link-failed, stop, Made, play, refused}
 use Rattle.journal.specs.declared.Verdict.{Verdict}
 use Rattle.journal.specs.Record.{sizeOf, journalOf, joined}
+use Rattle.journal.specs.Verdict.{verdictOf}
 
 -- ---- what is written
 
@@ -111,8 +112,23 @@ Exact s (Verdict.Accepted m) = IsAccepted s m
 Exact s (Verdict.Unlike n) = IsUnlike s n
 Exact s (Verdict.Cut n) = IsCut s n
 
--- ---- what holds of it, proved in proofs/ (Exact; Written)
---   exact              of bytes s: verdictOf s ≡ v exactly where Exact s v
+-- the verdict r on the bytes s is v exactly where the three say so
+abbrev pub SaysOf : List ℕ → Verdict → Type 0
+SaysOf s r = (v : Verdict) → (r ≡ v) ↔ Exact s v
+
+-- every journal that a right kernel writes is accepted, finished or not: the first m records of what any calls write,
+-- refused ones among them
+abbrev pub WrittenAccepted : Type 0
+WrittenAccepted =
+    (cs : List Call) (m : ℕ) → m ≤ length (journalOf (play freshSession cs))
+    → verdictOf (joined (take m (journalOf (play freshSession cs)))) ≡ Verdict.Accepted m
+
+-- no accepted journal has more than 262 records
+abbrev pub AcceptedFew : Type 0
+AcceptedFew = (s : List ℕ) (m : ℕ) → verdictOf s ≡ Verdict.Accepted m → m ≤ 262
+
+-- ---- what holds of it: the promises `right`, `written` and `few` of finish; proved in proofs/ (Exact; Written)
+--   exact              of bytes s: SaysOf s (verdictOf s)
 --   right-bytes        right records of bytes are written by calls of bytes
---   written-accepted   the first m records of what any calls write, refused ones among them, are accepted with number m
+--   written-accepted   WrittenAccepted
 --   written-few        no calls write more than 262 records

@@ -18,6 +18,7 @@ ghost use Rattle.record.specs.Numbers.{outcomeNumber};
 ghost use Rattle.journal.specs.Record.{sizeOf, twoBytes, recordLength, fits as fitsIn, isLong, startFrom, answerFrom, callFrom};
 ghost use Rattle.journal.specs.Record.{linkFrom, stopFrom};
 ghost use Rattle.journal.specs.Verdict.{expected, replied as repliedOf, called as calledOf, judged, verdictOf, wantedOf};
+ghost use Rattle.journal.specs.Written.{Bytes, SaysOf, WrittenAccepted, AcceptedFew};
 ghost use Rattle.journal.specs.Inner.{wholeRecord, dueIn, standingOf, standingBy};
 ghost use Rattle.journal.specs.Inner.{firstChecker, pushed, pushedAll, verdictAt, wantedAt, Follows};
 
@@ -116,6 +117,9 @@ pub fn feed(checker: Checker, part: &[u8]) -> Checker
 pub fn finish(checker: Checker) -> Verdict
     ensures verdict { λ r. ⌜ r ≡ verdictAt checker ⌝ }
     ensures follows { λ r. ⌜ ((s : List ℕ) → Follows checker s → r ≡ verdictOf s) ⌝ }
+    ensures right { λ r. ⌜ ((s : List ℕ) → Follows checker s → Bytes s → SaysOf s r) ⌝ }
+    ensures written { λ _. ⌜ WrittenAccepted ⌝ }
+    ensures few { λ _. ⌜ AcceptedFew ⌝ }
 {
     let standing = checker.standing;
     if !standing.right {

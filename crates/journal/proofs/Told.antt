@@ -1,0 +1,24 @@
+-- What `finish` promises of a verdict, from the one equation that each way out of it proves.
+-- Assumes nothing.
+use mathlib.Core.Path.{_≡_, sym, _∙_}
+use mathlib.Core.List.{List}
+use Prim.Native.Nat.{ℕ}
+use Rattle.journal.specs.declared.Checker.{Checker}
+use Rattle.journal.specs.declared.Verdict.{Verdict}
+use Rattle.journal.specs.Verdict.{verdictOf}
+use Rattle.journal.specs.Inner.{Follows, verdictAt}
+use Rattle.journal.specs.Written.{Bytes, SaysOf, WrittenAccepted, AcceptedFew}
+use Rattle.journal.proofs.Follow.{finished}
+use Rattle.journal.proofs.Few.{accepted-few}
+use Rattle.journal.proofs.Written.{written-accepted}
+use Rattle.journal.proofs.Exact.{exact}
+
+-- of the bytes that were fed it says what `exact` says of the verdict over them
+says-so : (s : List ℕ) (r : Verdict) → r ≡ verdictOf s → Bytes s → SaysOf s r
+says-so s r q g v = (λ e. exact s g v .0 (sym q ∙ e), λ x. q ∙ exact s g v .1 x)
+
+pub told : (c : Checker) (r : Verdict) → r ≡ verdictAt c
+    → (r ≡ verdictAt c) × (((s : List ℕ) → Follows c s → r ≡ verdictOf s) × (((s : List ℕ) → Follows c s → Bytes s → SaysOf s r) × (WrittenAccepted × AcceptedFew)))
+told c r e =
+    let f = finished c r e in
+    (f .0, (f .1, (λ s h g. says-so s r (f .1 s h) g, (written-accepted, accepted-few))))
