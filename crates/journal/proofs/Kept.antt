@@ -28,7 +28,7 @@ use Rattle.trace.proofs.Ranges.{start-keeps, answer-keeps, link-keeps, stop-kee
 use Rattle.trace.proofs.Rules.{no}
 use Rattle.trace.proofs.EveryCall.{Came, start-came, answer-came, link-came, stop-came}
 use Rattle.journal.specs.Record.{sizeOf, twoBytes, zeroPadded, mostCommand, lent, mostStart, mostAnswer, fits, isLong, callFrom}
-use Rattle.journal.specs.Verdict.{Expected, expected, atFirst, repliedBy, called, judgedBy, judged, frontSize}
+use Rattle.journal.specs.Verdict.{Expected, expected, atFirst, repliedBy, called, judgedBy, frontSize}
 
 -- ---- what is kept from record to record
 

@@ -2,7 +2,7 @@
 -- induction over the records; the reply itself is whole, so it is judged as a record, and only by being the same is one judged right.
 -- Assumes nothing.
 use mathlib.Core.Path.{_≡_, refl, sym, ap, subst, _∙_}
-use mathlib.Core.Bool.{Bool, true, false}
+use mathlib.Core.Bool.{false}
 use mathlib.Core.Logic.{inl, inr}
 use mathlib.Core.List.{List, [], _∷_, _++_, append-assoc, append-nil}
 use mathlib.Core.Option.{Option, some, none}
@@ -12,7 +12,6 @@ use lib.Dec.{ltb}
 use lib.ListN.{length, take, drop, length-append, take-append-drop}
 use lib.Seq.{length-take-le, getD-take}
 use borrow.Author.Tests.{eq-eqb, ne-eqb, ltb-false}
-use Rattle.basics.specs.Choice.{if}
 use Rattle.basics.specs.Alike.{alike}
 use Rattle.basics.proofs.Laws.{if-yes, if-no, if-ind, bool-cases}
 use Rattle.basics.proofs.Order.{equal-or-not}
