@@ -1,5 +1,5 @@
 // Says whether the journal of a session could have come from a right kernel: `begin`, `feed` with parts of
-// any size, and `finish` at the end.
+// any size, and `finish` at the end; `wanted` gives the right record where one is unlike.
 //
 // A journal is records of one byte of kind and a body whose size the kind fixes. At most one record is
 // held, so a journal of any size needs the room of one `Checker`.
@@ -31,7 +31,7 @@ pub enum Verdict {
 }
 
 // The session so far, and the reply's record that comes next, of size 0 where a call comes next; not right
-// once a record was unlike.
+// once a record was unlike, with what was due there.
 pub struct Standing {
     pub session: Session,
     pub due: [u8; 264],
