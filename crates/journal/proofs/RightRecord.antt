@@ -21,6 +21,7 @@ use Rattle.record.specs.declared.Session.{Session}
 use Rattle.journal.specs.declared.Verdict.{Verdict}
 use Rattle.journal.specs.Record.{sizeOf}
 use Rattle.journal.specs.Verdict.{Expected, expected, atFirst, judgedBy, judged, goesOn, verdictFrom, verdictOf, frontSize, dueThen, dueBehind, wantedBy, wantedOf}
+use Rattle.journal.specs.Written.{OnlyRight, WantedOnly}
 use Rattle.journal.proofs.Walk.{unroll, ends, whole, due-whole}
 use Rattle.journal.proofs.Due.{reply-due}
 use Rattle.journal.proofs.Kept.{nothing, dueOne, Kept, first-kept, judged-kept}
@@ -149,15 +150,6 @@ module _ (s : Session) (d : List ℕ) (h : 0 < length d) (z : length d ≡ front
 
 -- ---- the whole journal
 
--- by these verdicts the bytes s are m - 1 right records and more; with d behind these records there are m right ones, and so with nothing else
-pub record OnlyRight (verdict : List ℕ → Verdict) (m : ℕ) (s d : List ℕ) : Type 0 where
-  pub before : List ℕ
-  pub rest : List ℕ
-  pub splits : s ≡ before ++ rest
-  pub so-far : verdict before ≡ Verdict.Accepted (m - 1)
-  pub right : verdict (before ++ d) ≡ Verdict.Accepted m
-  pub only : (r : List ℕ) → verdict (before ++ r) ≡ Verdict.Accepted m → r ≡ d
-
 abbrev Only : List ℕ → Type 0
 Only s = (e : Expected) (n k : ℕ) → Kept e n → verdictFrom e n s ≡ Verdict.Unlike (n + 1 + k) → 0 < length (dueBehind k e s)
     → OnlyRight (verdictFrom e n) (n + 1 + k) s (dueBehind k e s)
@@ -208,7 +200,7 @@ only-next s k e n (suc i) y q h = elim (way e n s) [
 ]
 
 -- where record n is unlike and the bytes wanted are some, they continue the n - 1 right records before it, and nothing else does
-pub wanted-only : (s : List ℕ) (n : ℕ) → verdictOf s ≡ Verdict.Unlike n → 0 < length (wantedOf s) → OnlyRight verdictOf n s (wantedOf s)
+pub wanted-only : WantedOnly
 unfolding verdictOf wantedOf
 wanted-only s n q h =
     let l = later s atFirst 0 n q in

@@ -1,16 +1,19 @@
--- What `finish` promises of a verdict, from the one equation that each way out of it proves.
+-- What `finish` and `wanted` promise, from the one equation that each way out of them proves.
 -- Assumes nothing.
 use mathlib.Core.Path.{_≡_, sym, _∙_}
 use mathlib.Core.List.{List}
-use Prim.Native.Nat.{ℕ}
+use Prim.Native.Nat.{ℕ, _≤_}
+use lib.ListN.{take}
 use Rattle.journal.specs.declared.Checker.{Checker}
 use Rattle.journal.specs.declared.Verdict.{Verdict}
-use Rattle.journal.specs.Verdict.{verdictOf}
-use Rattle.journal.specs.Inner.{Follows, verdictAt}
-use Rattle.journal.specs.Written.{Bytes, SaysOf, WrittenAccepted, AcceptedFew}
-use Rattle.journal.proofs.Follow.{finished}
+use Rattle.journal.specs.declared.WantedRecord.{WantedRecord}
+use Rattle.journal.specs.Verdict.{verdictOf, wantedOf}
+use Rattle.journal.specs.Inner.{Follows, verdictAt, wantedAt}
+use Rattle.journal.specs.Written.{Bytes, SaysOf, WrittenAccepted, AcceptedFew, WantedOnly}
+use Rattle.journal.proofs.Follow.{finished, wanted-follows}
 use Rattle.journal.proofs.Few.{accepted-few}
 use Rattle.journal.proofs.Written.{written-accepted}
+use Rattle.journal.proofs.RightRecord.{wanted-only}
 use Rattle.journal.proofs.Exact.{exact}
 
 -- of the bytes that were fed it says what `exact` says of the verdict over them
@@ -22,3 +25,7 @@ pub told : (c : Checker) (r : Verdict) → r ≡ verdictAt c
 told c r e =
     let f = finished c r e in
     (f .0, (f .1, (λ s h g. says-so s r (f .1 s h) g, (written-accepted, accepted-few))))
+
+pub wanted-told : (c : Checker) (w : WantedRecord) → w ≡ wantedAt c → w .size ≤ 264
+    → (w ≡ wantedAt c) × ((w .size ≤ 264) × (((s : List ℕ) → Follows c s → take (w .size) (w .bytes) ≡ wantedOf s) × WantedOnly))
+wanted-told c w e l = let f = wanted-follows c w e l in (f .0, (f .1 .0, (f .1 .1, wanted-only)))

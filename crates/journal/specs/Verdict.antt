@@ -113,7 +113,4 @@ wantedOf s = wantedBy s (verdictOf s)
 
 -- ---- what holds of it, proved in proofs/
 --   unroll             verdictFrom e n s ≡ nextRecord verdictFrom e n s
---   wanted-only        where record n is unlike and wantedOf has bytes, these continue the n - 1 records before it, and
---                      nothing else does
---   accepted-few       no accepted journal has more than 262 records
---   written-accepted   the first m records of what calls write that records hold whole are accepted, with the number m
+-- What a verdict says of the calls that a right kernel takes is in Written.antt.

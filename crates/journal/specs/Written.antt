@@ -6,7 +6,7 @@ use mathlib.Core.Path.{_≡_}
 use mathlib.Core.Bool.{Bool, true, not}
 use mathlib.Core.Logic.{_⊎_, _↔_}
 use mathlib.Core.List.{List, [], _∷_, _++_}
-use Prim.Native.Nat.{ℕ, _+_, _≤_, _<_}
+use Prim.Native.Nat.{ℕ, _+_, _-_, _≤_, _<_}
 use lib.ListN.{length, getD, take}
 use Rattle.basics.specs.Choice.{every}
 use Rattle.record.specs.declared.Session.{Session}
@@ -14,7 +14,7 @@ use Rattle.record.specs.Session.{freshSession}
 use Rattle.trace.specs.Calls.{Call, start, answer, link-failed, stop, Made, play, refused}
 use Rattle.journal.specs.declared.Verdict.{Verdict}
 use Rattle.journal.specs.Record.{sizeOf, journalOf, joined}
-use Rattle.journal.specs.Verdict.{verdictOf}
+use Rattle.journal.specs.Verdict.{verdictOf, wantedOf}
 
 -- ---- what is written
 
@@ -127,8 +127,28 @@ WrittenAccepted =
 abbrev pub AcceptedFew : Type 0
 AcceptedFew = (s : List ℕ) (m : ℕ) → verdictOf s ≡ Verdict.Accepted m → m ≤ 262
 
--- ---- what holds of it: the promises `right`, `written` and `few` of finish; proved in proofs/ (Exact; Written)
+-- ---- the right record in the place of an unlike one
+
+-- by these verdicts the bytes s are m - 1 right records and more; with d behind these records there are m right ones,
+-- and so with nothing else
+pub record OnlyRight (verdict : List ℕ → Verdict) (m : ℕ) (s d : List ℕ) : Type 0 where
+  pub before : List ℕ
+  pub rest : List ℕ
+  pub splits : s ≡ before ++ rest
+  pub so-far : verdict before ≡ Verdict.Accepted (m - 1)
+  pub right : verdict (before ++ d) ≡ Verdict.Accepted m
+  pub only : (r : List ℕ) → verdict (before ++ r) ≡ Verdict.Accepted m → r ≡ d
+
+-- where record n is unlike and `wantedOf` gives some bytes, they are the one right record there
+abbrev pub WantedOnly : Type 0
+WantedOnly =
+    (s : List ℕ) (n : ℕ) → verdictOf s ≡ Verdict.Unlike n → 0 < length (wantedOf s)
+    → OnlyRight verdictOf n s (wantedOf s)
+
+-- ---- what holds of it: the promises `right`, `written` and `few` of finish and `only` of wanted; proved in
+-- proofs/ (Exact, Written, RightRecord)
 --   exact              of bytes s: SaysOf s (verdictOf s)
 --   right-bytes        right records of bytes are written by calls of bytes
 --   written-accepted   WrittenAccepted
+--   wanted-only        WantedOnly
 --   written-few        no calls write more than 262 records
