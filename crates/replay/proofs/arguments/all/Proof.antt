@@ -2,8 +2,8 @@
 use borrow.Author.Needs.{needs}
 use native.Mathlib.Omega.{arith}
 use Prim.Native.Nat.{_-_}
-use Rattle.replay.proofs.arguments.read.Statement.{statement}
-use Rattle.replay.proofs.arguments.read.Tie as tie
+use Rattle.replay.proofs.arguments.all.Statement.{statement}
+use Rattle.replay.proofs.arguments.all.Tie as tie
 
 abbrev Inv-loop : tie.InvT-loop
 Inv-loop out₀ n i₀ out i = Unit {0}
@@ -11,8 +11,8 @@ Inv-loop out₀ n i₀ out i = Unit {0}
 abbrev μ-loop : tie.MeasureT-loop
 μ-loop out₀ n i₀ out i = n - i
 
-pub read-spec : {M : Type 1} → statement M
-read-spec =
+pub all-spec : {M : Type 1} → statement M
+all-spec =
     tie.close
     (tie.spec
     Inv-loop
