@@ -2,12 +2,13 @@
 -- behind it.
 -- Assumes nothing.
 use mathlib.Core.Path.{_≡_, refl, sym, ap, subst, _∙_}
-use mathlib.Core.List.{List, [], _∷_, _++_, append-nil}
+use mathlib.Core.Bool.{true}
+use mathlib.Core.List.{List, [], _∷_, _++_}
 use mathlib.Core.Option.{Option, some, none}
 use Prim.Native.Nat.{ℕ, zero, suc, _+_, _-_, _≤_, _<_}
 use native.Mathlib.Omega.{arith}
 use lib.ListN.{length, take, drop, replicate}
-use lib.Seq.{take-append-seam, take-all}
+use lib.Seq.{take-append-seam}
 use Rattle.basics.specs.Alike.{alike}
 use Rattle.basics.specs.Choice.{if}
 use Rattle.record.specs.declared.Session.{Session}
@@ -18,7 +19,7 @@ use Rattle.trace.proofs.EveryCall.{Came}
 use Rattle.journal.specs.declared.Standing.{Standing}
 use Rattle.journal.specs.Record.{twoBytes, zeroPadded, mostCommand, lent, replyRecord}
 use Rattle.journal.specs.Verdict.{Expected, expected, replied, repliedBy, judgedBy}
-use Rattle.journal.specs.Inner.{wholeRecord, Stands}
+use Rattle.journal.specs.Inner.{wholeRecord, standingOf, standingBy}
 
 -- ---- zeros
 
@@ -38,16 +39,16 @@ whole-is (Came.refused n) = refl
 whole-is (Came.ended b o n) = refl
 whole-is (Came.sent b p c l) = ap (λ (v : List ℕ). 5 ∷ (twoBytes (length c) ++ v)) (in-front c mostCommand)
 
--- ---- what stands for what is due
+-- ---- the standing behind a record
 
-pub stands-as : {x : Standing} {a b : Option Expected} → a ≡ b → Stands x a → Stands x b
-stands-as e d = record { is = d .is ∙ e; size = d .size }
+pub stands-as : {x : Standing} (y : Standing) {a b : Option Expected} → a ≡ b → x ≡ standingBy y a → x ≡ standingBy y b
+stands-as y e h = h ∙ ap (standingBy y) e
 
 -- the reply that the code got is the step's
-pub did-due : {s : Session} {st : Step} {q : Reply} {buf : List ℕ} {x : Standing} → Came s lent st → Did q buf st
-    → Stands x (replied (q .session) (wholeRecord (q .answer) buf)) → Stands x (repliedBy st)
-did-due {s} {st} {q} {buf} c d h =
-    stands-as
+pub did-due : {s : Session} {st : Step} {q : Reply} {buf : List ℕ} {x : Standing} (y : Standing) → Came s lent st → Did q buf st
+    → x ≡ standingBy y (replied (q .session) (wholeRecord (q .answer) buf)) → x ≡ standingBy y (repliedBy st)
+did-due {s} {st} {q} {buf} y c d h =
+    stands-as y
     (ap (λ (y : Reply). replied (y .session) (wholeRecord (y .answer) buf)) (d .reply)
     ∙ ap (λ (v : List ℕ). replied (st .reply .session) (wholeRecord (st .reply .answer) v)) (d .buffer)
     ∙ ap (replied (st .reply .session)) (whole-is c)) h
@@ -60,7 +61,14 @@ reply-due s (b ∷ d) r h = refl
 
 -- ---- what the code builds
 
+abbrev standing : Session → List ℕ → ℕ → Standing
+standing s d n = record { session = s; due = d; size = n; right = true }
+
 -- a command's record is filled whole
-pub command-whole : (x y : ℕ) (v b : List ℕ) → v ≡ b → length b ≡ 261 → take 264 (5 ∷ x ∷ y ∷ (v ++ [])) ≡ 5 ∷ x ∷ y ∷ b
-command-whole x y v b e l =
-    ap (λ (w : List ℕ). 5 ∷ x ∷ y ∷ w) (ap (take 261) (append-nil v ∙ e) ∙ take-all 261 b (let g = l in omega arith))
+pub command-whole : (s : Session) (x y : ℕ) (v b : List ℕ) → v ≡ b → length b ≡ 261
+    → record { session = s; due = 5 ∷ x ∷ y ∷ (v ++ []); size = 264; right = true } ≡ standingOf (expected s (5 ∷ x ∷ y ∷ b))
+command-whole s x y v b e l =
+    let z : 0 ≡ 264 - length (5 ∷ x ∷ y ∷ b) = let g = l in omega arith in
+    let n : 264 ≡ length (5 ∷ x ∷ y ∷ b) = let g = l in omega arith in
+    ap (λ (w : List ℕ). standing s (5 ∷ x ∷ y ∷ (w ++ [])) 264) e
+    ∙ ap (λ (m : ℕ). standing s (5 ∷ x ∷ y ∷ (b ++ replicate m 0)) 264) z ∙ ap (standing s (standingOf (expected s (5 ∷ x ∷ y ∷ b)) .due)) n

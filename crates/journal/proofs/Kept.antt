@@ -1,12 +1,14 @@
 -- Two records for each call taken: a call on a session that has ended is refused, and every other call that is taken hands out a command
--- or ends the session. So a journal that is right so far has at most 262 records.
+-- or ends the session. So a journal that is right so far has at most 262 records. What is due has at most 264 bytes.
 -- Assumes nothing.
 use mathlib.Core.Path.{_≡_, refl, sym, ap, subst, _∙_}
 use mathlib.Core.Bool.{Bool, true, false}
-use mathlib.Core.List.{List, [], _∷_}
+use mathlib.Core.List.{List, [], _∷_, _++_}
 use mathlib.Core.Option.{Option, some, none}
-use Prim.Native.Nat.{ℕ, _+_, _*_, _≤_}
+use Prim.Native.Nat.{ℕ, _+_, _-_, _*_, _≤_}
 use native.Mathlib.Omega.{arith}
+use lib.Dec.{eqb}
+use lib.ListN.{length, getD, take, replicate, length-append, length-take, length-replicate}
 use Rattle.basics.specs.Alike.{alike}
 use Rattle.basics.specs.Reason.{reasonLink, reasonStopped}
 use Rattle.basics.proofs.Laws.{if-ind}
@@ -14,7 +16,7 @@ use Rattle.record.specs.declared.End.{End}
 use Rattle.record.specs.declared.Phase.{Phase}
 use Rattle.record.specs.declared.Session.{Session}
 use Rattle.record.specs.Ranges.{inRanges}
-use Rattle.record.proofs.Phases.{count-most}
+use Rattle.record.proofs.Phases.{fresh-keeps, count-most}
 use Rattle.session.specs.Steps.{Step, admitted, endsIn}
 use Rattle.session.specs.Start as starts
 use Rattle.session.specs.Answer as answers
@@ -23,9 +25,22 @@ use Rattle.trace.specs.Claim.{isEnded, oneIf}
 use Rattle.trace.proofs.Ranges.{start-keeps, answer-keeps, link-keeps, stop-keeps}
 use Rattle.trace.proofs.Rules.{no}
 use Rattle.trace.proofs.EveryCall.{Came, start-came, answer-came, link-came, stop-came}
-use Rattle.journal.specs.Record.{callFrom}
-use Rattle.journal.specs.Verdict.{Expected, expected, repliedBy, called, judgedBy, judged}
-use Rattle.journal.specs.Inner.{Kept}
+use Rattle.journal.specs.Record.{twoBytes, zeroPadded, mostCommand, lent, mostStart, mostAnswer, fits, isLong, callFrom}
+use Rattle.journal.specs.Verdict.{Expected, expected, atFirst, repliedBy, called, judgedBy, judged}
+
+-- ---- what is kept from record to record
+
+-- 1 where a reply is due
+abbrev pub dueOne : List ℕ → ℕ
+dueOne [] = 0
+dueOne (b ∷ d) = 1
+
+-- two records for each call taken, one where its reply is due; the calls taken are the commands handed out and one
+-- more once the session has ended
+pub record Kept (e : Expected) (n : ℕ) : Type 0 where
+  pub ranges : inRanges (e .session) ≡ true
+  pub few : n + dueOne (e .due) ≤ 2 * (e .session .count + oneIf (isEnded (e .session .phase)))
+  pub fits : length (e .due) ≤ 264
 
 -- ---- every call
 
@@ -87,36 +102,60 @@ not-ended s c (Phase.Record k) q r = refl
 not-ended s c (Phase.Cryptogram a) q r = refl
 not-ended s c (Phase.Ended x) q r = no (sym r ∙ ended-refuses s c x q)
 
--- ---- one record more
+-- ---- a record's call is made with the lent buffer
 
-same-some : {a b : Expected} → some a ≡ some b → a ≡ b
+same-some : {A : Type 0} {a b : A} → some a ≡ some b → a ≡ b
 same-some e = cc
 
-nothing : {P : Type 0} {t : Expected} → none ≡ some t → P
+pub nothing : {A P : Type 0} {t : A} → none ≡ some t → P
 nothing e = let z : _≡_ {A = ℕ} 0 1 = cc in absurd (omega arith)
 
-came-kept : {s : Session} {buf : List ℕ} {st : Step} (n : ℕ) (t : Expected) → Came s buf st → inRanges (st .reply .session) ≡ true
+lent-call : (r : List ℕ) (c : Call) → callFrom r ≡ some c → bufferOf c ≡ lent
+unfolding callFrom
+lent-call r c =
+    if-ind Lent (eqb (getD r 0 0) 1) _ _ (λ w. if-ind Lent (fits mostStart r) _ _ (λ v. made _ refl) (λ v e. nothing e))
+    (λ w. if-ind Lent (eqb (getD r 0 0) 2) _ _
+    (λ w. if-ind Lent (isLong r) _ _ (λ v. made _ refl) (λ v. if-ind Lent (fits mostAnswer r) _ _ (λ u. made _ refl) (λ u e. nothing e)))
+    (λ w. if-ind Lent (eqb (getD r 0 0) 3) _ _ (λ v. made _ refl) (λ v. if-ind Lent (eqb (getD r 0 0) 4) _ _ (λ u. made _ refl) (λ u e. nothing e))))
+  where
+    Lent : Option Call → Type 0
+    Lent o = o ≡ some c → bufferOf c ≡ lent
+
+    made : (d : Call) → bufferOf d ≡ lent → Lent (some d)
+    made d b e = ap bufferOf (sym (same-some e)) ∙ b
+
+-- ---- one record more
+
+command-fits : (k : ℕ) (v : List ℕ) → k ≤ 261 → length (5 ∷ (twoBytes k ++ zeroPadded mostCommand (take k v))) ≤ 264
+command-fits k v h =
+    omega (arith, length-append (take k v) (replicate (261 - length (take k v)) 0), length-replicate {A = ℕ} (261 - length (take k v)) 0, length-take k v)
+
+came-kept : {s : Session} {buf : List ℕ} {st : Step} (n : ℕ) (t : Expected) → Came s buf st → length buf ≤ 261 → inRanges (st .reply .session) ≡ true
     → (isRefusal (st .reply .answer) ≡ false → isEnded (s .phase) ≡ false)
     → n + 0 ≤ 2 * (s .count + oneIf (isEnded (s .phase))) → repliedBy st ≡ some t → Kept t (n + 1)
-came-kept n t (Came.refused k) i f h e = nothing e
-came-kept n t (Came.ended b o k) i f h e =
+came-kept n t (Came.refused k) m i f h e = nothing e
+came-kept n t (Came.ended b o k) m i f h e =
     let g = ap oneIf (f refl) in
-    subst (λ (x : Expected). Kept x (n + 1)) (same-some e) (record { ranges = i; few = omega arith })
-came-kept n t (Came.sent b p c l) i f h e =
+    subst (λ (x : Expected). Kept x (n + 1)) (same-some e) (record { ranges = i; few = omega arith; fits = omega arith })
+came-kept n t (Came.sent b p c l) m i f h e =
     let g = ap oneIf (f refl) in
-    subst (λ (x : Expected). Kept x (n + 1)) (same-some e) (record { ranges = i; few = omega arith })
+    subst (λ (x : Expected). Kept x (n + 1)) (same-some e) (record { ranges = i; few = omega arith; fits = command-fits (length c) _ (omega arith) })
 
-called-kept : (s : Session) (o : Option Call) (n : ℕ) (t : Expected) → Kept (expected s []) n → called s o ≡ some t → Kept t (n + 1)
-called-kept s none n t k e = nothing e
-called-kept s (some c) n t k e =
-    came-kept n t (call-came s c) (call-keeps s c (k .ranges)) (not-ended s c (s .phase) refl) (k .few) e
+called-kept : (s : Session) (o : Option Call) (n : ℕ) (t : Expected) → ((c : Call) → o ≡ some c → bufferOf c ≡ lent) → Kept (expected s []) n
+    → called s o ≡ some t → Kept t (n + 1)
+called-kept s none n t b k e = nothing e
+called-kept s (some c) n t b k e =
+    came-kept n t (call-came s c) (let l = ap length (b c refl) in omega arith) (call-keeps s c (k .ranges)) (not-ended s c (s .phase) refl) (k .few) e
 
 pub judged-kept : (s : Session) (d r : List ℕ) (n : ℕ) (t : Expected) → Kept (expected s d) n → judgedBy s d r ≡ some t → Kept t (n + 1)
-judged-kept s [] r n t k e = called-kept s (callFrom r) n t k e
+judged-kept s [] r n t k e = called-kept s (callFrom r) n t (lent-call r) k e
 judged-kept s (b ∷ d) r n t k e =
     if-ind (λ (o : Option Expected). o ≡ some t → Kept t (n + 1)) (alike r (b ∷ d)) (some (expected s [])) none
-    (λ w e. subst (λ (x : Expected). Kept x (n + 1)) (same-some e) (record { ranges = k .ranges; few = let f = k .few in omega arith }))
+    (λ w e. subst (λ (x : Expected). Kept x (n + 1)) (same-some e) (record { ranges = k .ranges; few = let f = k .few in omega arith; fits = omega arith }))
     (λ w e. nothing e) e
+
+pub first-kept : Kept atFirst 0
+first-kept = record { ranges = fresh-keeps; few = omega arith; fits = omega arith }
 
 -- ---- never over 262 records
 

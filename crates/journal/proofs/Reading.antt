@@ -23,7 +23,7 @@ use Rattle.journal.specs.declared.Standing.{Standing}
 use Rattle.journal.specs.Record.{sizeOf, lent, recordLength, bodyIn, broughtIn, fits, isLong, longAnswer, mostStart, mostAnswer}
 use Rattle.journal.specs.Record.{startFrom, answerFrom, linkFrom, stopFrom, callFrom}
 use Rattle.journal.specs.Verdict.{Expected, replied, repliedBy, called}
-use Rattle.journal.specs.Inner.{wholeRecord, Stands}
+use Rattle.journal.specs.Inner.{wholeRecord, standingBy}
 use Rattle.journal.proofs.Due.{stands-as, did-due}
 
 -- ---- the length and the bytes behind
@@ -52,34 +52,34 @@ long-tail r e = ap (every isZero) (tail-is r 3) ∙ sym (both-true _ (eq-eqb (re
 
 -- ---- what is due behind the call
 
-abbrev Due : Standing → Reply → List ℕ → Type 0
-Due x q buf = Stands x (replied (q .session) (wholeRecord (q .answer) buf))
+abbrev Due : Standing → Standing → Reply → List ℕ → Type 0
+Due x y q buf = x ≡ standingBy y (replied (q .session) (wholeRecord (q .answer) buf))
 
 brought-is : (r : List ℕ) (k : ℕ) → k ≡ recordLength r → take (3 + k - 3) (drop 3 r) ≡ broughtIn r
 brought-is r k e = let g : 3 + k - 3 ≡ recordLength r = let h = e in omega arith in ap (λ (m : ℕ). take m (drop 3 r)) g
 
-module _ (s : Session) (r : List ℕ) (x : Standing) where
-  pub start-none : fits mostStart r ≡ false → Stands x none → Stands x (called s (startFrom r))
-  start-none f h = stands-as (ap (called s) (sym (if-no _ _ f))) h
+module _ (s : Session) (r : List ℕ) (x y : Standing) where
+  pub start-none : fits mostStart r ≡ false → x ≡ standingBy y none → x ≡ standingBy y (called s (startFrom r))
+  start-none f h = stands-as y (ap (called s) (sym (if-no _ _ f))) h
 
   pub start-due : (k : ℕ) (q : Reply) (buf : List ℕ) → fits mostStart r ≡ true → k ≡ recordLength r
-      → Did q buf (startStep s (take (3 + k - 3) (drop 3 r)) lent) → Due x q buf → Stands x (called s (startFrom r))
+      → Did q buf (startStep s (take (3 + k - 3) (drop 3 r)) lent) → Due x y q buf → x ≡ standingBy y (called s (startFrom r))
   start-due k q buf f e d h =
-      stands-as (ap (λ (v : List ℕ). repliedBy (startStep s v lent)) (brought-is r k e) ∙ ap (called s) (sym (if-yes _ _ f)))
-      (did-due (start-came s (take (3 + k - 3) (drop 3 r)) lent) d h)
+      stands-as y (ap (λ (v : List ℕ). repliedBy (startStep s v lent)) (brought-is r k e) ∙ ap (called s) (sym (if-yes _ _ f)))
+      (did-due y (start-came s (take (3 + k - 3) (drop 3 r)) lent) d h)
 
-  pub long-due : (q : Reply) (buf : List ℕ) → isLong r ≡ true → Did q buf (answerStep s longAnswer lent) → Due x q buf
-      → Stands x (called s (answerFrom r))
-  long-due q buf f d h = stands-as (ap (called s) (sym (if-yes _ _ f))) (did-due (answer-came s longAnswer lent) d h)
+  pub long-due : (q : Reply) (buf : List ℕ) → isLong r ≡ true → Did q buf (answerStep s longAnswer lent) → Due x y q buf
+      → x ≡ standingBy y (called s (answerFrom r))
+  long-due q buf f d h = stands-as y (ap (called s) (sym (if-yes _ _ f))) (did-due y (answer-came s longAnswer lent) d h)
 
-  pub answer-none : isLong r ≡ false → fits mostAnswer r ≡ false → Stands x none → Stands x (called s (answerFrom r))
-  answer-none g f h = stands-as (ap (called s) (sym (if-no _ _ g ∙ if-no _ _ f))) h
+  pub answer-none : isLong r ≡ false → fits mostAnswer r ≡ false → x ≡ standingBy y none → x ≡ standingBy y (called s (answerFrom r))
+  answer-none g f h = stands-as y (ap (called s) (sym (if-no _ _ g ∙ if-no _ _ f))) h
 
   pub answer-due : (k : ℕ) (q : Reply) (buf : List ℕ) → isLong r ≡ false → fits mostAnswer r ≡ true → k ≡ recordLength r
-      → Did q buf (answerStep s (take (3 + k - 3) (drop 3 r)) lent) → Due x q buf → Stands x (called s (answerFrom r))
+      → Did q buf (answerStep s (take (3 + k - 3) (drop 3 r)) lent) → Due x y q buf → x ≡ standingBy y (called s (answerFrom r))
   answer-due k q buf g f e d h =
-      stands-as (ap (λ (v : List ℕ). repliedBy (answerStep s v lent)) (brought-is r k e) ∙ ap (called s) (sym (if-no _ _ g ∙ if-yes _ _ f)))
-      (did-due (answer-came s (take (3 + k - 3) (drop 3 r)) lent) d h)
+      stands-as y (ap (λ (v : List ℕ). repliedBy (answerStep s v lent)) (brought-is r k e) ∙ ap (called s) (sym (if-no _ _ g ∙ if-yes _ _ f)))
+      (did-due y (answer-came s (take (3 + k - 3) (drop 3 r)) lent) d h)
 
 -- ---- by the kind
 

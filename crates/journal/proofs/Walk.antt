@@ -15,10 +15,11 @@ use Rattle.basics.specs.Choice.{if}
 use Rattle.basics.specs.Alike.{alike}
 use Rattle.basics.proofs.Laws.{if-yes, if-no}
 use Rattle.basics.proofs.Order.{equal-or-not}
+use Rattle.basics.proofs.Recursion.{AsksShorter, recurse-unroll}
 use Rattle.record.specs.declared.Session.{Session}
 use Rattle.journal.specs.declared.Verdict.{Verdict}
 use Rattle.journal.specs.Record.{sizeOf, callFrom}
-use Rattle.journal.specs.Verdict.{Expected, judgedBy, judged, goesOn, nextRecord, verdictBy, verdictFrom}
+use Rattle.journal.specs.Verdict.{Expected, judgedBy, judged, goesOn, nextRecord, nextBytes, verdictFrom, frontSize, dueThen, dueBehind}
 
 -- ---- the bound of the recursion does not matter
 
@@ -40,16 +41,12 @@ next-same k k′ e n (b ∷ s) same = elim (equal-or-not (sizeOf b) 0) [
       (goes-same _ _ (n + 1) (judged e (take (sizeOf b) (b ∷ s))) (λ t. same t (n + 1) (drop (sizeOf b) (b ∷ s)) l))
 ]
 
-enough : (k m : ℕ) (e : Expected) (n : ℕ) (s : List ℕ) → length s < k → length s < m → verdictBy k e n s ≡ verdictBy m e n s
-unfolding verdictBy
-enough zero m e n s p q = absurd (omega arith)
-enough (suc k) zero e n s p q = absurd (omega arith)
-enough (suc k) (suc m) e n s p q =
-    next-same (verdictBy k) (verdictBy m) e n s (λ t j v h. enough k m t j v (omega arith) (omega arith))
+asks : AsksShorter nextBytes
+asks k k′ s same = λ i e n. next-same (λ t m v. k v t m) (λ t m v. k′ v t m) e n s (λ t m v h. ap (λ (f : Expected → ℕ → Verdict). f t m) (same v h)) i
 
 pub unroll : (e : Expected) (n : ℕ) (s : List ℕ) → verdictFrom e n s ≡ nextRecord verdictFrom e n s
-unfolding verdictFrom verdictBy
-unroll e n s = next-same (verdictBy (length s)) verdictFrom e n s (λ t j v h. enough (length s) (suc (length v)) t j v h (omega arith))
+unfolding verdictFrom
+unroll e n s = ap (λ (f : Expected → ℕ → Verdict). f e n) (recurse-unroll (λ e n. Verdict.Accepted n) nextBytes asks s)
 
 -- ---- what stands at the front
 
@@ -73,6 +70,15 @@ whole e n (b ∷ s) more h z =
     ∙ if-no _ _ (le-ltb (length (b ∷ (s ++ more))) (sizeOf b) (omega (arith, length-append s more)))
     ∙ goes-same _ _ (n + 1) (judged e (take (sizeOf b) (b ∷ (s ++ more)))) (λ t. ap (verdictFrom t (n + 1)) (drop-at (b ∷ s) more (sizeOf b) z))
     ∙ ap (λ (r : List ℕ). goesOn (λ t. verdictFrom t (n + 1) more) (n + 1) (judged e r)) (take-at (b ∷ s) more (sizeOf b) z)
+
+-- what is due behind a whole record at the front, and so behind those that follow it
+pub due-whole : (m : ℕ) (e : Expected) (l more : List ℕ) → 0 < length l → length l ≡ frontSize l
+    → dueBehind (suc m) e (l ++ more) ≡ dueThen (λ t. dueBehind m t more) (judged e l)
+unfolding dueBehind
+due-whole m e [] more h z = absurd (omega arith)
+due-whole m e (b ∷ s) more h z =
+    ap (λ (r : List ℕ). dueThen (λ t. dueBehind m t (drop (sizeOf b) (b ∷ (s ++ more)))) (judged e r)) (take-at (b ∷ s) more (sizeOf b) z)
+    ∙ ap (λ (r : List ℕ). dueThen (λ t. dueBehind m t r) (judged e (b ∷ s))) (drop-at (b ∷ s) more (sizeOf b) z)
 
 -- ---- no bytes are no record
 

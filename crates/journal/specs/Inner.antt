@@ -1,23 +1,22 @@
--- What the checker's state stands for. It follows the code, and a reader of the rules can pass it over: a checker follows
--- the bytes that were fed to it (`Follows`, promised by `begin` and `feed`); then `finish` gives `verdictOf` of them.
+-- The checker itself, for every checker: the first one, the one behind each byte more, and what is said where the
+-- journal ends. It follows the code, and a reader of the rules can pass it over: a checker that was fed the bytes s, in
+-- whatever parts (`Follows`), says `verdictOf` and `wantedOf` of them.
 -- Assumes nothing.
 use mathlib.Core.Path.{_≡_}
 use mathlib.Core.Bool.{Bool, true, false}
-use mathlib.Core.Logic.{_⊎_}
 use mathlib.Core.List.{List, [], _∷_, _++_}
 use mathlib.Core.Option.{Option, some, none}
-use Prim.Native.Nat.{ℕ, _+_, _*_, _≤_, _<_}
-use lib.ListN.{length, getD, take}
-use Rattle.basics.specs.Choice.{if_then_else_, _<?_}
+use Prim.Native.Nat.{ℕ, _+_}
+use lib.ListN.{length, take, set, replicate}
+use Rattle.basics.specs.Choice.{if_then_else_, _and_, _or_, _≤?_, _<?_, _=?_}
 use Rattle.record.specs.declared.Answer.{Answer}
 use Rattle.record.specs.Numbers.{outcomeNumber}
-use Rattle.record.specs.Ranges.{inRanges}
-use Rattle.trace.specs.Claim.{isEnded, oneIf}
 use Rattle.journal.specs.declared.Verdict.{Verdict}
 use Rattle.journal.specs.declared.Standing.{Standing}
 use Rattle.journal.specs.declared.Checker.{Checker}
-use Rattle.journal.specs.Record.{sizeOf, twoBytes}
-use Rattle.journal.specs.Verdict.{Expected, expected, judged, goesOn, verdictFrom, verdictOf}
+use Rattle.journal.specs.declared.WantedRecord.{WantedRecord}
+use Rattle.journal.specs.Record.{twoBytes, zeroPadded}
+use Rattle.journal.specs.Verdict.{Expected, expected, atFirst, judged, frontSize}
 
 -- ---- what is due
 
@@ -27,87 +26,81 @@ wholeRecord (Answer.Command x) buf = 5 ∷ (twoBytes (x .size) ++ buf)
 wholeRecord (Answer.Outcome e) buf = 6 ∷ outcomeNumber (e .outcome) ∷ e .reason ∷ []
 wholeRecord (Answer.Refused r) buf = []
 
--- what is due, or none once a record was unlike
-abbrev pub meantIf : Bool → Expected → Option Expected
-meantIf true e = some e
-meantIf false e = none
+-- what is due in a standing; once a record was unlike, what was due there
+abbrev pub dueIn : Standing → Expected
+dueIn s = expected (s .session) (take (s .size) (s .due))
 
-abbrev pub meant : Standing → Option Expected
-meant s = meantIf (s .right) (expected (s .session) (take (s .size) (s .due)))
+-- the standing in which this is due
+abbrev pub standingOf : Expected → Standing
+standingOf e = record { session = e .session; due = zeroPadded 264 (e .due); size = length (e .due); right = true }
 
--- a standing stands for what is due
-pub record Stands (s : Standing) (o : Option Expected) : Type 0 where
-  pub is : meant s ≡ o
-  pub size : s .size ≤ 264
+-- behind a record that was judged; behind an unlike one all stays but that it is no longer right
+abbrev pub standingBy : Standing → Option Expected → Standing
+standingBy s none = record { session = s .session; due = s .due; size = s .size; right = false }
+standingBy s (some e) = standingOf e
 
--- ---- the state behind some bytes
+-- ---- the checker behind some bytes
 
--- what is due, how many records were seen, and the part of a record that is held
-pub record State : Type 0 where
-  pub due : Option Expected
-  pub number : ℕ
-  pub part : List ℕ
+-- nothing was fed
+unfoldable pub firstChecker : Checker
+firstChecker = record { standing = standingOf atFirst; held = replicate 1027 0; length = 0; records = 0 }
 
-abbrev pub state : Option Expected → ℕ → List ℕ → State
-state o n p = record { due = o; number = n; part = p }
+-- no record was unlike, and every number is within its bound; else a checker stays as it is
+abbrev pub goesFurther : Checker → Bool
+goesFurther c = c .standing .right and c .length <? 1027 and c .standing .size ≤? 264 and c .records <? 1000
 
-abbrev pub stateOf : Checker → State
-stateOf c = state (meant (c .standing)) (c .records) (take (c .length) (c .held))
+-- the bytes h are held, one more than before
+abbrev pub holding : Checker → List ℕ → Checker
+holding c h = record { standing = c .standing; held = h; length = c .length + 1; records = c .records }
+
+-- the record in front of the bytes h is judged
+abbrev pub judging : Checker → List ℕ → Checker
+judging c h =
+    record {
+      standing = standingBy (c .standing) (judged (dueIn (c .standing)) (take (frontSize h) h));
+      held = h;
+      length = 0;
+      records = c .records + 1;
+    }
 
 -- a record is judged once it is whole; an unknown kind at once, as a record of no bytes
-unfoldable pub wholeOr : Expected → ℕ → List ℕ → State
-wholeOr e n l =
-    if length l <? sizeOf (getD l 0 0) then state (some e) n l
-    else state (judged e (take (sizeOf (getD l 0 0)) l)) (n + 1) []
+unfoldable pub wholeOr : Checker → List ℕ → Checker
+wholeOr c h =
+    if c .length + 1 <? frontSize h then holding c h
+    else judging c h
 
--- one byte more; behind an unlike record nothing is looked at
-abbrev pub pushedBy : Option Expected → ℕ → List ℕ → ℕ → State
-pushedBy none n p b = state none n p
-pushedBy (some e) n p b = wholeOr e n (p ++ (b ∷ []))
+-- one byte more
+unfoldable pub pushed : Checker → ℕ → Checker
+pushed c b =
+    if goesFurther c then wholeOr c (set (c .held) (c .length) b)
+    else c
 
-abbrev pub pushed : State → ℕ → State
-pushed st b = pushedBy (st .due) (st .number) (st .part) b
-
--- the bounds that the code tests
-pub record Fine (c : Checker) : Type 0 where
-  pub length : c .length < 1027
-  pub size : c .standing .size ≤ 264
-  pub records : c .records < 1000
-
--- the checker r is the checker c behind one byte more
-pub record Pushes (r c : Checker) (b : ℕ) : Type 0 where
-  pub next : Fine c → stateOf r ≡ pushed (stateOf c) b
-  pub length : Fine c → r .length < 1027
-  pub size : Fine c → r .standing .size ≤ 264
-
--- ---- a state behind the bytes s
-
--- 1 where a reply is due
-abbrev pub dueOne : List ℕ → ℕ
-dueOne [] = 0
-dueOne (b ∷ d) = 1
-
--- two records for each call taken, one where its reply is due; the calls taken are the commands handed out and one
--- more once the session has ended
-pub record Kept (e : Expected) (n : ℕ) : Type 0 where
-  pub ranges : inRanges (e .session) ≡ true
-  pub few : n + dueOne (e .due) ≤ 2 * (e .session .count + oneIf (isEnded (e .session .phase)))
-
--- what is said once the bytes `more` come and the journal ends
-abbrev pub says : Option Expected → ℕ → List ℕ → List ℕ → Verdict
-says o n p more = goesOn (λ e. verdictFrom e n (p ++ more)) n o
-
-pub record Keeps (o : Option Expected) (n : ℕ) (p : List ℕ) (s : List ℕ) : Type 0 where
-  pub said : (more : List ℕ) → says o n p more ≡ verdictOf (s ++ more)
-  pub part : (p ≡ []) ⊎ (length p < sizeOf (getD p 0 0))
-  pub kept : (e : Expected) → o ≡ some e → Kept e n
-  pub few : n ≤ 263
-
-abbrev pub KeepsAt : State → List ℕ → Type 0
-KeepsAt st s = Keeps (st .due) (st .number) (st .part) s
+-- bytes one by one
+unfoldable pub pushedAll : Checker → List ℕ → Checker
+pushedAll c [] = c
+pushedAll c (b ∷ v) = pushedAll (pushed c b) v
 
 -- the checker has been fed the bytes s, in whatever parts
-pub record Follows (c : Checker) (s : List ℕ) : Type 0 where
-  pub length : c .length < 1027
-  pub size : c .standing .size ≤ 264
-  pub keeps : KeepsAt (stateOf c) s
+abbrev pub Follows : Checker → List ℕ → Type 0
+Follows c s = c ≡ pushedAll firstChecker s
+
+-- ---- where the journal ends
+
+-- the number of the record that is held
+abbrev pub heldNumber : ℕ → ℕ
+heldNumber n =
+    if n <? 1000 then n + 1
+    else n
+
+unfoldable pub verdictAt : Checker → Verdict
+verdictAt c =
+    if c .standing .right then
+      if c .length =? 0 then Verdict.Accepted (c .records)
+      else Verdict.Cut (heldNumber (c .records))
+    else Verdict.Unlike (c .records)
+
+-- what was due where a record was unlike, of size 0 where none was
+unfoldable pub wantedAt : Checker → WantedRecord
+wantedAt c =
+    if c .standing .right or 264 <? c .standing .size then record { bytes = replicate 264 0; size = 0 }
+    else record { bytes = c .standing .due; size = c .standing .size }

@@ -4,10 +4,11 @@
 use mathlib.Core.Bool.{Bool}
 use mathlib.Core.List.{List, [], _∷_}
 use mathlib.Core.Option.{Option, some, none}
-use Prim.Native.Nat.{ℕ, zero, suc, _+_}
-use lib.ListN.{length, take, drop}
+use Prim.Native.Nat.{ℕ, zero, suc, _+_, _-_}
+use lib.ListN.{length, getD, take, drop}
 use Rattle.basics.specs.Choice.{if_then_else_, _<?_, _=?_}
 use Rattle.basics.specs.Alike.{alike}
+use Rattle.basics.specs.Recursion.{recurse}
 use Rattle.record.specs.declared.Session.{Session}
 use Rattle.record.specs.Session.{freshSession}
 use Rattle.session.specs.Steps.{Step}
@@ -72,18 +73,44 @@ nextRecord k e n (b ∷ s) =
     else if length (b ∷ s) <? sizeOf b then Verdict.Cut (n + 1)
     else goesOn (λ t. k t (n + 1) (drop (sizeOf b) (b ∷ s))) (n + 1) (judged e (take (sizeOf b) (b ∷ s)))
 
--- record after record, at most so many
-unfoldable pub verdictBy : ℕ → Expected → ℕ → List ℕ → Verdict
-verdictBy zero e n s = Verdict.Accepted n
-verdictBy (suc k) e n s = nextRecord (verdictBy k) e n s
+-- the same with the bytes first
+abbrev pub nextBytes : (List ℕ → Expected → ℕ → Verdict) → List ℕ → Expected → ℕ → Verdict
+nextBytes k s e n = nextRecord (λ t m v. k v t m) e n s
 
--- each record has a byte at least, so one more than there are bytes is enough
+-- record after record
 unfoldable pub verdictFrom : Expected → ℕ → List ℕ → Verdict
-verdictFrom e n s = verdictBy (suc (length s)) e n s
+verdictFrom e n s = recurse (λ e n. Verdict.Accepted n) nextBytes s e n
 
 -- the verdict over a whole journal
 unfoldable pub verdictOf : List ℕ → Verdict
 verdictOf s = verdictFrom atFirst 0 s
+
+-- ---- the right record in the place of an unlike one
+
+-- the size of the record that these bytes begin with
+abbrev pub frontSize : List ℕ → ℕ
+frontSize s = sizeOf (getD s 0 0)
+
+-- what k says of what is due behind a record; nothing is due behind an unlike one
+abbrev pub dueThen : (Expected → List ℕ) → Option Expected → List ℕ
+dueThen k none = []
+dueThen k (some e) = k e
+
+-- the reply's record that is due behind the first m records, where e is due at their front; no bytes where a call is due
+unfoldable pub dueBehind : ℕ → Expected → List ℕ → List ℕ
+dueBehind zero e s = e .due
+dueBehind (suc m) e s = dueThen (λ t. dueBehind m t (drop (frontSize s) s)) (judged e (take (frontSize s) s))
+
+-- where record n is unlike and a reply was due, that reply's record; else no bytes: where a call was due, a right kernel
+-- may have no record there or more than one
+abbrev pub wantedBy : List ℕ → Verdict → List ℕ
+wantedBy s (Verdict.Accepted n) = []
+wantedBy s (Verdict.Unlike n) = dueBehind (n - 1) atFirst s
+wantedBy s (Verdict.Cut n) = []
+
+-- the one right record in the place of the first unlike one of a whole journal
+unfoldable pub wantedOf : List ℕ → List ℕ
+wantedOf s = wantedBy s (verdictOf s)
 
 -- ---- what holds of it, proved in proofs/
 --   unroll             verdictFrom e n s ≡ nextRecord verdictFrom e n s: the bound does not matter

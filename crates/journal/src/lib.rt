@@ -17,8 +17,9 @@ ghost use Rattle.store.specs.Held.{isZero};
 ghost use Rattle.record.specs.Numbers.{outcomeNumber};
 ghost use Rattle.journal.specs.Record.{sizeOf, twoBytes, recordLength, fits as fitsIn, isLong, startFrom, answerFrom, callFrom};
 ghost use Rattle.journal.specs.Record.{linkFrom, stopFrom};
-ghost use Rattle.journal.specs.Verdict.{expected, replied as repliedOf, called as calledOf, judged, verdictOf};
-ghost use Rattle.journal.specs.Inner.{Stands, wholeRecord, Pushes, Follows};
+ghost use Rattle.journal.specs.Verdict.{expected, replied as repliedOf, called as calledOf, judged, verdictOf, wantedOf};
+ghost use Rattle.journal.specs.Inner.{wholeRecord, dueIn, standingOf, standingBy};
+ghost use Rattle.journal.specs.Inner.{firstChecker, pushed, pushedAll, verdictAt, wantedAt, Follows};
 
 // What a journal is: accepted, with the number of its records; or the number of the first record that is
 // unlike what the rules give, or of the one that is cut. Records count from 1.
@@ -44,6 +45,13 @@ pub struct Checker {
     pub held: [u8; 1027],
     pub length: usize,
     pub records: usize,
+}
+
+// The one right record in the place of an unlike one, in the front of `bytes`; of size 0 where no record is
+// unlike, and where a call was due, as then none or more than one would be right.
+pub struct WantedRecord {
+    pub bytes: [u8; 264],
+    pub size: usize,
 }
 
 // The size of a record by its kind, 0 where there is no such kind.
@@ -73,7 +81,8 @@ pub fn size_of(kind: u8) -> usize
 
 // A checker that nothing was fed to.
 pub fn begin() -> Checker
-    ensures { λ r. ⌜ Follows r [] ⌝ }
+    ensures checker { λ r. ⌜ r ≡ firstChecker ⌝ }
+    ensures follows { λ r. ⌜ Follows r [] ⌝ }
 {
     let session = record::fresh();
     let standing = waiting(session);
@@ -87,7 +96,8 @@ pub fn begin() -> Checker
 
 // The checker behind one part more.
 pub fn feed(checker: Checker, part: &[u8]) -> Checker
-    ensures { λ r. ⌜ ((s : List ℕ) → Follows checker s → Follows r (s ++ now (part .entry))) ⌝ }
+    ensures checker { λ r. ⌜ r ≡ pushedAll checker (now (part .entry)) ⌝ }
+    ensures follows { λ r. ⌜ ((s : List ℕ) → Follows checker s → Follows r (s ++ now (part .entry))) ⌝ }
 {
     let mut next = checker;
     let mut i = 0;
@@ -100,7 +110,8 @@ pub fn feed(checker: Checker, part: &[u8]) -> Checker
 
 // The verdict where the journal ends here.
 pub fn finish(checker: Checker) -> Verdict
-    ensures { λ r. ⌜ ((s : List ℕ) → Follows checker s → r ≡ verdictOf s) ⌝ }
+    ensures verdict { λ r. ⌜ r ≡ verdictAt checker ⌝ }
+    ensures follows { λ r. ⌜ ((s : List ℕ) → Follows checker s → r ≡ verdictOf s) ⌝ }
 {
     let standing = checker.standing;
     if !standing.right {
@@ -115,9 +126,27 @@ pub fn finish(checker: Checker) -> Verdict
     Verdict::Cut(checker.records + 1)
 }
 
+// The right record where one is unlike and a reply was due.
+pub fn wanted(checker: Checker) -> WantedRecord
+    ensures wanted { λ r. ⌜ r ≡ wantedAt checker ⌝ }
+    ensures size { λ r. ⌜ r .size ≤ 264 ⌝ }
+    ensures follows { λ r. ⌜ ((s : List ℕ) → Follows checker s → take (r .size) (r .bytes) ≡ wantedOf s) ⌝ }
+{
+    let standing = checker.standing;
+    let size = standing.size;
+    if standing.right || 264 < size {
+        return WantedRecord {
+            bytes: [0u8; 264],
+            size: 0,
+        };
+    }
+    let bytes = standing.due;
+    WantedRecord { bytes, size }
+}
+
 // The checker behind one byte more.
 fn push(checker: Checker, byte: u8) -> Checker
-    ensures { λ r. ⌜ Pushes r checker byte ⌝ }
+    ensures { λ r. ⌜ r ≡ pushed checker byte ⌝ }
 {
     let standing = checker.standing;
     let length = checker.length;
@@ -156,23 +185,23 @@ fn push(checker: Checker, byte: u8) -> Checker
 // A whole record, or an empty one in the place of an unknown kind, is judged by what is due.
 fn judge(standing: Standing, whole: &[u8]) -> Standing
     requires { ⌜ (length (now whole) ≡ sizeOf (getD (now whole) 0 0)) × (standing .size ≤ 264) ⌝ }
-    ensures { λ r. ⌜ Stands r (judged (expected (standing .session) (take (standing .size) (standing .due))) (now (whole .entry))) ⌝ }
+    ensures { λ r. ⌜ r ≡ standingBy standing (judged (dueIn standing) (now (whole .entry))) ⌝ }
 {
     let session = standing.session;
     let size = standing.size;
     if size == 0 {
-        return called(session, whole);
+        return called(standing, whole);
     }
     let due = standing.due;
     if basics::same(whole, &due[..size]) {
         return waiting(session);
     }
-    wrong(session)
+    wrong(standing)
 }
 
 // A call comes next.
 fn waiting(session: Session) -> Standing
-    ensures { λ r. ⌜ Stands r (some (expected session [])) ⌝ }
+    ensures { λ r. ⌜ r ≡ standingOf (expected session []) ⌝ }
 {
     Standing {
         session,
@@ -182,88 +211,94 @@ fn waiting(session: Session) -> Standing
     }
 }
 
-// A record was unlike.
-fn wrong(session: Session) -> Standing
-    ensures { λ r. ⌜ Stands r none ⌝ }
+// A record was unlike; what was due there stays.
+fn wrong(standing: Standing) -> Standing
+    ensures { λ r. ⌜ r ≡ standingBy standing none ⌝ }
 {
+    let session = standing.session;
+    let due = standing.due;
     Standing {
         session,
-        due: [0u8; 264],
-        size: 0,
+        due,
+        size: standing.size,
         right: false,
     }
 }
 
 // Where a call is due: the call is made, and its reply is due.
-fn called(session: Session, whole: &[u8]) -> Standing
+fn called(standing: Standing, whole: &[u8]) -> Standing
     requires { ⌜ length (now whole) ≡ sizeOf (getD (now whole) 0 0) ⌝ }
-    ensures { λ r. ⌜ Stands r (calledOf session (callFrom (now (whole .entry)))) ⌝ }
+    ensures { λ r. ⌜ r ≡ standingBy standing (calledOf (standing .session) (callFrom (now (whole .entry)))) ⌝ }
 {
     let kind = basics::byte_at(whole, 0);
     if kind == 1 {
-        return started(session, whole);
+        return started(standing, whole);
     }
     if kind == 2 {
-        return answered(session, whole);
+        return answered(standing, whole);
     }
     if kind == 3 {
-        return link_failed(session);
+        return link_failed(standing);
     }
     if kind == 4 {
-        return stopped(session);
+        return stopped(standing);
     }
-    wrong(session)
+    wrong(standing)
 }
 
 // A start.
-fn started(session: Session, whole: &[u8]) -> Standing
+fn started(standing: Standing, whole: &[u8]) -> Standing
     requires { ⌜ length (now whole) ≡ 1027 ⌝ }
-    ensures { λ r. ⌜ Stands r (calledOf session (startFrom (now (whole .entry)))) ⌝ }
+    ensures { λ r. ⌜ r ≡ standingBy standing (calledOf (standing .session) (startFrom (now (whole .entry)))) ⌝ }
 {
+    let session = standing.session;
     if !fits(whole, 1024) {
-        return wrong(session);
+        return wrong(standing);
     }
     let end = 3 + length_in(whole);
     let mut buffer = [0u8; 261];
     let reply = session::start(session, &whole[3..end], &mut buffer);
-    due_of(reply, buffer)
+    due_of(standing, reply, buffer)
 }
 
 // A card answer.
-fn answered(session: Session, whole: &[u8]) -> Standing
+fn answered(standing: Standing, whole: &[u8]) -> Standing
     requires { ⌜ length (now whole) ≡ 261 ⌝ }
-    ensures { λ r. ⌜ Stands r (calledOf session (answerFrom (now (whole .entry)))) ⌝ }
+    ensures { λ r. ⌜ r ≡ standingBy standing (calledOf (standing .session) (answerFrom (now (whole .entry)))) ⌝ }
 {
+    let session = standing.session;
     let mut buffer = [0u8; 261];
     if is_long(whole) {
         let long = [0u8; 259];
         let reply = session::answer(session, &long, &mut buffer);
-        return due_of(reply, buffer);
+        return due_of(standing, reply, buffer);
     }
     if !fits(whole, 258) {
-        return wrong(session);
+        return wrong(standing);
     }
     let end = 3 + length_in(whole);
     let reply = session::answer(session, &whole[3..end], &mut buffer);
-    due_of(reply, buffer)
+    due_of(standing, reply, buffer)
 }
 
 // The link failed.
-fn link_failed(session: Session) -> Standing
-    ensures { λ r. ⌜ Stands r (calledOf session linkFrom) ⌝ }
+fn link_failed(standing: Standing) -> Standing
+    ensures { λ r. ⌜ r ≡ standingBy standing (calledOf (standing .session) linkFrom) ⌝ }
 {
+    let session = standing.session;
     let mut buffer = [0u8; 261];
     let reply = session::link_failed(session, &mut buffer);
-    due_of(reply, buffer)
+    due_of(standing, reply, buffer)
 }
 
 // A stop.
-fn stopped(session: Session) -> Standing
-    ensures { λ r. ⌜ Stands r (calledOf session stopFrom) ⌝ }
+fn stopped(standing: Standing) -> Standing
+    ensures { λ r. ⌜ r ≡ standingBy standing (calledOf (standing .session) stopFrom) ⌝ }
 {
+    let session = standing.session;
     let mut buffer = [0u8; 261];
     let reply = session::stop(session, &mut buffer);
-    due_of(reply, buffer)
+    due_of(standing, reply, buffer)
 }
 
 // The length is at most `most`, and the bytes behind those that it counts are zero.
@@ -314,21 +349,21 @@ fn is_zero(v: &[u8]) -> bool
 }
 
 // What is due behind a call that handed this back with this buffer.
-fn due_of(reply: Reply, buffer: [u8; 261]) -> Standing
-    ensures { λ r. ⌜ Stands r (repliedOf (reply .session) (wholeRecord (reply .answer) buffer)) ⌝ }
+fn due_of(standing: Standing, reply: Reply, buffer: [u8; 261]) -> Standing
+    ensures { λ r. ⌜ r ≡ standingBy standing (repliedOf (reply .session) (wholeRecord (reply .answer) buffer)) ⌝ }
 {
     let session = reply.session;
     let answer = reply.answer;
     match answer {
         Answer::Command(issued) => command_due(session, issued.size, buffer),
         Answer::Outcome(end) => outcome_due(session, end),
-        Answer::Refused(_) => wrong(session),
+        Answer::Refused(_) => wrong(standing),
     }
 }
 
 // A command's record is due.
 fn command_due(session: Session, size: usize, buffer: [u8; 261]) -> Standing
-    ensures { λ r. ⌜ Stands r (some (expected session (5 ∷ (twoBytes size ++ buffer)))) ⌝ }
+    ensures { λ r. ⌜ r ≡ standingOf (expected session (5 ∷ (twoBytes size ++ buffer))) ⌝ }
 {
     let mut due = [0u8; 264];
     due[0] = 5;
@@ -345,7 +380,7 @@ fn command_due(session: Session, size: usize, buffer: [u8; 261]) -> Standing
 
 // An outcome's record is due.
 fn outcome_due(session: Session, end: End) -> Standing
-    ensures { λ r. ⌜ Stands r (some (expected session (6 ∷ outcomeNumber (end .outcome) ∷ end .reason ∷ []))) ⌝ }
+    ensures { λ r. ⌜ r ≡ standingOf (expected session (6 ∷ outcomeNumber (end .outcome) ∷ end .reason ∷ [])) ⌝ }
 {
     let outcome = end.outcome;
     let mut due = [0u8; 264];

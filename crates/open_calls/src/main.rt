@@ -115,7 +115,9 @@ fn test_read(store: &mut [u8], awaited: u32, file: u8, card: &[u8]) -> u32 {
 // ---- a journal
 
 fn judge() {
-    let verdict = finish(feed(journal::begin(), b"\x07"));
+    let checker = feed(journal::begin(), b"\x07");
+    line(b"journal::wanted, its size", wanted_size(checker));
+    let verdict = finish(checker);
     let Verdict::Unlike(n) = verdict else {
         return;
     };
@@ -128,6 +130,11 @@ fn feed(checker: Checker, part: &[u8]) -> Checker {
 
 fn finish(checker: Checker) -> Verdict {
     journal::finish(checker)
+}
+
+fn wanted_size(checker: Checker) -> usize {
+    let wanted = journal::wanted(checker);
+    wanted.size
 }
 
 // ---- lines

@@ -24,7 +24,7 @@ due-of-requires : tie.Need-due-of-requires
 due-of-requires c κs = search needs
 
 returns : tie.Need-returns
-returns c = long-due _ _ _ _ _ (sym (c .before .before .before .before .before .before .is-long .ensures) ∙ c .before .before .before .before .before .if1 .taken) (c .before .before .answer .ensures) (c .due-of .ensures)
+returns c = long-due _ _ _ _ _ _ (sym (c .before .before .before .before .before .before .is-long .ensures) ∙ c .before .before .before .before .before .if1 .taken) (c .before .before .answer .ensures) (c .due-of .ensures)
 
 fits-requires : tie.Need-fits-requires
 fits-requires c κs = search needs
@@ -33,7 +33,7 @@ wrong-requires : tie.Need-wrong-requires
 wrong-requires c κs = search needs
 
 returns-2 : tie.Need-returns-2
-returns-2 c = answer-none _ _ _ (sym (c .before .before .before .before .is-long .ensures) ∙ c .before .before .before .if1 .left) (sym (c .before .before .fits2 .ensures) ∙ not-true _ (c .before .if2 .taken)) (c .wrong .ensures)
+returns-2 c = answer-none _ _ _ _ (sym (c .before .before .before .before .is-long .ensures) ∙ c .before .before .before .if1 .left) (sym (c .before .before .fits2 .ensures) ∙ not-true _ (c .before .if2 .taken)) (c .wrong .ensures)
 
 length-in-requires : tie.Need-length-in-requires
 length-in-requires c κs = search needs
@@ -62,7 +62,7 @@ due-of-requires-2 c κs = search needs
 
 returns-3 : tie.Need-returns-3
 returns-3 c = let f = sym (c .before .before .before .before .before .before .before .fits2 .ensures) ∙ not-false _ (c .before .before .before .before .before .before .if2 .left) in
-    answer-due _ _ _ (c .before .before .before .before .before .length-in .result) _ _ (sym (c .before .before .before .before .before .before .before .before .before .is-long .ensures) ∙ c .before .before .before .before .before .before .before .before .if1 .left) f (c .before .before .before .before .before .length-in .ensures .0) (c .before .before .answer2 .ensures) (c .due-of2 .ensures)
+    answer-due _ _ _ _ (c .before .before .before .before .before .length-in .result) _ _ (sym (c .before .before .before .before .before .before .before .before .before .is-long .ensures) ∙ c .before .before .before .before .before .before .before .before .if1 .left) f (c .before .before .before .before .before .length-in .ensures .0) (c .before .before .answer2 .ensures) (c .due-of2 .ensures)
 
 pub answered-spec : {M : Type 1} → statement M
 answered-spec =

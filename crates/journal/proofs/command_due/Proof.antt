@@ -2,11 +2,8 @@
 -- Assumes nothing.
 use mathlib.Core.Path.{_≡_, refl, sym, ap, subst, _∙_}
 use native.Mathlib.Omega.{arith}
-use mathlib.Core.List.{List, _++_}
-use mathlib.Core.Option.{some}
 use lib.ListN.{length, take, drop, replicate}
 use Rattle.store.proofs.Laws.{copied}
-use Rattle.journal.specs.Verdict.{expected}
 use Rattle.journal.proofs.Due.{command-whole}
 use Prim.Native.Nat.{ℕ}
 use borrow.Author.Needs.{needs}
@@ -47,7 +44,7 @@ returns : tie.Need-returns
 returns c = let a = c .before .before .before .before .args in
     let l : length (a .t3) ≡ 261 = search needs in
     let e = copied (a .t3) (replicate 261 0) (c .before .copy .last .1 .0) l (c .before .copy .ensures .1) in
-    record { is = ap (λ (d : List ℕ). some (expected (a .session) d)) (command-whole _ _ _ (a .t3) e l); size = omega arith }
+    command-whole (a .session) _ _ _ (a .t3) e l
 
 pub command-due-spec : {M : Type 1} → statement M
 command-due-spec =

@@ -1,22 +1,24 @@
--- `journal::feed` meets its contract: a checker that follows some bytes follows them with the first i of the part.
+-- `journal::feed` meets its contract: the checker behind the first i bytes of the part.
 -- Assumes nothing.
 use mathlib.Core.Path.{_≡_, refl, sym, ap, subst, _∙_}
 use native.Mathlib.Omega.{arith}
 use Prim.Native.Nat.{_-_, _≤_}
 use lib.ListN.{length, take}
-use Rattle.journal.proofs.Follow.{Behind, behind-none, behind-more, behind-all}
+use lib.Seq.{take-all}
+use Rattle.journal.proofs.Follow.{pushed-none, pushed-more, fed}
+use Rattle.journal.specs.Inner.{pushedAll}
 use borrow.Author.Needs.{needs}
 use Rattle.journal.proofs.feed.Statement.{statement}
 use Rattle.journal.proofs.feed.Tie as tie
 
 abbrev Inv-loop : tie.InvT-loop
-Inv-loop part next₀ i₀ next i = Behind next₀ next (take i part)
+Inv-loop part next₀ i₀ next i = next ≡ pushedAll next₀ (take i part)
 
 abbrev μ-loop : tie.MeasureT-loop
 μ-loop part next₀ i₀ next i = length part - i
 
 loop-holds : tie.Need-loop-holds Inv-loop μ-loop
-loop-holds c = behind-none (c .before .args .checker) (c .before .args .part .now)
+loop-holds c = pushed-none (c .before .args .checker) (c .before .args .part .now)
 
 shared-slice-read-push : tie.Need-shared-slice-read-push Inv-loop μ-loop
 shared-slice-read-push c = omega arith
@@ -32,10 +34,10 @@ loop-less c = omega arith
 
 loop-again : tie.Need-loop-again Inv-loop μ-loop
 loop-again c = let lp = c .before .before .before .loop in
-    behind-more _ (lp .next) _ _ (lp .i) _ (lp .inv) (c .before .before .loop-test .taken) refl (c .push .ensures)
+    pushed-more _ (lp .next) _ _ (lp .i) _ (lp .inv) (c .before .before .loop-test .taken) refl (c .push .ensures)
 
 returns : tie.Need-returns Inv-loop μ-loop
-returns c = behind-all _ _ _ (c .before .loop .i) (omega (arith, c .loop-test .left)) (c .before .loop .inv)
+returns c = fed _ _ _ (c .before .before .before .args .part .now) (c .before .loop .inv) (take-all (c .before .loop .i) _ (omega (arith, c .loop-test .left)))
 
 pub feed-spec : {M : Type 1} → statement M
 feed-spec =

@@ -17,7 +17,7 @@ due-of-requires : tie.Need-due-of-requires
 due-of-requires c κs = search needs
 
 returns : tie.Need-returns
-returns c = did-due (link-came _ lent) (c .before .before .link-failed .ensures) (c .due-of .ensures)
+returns c = did-due _ (link-came _ lent) (c .before .before .link-failed .ensures) (c .due-of .ensures)
 
 pub link-failed-spec : {M : Type 1} → statement M
 link-failed-spec =

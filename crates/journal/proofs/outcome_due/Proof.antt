@@ -3,8 +3,8 @@
 use mathlib.Core.Path.{_≡_, refl, sym, ap, subst, _∙_}
 use native.Mathlib.Omega.{arith}
 use mathlib.Core.List.{[], _∷_}
-use mathlib.Core.Option.{some}
 use Rattle.journal.specs.Verdict.{expected}
+use Rattle.journal.specs.Inner.{standingOf}
 use Prim.Native.Nat.{ℕ}
 use borrow.Author.Needs.{needs}
 use Rattle.journal.proofs.outcome_due.Statement.{statement}
@@ -23,8 +23,7 @@ array-write-due-3 : tie.Need-array-write-due-3
 array-write-due-3 c = search needs
 
 returns : tie.Need-returns
-returns c = let a = c .before .args in
-    record { is = ap (λ (x : ℕ). some (expected (a .session) (6 ∷ x ∷ a .end .reason ∷ []))) (c .outcome-number .ensures); size = omega arith }
+returns c = ap (λ (x : ℕ). standingOf (expected (c .before .args .session) (6 ∷ x ∷ c .before .args .end .reason ∷ []))) (c .outcome-number .ensures)
 
 pub outcome-due-spec : {M : Type 1} → statement M
 outcome-due-spec =

@@ -15,7 +15,7 @@ wrong-requires : tie.Need-wrong-requires
 wrong-requires c κs = search needs
 
 returns : tie.Need-returns
-returns c = start-none _ _ _ (sym (c .before .before .fits2 .ensures) ∙ not-true _ (c .before .if1 .taken)) (c .wrong .ensures)
+returns c = start-none _ _ _ _ (sym (c .before .before .fits2 .ensures) ∙ not-true _ (c .before .if1 .taken)) (c .wrong .ensures)
 
 length-in-requires : tie.Need-length-in-requires
 length-in-requires c κs = search needs
@@ -44,7 +44,7 @@ due-of-requires c κs = search needs
 
 returns-2 : tie.Need-returns-2
 returns-2 c = let f = sym (c .before .before .before .before .before .before .before .fits2 .ensures) ∙ not-false _ (c .before .before .before .before .before .before .if1 .left) in
-    start-due _ _ _ (c .before .before .before .before .before .length-in .result) _ _ f (c .before .before .before .before .before .length-in .ensures .0) (c .before .before .start .ensures) (c .due-of .ensures)
+    start-due _ _ _ _ (c .before .before .before .before .before .length-in .result) _ _ f (c .before .before .before .before .before .length-in .ensures .0) (c .before .before .start .ensures) (c .due-of .ensures)
 
 pub started-spec : {M : Type 1} → statement M
 started-spec =

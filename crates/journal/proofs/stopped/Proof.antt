@@ -17,7 +17,7 @@ due-of-requires : tie.Need-due-of-requires
 due-of-requires c κs = search needs
 
 returns : tie.Need-returns
-returns c = did-due (stop-came _ lent) (c .before .before .stop .ensures) (c .due-of .ensures)
+returns c = did-due _ (stop-came _ lent) (c .before .before .stop .ensures) (c .due-of .ensures)
 
 pub stopped-spec : {M : Type 1} → statement M
 stopped-spec = tie.close (tie.spec slice-aggregate-stop stop-requires due-of-requires returns)
