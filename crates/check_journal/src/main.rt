@@ -6,6 +6,7 @@
 // standard error. With --tell the exit status that is due goes to descriptor 3: 0 accepted, 1 unlike or cut, 2 no verdict.
 use journal::{Checker, Verdict};
 use libc::{STDERR_FILENO, STDIN_FILENO};
+use record::{Answer, End, Issued, Outcome};
 
 // The words that the program is called with: whether the exit status is told, which argument names the file (0: none
 // does), and whether there is one name too many or an unknown option.
@@ -42,13 +43,13 @@ fn main() {
 
 fn tell(status: u8) {
     match status {
-        ACCEPTED => complain(TELLING, b"0"),
-        NOT_RIGHT => complain(TELLING, b"1"),
-        _ => complain(TELLING, b"2"),
+        ACCEPTED => send(TELLING, b"0"),
+        NOT_RIGHT => send(TELLING, b"1"),
+        _ => send(TELLING, b"2"),
     }
 }
 
-fn complain(fd: i32, words: &[u8]) {
+fn send(fd: i32, words: &[u8]) {
     io::write_all(fd, words);
 }
 
@@ -90,9 +91,9 @@ fn with_argument(arguments: Arguments, i: usize) -> Arguments {
 }
 
 fn not_understood(arguments: Arguments, words: &[u8]) -> Arguments {
-    complain(STDERR_FILENO, b"journal: ");
-    complain(STDERR_FILENO, words);
-    complain(STDERR_FILENO, b"\n");
+    send(STDERR_FILENO, b"journal: ");
+    send(STDERR_FILENO, words);
+    send(STDERR_FILENO, b"\n");
     let mut out = arguments;
     out.wrong = true;
     out
@@ -191,6 +192,7 @@ fn shown(state: Progress) -> u8 {
         }
         Verdict::Unlike(n) => {
             named(n, b" is unlike what document 01 gives\n");
+            right_record(checker);
             NOT_RIGHT
         }
         Verdict::Cut(n) => {
@@ -205,4 +207,59 @@ fn named(n: usize, words: &[u8]) {
     show::text(b"record ");
     show::number(n);
     show::text(words);
+}
+
+// ---- the right record in the place of an unlike one
+
+// A line with the reply that was due, where one was.
+fn right_record(checker: Checker) {
+    let wanted = journal::wanted(checker);
+    if wanted.size == 0 {
+        return;
+    }
+    let bytes = wanted.bytes;
+    show::text(b"a right kernel has there: ");
+    show::answer_in_words(answer_in(&bytes), body_in(&bytes));
+    if is_command(&bytes) {
+        show::text(b", zeros behind");
+    }
+    show::text(b"\n");
+}
+
+// The bytes of a record behind its kind and length.
+fn body_in(record: &[u8]) -> &[u8] {
+    if record.len() < 3 {
+        return record;
+    }
+    &record[3..]
+}
+
+fn is_command(record: &[u8]) -> bool {
+    basics::byte_at(record, 0) == 5
+}
+
+// What a reply's record stands for: a command of so many bytes, or an outcome and its reason.
+fn answer_in(record: &[u8]) -> Answer {
+    let first = basics::byte_at(record, 1);
+    let second = basics::byte_at(record, 2);
+    if is_command(record) {
+        let size = basics::wide(first) * 256 + basics::wide(second);
+        return Answer::Command(Issued { size });
+    }
+    let outcome = outcome_of(first);
+    Answer::Outcome(End {
+        outcome,
+        reason: second,
+    })
+}
+
+// The outcome of a number.
+fn outcome_of(number: u8) -> Outcome {
+    match number {
+        0 => Outcome::Approved,
+        1 => Outcome::OnlineRequest,
+        2 => Outcome::Declined,
+        3 => Outcome::Ended,
+        _ => Outcome::SelectNext,
+    }
 }

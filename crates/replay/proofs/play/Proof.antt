@@ -28,4 +28,5 @@ play-spec =
     (λ c. omega arith)
     (λ c. omega arith)
     loop-again
+    (λ c. search needs)
     (λ c. search needs))
