@@ -38,7 +38,7 @@ returns c =
     let b = c .before .before .before .before .before .before .before .before .before .args .bytes .now in
     let lp = c .before .before .before .loop in
     c .word .ensures
-    ∙ ap verdictWord (c .before .finish .ensures .1 (take (lp .at) b) (lp .inv .1))
+    ∙ ap verdictWord (c .before .finish .ensures .1 .0 (take (lp .at) b) (lp .inv .1))
     ∙ ap (λ (s : List ℕ). verdictWord (verdictOf s)) (take-all (lp .at) b (omega (arith, c .before .before .loop-test .left)))
 
 pub emv-test-journal-spec : {M : Type 1} → statement M
