@@ -65,7 +65,7 @@ enum Change {
     Exchanged,
     /// A call is put in.
     Call,
-    /// An answer too long for a record is put in, mostly with a zero body.
+    /// The record of an answer that is too long for one is put in, or another with such a length.
     LongAnswer,
     /// A record of any kind and any body is put in.
     Any,
@@ -434,19 +434,7 @@ fn changed(
         Change::Exchanged if number > 1 => records.swap(at.min(number - 2), at.min(number - 2) + 1),
         Change::LeftOut | Change::Twice | Change::Exchanged => {}
         Change::Call => put_call(rng, &mut records),
-        Change::LongAnswer => {
-            let mut record = vec![0; 261];
-            record[..3].copy_from_slice(&[2, 0xFF, 0xFF]);
-            if rng.one_in(4) {
-                record[rng.within(1..=260)] ^= 1 << rng.below(8);
-            }
-            let at = if rng.one_in(2) { at / 2 * 2 } else { at };
-            records.truncate(at.min(number));
-            records.push(record);
-            if rng.one_in(2) {
-                records.push(vec![6, 3, 2]);
-            }
-        }
+        Change::LongAnswer => put_long(rng, &mut records, at),
         Change::Any => {
             let kind = rng.within(1..=6) as u8;
             let mut record = vec![0; journal::record_size(kind).unwrap_or_default()];
@@ -469,6 +457,26 @@ fn changed(
         }
     }
     records.concat()
+}
+
+/// Length FF FF, mostly in an answer's record with a zero body and where a call is due; the journal ends behind it.
+fn put_long(rng: &mut Rng, records: &mut Vec<Vec<u8>>, at: usize) {
+    let kind = rng.pick(&[2, 2, 2, 2, 1, 5]);
+    let mut record = vec![0; journal::record_size(kind).unwrap_or_default()];
+    record[..3].copy_from_slice(&[kind, 0xFF, 0xFF]);
+    if rng.one_in(4) {
+        let place = rng.within(1..=record.len() - 1);
+        record[place] ^= 1 << rng.below(8);
+    }
+    records.truncate(match kind {
+        5 => at / 2 * 2 + 1,
+        _ if rng.one_in(2) => at / 2 * 2,
+        _ => at,
+    });
+    records.push(record);
+    if rng.one_in(2) {
+        records.push(vec![6, 3, 2]);
+    }
 }
 
 /// Another length in a record that has one.
