@@ -24,12 +24,5 @@ pub fn judge(journal: &[u8], first: usize, part: usize) -> u32 {
 /// Size 0 where there is none, and where `out` is too short for it.
 pub fn wanted(journal: &[u8], out: &mut [u8]) -> usize {
     // SAFETY: each pointer and length are those of one slice; the one lent for writing overlaps nothing.
-    unsafe {
-        emv_test_wanted(
-            journal.as_ptr(),
-            journal.len(),
-            out.as_mut_ptr(),
-            out.len(),
-        )
-    }
+    unsafe { emv_test_wanted(journal.as_ptr(), journal.len(), out.as_mut_ptr(), out.len()) }
 }
