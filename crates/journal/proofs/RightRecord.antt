@@ -6,7 +6,7 @@ use mathlib.Core.Bool.{false}
 use mathlib.Core.Logic.{inl, inr}
 use mathlib.Core.List.{List, [], _∷_, _++_, append-assoc, append-nil}
 use mathlib.Core.Option.{Option, some, none}
-use Prim.Native.Nat.{ℕ, zero, suc, _+_, _-_, _≤_, _<_}
+use Prim.Native.Nat.{ℕ, zero, suc, _+_, _-_, _%_, _≤_, _<_}
 use native.Mathlib.Omega.{arith}
 use lib.Dec.{ltb}
 use lib.ListN.{length, take, drop, length-append, take-append-drop}
@@ -18,10 +18,11 @@ use Rattle.basics.proofs.Order.{equal-or-not}
 use Rattle.basics.proofs.Alike.{alike-refl, alike-eq}
 use Rattle.basics.proofs.Recursion.{shorter-first}
 use Rattle.record.specs.declared.Session.{Session}
+use Rattle.trace.specs.Calls.{Call, step}
 use Rattle.journal.specs.declared.Verdict.{Verdict}
-use Rattle.journal.specs.Record.{sizeOf}
-use Rattle.journal.specs.Verdict.{Expected, expected, atFirst, judgedBy, judged, goesOn, verdictFrom, verdictOf, frontSize, dueThen, dueBehind, wantedBy, wantedOf}
-use Rattle.journal.specs.Written.{OnlyRight, WantedOnly}
+use Rattle.journal.specs.Record.{sizeOf, callFrom, replyRecord}
+use Rattle.journal.specs.Verdict.{Expected, expected, atFirst, replied, called, judgedBy, judged, goesOn, verdictFrom, verdictOf, frontSize, dueThen, dueBehind, wantedBy, wantedOf}
+use Rattle.journal.specs.Written.{OnlyRight, WantedOnly, WantedEven}
 use Rattle.journal.proofs.Walk.{unroll, ends, whole, due-whole}
 use Rattle.journal.proofs.Due.{reply-due}
 use Rattle.journal.proofs.Kept.{nothing, dueOne, Kept, first-kept, judged-kept}
@@ -209,3 +210,63 @@ wanted-only s n q h =
     subst (λ (m : ℕ). OnlyRight verdictOf m s (wantedOf s)) (sym p)
     (subst (OnlyRight verdictOf (0 + 1 + (n - 1)) s) (sym d)
     (shorter-first Only only-next s atFirst 0 (n - 1) first-kept (q ∙ ap Verdict.Unlike p) (subst (λ (u : List ℕ). 0 < length u) d h)))
+
+-- ---- a reply is due at the records of even number
+
+replied-due : (s : Session) (d : List ℕ) (t : Expected) → replied s d ≡ some t → dueOne (t .due) ≡ 1
+replied-due s [] t q = nothing q
+replied-due s (b ∷ d) t q = let w : expected s (b ∷ d) ≡ t = cc in ap (λ (u : Expected). dueOne (u .due)) (sym w)
+
+called-due : (s : Session) (c : Option Call) (t : Expected) → called s c ≡ some t → dueOne (t .due) ≡ 1
+called-due s none t q = nothing q
+called-due s (some c) t q = replied-due (step s c .reply .session) (replyRecord (step s c .reply .answer) (step s c .buffer)) t q
+
+-- a call and its reply take turns
+turns : (s : Session) (d l : List ℕ) (t : Expected) → judgedBy s d l ≡ some t → dueOne d + dueOne (t .due) ≡ 1
+turns s [] l t q = let w = called-due s (callFrom l) t q in omega (arith, w)
+turns s (b ∷ d) l t q =
+    let w : dueOne (t .due) ≡ 0 =
+          if-ind (λ (o : Option Expected). o ≡ some t → dueOne (t .due) ≡ 0) (alike l (b ∷ d)) (some (expected s [])) none
+          (λ x e. let z : expected s [] ≡ t = cc in ap (λ (u : Expected). dueOne (u .due)) (sym z)) (λ x e. nothing e) q in
+    omega (arith, w)
+
+abbrev Even : List ℕ → Type 0
+Even s = (e : Expected) (n k : ℕ) → verdictFrom e n s ≡ Verdict.Unlike (n + 1 + k) → dueOne (dueBehind k e s) ≡ (dueOne (e .due) + k) % 2
+
+one-bit : (d : List ℕ) → dueOne d ≡ (dueOne d + 0) % 2
+one-bit [] = refl
+one-bit (b ∷ d) = refl
+
+even-next : (s : List ℕ) → ((v : List ℕ) → length v < length s → Even v) → Even s
+unfolding dueBehind
+even-next s k e n zero q = one-bit (e .due)
+even-next s k e n (suc i) q = elim (way e n s) [
+  | ended x v ↦ accepted-unlike n (n + 1 + suc i) (sym v ∙ q)
+  | is-unlike v ↦ absurd (omega (arith, unlike-same (n + 1) (n + 1 + suc i) (sym v ∙ q)))
+  | is-cut v ↦ cut-unlike (n + 1) (n + 1 + suc i) (sym v ∙ q)
+  | goes t l rest x w z j v ↦
+      let p : n + 1 + suc i ≡ n + 1 + 1 + i = omega arith in
+      let d : dueBehind i t rest ≡ dueBehind (suc i) e s =
+          ap (dueThen (λ u. dueBehind i u rest)) (sym j) ∙ sym (due-whole i e l rest w z) ∙ ap (dueBehind (suc i) e) (sym x) in
+      let y = k rest (shorter s l rest x w) t (n + 1) i (sym v ∙ q ∙ ap Verdict.Unlike p) in
+      let o = turns (e .session) (e .due) l t j in
+      omega (arith, ap dueOne (sym d), y, o)
+]
+
+due-some : (d : List ℕ) → dueOne d ≡ 1 → 0 < length d
+due-some [] q = absurd (omega (arith, q))
+due-some (b ∷ d) q = omega arith
+
+some-due : (d : List ℕ) → 0 < length d → dueOne d ≡ 1
+some-due [] h = absurd (omega (arith, h))
+some-due (b ∷ d) h = refl
+
+pub wanted-even : WantedEven
+unfolding verdictOf wantedOf
+wanted-even s n q =
+    let l = later s atFirst 0 n q in
+    let p : n ≡ 0 + 1 + (n - 1) = omega arith in
+    let d : wantedOf s ≡ dueBehind (n - 1) atFirst s = ap (wantedBy s) q in
+    let y = shorter-first Even even-next s atFirst 0 (n - 1) (q ∙ ap Verdict.Unlike p) in
+    let w = ap dueOne d in
+    (λ e. due-some (wantedOf s) (omega (arith, w, y, e)), λ h. let o = some-due (wantedOf s) h in omega (arith, w, y, o))

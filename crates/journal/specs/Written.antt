@@ -6,7 +6,7 @@ use mathlib.Core.Path.{_≡_}
 use mathlib.Core.Bool.{Bool, true, not}
 use mathlib.Core.Logic.{_⊎_, _↔_}
 use mathlib.Core.List.{List, [], _∷_, _++_}
-use Prim.Native.Nat.{ℕ, _+_, _-_, _≤_, _<_}
+use Prim.Native.Nat.{ℕ, _+_, _-_, _%_, _≤_, _<_}
 use lib.ListN.{length, getD, take}
 use Rattle.basics.specs.Choice.{every}
 use Rattle.record.specs.declared.Session.{Session}
@@ -116,6 +116,10 @@ Exact s (Verdict.Cut n) = IsCut s n
 abbrev pub SaysOf : List ℕ → Verdict → Type 0
 SaysOf s r = (v : Verdict) → (r ≡ v) ↔ Exact s v
 
+-- right records of bytes are written by calls of bytes
+abbrev pub RightBytes : Type 0
+RightBytes = (records : List (List ℕ)) → Right records → Bytes (joined records) → WritesBytes freshSession records
+
 -- every journal that a right kernel writes is accepted, finished or not: the first m records of what any calls write,
 -- refused ones among them
 abbrev pub WrittenAccepted : Type 0
@@ -145,10 +149,16 @@ WantedOnly =
     (s : List ℕ) (n : ℕ) → verdictOf s ≡ Verdict.Unlike n → 0 < length (wantedOf s)
     → OnlyRight verdictOf n s (wantedOf s)
 
--- ---- what holds of it: the promises `right`, `written` and `few` of finish and `only` of wanted; proved in
--- proofs/ (Exact, Written, RightRecord)
+-- a reply stands at the records of even number: there some bytes are given, and none where a call was due. (There a right
+-- kernel has more than one record, or none behind the outcome.)
+abbrev pub WantedEven : Type 0
+WantedEven = (s : List ℕ) (n : ℕ) → verdictOf s ≡ Verdict.Unlike n → (n % 2 ≡ 0) ↔ (0 < length (wantedOf s))
+
+-- ---- what holds of it: the promises `right`, `bytes`, `written` and `few` of finish, `only` and `even` of wanted;
+-- proved in proofs/ (Exact, Written, RightRecord)
 --   exact              of bytes s: SaysOf s (verdictOf s)
---   right-bytes        right records of bytes are written by calls of bytes
+--   right-bytes        RightBytes
 --   written-accepted   WrittenAccepted
 --   wanted-only        WantedOnly
+--   wanted-even        WantedEven
 --   written-few        no calls write more than 262 records

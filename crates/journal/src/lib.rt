@@ -18,7 +18,7 @@ ghost use Rattle.record.specs.Numbers.{outcomeNumber};
 ghost use Rattle.journal.specs.Record.{sizeOf, twoBytes, recordLength, fits as fitsIn, isLong, startFrom, answerFrom, callFrom};
 ghost use Rattle.journal.specs.Record.{linkFrom, stopFrom};
 ghost use Rattle.journal.specs.Verdict.{expected, replied as repliedOf, called as calledOf, judged, verdictOf, wantedOf};
-ghost use Rattle.journal.specs.Written.{Bytes, SaysOf, WrittenAccepted, AcceptedFew, WantedOnly};
+ghost use Rattle.journal.specs.Written.{Bytes, SaysOf, RightBytes, WrittenAccepted, AcceptedFew, WantedOnly, WantedEven};
 ghost use Rattle.journal.specs.Inner.{wholeRecord, dueIn, standingOf, standingBy};
 ghost use Rattle.journal.specs.Inner.{firstChecker, pushed, pushedAll, verdictAt, wantedAt, Follows};
 
@@ -118,6 +118,7 @@ pub fn finish(checker: Checker) -> Verdict
     ensures verdict { λ r. ⌜ r ≡ verdictAt checker ⌝ }
     ensures follows { λ r. ⌜ ((s : List ℕ) → Follows checker s → r ≡ verdictOf s) ⌝ }
     ensures right { λ r. ⌜ ((s : List ℕ) → Follows checker s → Bytes s → SaysOf s r) ⌝ }
+    ensures bytes { λ _. ⌜ RightBytes ⌝ }
     ensures written { λ _. ⌜ WrittenAccepted ⌝ }
     ensures few { λ _. ⌜ AcceptedFew ⌝ }
 {
@@ -140,6 +141,7 @@ pub fn wanted(checker: Checker) -> WantedRecord
     ensures size { λ r. ⌜ r .size ≤ 264 ⌝ }
     ensures follows { λ r. ⌜ ((s : List ℕ) → Follows checker s → take (r .size) (r .bytes) ≡ wantedOf s) ⌝ }
     ensures only { λ _. ⌜ WantedOnly ⌝ }
+    ensures even { λ _. ⌜ WantedEven ⌝ }
 {
     let standing = checker.standing;
     let size = standing.size;
