@@ -8,15 +8,16 @@ use mathlib.Core.Bool.{Bool}
 use mathlib.Core.List.{List}
 use mathlib.Core.Option.{Option, some, none}
 use Prim.Native.Nat.{ℕ, _+_}
-use Rattle.tlv.specs.Tree.{Forest, count}
+use Rattle.tlv.specs.Tree.{Forest, count, parse}
+use Rattle.reading.specs.declared.Awaited.{Awaited}
 use Rattle.reading.specs.declared.Verdict.{Verdict}
 use Rattle.reading.specs.declared.Verdict.the-variants.{Accepted, BadStatus, Malformed, NotAllowed}
 use Rattle.reading.specs.declared.Reading.{Reading}
 use Rattle.reading.specs.declared.Tally.{Tally}
 use Rattle.reading.specs.declared.Contents.{Contents}
 use Rattle.reading.specs.declared.Contents.the-variants.{Whole, Broken}
-use Rattle.reading.specs.Taking.{Work, items, takeAll}
-use Rattle.reading.specs.Answer.{Outcome, Gives}
+use Rattle.reading.specs.Taking.{Work, work, items, takeAll}
+use Rattle.reading.specs.Answer.{Outcome, Gives, templateBody, optionsParts, cryptogramParts, takenParts, readTree}
 
 -- ---- the working copy
 
@@ -30,6 +31,16 @@ storeAfter b w NotAllowed = b
 -- the reading r, with the working copy w that it left of the store b, gives o
 abbrev pub GivesIn : Reading → List ℕ → List ℕ → Outcome → Type 0
 GivesIn r b w o = Gives r (storeAfter b w (r .verdict)) o
+
+-- the answers of three private functions, on the store b: a template by its tag and contents, and the two bodies under 80
+abbrev pub readTemplate : Awaited → List ℕ → ℕ → List ℕ → Outcome
+readTemplate a b t v = readTree a b (templateBody t (parse 3 v))
+
+abbrev pub readOptions : List ℕ → List ℕ → Outcome
+readOptions b v = takenParts Awaited.Options b 1 (optionsParts v)
+
+abbrev pub readCryptogram : List ℕ → List ℕ → Outcome
+readCryptogram b v = takenParts Awaited.Cryptogram b 1 (cryptogramParts v)
 
 -- a reading of these parts
 abbrev pub made : Verdict → ℕ → Reading
@@ -50,6 +61,10 @@ Has n w r b = (r ≡ Whole (tally n (w .good))) × (b ≡ w .store)
 abbrev pub Leaves : ℕ → ℕ → ℕ → Work → Option Forest → Contents → List ℕ → Type 0
 Leaves answer around n w none r b = r ≡ Broken
 Leaves answer around n w (some f) r b = Has (n + count f) (takeAll answer w (items around f)) r b
+
+-- the same after the objects of a tally, into the store b
+abbrev pub Reads : ℕ → ℕ → Tally → List ℕ → Option Forest → Contents → List ℕ → Type 0
+Reads answer around t b f r b′ = Leaves answer around (t .objects) (work (t .good) b) f r b′
 
 -- how many objects are said
 abbrev pub counted : Contents → ℕ

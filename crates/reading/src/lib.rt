@@ -21,8 +21,8 @@ ghost use Rattle.tlv.specs.Tag.{isPrivate};
 ghost use Rattle.tlv.specs.Tree.{parse};
 ghost use Rattle.reading.specs.Taking.{item, mayCome, byCard, standsIn, work, takeItem, takeNext, takeAll};
 ghost use Rattle.reading.specs.Count.{bodyObjects, answerObjects};
-ghost use Rattle.reading.specs.Inner.{made, Leaves, counted, GivesIn};
-ghost use Rattle.reading.specs.Answer.{Gives, numberOf, answerBit, templateTag, primitive, templateBody, optionsParts, issuerPart, cryptogramParts, takenParts, readTree, readBody, isRead, goodStatus, readAnswer};
+ghost use Rattle.reading.specs.Inner.{made, Reads, counted, GivesIn, readTemplate, readOptions, readCryptogram};
+ghost use Rattle.reading.specs.Answer.{Gives, numberOf, answerBit, templateTag, primitive, issuerPart, readTree, readBody, isRead, goodStatus, readAnswer};
 
 // A record's file.
 pub struct File {
@@ -198,7 +198,7 @@ fn read_object(work: &mut [u8; SIZE], awaited: Awaited, body: &[u8]) -> Reading
 fn read_template(work: &mut [u8; SIZE], awaited: Awaited, tag: u32, value: &[u8]) -> Reading
     requires { ⌜ length (now work) ≡ storeSize ⌝ }
     requires { ⌜ length (now value) + 2 < 2 ^ 64 ⌝ }
-    ensures given { λ r. ⌜ GivesIn r (now (work .entry)) (now (work .exit)) (readTree awaited (now (work .entry)) (templateBody tag (parse 3 (now (value .entry))))) ⌝ }
+    ensures given { λ r. ⌜ GivesIn r (now (work .entry)) (now (work .exit)) (readTemplate awaited (now (work .entry)) tag (now (value .entry))) ⌝ }
     ensures sized { λ _. ⌜ length (now (work .exit)) ≡ storeSize ⌝ }
     ensures half { λ r. ⌜ 2 * r .objects ≤ 2 + length (now (value .entry)) ⌝ }
 {
@@ -247,7 +247,7 @@ fn read_primitive(work: &mut [u8; SIZE], awaited: Awaited, tag: u32, value: &[u8
 // The parts of a body under 80: the interchange profile, then the locator.
 fn read_options(work: &mut [u8; SIZE], value: &[u8]) -> Reading
     requires { ⌜ length (now work) ≡ storeSize ⌝ }
-    ensures given { λ r. ⌜ GivesIn r (now (work .entry)) (now (work .exit)) (takenParts Awaited.Options (now (work .entry)) 1 (optionsParts (now (value .entry)))) ⌝ }
+    ensures given { λ r. ⌜ GivesIn r (now (work .entry)) (now (work .exit)) (readOptions (now (work .entry)) (now (value .entry))) ⌝ }
     ensures sized { λ _. ⌜ length (now (work .exit)) ≡ storeSize ⌝ }
     ensures one { λ r. ⌜ r .objects ≡ 1 ⌝ }
 {
@@ -273,7 +273,7 @@ fn read_options(work: &mut [u8; SIZE], value: &[u8]) -> Reading
 // 9F27, 9F36 and 9F26, and 9F10 if any bytes are left.
 fn read_cryptogram(work: &mut [u8; SIZE], value: &[u8]) -> Reading
     requires { ⌜ length (now work) ≡ storeSize ⌝ }
-    ensures given { λ r. ⌜ GivesIn r (now (work .entry)) (now (work .exit)) (takenParts Awaited.Cryptogram (now (work .entry)) 1 (cryptogramParts (now (value .entry)))) ⌝ }
+    ensures given { λ r. ⌜ GivesIn r (now (work .entry)) (now (work .exit)) (readCryptogram (now (work .entry)) (now (value .entry))) ⌝ }
     ensures sized { λ _. ⌜ length (now (work .exit)) ≡ storeSize ⌝ }
     ensures one { λ r. ⌜ r .objects ≡ 1 ⌝ }
 {
@@ -321,8 +321,7 @@ fn read(
     requires { ⌜ length (now store) ≡ storeSize ⌝ }
     requires { ⌜ 2 * tally .objects + length (now bytes) < 2 ^ 64 ⌝ }
     requires { ⌜ 0 < answer ⌝ }
-    ensures left { λ r. ⌜ Leaves answer around (tally .objects) (work (tally .good) (now (store .entry)))
-        (parse levels (now (bytes .entry))) r (now (store .exit)) ⌝ }
+    ensures left { λ r. ⌜ Reads answer around tally (now (store .entry)) (parse levels (now (bytes .entry))) r (now (store .exit)) ⌝ }
     ensures half { λ r. ⌜ 2 * counted r ≤ 2 * tally .objects + length (now (bytes .entry)) ⌝ }
     ensures sized { λ _. ⌜ length (now (store .exit)) ≡ storeSize ⌝ }
 {

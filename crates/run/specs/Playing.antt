@@ -83,3 +83,7 @@ pub record Runs (r : Ran) (calls′ replies′ calls replies : List ℕ) (cs : L
   pub said : r .said ≡ saidOf (callsOf calls) replies
   pub played : Plays (r .session) calls′ replies′ calls replies cs
   pub claim : Proper (play freshSession cs) (r .session)
+
+-- the same where the calls and the room for replies are given: those that stand there are played
+abbrev pub RunsOn : Ran → List ℕ → List ℕ → List ℕ → List ℕ → Type 0
+RunsOn r calls′ replies′ calls replies = Runs r calls′ replies′ calls replies (playedOf (callsOf calls) replies)

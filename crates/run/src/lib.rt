@@ -23,7 +23,7 @@ ghost use Rattle.record.specs.Session.{freshSession};
 ghost use Rattle.session.specs.Steps.{Did};
 ghost use Rattle.trace.specs.Calls.{Call, step as stepOf};
 ghost use Rattle.run.specs.Encoding.{headerSize, endOf, isKind, headerIn, isWhole, frontIn, callBy, callIn, callsOf, countedOf, Sized, encoded};
-ghost use Rattle.run.specs.Playing.{replyBytes, Plays, Runs, playedOf, saidNumber};
+ghost use Rattle.run.specs.Playing.{replyBytes, Plays, RunsOn, saidNumber};
 ghost use Rattle.run.specs.Inner.{overBuffer, Turns, Ready, callsRead};
 
 // What a run says: all calls were played, the bytes are no list of calls, or `replies` is too short for
@@ -80,8 +80,7 @@ pub fn said_number(said: Said) -> u8
 
 // Plays the calls that stand in `calls`.
 pub fn run(calls: &mut [u8], replies: &mut [u8]) -> Ran
-    ensures { λ r. ⌜ Runs r (now (calls .exit)) (now (replies .exit)) (now (calls .entry)) (now (replies .entry))
-        (playedOf (callsOf (now (calls .entry))) (now (replies .entry))) ⌝ }
+    ensures { λ r. ⌜ RunsOn r (now (calls .exit)) (now (replies .exit)) (now (calls .entry)) (now (replies .entry)) ⌝ }
     ensures every_list { λ _. ⌜ ((cs : List Call) → Sized cs → callsOf (encoded cs) ≡ some cs) ⌝ }
 {
     let Counted::Calls(n) = count_calls(calls) else {

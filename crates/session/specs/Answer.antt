@@ -25,7 +25,7 @@ use Rattle.record.specs.declared.Asked.{Asked}
 use Rattle.record.specs.declared.Phase.{Phase}
 use Rattle.record.specs.declared.Session.{Session}
 use Rattle.record.specs.declared.Reply.{Reply}
-use Rattle.record.specs.Session.{stored, endOf}
+use Rattle.record.specs.Session.{stored, sessionOf, endOf}
 use Rattle.record.specs.Ranges.{emvMode, locatorIn, completed}
 use Rattle.session.specs.Steps.{Step, withoutCommand, refuses, ended, endBy, fails, commands, withResults}
 use Rattle.session.specs.Steps.{admitted, handOut}
@@ -175,3 +175,7 @@ answerIn (Phase.Ended e) s card buf = refuses s refusedPhase buf
 -- the call answer: the refusals of every call, then by the phase
 abbrev pub answerStep : Session → List ℕ → List ℕ → Step
 answerStep s card buf = admitted s buf (answerIn (s .phase) s card buf)
+
+-- the same on a session's phase, count and store
+abbrev pub answerOn : Phase → ℕ → List ℕ → List ℕ → List ℕ → Step
+answerOn p n b card buf = answerStep (sessionOf p n b) card buf

@@ -7,7 +7,7 @@ use Rattle.basics.specs.Reason.{refusedPhase}
 use Rattle.data_list.specs.Commands.{processingOptions}
 use Rattle.record.specs.declared.Phase.{Phase}
 use Rattle.record.specs.declared.Session.{Session}
-use Rattle.record.specs.Session.{stored}
+use Rattle.record.specs.Session.{stored, sessionOf}
 use Rattle.record.specs.Clauses.{noResults}
 use Rattle.terminal.specs.Terminal.{Loaded, refusal, loaded, load}
 use Rattle.session.specs.Steps.{Step, refuses, withResults, admitted, handOut}
@@ -36,3 +36,11 @@ startIn (Phase.Ended e) s bytes buf = refuses s refusedPhase buf
 -- the call start: the refusals of every call, then by the phase
 abbrev pub startStep : Session → List ℕ → List ℕ → Step
 startStep s bytes buf = admitted s buf (startIn (s .phase) s bytes buf)
+
+-- the same on a session's phase, count and store
+abbrev pub startOn : Phase → ℕ → List ℕ → List ℕ → List ℕ → Step
+startOn p n b bytes buf = startStep (sessionOf p n b) bytes buf
+
+-- a fresh session's count and store, past the refusals of every call
+abbrev pub loadOn : ℕ → List ℕ → List ℕ → List ℕ → Step
+loadOn n b bytes buf = startFresh (sessionOf Phase.Fresh n b) bytes buf

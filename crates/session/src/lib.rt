@@ -26,10 +26,10 @@ ghost use Rattle.analysis.specs.Action.{aboveLimit};
 ghost use Rattle.record.specs.Session.{sessionOf, replyOf, commandsTurn};
 ghost use Rattle.record.specs.Ranges.{emvMode, completed};
 ghost use Rattle.session.specs.Steps.{Did, DidIn, ended, leastBuffer, brokenOff, linkStep, stopStep};
-ghost use Rattle.session.specs.Start.{askOptions, startFresh, startStep};
+ghost use Rattle.session.specs.Start.{askOptions, startStep, startOn, loadOn};
 ghost use Rattle.session.specs.Answer.{recordPhase, optionsThere, optionsRead, optionsStep};
 ghost use Rattle.session.specs.Answer.{askCryptogram, analysed, recordsRead, recordRead, recordStep};
-ghost use Rattle.session.specs.Answer.{decision, endFor, cryptogramThere, cryptogramEnd, cryptogramReply, answerStep};
+ghost use Rattle.session.specs.Answer.{decision, endFor, cryptogramThere, cryptogramEnd, cryptogramReply, answerStep, answerOn};
 ghost use Rattle.session.specs.Inner.{refusalNumber, neededNumber, modeNumber, limitNumber, decidedEnd};
 
 // The least command buffer.
@@ -108,7 +108,7 @@ pub fn stop(session: Session, command: &mut [u8]) -> Reply
 // `start` on a session's parts, the store lent.
 pub fn start_in(phase: Phase, count: u8, store: &mut [u8], terminal: &[u8], command: &mut [u8]) -> Turn
     ensures { λ r. ⌜ DidIn r (now (store .exit)) (now (command .exit))
-        (startStep (sessionOf phase count (now (store .entry))) (now (terminal .entry)) (now (command .entry))) ⌝ }
+        (startOn phase count (now (store .entry)) (now (terminal .entry)) (now (command .entry))) ⌝ }
 {
     if command.len() < LEAST_BUFFER {
         return record::refused(phase, count, basics::REFUSED_BUFFER);
@@ -125,7 +125,7 @@ pub fn start_in(phase: Phase, count: u8, store: &mut [u8], terminal: &[u8], comm
 // `answer` on a session's parts, the store lent.
 pub fn answer_in(phase: Phase, count: u8, store: &mut [u8], card: &[u8], command: &mut [u8]) -> Turn
     ensures { λ r. ⌜ DidIn r (now (store .exit)) (now (command .exit))
-        (answerStep (sessionOf phase count (now (store .entry))) (now (card .entry)) (now (command .entry))) ⌝ }
+        (answerOn phase count (now (store .entry)) (now (card .entry)) (now (command .entry))) ⌝ }
 {
     if command.len() < LEAST_BUFFER {
         return record::refused(phase, count, basics::REFUSED_BUFFER);
@@ -183,7 +183,7 @@ fn load_objects(count: u8, store: &mut [u8], terminal: &[u8], command: &mut [u8]
     requires { ⌜ (leastBuffer ≤ length (now command)) × (count < 255) ⌝ }
     requires { ⌜ length (now store) ≡ storeSize ⌝ }
     ensures { λ r. ⌜ DidIn r (now (store .exit)) (now (command .exit))
-        (startFresh (sessionOf Phase.Fresh count (now (store .entry))) (now (terminal .entry)) (now (command .entry))) ⌝ }
+        (loadOn count (now (store .entry)) (now (terminal .entry)) (now (command .entry))) ⌝ }
 {
     let said = terminal::load(store, terminal);
     let Said::Taken = said else {
