@@ -18,7 +18,7 @@ use Rattle.journal.specs.declared.Standing.{Standing}
 use Rattle.journal.specs.declared.Checker.{Checker}
 use Rattle.journal.specs.Record.{sizeOf}
 use Rattle.journal.specs.Verdict.{Expected, expected, judged, frontSize}
-use Rattle.journal.specs.Inner.{dueIn, standingOf, standingBy, goesFurther, holding, judging, wholeOr, pushed}
+use Rattle.journal.specs.Inner.{dueIn, standingOf, standingBy, holding, judging, wholeOr, pushed}
 use Rattle.journal.proofs.Pushed.{State, state, judgedState, wholeState, stepBy}
 
 -- ---- every way out of a push

@@ -1,11 +1,11 @@
 -- The record that is due behind a call. A command stands in the front of a zero buffer, so the whole buffer is the command with zeros
 -- behind it.
 -- Assumes nothing.
-use mathlib.Core.Path.{_≡_, refl, sym, ap, subst, _∙_}
+use mathlib.Core.Path.{_≡_, refl, sym, ap, _∙_}
 use mathlib.Core.Bool.{true}
 use mathlib.Core.List.{List, [], _∷_, _++_}
 use mathlib.Core.Option.{Option, some, none}
-use Prim.Native.Nat.{ℕ, zero, suc, _+_, _-_, _≤_, _<_}
+use Prim.Native.Nat.{ℕ, zero, suc, _+_, _-_, _<_}
 use native.Mathlib.Omega.{arith}
 use lib.ListN.{length, take, drop, replicate}
 use lib.Seq.{take-append-seam}
@@ -14,7 +14,6 @@ use Rattle.basics.specs.Choice.{if}
 use Rattle.record.specs.declared.Session.{Session}
 use Rattle.record.specs.declared.Reply.{Reply}
 use Rattle.session.specs.Steps.{Step, Did}
-use Rattle.trace.specs.Calls.{Call, step}
 use Rattle.trace.proofs.EveryCall.{Came}
 use Rattle.journal.specs.declared.Standing.{Standing}
 use Rattle.journal.specs.Record.{twoBytes, zeroPadded, mostCommand, lent, replyRecord}

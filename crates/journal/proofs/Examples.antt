@@ -1,7 +1,7 @@
 -- Small journals, computed.
 -- Assumes nothing.
 use mathlib.Core.Path.{_≡_, refl}
-use mathlib.Core.List.{List, [], _∷_}
+use mathlib.Core.List.{[], _∷_}
 use Rattle.basics.specs.Choice.{if}
 use Rattle.basics.specs.Recursion.{recurse, recurseBy}
 use Rattle.journal.specs.declared.Verdict.{Verdict}

@@ -2,16 +2,16 @@
 -- over s. The laws that `feed` and `finish` cite.
 -- Assumes nothing.
 use mathlib.Core.Path.{_≡_, refl, sym, ap, subst, _∙_}
-use mathlib.Core.Bool.{Bool, true, false}
+use mathlib.Core.Bool.{Bool, true, false, not}
 use mathlib.Core.Logic.{inl, inr}
 use mathlib.Core.List.{List, [], _∷_, _++_, append-assoc, append-nil}
 use mathlib.Core.Option.{Option, some, none}
-use Prim.Native.Nat.{ℕ, suc, _+_, _≤_, _<_}
+use Prim.Native.Nat.{ℕ, _+_, _≤_, _<_}
 use native.Mathlib.Omega.{arith}
 use native.Mathlib.Numerals.{add-one}
 use lib.Dec.{eqb, ltb}
 use lib.ListN.{length, getD, take, set, replicate, length-set, length-replicate}
-use lib.Seq.{take-suc, take-all, length-take-le}
+use lib.Seq.{take-suc, length-take-le}
 use borrow.Author.Tests.{eq-eqb, ne-eqb, lt-ltb, le-ltb, ltb-true}
 use Rattle.basics.proofs.Laws.{if-yes, if-no, if-ind, bool-cases, either-left, either-no}
 use Rattle.basics.specs.Choice.{either}
@@ -23,7 +23,7 @@ use Rattle.journal.specs.declared.WantedRecord.{WantedRecord}
 use Rattle.journal.specs.Verdict.{Expected, judged, verdictOf, frontSize, wantedBy, wantedOf}
 use Rattle.journal.specs.Inner.{dueIn, standingBy, firstChecker, goesFurther, holding, judging, wholeOr, pushed, pushedAll, Follows, verdictAt, wantedAt}
 use Rattle.journal.proofs.Pushed.{State, Keeps, KeepsAt, step-keeps, first-keeps, says-unlike, says-accepted, says-cut, wanted-unlike}
-use Rattle.journal.proofs.Byte.{stateOf, Fine, state-step, due-back, size-most}
+use Rattle.journal.proofs.Byte.{stateOf, Fine, stays-wrong, state-step, due-back, size-most}
 use Rattle.journal.proofs.Kept.{few-records}
 
 -- ---- bytes one by one
@@ -43,6 +43,12 @@ unfolding pushedAll
 pushed-more c d r v i b k l e p =
     p ∙ ap (λ (x : Checker). pushed x b) k ∙ ap (pushed (pushedAll c (take i v))) e ∙ sym (pushed-append c (take i v) (getD v i 0 ∷ []))
     ∙ ap (pushedAll c) (sym (take-suc v i 0 l) ∙ ap (λ (m : ℕ). take m v) (sym (add-one i)))
+
+-- behind an unlike record nothing changes
+pub stays-all : (c : Checker) (v : List ℕ) → c .standing .right ≡ false → c ≡ pushedAll c v
+unfolding pushedAll
+stays-all c [] e = refl
+stays-all c (b ∷ v) e = stays-all c v e ∙ ap (λ (x : Checker). pushedAll x v) (stays-wrong c b e)
 
 -- what `feed` promises
 pub fed : (c r : Checker) (v w : List ℕ) → r ≡ pushedAll c v → v ≡ w → (r ≡ pushedAll c w) × ((s : List ℕ) → Follows c s → Follows r (s ++ w))
@@ -135,19 +141,19 @@ behind-all s = behind-bytes firstChecker [] s behind-first
 module _ (c : Checker) where
   pub says-wrong : c .standing .right ≡ false → Verdict.Unlike (c .records) ≡ verdictAt c
   unfolding verdictAt
-  says-wrong r = sym (if-no _ _ r)
+  says-wrong r = sym (if-yes _ _ (ap not r))
 
   pub says-whole : c .standing .right ≡ true → c .length ≡ 0 → Verdict.Accepted (c .records) ≡ verdictAt c
   unfolding verdictAt
-  says-whole r l = sym (if-yes _ _ r ∙ if-yes _ _ (eq-eqb (c .length) 0 l))
+  says-whole r l = sym (if-no _ _ (ap not r) ∙ if-yes _ _ (eq-eqb (c .length) 0 l))
 
   pub says-held : c .standing .right ≡ true → (c .length ≡ 0 → ⊥) → c .records < 1000 → Verdict.Cut (c .records + 1) ≡ verdictAt c
   unfolding verdictAt
-  says-held r l n = sym (if-yes _ _ r ∙ if-no _ _ (ne-eqb (c .length) 0 l) ∙ ap Verdict.Cut (if-yes _ _ (lt-ltb (c .records) 1000 n)))
+  says-held r l n = sym (if-no _ _ (ap not r) ∙ if-no _ _ (ne-eqb (c .length) 0 l) ∙ ap Verdict.Cut (if-yes _ _ (lt-ltb (c .records) 1000 n)))
 
   pub says-many : c .standing .right ≡ true → (c .length ≡ 0 → ⊥) → 1000 ≤ c .records → Verdict.Cut (c .records) ≡ verdictAt c
   unfolding verdictAt
-  says-many r l n = sym (if-yes _ _ r ∙ if-no _ _ (ne-eqb (c .length) 0 l) ∙ ap Verdict.Cut (if-no _ _ (le-ltb (c .records) 1000 n)))
+  says-many r l n = sym (if-no _ _ (ap not r) ∙ if-no _ _ (ne-eqb (c .length) 0 l) ∙ ap Verdict.Cut (if-no _ _ (le-ltb (c .records) 1000 n)))
 
 -- every way out of `wanted`
 module _ (c : Checker) where
@@ -184,7 +190,7 @@ module _ (c : Checker) (s : List ℕ) (h : Behind c s) where
   wanted-right : c .standing .right ≡ true → [] ≡ wantedOf s
   unfolding verdictAt wantedOf
   wanted-right r =
-      sym (ap (wantedBy s) (if-yes _ _ r) ∙ if-ind (λ (v : Verdict). wantedBy s v ≡ []) (eqb (c .length) 0) _ _ (λ w. refl) (λ w. refl))
+      sym (ap (wantedBy s) (if-no _ _ (ap not r)) ∙ if-ind (λ (v : Verdict). wantedBy s v ≡ []) (eqb (c .length) 0) _ _ (λ w. refl) (λ w. refl))
       ∙ ap (wantedBy s) verdict-said
 
   wanted-said : take (wantedAt c .size) (wantedAt c .bytes) ≡ wantedOf s

@@ -1,16 +1,18 @@
 -- Two records for each call taken: a call on a session that has ended is refused, and every other call that is taken hands out a command
--- or ends the session. So a journal that is right so far has at most 262 records. What is due has at most 264 bytes.
+-- or ends the session. So a journal that is right so far has at most 262 records. What is due is a whole record of
+-- at most 264 bytes.
 -- Assumes nothing.
 use mathlib.Core.Path.{_≡_, refl, sym, ap, subst, _∙_}
 use mathlib.Core.Bool.{Bool, true, false}
 use mathlib.Core.List.{List, [], _∷_, _++_}
 use mathlib.Core.Option.{Option, some, none}
-use Prim.Native.Nat.{ℕ, _+_, _-_, _*_, _≤_}
+use Prim.Native.Nat.{ℕ, _+_, _-_, _*_, _≤_, _<_}
 use native.Mathlib.Omega.{arith}
 use lib.Dec.{eqb}
 use lib.ListN.{length, getD, take, replicate, length-append, length-take, length-replicate}
 use Rattle.basics.specs.Alike.{alike}
 use Rattle.basics.specs.Reason.{reasonLink, reasonStopped}
+use Rattle.basics.specs.Choice.{if}
 use Rattle.basics.proofs.Laws.{if-ind}
 use Rattle.record.specs.declared.End.{End}
 use Rattle.record.specs.declared.Phase.{Phase}
@@ -25,8 +27,8 @@ use Rattle.trace.specs.Claim.{isEnded, oneIf}
 use Rattle.trace.proofs.Ranges.{start-keeps, answer-keeps, link-keeps, stop-keeps}
 use Rattle.trace.proofs.Rules.{no}
 use Rattle.trace.proofs.EveryCall.{Came, start-came, answer-came, link-came, stop-came}
-use Rattle.journal.specs.Record.{twoBytes, zeroPadded, mostCommand, lent, mostStart, mostAnswer, fits, isLong, callFrom}
-use Rattle.journal.specs.Verdict.{Expected, expected, atFirst, repliedBy, called, judgedBy, judged}
+use Rattle.journal.specs.Record.{sizeOf, twoBytes, zeroPadded, mostCommand, lent, mostStart, mostAnswer, fits, isLong, callFrom}
+use Rattle.journal.specs.Verdict.{Expected, expected, atFirst, repliedBy, called, judgedBy, frontSize}
 
 -- ---- what is kept from record to record
 
@@ -41,6 +43,7 @@ pub record Kept (e : Expected) (n : ℕ) : Type 0 where
   pub ranges : inRanges (e .session) ≡ true
   pub few : n + dueOne (e .due) ≤ 2 * (e .session .count + oneIf (isEnded (e .session .phase)))
   pub fits : length (e .due) ≤ 264
+  pub whole : 0 < length (e .due) → length (e .due) ≡ frontSize (e .due)
 
 -- ---- every call
 
@@ -126,20 +129,22 @@ lent-call r c =
 
 -- ---- one record more
 
-command-fits : (k : ℕ) (v : List ℕ) → k ≤ 261 → length (5 ∷ (twoBytes k ++ zeroPadded mostCommand (take k v))) ≤ 264
-command-fits k v h =
+command-size : (k : ℕ) (v : List ℕ) → k ≤ 261 → length (5 ∷ (twoBytes k ++ zeroPadded mostCommand (take k v))) ≡ 264
+command-size k v h =
     omega (arith, length-append (take k v) (replicate (261 - length (take k v)) 0), length-replicate {A = ℕ} (261 - length (take k v)) 0, length-take k v)
 
 came-kept : {s : Session} {buf : List ℕ} {st : Step} (n : ℕ) (t : Expected) → Came s buf st → length buf ≤ 261 → inRanges (st .reply .session) ≡ true
     → (isRefusal (st .reply .answer) ≡ false → isEnded (s .phase) ≡ false)
     → n + 0 ≤ 2 * (s .count + oneIf (isEnded (s .phase))) → repliedBy st ≡ some t → Kept t (n + 1)
+unfolding sizeOf if
 came-kept n t (Came.refused k) m i f h e = nothing e
 came-kept n t (Came.ended b o k) m i f h e =
     let g = ap oneIf (f refl) in
-    subst (λ (x : Expected). Kept x (n + 1)) (same-some e) (record { ranges = i; few = omega arith; fits = omega arith })
+    subst (λ (x : Expected). Kept x (n + 1)) (same-some e) (record { ranges = i; few = omega arith; fits = omega arith; whole = λ z. refl })
 came-kept n t (Came.sent b p c l) m i f h e =
     let g = ap oneIf (f refl) in
-    subst (λ (x : Expected). Kept x (n + 1)) (same-some e) (record { ranges = i; few = omega arith; fits = command-fits (length c) _ (omega arith) })
+    let z = command-size (length c) _ (omega arith) in
+    subst (λ (x : Expected). Kept x (n + 1)) (same-some e) (record { ranges = i; few = omega arith; fits = omega arith; whole = λ y. z })
 
 called-kept : (s : Session) (o : Option Call) (n : ℕ) (t : Expected) → ((c : Call) → o ≡ some c → bufferOf c ≡ lent) → Kept (expected s []) n
     → called s o ≡ some t → Kept t (n + 1)
@@ -151,11 +156,11 @@ pub judged-kept : (s : Session) (d r : List ℕ) (n : ℕ) (t : Expected) → Ke
 judged-kept s [] r n t k e = called-kept s (callFrom r) n t (lent-call r) k e
 judged-kept s (b ∷ d) r n t k e =
     if-ind (λ (o : Option Expected). o ≡ some t → Kept t (n + 1)) (alike r (b ∷ d)) (some (expected s [])) none
-    (λ w e. subst (λ (x : Expected). Kept x (n + 1)) (same-some e) (record { ranges = k .ranges; few = let f = k .few in omega arith; fits = omega arith }))
+    (λ w e. subst (λ (x : Expected). Kept x (n + 1)) (same-some e) (record { ranges = k .ranges; few = let f = k .few in omega arith; fits = omega arith; whole = λ z. absurd (omega arith) }))
     (λ w e. nothing e) e
 
 pub first-kept : Kept atFirst 0
-first-kept = record { ranges = fresh-keeps; few = omega arith; fits = omega arith }
+first-kept = record { ranges = fresh-keeps; few = omega arith; fits = omega arith; whole = λ z. absurd (omega arith) }
 
 -- ---- never over 262 records
 

@@ -9,3 +9,4 @@ pub mod Back
 pub mod Accepts
 pub mod Few
 pub mod Examples
+pub mod RightRecord

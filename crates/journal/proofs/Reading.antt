@@ -1,9 +1,9 @@
 -- A whole record against the call that it stands for: one law for each way out of the code.
 -- Assumes nothing.
-use mathlib.Core.Path.{_≡_, refl, sym, ap, _∙_}
-use mathlib.Core.Bool.{Bool, true, false}
-use mathlib.Core.List.{List, [], _∷_}
-use mathlib.Core.Option.{Option, some, none}
+use mathlib.Core.Path.{_≡_, sym, ap, _∙_}
+use mathlib.Core.Bool.{true, false}
+use mathlib.Core.List.{List}
+use mathlib.Core.Option.{none}
 use Prim.Native.Nat.{ℕ, _+_, _-_, _≤_, _<_}
 use native.Mathlib.Omega.{arith}
 use lib.ListN.{length, getD, take, drop}
@@ -20,9 +20,9 @@ use Rattle.session.specs.Start.{startStep}
 use Rattle.session.specs.Answer.{answerStep}
 use Rattle.trace.proofs.EveryCall.{start-came, answer-came}
 use Rattle.journal.specs.declared.Standing.{Standing}
-use Rattle.journal.specs.Record.{sizeOf, lent, recordLength, bodyIn, broughtIn, fits, isLong, longAnswer, mostStart, mostAnswer}
+use Rattle.journal.specs.Record.{sizeOf, lent, recordLength, broughtIn, fits, isLong, longAnswer, mostStart, mostAnswer}
 use Rattle.journal.specs.Record.{startFrom, answerFrom, linkFrom, stopFrom, callFrom}
-use Rattle.journal.specs.Verdict.{Expected, replied, repliedBy, called}
+use Rattle.journal.specs.Verdict.{replied, repliedBy, called}
 use Rattle.journal.specs.Inner.{wholeRecord, standingBy}
 use Rattle.journal.proofs.Due.{stands-as, did-due}
 

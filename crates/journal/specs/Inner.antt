@@ -3,7 +3,7 @@
 -- whatever parts (`Follows`), says `verdictOf` and `wantedOf` of them.
 -- Assumes nothing.
 use mathlib.Core.Path.{_≡_}
-use mathlib.Core.Bool.{Bool, true, false}
+use mathlib.Core.Bool.{Bool, true, false, not}
 use mathlib.Core.List.{List, [], _∷_, _++_}
 use mathlib.Core.Option.{Option, some, none}
 use Prim.Native.Nat.{ℕ, _+_}
@@ -86,18 +86,18 @@ Follows c s = c ≡ pushedAll firstChecker s
 
 -- ---- where the journal ends
 
--- the number of the record that is held
+-- the number of the record that is held, behind n others
 abbrev pub heldNumber : ℕ → ℕ
 heldNumber n =
     if n <? 1000 then n + 1
     else n
 
+-- an unlike record is named, a record that is held is cut; else all were right
 unfoldable pub verdictAt : Checker → Verdict
 verdictAt c =
-    if c .standing .right then
-      if c .length =? 0 then Verdict.Accepted (c .records)
-      else Verdict.Cut (heldNumber (c .records))
-    else Verdict.Unlike (c .records)
+    if not (c .standing .right) then Verdict.Unlike (c .records)
+    else if c .length =? 0 then Verdict.Accepted (c .records)
+    else Verdict.Cut (heldNumber (c .records))
 
 -- what was due where a record was unlike, of size 0 where none was
 unfoldable pub wantedAt : Checker → WantedRecord

@@ -1,7 +1,6 @@
 -- What a journal's bytes are judged to be (document 02, Item 1): accepted, or the number of the first record that is
 -- unlike what document 01 gives or is cut. Records count from 1.
 -- Assumes nothing.
-use mathlib.Core.Bool.{Bool}
 use mathlib.Core.List.{List, [], _∷_}
 use mathlib.Core.Option.{Option, some, none}
 use Prim.Native.Nat.{ℕ, zero, suc, _+_, _-_}
@@ -96,13 +95,13 @@ abbrev pub dueThen : (Expected → List ℕ) → Option Expected → List ℕ
 dueThen k none = []
 dueThen k (some e) = k e
 
--- the reply's record that is due behind the first m records, where e is due at their front; no bytes where a call is due
+-- the reply's record that is due behind the first m records, where e is due in front of them; no bytes where a call is
 unfoldable pub dueBehind : ℕ → Expected → List ℕ → List ℕ
 dueBehind zero e s = e .due
 dueBehind (suc m) e s = dueThen (λ t. dueBehind m t (drop (frontSize s) s)) (judged e (take (frontSize s) s))
 
--- where record n is unlike and a reply was due, that reply's record; else no bytes: where a call was due, a right kernel
--- may have no record there or more than one
+-- where record n is unlike and a reply was due, that reply's record; else no bytes: where a call was due, either no
+-- record would be right or more than one
 abbrev pub wantedBy : List ℕ → Verdict → List ℕ
 wantedBy s (Verdict.Accepted n) = []
 wantedBy s (Verdict.Unlike n) = dueBehind (n - 1) atFirst s
@@ -113,6 +112,8 @@ unfoldable pub wantedOf : List ℕ → List ℕ
 wantedOf s = wantedBy s (verdictOf s)
 
 -- ---- what holds of it, proved in proofs/
---   unroll             verdictFrom e n s ≡ nextRecord verdictFrom e n s: the bound does not matter
+--   unroll             verdictFrom e n s ≡ nextRecord verdictFrom e n s
+--   wanted-only        where record n is unlike and wantedOf has bytes, these continue the n - 1 records before it, and
+--                      nothing else does
 --   accepted-few       no accepted journal has more than 262 records
 --   written-accepted   the first m records of what calls write that records hold whole are accepted, with the number m

@@ -1,5 +1,5 @@
 // Says whether the journal of a session could have come from a right kernel: `begin`, `feed` with parts of
-// any size, and `finish` at the end.
+// any size, and `finish` at the end; `wanted` gives the right record where one is unlike.
 //
 // A journal is records of one byte of kind and a body whose size the kind fixes. At most one record is
 // held, so a journal of any size needs the room of one `Checker`.
@@ -9,9 +9,9 @@ use record::Reply;
 use record::Session;
 ghost use mathlib.Core.Path.{_≡_};
 ghost use mathlib.Core.List.{List, [], _∷_, _++_};
-ghost use mathlib.Core.Option.{some, none};
+ghost use mathlib.Core.Option.{none};
 ghost use Prim.Native.Nat.{ℕ, _+_, _≤_, _<_};
-ghost use lib.ListN.{length, getD, take, drop};
+ghost use lib.ListN.{length, getD, take};
 ghost use Rattle.basics.specs.Choice.{every};
 ghost use Rattle.store.specs.Held.{isZero};
 ghost use Rattle.record.specs.Numbers.{outcomeNumber};
@@ -30,7 +30,7 @@ pub enum Verdict {
 }
 
 // The session so far, and the reply's record that comes next, of size 0 where a call comes next; not right
-// once a record was unlike.
+// once a record was unlike, with what was due there.
 pub struct Standing {
     pub session: Session,
     pub due: [u8; 264],
@@ -94,11 +94,15 @@ pub fn begin() -> Checker
     }
 }
 
-// The checker behind one part more.
+// The checker behind one part more. Behind an unlike record nothing is looked at.
 pub fn feed(checker: Checker, part: &[u8]) -> Checker
     ensures checker { λ r. ⌜ r ≡ pushedAll checker (now (part .entry)) ⌝ }
     ensures follows { λ r. ⌜ ((s : List ℕ) → Follows checker s → Follows r (s ++ now (part .entry))) ⌝ }
 {
+    let standing = checker.standing;
+    if !standing.right {
+        return checker;
+    }
     let mut next = checker;
     let mut i = 0;
     while i < part.len() {

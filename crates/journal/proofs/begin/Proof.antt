@@ -1,6 +1,6 @@
 -- `journal::begin` meets its contract: the first state.
 -- Assumes nothing.
-use mathlib.Core.Path.{_≡_, refl, ap, _∙_}
+use mathlib.Core.Path.{ap, _∙_}
 use mathlib.Core.List.{[]}
 use lib.ListN.{replicate}
 use Rattle.record.specs.declared.Session.{Session}
@@ -12,12 +12,6 @@ use borrow.Author.Needs.{needs}
 use Rattle.journal.proofs.begin.Statement.{statement}
 use Rattle.journal.proofs.begin.Tie as tie
 
-fresh-requires : tie.Need-fresh-requires
-fresh-requires c κs = search needs
-
-waiting-requires : tie.Need-waiting-requires
-waiting-requires c κs = search needs
-
 -- the checker that holds nothing, by its standing
 abbrev holdingNone : Standing → Checker
 holdingNone s = record { standing = s; held = replicate 1027 0; length = 0; records = 0 }
@@ -27,4 +21,4 @@ unfolding firstChecker pushedAll
 returns c = let e = ap holdingNone (c .waiting .ensures ∙ ap (λ (f : Session). standingOf (expected f [])) (c .before .fresh .ensures)) in (e, e)
 
 pub begin-spec : {M : Type 1} → statement M
-begin-spec = tie.close (tie.spec fresh-requires waiting-requires returns)
+begin-spec = tie.close (tie.spec (λ c κs. search needs) (λ c κs. search needs) returns)

@@ -1,15 +1,12 @@
 -- `journal::called` meets its contract: by the kind.
 -- Assumes nothing.
-use mathlib.Core.Path.{_≡_, refl, sym, ap, subst, _∙_}
+use mathlib.Core.Path.{sym, ap, _∙_}
 use Rattle.journal.proofs.Due.{stands-as}
 use Rattle.journal.proofs.Reading.{size-start, size-answer, kind-start, kind-answer, kind-link, kind-stop, kind-none}
 use Rattle.journal.specs.Verdict.{called}
 use borrow.Author.Needs.{needs}
 use Rattle.journal.proofs.called.Statement.{statement}
 use Rattle.journal.proofs.called.Tie as tie
-
-byte-at-requires : tie.Need-byte-at-requires
-byte-at-requires c κs = search needs
 
 started-requires : tie.Need-started-requires
 started-requires c κs = c .before .before .before .pre ∙ size-start _ (sym (c .before .byte-at .ensures) ∙ c .if1 .taken)
@@ -23,20 +20,11 @@ answered-requires c κs = c .before .before .before .before .pre ∙ size-answer
 returns-2 : tie.Need-returns-2
 returns-2 c = stands-as _ (ap (called _) (sym (kind-answer _ (sym (c .before .before .before .byte-at .ensures) ∙ c .before .if2 .taken)))) (c .answered .ensures)
 
-link-failed-requires : tie.Need-link-failed-requires
-link-failed-requires c κs = search needs
-
 returns-3 : tie.Need-returns-3
 returns-3 c = stands-as _ (ap (called _) (sym (kind-link _ (sym (c .before .before .before .before .byte-at .ensures) ∙ c .before .if3 .taken)))) (c .link-failed .ensures)
 
-stopped-requires : tie.Need-stopped-requires
-stopped-requires c κs = search needs
-
 returns-4 : tie.Need-returns-4
 returns-4 c = stands-as _ (ap (called _) (sym (kind-stop _ (sym (c .before .before .before .before .before .byte-at .ensures) ∙ c .before .if4 .taken)))) (c .stopped .ensures)
-
-wrong-requires : tie.Need-wrong-requires
-wrong-requires c κs = search needs
 
 returns-5 : tie.Need-returns-5
 returns-5 c = let k = c .before .before .before .before .before .byte-at .ensures in
@@ -46,14 +34,14 @@ pub called-spec : {M : Type 1} → statement M
 called-spec =
     tie.close
     (tie.spec
-    byte-at-requires
+    (λ c κs. search needs)
     started-requires
     returns
     answered-requires
     returns-2
-    link-failed-requires
+    (λ c κs. search needs)
     returns-3
-    stopped-requires
+    (λ c κs. search needs)
     returns-4
-    wrong-requires
+    (λ c κs. search needs)
     returns-5)

@@ -1,6 +1,6 @@
 -- `journal::due_of` meets its contract: by what the call handed back.
 -- Assumes nothing.
-use mathlib.Core.Path.{_≡_, refl, sym, ap, subst, _∙_}
+use mathlib.Core.Path.{sym, ap}
 use Rattle.journal.proofs.Due.{stands-as}
 use Rattle.journal.specs.Inner.{wholeRecord}
 use Rattle.record.specs.declared.Answer.{Answer}
@@ -8,24 +8,6 @@ use Rattle.journal.specs.Verdict.{replied}
 use borrow.Author.Needs.{needs}
 use Rattle.journal.proofs.due_of.Statement.{statement}
 use Rattle.journal.proofs.due_of.Tie as tie
-
-enum-known-answer : tie.Need-enum-known-answer
-enum-known-answer c = search needs
-
-command-due-requires : tie.Need-command-due-requires
-command-due-requires c κs = search needs
-
-enum-known-answer-2 : tie.Need-enum-known-answer-2
-enum-known-answer-2 c = search needs
-
-outcome-due-requires : tie.Need-outcome-due-requires
-outcome-due-requires c κs = search needs
-
-enum-told : tie.Need-enum-told
-enum-told c = search needs
-
-wrong-requires : tie.Need-wrong-requires
-wrong-requires c κs = search needs
 
 returns : tie.Need-returns
 returns c = let a = c .before .before .before .before .before .args in
@@ -43,12 +25,12 @@ pub due-of-spec : {M : Type 1} → statement M
 due-of-spec =
     tie.close
     (tie.spec
-    enum-known-answer
-    command-due-requires
-    enum-known-answer-2
-    outcome-due-requires
-    enum-told
-    wrong-requires
+    (λ c. search needs)
+    (λ c κs. search needs)
+    (λ c. search needs)
+    (λ c κs. search needs)
+    (λ c. search needs)
+    (λ c κs. search needs)
     returns
     returns-2
     returns-3)

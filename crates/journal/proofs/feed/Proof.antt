@@ -1,12 +1,13 @@
--- `journal::feed` meets its contract: the checker behind the first i bytes of the part.
+-- `journal::feed` meets its contract: behind an unlike record nothing changes; else the checker behind the first i bytes of the part.
 -- Assumes nothing.
-use mathlib.Core.Path.{_≡_, refl, sym, ap, subst, _∙_}
+use mathlib.Core.Path.{_≡_, refl}
 use native.Mathlib.Omega.{arith}
-use Prim.Native.Nat.{_-_, _≤_}
+use Prim.Native.Nat.{_-_}
+use borrow.Author.Tests.{not-true}
 use lib.ListN.{length, take}
 use lib.Seq.{take-all}
-use Rattle.journal.proofs.Follow.{pushed-none, pushed-more, fed}
 use Rattle.journal.specs.Inner.{pushedAll}
+use Rattle.journal.proofs.Follow.{pushed-none, pushed-more, stays-all, fed}
 use borrow.Author.Needs.{needs}
 use Rattle.journal.proofs.feed.Statement.{statement}
 use Rattle.journal.proofs.feed.Tie as tie
@@ -17,27 +18,19 @@ Inv-loop part next₀ i₀ next i = next ≡ pushedAll next₀ (take i part)
 abbrev μ-loop : tie.MeasureT-loop
 μ-loop part next₀ i₀ next i = length part - i
 
+returns : tie.Need-returns Inv-loop μ-loop
+returns c = let v = c .before .before .before .before .args .part .now in fed _ _ v v (stays-all _ v (not-true _ (c .if1 .taken))) refl
+
 loop-holds : tie.Need-loop-holds Inv-loop μ-loop
-loop-holds c = pushed-none (c .before .args .checker) (c .before .args .part .now)
-
-shared-slice-read-push : tie.Need-shared-slice-read-push Inv-loop μ-loop
-shared-slice-read-push c = omega arith
-
-push-requires : tie.Need-push-requires Inv-loop μ-loop
-push-requires c κs = search needs
-
-add-i : tie.Need-add-i Inv-loop μ-loop
-add-i c = omega arith
-
-loop-less : tie.Need-loop-less Inv-loop μ-loop
-loop-less c = omega arith
+loop-holds c = let a = c .before .before .before .before .args in pushed-none (a .checker) (a .part .now)
 
 loop-again : tie.Need-loop-again Inv-loop μ-loop
 loop-again c = let lp = c .before .before .before .loop in
     pushed-more _ (lp .next) _ _ (lp .i) _ (lp .inv) (c .before .before .loop-test .taken) refl (c .push .ensures)
 
-returns : tie.Need-returns Inv-loop μ-loop
-returns c = fed _ _ _ (c .before .before .before .args .part .now) (c .before .loop .inv) (take-all (c .before .loop .i) _ (omega (arith, c .loop-test .left)))
+returns-2 : tie.Need-returns-2 Inv-loop μ-loop
+returns-2 c = let v = c .before .before .before .before .before .before .args .part .now in
+    fed _ _ _ v (c .before .loop .inv) (take-all (c .before .loop .i) v (omega (arith, c .loop-test .left)))
 
 pub feed-spec : {M : Type 1} → statement M
 feed-spec =
@@ -45,10 +38,11 @@ feed-spec =
     (tie.spec
     Inv-loop
     μ-loop
+    returns
     loop-holds
-    shared-slice-read-push
-    push-requires
-    add-i
-    loop-less
+    (λ c. omega arith)
+    (λ c κs. search needs)
+    (λ c. omega arith)
+    (λ c. omega arith)
     loop-again
-    returns)
+    returns-2)

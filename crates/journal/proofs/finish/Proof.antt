@@ -1,6 +1,5 @@
 -- `journal::finish` meets its contract: one law for each way out; a checker that was fed some bytes says the verdict over them.
 -- Assumes nothing.
-use mathlib.Core.Path.{_≡_, refl, sym, ap, subst, _∙_}
 use native.Mathlib.Omega.{arith}
 use borrow.Author.Tests.{not-true, not-false}
 use Rattle.journal.proofs.Follow.{finished, says-wrong, says-whole, says-many, says-held}
@@ -17,11 +16,8 @@ returns-2 c = finished _ _ (says-whole _ (not-false _ (c .before .before .if1 .l
 returns-3 : tie.Need-returns-3
 returns-3 c = finished _ _ (says-many _ (not-false _ (c .before .before .before .before .if1 .left)) (c .before .before .if2 .left) (omega (arith, c .if3 .taken)))
 
-add-t4 : tie.Need-add-t4
-add-t4 c = search needs
-
 returns-4 : tie.Need-returns-4
 returns-4 c = finished _ _ (says-held _ (not-false _ (c .before .before .before .before .before .if1 .left)) (c .before .before .before .if2 .left) (omega (arith, c .before .if3 .left)))
 
 pub finish-spec : {M : Type 1} → statement M
-finish-spec = tie.close (tie.spec returns returns-2 returns-3 add-t4 returns-4)
+finish-spec = tie.close (tie.spec returns returns-2 returns-3 (λ c. search needs) returns-4)

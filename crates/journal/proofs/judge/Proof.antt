@@ -1,8 +1,8 @@
 -- `journal::judge` meets its contract: by what is due.
 -- Assumes nothing.
-use mathlib.Core.Path.{_≡_, refl, sym, ap, subst, _∙_}
+use mathlib.Core.Path.{_≡_, sym, ap, _∙_}
 use native.Mathlib.Omega.{arith}
-use Prim.Native.Nat.{ℕ, _≤_}
+use Prim.Native.Nat.{ℕ}
 use lib.ListN.{length, take}
 use lib.Seq.{length-take-le}
 use Rattle.basics.proofs.Laws.{if-yes, if-no}
@@ -11,9 +11,6 @@ use Rattle.journal.proofs.Due.{stands-as, reply-due}
 use borrow.Author.Needs.{needs}
 use Rattle.journal.proofs.judge.Statement.{statement}
 use Rattle.journal.proofs.judge.Tie as tie
-
-called-requires : tie.Need-called-requires
-called-requires c κs = search needs
 
 returns : tie.Need-returns
 returns c = let a = c .before .before .before .before .args in
@@ -27,20 +24,11 @@ slice-aggregate-same c = let a = c .before .before .before .before .before .args
     let l : length (a .standing .due) ≡ 264 = search needs in
     sym (length-take-le (a .standing .size) (a .standing .due) (omega (arith, c .before .before .before .before .before .pre .1)))
 
-same-requires : tie.Need-same-requires
-same-requires c κs = search needs
-
-waiting-requires : tie.Need-waiting-requires
-waiting-requires c κs = search needs
-
 returns-2 : tie.Need-returns-2
 returns-2 c = let a = c .before .before .before .before .before .before .before .before .args in
     let l : length (a .standing .due) ≡ 264 = search needs in
     let n = length-take-le (a .standing .size) (a .standing .due) (omega (arith, c .before .before .before .before .before .before .before .before .pre .1)) in
     stands-as _ (sym (reply-due _ (take (a .standing .size) (a .standing .due)) (a .whole .now) (omega (arith, c .before .before .before .before .before .if1 .left)) ∙ if-yes _ _ (sym (c .before .before .same .ensures) ∙ c .before .if2 .taken))) (c .waiting .ensures)
-
-wrong-requires : tie.Need-wrong-requires
-wrong-requires c κs = search needs
 
 returns-3 : tie.Need-returns-3
 returns-3 c = let a = c .before .before .before .before .before .before .before .before .args in
@@ -52,12 +40,12 @@ pub judge-spec : {M : Type 1} → statement M
 judge-spec =
     tie.close
     (tie.spec
-    called-requires
+    (λ c κs. search needs)
     returns
     array-share-prefix-due
     slice-aggregate-same
-    same-requires
-    waiting-requires
+    (λ c κs. search needs)
+    (λ c κs. search needs)
     returns-2
-    wrong-requires
+    (λ c κs. search needs)
     returns-3)

@@ -7,18 +7,9 @@ use borrow.Author.Needs.{needs}
 use Rattle.journal.proofs.link_failed.Statement.{statement}
 use Rattle.journal.proofs.link_failed.Tie as tie
 
-slice-aggregate-link-failed : tie.Need-slice-aggregate-link-failed
-slice-aggregate-link-failed c = search needs
-
-link-failed-requires : tie.Need-link-failed-requires
-link-failed-requires c κs = search needs
-
-due-of-requires : tie.Need-due-of-requires
-due-of-requires c κs = search needs
-
 returns : tie.Need-returns
 returns c = did-due _ (link-came _ lent) (c .before .before .link-failed .ensures) (c .due-of .ensures)
 
 pub link-failed-spec : {M : Type 1} → statement M
 link-failed-spec =
-    tie.close (tie.spec slice-aggregate-link-failed link-failed-requires due-of-requires returns)
+    tie.close (tie.spec (λ c. search needs) (λ c κs. search needs) (λ c κs. search needs) returns)

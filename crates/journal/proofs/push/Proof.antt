@@ -1,10 +1,9 @@
 -- `journal::push` meets its contract: the byte set behind the part that is held, and the record judged where it is whole.
 -- Assumes nothing.
-use mathlib.Core.Path.{_≡_, refl, sym, ap, subst, _∙_}
+use mathlib.Core.Path.{_≡_, sym}
 use native.Mathlib.Omega.{arith}
 use borrow.Author.Tests.{not-true, not-false}
-use Prim.Native.Nat.{_≤_, _<_}
-use lib.ListN.{length, getD, take, set, length-set}
+use lib.ListN.{length, set, length-set}
 use lib.Seq.{length-take-le}
 use Rattle.journal.proofs.Byte.{stays-wrong, stays-length, stays-size, stays-records, holds-more, judges, record-sized}
 use borrow.Author.Needs.{needs}
@@ -22,21 +21,6 @@ returns-3 c = stays-size _ _ (omega (arith, c .if3 .taken))
 
 returns-4 : tie.Need-returns-4
 returns-4 c = stays-records _ _ (omega (arith, c .if4 .taken))
-
-array-write-held : tie.Need-array-write-held
-array-write-held c = search needs
-
-array-read-size-of : tie.Need-array-read-size-of
-array-read-size-of c = search needs
-
-size-of-requires : tie.Need-size-of-requires
-size-of-requires c κs = search needs
-
-add-if5 : tie.Need-add-if5
-add-if5 c = search needs
-
-add-t16 : tie.Need-add-t16
-add-t16 c = search needs
 
 returns-5 : tie.Need-returns-5
 returns-5 c = let k = c .before .before .before .before .before .before .before .before .before .before .before .args in
@@ -60,9 +44,6 @@ judge-requires c κs = let k = c .before .before .before .before .before .before
       omega (arith, c .before .before .before .before .before .before .if3 .left),
     )
 
-add-t14 : tie.Need-add-t14
-add-t14 c = search needs
-
 returns-6 : tie.Need-returns-6
 returns-6 c = let k = c .before .before .before .before .before .before .before .before .before .before .before .before .before .before .args in
     let s = c .before .before .before .before .size-of in
@@ -76,14 +57,14 @@ push-spec =
     returns-2
     returns-3
     returns-4
-    array-write-held
-    array-read-size-of
-    size-of-requires
-    add-if5
-    add-t16
+    (λ c. search needs)
+    (λ c. search needs)
+    (λ c κs. search needs)
+    (λ c. search needs)
+    (λ c. search needs)
     returns-5
     array-share-prefix-held
     slice-aggregate-judge
     judge-requires
-    add-t14
+    (λ c. search needs)
     returns-6)

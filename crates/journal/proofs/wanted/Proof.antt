@@ -15,7 +15,8 @@ returns c =
     (omega arith)
 
 returns-2 : tie.Need-returns-2
-returns-2 c = let l = ltb-false 264 _ (c .before .if2 .left) in wanted-follows _ _ (wants-due _ (c .before .before .if1 .left) l) l
+returns-2 c = let k = c .before .before .before .before .args .checker in
+    let l = ltb-false 264 (k .standing .size) (c .before .if2 .left) in wanted-follows k _ (wants-due k (c .before .before .if1 .left) l) l
 
 pub wanted-spec : {M : Type 1} → statement M
 wanted-spec = tie.close (tie.spec returns returns-2)
