@@ -4,14 +4,13 @@
 // `journal`, which checks them.
 use record::End;
 ghost use mathlib.Core.Path.{_≡_};
-ghost use mathlib.Core.List.{[], _∷_, _++_};
+ghost use mathlib.Core.List.{[]};
 ghost use Prim.Native.Nat.{_+_, _≤_};
-ghost use lib.ListN.{length, drop};
+ghost use lib.ListN.{length};
 ghost use Rattle.record.specs.declared.Answer.{Answer};
-ghost use Rattle.trace.specs.Calls.{link-failed as aFailure, stop as aStop};
-ghost use Rattle.trace.specs.Calls.{answer as anAnswer};
-ghost use Rattle.journal.specs.Record.{twoBytes, callRecord, replyRecord};
-ghost use Rattle.journal_record.specs.Written.{startRecord, commandRecord};
+ghost use Rattle.trace.specs.Calls.{answer as anAnswer, link-failed as aFailure, stop as aStop};
+ghost use Rattle.journal.specs.Record.{callRecord, replyRecord};
+ghost use Rattle.journal_record.specs.Written.{startRecord, commandRecord, filledIn};
 
 // A start. More than 1,024 bytes are refused and have no record: zeros.
 pub fn start(bytes: &[u8]) -> [u8; 1027]
@@ -80,7 +79,7 @@ pub fn outcome(end: End) -> [u8; 3]
 // Kind, length in two bytes and the bytes, in front of what stands there.
 fn fill(kind: u8, bytes: &[u8], out: &mut [u8])
     requires { ⌜ length (now bytes) + 3 ≤ length (now out) ⌝ }
-    ensures { λ _. ⌜ now (out .exit) ≡ kind ∷ (twoBytes (length (now (bytes .entry))) ++ (now (bytes .entry) ++ drop (length (now (bytes .entry)) + 3) (now (out .entry)))) ⌝ }
+    ensures { λ _. ⌜ now (out .exit) ≡ filledIn kind (now (bytes .entry)) (now (out .entry)) ⌝ }
 {
     let n = bytes.len();
     out[0] = kind;

@@ -1,5 +1,5 @@
--- A verdict as one number, for tests: the record's number in the low 16 bits, and above it 0 for accepted, 1 for unlike and
--- 2 for cut; and the right record in the place of an unlike one.
+-- A verdict as one number, for tests: the record's number in the low 16 bits, and above it 0 for accepted, 1 for unlike
+-- and 2 for cut; and the right record in the place of an unlike one.
 -- Assumes nothing.
 use mathlib.Core.Path.{_≡_}
 use mathlib.Core.List.{List}

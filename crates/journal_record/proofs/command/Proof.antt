@@ -3,7 +3,7 @@
 use borrow.Author.Needs.{needs}
 use borrow.Author.Tests.{le-leb, lt-leb}
 use native.Mathlib.Omega.{arith}
-use mathlib.Core.Path.{sym, ap, _∙_}
+use mathlib.Core.Path.{sym, _∙_}
 use lib.ListN.{length, take, length-take}
 use Rattle.basics.proofs.Laws.{if-yes, if-no, both-yes, both-no-left, both-no-right}
 use Rattle.journal_record.specs.Written.{commandRecord}

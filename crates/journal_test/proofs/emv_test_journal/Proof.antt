@@ -24,14 +24,14 @@ abbrev μ-loop : tie.MeasureT-loop
 μ-loop bytes first part at₀ checker₀ at checker = length bytes - at
 
 loop-holds : tie.Need-loop-holds Inv-loop μ-loop
-loop-holds c = (c .before .before .before .least .ensures , c .feed .ensures .1 [] (c .before .before .begin .ensures .1))
+loop-holds c = (c .before .before .before .least .ensures, c .feed .ensures .1 [] (c .before .before .begin .ensures .1))
 
 loop-again : tie.Need-loop-again Inv-loop μ-loop
 loop-again c =
     let b = c .before .before .before .before .before .before .before .before .before .before .args .bytes .now in
     let lp = c .before .before .before .before .loop in
     let e = c .before .before .end-of in
-    (e .ensures .1 , subst (Follows (c .feed2 .result)) (parted b (lp .at) (e .result) (e .ensures .0)) (c .feed2 .ensures .1 (take (lp .at) b) (lp .inv .1)))
+    (e .ensures .1, subst (Follows (c .feed2 .result)) (parted b (lp .at) (e .result) (e .ensures .0)) (c .feed2 .ensures .1 (take (lp .at) b) (lp .inv .1)))
 
 returns : tie.Need-returns Inv-loop μ-loop
 returns c =

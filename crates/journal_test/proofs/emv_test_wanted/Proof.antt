@@ -1,8 +1,7 @@
 -- `journal_test::emv_test_wanted` meets its contract: the checker follows the bytes, and what is wanted is copied whole.
 -- Assumes nothing.
 use borrow.Author.Needs.{needs}
-use native.Mathlib.Omega.{arith}
-use mathlib.Core.Path.{_≡_, subst, _∙_}
+use mathlib.Core.Path.{subst, _∙_}
 use mathlib.Core.List.{List, []}
 use Prim.Native.Nat.{ℕ}
 use Rattle.journal_test.specs.Word.{Gives}
