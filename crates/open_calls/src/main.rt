@@ -3,6 +3,7 @@
 // Each call stands in a function that asks nothing and hands on its own arguments: a condition that some
 // arguments do not meet is refused here. `tests/called` names the functions that nothing calls.
 use dictionary::SIZE;
+use journal::{Checker, Verdict};
 use layout::{Held, RECORD_SIZE};
 use record::Session;
 use run::Said;
@@ -11,6 +12,7 @@ fn main() {
     statements();
     parts();
     calls();
+    judge();
 }
 
 // ---- functions that stand for a statement
@@ -68,6 +70,8 @@ fn calls() {
     word(b"emv_version", host::emv_version());
     found(b"emv_find", find(b"\x6F\x04\x84\x02\x41\x42", 0x84));
     word(b"emv_test_read", test_read(&mut store, 1, 1, b"\x70\x00\x90\x00"));
+    word(b"emv_test_journal", test_journal(b"\x07", 0, 1));
+    line(b"emv_test_wanted", test_wanted(b"\x07", &mut value));
 }
 
 fn open(session: &mut [u8]) -> u32 {
@@ -108,6 +112,39 @@ fn find(bytes: &[u8], tag: u32) -> u64 {
 
 fn test_read(store: &mut [u8], awaited: u32, file: u8, card: &[u8]) -> u32 {
     reading_test::emv_test_read(store, awaited, file, card)
+}
+
+fn test_journal(bytes: &[u8], first: usize, part: usize) -> u32 {
+    journal_test::emv_test_journal(bytes, first, part)
+}
+
+fn test_wanted(bytes: &[u8], out: &mut [u8]) -> usize {
+    journal_test::emv_test_wanted(bytes, out)
+}
+
+// ---- a journal
+
+fn judge() {
+    let checker = feed(journal::begin(), b"\x07");
+    line(b"journal::wanted, its size", wanted_size(checker));
+    let verdict = finish(checker);
+    let Verdict::Unlike(n) = verdict else {
+        return;
+    };
+    line(b"journal::finish: unlike", n);
+}
+
+fn feed(checker: Checker, part: &[u8]) -> Checker {
+    journal::feed(checker, part)
+}
+
+fn finish(checker: Checker) -> Verdict {
+    journal::finish(checker)
+}
+
+fn wanted_size(checker: Checker) -> usize {
+    let wanted = journal::wanted(checker);
+    wanted.size
 }
 
 // ---- lines

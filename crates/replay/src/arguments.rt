@@ -1,17 +1,30 @@
-// The words that the program is called with: --tree, --bits, --tell and the name of a file.
+// The words that the program is called with: --tree, --bits, --tell, --journal with a file's name behind it, and the name
+// of a file.
 use libc::STDERR_FILENO;
 use show::tree::View;
 
-// What is asked for: what is shown, whether the exit status is told on descriptor 3, which argument names the file
-// (0: none does), and whether there is one name too many or an unknown option.
+// What is asked for: what is shown, whether the exit status is told on descriptor 3, which argument names the file and
+// which the journal (0: none does), whether a journal's name is next, and whether there is one name too many, one too few
+// or an unknown option.
 pub struct Arguments {
     pub view: View,
     pub tell: bool,
     pub file: usize,
+    pub journal: usize,
+    pub naming: bool,
     pub wrong: bool,
 }
 
 pub fn read() -> Arguments {
+    let out = all();
+    if out.naming {
+        return not_understood(out, b"expected a file's name behind --journal");
+    }
+    out
+}
+
+// Every argument, one behind the other.
+fn all() -> Arguments {
     let mut out = Arguments {
         view: View {
             tree: false,
@@ -19,6 +32,8 @@ pub fn read() -> Arguments {
         },
         tell: false,
         file: 0,
+        journal: 0,
+        naming: false,
         wrong: false,
     };
     let n = os::arg_count();
@@ -35,6 +50,12 @@ fn with_argument(arguments: Arguments, i: usize) -> Arguments {
     let mut space = io::buffer();
     let n = os::arg(i, &mut space);
     let word = &space[..n];
+    if arguments.naming {
+        return with_journal(arguments, i);
+    }
+    if basics::same(word, b"--journal") {
+        return naming(arguments);
+    }
     if basics::same(word, b"--tell") {
         return telling(arguments);
     }
@@ -59,11 +80,30 @@ fn telling(arguments: Arguments) -> Arguments {
     out
 }
 
+// The next argument names the journal.
+fn naming(arguments: Arguments) -> Arguments {
+    if arguments.journal != 0 {
+        return not_understood(arguments, b"more than one journal");
+    }
+    let mut out = arguments;
+    out.naming = true;
+    out
+}
+
+fn with_journal(arguments: Arguments, i: usize) -> Arguments {
+    let mut out = arguments;
+    out.journal = i;
+    out.naming = false;
+    out
+}
+
 fn with_view(arguments: Arguments, tree: bool, bits: bool) -> Arguments {
     Arguments {
         view: View { tree, bits },
         tell: arguments.tell,
         file: arguments.file,
+        journal: arguments.journal,
+        naming: arguments.naming,
         wrong: arguments.wrong,
     }
 }

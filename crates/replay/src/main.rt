@@ -3,10 +3,13 @@
 // that the session holds. A line that is wrong is reported by its number, and nothing behind it is played.
 //
 // The file is read in parts of 4,096 bytes. What a line means is the library `line`'s matter. What is wrong goes to
-// standard error. With --tell the exit status that is due goes to descriptor 3: 0 where all was played, else 1.
+// standard error. With --journal the session's journal goes to a file. With --tell the exit status that is due goes to
+// descriptor 3: 0 where all was played, 2 where a journal could not be written, else 1.
 mod arguments;
+mod recorded;
 mod why;
 
+use arguments::Arguments;
 use libc::{STDERR_FILENO, STDIN_FILENO};
 use line::{Line, LONGEST, MOST};
 use record::{Answer, Phase, Reply, Session};
@@ -16,16 +19,24 @@ ghost use Prim.Native.Nat.{_≤_};
 ghost use lib.ListN.{length};
 
 // What is carried from line to line: the session, the length of the command buffer that is lent, what is shown, the
-// number of the line that is read, how many of its characters are there, whether to go on, and whether a line or the
-// file was wrong.
+// journal's descriptor (negative: none is written), whether `session` was read, the number of the line that is read, how
+// many of its characters are there, whether to go on, and the exit status that is due.
 struct Progress {
     session: Session,
     buffer: usize,
     view: View,
+    journal: i32,
+    renewed: bool,
     number: usize,
     filled: usize,
     going: bool,
-    wrong: bool,
+    status: u8,
+}
+
+// The session behind a call, and whether the journal could be written.
+struct After {
+    session: Session,
+    written: bool,
 }
 
 // Room for the longest line and one character more, by which a longer one is known.
@@ -37,63 +48,103 @@ const USUAL: usize = 261;
 // The descriptor on which the exit status is told.
 const TELLING: i32 = 3;
 
+// The exit statuses.
+const PLAYED: u8 = 0;
+
+const WRONG: u8 = 1;
+
+const UNWRITTEN: u8 = 2;
+
+// The descriptor of no journal.
+const NO_JOURNAL: i32 = -1;
+
 fn main() {
     let asked = arguments::read();
-    let good = !asked.wrong && played(asked.file, asked.view);
+    let status = played(asked);
     if asked.tell {
-        tell(good);
+        tell(status);
     }
 }
 
-fn tell(good: bool) {
-    if good {
-        io::write_all(TELLING, b"0");
-    } else {
-        io::write_all(TELLING, b"1");
+fn tell(status: u8) {
+    match status {
+        PLAYED => send(TELLING, b"0"),
+        WRONG => send(TELLING, b"1"),
+        _ => send(TELLING, b"2"),
     }
 }
 
-// Plays the file that an argument names, or standard input: whether all of it was played.
-fn played(file: usize, view: View) -> bool {
-    if file == 0 {
-        return play(STDIN_FILENO, view);
+fn send(fd: i32, words: &[u8]) {
+    io::write_all(fd, words);
+}
+
+// Plays the file that an argument names, or standard input: the exit status that is due.
+fn played(asked: Arguments) -> u8 {
+    if asked.wrong {
+        return WRONG;
+    }
+    if asked.file == 0 {
+        return kept(STDIN_FILENO, asked);
     }
     let mut path = io::buffer();
-    let n = os::arg(file, &mut path);
+    let n = os::arg(asked.file, &mut path);
     let fd = os::open_read(&path[..n]);
     if fd < 0 {
         os::fail(&path[..n]);
-        return false;
+        return WRONG;
     }
-    let good = play(fd, view);
+    let status = kept(fd, asked);
     libc::close(fd);
-    good
+    status
+}
+
+// Plays a file, and keeps its journal where one is asked for.
+fn kept(fd: i32, asked: Arguments) -> u8 {
+    if asked.journal == 0 {
+        return play(fd, asked.view, NO_JOURNAL);
+    }
+    let mut path = io::buffer();
+    let n = os::arg(asked.journal, &mut path);
+    let journal = os::open_overwrite(&path[..n]);
+    if journal < 0 {
+        os::fail(&path[..n]);
+        return UNWRITTEN;
+    }
+    let status = play(fd, asked.view, journal);
+    let closed = libc::close(journal);
+    if closed < 0 && status == PLAYED {
+        os::fail(&path[..n]);
+        return UNWRITTEN;
+    }
+    status
 }
 
 // ---- the file's lines
 
 // Plays all of a file. A proved loop has to end, so it counts its turns from a number that no file uses up.
-fn play(fd: i32, view: View) -> bool {
+fn play(fd: i32, view: View, journal: i32) -> u8 {
     let mut line = [0u8; ROOM];
-    let mut state = beginning(view);
+    let mut state = beginning(view, journal);
     let mut turns = u64::MAX;
     while turns > 0 && state.going {
         state = play_part(state, fd, &mut line);
         turns -= 1;
     }
-    !state.wrong
+    state.status
 }
 
-fn beginning(view: View) -> Progress {
+fn beginning(view: View, journal: i32) -> Progress {
     let session = record::fresh();
     Progress {
         session,
         buffer: USUAL,
         view,
+        journal,
+        renewed: false,
         number: 1,
         filled: 0,
         going: true,
-        wrong: false,
+        status: PLAYED,
     }
 }
 
@@ -105,7 +156,7 @@ fn play_part(state: Progress, fd: i32, line: &mut [u8]) -> Progress
     let got = libc::read(fd, &mut part);
     if got < 0 {
         os::fail(b"replay: the file cannot be read");
-        return failed(state);
+        return failed(state, WRONG);
     }
     if got == 0 {
         return finish(play_line(state, line));
@@ -185,10 +236,10 @@ fn play_line(state: Progress, line: &[u8]) -> Progress {
     match said {
         Line::Blank => next_line(state),
         Line::Buffer(size) => next_line(with_buffer(state, size.bytes)),
-        Line::Session => next_line(renewed(state)),
+        Line::Session => session_line(state),
         Line::Wrong(problem) => {
             report(state.number, problem.number);
-            failed(state)
+            failed(state, WRONG)
         }
         _ => next_line(made(state, said, &bytes)),
     }
@@ -206,17 +257,22 @@ fn front(s: &[u8], n: usize) -> &[u8] {
 fn made(state: Progress, said: Line, bytes: &[u8]) -> Progress {
     let mut space = [0u8; LONGEST];
     let size = least(state.buffer, LONGEST);
-    let session = state.session;
-    let view = state.view;
-    let after = shown(session, said, bytes, &mut space[..size], view);
-    with_session(state, after)
+    let after = shown(state, said, bytes, &mut space[..size]);
+    let session = after.session;
+    if !after.written {
+        return failed(with_session(state, session), UNWRITTEN);
+    }
+    with_session(state, session)
 }
 
-// Makes a call and shows its reply, and below it what it is due to.
-fn shown(session: Session, said: Line, bytes: &[u8], command: &mut [u8], view: View) -> Session {
+// Makes a call, puts it into the journal and shows its reply, and below it what it is due to.
+fn shown(state: Progress, said: Line, bytes: &[u8], command: &mut [u8]) -> After {
+    let session = state.session;
+    let view = state.view;
     let reply = call(session, said, bytes, command);
     show::reply_in_words(reply, command);
     let answer = reply.answer;
+    let written = recorded::keep(state.journal, said, bytes, answer, command);
     match said {
         Line::Start(brought) => {
             let size = brought.size;
@@ -228,7 +284,11 @@ fn shown(session: Session, said: Line, bytes: &[u8], command: &mut [u8], view: V
         }
         _ => show::text(b""),
     }
-    reply.session
+    let next = reply.session;
+    After {
+        session: next,
+        written,
+    }
 }
 
 fn call(session: Session, said: Line, bytes: &[u8], command: &mut [u8]) -> Reply {
@@ -321,25 +381,43 @@ fn stopped(state: Progress) -> Progress {
     out
 }
 
-fn failed(state: Progress) -> Progress {
+fn failed(state: Progress, status: u8) -> Progress {
     let mut out = state;
     out.going = false;
-    out.wrong = true;
+    out.status = status;
     out
 }
 
 // ---- the end of a session
 
-// A fresh session and the usual buffer; first what the session before it holds.
-fn renewed(state: Progress) -> Progress {
-    let session = state.session;
+// `session`: a journal is of one, so behind a call that was taken, and a second time, the line is wrong.
+fn session_line(state: Progress) -> Progress {
+    if 0 <= state.journal && (state.renewed || !is_fresh(state.session)) {
+        complain(b"replay: line ");
+        io::print_decimal(STDERR_FILENO, state.number as u64);
+        complain(b": expected no further session, since a journal is of one\n");
+        return failed(state, WRONG);
+    }
+    next_line(renewed(state))
+}
+
+fn is_fresh(session: Session) -> bool {
     let phase = session.phase;
     match phase {
-        Phase::Fresh => show::text(b""),
-        _ => holding(state),
+        Phase::Fresh => true,
+        _ => false,
+    }
+}
+
+// A fresh session and the usual buffer; first what the session before it holds.
+fn renewed(state: Progress) -> Progress {
+    if !is_fresh(state.session) {
+        holding(state);
     }
     show::text(b"session: fresh\n");
-    with_buffer(with_session(state, record::fresh()), USUAL)
+    let mut out = with_buffer(with_session(state, record::fresh()), USUAL);
+    out.renewed = true;
+    out
 }
 
 // Shows the objects held, unless a line was wrong, and plays no more.
@@ -379,5 +457,5 @@ fn report(number: usize, problem: u8) {
 }
 
 fn complain(words: &[u8]) {
-    io::write_all(STDERR_FILENO, words);
+    send(STDERR_FILENO, words);
 }

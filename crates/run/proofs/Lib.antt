@@ -1,6 +1,5 @@
 pub mod Read
 pub mod Number
 pub mod Back
-pub mod Long
 pub mod Loop
 pub mod Whole

@@ -25,7 +25,7 @@ use Rattle.run.specs.declared.Turn.{Turn}
 use Rattle.run.specs.Encoding.{headerSize, bufferAt, endOf, headerIn, isWhole, frontIn, callBy, callIn, withCall, callsOf, highFirst}
 use Rattle.run.specs.Playing.{answerBytes, replyBytes, repliesOf, replySize, leftIn, Plays}
 use Rattle.run.specs.Inner.{overBuffer, Turns}
-use Rattle.run.proofs.Long.{start-long, answer-long}
+use Rattle.trace.proofs.Long.{start-long, answer-long}
 use Rattle.run.proofs.Read.{front-whole, front-is, whole-end, calls-end, calls-malformed, calls-call}
 
 -- ---- the bytes that come in

@@ -77,6 +77,15 @@ fn digit(n: u8) -> u8 {
 // A reply in words, with the count of commands handed out, and a new line.
 pub fn reply_in_words(reply: Reply, buffer: &[u8]) {
     let answer = reply.answer;
+    answer_in_words(answer, buffer);
+    let session = reply.session;
+    text(b", count ");
+    number(basics::wide(record::count(session)));
+    text(b"\n");
+}
+
+// What a call hands back, in words: a command by its name with its bytes, an outcome with its reason, or a refusal.
+pub fn answer_in_words(answer: Answer, buffer: &[u8]) {
     match answer {
         Answer::Command(issued) => {
             named_command(issued.size, buffer);
@@ -90,10 +99,6 @@ pub fn reply_in_words(reply: Reply, buffer: &[u8]) {
             refusal_words(refusal.number);
         }
     }
-    let session = reply.session;
-    text(b", count ");
-    number(basics::wide(record::count(session)));
-    text(b"\n");
 }
 
 // A command by its name, with its bytes: the front of the buffer.

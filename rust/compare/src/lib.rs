@@ -8,6 +8,7 @@
 
 pub mod card;
 pub mod damage;
+pub mod journal;
 pub mod objects;
 pub mod play;
 pub mod reading;

@@ -73,6 +73,18 @@ pub fn record_size(kind: u8) -> Option<usize> {
 ///
 /// The end between two records is always right. A piece of a record of kind 1 to 6 is cut, whatever it holds.
 pub fn check(bytes: &[u8]) -> Verdict {
+    examine(bytes).0
+}
+
+/// The one record that a right kernel writes in the place of the first unlike one: the reply that was due.
+///
+/// None where no record is unlike, and where a call was due, since then none or more than one is right.
+pub fn right_record(bytes: &[u8]) -> Option<Vec<u8>> {
+    examine(bytes).1
+}
+
+/// The verdict, and the reply that was due where a record is unlike.
+fn examine(bytes: &[u8]) -> (Verdict, Option<Vec<u8>>) {
     let mut kernel = Kernel::fresh();
     let mut reply_due: Option<Vec<u8>> = None;
     let mut number = 0;
@@ -80,22 +92,22 @@ pub fn check(bytes: &[u8]) -> Verdict {
     while let Some(&kind) = rest.first() {
         number += 1;
         let Some(size) = record_size(kind) else {
-            return Verdict::Unlike(number);
+            return (Verdict::Unlike(number), reply_due);
         };
         let Some((record, behind)) = rest.split_at_checked(size) else {
-            return Verdict::Cut(number);
+            return (Verdict::Cut(number), None);
         };
         reply_due = match reply_due {
             Some(reply) if reply == record => None,
-            Some(_) => return Verdict::Unlike(number),
+            Some(_) => return (Verdict::Unlike(number), reply_due),
             None => match read_call(record).and_then(|call| kernel.make(call)) {
                 Some(reply) => Some(reply),
-                None => return Verdict::Unlike(number),
+                None => return (Verdict::Unlike(number), None),
             },
         };
         rest = behind;
     }
-    Verdict::Accepted(number)
+    (Verdict::Accepted(number), None)
 }
 
 /// The journal of these calls on a fresh session. A refused call is left out.

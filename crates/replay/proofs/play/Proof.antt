@@ -7,10 +7,10 @@ use Rattle.replay.proofs.play.Statement.{statement}
 use Rattle.replay.proofs.play.Tie as tie
 
 abbrev Inv-loop : tie.InvT-loop
-Inv-loop fd line₀ state₀ turns₀ line state turns = length line ≡ 8193
+Inv-loop fd journal line₀ state₀ turns₀ line state turns = length line ≡ 8193
 
 abbrev μ-loop : tie.MeasureT-loop
-μ-loop fd line₀ state₀ turns₀ line state turns = turns
+μ-loop fd journal line₀ state₀ turns₀ line state turns = turns
 
 loop-again : tie.Need-loop-again Inv-loop μ-loop
 loop-again c = c .before .play-part .ensures ∙ c .before .before .before .before .before .loop .inv
@@ -28,4 +28,5 @@ play-spec =
     (λ c. omega arith)
     (λ c. omega arith)
     loop-again
+    (λ c. search needs)
     (λ c. search needs))

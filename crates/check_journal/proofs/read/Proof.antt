@@ -1,15 +1,14 @@
--- One argument to a turn of the loop. Assumes nothing.
+-- The measure is the number of turns that are left. Assumes nothing.
 use borrow.Author.Needs.{needs}
 use native.Mathlib.Omega.{arith}
-use Prim.Native.Nat.{_-_}
-use Rattle.replay.proofs.arguments.read.Statement.{statement}
-use Rattle.replay.proofs.arguments.read.Tie as tie
+use Rattle.check_journal.proofs.read.Statement.{statement}
+use Rattle.check_journal.proofs.read.Tie as tie
 
 abbrev Inv-loop : tie.InvT-loop
-Inv-loop out₀ n i₀ out i = Unit {0}
+Inv-loop fd state₀ turns₀ state turns = Unit {0}
 
 abbrev μ-loop : tie.MeasureT-loop
-μ-loop out₀ n i₀ out i = n - i
+μ-loop fd state₀ turns₀ state turns = turns
 
 pub read-spec : {M : Type 1} → statement M
 read-spec =
@@ -22,5 +21,6 @@ read-spec =
     (λ c κs. search needs)
     (λ c. omega arith)
     (λ c. omega arith)
+    (λ c. search needs)
     (λ c. search needs)
     (λ c. search needs))

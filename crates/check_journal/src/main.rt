@@ -1,0 +1,265 @@
+// Says of a session's journal whether a right kernel could have written it: of the file that the argument names, or of
+// standard input where there is none. One line has the verdict; below an unlike record stands the right one, where there
+// is exactly one.
+//
+// The file is read in parts of 4,096 bytes, up to the first record that is unlike. What is wrong with the file goes to
+// standard error. With --tell the exit status that is due goes to descriptor 3: 0 accepted, 1 unlike or cut, 2 no verdict.
+use journal::{Checker, Verdict};
+use libc::{STDERR_FILENO, STDIN_FILENO};
+use record::{Answer, End, Issued, Outcome};
+
+// The words that the program is called with: whether the exit status is told, which argument names the file (0: none
+// does), and whether there is one name too many or an unknown option.
+struct Arguments {
+    tell: bool,
+    file: usize,
+    wrong: bool,
+}
+
+// What is carried from part to part: the checker, whether to read on, and whether a part could not be read.
+struct Progress {
+    checker: Checker,
+    going: bool,
+    failed: bool,
+}
+
+// The exit statuses.
+const ACCEPTED: u8 = 0;
+
+const NOT_RIGHT: u8 = 1;
+
+const NO_VERDICT: u8 = 2;
+
+// The descriptor on which the exit status is told.
+const TELLING: i32 = 3;
+
+fn main() {
+    let asked = asked_for();
+    let status = judged(asked);
+    if asked.tell {
+        tell(status);
+    }
+}
+
+fn tell(status: u8) {
+    match status {
+        ACCEPTED => send(TELLING, b"0"),
+        NOT_RIGHT => send(TELLING, b"1"),
+        _ => send(TELLING, b"2"),
+    }
+}
+
+fn send(fd: i32, words: &[u8]) {
+    io::write_all(fd, words);
+}
+
+// ---- the arguments
+
+fn asked_for() -> Arguments {
+    let mut out = Arguments {
+        tell: false,
+        file: 0,
+        wrong: false,
+    };
+    let n = os::arg_count();
+    let mut i = 1;
+    while i < n {
+        out = with_argument(out, i);
+        i += 1;
+    }
+    out
+}
+
+// One argument more.
+fn with_argument(arguments: Arguments, i: usize) -> Arguments {
+    let mut space = io::buffer();
+    let n = os::arg(i, &mut space);
+    let word = &space[..n];
+    let mut out = arguments;
+    if basics::same(word, b"--tell") {
+        out.tell = true;
+        return out;
+    }
+    if basics::byte_at(word, 0) == b'-' {
+        return not_understood(arguments, b"unknown option");
+    }
+    if arguments.file != 0 {
+        return not_understood(arguments, b"more than one file");
+    }
+    out.file = i;
+    out
+}
+
+fn not_understood(arguments: Arguments, words: &[u8]) -> Arguments {
+    send(STDERR_FILENO, b"journal: ");
+    send(STDERR_FILENO, words);
+    send(STDERR_FILENO, b"\n");
+    let mut out = arguments;
+    out.wrong = true;
+    out
+}
+
+// ---- the file
+
+// The verdict on the file that is asked for, shown: the exit status that is due.
+fn judged(asked: Arguments) -> u8 {
+    if asked.wrong {
+        return NO_VERDICT;
+    }
+    if asked.file == 0 {
+        return shown(read(STDIN_FILENO));
+    }
+    let mut path = io::buffer();
+    let n = os::arg(asked.file, &mut path);
+    let fd = os::open_read(&path[..n]);
+    if fd < 0 {
+        os::fail(&path[..n]);
+        return NO_VERDICT;
+    }
+    let state = read(fd);
+    libc::close(fd);
+    shown(state)
+}
+
+// Feeds a file to a checker, up to a record that is unlike. A proved loop has to end, so it counts its turns from a number
+// that no file uses up.
+fn read(fd: i32) -> Progress {
+    let checker = journal::begin();
+    let mut state = Progress {
+        checker,
+        going: true,
+        failed: false,
+    };
+    let mut turns = u64::MAX;
+    while turns > 0 && state.going {
+        state = read_part(state, fd);
+        turns -= 1;
+    }
+    state
+}
+
+// One part more.
+fn read_part(state: Progress, fd: i32) -> Progress {
+    let mut part = [0u8; 4096];
+    let got = libc::read(fd, &mut part);
+    if got < 0 {
+        os::fail(b"journal: the file cannot be read");
+        return ended(state, true);
+    }
+    if got == 0 {
+        return ended(state, false);
+    }
+    let n = io::count(got, &part);
+    let checker = journal::feed(state.checker, &part[..n]);
+    Progress {
+        checker,
+        going: !is_unlike(checker),
+        failed: false,
+    }
+}
+
+fn ended(state: Progress, failed: bool) -> Progress {
+    let mut out = state;
+    out.going = false;
+    out.failed = failed;
+    out
+}
+
+// Whether a record was unlike; then nothing behind it is looked at.
+fn is_unlike(checker: Checker) -> bool {
+    let verdict = journal::finish(checker);
+    match verdict {
+        Verdict::Unlike(_) => true,
+        _ => false,
+    }
+}
+
+// ---- the verdict
+
+// Shows the verdict where the whole file was read.
+fn shown(state: Progress) -> u8 {
+    if state.failed {
+        return NO_VERDICT;
+    }
+    let checker = state.checker;
+    let verdict = journal::finish(checker);
+    match verdict {
+        Verdict::Accepted(n) => {
+            show::text(b"accepted, ");
+            show::number(n);
+            show::text(b" records\n");
+            ACCEPTED
+        }
+        Verdict::Unlike(n) => {
+            named(n, b" is unlike what document 01 gives\n");
+            right_record(checker);
+            NOT_RIGHT
+        }
+        Verdict::Cut(n) => {
+            named(n, b" is cut\n");
+            NOT_RIGHT
+        }
+    }
+}
+
+// A record by its number, and what it is.
+fn named(n: usize, words: &[u8]) {
+    show::text(b"record ");
+    show::number(n);
+    show::text(words);
+}
+
+// ---- the right record in the place of an unlike one
+
+// A line with the reply that was due, where one was.
+fn right_record(checker: Checker) {
+    let wanted = journal::wanted(checker);
+    if wanted.size == 0 {
+        return;
+    }
+    let bytes = wanted.bytes;
+    show::text(b"a right kernel has there: ");
+    show::answer_in_words(answer_in(&bytes), body_in(&bytes));
+    if is_command(&bytes) {
+        show::text(b", zeros behind");
+    }
+    show::text(b"\n");
+}
+
+// The bytes of a record behind its kind and length.
+fn body_in(record: &[u8]) -> &[u8] {
+    if record.len() < 3 {
+        return record;
+    }
+    &record[3..]
+}
+
+fn is_command(record: &[u8]) -> bool {
+    basics::byte_at(record, 0) == 5
+}
+
+// What a reply's record stands for: a command of so many bytes, or an outcome and its reason.
+fn answer_in(record: &[u8]) -> Answer {
+    let first = basics::byte_at(record, 1);
+    let second = basics::byte_at(record, 2);
+    if is_command(record) {
+        let size = basics::wide(first) * 256 + basics::wide(second);
+        return Answer::Command(Issued { size });
+    }
+    let outcome = outcome_of(first);
+    Answer::Outcome(End {
+        outcome,
+        reason: second,
+    })
+}
+
+// The outcome of a number.
+fn outcome_of(number: u8) -> Outcome {
+    match number {
+        0 => Outcome::Approved,
+        1 => Outcome::OnlineRequest,
+        2 => Outcome::Declined,
+        3 => Outcome::Ended,
+        _ => Outcome::SelectNext,
+    }
+}

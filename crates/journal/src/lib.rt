@@ -1,0 +1,407 @@
+// Says whether the journal of a session could have come from a right kernel: `begin`, `feed` with parts of
+// any size, and `finish` at the end; `wanted` gives the right record where one is unlike.
+//
+// A journal is records of one byte of kind and a body whose size the kind fixes. At most one record is
+// held, so a journal of any size needs the room of one `Checker`.
+use record::Answer;
+use record::End;
+use record::Reply;
+use record::Session;
+ghost use mathlib.Core.Path.{_≡_};
+ghost use mathlib.Core.List.{List, [], _∷_, _++_};
+ghost use mathlib.Core.Option.{none};
+ghost use Prim.Native.Nat.{ℕ, _+_, _≤_, _<_};
+ghost use lib.ListN.{length, getD, take};
+ghost use Rattle.basics.specs.Choice.{every};
+ghost use Rattle.store.specs.Held.{isZero};
+ghost use Rattle.record.specs.Numbers.{outcomeNumber};
+ghost use Rattle.journal.specs.Record.{sizeOf, twoBytes, recordLength, fits as fitsIn, isLong, startFrom, answerFrom, callFrom};
+ghost use Rattle.journal.specs.Record.{linkFrom, stopFrom};
+ghost use Rattle.journal.specs.Verdict.{expected, replied as repliedOf, called as calledOf, judged, verdictOf, wantedOf};
+ghost use Rattle.journal.specs.Written.{Bytes, SaysOf, RightBytes, WrittenAccepted, AcceptedFew, WantedOnly, WantedEven};
+ghost use Rattle.journal.specs.Inner.{wholeRecord, dueIn, standingOf, standingBy};
+ghost use Rattle.journal.specs.Inner.{firstChecker, pushed, pushedAll, verdictAt, wantedAt, Follows};
+
+// What a journal is: accepted, with the number of its records; or the number of the first record that is
+// unlike what the rules give, or of the one that is cut. Records count from 1.
+pub enum Verdict {
+    Accepted(usize),
+    Unlike(usize),
+    Cut(usize),
+}
+
+// The session so far, and the reply's record that comes next, of size 0 where a call comes next; not right
+// once a record was unlike, with what was due there.
+pub struct Standing {
+    pub session: Session,
+    pub due: [u8; 264],
+    pub size: usize,
+    pub right: bool,
+}
+
+// A checker behind some bytes: the records seen, the one that is unlike counted in, and the part of a
+// record that is held.
+pub struct Checker {
+    pub standing: Standing,
+    pub held: [u8; 1027],
+    pub length: usize,
+    pub records: usize,
+}
+
+// The one right record in the place of an unlike one, in the front of `bytes`; of size 0 where no record is
+// unlike, and where a call was due, as then none or more than one would be right.
+pub struct WantedRecord {
+    pub bytes: [u8; 264],
+    pub size: usize,
+}
+
+// The size of a record by its kind, 0 where there is no such kind.
+pub fn size_of(kind: u8) -> usize
+    ensures { λ r. ⌜ r ≡ sizeOf kind ⌝ }
+{
+    if kind == 1 {
+        return 1027;
+    }
+    if kind == 2 {
+        return 261;
+    }
+    if kind == 3 {
+        return 1;
+    }
+    if kind == 4 {
+        return 1;
+    }
+    if kind == 5 {
+        return 264;
+    }
+    if kind == 6 {
+        return 3;
+    }
+    0
+}
+
+// A checker that nothing was fed to.
+pub fn begin() -> Checker
+    ensures checker { λ r. ⌜ r ≡ firstChecker ⌝ }
+    ensures follows { λ r. ⌜ Follows r [] ⌝ }
+{
+    let session = record::fresh();
+    let standing = waiting(session);
+    Checker {
+        standing,
+        held: [0u8; 1027],
+        length: 0,
+        records: 0,
+    }
+}
+
+// The checker behind one part more. Behind an unlike record nothing is looked at.
+pub fn feed(checker: Checker, part: &[u8]) -> Checker
+    ensures checker { λ r. ⌜ r ≡ pushedAll checker (now (part .entry)) ⌝ }
+    ensures follows { λ r. ⌜ ((s : List ℕ) → Follows checker s → Follows r (s ++ now (part .entry))) ⌝ }
+{
+    let standing = checker.standing;
+    if !standing.right {
+        return checker;
+    }
+    let mut next = checker;
+    let mut i = 0;
+    while i < part.len() {
+        next = push(next, part[i]);
+        i += 1;
+    }
+    next
+}
+
+// The verdict where the journal ends here.
+pub fn finish(checker: Checker) -> Verdict
+    ensures verdict { λ r. ⌜ r ≡ verdictAt checker ⌝ }
+    ensures follows { λ r. ⌜ ((s : List ℕ) → Follows checker s → r ≡ verdictOf s) ⌝ }
+    ensures right { λ r. ⌜ ((s : List ℕ) → Follows checker s → Bytes s → SaysOf s r) ⌝ }
+    ensures bytes { λ _. ⌜ RightBytes ⌝ }
+    ensures written { λ _. ⌜ WrittenAccepted ⌝ }
+    ensures few { λ _. ⌜ AcceptedFew ⌝ }
+{
+    let standing = checker.standing;
+    if !standing.right {
+        return Verdict::Unlike(checker.records);
+    }
+    if checker.length == 0 {
+        return Verdict::Accepted(checker.records);
+    }
+    if 1000 <= checker.records {
+        return Verdict::Cut(checker.records);
+    }
+    Verdict::Cut(checker.records + 1)
+}
+
+// The right record where one is unlike and a reply was due.
+pub fn wanted(checker: Checker) -> WantedRecord
+    ensures wanted { λ r. ⌜ r ≡ wantedAt checker ⌝ }
+    ensures size { λ r. ⌜ r .size ≤ 264 ⌝ }
+    ensures follows { λ r. ⌜ ((s : List ℕ) → Follows checker s → take (r .size) (r .bytes) ≡ wantedOf s) ⌝ }
+    ensures only { λ _. ⌜ WantedOnly ⌝ }
+    ensures even { λ _. ⌜ WantedEven ⌝ }
+{
+    let standing = checker.standing;
+    let size = standing.size;
+    if standing.right || 264 < size {
+        return WantedRecord {
+            bytes: [0u8; 264],
+            size: 0,
+        };
+    }
+    let bytes = standing.due;
+    WantedRecord { bytes, size }
+}
+
+// The checker behind one byte more.
+fn push(checker: Checker, byte: u8) -> Checker
+    ensures { λ r. ⌜ r ≡ pushed checker byte ⌝ }
+{
+    let standing = checker.standing;
+    let length = checker.length;
+    if !standing.right {
+        return checker;
+    }
+    if 1027 <= length {
+        return checker;
+    }
+    if 264 < standing.size {
+        return checker;
+    }
+    if 1000 <= checker.records {
+        return checker;
+    }
+    let mut held = checker.held;
+    held[length] = byte;
+    let size = size_of(held[0]);
+    if length + 1 < size {
+        return Checker {
+            standing,
+            held,
+            length: length + 1,
+            records: checker.records,
+        };
+    }
+    let judged = judge(standing, &held[..size]);
+    Checker {
+        standing: judged,
+        held,
+        length: 0,
+        records: checker.records + 1,
+    }
+}
+
+// A whole record, or an empty one in the place of an unknown kind, is judged by what is due.
+fn judge(standing: Standing, whole: &[u8]) -> Standing
+    requires { ⌜ (length (now whole) ≡ sizeOf (getD (now whole) 0 0)) × (standing .size ≤ 264) ⌝ }
+    ensures { λ r. ⌜ r ≡ standingBy standing (judged (dueIn standing) (now (whole .entry))) ⌝ }
+{
+    let session = standing.session;
+    let size = standing.size;
+    if size == 0 {
+        return called(standing, whole);
+    }
+    let due = standing.due;
+    if basics::same(whole, &due[..size]) {
+        return waiting(session);
+    }
+    wrong(standing)
+}
+
+// A call comes next.
+fn waiting(session: Session) -> Standing
+    ensures { λ r. ⌜ r ≡ standingOf (expected session []) ⌝ }
+{
+    Standing {
+        session,
+        due: [0u8; 264],
+        size: 0,
+        right: true,
+    }
+}
+
+// A record was unlike; what was due there stays.
+fn wrong(standing: Standing) -> Standing
+    ensures { λ r. ⌜ r ≡ standingBy standing none ⌝ }
+{
+    let session = standing.session;
+    let due = standing.due;
+    Standing {
+        session,
+        due,
+        size: standing.size,
+        right: false,
+    }
+}
+
+// Where a call is due: the call is made, and its reply is due.
+fn called(standing: Standing, whole: &[u8]) -> Standing
+    requires { ⌜ length (now whole) ≡ sizeOf (getD (now whole) 0 0) ⌝ }
+    ensures { λ r. ⌜ r ≡ standingBy standing (calledOf (standing .session) (callFrom (now (whole .entry)))) ⌝ }
+{
+    let kind = basics::byte_at(whole, 0);
+    if kind == 1 {
+        return started(standing, whole);
+    }
+    if kind == 2 {
+        return answered(standing, whole);
+    }
+    if kind == 3 {
+        return link_failed(standing);
+    }
+    if kind == 4 {
+        return stopped(standing);
+    }
+    wrong(standing)
+}
+
+// A start.
+fn started(standing: Standing, whole: &[u8]) -> Standing
+    requires { ⌜ length (now whole) ≡ 1027 ⌝ }
+    ensures { λ r. ⌜ r ≡ standingBy standing (calledOf (standing .session) (startFrom (now (whole .entry)))) ⌝ }
+{
+    let session = standing.session;
+    if !fits(whole, 1024) {
+        return wrong(standing);
+    }
+    let end = 3 + length_in(whole);
+    let mut buffer = [0u8; 261];
+    let reply = session::start(session, &whole[3..end], &mut buffer);
+    due_of(standing, reply, buffer)
+}
+
+// A card answer.
+fn answered(standing: Standing, whole: &[u8]) -> Standing
+    requires { ⌜ length (now whole) ≡ 261 ⌝ }
+    ensures { λ r. ⌜ r ≡ standingBy standing (calledOf (standing .session) (answerFrom (now (whole .entry)))) ⌝ }
+{
+    let session = standing.session;
+    let mut buffer = [0u8; 261];
+    if is_long(whole) {
+        let long = [0u8; 259];
+        let reply = session::answer(session, &long, &mut buffer);
+        return due_of(standing, reply, buffer);
+    }
+    if !fits(whole, 258) {
+        return wrong(standing);
+    }
+    let end = 3 + length_in(whole);
+    let reply = session::answer(session, &whole[3..end], &mut buffer);
+    due_of(standing, reply, buffer)
+}
+
+// The link failed.
+fn link_failed(standing: Standing) -> Standing
+    ensures { λ r. ⌜ r ≡ standingBy standing (calledOf (standing .session) linkFrom) ⌝ }
+{
+    let session = standing.session;
+    let mut buffer = [0u8; 261];
+    let reply = session::link_failed(session, &mut buffer);
+    due_of(standing, reply, buffer)
+}
+
+// A stop.
+fn stopped(standing: Standing) -> Standing
+    ensures { λ r. ⌜ r ≡ standingBy standing (calledOf (standing .session) stopFrom) ⌝ }
+{
+    let session = standing.session;
+    let mut buffer = [0u8; 261];
+    let reply = session::stop(session, &mut buffer);
+    due_of(standing, reply, buffer)
+}
+
+// The length is at most `most`, and the bytes behind those that it counts are zero.
+fn fits(whole: &[u8], most: usize) -> bool
+    requires { ⌜ length (now whole) ≡ most + 3 ⌝ }
+    ensures { λ r. ⌜ r ≡ fitsIn most (now (whole .entry)) ⌝ }
+{
+    let n = length_in(whole);
+    if most < n {
+        return false;
+    }
+    let end = 3 + n;
+    is_zero(&whole[end..])
+}
+
+// Length FF FF and a zero body.
+fn is_long(whole: &[u8]) -> bool
+    requires { ⌜ 3 ≤ length (now whole) ⌝ }
+    ensures { λ r. ⌜ r ≡ isLong (now (whole .entry)) ⌝ }
+{
+    if length_in(whole) != 65535 {
+        return false;
+    }
+    is_zero(&whole[3..])
+}
+
+// The two length bytes of a record.
+fn length_in(whole: &[u8]) -> usize
+    ensures { λ r. ⌜ (r ≡ recordLength (now (whole .entry))) × (r < 65536) ⌝ }
+{
+    let high = basics::wide(basics::byte_at(whole, 1));
+    let low = basics::wide(basics::byte_at(whole, 2));
+    high * 256 + low
+}
+
+// Every byte is zero.
+fn is_zero(v: &[u8]) -> bool
+    ensures { λ r. ⌜ r ≡ every isZero (now (v .entry)) ⌝ }
+{
+    let mut i = 0;
+    while i < v.len() {
+        if v[i] != 0 {
+            return false;
+        }
+        i += 1;
+    }
+    true
+}
+
+// What is due behind a call that handed this back with this buffer.
+fn due_of(standing: Standing, reply: Reply, buffer: [u8; 261]) -> Standing
+    ensures { λ r. ⌜ r ≡ standingBy standing (repliedOf (reply .session) (wholeRecord (reply .answer) buffer)) ⌝ }
+{
+    let session = reply.session;
+    let answer = reply.answer;
+    match answer {
+        Answer::Command(issued) => command_due(session, issued.size, buffer),
+        Answer::Outcome(end) => outcome_due(session, end),
+        Answer::Refused(_) => wrong(standing),
+    }
+}
+
+// A command's record is due.
+fn command_due(session: Session, size: usize, buffer: [u8; 261]) -> Standing
+    ensures { λ r. ⌜ r ≡ standingOf (expected session (5 ∷ (twoBytes size ++ buffer))) ⌝ }
+{
+    let mut due = [0u8; 264];
+    due[0] = 5;
+    due[1] = (size / 256 % 256) as u8;
+    due[2] = (size % 256) as u8;
+    bytes::copy(&buffer, &mut due[3..]);
+    Standing {
+        session,
+        due,
+        size: 264,
+        right: true,
+    }
+}
+
+// An outcome's record is due.
+fn outcome_due(session: Session, end: End) -> Standing
+    ensures { λ r. ⌜ r ≡ standingOf (expected session (6 ∷ outcomeNumber (end .outcome) ∷ end .reason ∷ [])) ⌝ }
+{
+    let outcome = end.outcome;
+    let mut due = [0u8; 264];
+    due[0] = 6;
+    due[1] = record::outcome_number(outcome);
+    due[2] = end.reason;
+    Standing {
+        session,
+        due,
+        size: 3,
+        right: true,
+    }
+}

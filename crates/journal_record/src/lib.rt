@@ -1,0 +1,89 @@
+// The records of a session's journal, written: of each call that was not refused, and of its reply.
+//
+// A record is one byte of kind and a body whose size the kind fixes. What stands in each is defined with the library
+// `journal`, which checks them.
+use record::End;
+ghost use mathlib.Core.Path.{_≡_};
+ghost use mathlib.Core.List.{[]};
+ghost use Prim.Native.Nat.{_+_, _≤_};
+ghost use lib.ListN.{length};
+ghost use Rattle.record.specs.declared.Answer.{Answer};
+ghost use Rattle.trace.specs.Calls.{answer as anAnswer, link-failed as aFailure, stop as aStop};
+ghost use Rattle.journal.specs.Record.{callRecord, replyRecord};
+ghost use Rattle.journal_record.specs.Written.{startRecord, commandRecord, filledIn};
+
+// A start. More than 1,024 bytes are refused and have no record: zeros.
+pub fn start(bytes: &[u8]) -> [u8; 1027]
+    ensures { λ r. ⌜ r ≡ startRecord (now (bytes .entry)) ⌝ }
+{
+    let mut out = [0u8; 1027];
+    if 1024 < bytes.len() {
+        return out;
+    }
+    fill(1, bytes, &mut out);
+    out
+}
+
+// A card answer; one of more than 258 bytes has length FF FF and a zero body.
+pub fn answer(card: &[u8]) -> [u8; 261]
+    ensures { λ r. ⌜ r ≡ callRecord (anAnswer (now (card .entry)) []) ⌝ }
+{
+    let mut out = [0u8; 261];
+    if 258 < card.len() {
+        out[0] = 2;
+        out[1] = 0xFF;
+        out[2] = 0xFF;
+        return out;
+    }
+    fill(2, card, &mut out);
+    out
+}
+
+// The link failed.
+pub fn link_failed() -> [u8; 1]
+    ensures { λ r. ⌜ r ≡ callRecord (aFailure []) ⌝ }
+{
+    [3]
+}
+
+// A stop.
+pub fn stop() -> [u8; 1]
+    ensures { λ r. ⌜ r ≡ callRecord (aStop []) ⌝ }
+{
+    [4]
+}
+
+// A command that stands in the front of a buffer. One of more bytes than a record or the buffer has is none: zeros.
+pub fn command(size: usize, buffer: &[u8]) -> [u8; 264]
+    ensures { λ r. ⌜ r ≡ commandRecord size (now (buffer .entry)) ⌝ }
+{
+    let mut out = [0u8; 264];
+    if 261 < size {
+        return out;
+    }
+    if buffer.len() < size {
+        return out;
+    }
+    fill(5, &buffer[..size], &mut out);
+    out
+}
+
+// An outcome and its reason.
+pub fn outcome(end: End) -> [u8; 3]
+    ensures { λ r. ⌜ r ≡ replyRecord (Answer.Outcome end) [] ⌝ }
+{
+    let outcome = end.outcome;
+    [6, record::outcome_number(outcome), end.reason]
+}
+
+// Kind, length in two bytes and the bytes, in front of what stands there.
+fn fill(kind: u8, bytes: &[u8], out: &mut [u8])
+    requires { ⌜ length (now bytes) + 3 ≤ length (now out) ⌝ }
+    ensures { λ _. ⌜ now (out .exit) ≡ filledIn kind (now (bytes .entry)) (now (out .entry)) ⌝ }
+{
+    let n = bytes.len();
+    out[0] = kind;
+    out[1] = (n / 256 % 256) as u8;
+    out[2] = (n % 256) as u8;
+    bytes::copy(bytes, &mut out[3..]);
+}
