@@ -1,6 +1,7 @@
 pub mod Table
 pub mod Find
 pub mod Rule
+pub mod Halving
 pub mod Digits
 pub mod Fit
 pub mod Packing

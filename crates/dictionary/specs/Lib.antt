@@ -1,5 +1,6 @@
 pub mod Rows
 pub mod Rule
+pub mod Search
 pub mod Packing
 pub mod Form
 pub mod Named

@@ -6,11 +6,12 @@
 // whether a value's length and digits are allowed.
 ghost use mathlib.Core.Path.{_≡_};
 ghost use mathlib.Core.Bool.{true};
-ghost use mathlib.Core.List.{map};
-ghost use Prim.Native.Nat.{_+_, _≤_, _<_};
+ghost use mathlib.Core.List.{List, map};
+ghost use Prim.Native.Nat.{ℕ, _+_, _^_, _≤_, _<_};
 ghost use lib.ListN.{length, drop};
-ghost use Rattle.dictionary.specs.Rows.{rows, rowAt, find};
-ghost use Rattle.dictionary.specs.Rule.{proper};
+ghost use Rattle.dictionary.specs.Rows.{Row, rows, rowAt, find};
+ghost use Rattle.dictionary.specs.Rule.{rising, proper};
+ghost use Rattle.dictionary.specs.Search.{searchOf, tagsOf, LooksCounted};
 ghost use Rattle.dictionary.specs.Form.{numeric, compressed, digitsFit, fitting};
 ghost use Rattle.dictionary.specs.Inner.{isDigits, digitBytes, onlyFs};
 ghost use Rattle.dictionary.specs.Packing.{attributesOf, rowOf, codeOf, attributesIn};
@@ -202,20 +203,53 @@ pub enum Found {
     Unknown,
 }
 
+// A search: where the tag stands, and how many tags were looked at.
+pub struct Searched {
+    pub found: Found,
+    pub looks: usize,
+}
+
 // The row of a tag. The table it searches keeps its rule: rising, well-formed tags, lengths in order.
 pub fn lookup(tag: u32) -> Found
     ensures found { λ r. ⌜ r ≡ find rows tag ⌝ }
     ensures table { λ _. ⌜ proper rows ≡ true ⌝ }
 {
     let tags = TAGS;
-    let mut i = 0;
-    while i < ROWS {
-        if tags[i] == tag {
-            return Found::At(i);
+    search(&tags, tag).found
+}
+
+// A search by halving in any list of tags: each turn looks at the middle one of those that are left.
+pub fn search(tags: &[u32], tag: u32) -> Searched
+    ensures halving { λ r. ⌜ r ≡ searchOf (now (tags .entry)) tag ⌝ }
+    ensures found { λ r. ⌜ ((table : List Row) → tagsOf table ≡ now (tags .entry) → rising table ≡ true → r .found ≡ find table tag) ⌝ }
+    ensures few { λ r. ⌜ ((k : ℕ) → length (now (tags .entry)) < 2 ^ k → r .looks ≤ k) ⌝ }
+    ensures counted { λ r. ⌜ LooksCounted (now (tags .entry)) tag r ⌝ }
+{
+    let mut from = 0;
+    let mut left = tags.len();
+    let mut looks = 0;
+    while left != 0 {
+        let half = left / 2;
+        let middle = from + half;
+        let looked = tags[middle];
+        looks += 1;
+        if looked == tag {
+            return Searched {
+                found: Found::At(middle),
+                looks,
+            };
         }
-        i += 1;
+        if looked < tag {
+            from = middle + 1;
+            left = left - half - 1;
+        } else {
+            left = half;
+        }
     }
-    Found::Unknown
+    Searched {
+        found: Found::Unknown,
+        looks,
+    }
 }
 
 // The rows of the tags that code uses, in the order of their constants.
