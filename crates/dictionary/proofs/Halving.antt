@@ -8,10 +8,10 @@ use mathlib.Core.List.{List, [], _∷_}
 use Prim.Native.Nat.{ℕ, zero, suc, _+_, _-_, _/_, _^_, _≤_, _<_}
 use native.Mathlib.Nat.{two-pow-succ}
 use native.Mathlib.Omega.{arith}
-use lib.Dec.{ltb, eqb}
+use lib.Dec.{ltb}
 use lib.ListN.{length, getD, length-map}
-use borrow.Author.Tests.{lt-ltb, le-ltb, eq-eqb, ne-eqb}
-use Rattle.basics.specs.Choice.{if, every}
+use borrow.Author.Tests.{le-leb, lt-leb, lt-ltb, le-ltb, eq-eqb, ne-eqb}
+use Rattle.basics.specs.Choice.{every}
 use Rattle.basics.proofs.Laws.{if-yes, if-no, both-yes}
 use Rattle.basics.proofs.Order.{equal-or-not, sides, le-or-gt}
 use Rattle.dictionary.specs.declared.Found.{Found}
@@ -25,57 +25,56 @@ use Rattle.dictionary.proofs.Rule.{tags-rise, find-row}
 
 -- ---- the turns
 
--- the tag that a turn looks at
+-- the middle of a part, and the tag there
+abbrev mid : ℕ → ℕ → ℕ
+mid from to = (from + to) / 2
+
 abbrev looked : List ℕ → ℕ → ℕ → ℕ
-looked tags from left = getD tags (from + left / 2) 0
+looked tags from to = getD tags (mid from to) 0
 
-module _ (tags : List ℕ) (t n from left : ℕ) (some : 0 < left) where
-  not-none : left ≡ 0 → ⊥
-  not-none e = omega arith
-
-  turn-here : looked tags from left ≡ t → halve tags t (suc n) (part from left) ≡ lookAt (from + left / 2) (here (from + left / 2))
+module _ (tags : List ℕ) (t n from to : ℕ) (some : from < to) where
+  turn-here : looked tags from to ≡ t → halve tags t (suc n) (part from to) ≡ lookAt (mid from to) (here (mid from to))
   unfolding halve
-  turn-here e = if-no _ _ (ne-eqb left 0 not-none) ∙ ap (lookAt (from + left / 2)) (if-yes _ _ (eq-eqb _ _ e))
+  turn-here e = if-no _ _ (lt-leb to from some) ∙ ap (lookAt (mid from to)) (if-yes _ _ (eq-eqb _ _ e))
 
-  turn-behind : looked tags from left < t
-      → halve tags t (suc n) (part from left) ≡ lookAt (from + left / 2) (halve tags t n (part (from + left / 2 + 1) (left - left / 2 - 1)))
+  turn-behind : looked tags from to < t → halve tags t (suc n) (part from to) ≡ lookAt (mid from to) (halve tags t n (part (mid from to + 1) to))
   unfolding halve
   turn-behind h =
-      let other : looked tags from left ≡ t → ⊥ = λ e. omega arith in
-      if-no _ _ (ne-eqb left 0 not-none) ∙ ap (lookAt (from + left / 2)) (if-no _ _ (ne-eqb _ _ other) ∙ ap (halve tags t n) (if-yes _ _ (lt-ltb _ _ h)))
+      let other : looked tags from to ≡ t → ⊥ = λ e. omega arith in
+      if-no _ _ (lt-leb to from some) ∙ ap (lookAt (mid from to)) (if-no _ _ (ne-eqb _ _ other) ∙ ap (halve tags t n) (if-yes _ _ (lt-ltb _ _ h)))
 
-  turn-before : t < looked tags from left → halve tags t (suc n) (part from left) ≡ lookAt (from + left / 2) (halve tags t n (part from (left / 2)))
+  turn-before : t < looked tags from to → halve tags t (suc n) (part from to) ≡ lookAt (mid from to) (halve tags t n (part from (mid from to)))
   unfolding halve
   turn-before h =
-      let other : looked tags from left ≡ t → ⊥ = λ e. omega arith in
-      let greater : t ≤ looked tags from left = omega arith in
-      if-no _ _ (ne-eqb left 0 not-none) ∙ ap (lookAt (from + left / 2)) (if-no _ _ (ne-eqb _ _ other) ∙ ap (halve tags t n) (if-no _ _ (le-ltb _ _ greater)))
+      let other : looked tags from to ≡ t → ⊥ = λ e. omega arith in
+      let greater : t ≤ looked tags from to = omega arith in
+      if-no _ _ (lt-leb to from some) ∙ ap (lookAt (mid from to)) (if-no _ _ (ne-eqb _ _ other) ∙ ap (halve tags t n) (if-no _ _ (le-ltb _ _ greater)))
 
-no-turns : (tags : List ℕ) (t from left : ℕ) → halve tags t 0 (part from left) ≡ nowhere
+no-turns : (tags : List ℕ) (t : ℕ) (p : Part) → halve tags t 0 p ≡ nowhere
 unfolding halve
-no-turns tags t from left = refl
+no-turns tags t p = refl
 
-turn-none : (tags : List ℕ) (t n from : ℕ) → halve tags t n (part from 0) ≡ nowhere
-unfolding halve if
-turn-none tags t zero from = refl
-turn-none tags t (suc n) from = refl
+turn-none : (tags : List ℕ) (t n from to : ℕ) → to ≤ from → halve tags t n (part from to) ≡ nowhere
+unfolding halve
+turn-none tags t zero from to h = refl
+turn-none tags t (suc n) from to h = if-yes _ _ (le-leb to from h)
 
 -- what holds where nothing is left, where the tag is found, and at a turn that leaves a part for which it holds, holds of every search
 module _ (tags : List ℕ) (t : ℕ) (P : ℕ → ℕ → Halving → Type 0)
-    (none : (from : ℕ) → P from 0 nowhere)
-    (found : (from left : ℕ) → 0 < left → looked tags from left ≡ t → P from left (lookAt (from + left / 2) (here (from + left / 2))))
-    (behind : (from left : ℕ) (s : Halving) → 0 < left → looked tags from left < t → P (from + left / 2 + 1) (left - left / 2 - 1) s → P from left (lookAt (from + left / 2) s))
-    (before : (from left : ℕ) (s : Halving) → 0 < left → t < looked tags from left → P from (left / 2) s → P from left (lookAt (from + left / 2) s)) where
-  by-turns : (n from left : ℕ) → left ≤ n → P from left (halve tags t n (part from left))
-  by-turns zero from left h = let e : left ≡ 0 = omega arith in rw (e, turn-none tags t zero from) (none from)
-  by-turns (suc n) from left h =
-      elim (le-or-gt left 0) [
-        inl z ↦ let e : left ≡ 0 = omega arith in rw (e, turn-none tags t (suc n) from) (none from)
-      | inr some ↦ elim (equal-or-not (looked tags from left) t) [
-          inl e ↦ rw (turn-here tags t n from left some e) (found from left some e)
-        | inr other ↦ elim (sides (looked tags from left) t other) [
-            inl l ↦ rw (turn-behind tags t n from left some l) (behind from left _ some l (by-turns n _ _ (omega arith)))
-          | inr g ↦ rw (turn-before tags t n from left some g) (before from left _ some g (by-turns n _ _ (omega arith)))
+    (none : (from to : ℕ) → to ≤ from → P from to nowhere)
+    (found : (from to : ℕ) → from < to → looked tags from to ≡ t → P from to (lookAt (mid from to) (here (mid from to))))
+    (behind : (from to : ℕ) (s : Halving) → from < to → looked tags from to < t → P (mid from to + 1) to s → P from to (lookAt (mid from to) s))
+    (before : (from to : ℕ) (s : Halving) → from < to → t < looked tags from to → P from (mid from to) s → P from to (lookAt (mid from to) s)) where
+  by-turns : (n from to : ℕ) → to ≤ from + n → P from to (halve tags t n (part from to))
+  by-turns zero from to h = rw (no-turns tags t (part from to)) (none from to (omega arith))
+  by-turns (suc n) from to h =
+      elim (le-or-gt to from) [
+        inl z ↦ rw (turn-none tags t (suc n) from to z) (none from to z)
+      | inr some ↦ elim (equal-or-not (looked tags from to) t) [
+          inl e ↦ rw (turn-here tags t n from to some e) (found from to some e)
+        | inr other ↦ elim (sides (looked tags from to) t other) [
+            inl l ↦ rw (turn-behind tags t n from to some l) (behind from to _ some l (by-turns n _ _ (omega arith)))
+          | inr g ↦ rw (turn-before tags t n from to some g) (before from to _ some g (by-turns n _ _ (omega arith)))
           ]
         ]
       ]
@@ -83,58 +82,66 @@ module _ (tags : List ℕ) (t : ℕ) (P : ℕ → ℕ → Halving → Type 0)
 -- ---- how many looks, and where
 
 module _ (tags : List ℕ) (t : ℕ) where
-  few-from : (n from left : ℕ) → left ≤ n → (k : ℕ) → left < 2 ^ k → length (halve tags t n (part from left) .places) ≤ k
-  few-from = by-turns tags t (λ from left s. (k : ℕ) → left < 2 ^ k → length (s .places) ≤ k) (λ from k h. omega arith) found behind before
+  -- fewer than 2 to the k tags are left: at most k looks
+  abbrev Few : ℕ → ℕ → Halving → Type 0
+  Few from to s = (k : ℕ) → to < from + 2 ^ k → length (s .places) ≤ k
+
+  few-from : (n from to : ℕ) → to ≤ from + n → Few from to (halve tags t n (part from to))
+  few-from = by-turns tags t Few (λ from to z k h. omega arith) found behind before
     where
-      found : (from left : ℕ) → 0 < left → looked tags from left ≡ t → (k : ℕ) → left < 2 ^ k → 1 ≤ k
-      found from left some e zero h = omega arith
-      found from left some e (suc k) h = omega arith
-      behind : (from left : ℕ) (s : Halving) → 0 < left → looked tags from left < t
-          → ((k : ℕ) → left - left / 2 - 1 < 2 ^ k → length (s .places) ≤ k) → (k : ℕ) → left < 2 ^ k → suc (length (s .places)) ≤ k
-      behind from left s some l ih zero h = omega arith
-      behind from left s some l ih (suc k) h = let p = two-pow-succ k in let q = ih k (omega arith) in omega arith
-      before : (from left : ℕ) (s : Halving) → 0 < left → t < looked tags from left
-          → ((k : ℕ) → left / 2 < 2 ^ k → length (s .places) ≤ k) → (k : ℕ) → left < 2 ^ k → suc (length (s .places)) ≤ k
-      before from left s some g ih zero h = omega arith
-      before from left s some g ih (suc k) h = let p = two-pow-succ k in let q = ih k (omega arith) in omega arith
+      found : (from to : ℕ) → from < to → looked tags from to ≡ t → (k : ℕ) → to < from + 2 ^ k → 1 ≤ k
+      found from to some e zero h = omega arith
+      found from to some e (suc k) h = omega arith
+      behind : (from to : ℕ) (s : Halving) → from < to → looked tags from to < t → Few (mid from to + 1) to s → (k : ℕ) → to < from + 2 ^ k → suc (length (s .places)) ≤ k
+      behind from to s some l ih zero h = omega arith
+      behind from to s some l ih (suc k) h = let p = two-pow-succ k in let q = ih k (omega arith) in omega arith
+      before : (from to : ℕ) (s : Halving) → from < to → t < looked tags from to → Few from (mid from to) s → (k : ℕ) → to < from + 2 ^ k → suc (length (s .places)) ≤ k
+      before from to s some g ih zero h = omega arith
+      before from to s some g ih (suc k) h = let p = two-pow-succ k in let q = ih k (omega arith) in omega arith
 
-  inside : (from left : ℕ) → 0 < left → from + left ≤ length tags → ltb (from + left / 2) (length tags) ≡ true
-  inside from left some h = lt-ltb (from + left / 2) (length tags) (omega arith)
+  -- a part of the tags: each place looked at is one of theirs
+  abbrev Within : ℕ → ℕ → Halving → Type 0
+  Within from to s = to ≤ length tags → every (λ p. ltb p (length tags)) (s .places) ≡ true
 
-  within-from : (n from left : ℕ) → left ≤ n → from + left ≤ length tags → every (λ p. ltb p (length tags)) (halve tags t n (part from left) .places) ≡ true
+  inside : (from to : ℕ) → from < to → to ≤ length tags → ltb (mid from to) (length tags) ≡ true
+  inside from to some h = lt-ltb (mid from to) (length tags) (omega arith)
+
+  within-from : (n from to : ℕ) → to ≤ from + n → Within from to (halve tags t n (part from to))
   unfolding every
   within-from =
-      by-turns tags t (λ from left s. from + left ≤ length tags → every (λ p. ltb p (length tags)) (s .places) ≡ true)
-      (λ from h. refl)
-      (λ from left some e h. both-yes _ _ (inside from left some h) refl)
-      (λ from left s some l ih h. both-yes _ _ (inside from left some h) (ih (omega arith)))
-      (λ from left s some g ih h. both-yes _ _ (inside from left some h) (ih (omega arith)))
+      by-turns tags t Within
+      (λ from to z h. refl)
+      (λ from to some e h. both-yes _ _ (inside from to some h) refl)
+      (λ from to s some l ih h. both-yes _ _ (inside from to some h) (ih h))
+      (λ from to s some g ih h. both-yes _ _ (inside from to some h) (ih (omega arith)))
 
 -- ---- the same tags at the places
 
 module _ (tags other : List ℕ) (t : ℕ) where
-  same-way : (n from left : ℕ) → tagsAt other (halve tags t n (part from left) .places) ≡ tagsAt tags (halve tags t n (part from left) .places)
-      → halve other t n (part from left) ≡ halve tags t n (part from left)
-  same-way zero from left e = no-turns other t from left ∙ sym (no-turns tags t from left)
-  same-way (suc n) from left e =
-      elim (le-or-gt left 0) [
-        inl z ↦ let q : left ≡ 0 = omega arith in rw (q, turn-none tags t (suc n) from, turn-none other t (suc n) from)
-      | inr some ↦ elim (equal-or-not (looked tags from left) t) [
+  same-way : (n from to : ℕ) → tagsAt other (halve tags t n (part from to) .places) ≡ tagsAt tags (halve tags t n (part from to) .places)
+      → halve other t n (part from to) ≡ halve tags t n (part from to)
+  same-way zero from to e = no-turns other t (part from to) ∙ sym (no-turns tags t (part from to))
+  same-way (suc n) from to e =
+      elim (le-or-gt to from) [
+        inl z ↦ turn-none other t (suc n) from to z ∙ sym (turn-none tags t (suc n) from to z)
+      | inr some ↦ elim (equal-or-not (looked tags from to) t) [
           inl h ↦
-              let d = rw (turn-here tags t n from left some h) at e in
-              let first : looked other from left ≡ looked tags from left = cc in
-              turn-here other t n from left some (first ∙ h) ∙ sym (turn-here tags t n from left some h)
-        | inr differs ↦ elim (sides (looked tags from left) t differs) [
+              let d = rw (turn-here tags t n from to some h) at e in
+              let first : looked other from to ≡ looked tags from to = cc in
+              turn-here other t n from to some (first ∙ h) ∙ sym (turn-here tags t n from to some h)
+        | inr differs ↦ elim (sides (looked tags from to) t differs) [
             inl l ↦
-                let d = rw (turn-behind tags t n from left some l) at e in
-                let first : looked other from left ≡ looked tags from left = cc in
-                let rest : tagsAt other (halve tags t n (part (from + left / 2 + 1) (left - left / 2 - 1)) .places) ≡ tagsAt tags (halve tags t n (part (from + left / 2 + 1) (left - left / 2 - 1)) .places) = cc in
-                turn-behind other t n from left some (omega arith) ∙ ap (lookAt (from + left / 2)) (same-way n _ _ rest) ∙ sym (turn-behind tags t n from left some l)
+                let d = rw (turn-behind tags t n from to some l) at e in
+                let first : looked other from to ≡ looked tags from to = cc in
+                let s = halve tags t n (part (mid from to + 1) to) in
+                let rest : tagsAt other (s .places) ≡ tagsAt tags (s .places) = cc in
+                turn-behind other t n from to some (omega arith) ∙ ap (lookAt (mid from to)) (same-way n _ _ rest) ∙ sym (turn-behind tags t n from to some l)
           | inr g ↦
-                let d = rw (turn-before tags t n from left some g) at e in
-                let first : looked other from left ≡ looked tags from left = cc in
-                let rest : tagsAt other (halve tags t n (part from (left / 2)) .places) ≡ tagsAt tags (halve tags t n (part from (left / 2)) .places) = cc in
-                turn-before other t n from left some (omega arith) ∙ ap (lookAt (from + left / 2)) (same-way n _ _ rest) ∙ sym (turn-before tags t n from left some g)
+                let d = rw (turn-before tags t n from to some g) at e in
+                let first : looked other from to ≡ looked tags from to = cc in
+                let s = halve tags t n (part from (mid from to)) in
+                let rest : tagsAt other (s .places) ≡ tagsAt tags (s .places) = cc in
+                turn-before other t n from to some (omega arith) ∙ ap (lookAt (mid from to)) (same-way n _ _ rest) ∙ sym (turn-before tags t n from to some g)
           ]
         ]
       ]
@@ -148,73 +155,67 @@ absent [] t none = refl
 absent (r ∷ rs) t none =
     if-no _ _ (ne-eqb (r .tag) t (none 0 (omega arith))) ∙ ap (past 1) (absent rs t (λ k h. none (suc k) (omega arith)))
 
+-- the tags before a place are smaller than the wanted one, those from a place on greater
+abbrev Smaller : List Row → ℕ → ℕ → Type 0
+Smaller table t n = (k : ℕ) → k < n → k < length table → rowIn table k .tag < t
+
+abbrev Greater : List Row → ℕ → ℕ → Type 0
+Greater table t n = (k : ℕ) → n ≤ k → k < length table → t < rowIn table k .tag
+
 module _ (table : List Row) (rises : rising table ≡ true) (t : ℕ) where
-  -- the tags before a place are smaller than the wanted one, those from a place on greater
-  abbrev Smaller : ℕ → Type 0
-  Smaller n = (k : ℕ) → k < n → k < length table → rowIn table k .tag < t
-
-  abbrev Greater : ℕ → Type 0
-  Greater n = (k : ℕ) → n ≤ k → k < length table → t < rowIn table k .tag
-
-  smaller-up-to : (m : ℕ) → m < length table → rowIn table m .tag < t → Smaller (m + 1)
+  smaller-up-to : (m : ℕ) → m < length table → rowIn table m .tag < t → Smaller table t (m + 1)
   smaller-up-to m h l k b w =
       elim (equal-or-not k m) [
         inl e ↦ rw e l
       | inr differs ↦ let r = tags-rise table rises k m (omega (arith, differs)) h in omega arith
       ]
 
-  greater-from : (m : ℕ) → m < length table → t < rowIn table m .tag → Greater m
+  greater-from : (m : ℕ) → m < length table → t < rowIn table m .tag → Greater table t m
   greater-from m h g k b w =
       elim (equal-or-not k m) [
         inl e ↦ rw e g
       | inr differs ↦ let r = tags-rise table rises m k (omega (arith, differs)) w in omega arith
       ]
 
-module _ (table : List Row) (rises : rising table ≡ true) (t : ℕ) where
-  abbrev tags : List ℕ
-  tags = tagsOf table
+  -- a part with smaller tags before it and greater ones behind it: what `find` gives
+  abbrev Finds : ℕ → ℕ → Halving → Type 0
+  Finds from to s = to ≤ length table → Smaller table t from → Greater table t to → s .found ≡ find table t
 
-  finds-from : (n from left : ℕ) → left ≤ n → from + left ≤ length table → Smaller table rises t from → Greater table rises t (from + left)
-      → halve tags t n (part from left) .found ≡ find table t
-  finds-from =
-      by-turns tags t (λ from left s. from + left ≤ length table → Smaller table rises t from → Greater table rises t (from + left) → s .found ≡ find table t)
-      none found behind before
+  at-row : (k : ℕ) → getD (tagsOf table) k 0 ≡ rowIn table k .tag
+  at-row k = column (λ r. r .tag) table k
+
+  finds-from : (n from to : ℕ) → to ≤ from + n → Finds from to (halve (tagsOf table) t n (part from to))
+  finds-from = by-turns (tagsOf table) t Finds none found behind before
     where
-      at-row : (k : ℕ) → getD tags k 0 ≡ rowIn table k .tag
-      at-row k = column (λ r. r .tag) table k
-      none : (from : ℕ) → from + 0 ≤ length table → Smaller table rises t from → Greater table rises t (from + 0) → Unknown ≡ find table t
-      none from h s g =
+      none : (from to : ℕ) → to ≤ from → to ≤ length table → Smaller table t from → Greater table t to → Unknown ≡ find table t
+      none from to z h s g =
           sym (absent table t (λ k w e. elim (le-or-gt from k) [ inl b ↦ let x = g k (omega arith) w in omega arith | inr b ↦ let x = s k b w in omega arith ]))
-      found : (from left : ℕ) → 0 < left → looked tags from left ≡ t → from + left ≤ length table → Smaller table rises t from → Greater table rises t (from + left)
-          → At (from + left / 2) ≡ find table t
-      found from left some e h s g =
-          let w : from + left / 2 < length table = omega arith in
-          let x : rowIn table (from + left / 2) .tag ≡ t = sym (at-row (from + left / 2)) ∙ e in
-          sym (find-row table rises (from + left / 2) w) ∙ ap (find table) x
-      behind : (from left : ℕ) (s : Halving) → 0 < left → looked tags from left < t
-          → (from + left / 2 + 1 + (left - left / 2 - 1) ≤ length table → Smaller table rises t (from + left / 2 + 1) → Greater table rises t (from + left / 2 + 1 + (left - left / 2 - 1)) → s .found ≡ find table t)
-          → from + left ≤ length table → Smaller table rises t from → Greater table rises t (from + left) → s .found ≡ find table t
-      behind from left s some l ih h a b =
-          let w : from + left / 2 < length table = omega arith in
-          let x = at-row (from + left / 2) in
-          ih (omega arith) (smaller-up-to table rises t (from + left / 2) w (omega arith)) (λ k c. b k (omega arith))
-      before : (from left : ℕ) (s : Halving) → 0 < left → t < looked tags from left
-          → (from + left / 2 ≤ length table → Smaller table rises t from → Greater table rises t (from + left / 2) → s .found ≡ find table t)
-          → from + left ≤ length table → Smaller table rises t from → Greater table rises t (from + left) → s .found ≡ find table t
-      before from left s some l ih h a b =
-          let w : from + left / 2 < length table = omega arith in
-          let x = at-row (from + left / 2) in
-          ih (omega arith) a (greater-from table rises t (from + left / 2) w (omega arith))
+      found : (from to : ℕ) → from < to → looked (tagsOf table) from to ≡ t → to ≤ length table → Smaller table t from → Greater table t to
+          → At (mid from to) ≡ find table t
+      found from to some e h s g =
+          let w : mid from to < length table = omega arith in
+          let x : rowIn table (mid from to) .tag ≡ t = sym (at-row (mid from to)) ∙ e in
+          sym (find-row table rises (mid from to) w) ∙ ap (find table) x
+      behind : (from to : ℕ) (s : Halving) → from < to → looked (tagsOf table) from to < t → Finds (mid from to + 1) to s → Finds from to s
+      behind from to s some l ih h a b =
+          let w : mid from to < length table = omega arith in
+          let x = at-row (mid from to) in
+          ih h (smaller-up-to (mid from to) w (omega arith)) b
+      before : (from to : ℕ) (s : Halving) → from < to → t < looked (tagsOf table) from to → Finds from (mid from to) s → Finds from to s
+      before from to s some g ih h a b =
+          let w : mid from to < length table = omega arith in
+          let x = at-row (mid from to) in
+          ih (omega arith) a (greater-from (mid from to) w (omega arith))
 
--- ---- the whole search
+-- ---- the loop: some looks were made, and a part is left
 
--- what is said once so many looks were made and a search of the rest comes to this
+-- what is said after so many looks, where a search of the rest comes to this
 abbrev pub after : ℕ → Halving → Searched
 after looks s = record { found = s .found; looks = looks + length (s .places) }
 
--- what is left to do: the turns that remain are those of the looks not made
+-- what is said where this part is left; a turn is left for each tag but those looked at
 abbrev pub rest : List ℕ → ℕ → ℕ → ℕ → ℕ → Searched
-rest tags t from left looks = after looks (halve tags t (length tags - looks) (part from left))
+rest tags t from to looks = after looks (halve tags t (length tags - looks) (part from to))
 
 module _ (tags : List ℕ) (t : ℕ) where
   pub begin : searchOf tags t ≡ rest tags t 0 (length tags) 0
@@ -225,29 +226,25 @@ module _ (tags : List ℕ) (t : ℕ) where
       let all : length tags ≡ length tags - 0 = omega arith in
       ap (λ (n : ℕ). record { found = s .found; looks = n }) e ∙ ap (λ (n : ℕ). after 0 (halve tags t n (part 0 (length tags)))) all
 
-  module _ (from left looks : ℕ) (room : looks + left ≤ length tags) where
-    pub end : left ≡ 0 → rest tags t from left looks ≡ record { found = Unknown; looks = looks }
-    end e = rw (e, turn-none tags t (length tags - looks) from) (ap (λ (n : ℕ). record { found = Unknown; looks = n }) (omega arith))
+  module _ (from to looks : ℕ) where
+    pub end : to ≤ from → rest tags t from to looks ≡ record { found = Unknown; looks = looks }
+    end h = rw (turn-none tags t (length tags - looks) from to h) (ap (λ (n : ℕ). record { found = Unknown; looks = n }) (omega arith))
 
-    one-more : (m : ℕ) (s : Halving) → after looks (lookAt m s) ≡ after (looks + 1) s
-    one-more m s = ap (λ (n : ℕ). record { found = s .found; looks = n }) (omega arith)
+    module _ (room : looks + to ≤ from + length tags) (some : from < to) where
+      one-more : (s : Halving) → after looks (lookAt (mid from to) s) ≡ after (looks + 1) s
+      one-more s = ap (λ (n : ℕ). record { found = s .found; looks = n }) (omega arith)
 
-    module _ (some : 0 < left) where
       turns : length tags - looks ≡ suc (length tags - (looks + 1))
       turns = omega arith
 
-      pub go-here : getD tags (from + left / 2) 0 ≡ t → rest tags t from left looks ≡ record { found = At (from + left / 2); looks = looks + 1 }
-      go-here e = rw (turns, turn-here tags t (length tags - (looks + 1)) from left some e)
+      pub go-here : looked tags from to ≡ t → rest tags t from to looks ≡ record { found = At (mid from to); looks = looks + 1 }
+      go-here e = rw (turns, turn-here tags t (length tags - (looks + 1)) from to some e)
 
-      pub go-behind : getD tags (from + left / 2) 0 < t → rest tags t from left looks ≡ rest tags t (from + left / 2 + 1) (left - left / 2 - 1) (looks + 1)
-      go-behind l =
-          rw (turns, turn-behind tags t (length tags - (looks + 1)) from left some l)
-          (one-more (from + left / 2) (halve tags t (length tags - (looks + 1)) (part (from + left / 2 + 1) (left - left / 2 - 1))))
+      pub go-behind : looked tags from to < t → rest tags t from to looks ≡ rest tags t (mid from to + 1) to (looks + 1)
+      go-behind l = rw (turns, turn-behind tags t (length tags - (looks + 1)) from to some l) (one-more (halve tags t (length tags - (looks + 1)) (part (mid from to + 1) to)))
 
-      pub go-before : t < getD tags (from + left / 2) 0 → rest tags t from left looks ≡ rest tags t from (left / 2) (looks + 1)
-      go-before g =
-          rw (turns, turn-before tags t (length tags - (looks + 1)) from left some g)
-          (one-more (from + left / 2) (halve tags t (length tags - (looks + 1)) (part from (left / 2))))
+      pub go-before : t < looked tags from to → rest tags t from to looks ≡ rest tags t from (mid from to) (looks + 1)
+      go-before g = rw (turns, turn-before tags t (length tags - (looks + 1)) from to some g) (one-more (halve tags t (length tags - (looks + 1)) (part from (mid from to))))
 
 -- ---- what `search` promises, from the equation
 
@@ -261,7 +258,7 @@ module _ (tags : List ℕ) (t : ℕ) where
 
   few-looks : (k : ℕ) → length tags < 2 ^ k → searchOf tags t .looks ≤ k
   unfolding searchOf halvingOf
-  few-looks k h = few-from tags t (length tags) 0 (length tags) (omega arith) k h
+  few-looks k h = few-from tags t (length tags) 0 (length tags) (omega arith) k (omega arith)
 
   same : (other : List ℕ) → length other ≡ length tags → tagsAt other (lookedAt tags t) ≡ tagsAt tags (lookedAt tags t) → searchOf other t ≡ searchOf tags t
   unfolding searchOf halvingOf

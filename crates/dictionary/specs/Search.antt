@@ -6,9 +6,9 @@
 use mathlib.Core.Path.{_≡_}
 use mathlib.Core.Bool.{true}
 use mathlib.Core.List.{List, [], _∷_, map}
-use Prim.Native.Nat.{ℕ, zero, suc, _+_, _-_, _/_}
+use Prim.Native.Nat.{ℕ, zero, suc, _+_, _/_}
 use lib.ListN.{length, getD}
-use Rattle.basics.specs.Choice.{if_then_else_, _<?_, _=?_, every}
+use Rattle.basics.specs.Choice.{if_then_else_, _≤?_, _<?_, _=?_, every}
 use Rattle.dictionary.specs.declared.Found.{Found}
 use Rattle.dictionary.specs.declared.Found.the-variants.{At, Unknown}
 use Rattle.dictionary.specs.declared.Searched.{Searched}
@@ -16,24 +16,24 @@ use Rattle.dictionary.specs.Rows.{Row}
 
 -- ---- what is left to search
 
--- a part of the tags: so many of them, from a place on
+-- a part of the tags: those from a place on, up to a place that is no more in it
 pub record Part : Type 0 where
   pub from : ℕ
-  pub left : ℕ
+  pub to : ℕ
 
 abbrev pub part : ℕ → ℕ → Part
-part from left = record { from = from; left = left }
+part from to = record { from = from; to = to }
 
--- the place of its middle one
+-- the place of its middle tag
 abbrev pub middle : Part → ℕ
-middle p = p .from + p .left / 2
+middle p = (p .from + p .to) / 2
 
--- the part behind the middle one, and the part before it
+-- the part behind the middle tag, and the part before it
 abbrev pub behind : Part → Part
-behind p = part (middle p + 1) (p .left - p .left / 2 - 1)
+behind p = part (middle p + 1) (p .to)
 
 abbrev pub before : Part → Part
-before p = part (p .from) (p .left / 2)
+before p = part (p .from) (middle p)
 
 -- ---- the search
 
@@ -59,7 +59,7 @@ unfoldable pub halve : List ℕ → ℕ → ℕ → Part → Halving
 halve tags wanted zero p = nowhere
 halve tags wanted (suc turns) p =
     let tag = getD tags (middle p) 0 in
-    if p .left =? 0 then nowhere
+    if p .to ≤? p .from then nowhere
     else lookAt (middle p)
         (if tag =? wanted then here (middle p)
         else halve tags wanted turns (if tag <? wanted then behind p else before p))

@@ -226,24 +226,22 @@ pub fn search(tags: &[u32], tag: u32) -> Searched
     ensures counted { λ r. ⌜ LooksCounted (now (tags .entry)) tag r ⌝ }
 {
     let mut from = 0;
-    let mut left = tags.len();
+    let mut to = tags.len();
     let mut looks = 0;
-    while left != 0 {
-        let half = left / 2;
-        let middle = from + half;
+    while from < to {
+        let middle = (from + to) / 2;
         let looked = tags[middle];
         looks += 1;
-        if looked == tag {
-            return Searched {
-                found: Found::At(middle),
-                looks,
-            };
-        }
         if looked < tag {
             from = middle + 1;
-            left = left - half - 1;
         } else {
-            left = half;
+            if looked == tag {
+                return Searched {
+                    found: Found::At(middle),
+                    looks,
+                };
+            }
+            to = middle;
         }
     }
     Searched {

@@ -1,4 +1,4 @@
--- `dictionary::search` meets its contract. The loop's invariant: the looks made and a search of what is left say what the whole search says.
+-- `dictionary::search` meets its contract. The loop's invariant: after the looks made, a search of the part that is left says what the whole says.
 -- Assumes nothing.
 use borrow.Author.Needs.{needs}
 use mathlib.Core.Path.{_≡_, sym, _∙_}
@@ -11,38 +11,35 @@ use Rattle.dictionary.proofs.search.Statement.{statement}
 use Rattle.dictionary.proofs.search.Tie as tie
 
 abbrev Inv-loop : tie.InvT-loop
-Inv-loop tags tag from₀ left₀ looks₀ from left looks =
-    (from + left ≤ length tags) × (looks + left ≤ length tags) × (searchOf tags tag ≡ rest tags tag from left looks)
+Inv-loop tags tag from₀ to₀ looks₀ from to looks =
+    (to ≤ length tags) × (looks + to ≤ from + length tags) × (searchOf tags tag ≡ rest tags tag from to looks)
 
 abbrev μ-loop : tie.MeasureT-loop
-μ-loop tags tag from₀ left₀ looks₀ from left looks = left
-
-mul-looked : tie.Need-mul-looked Inv-loop μ-loop
-mul-looked c = search needs
-
-returns : tie.Need-returns Inv-loop μ-loop
-returns c =
-    let lp = c .before .before .before .loop in
-    let a = c .before .before .before .before .args in
-    promised (a .tags .now) (a .tag) (sym (lp .inv .2 ∙ go-here (a .tags .now) (a .tag) (lp .from) (lp .left) (lp .looks) (omega arith) (omega arith) (c .if1 .taken)))
+μ-loop tags tag from₀ to₀ looks₀ from to looks = to - from
 
 loop-again : tie.Need-loop-again Inv-loop μ-loop
 loop-again c =
+    let lp = c .before .before .before .loop in
+    let a = c .before .before .before .before .args in
+    (omega arith, omega arith, lp .inv .2 ∙ go-behind (a .tags .now) (a .tag) (lp .from) (lp .to) (lp .looks) (omega arith) (omega arith) (c .if1 .taken))
+
+returns : tie.Need-returns Inv-loop μ-loop
+returns c =
     let lp = c .before .before .before .before .loop in
     let a = c .before .before .before .before .before .args in
-    (omega arith, omega arith, lp .inv .2 ∙ go-behind (a .tags .now) (a .tag) (lp .from) (lp .left) (lp .looks) (omega arith) (omega arith) (c .if2 .taken))
+    promised (a .tags .now) (a .tag) (sym (lp .inv .2 ∙ go-here (a .tags .now) (a .tag) (lp .from) (lp .to) (lp .looks) (omega arith) (omega arith) (c .if2 .taken)))
 
 loop-again-2 : tie.Need-loop-again-2 Inv-loop μ-loop
 loop-again-2 c =
     let lp = c .before .before .before .before .loop in
     let a = c .before .before .before .before .before .args in
-    (omega arith, omega arith, lp .inv .2 ∙ go-before (a .tags .now) (a .tag) (lp .from) (lp .left) (lp .looks) (omega arith) (omega arith) (omega (arith, c .before .if1 .left)))
+    (omega arith, omega arith, lp .inv .2 ∙ go-before (a .tags .now) (a .tag) (lp .from) (lp .to) (lp .looks) (omega arith) (omega arith) (omega (arith, c .if2 .left)))
 
 returns-2 : tie.Need-returns-2 Inv-loop μ-loop
 returns-2 c =
     let lp = c .before .loop in
     let a = c .before .before .args in
-    promised (a .tags .now) (a .tag) (sym (lp .inv .2 ∙ end (a .tags .now) (a .tag) (lp .from) (lp .left) (lp .looks) (omega arith) (c .loop-test .left)))
+    promised (a .tags .now) (a .tag) (sym (lp .inv .2 ∙ end (a .tags .now) (a .tag) (lp .from) (lp .to) (lp .looks) (c .loop-test .left)))
 
 pub search-spec : {M : Type 1} → statement M
 search-spec =
@@ -51,16 +48,14 @@ search-spec =
     Inv-loop
     μ-loop
     (λ c. (omega arith, omega arith, begin _ _))
-    (λ c. omega arith)
-    mul-looked
-    (λ c. omega arith)
-    (λ c. omega arith)
-    returns
+    (λ c. search needs)
+    (λ c. search needs)
     (λ c. omega arith)
     (λ c. omega arith)
     (λ c. omega arith)
     (λ c. omega arith)
     loop-again
+    returns
     (λ c. omega arith)
     loop-again-2
     returns-2)
