@@ -5,5 +5,6 @@ pub mod Halving
 pub mod Digits
 pub mod Fit
 pub mod Packing
+pub mod Lent
 pub mod Named
 pub mod Examples

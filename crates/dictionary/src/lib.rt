@@ -309,7 +309,14 @@ pub fn attributes_of(row: usize) -> Attributes
     unpacked(0)
 }
 
-// The whole table, for a walk over all rows: an array that is read row by row is built anew each time.
+// The tags and the numbers of all rows. An array that is read at a place known only when the code runs is built anew
+// each time: a call that reads many rows binds these once and lends them down.
+pub fn tags() -> [u32; ROWS]
+    ensures { λ r. ⌜ r ≡ tagsOf rows ⌝ }
+{
+    TAGS
+}
+
 pub fn codes() -> [u32; ROWS]
     ensures { λ r. ⌜ r ≡ map codeOf rows ⌝ }
 {
