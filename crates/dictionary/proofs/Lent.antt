@@ -27,6 +27,6 @@ unfolding rows
 row-found t {k} e = found rows t k e .0
 
 -- a row's number, taken apart
-pub lent-row : (t : ℕ) {codes : List ℕ} {k : ℕ} → codes ≡ codesOf rows → find rows t ≡ At k → attributesIn (getD codes k 0) ≡ attributesOf (rowAt k)
-lent-row t {codes} {k} e f =
-    ap (λ (cs : List ℕ). attributesIn (getD cs k 0)) e ∙ ap attributesIn (column codeOf rows k) ∙ code-unpacks k (found rows t k f .0)
+pub lent-row : {codes : List ℕ} {k : ℕ} → codes ≡ codesOf rows → k < rowCount → attributesIn (getD codes k 0) ≡ attributesOf (rowAt k)
+unfolding rows
+lent-row {codes} {k} e h = ap (λ (cs : List ℕ). attributesIn (getD cs k 0)) e ∙ ap attributesIn (column codeOf rows k) ∙ code-unpacks k h

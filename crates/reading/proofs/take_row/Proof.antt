@@ -17,7 +17,7 @@ returns c =
     let st = c .before .before .before .before .before in
     let a = st .args in
     let f = st .pre .1 .1 .0 in
-    let at = c .before .before .unpacked .ensures ∙ lent-row (a .tag) (st .pre .1 .1 .1) f in
+    let at = c .before .before .unpacked .ensures ∙ lent-row (st .pre .1 .1 .1) (row-found (a .tag) f) in
     let skipped = row-skipped (a .tag) (rowAt (a .row)) (c .before .is-skipped .ensures) at in
     gave (item-skipped (a .answer) (a .store .now) (item (a .around) (a .tag) (a .v .now)) (find rows (a .tag)) refl (a .row) f (sym skipped ∙ c .if1 .taken)) (st .pre .0)
 
@@ -26,7 +26,7 @@ returns-2 c =
     let st = c .before .before .before .before .before .before .before in
     let a = st .args in
     let f = st .pre .1 .1 .0 in
-    let at = c .before .before .before .before .unpacked .ensures ∙ lent-row (a .tag) (st .pre .1 .1 .1) f in
+    let at = c .before .before .before .before .unpacked .ensures ∙ lent-row (st .pre .1 .1 .1) (row-found (a .tag) f) in
     let skipped = row-skipped (a .tag) (rowAt (a .row)) (c .before .before .before .is-skipped .ensures) at in
     let may = row-comes (a .answer) (rowAt (a .row)) (a .around) (a .v .now) (c .before .may-come .ensures) at in
     gave (item-barred (a .answer) (a .store .now) (item (a .around) (a .tag) (a .v .now)) (find rows (a .tag)) refl (a .row) f
@@ -37,7 +37,7 @@ put-free-requires c κs =
     let st = c .before .before .before .before .before .before .before .before in
     let a = st .args in
     let f = st .pre .1 .1 .0 in
-    let at = c .before .before .before .before .before .unpacked .ensures ∙ lent-row (a .tag) (st .pre .1 .1 .1) f in
+    let at = c .before .before .before .before .before .unpacked .ensures ∙ lent-row (st .pre .1 .1 .1) (row-found (a .tag) f) in
     let may = row-comes (a .answer) (rowAt (a .row)) (a .around) (a .v .now) (c .before .before .may-come .ensures) at in
     let fit = fits-length (rowAt (a .row)) (a .v .now) (may-come-fits (a .answer) (rowAt (a .row)) (a .around) (a .v .now) (sym may ∙ not-false _ (c .before .if2 .left))) in
     (st .pre .0, (row-found (a .tag) f, fit .1))
@@ -47,7 +47,7 @@ returns-3 c =
     let st = c .before .before .before .before .before .before .before .before .before in
     let a = st .args in
     let f = st .pre .1 .1 .0 in
-    let at = c .before .before .before .before .before .before .unpacked .ensures ∙ lent-row (a .tag) (st .pre .1 .1 .1) f in
+    let at = c .before .before .before .before .before .before .unpacked .ensures ∙ lent-row (st .pre .1 .1 .1) (row-found (a .tag) f) in
     let skipped = row-skipped (a .tag) (rowAt (a .row)) (c .before .before .before .before .before .is-skipped .ensures) at in
     let may = row-comes (a .answer) (rowAt (a .row)) (a .around) (a .v .now) (c .before .before .before .may-come .ensures) at in
     let p = c .put-free in
