@@ -19,7 +19,7 @@ use Rattle.dictionary.specs.declared.Found.the-variants.{At, Unknown}
 use Rattle.dictionary.specs.declared.Searched.{Searched}
 use Rattle.dictionary.specs.Rows.{Row, rowIn, past, find}
 use Rattle.dictionary.specs.Rule.{rising}
-use Rattle.dictionary.specs.Search.{Part, part, Halving, nowhere, here, lookAt, halve, halvingOf, lookedAt, searchOf, tagsOf, tagsAt, LooksCounted}
+use Rattle.dictionary.specs.Search.{Part, part, middle, Halving, nowhere, here, lookAt, halve, halvingOf, lookedAt, searchOf, tagsOf, tagsAt, LooksCounted}
 use Rattle.dictionary.proofs.Table.{column}
 use Rattle.dictionary.proofs.Rule.{tags-rise, find-row}
 
@@ -27,7 +27,7 @@ use Rattle.dictionary.proofs.Rule.{tags-rise, find-row}
 
 -- the middle of a part, and the tag there
 abbrev mid : ℕ → ℕ → ℕ
-mid from to = (from + to) / 2
+mid from to = middle (part from to)
 
 abbrev looked : List ℕ → ℕ → ℕ → ℕ
 looked tags from to = getD tags (mid from to) 0
@@ -89,13 +89,13 @@ module _ (tags : List ℕ) (t : ℕ) where
   few-from : (n from to : ℕ) → to ≤ from + n → Few from to (halve tags t n (part from to))
   few-from = by-turns tags t Few (λ from to z k h. omega arith) found behind before
     where
-      found : (from to : ℕ) → from < to → looked tags from to ≡ t → (k : ℕ) → to < from + 2 ^ k → 1 ≤ k
+      found : (from to : ℕ) → from < to → looked tags from to ≡ t → Few from to (lookAt (mid from to) (here (mid from to)))
       found from to some e zero h = omega arith
       found from to some e (suc k) h = omega arith
-      behind : (from to : ℕ) (s : Halving) → from < to → looked tags from to < t → Few (mid from to + 1) to s → (k : ℕ) → to < from + 2 ^ k → suc (length (s .places)) ≤ k
+      behind : (from to : ℕ) (s : Halving) → from < to → looked tags from to < t → Few (mid from to + 1) to s → Few from to (lookAt (mid from to) s)
       behind from to s some l ih zero h = omega arith
       behind from to s some l ih (suc k) h = let p = two-pow-succ k in let q = ih k (omega arith) in omega arith
-      before : (from to : ℕ) (s : Halving) → from < to → t < looked tags from to → Few from (mid from to) s → (k : ℕ) → to < from + 2 ^ k → suc (length (s .places)) ≤ k
+      before : (from to : ℕ) (s : Halving) → from < to → t < looked tags from to → Few from (mid from to) s → Few from to (lookAt (mid from to) s)
       before from to s some g ih zero h = omega arith
       before from to s some g ih (suc k) h = let p = two-pow-succ k in let q = ih k (omega arith) in omega arith
 
