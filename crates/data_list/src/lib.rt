@@ -11,6 +11,7 @@ ghost use Prim.Native.Nat.{_+_, _-_, _≤_, _<_};
 ghost use lib.ListN.{length, take, drop, replicate};
 ghost use Rattle.dictionary.specs.Rows.{rows};
 ghost use Rattle.dictionary.specs.Lent.{Lent};
+ghost use Rattle.store.specs.Place.{placesOf};
 ghost use Rattle.data_list.specs.Entries.{entryAt, listEntries};
 ghost use Rattle.data_list.specs.Filling.{cut, padding, padded, fitted, entryBytes, filled};
 ghost use Rattle.data_list.specs.Commands.{command, optionsHead, processingOptions, generateAc, handed, writtenOf, writtenNumber, listReason, bufferWith};
@@ -142,13 +143,23 @@ fn fill(list: &[u8], store: &[u8], buffer: &mut [u8], at: usize)
 {
     let tags = dictionary::tags();
     let codes = dictionary::codes();
-    fill_entries(list, store, buffer, at, &tags, &codes);
+    let places = store::row_places();
+    fill_entries(list, store, buffer, at, &tags, &codes, &places);
 }
 
 // The same with the table lent: entry by entry.
-fn fill_entries(list: &[u8], store: &[u8], buffer: &mut [u8], at: usize, tags: &[u32; ROWS], codes: &[u32; ROWS])
+fn fill_entries(
+    list: &[u8],
+    store: &[u8],
+    buffer: &mut [u8],
+    at: usize,
+    tags: &[u32; ROWS],
+    codes: &[u32; ROWS],
+    places: &[u32; ROWS],
+)
     requires { ⌜ Room (listEntries (now list)) at (length (now buffer)) ⌝ }
     requires { ⌜ Lent (now tags) (now codes) ⌝ }
+    requires { ⌜ now places ≡ placesOf rows ⌝ }
     ensures { λ _. ⌜ now (buffer .exit) ≡ overFilled (now (buffer .entry)) at (filled rows (now (store .entry)) (now (list .entry))) ⌝ }
 {
     let mut rest = list;
@@ -158,7 +169,7 @@ fn fill_entries(list: &[u8], store: &[u8], buffer: &mut [u8], at: usize, tags: &
         let EntryFront::Asked(entry, size) = front else {
             return;
         };
-        write_entry(entry, store, buffer, to, tags, codes);
+        write_entry(entry, store, buffer, to, tags, codes, places);
         to += basics::wide(entry.asked);
         rest = &rest[size..];
     }
@@ -186,9 +197,18 @@ fn entry_at(list: &[u8]) -> EntryFront
 }
 
 // Writes an entry's bytes.
-fn write_entry(entry: Entry, store: &[u8], buffer: &mut [u8], at: usize, tags: &[u32; ROWS], codes: &[u32; ROWS])
+fn write_entry(
+    entry: Entry,
+    store: &[u8],
+    buffer: &mut [u8],
+    at: usize,
+    tags: &[u32; ROWS],
+    codes: &[u32; ROWS],
+    places: &[u32; ROWS],
+)
     requires { ⌜ at + entry .asked ≤ length (now buffer) ⌝ }
     requires { ⌜ Lent (now tags) (now codes) ⌝ }
+    requires { ⌜ now places ≡ placesOf rows ⌝ }
     ensures { λ _. ⌜ now (buffer .exit) ≡ over (now (buffer .entry)) at (entryBytes rows (now (store .entry)) entry) ⌝ }
 {
     let n = basics::wide(entry.asked);
@@ -201,7 +221,7 @@ fn write_entry(entry: Entry, store: &[u8], buffer: &mut [u8], at: usize, tags: &
         repeat(0, n, buffer, at);
         return;
     };
-    if !store::is_there(store, row) {
+    if !store::is_there_in(store, row, places) {
         repeat(0, n, buffer, at);
         return;
     }

@@ -1,8 +1,8 @@
 // Reading a card's answer into a store, whole or not at all.
 //
 // `read_answer` takes the whole answer with its status bytes, `read_body` the body alone. Inside, the
-// objects go into one working copy that is lent down the templates, with the table's tags and rows' numbers; the
-// store is written only where every object was allowed.
+// objects go into one working copy that is lent down the templates, with the table's tags, its
+// rows' numbers and places; the store is written only where every object was allowed.
 use dictionary::Attributes;
 use dictionary::Found;
 use dictionary::ROWS;
@@ -20,6 +20,7 @@ ghost use Rattle.dictionary.specs.declared.Found.{Found};
 ghost use Rattle.dictionary.specs.Rows.{rows, find, storeSize, cryptogram};
 ghost use Rattle.dictionary.specs.Packing.{rowOf};
 ghost use Rattle.dictionary.specs.Lent.{Lent, codesOf};
+ghost use Rattle.store.specs.Place.{placesOf};
 ghost use Rattle.tlv.specs.Tag.{isPrivate};
 ghost use Rattle.tlv.specs.Tree.{parse};
 ghost use Rattle.reading.specs.Taking.{item, mayCome, byCard, standsIn, work, takeItem, takeNext, takeAll};
@@ -102,7 +103,8 @@ pub fn read_body(store: &mut [u8], awaited: Awaited, body: &[u8]) -> Reading
     bytes::copy(store, &mut work);
     let tags = dictionary::tags();
     let codes = dictionary::codes();
-    let reading = read_object(&mut work, awaited, body, &tags, &codes);
+    let places = store::row_places();
+    let reading = read_object(&mut work, awaited, body, &tags, &codes, &places);
     let verdict = reading.verdict;
     let Verdict::Accepted = verdict else {
         return reading;
@@ -177,9 +179,10 @@ fn template_tag(awaited: Awaited) -> u32
 }
 
 // The body's one object, with no byte behind it, into a working copy.
-fn read_object(work: &mut [u8; SIZE], awaited: Awaited, body: &[u8], tags: &[u32; ROWS], codes: &[u32; ROWS]) -> Reading
+fn read_object(work: &mut [u8; SIZE], awaited: Awaited, body: &[u8], tags: &[u32; ROWS], codes: &[u32; ROWS], places: &[u32; ROWS]) -> Reading
     requires { ⌜ length (now work) ≡ storeSize ⌝ }
     requires { ⌜ Lent (now tags) (now codes) ⌝ }
+    requires { ⌜ now places ≡ placesOf rows ⌝ }
     ensures given { λ r. ⌜ GivesIn r (now (work .entry)) (now (work .exit)) (readBody awaited (now (work .entry)) (now (body .entry))) ⌝ }
     ensures sized { λ _. ⌜ length (now (work .exit)) ≡ storeSize ⌝ }
     ensures half { λ r. ⌜ 2 * r .objects ≤ length (now (body .entry)) ⌝ }
@@ -195,9 +198,9 @@ fn read_object(work: &mut [u8; SIZE], awaited: Awaited, body: &[u8], tags: &[u32
     }
     let value = &body[start..e];
     if h.template {
-        return read_template(work, awaited, h.tag, value, tags, codes);
+        return read_template(work, awaited, h.tag, value, tags, codes, places);
     }
-    read_primitive(work, awaited, h.tag, value, codes)
+    read_primitive(work, awaited, h.tag, value, codes, places)
 }
 
 // An answer that is a template, by its contents.
@@ -208,10 +211,12 @@ fn read_template(
     value: &[u8],
     tags: &[u32; ROWS],
     codes: &[u32; ROWS],
+    places: &[u32; ROWS],
 ) -> Reading
     requires { ⌜ length (now work) ≡ storeSize ⌝ }
     requires { ⌜ length (now value) + 2 < 2 ^ 64 ⌝ }
     requires { ⌜ Lent (now tags) (now codes) ⌝ }
+    requires { ⌜ now places ≡ placesOf rows ⌝ }
     ensures given { λ r. ⌜ GivesIn r (now (work .entry)) (now (work .exit)) (readTemplate awaited (now (work .entry)) tag (now (value .entry))) ⌝ }
     ensures sized { λ _. ⌜ length (now (work .exit)) ≡ storeSize ⌝ }
     ensures half { λ r. ⌜ 2 * r .objects ≤ 2 + length (now (value .entry)) ⌝ }
@@ -229,6 +234,7 @@ fn read_template(
         work,
         tags,
         codes,
+        places,
     );
     let Contents::Whole(t) = contents else {
         return made(Verdict::Malformed, 0);
@@ -244,9 +250,10 @@ fn read_template(
 }
 
 // An answer that is a primitive object: 80, with its parts one behind the other.
-fn read_primitive(work: &mut [u8; SIZE], awaited: Awaited, tag: u32, value: &[u8], codes: &[u32; ROWS]) -> Reading
+fn read_primitive(work: &mut [u8; SIZE], awaited: Awaited, tag: u32, value: &[u8], codes: &[u32; ROWS], places: &[u32; ROWS]) -> Reading
     requires { ⌜ length (now work) ≡ storeSize ⌝ }
     requires { ⌜ now codes ≡ codesOf rows ⌝ }
+    requires { ⌜ now places ≡ placesOf rows ⌝ }
     ensures given { λ r. ⌜ GivesIn r (now (work .entry)) (now (work .exit)) (readTree awaited (now (work .entry)) (some (primitive tag (now (value .entry))))) ⌝ }
     ensures sized { λ _. ⌜ length (now (work .exit)) ≡ storeSize ⌝ }
     ensures one { λ r. ⌜ r .objects ≡ 1 ⌝ }
@@ -255,16 +262,17 @@ fn read_primitive(work: &mut [u8; SIZE], awaited: Awaited, tag: u32, value: &[u8
         return made(Verdict::Malformed, 1);
     }
     match awaited {
-        Awaited::Options => read_options(work, value, codes),
+        Awaited::Options => read_options(work, value, codes, places),
         Awaited::Record(_) => made(Verdict::Malformed, 1),
-        Awaited::Cryptogram => read_cryptogram(work, value, codes),
+        Awaited::Cryptogram => read_cryptogram(work, value, codes, places),
     }
 }
 
 // The parts of a body under 80: the interchange profile, then the locator.
-fn read_options(work: &mut [u8; SIZE], value: &[u8], codes: &[u32; ROWS]) -> Reading
+fn read_options(work: &mut [u8; SIZE], value: &[u8], codes: &[u32; ROWS], places: &[u32; ROWS]) -> Reading
     requires { ⌜ length (now work) ≡ storeSize ⌝ }
     requires { ⌜ now codes ≡ codesOf rows ⌝ }
+    requires { ⌜ now places ≡ placesOf rows ⌝ }
     ensures given { λ r. ⌜ GivesIn r (now (work .entry)) (now (work .exit)) (readOptions (now (work .entry)) (now (value .entry))) ⌝ }
     ensures sized { λ _. ⌜ length (now (work .exit)) ≡ storeSize ⌝ }
     ensures one { λ r. ⌜ r .objects ≡ 1 ⌝ }
@@ -280,8 +288,8 @@ fn read_options(work: &mut [u8; SIZE], value: &[u8], codes: &[u32; ROWS]) -> Rea
         return made(Verdict::Malformed, 1);
     }
     let bit = dictionary::OPTIONS;
-    let profile = take_part(true, dictionary::ROW_82, 0x82, bit, &value[..2], work, codes);
-    let locator = take_part(profile, dictionary::ROW_94, 0x94, bit, &value[2..], work, codes);
+    let profile = take_part(true, dictionary::ROW_82, 0x82, bit, &value[..2], work, codes, places);
+    let locator = take_part(profile, dictionary::ROW_94, 0x94, bit, &value[2..], work, codes, places);
     if !locator {
         return made(Verdict::NotAllowed, 1);
     }
@@ -289,9 +297,10 @@ fn read_options(work: &mut [u8; SIZE], value: &[u8], codes: &[u32; ROWS]) -> Rea
 }
 
 // 9F27, 9F36 and 9F26, and 9F10 if any bytes are left.
-fn read_cryptogram(work: &mut [u8; SIZE], value: &[u8], codes: &[u32; ROWS]) -> Reading
+fn read_cryptogram(work: &mut [u8; SIZE], value: &[u8], codes: &[u32; ROWS], places: &[u32; ROWS]) -> Reading
     requires { ⌜ length (now work) ≡ storeSize ⌝ }
     requires { ⌜ now codes ≡ codesOf rows ⌝ }
+    requires { ⌜ now places ≡ placesOf rows ⌝ }
     ensures given { λ r. ⌜ GivesIn r (now (work .entry)) (now (work .exit)) (readCryptogram (now (work .entry)) (now (value .entry))) ⌝ }
     ensures sized { λ _. ⌜ length (now (work .exit)) ≡ storeSize ⌝ }
     ensures one { λ r. ⌜ r .objects ≡ 1 ⌝ }
@@ -304,10 +313,10 @@ fn read_cryptogram(work: &mut [u8; SIZE], value: &[u8], codes: &[u32; ROWS]) -> 
         return made(Verdict::Malformed, 1);
     }
     let bit = dictionary::CRYPTOGRAM;
-    let kind = take_part(true, dictionary::ROW_9F27, 0x9F27, bit, &value[..1], work, codes);
-    let counter = take_part(kind, dictionary::ROW_9F36, 0x9F36, bit, &value[1..3], work, codes);
-    let cryptogram = take_part(counter, dictionary::ROW_9F26, 0x9F26, bit, &value[3..11], work, codes);
-    let issuer = take_rest(cryptogram, &value[11..], work, codes);
+    let kind = take_part(true, dictionary::ROW_9F27, 0x9F27, bit, &value[..1], work, codes, places);
+    let counter = take_part(kind, dictionary::ROW_9F36, 0x9F36, bit, &value[1..3], work, codes, places);
+    let cryptogram = take_part(counter, dictionary::ROW_9F26, 0x9F26, bit, &value[3..11], work, codes, places);
+    let issuer = take_rest(cryptogram, &value[11..], work, codes, places);
     if !issuer {
         return made(Verdict::NotAllowed, 1);
     }
@@ -315,9 +324,10 @@ fn read_cryptogram(work: &mut [u8; SIZE], value: &[u8], codes: &[u32; ROWS]) -> 
 }
 
 // 9F10, if any bytes are left.
-fn take_rest(good: bool, rest: &[u8], store: &mut [u8; SIZE], codes: &[u32; ROWS]) -> bool
+fn take_rest(good: bool, rest: &[u8], store: &mut [u8; SIZE], codes: &[u32; ROWS], places: &[u32; ROWS]) -> bool
     requires { ⌜ length (now store) ≡ storeSize ⌝ }
     requires { ⌜ now codes ≡ codesOf rows ⌝ }
+    requires { ⌜ now places ≡ placesOf rows ⌝ }
     ensures said { λ r. ⌜ r ≡ takeAll cryptogram (work good (now (store .entry))) (issuerPart (now (rest .entry))) .good ⌝ }
     ensures kept { λ _. ⌜ now (store .exit) ≡ takeAll cryptogram (work good (now (store .entry))) (issuerPart (now (rest .entry))) .store ⌝ }
     ensures sized { λ _. ⌜ length (now (store .exit)) ≡ storeSize ⌝ }
@@ -325,7 +335,7 @@ fn take_rest(good: bool, rest: &[u8], store: &mut [u8; SIZE], codes: &[u32; ROWS
     if rest.len() == 0 {
         return good;
     }
-    take_part(good, dictionary::ROW_9F10, 0x9F10, dictionary::CRYPTOGRAM, rest, store, codes)
+    take_part(good, dictionary::ROW_9F10, 0x9F10, dictionary::CRYPTOGRAM, rest, store, codes, places)
 }
 
 // A run of objects directly inside the template `around`, with so many levels of templates still
@@ -339,11 +349,13 @@ fn read(
     store: &mut [u8; SIZE],
     tags: &[u32; ROWS],
     codes: &[u32; ROWS],
+    places: &[u32; ROWS],
 ) -> Contents
     requires { ⌜ length (now store) ≡ storeSize ⌝ }
     requires { ⌜ 2 * tally .objects + length (now bytes) < 2 ^ 64 ⌝ }
     requires { ⌜ 0 < answer ⌝ }
     requires { ⌜ Lent (now tags) (now codes) ⌝ }
+    requires { ⌜ now places ≡ placesOf rows ⌝ }
     ensures left { λ r. ⌜ Reads answer around tally (now (store .entry)) (parse levels (now (bytes .entry))) r (now (store .exit)) ⌝ }
     ensures half { λ r. ⌜ 2 * counted r ≤ 2 * tally .objects + length (now (bytes .entry)) ⌝ }
     ensures sized { λ _. ⌜ length (now (store .exit)) ≡ storeSize ⌝ }
@@ -375,6 +387,7 @@ fn read(
                         store,
                         tags,
                         codes,
+                        places,
                     );
                     let Contents::Whole(t) = inside else {
                         return Contents::Broken;
@@ -382,7 +395,7 @@ fn read(
                     n = t.objects;
                     good = t.good;
                 } else {
-                    good = take_next(good, h.tag, around, answer, value, store, tags, codes);
+                    good = take_next(good, h.tag, around, answer, value, store, tags, codes, places);
                     n = one;
                 }
                 s = rest;
@@ -401,10 +414,12 @@ fn take_next(
     store: &mut [u8; SIZE],
     tags: &[u32; ROWS],
     codes: &[u32; ROWS],
+    places: &[u32; ROWS],
 ) -> bool
     requires { ⌜ length (now store) ≡ storeSize ⌝ }
     requires { ⌜ 0 < answer ⌝ }
     requires { ⌜ Lent (now tags) (now codes) ⌝ }
+    requires { ⌜ now places ≡ placesOf rows ⌝ }
     ensures said { λ r. ⌜ r ≡ takeNext answer (work good (now (store .entry))) (item around tag (now (v .entry))) .good ⌝ }
     ensures kept { λ _. ⌜ now (store .exit) ≡ takeNext answer (work good (now (store .entry))) (item around tag (now (v .entry))) .store ⌝ }
     ensures sized { λ _. ⌜ length (now (store .exit)) ≡ storeSize ⌝ }
@@ -416,7 +431,7 @@ fn take_next(
     let Found::At(row) = found else {
         return true;
     };
-    take_row(codes, row, tag, around, answer, v, store)
+    take_row(codes, row, tag, around, answer, v, store, places)
 }
 
 // A part of a body under 80, whose tag's row is known, unless one before it was not allowed.
@@ -428,11 +443,13 @@ fn take_part(
     v: &[u8],
     store: &mut [u8; SIZE],
     codes: &[u32; ROWS],
+    places: &[u32; ROWS],
 ) -> bool
     requires { ⌜ length (now store) ≡ storeSize ⌝ }
     requires { ⌜ 0 < answer ⌝ }
     requires { ⌜ find rows tag ≡ Found.At row ⌝ }
     requires { ⌜ now codes ≡ codesOf rows ⌝ }
+    requires { ⌜ now places ≡ placesOf rows ⌝ }
     ensures said { λ r. ⌜ r ≡ takeNext answer (work good (now (store .entry))) (item 0x77 tag (now (v .entry))) .good ⌝ }
     ensures kept { λ _. ⌜ now (store .exit) ≡ takeNext answer (work good (now (store .entry))) (item 0x77 tag (now (v .entry))) .store ⌝ }
     ensures sized { λ _. ⌜ length (now (store .exit)) ≡ storeSize ⌝ }
@@ -440,7 +457,7 @@ fn take_part(
     if !good {
         return false;
     }
-    take_row(codes, row, tag, 0x77, answer, v, store)
+    take_row(codes, row, tag, 0x77, answer, v, store, places)
 }
 
 // One primitive object of a known tag: skipped, stored, or not allowed.
@@ -452,11 +469,13 @@ fn take_row(
     answer: u8,
     v: &[u8],
     store: &mut [u8; SIZE],
+    places: &[u32; ROWS],
 ) -> bool
     requires { ⌜ length (now store) ≡ storeSize ⌝ }
     requires { ⌜ 0 < answer ⌝ }
     requires { ⌜ find rows tag ≡ Found.At row ⌝ }
     requires { ⌜ now codes ≡ codesOf rows ⌝ }
+    requires { ⌜ now places ≡ placesOf rows ⌝ }
     ensures said { λ r. ⌜ r ≡ takeItem answer (now (store .entry)) (item around tag (now (v .entry))) .good ⌝ }
     ensures kept { λ _. ⌜ now (store .exit) ≡ takeItem answer (now (store .entry)) (item around tag (now (v .entry))) .store ⌝ }
     ensures sized { λ _. ⌜ length (now (store .exit)) ≡ storeSize ⌝ }
@@ -468,7 +487,7 @@ fn take_row(
     if !may_come(attributes, around, answer, v) {
         return false;
     }
-    store::put_free(store, row, v)
+    store::put_free_in(store, row, v, places)
 }
 
 // Whether a known object is passed over: of the private class, and not the card's to set.

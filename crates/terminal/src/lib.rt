@@ -13,6 +13,7 @@ ghost use Prim.Native.Nat.{_<_};
 ghost use lib.ListN.{length};
 ghost use Rattle.dictionary.specs.Rows.{rows, rowCount, storeSize};
 ghost use Rattle.dictionary.specs.Lent.{Lent, codesOf};
+ghost use Rattle.store.specs.Place.{placesOf};
 ghost use Rattle.tlv.specs.Primitives.{object, primitives};
 ghost use Rattle.terminal.specs.Terminal.{typeListed, settable, setObject, setRun, Sets, load as loadOf, Loads};
 
@@ -41,7 +42,8 @@ pub fn load(store: &mut [u8], terminal: &[u8]) -> Said
     bytes::copy(store, &mut work);
     let tags = dictionary::tags();
     let codes = dictionary::codes();
-    if !set_objects(terminal, &mut work, &tags, &codes) {
+    let places = store::row_places();
+    if !set_objects(terminal, &mut work, &tags, &codes, &places) {
         return refused(basics::REFUSED_OBJECT);
     }
     if !record::all_brought(&work) {
@@ -59,9 +61,16 @@ fn refused(number: u8) -> Said
 }
 
 // Sets the objects of a run one after the other: whether each of them may be set.
-fn set_objects(terminal: &[u8], store: &mut [u8; SIZE], tags: &[u32; ROWS], codes: &[u32; ROWS]) -> bool
+fn set_objects(
+    terminal: &[u8],
+    store: &mut [u8; SIZE],
+    tags: &[u32; ROWS],
+    codes: &[u32; ROWS],
+    places: &[u32; ROWS],
+) -> bool
     requires { ⌜ length (now store) ≡ storeSize ⌝ }
     requires { ⌜ Lent (now tags) (now codes) ⌝ }
+    requires { ⌜ now places ≡ placesOf rows ⌝ }
     ensures set { λ r. ⌜ Sets r (now (store .exit)) (setRun (now (store .entry)) (primitives (now (terminal .entry)))) ⌝ }
     ensures sized { λ _. ⌜ length (now (store .exit)) ≡ storeSize ⌝ }
 {
@@ -75,7 +84,7 @@ fn set_objects(terminal: &[u8], store: &mut [u8; SIZE], tags: &[u32; ROWS], code
         let e = start + h.len;
         let value = &s[start..e];
         let rest = &s[e..];
-        if !set_object(h.tag, value, store, tags, codes) {
+        if !set_object(h.tag, value, store, tags, codes, places) {
             return false;
         }
         s = rest;
@@ -84,9 +93,17 @@ fn set_objects(terminal: &[u8], store: &mut [u8; SIZE], tags: &[u32; ROWS], code
 }
 
 // One object: skipped if unknown, set if it may be, else not.
-fn set_object(tag: u32, v: &[u8], store: &mut [u8; SIZE], tags: &[u32; ROWS], codes: &[u32; ROWS]) -> bool
+fn set_object(
+    tag: u32,
+    v: &[u8],
+    store: &mut [u8; SIZE],
+    tags: &[u32; ROWS],
+    codes: &[u32; ROWS],
+    places: &[u32; ROWS],
+) -> bool
     requires { ⌜ length (now store) ≡ storeSize ⌝ }
     requires { ⌜ Lent (now tags) (now codes) ⌝ }
+    requires { ⌜ now places ≡ placesOf rows ⌝ }
     ensures set { λ r. ⌜ Sets r (now (store .exit)) (setObject (now (store .entry)) (object tag (now (v .entry)))) ⌝ }
     ensures sized { λ _. ⌜ length (now (store .exit)) ≡ storeSize ⌝ }
 {
@@ -95,16 +112,24 @@ fn set_object(tag: u32, v: &[u8], store: &mut [u8; SIZE], tags: &[u32; ROWS], co
         return true;
     };
     let all = &store[..];
-    if !is_settable(all, row, tag, v, codes) {
+    if !is_settable(all, row, tag, v, codes, places) {
         return false;
     }
-    store::put(store, row, v);
+    store::put_in(store, row, v, places);
     true
 }
 
 // Whether a start may set a row's object, with this value.
-fn is_settable(bytes: &[u8], row: usize, tag: u32, v: &[u8], codes: &[u32; ROWS]) -> bool
+fn is_settable(
+    bytes: &[u8],
+    row: usize,
+    tag: u32,
+    v: &[u8],
+    codes: &[u32; ROWS],
+    places: &[u32; ROWS],
+) -> bool
     requires { ⌜ (row < rowCount) × (now codes ≡ codesOf rows) ⌝ }
+    requires { ⌜ now places ≡ placesOf rows ⌝ }
     ensures { λ r. ⌜ r ≡ settable (now (bytes .entry)) row (object tag (now (v .entry))) ⌝ }
 {
     let attributes = dictionary::unpacked(codes[row]);
@@ -114,7 +139,7 @@ fn is_settable(bytes: &[u8], row: usize, tag: u32, v: &[u8], codes: &[u32; ROWS]
     if !dictionary::fits(attributes, v) {
         return false;
     }
-    if store::is_there(bytes, row) {
+    if store::is_there_in(bytes, row, places) {
         return false;
     }
     is_type_listed(tag, v)

@@ -73,15 +73,15 @@ read-cryptogram-spec =
     (λ c κs. search needs)
     returns-2
     slice-aggregate-take-part
-    (λ c κs. (search needs, (search needs, (at-9F27, search needs))))
+    (λ c κs. (search needs, (search needs, (at-9F27, (search needs, search needs)))))
     (λ c. search needs)
     (λ c. search needs)
     (λ c. search needs)
-    (λ c κs. (search needs, (search needs, (at-9F36, search needs))))
+    (λ c κs. (search needs, (search needs, (at-9F36, (search needs, search needs)))))
     (λ c. search needs)
     (λ c. search needs)
     (λ c. search needs)
-    (λ c κs. (search needs, (search needs, (at-9F26, search needs))))
+    (λ c κs. (search needs, (search needs, (at-9F26, (search needs, search needs)))))
     (λ c. search needs)
     (λ c. search needs)
     (λ c. search needs)

@@ -80,7 +80,7 @@ read-object-spec =
     (λ c. search needs)
     (λ c. search needs)
     (λ c. search needs)
-    (λ c κs. (search needs, (search needs, search needs)))
+    (λ c κs. (search needs, (search needs, (search needs, search needs))))
     returns-3
-    (λ c κs. (search needs, search needs))
+    (λ c κs. (search needs, (search needs, search needs)))
     returns-4)

@@ -78,11 +78,11 @@ read-options-spec =
     (λ c κs. search needs)
     returns-3
     slice-aggregate-take-part
-    (λ c κs. (search needs, (search needs, (at-82, search needs))))
+    (λ c κs. (search needs, (search needs, (at-82, (search needs, search needs)))))
     (λ c. search needs)
     (λ c. search needs)
     (λ c. search needs)
-    (λ c κs. (search needs, (search needs, (at-94, search needs))))
+    (λ c κs. (search needs, (search needs, (at-94, (search needs, search needs)))))
     (λ c κs. search needs)
     returns-4
     (λ c κs. search needs)

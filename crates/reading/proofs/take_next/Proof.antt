@@ -21,14 +21,14 @@ returns-2 c =
     let a = st .args in
     let i = item (a .around) (a .tag) (a .v .now) in
     let s = c .before .before .search in
-    let e = lent-found (a .tag) (st .pre .1 .1 .tags) (s .ensures .1 .0) in
+    let e = lent-found (a .tag) (st .pre .1 .1 .0 .tags) (s .ensures .1 .0) in
     gave (next-good (a .answer) (a .store .now) i (not-false _ (c .before .before .before .before .if1 .left)) ∙ item-unknown (a .answer) (a .store .now) i (s .result .found) e (c .enum-told .given .1)) (st .pre .0)
 
 take-row-requires : tie.Need-take-row-requires
 take-row-requires c κs =
     let st = c .before .before .before .before .before .before .before .before in
-    let e = lent-found (st .args .tag) (st .pre .1 .1 .tags) (c .before .before .before .before .search .ensures .1 .0) in
-    (st .pre .0, (st .pre .1 .0, (sym e ∙ c .before .before .found .given .1, st .pre .1 .1 .codes)))
+    let e = lent-found (st .args .tag) (st .pre .1 .1 .0 .tags) (c .before .before .before .before .search .ensures .1 .0) in
+    (st .pre .0, (st .pre .1 .0, (sym e ∙ c .before .before .found .given .1, (st .pre .1 .1 .0 .codes, st .pre .1 .1 .1))))
 
 returns-3 : tie.Need-returns-3
 returns-3 c =

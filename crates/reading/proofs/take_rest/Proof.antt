@@ -35,4 +35,4 @@ returns-2 c =
     gave (some-left (work (a .good) (a .store .now)) (a .rest .now) (c .before .before .if1 .left) ∙ sym (did (t .ensures .0) (t .ensures .1 .0))) (t .ensures .1 .1)
 
 pub take-rest-spec : {M : Type 1} → statement M
-take-rest-spec = tie.close (tie.spec returns (λ c κs. (search needs, (search needs, (at-9F10, search needs)))) returns-2)
+take-rest-spec = tie.close (tie.spec returns (λ c κs. (search needs, (search needs, (at-9F10, (search needs, search needs))))) returns-2)
