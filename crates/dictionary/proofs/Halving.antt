@@ -69,12 +69,12 @@ module _ (tags : List ℕ) (t : ℕ) (P : ℕ → ℕ → Halving → Type 0)
   by-turns zero from to h = rw (no-turns tags t (part from to)) (none from to (omega arith))
   by-turns (suc n) from to h =
       elim (le-or-gt to from) [
-        inl z ↦ rw (turn-none tags t (suc n) from to z) (none from to z)
-      | inr some ↦ elim (equal-or-not (looked tags from to) t) [
-          inl e ↦ rw (turn-here tags t n from to some e) (found from to some e)
-        | inr other ↦ elim (sides (looked tags from to) t other) [
-            inl l ↦ rw (turn-behind tags t n from to some l) (behind from to _ some l (by-turns n _ _ (omega arith)))
-          | inr g ↦ rw (turn-before tags t n from to some g) (before from to _ some g (by-turns n _ _ (omega arith)))
+        | inl z ↦ rw (turn-none tags t (suc n) from to z) (none from to z)
+        | inr some ↦ elim (equal-or-not (looked tags from to) t) [
+          | inl e ↦ rw (turn-here tags t n from to some e) (found from to some e)
+          | inr other ↦ elim (sides (looked tags from to) t other) [
+            | inl l ↦ rw (turn-behind tags t n from to some l) (behind from to _ some l (by-turns n _ _ (omega arith)))
+            | inr g ↦ rw (turn-before tags t n from to some g) (before from to _ some g (by-turns n _ _ (omega arith)))
           ]
         ]
       ]
@@ -92,9 +92,11 @@ module _ (tags : List ℕ) (t : ℕ) where
       found : (from to : ℕ) → from < to → looked tags from to ≡ t → Few from to (lookAt (mid from to) (here (mid from to)))
       found from to some e zero h = omega arith
       found from to some e (suc k) h = omega arith
+
       behind : (from to : ℕ) (s : Halving) → from < to → looked tags from to < t → Few (mid from to + 1) to s → Few from to (lookAt (mid from to) s)
       behind from to s some l ih zero h = omega arith
       behind from to s some l ih (suc k) h = let p = two-pow-succ k in let q = ih k (omega arith) in omega arith
+
       before : (from to : ℕ) (s : Halving) → from < to → t < looked tags from to → Few from (mid from to) s → Few from to (lookAt (mid from to) s)
       before from to s some g ih zero h = omega arith
       before from to s some g ih (suc k) h = let p = two-pow-succ k in let q = ih k (omega arith) in omega arith
@@ -123,20 +125,20 @@ module _ (tags other : List ℕ) (t : ℕ) where
   same-way zero from to e = no-turns other t (part from to) ∙ sym (no-turns tags t (part from to))
   same-way (suc n) from to e =
       elim (le-or-gt to from) [
-        inl z ↦ turn-none other t (suc n) from to z ∙ sym (turn-none tags t (suc n) from to z)
-      | inr some ↦ elim (equal-or-not (looked tags from to) t) [
-          inl h ↦
+        | inl z ↦ turn-none other t (suc n) from to z ∙ sym (turn-none tags t (suc n) from to z)
+        | inr some ↦ elim (equal-or-not (looked tags from to) t) [
+          | inl h ↦
               let d = rw (turn-here tags t n from to some h) at e in
               let first : looked other from to ≡ looked tags from to = cc in
               turn-here other t n from to some (first ∙ h) ∙ sym (turn-here tags t n from to some h)
-        | inr differs ↦ elim (sides (looked tags from to) t differs) [
-            inl l ↦
+          | inr differs ↦ elim (sides (looked tags from to) t differs) [
+            | inl l ↦
                 let d = rw (turn-behind tags t n from to some l) at e in
                 let first : looked other from to ≡ looked tags from to = cc in
                 let s = halve tags t n (part (mid from to + 1) to) in
                 let rest : tagsAt other (s .places) ≡ tagsAt tags (s .places) = cc in
                 turn-behind other t n from to some (omega arith) ∙ ap (lookAt (mid from to)) (same-way n _ _ rest) ∙ sym (turn-behind tags t n from to some l)
-          | inr g ↦
+            | inr g ↦
                 let d = rw (turn-before tags t n from to some g) at e in
                 let first : looked other from to ≡ looked tags from to = cc in
                 let s = halve tags t n (part from (mid from to)) in
@@ -166,15 +168,15 @@ module _ (table : List Row) (rises : rising table ≡ true) (t : ℕ) where
   smaller-up-to : (m : ℕ) → m < length table → rowIn table m .tag < t → Smaller table t (m + 1)
   smaller-up-to m h l k b w =
       elim (equal-or-not k m) [
-        inl e ↦ rw e l
-      | inr differs ↦ let r = tags-rise table rises k m (omega (arith, differs)) h in omega arith
+        | inl e ↦ rw e l
+        | inr differs ↦ let r = tags-rise table rises k m (omega (arith, differs)) h in omega arith
       ]
 
   greater-from : (m : ℕ) → m < length table → t < rowIn table m .tag → Greater table t m
   greater-from m h g k b w =
       elim (equal-or-not k m) [
-        inl e ↦ rw e g
-      | inr differs ↦ let r = tags-rise table rises m k (omega (arith, differs)) w in omega arith
+        | inl e ↦ rw e g
+        | inr differs ↦ let r = tags-rise table rises m k (omega (arith, differs)) w in omega arith
       ]
 
   -- a part with smaller tags before it and greater ones behind it: what `find` gives
@@ -190,17 +192,20 @@ module _ (table : List Row) (rises : rising table ≡ true) (t : ℕ) where
       none : (from to : ℕ) → to ≤ from → to ≤ length table → Smaller table t from → Greater table t to → Unknown ≡ find table t
       none from to z h s g =
           sym (absent table t (λ k w e. elim (le-or-gt from k) [ inl b ↦ let x = g k (omega arith) w in omega arith | inr b ↦ let x = s k b w in omega arith ]))
+
       found : (from to : ℕ) → from < to → looked (tagsOf table) from to ≡ t → to ≤ length table → Smaller table t from → Greater table t to
           → At (mid from to) ≡ find table t
       found from to some e h s g =
           let w : mid from to < length table = omega arith in
           let x : rowIn table (mid from to) .tag ≡ t = sym (at-row (mid from to)) ∙ e in
           sym (find-row table rises (mid from to) w) ∙ ap (find table) x
+
       behind : (from to : ℕ) (s : Halving) → from < to → looked (tagsOf table) from to < t → Finds (mid from to + 1) to s → Finds from to s
       behind from to s some l ih h a b =
           let w : mid from to < length table = omega arith in
           let x = at-row (mid from to) in
           ih h (smaller-up-to (mid from to) w (omega arith)) b
+
       before : (from to : ℕ) (s : Halving) → from < to → t < looked (tagsOf table) from to → Finds from (mid from to) s → Finds from to s
       before from to s some g ih h a b =
           let w : mid from to < length table = omega arith in

@@ -1,4 +1,5 @@
--- The table as a call binds it once and lends it down: its tags, and its rows' numbers. It states no rule of document 01.
+-- The table as a call binds it once and lends it down: its tags, and its rows' numbers.
+-- No rule of document 01 stands here. proofs/Lent ties it to specs/Rows: `lent-found`, `lent-row`.
 -- Assumes nothing.
 use mathlib.Core.Path.{_≡_}
 use mathlib.Core.List.{List, map}

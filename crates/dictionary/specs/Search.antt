@@ -1,7 +1,7 @@
--- Search by halving (document 02, Item 3): each turn looks at one tag, the middle of those that are left; the wanted one is
--- found, behind a smaller one the part behind it is left, else the part before it.
--- It is defined for every list of tags, in whatever order. Where tags rise it finds what `find` finds (`found` in the
--- promise of `search`), and of fewer than 2 to the k tags it looks at most at k (`few`).
+-- Search by halving (document 02, Item 3): each turn looks at one tag, the middle one of those that are left. Either it
+-- is the wanted one; or it is smaller, and the part behind it is left; or greater, and the part before it is left.
+-- Defined for every list of tags, in whatever order. What `search` promises of it beside: where tags rise it finds
+-- what `find` finds, and of fewer than 2 to the k tags it looks at k at most (proofs/Halving).
 -- Assumes nothing.
 use mathlib.Core.Path.{_≡_}
 use mathlib.Core.Bool.{true}

@@ -5,8 +5,7 @@
 // rows' numbers and places; the store is written only where every object was allowed.
 use dictionary::Attributes;
 use dictionary::Found;
-use dictionary::ROWS;
-use dictionary::SIZE;
+use dictionary::{ROWS, ROW_82, ROW_94, ROW_9F10, ROW_9F26, ROW_9F27, ROW_9F36, SIZE};
 use tlv::Following;
 use tlv::Front;
 ghost use mathlib.Core.Path.{_≡_};
@@ -179,7 +178,14 @@ fn template_tag(awaited: Awaited) -> u32
 }
 
 // The body's one object, with no byte behind it, into a working copy.
-fn read_object(work: &mut [u8; SIZE], awaited: Awaited, body: &[u8], tags: &[u32; ROWS], codes: &[u32; ROWS], places: &[u32; ROWS]) -> Reading
+fn read_object(
+    work: &mut [u8; SIZE],
+    awaited: Awaited,
+    body: &[u8],
+    tags: &[u32; ROWS],
+    codes: &[u32; ROWS],
+    places: &[u32; ROWS],
+) -> Reading
     requires { ⌜ length (now work) ≡ storeSize ⌝ }
     requires { ⌜ Lent (now tags) (now codes) ⌝ }
     requires { ⌜ now places ≡ placesOf rows ⌝ }
@@ -250,7 +256,14 @@ fn read_template(
 }
 
 // An answer that is a primitive object: 80, with its parts one behind the other.
-fn read_primitive(work: &mut [u8; SIZE], awaited: Awaited, tag: u32, value: &[u8], codes: &[u32; ROWS], places: &[u32; ROWS]) -> Reading
+fn read_primitive(
+    work: &mut [u8; SIZE],
+    awaited: Awaited,
+    tag: u32,
+    value: &[u8],
+    codes: &[u32; ROWS],
+    places: &[u32; ROWS],
+) -> Reading
     requires { ⌜ length (now work) ≡ storeSize ⌝ }
     requires { ⌜ now codes ≡ codesOf rows ⌝ }
     requires { ⌜ now places ≡ placesOf rows ⌝ }
@@ -269,7 +282,12 @@ fn read_primitive(work: &mut [u8; SIZE], awaited: Awaited, tag: u32, value: &[u8
 }
 
 // The parts of a body under 80: the interchange profile, then the locator.
-fn read_options(work: &mut [u8; SIZE], value: &[u8], codes: &[u32; ROWS], places: &[u32; ROWS]) -> Reading
+fn read_options(
+    work: &mut [u8; SIZE],
+    value: &[u8],
+    codes: &[u32; ROWS],
+    places: &[u32; ROWS],
+) -> Reading
     requires { ⌜ length (now work) ≡ storeSize ⌝ }
     requires { ⌜ now codes ≡ codesOf rows ⌝ }
     requires { ⌜ now places ≡ placesOf rows ⌝ }
@@ -288,8 +306,8 @@ fn read_options(work: &mut [u8; SIZE], value: &[u8], codes: &[u32; ROWS], places
         return made(Verdict::Malformed, 1);
     }
     let bit = dictionary::OPTIONS;
-    let profile = take_part(true, dictionary::ROW_82, 0x82, bit, &value[..2], work, codes, places);
-    let locator = take_part(profile, dictionary::ROW_94, 0x94, bit, &value[2..], work, codes, places);
+    let profile = take_part(true, ROW_82, 0x82, bit, &value[..2], work, codes, places);
+    let locator = take_part(profile, ROW_94, 0x94, bit, &value[2..], work, codes, places);
     if !locator {
         return made(Verdict::NotAllowed, 1);
     }
@@ -297,7 +315,12 @@ fn read_options(work: &mut [u8; SIZE], value: &[u8], codes: &[u32; ROWS], places
 }
 
 // 9F27, 9F36 and 9F26, and 9F10 if any bytes are left.
-fn read_cryptogram(work: &mut [u8; SIZE], value: &[u8], codes: &[u32; ROWS], places: &[u32; ROWS]) -> Reading
+fn read_cryptogram(
+    work: &mut [u8; SIZE],
+    value: &[u8],
+    codes: &[u32; ROWS],
+    places: &[u32; ROWS],
+) -> Reading
     requires { ⌜ length (now work) ≡ storeSize ⌝ }
     requires { ⌜ now codes ≡ codesOf rows ⌝ }
     requires { ⌜ now places ≡ placesOf rows ⌝ }
@@ -313,9 +336,9 @@ fn read_cryptogram(work: &mut [u8; SIZE], value: &[u8], codes: &[u32; ROWS], pla
         return made(Verdict::Malformed, 1);
     }
     let bit = dictionary::CRYPTOGRAM;
-    let kind = take_part(true, dictionary::ROW_9F27, 0x9F27, bit, &value[..1], work, codes, places);
-    let counter = take_part(kind, dictionary::ROW_9F36, 0x9F36, bit, &value[1..3], work, codes, places);
-    let cryptogram = take_part(counter, dictionary::ROW_9F26, 0x9F26, bit, &value[3..11], work, codes, places);
+    let kind = take_part(true, ROW_9F27, 0x9F27, bit, &value[..1], work, codes, places);
+    let counter = take_part(kind, ROW_9F36, 0x9F36, bit, &value[1..3], work, codes, places);
+    let cryptogram = take_part(counter, ROW_9F26, 0x9F26, bit, &value[3..11], work, codes, places);
     let issuer = take_rest(cryptogram, &value[11..], work, codes, places);
     if !issuer {
         return made(Verdict::NotAllowed, 1);
@@ -324,7 +347,13 @@ fn read_cryptogram(work: &mut [u8; SIZE], value: &[u8], codes: &[u32; ROWS], pla
 }
 
 // 9F10, if any bytes are left.
-fn take_rest(good: bool, rest: &[u8], store: &mut [u8; SIZE], codes: &[u32; ROWS], places: &[u32; ROWS]) -> bool
+fn take_rest(
+    good: bool,
+    rest: &[u8],
+    store: &mut [u8; SIZE],
+    codes: &[u32; ROWS],
+    places: &[u32; ROWS],
+) -> bool
     requires { ⌜ length (now store) ≡ storeSize ⌝ }
     requires { ⌜ now codes ≡ codesOf rows ⌝ }
     requires { ⌜ now places ≡ placesOf rows ⌝ }
@@ -335,7 +364,7 @@ fn take_rest(good: bool, rest: &[u8], store: &mut [u8; SIZE], codes: &[u32; ROWS
     if rest.len() == 0 {
         return good;
     }
-    take_part(good, dictionary::ROW_9F10, 0x9F10, dictionary::CRYPTOGRAM, rest, store, codes, places)
+    take_part(good, ROW_9F10, 0x9F10, dictionary::CRYPTOGRAM, rest, store, codes, places)
 }
 
 // A run of objects directly inside the template `around`, with so many levels of templates still
