@@ -2,8 +2,8 @@
 // set it, the templates that may stand directly around it, the answers that may bring it, and whether
 // a start must bring it. Rows stand in rising order of their tags.
 //
-// `lookup` finds a tag's row; `tag` and `attributes_of` answer for a row, with zeros past the last row; `fits` says
-// whether a value's length and digits are allowed.
+// `lookup` finds a tag's row, by halving; `search` does the same in any list of tags. `tag` and `attributes_of` answer
+// for a row, with zeros past the last row; `fits` says whether a value's length and digits are allowed.
 ghost use mathlib.Core.Path.{_≡_};
 ghost use mathlib.Core.Bool.{true};
 ghost use mathlib.Core.List.{List, map};
