@@ -2,7 +2,7 @@
 -- left are smaller than the wanted one and those behind it greater (`finds`). Lists with the same tags at the places go the same way (`same-way`).
 -- Assumes nothing.
 use mathlib.Core.Path.{_≡_, refl, sym, ap, _∙_}
-use mathlib.Core.Bool.{Bool, true}
+use mathlib.Core.Bool.{true}
 use mathlib.Core.Logic.{_⊎_, inl, inr}
 use mathlib.Core.List.{List, [], _∷_}
 use Prim.Native.Nat.{ℕ, zero, suc, _+_, _-_, _/_, _^_, _≤_, _<_}
@@ -17,10 +17,11 @@ use Rattle.basics.proofs.Order.{equal-or-not, sides, le-or-gt}
 use Rattle.dictionary.specs.declared.Found.{Found}
 use Rattle.dictionary.specs.declared.Found.the-variants.{At, Unknown}
 use Rattle.dictionary.specs.declared.Searched.{Searched}
-use Rattle.dictionary.specs.Rows.{Row, rowIn, past, find}
+use Rattle.dictionary.specs.Rows.{Row, rowIn, find}
 use Rattle.dictionary.specs.Rule.{rising}
 use Rattle.dictionary.specs.Search.{Part, part, middle, Halving, nowhere, here, lookAt, halve, halvingOf, lookedAt, searchOf, tagsOf, tagsAt, LooksCounted}
 use Rattle.dictionary.proofs.Table.{column}
+use Rattle.dictionary.proofs.Find.{absent}
 use Rattle.dictionary.proofs.Rule.{tags-rise, find-row}
 
 -- ---- the turns
@@ -149,13 +150,6 @@ module _ (tags other : List ℕ) (t : ℕ) where
       ]
 
 -- ---- where tags rise
-
--- a tag that no row has is not found
-absent : (table : List Row) (t : ℕ) → ((k : ℕ) → k < length table → rowIn table k .tag ≡ t → ⊥) → find table t ≡ Unknown
-unfolding find past
-absent [] t none = refl
-absent (r ∷ rs) t none =
-    if-no _ _ (ne-eqb (r .tag) t (none 0 (omega arith))) ∙ ap (past 1) (absent rs t (λ k h. none (suc k) (omega arith)))
 
 -- the tags before a place are smaller than the wanted one, those from a place on greater
 abbrev Smaller : List Row → ℕ → ℕ → Type 0
