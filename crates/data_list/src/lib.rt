@@ -4,11 +4,14 @@
 // `processing_options` and `generate_ac` measure the list first, so that a buffer is touched only
 // where a command is handed out. The bytes behind the command stay.
 use dictionary::Found;
+use dictionary::ROWS;
 use tlv::TagFront;
 ghost use mathlib.Core.Path.{_≡_};
 ghost use Prim.Native.Nat.{_+_, _-_, _≤_, _<_};
 ghost use lib.ListN.{length, take, drop, replicate};
 ghost use Rattle.dictionary.specs.Rows.{rows};
+ghost use Rattle.dictionary.specs.Lent.{Lent};
+ghost use Rattle.store.specs.Place.{placesOf};
 ghost use Rattle.data_list.specs.Entries.{entryAt, listEntries};
 ghost use Rattle.data_list.specs.Filling.{cut, padding, padded, fitted, entryBytes, filled};
 ghost use Rattle.data_list.specs.Commands.{command, optionsHead, processingOptions, generateAc, handed, writtenOf, writtenNumber, listReason, bufferWith};
@@ -138,6 +141,27 @@ fn fill(list: &[u8], store: &[u8], buffer: &mut [u8], at: usize)
     requires { ⌜ Room (listEntries (now list)) at (length (now buffer)) ⌝ }
     ensures { λ _. ⌜ now (buffer .exit) ≡ overFilled (now (buffer .entry)) at (filled rows (now (store .entry)) (now (list .entry))) ⌝ }
 {
+    let tags = dictionary::tags();
+    let codes = dictionary::codes();
+    let places = store::row_places();
+    fill_entries(list, store, buffer, at, &tags, &codes, &places);
+}
+
+// The same with the table lent: entry by entry.
+fn fill_entries(
+    list: &[u8],
+    store: &[u8],
+    buffer: &mut [u8],
+    at: usize,
+    tags: &[u32; ROWS],
+    codes: &[u32; ROWS],
+    places: &[u32; ROWS],
+)
+    requires { ⌜ Room (listEntries (now list)) at (length (now buffer)) ⌝ }
+    requires { ⌜ Lent (now tags) (now codes) ⌝ }
+    requires { ⌜ now places ≡ placesOf rows ⌝ }
+    ensures { λ _. ⌜ now (buffer .exit) ≡ overFilled (now (buffer .entry)) at (filled rows (now (store .entry)) (now (list .entry))) ⌝ }
+{
     let mut rest = list;
     let mut to = at;
     while rest.len() != 0 {
@@ -145,7 +169,7 @@ fn fill(list: &[u8], store: &[u8], buffer: &mut [u8], at: usize)
         let EntryFront::Asked(entry, size) = front else {
             return;
         };
-        write_entry(entry, store, buffer, to);
+        write_entry(entry, store, buffer, to, tags, codes, places);
         to += basics::wide(entry.asked);
         rest = &rest[size..];
     }
@@ -173,8 +197,18 @@ fn entry_at(list: &[u8]) -> EntryFront
 }
 
 // Writes an entry's bytes.
-fn write_entry(entry: Entry, store: &[u8], buffer: &mut [u8], at: usize)
+fn write_entry(
+    entry: Entry,
+    store: &[u8],
+    buffer: &mut [u8],
+    at: usize,
+    tags: &[u32; ROWS],
+    codes: &[u32; ROWS],
+    places: &[u32; ROWS],
+)
     requires { ⌜ at + entry .asked ≤ length (now buffer) ⌝ }
+    requires { ⌜ Lent (now tags) (now codes) ⌝ }
+    requires { ⌜ now places ≡ placesOf rows ⌝ }
     ensures { λ _. ⌜ now (buffer .exit) ≡ over (now (buffer .entry)) at (entryBytes rows (now (store .entry)) entry) ⌝ }
 {
     let n = basics::wide(entry.asked);
@@ -182,16 +216,16 @@ fn write_entry(entry: Entry, store: &[u8], buffer: &mut [u8], at: usize)
         repeat(0, n, buffer, at);
         return;
     }
-    let found = dictionary::lookup(entry.tag);
+    let found = dictionary::search(tags, entry.tag).found;
     let Found::At(row) = found else {
         repeat(0, n, buffer, at);
         return;
     };
-    if !store::is_there(store, row) {
+    if !store::is_there_in(store, row, places) {
         repeat(0, n, buffer, at);
         return;
     }
-    let attributes = dictionary::attributes_of(row);
+    let attributes = dictionary::unpacked(codes[row]);
     write_value(attributes.form, n, store::value(store, row), buffer, at);
 }
 

@@ -1,11 +1,16 @@
--- Worked values, by computation: terminal types, digits and lengths on both sides of each edge. Assumes nothing.
+-- Worked values, by computation: terminal types, digits and lengths on both sides of each edge, searches. Assumes nothing.
 use mathlib.Core.Path.{_≡_, refl}
 use mathlib.Core.Bool.{true, false}
-use mathlib.Core.List.{[], _∷_, map}
+use mathlib.Core.List.{List, [], _∷_, map}
+use Prim.Native.Nat.{ℕ}
 use lib.ListN.{replicate}
 use Rattle.basics.specs.Choice.{if, both, either, every}
 use Rattle.basics.specs.Number.{nibbles}
+use Rattle.dictionary.specs.declared.Found.{Found}
+use Rattle.dictionary.specs.declared.Found.the-variants.{At, Unknown}
+use Rattle.dictionary.specs.declared.Searched.{Searched}
 use Rattle.dictionary.specs.Rows.{rows, rowAt, formB, formN, formCn}
+use Rattle.dictionary.specs.Search.{halve, halvingOf, lookedAt, searchOf, tagsOf}
 use Rattle.dictionary.specs.Form.{numeric, digitsThenFs, compressed, digitsFit, fitting}
 use Rattle.dictionary.specs.Named.{row5A, row9F02}
 use Rattle.dictionary.specs.TerminalType.{listed}
@@ -50,3 +55,60 @@ amounts = refl
 numbers : map (λ n. fitting (rowAt row5A) (replicate n 0)) (0 ∷ 10 ∷ 11 ∷ []) ≡ true ∷ true ∷ false ∷ []
 unfolding rows fitting digitsFit compressed digitsThenFs nibbles every both if
 numbers = refl
+
+-- ---- searches: where a tag stands, and how many are looked at
+
+abbrev said : Found → ℕ → Searched
+said found looks = record { found = found; looks = looks }
+
+-- no tag, one, three, and tags between them
+of-none : searchOf [] 0x57 ≡ said Unknown 0
+unfolding searchOf halvingOf halve
+of-none = refl
+
+of-one : map (searchOf (0x57 ∷ [])) (0x57 ∷ 0x56 ∷ 0x58 ∷ []) ≡ said (At 0) 1 ∷ said Unknown 1 ∷ said Unknown 1 ∷ []
+unfolding searchOf halvingOf halve if
+of-one = refl
+
+of-three : map (searchOf (0x57 ∷ 0x5A ∷ 0x82 ∷ [])) (0x57 ∷ 0x5A ∷ 0x82 ∷ []) ≡ said (At 0) 2 ∷ said (At 1) 1 ∷ said (At 2) 2 ∷ []
+unfolding searchOf halvingOf halve if
+of-three = refl
+
+between-three : map (searchOf (0x57 ∷ 0x5A ∷ 0x82 ∷ [])) (0x56 ∷ 0x58 ∷ 0x5B ∷ 0x83 ∷ [])
+    ≡ said Unknown 2 ∷ said Unknown 2 ∷ said Unknown 2 ∷ said Unknown 2 ∷ []
+unfolding searchOf halvingOf halve if
+between-three = refl
+
+-- four, seven and eight tags: each of them, at most 3, 3 and 4 looks
+of-four : let tags : List ℕ = 0x57 ∷ 0x5A ∷ 0x82 ∷ 0x8C ∷ [] in
+    map (searchOf tags) tags ≡ said (At 0) 3 ∷ said (At 1) 2 ∷ said (At 2) 1 ∷ said (At 3) 2 ∷ []
+unfolding searchOf halvingOf halve if
+of-four = refl
+
+of-seven : let tags : List ℕ = 0x57 ∷ 0x5A ∷ 0x82 ∷ 0x8C ∷ 0x94 ∷ 0x95 ∷ 0x9A ∷ [] in
+    map (searchOf tags) tags
+    ≡ said (At 0) 3 ∷ said (At 1) 2 ∷ said (At 2) 3 ∷ said (At 3) 1 ∷ said (At 4) 3 ∷ said (At 5) 2 ∷ said (At 6) 3 ∷ []
+unfolding searchOf halvingOf halve if
+of-seven = refl
+
+of-eight : let tags : List ℕ = 0x57 ∷ 0x5A ∷ 0x82 ∷ 0x8C ∷ 0x94 ∷ 0x95 ∷ 0x9A ∷ 0x9C ∷ [] in
+    map (searchOf tags) tags
+    ≡ said (At 0) 4 ∷ said (At 1) 3 ∷ said (At 2) 2 ∷ said (At 3) 3 ∷ said (At 4) 1 ∷ said (At 5) 3 ∷ said (At 6) 2 ∷ said (At 7) 3 ∷ []
+unfolding searchOf halvingOf halve if
+of-eight = refl
+
+-- the dictionary: first row, two within, last; below all, between, above all
+of-rows : map (searchOf (tagsOf rows)) (0x57 ∷ 0x5F24 ∷ 0x9F09 ∷ 0xDF8124 ∷ [])
+    ≡ said (At 0) 6 ∷ said (At 8) 5 ∷ said (At 17) 5 ∷ said (At 35) 5 ∷ []
+unfolding rows searchOf halvingOf halve if
+of-rows = refl
+
+of-no-row : map (searchOf (tagsOf rows)) (0 ∷ 0x5F26 ∷ 0xDF8125 ∷ 0xFFFFFFFF ∷ [])
+    ≡ said Unknown 6 ∷ said Unknown 6 ∷ said Unknown 5 ∷ said Unknown 5 ∷ []
+unfolding rows searchOf halvingOf halve if
+of-no-row = refl
+
+-- the places looked at, in their order
+places-of-last : lookedAt (tagsOf rows) 0xDF8124 ≡ 18 ∷ 27 ∷ 32 ∷ 34 ∷ 35 ∷ []
+unfolding rows halvingOf halve if
+places-of-last = refl

@@ -1,48 +1,15 @@
--- A search of a table for a tag: from the front, one row at a time; and what a found place says. Assumes nothing.
-use mathlib.Core.Path.{_≡_, refl, sym, ap, _∙_}
-use mathlib.Core.Bool.{Bool, true, false}
+-- What a lookup in a table says: a found place is a row of the table and has the tag; a tag that no row has is not found. Assumes nothing.
+use mathlib.Core.Path.{_≡_, refl, ap, _∙_}
 use mathlib.Core.List.{List, [], _∷_}
-use Prim.Native.Nat.{ℕ, zero, suc, _+_, _≤_, _<_}
-use native.Mathlib.Nat.{add-assoc, zero-add}
-use native.Mathlib.Numerals.{add-one}
+use Prim.Native.Nat.{ℕ, suc, _+_, _<_}
 use native.Mathlib.Omega.{arith}
 use lib.Dec.{eqb}
-use lib.ListN.{length, getD, drop}
-use lib.Seq.{drop-cons}
-use borrow.Author.Tests.{eq-eqb, ne-eqb, eqb-true}
-use Rattle.basics.specs.Choice.{if}
-use Rattle.basics.proofs.Laws.{if-yes, if-no, if-ind}
+use lib.ListN.{length}
+use borrow.Author.Tests.{ne-eqb, eqb-true}
+use Rattle.basics.proofs.Laws.{if-no, if-ind}
 use Rattle.dictionary.specs.declared.Found.{Found}
 use Rattle.dictionary.specs.declared.Found.the-variants.{At, Unknown}
-use Rattle.dictionary.specs.Rows.{Row, blank, rowIn, past, find}
-
-pub past-zero : (x : Found) → x ≡ past 0 x
-unfolding past
-past-zero Unknown = refl
-past-zero (At k) = ap At (sym (zero-add k))
-
-past-past : (i : ℕ) (x : Found) → past i (past 1 x) ≡ past (i + 1) x
-unfolding past
-past-past i Unknown = refl
-past-past i (At k) = ap At (sym (add-assoc i 1 k))
-
-module _ (table : List Row) (t i : ℕ) (h : i < length table) where
-  -- the row at i has the tag
-  pub here : rowIn table i .tag ≡ t → past i (find (drop i table) t) ≡ At i
-  unfolding find past
-  here e = rw (drop-cons table i blank) (ap (past i) (if-yes _ _ (eq-eqb _ _ e)) ∙ ap At (omega arith))
-
-  -- it has another
-  pub there : (rowIn table i .tag ≡ t → ⊥) → past i (find (drop i table) t) ≡ past (i + 1) (find (drop (i + 1) table) t)
-  unfolding find
-  there e = rw (add-one, drop-cons table i blank) (ap (past i) (if-no _ _ (ne-eqb _ _ e)) ∙ past-past i _ ∙ rw add-one)
-
--- nothing is left to search
-pub none-left : (table : List Row) (t i : ℕ) → length table ≤ i → past i (find (drop i table) t) ≡ Unknown
-unfolding find past
-none-left table t i h = rw (lib.ListN.drop-of-length-le table h)
-
--- ---- a found place
+use Rattle.dictionary.specs.Rows.{Row, rowIn, past, find}
 
 abbrev Right : List Row → ℕ → Found → Type 0
 Right table t Unknown = Unit {0}
@@ -63,3 +30,10 @@ right (r ∷ rs) t =
 -- a found row is a row of the table, and has the tag
 pub found : (table : List Row) (t k : ℕ) → find table t ≡ At k → (k < length table) × (rowIn table k .tag ≡ t)
 found table t k e = rw e at (right table t)
+
+-- a tag that no row has
+pub absent : (table : List Row) (t : ℕ) → ((k : ℕ) → k < length table → rowIn table k .tag ≡ t → ⊥) → find table t ≡ Unknown
+unfolding find past
+absent [] t none = refl
+absent (r ∷ rs) t none =
+    if-no _ _ (ne-eqb (r .tag) t (none 0 (omega arith))) ∙ ap (past 1) (absent rs t (λ k h. none (suc k) (omega arith)))

@@ -1,8 +1,10 @@
 pub mod Table
 pub mod Find
 pub mod Rule
+pub mod Halving
 pub mod Digits
 pub mod Fit
 pub mod Packing
+pub mod Lent
 pub mod Named
 pub mod Examples

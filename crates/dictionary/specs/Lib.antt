@@ -1,6 +1,8 @@
 pub mod Rows
 pub mod Rule
+pub mod Search
 pub mod Packing
+pub mod Lent
 pub mod Form
 pub mod Named
 pub mod TerminalType

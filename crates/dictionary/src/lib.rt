@@ -2,15 +2,16 @@
 // set it, the templates that may stand directly around it, the answers that may bring it, and whether
 // a start must bring it. Rows stand in rising order of their tags.
 //
-// `lookup` finds a tag's row; `tag` and `attributes_of` answer for a row, with zeros past the last row; `fits` says
-// whether a value's length and digits are allowed.
+// `lookup` finds a tag's row, by halving; `search` does the same in any list of tags. `tag` and `attributes_of` answer
+// for a row, with zeros past the last row; `fits` says whether a value's length and digits are allowed.
 ghost use mathlib.Core.Path.{_≡_};
 ghost use mathlib.Core.Bool.{true};
-ghost use mathlib.Core.List.{map};
-ghost use Prim.Native.Nat.{_+_, _≤_, _<_};
+ghost use mathlib.Core.List.{List, map};
+ghost use Prim.Native.Nat.{ℕ, _+_, _^_, _≤_, _<_};
 ghost use lib.ListN.{length, drop};
-ghost use Rattle.dictionary.specs.Rows.{rows, rowAt, find};
-ghost use Rattle.dictionary.specs.Rule.{proper};
+ghost use Rattle.dictionary.specs.Rows.{Row, rows, rowAt, find};
+ghost use Rattle.dictionary.specs.Rule.{rising, proper};
+ghost use Rattle.dictionary.specs.Search.{searchOf, tagsOf, LooksCounted};
 ghost use Rattle.dictionary.specs.Form.{numeric, compressed, digitsFit, fitting};
 ghost use Rattle.dictionary.specs.Inner.{isDigits, digitBytes, onlyFs};
 ghost use Rattle.dictionary.specs.Packing.{attributesOf, rowOf, codeOf, attributesIn};
@@ -202,20 +203,51 @@ pub enum Found {
     Unknown,
 }
 
+// A search: where the tag stands, and how many tags were looked at.
+pub struct Searched {
+    pub found: Found,
+    pub looks: usize,
+}
+
 // The row of a tag. The table it searches keeps its rule: rising, well-formed tags, lengths in order.
 pub fn lookup(tag: u32) -> Found
     ensures found { λ r. ⌜ r ≡ find rows tag ⌝ }
     ensures table { λ _. ⌜ proper rows ≡ true ⌝ }
 {
     let tags = TAGS;
-    let mut i = 0;
-    while i < ROWS {
-        if tags[i] == tag {
-            return Found::At(i);
+    search(&tags, tag).found
+}
+
+// A search by halving in any list of tags: each turn looks at the middle one of those that are left.
+pub fn search(tags: &[u32], tag: u32) -> Searched
+    ensures halving { λ r. ⌜ r ≡ searchOf (now (tags .entry)) tag ⌝ }
+    ensures found { λ r. ⌜ ((table : List Row) → tagsOf table ≡ now (tags .entry) → rising table ≡ true → r .found ≡ find table tag) ⌝ }
+    ensures few { λ r. ⌜ ((k : ℕ) → length (now (tags .entry)) < 2 ^ k → r .looks ≤ k) ⌝ }
+    ensures counted { λ r. ⌜ LooksCounted (now (tags .entry)) tag r ⌝ }
+{
+    let mut from = 0;
+    let mut to = tags.len();
+    let mut looks = 0;
+    while from < to {
+        let middle = (from + to) / 2;
+        let looked = tags[middle];
+        looks += 1;
+        if looked < tag {
+            from = middle + 1;
+        } else {
+            if looked == tag {
+                return Searched {
+                    found: Found::At(middle),
+                    looks,
+                };
+            }
+            to = middle;
         }
-        i += 1;
     }
-    Found::Unknown
+    Searched {
+        found: Found::Unknown,
+        looks,
+    }
 }
 
 // The rows of the tags that code uses, in the order of their constants.
@@ -277,7 +309,14 @@ pub fn attributes_of(row: usize) -> Attributes
     unpacked(0)
 }
 
-// The whole table, for a walk over all rows: an array that is read row by row is built anew each time.
+// The tags and the numbers of all rows. An array that is read at a place known only when the code runs is built anew
+// each time: a call that reads many rows binds these once and lends them down.
+pub fn tags() -> [u32; ROWS]
+    ensures { λ r. ⌜ r ≡ tagsOf rows ⌝ }
+{
+    TAGS
+}
+
 pub fn codes() -> [u32; ROWS]
     ensures { λ r. ⌜ r ≡ map codeOf rows ⌝ }
 {

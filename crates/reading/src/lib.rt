@@ -1,11 +1,11 @@
 // Reading a card's answer into a store, whole or not at all.
 //
 // `read_answer` takes the whole answer with its status bytes, `read_body` the body alone. Inside, the
-// objects go into one working copy that is lent down the templates; the store is written only where
-// every object was allowed.
+// objects go into one working copy that is lent down the templates, with the table's tags, its
+// rows' numbers and places; the store is written only where every object was allowed.
 use dictionary::Attributes;
 use dictionary::Found;
-use dictionary::SIZE;
+use dictionary::{ROWS, ROW_82, ROW_94, ROW_9F10, ROW_9F26, ROW_9F27, ROW_9F36, SIZE};
 use tlv::Following;
 use tlv::Front;
 ghost use mathlib.Core.Path.{_≡_};
@@ -15,8 +15,11 @@ ghost use Prim.Native.Nat.{_+_, _*_, _^_, _≤_, _<_};
 ghost use lib.ListN.{length};
 ghost use Rattle.basics.specs.Choice.{both};
 ghost use Rattle.basics.specs.Number.{hasBit};
-ghost use Rattle.dictionary.specs.Rows.{storeSize, cryptogram};
+ghost use Rattle.dictionary.specs.declared.Found.{Found};
+ghost use Rattle.dictionary.specs.Rows.{rows, find, storeSize, cryptogram};
 ghost use Rattle.dictionary.specs.Packing.{rowOf};
+ghost use Rattle.dictionary.specs.Lent.{Lent, codesOf};
+ghost use Rattle.store.specs.Place.{placesOf};
 ghost use Rattle.tlv.specs.Tag.{isPrivate};
 ghost use Rattle.tlv.specs.Tree.{parse};
 ghost use Rattle.reading.specs.Taking.{item, mayCome, byCard, standsIn, work, takeItem, takeNext, takeAll};
@@ -97,7 +100,10 @@ pub fn read_body(store: &mut [u8], awaited: Awaited, body: &[u8]) -> Reading
 {
     let mut work = [0u8; SIZE];
     bytes::copy(store, &mut work);
-    let reading = read_object(&mut work, awaited, body);
+    let tags = dictionary::tags();
+    let codes = dictionary::codes();
+    let places = store::row_places();
+    let reading = read_object(&mut work, awaited, body, &tags, &codes, &places);
     let verdict = reading.verdict;
     let Verdict::Accepted = verdict else {
         return reading;
@@ -172,8 +178,17 @@ fn template_tag(awaited: Awaited) -> u32
 }
 
 // The body's one object, with no byte behind it, into a working copy.
-fn read_object(work: &mut [u8; SIZE], awaited: Awaited, body: &[u8]) -> Reading
+fn read_object(
+    work: &mut [u8; SIZE],
+    awaited: Awaited,
+    body: &[u8],
+    tags: &[u32; ROWS],
+    codes: &[u32; ROWS],
+    places: &[u32; ROWS],
+) -> Reading
     requires { ⌜ length (now work) ≡ storeSize ⌝ }
+    requires { ⌜ Lent (now tags) (now codes) ⌝ }
+    requires { ⌜ now places ≡ placesOf rows ⌝ }
     ensures given { λ r. ⌜ GivesIn r (now (work .entry)) (now (work .exit)) (readBody awaited (now (work .entry)) (now (body .entry))) ⌝ }
     ensures sized { λ _. ⌜ length (now (work .exit)) ≡ storeSize ⌝ }
     ensures half { λ r. ⌜ 2 * r .objects ≤ length (now (body .entry)) ⌝ }
@@ -189,15 +204,25 @@ fn read_object(work: &mut [u8; SIZE], awaited: Awaited, body: &[u8]) -> Reading
     }
     let value = &body[start..e];
     if h.template {
-        return read_template(work, awaited, h.tag, value);
+        return read_template(work, awaited, h.tag, value, tags, codes, places);
     }
-    read_primitive(work, awaited, h.tag, value)
+    read_primitive(work, awaited, h.tag, value, codes, places)
 }
 
 // An answer that is a template, by its contents.
-fn read_template(work: &mut [u8; SIZE], awaited: Awaited, tag: u32, value: &[u8]) -> Reading
+fn read_template(
+    work: &mut [u8; SIZE],
+    awaited: Awaited,
+    tag: u32,
+    value: &[u8],
+    tags: &[u32; ROWS],
+    codes: &[u32; ROWS],
+    places: &[u32; ROWS],
+) -> Reading
     requires { ⌜ length (now work) ≡ storeSize ⌝ }
     requires { ⌜ length (now value) + 2 < 2 ^ 64 ⌝ }
+    requires { ⌜ Lent (now tags) (now codes) ⌝ }
+    requires { ⌜ now places ≡ placesOf rows ⌝ }
     ensures given { λ r. ⌜ GivesIn r (now (work .entry)) (now (work .exit)) (readTemplate awaited (now (work .entry)) tag (now (value .entry))) ⌝ }
     ensures sized { λ _. ⌜ length (now (work .exit)) ≡ storeSize ⌝ }
     ensures half { λ r. ⌜ 2 * r .objects ≤ 2 + length (now (value .entry)) ⌝ }
@@ -213,6 +238,9 @@ fn read_template(work: &mut [u8; SIZE], awaited: Awaited, tag: u32, value: &[u8]
             good: true,
         },
         work,
+        tags,
+        codes,
+        places,
     );
     let Contents::Whole(t) = contents else {
         return made(Verdict::Malformed, 0);
@@ -228,8 +256,17 @@ fn read_template(work: &mut [u8; SIZE], awaited: Awaited, tag: u32, value: &[u8]
 }
 
 // An answer that is a primitive object: 80, with its parts one behind the other.
-fn read_primitive(work: &mut [u8; SIZE], awaited: Awaited, tag: u32, value: &[u8]) -> Reading
+fn read_primitive(
+    work: &mut [u8; SIZE],
+    awaited: Awaited,
+    tag: u32,
+    value: &[u8],
+    codes: &[u32; ROWS],
+    places: &[u32; ROWS],
+) -> Reading
     requires { ⌜ length (now work) ≡ storeSize ⌝ }
+    requires { ⌜ now codes ≡ codesOf rows ⌝ }
+    requires { ⌜ now places ≡ placesOf rows ⌝ }
     ensures given { λ r. ⌜ GivesIn r (now (work .entry)) (now (work .exit)) (readTree awaited (now (work .entry)) (some (primitive tag (now (value .entry))))) ⌝ }
     ensures sized { λ _. ⌜ length (now (work .exit)) ≡ storeSize ⌝ }
     ensures one { λ r. ⌜ r .objects ≡ 1 ⌝ }
@@ -238,15 +275,22 @@ fn read_primitive(work: &mut [u8; SIZE], awaited: Awaited, tag: u32, value: &[u8
         return made(Verdict::Malformed, 1);
     }
     match awaited {
-        Awaited::Options => read_options(work, value),
+        Awaited::Options => read_options(work, value, codes, places),
         Awaited::Record(_) => made(Verdict::Malformed, 1),
-        Awaited::Cryptogram => read_cryptogram(work, value),
+        Awaited::Cryptogram => read_cryptogram(work, value, codes, places),
     }
 }
 
 // The parts of a body under 80: the interchange profile, then the locator.
-fn read_options(work: &mut [u8; SIZE], value: &[u8]) -> Reading
+fn read_options(
+    work: &mut [u8; SIZE],
+    value: &[u8],
+    codes: &[u32; ROWS],
+    places: &[u32; ROWS],
+) -> Reading
     requires { ⌜ length (now work) ≡ storeSize ⌝ }
+    requires { ⌜ now codes ≡ codesOf rows ⌝ }
+    requires { ⌜ now places ≡ placesOf rows ⌝ }
     ensures given { λ r. ⌜ GivesIn r (now (work .entry)) (now (work .exit)) (readOptions (now (work .entry)) (now (value .entry))) ⌝ }
     ensures sized { λ _. ⌜ length (now (work .exit)) ≡ storeSize ⌝ }
     ensures one { λ r. ⌜ r .objects ≡ 1 ⌝ }
@@ -262,8 +306,8 @@ fn read_options(work: &mut [u8; SIZE], value: &[u8]) -> Reading
         return made(Verdict::Malformed, 1);
     }
     let bit = dictionary::OPTIONS;
-    let profile = take_next(true, 0x82, 0x77, bit, &value[..2], work);
-    let locator = take_next(profile, 0x94, 0x77, bit, &value[2..], work);
+    let profile = take_part(true, ROW_82, 0x82, bit, &value[..2], work, codes, places);
+    let locator = take_part(profile, ROW_94, 0x94, bit, &value[2..], work, codes, places);
     if !locator {
         return made(Verdict::NotAllowed, 1);
     }
@@ -271,8 +315,15 @@ fn read_options(work: &mut [u8; SIZE], value: &[u8]) -> Reading
 }
 
 // 9F27, 9F36 and 9F26, and 9F10 if any bytes are left.
-fn read_cryptogram(work: &mut [u8; SIZE], value: &[u8]) -> Reading
+fn read_cryptogram(
+    work: &mut [u8; SIZE],
+    value: &[u8],
+    codes: &[u32; ROWS],
+    places: &[u32; ROWS],
+) -> Reading
     requires { ⌜ length (now work) ≡ storeSize ⌝ }
+    requires { ⌜ now codes ≡ codesOf rows ⌝ }
+    requires { ⌜ now places ≡ placesOf rows ⌝ }
     ensures given { λ r. ⌜ GivesIn r (now (work .entry)) (now (work .exit)) (readCryptogram (now (work .entry)) (now (value .entry))) ⌝ }
     ensures sized { λ _. ⌜ length (now (work .exit)) ≡ storeSize ⌝ }
     ensures one { λ r. ⌜ r .objects ≡ 1 ⌝ }
@@ -285,10 +336,10 @@ fn read_cryptogram(work: &mut [u8; SIZE], value: &[u8]) -> Reading
         return made(Verdict::Malformed, 1);
     }
     let bit = dictionary::CRYPTOGRAM;
-    let kind = take_next(true, 0x9F27, 0x77, bit, &value[..1], work);
-    let counter = take_next(kind, 0x9F36, 0x77, bit, &value[1..3], work);
-    let cryptogram = take_next(counter, 0x9F26, 0x77, bit, &value[3..11], work);
-    let issuer = take_rest(cryptogram, &value[11..], work);
+    let kind = take_part(true, ROW_9F27, 0x9F27, bit, &value[..1], work, codes, places);
+    let counter = take_part(kind, ROW_9F36, 0x9F36, bit, &value[1..3], work, codes, places);
+    let cryptogram = take_part(counter, ROW_9F26, 0x9F26, bit, &value[3..11], work, codes, places);
+    let issuer = take_rest(cryptogram, &value[11..], work, codes, places);
     if !issuer {
         return made(Verdict::NotAllowed, 1);
     }
@@ -296,8 +347,16 @@ fn read_cryptogram(work: &mut [u8; SIZE], value: &[u8]) -> Reading
 }
 
 // 9F10, if any bytes are left.
-fn take_rest(good: bool, rest: &[u8], store: &mut [u8; SIZE]) -> bool
+fn take_rest(
+    good: bool,
+    rest: &[u8],
+    store: &mut [u8; SIZE],
+    codes: &[u32; ROWS],
+    places: &[u32; ROWS],
+) -> bool
     requires { ⌜ length (now store) ≡ storeSize ⌝ }
+    requires { ⌜ now codes ≡ codesOf rows ⌝ }
+    requires { ⌜ now places ≡ placesOf rows ⌝ }
     ensures said { λ r. ⌜ r ≡ takeAll cryptogram (work good (now (store .entry))) (issuerPart (now (rest .entry))) .good ⌝ }
     ensures kept { λ _. ⌜ now (store .exit) ≡ takeAll cryptogram (work good (now (store .entry))) (issuerPart (now (rest .entry))) .store ⌝ }
     ensures sized { λ _. ⌜ length (now (store .exit)) ≡ storeSize ⌝ }
@@ -305,7 +364,7 @@ fn take_rest(good: bool, rest: &[u8], store: &mut [u8; SIZE]) -> bool
     if rest.len() == 0 {
         return good;
     }
-    take_next(good, 0x9F10, 0x77, dictionary::CRYPTOGRAM, rest, store)
+    take_part(good, ROW_9F10, 0x9F10, dictionary::CRYPTOGRAM, rest, store, codes, places)
 }
 
 // A run of objects directly inside the template `around`, with so many levels of templates still
@@ -317,10 +376,15 @@ fn read(
     answer: u8,
     tally: Tally,
     store: &mut [u8; SIZE],
+    tags: &[u32; ROWS],
+    codes: &[u32; ROWS],
+    places: &[u32; ROWS],
 ) -> Contents
     requires { ⌜ length (now store) ≡ storeSize ⌝ }
     requires { ⌜ 2 * tally .objects + length (now bytes) < 2 ^ 64 ⌝ }
     requires { ⌜ 0 < answer ⌝ }
+    requires { ⌜ Lent (now tags) (now codes) ⌝ }
+    requires { ⌜ now places ≡ placesOf rows ⌝ }
     ensures left { λ r. ⌜ Reads answer around tally (now (store .entry)) (parse levels (now (bytes .entry))) r (now (store .exit)) ⌝ }
     ensures half { λ r. ⌜ 2 * counted r ≤ 2 * tally .objects + length (now (bytes .entry)) ⌝ }
     ensures sized { λ _. ⌜ length (now (store .exit)) ≡ storeSize ⌝ }
@@ -350,6 +414,9 @@ fn read(
                         answer,
                         Tally { objects: one, good },
                         store,
+                        tags,
+                        codes,
+                        places,
                     );
                     let Contents::Whole(t) = inside else {
                         return Contents::Broken;
@@ -357,7 +424,7 @@ fn read(
                     n = t.objects;
                     good = t.good;
                 } else {
-                    good = take_next(good, h.tag, around, answer, value, store);
+                    good = take_next(good, h.tag, around, answer, value, store, tags, codes, places);
                     n = one;
                 }
                 s = rest;
@@ -374,39 +441,82 @@ fn take_next(
     answer: u8,
     v: &[u8],
     store: &mut [u8; SIZE],
+    tags: &[u32; ROWS],
+    codes: &[u32; ROWS],
+    places: &[u32; ROWS],
 ) -> bool
     requires { ⌜ length (now store) ≡ storeSize ⌝ }
     requires { ⌜ 0 < answer ⌝ }
+    requires { ⌜ Lent (now tags) (now codes) ⌝ }
+    requires { ⌜ now places ≡ placesOf rows ⌝ }
     ensures said { λ r. ⌜ r ≡ takeNext answer (work good (now (store .entry))) (item around tag (now (v .entry))) .good ⌝ }
     ensures kept { λ _. ⌜ now (store .exit) ≡ takeNext answer (work good (now (store .entry))) (item around tag (now (v .entry))) .store ⌝ }
     ensures sized { λ _. ⌜ length (now (store .exit)) ≡ storeSize ⌝ }
 {
-    if good {
-        return take_object(tag, around, answer, v, store);
+    if !good {
+        return false;
     }
-    false
+    let found = dictionary::search(tags, tag).found;
+    let Found::At(row) = found else {
+        return true;
+    };
+    take_row(codes, row, tag, around, answer, v, store, places)
 }
 
-// One primitive object: skipped, stored, or not allowed.
-fn take_object(tag: u32, around: u32, answer: u8, v: &[u8], store: &mut [u8; SIZE]) -> bool
+// A part of a body under 80, whose tag's row is known, unless one before it was not allowed.
+fn take_part(
+    good: bool,
+    row: usize,
+    tag: u32,
+    answer: u8,
+    v: &[u8],
+    store: &mut [u8; SIZE],
+    codes: &[u32; ROWS],
+    places: &[u32; ROWS],
+) -> bool
     requires { ⌜ length (now store) ≡ storeSize ⌝ }
     requires { ⌜ 0 < answer ⌝ }
+    requires { ⌜ find rows tag ≡ Found.At row ⌝ }
+    requires { ⌜ now codes ≡ codesOf rows ⌝ }
+    requires { ⌜ now places ≡ placesOf rows ⌝ }
+    ensures said { λ r. ⌜ r ≡ takeNext answer (work good (now (store .entry))) (item 0x77 tag (now (v .entry))) .good ⌝ }
+    ensures kept { λ _. ⌜ now (store .exit) ≡ takeNext answer (work good (now (store .entry))) (item 0x77 tag (now (v .entry))) .store ⌝ }
+    ensures sized { λ _. ⌜ length (now (store .exit)) ≡ storeSize ⌝ }
+{
+    if !good {
+        return false;
+    }
+    take_row(codes, row, tag, 0x77, answer, v, store, places)
+}
+
+// One primitive object of a known tag: skipped, stored, or not allowed.
+fn take_row(
+    codes: &[u32; ROWS],
+    row: usize,
+    tag: u32,
+    around: u32,
+    answer: u8,
+    v: &[u8],
+    store: &mut [u8; SIZE],
+    places: &[u32; ROWS],
+) -> bool
+    requires { ⌜ length (now store) ≡ storeSize ⌝ }
+    requires { ⌜ 0 < answer ⌝ }
+    requires { ⌜ find rows tag ≡ Found.At row ⌝ }
+    requires { ⌜ now codes ≡ codesOf rows ⌝ }
+    requires { ⌜ now places ≡ placesOf rows ⌝ }
     ensures said { λ r. ⌜ r ≡ takeItem answer (now (store .entry)) (item around tag (now (v .entry))) .good ⌝ }
     ensures kept { λ _. ⌜ now (store .exit) ≡ takeItem answer (now (store .entry)) (item around tag (now (v .entry))) .store ⌝ }
     ensures sized { λ _. ⌜ length (now (store .exit)) ≡ storeSize ⌝ }
 {
-    let found = dictionary::lookup(tag);
-    let Found::At(row) = found else {
-        return true;
-    };
-    let attributes = dictionary::attributes_of(row);
+    let attributes = dictionary::unpacked(codes[row]);
     if is_skipped(tag, attributes) {
         return true;
     }
     if !may_come(attributes, around, answer, v) {
         return false;
     }
-    store::put_free(store, row, v)
+    store::put_free_in(store, row, v, places)
 }
 
 // Whether a known object is passed over: of the private class, and not the card's to set.

@@ -11,7 +11,7 @@ use borrow.Author.Tests.{leb-true}
 use Rattle.basics.specs.Choice.{every}
 use Rattle.basics.proofs.Table.{at}
 use Rattle.dictionary.specs.Rows.{Row, rows, blank, rowIn}
-use Rattle.store.specs.Place.{room, offsetIn, sizeOf}
+use Rattle.store.specs.Place.{room, offsetIn, sizeOf, placesFrom}
 
 -- a row's place lies inside the store
 pub inside : (table : List Row) (k : ℕ) → k < length table → offsetIn table k + room (rowIn table k) ≤ sizeOf table
@@ -44,12 +44,8 @@ apart (r ∷ rs) zero (suc k) h i = omega arith
 apart (r ∷ rs) (suc j) zero h i = absurd (omega arith)
 apart (r ∷ rs) (suc j) (suc k) h i = let ih = apart rs j k (omega arith) (omega arith) in omega arith
 
--- where each place starts, as running sums of the rooms, with the greatest length behind it
-abbrev pub spans : ℕ → List Row → List ℕ
-spans n [] = []
-spans n (r ∷ rs) = (n * 256 + r .greatest) ∷ spans (n + room r) rs
-
-pub span-at : (n : ℕ) (table : List Row) (k : ℕ) → k < length table → getD (spans n table) k 0 ≡ (n + offsetIn table k) * 256 + rowIn table k .greatest
+-- a row's number among the places
+pub span-at : (n : ℕ) (table : List Row) (k : ℕ) → k < length table → getD (placesFrom n table) k 0 ≡ (n + offsetIn table k) * 256 + rowIn table k .greatest
 unfolding offsetIn
 span-at n [] k h = absurd (omega arith)
 span-at n (r ∷ rs) zero h = omega arith

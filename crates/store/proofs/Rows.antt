@@ -11,8 +11,8 @@ use borrow.Author.Tests.{eq-eqb, ne-eqb, leb-true}
 use Rattle.basics.specs.Choice.{both, every}
 use Rattle.basics.proofs.Table.{at}
 use Rattle.dictionary.specs.Rows.{rows, blank, rowAt, rowCount, storeSize}
-use Rattle.store.specs.Place.{offsetIn, sizeOf, bytesOf, valueAt, isFree}
-use Rattle.store.proofs.Places.{inside, ends, storable, short, spans, span-at}
+use Rattle.store.specs.Place.{offsetIn, sizeOf, placesOf, bytesOf, valueAt, isFree}
+use Rattle.store.proofs.Places.{inside, ends, storable, short, span-at}
 use Rattle.store.proofs.Laws.{Fits, storedLength, value-bytes, length-byte-at}
 
 pub rows-size : sizeOf rows ≡ storeSize
@@ -36,7 +36,7 @@ row-inside k h =
 pub rows-end : (k : ℕ) → rowCount ≤ k → offsetIn rows k ≡ storeSize
 rows-end k h = omega (arith, ends rows k (omega (arith, rows-length)), rows-size)
 
-pub row-span : (k : ℕ) → k < rowCount → getD (spans 0 rows) k 0 ≡ offsetIn rows k * 256 + rowAt k .greatest
+pub row-span : (k : ℕ) → k < rowCount → getD (placesOf rows) k 0 ≡ offsetIn rows k * 256 + rowAt k .greatest
 row-span k h = omega (arith, span-at 0 rows k (omega (arith, rows-length)))
 
 -- a value that fits its row, in a store of the dictionary's size

@@ -3,7 +3,7 @@
 -- Assumes nothing.
 use mathlib.Core.Bool.{Bool, true, false}
 use mathlib.Core.List.{List, [], _∷_, _++_}
-use Prim.Native.Nat.{ℕ, zero, suc, _+_, _-_}
+use Prim.Native.Nat.{ℕ, zero, suc, _+_, _-_, _*_}
 use lib.ListN.{length, getD, take, drop}
 use Rattle.basics.specs.Choice.{if_then_else_, _=?_}
 use Rattle.dictionary.specs.Rows.{Row, rows, rowIn, rowAt, find}
@@ -42,6 +42,15 @@ offsetIn (r ∷ rs) (suc k) = room r + offsetIn rs k
 unfoldable pub sizeOf : List Row → ℕ
 sizeOf [] = 0
 sizeOf (r ∷ rs) = room r + sizeOf rs
+
+-- the places as the source has them, from an offset on: a row's is one number, 256 times where it starts and its
+-- greatest length
+abbrev pub placesFrom : ℕ → List Row → List ℕ
+placesFrom n [] = []
+placesFrom n (r ∷ rs) = (n * 256 + r .greatest) ∷ placesFrom (n + room r) rs
+
+abbrev pub placesOf : List Row → List ℕ
+placesOf table = placesFrom 0 table
 
 -- row k's place
 unfoldable pub placeAt : List Row → List ℕ → ℕ → List ℕ

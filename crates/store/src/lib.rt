@@ -9,7 +9,7 @@ ghost use mathlib.Core.Path.{_≡_};
 ghost use Prim.Native.Nat.{_+_, _-_, _≤_, _<_, min};
 ghost use lib.ListN.{length, replicate};
 ghost use Rattle.dictionary.specs.Rows.{rows, rowAt, rowCount, storeSize};
-ghost use Rattle.store.specs.Place.{spanOf, lengthByte, valueAt, bytesOf, isThere, isFree, writtenAt, putAt, putIf};
+ghost use Rattle.store.specs.Place.{placesOf, spanOf, lengthByte, valueAt, bytesOf, isThere, isFree, writtenAt, putAt, putIf};
 
 pub struct Store {
     pub bytes: [u8; SIZE],
@@ -41,13 +41,30 @@ pub fn empty() -> Store
     Store { bytes: [0u8; SIZE] }
 }
 
+// The places of all rows: a call that reads or writes many rows binds them once and lends them down.
+pub fn row_places() -> [u32; ROWS]
+    ensures { λ r. ⌜ r ≡ placesOf rows ⌝ }
+{
+    PLACES
+}
+
 // A row's place; past the last row it is the store's end.
 fn span_of(row: usize) -> Span
     ensures { λ r. ⌜ r ≡ spanOf row ⌝ }
     ensures { λ r. ⌜ r .at ≤ storeSize ⌝ }
 {
+    let places = PLACES;
+    span_in(row, &places)
+}
+
+// The same with the places lent.
+fn span_in(row: usize, places: &[u32; ROWS]) -> Span
+    requires { ⌜ now places ≡ placesOf rows ⌝ }
+    ensures { λ r. ⌜ r ≡ spanOf row ⌝ }
+    ensures { λ r. ⌜ r .at ≤ storeSize ⌝ }
+{
     if row < ROWS {
-        let code = PLACES[row];
+        let code = places[row];
         return Span {
             at: (code / START) as usize,
             most: (code % START) as usize,
@@ -68,6 +85,15 @@ pub fn is_there(bytes: &[u8], row: usize) -> bool
     ensures { λ r. ⌜ r ≡ isThere (valueAt rows (now (bytes .entry)) row) ⌝ }
 {
     length_byte(bytes, row) != 0
+}
+
+// The same with the places lent.
+pub fn is_there_in(bytes: &[u8], row: usize, places: &[u32; ROWS]) -> bool
+    requires { ⌜ now places ≡ placesOf rows ⌝ }
+    ensures { λ r. ⌜ r ≡ isThere (valueAt rows (now (bytes .entry)) row) ⌝ }
+{
+    let at = span_in(row, places).at;
+    basics::byte_at(bytes, at) != 0
 }
 
 // How many bytes a value has by its length byte, 0 where the object is absent. A length byte that is
@@ -111,19 +137,32 @@ pub fn put(bytes: &mut [u8], row: usize, v: &[u8])
     ensures stored { λ _. ⌜ now (bytes .exit) ≡ putAt rows (now (bytes .entry)) row (now (v .entry)) ⌝ }
     ensures sized { λ _. ⌜ length (now (bytes .exit)) ≡ storeSize ⌝ }
 {
-    let at = span_of(row).at;
+    let places = PLACES;
+    put_in(bytes, row, v, &places);
+}
+
+// The same with the places lent.
+pub fn put_in(bytes: &mut [u8], row: usize, v: &[u8], places: &[u32; ROWS])
+    requires { ⌜ length (now bytes) ≡ storeSize ⌝ }
+    requires { ⌜ (row < rowCount) × (length (now v) ≤ rowAt row .greatest) ⌝ }
+    requires { ⌜ now places ≡ placesOf rows ⌝ }
+    ensures stored { λ _. ⌜ now (bytes .exit) ≡ putAt rows (now (bytes .entry)) row (now (v .entry)) ⌝ }
+    ensures sized { λ _. ⌜ length (now (bytes .exit)) ≡ storeSize ⌝ }
+{
+    let at = span_in(row, places).at;
     write(bytes, at, v);
 }
 
-// Puts a value into a row's place unless bytes are there already: whether it was put.
-pub fn put_free(bytes: &mut [u8], row: usize, v: &[u8]) -> bool
+// Puts a value into a row's place unless bytes are there already, with the places lent: whether it was put.
+pub fn put_free_in(bytes: &mut [u8], row: usize, v: &[u8], places: &[u32; ROWS]) -> bool
     requires { ⌜ length (now bytes) ≡ storeSize ⌝ }
     requires { ⌜ (row < rowCount) × (length (now v) ≤ rowAt row .greatest) ⌝ }
+    requires { ⌜ now places ≡ placesOf rows ⌝ }
     ensures said { λ r. ⌜ r ≡ isFree rows (now (bytes .entry)) row ⌝ }
     ensures stored { λ r. ⌜ now (bytes .exit) ≡ putIf r rows (now (bytes .entry)) row (now (v .entry)) ⌝ }
     ensures sized { λ _. ⌜ length (now (bytes .exit)) ≡ storeSize ⌝ }
 {
-    let at = span_of(row).at;
+    let at = span_in(row, places).at;
     if 1 < bytes[at] {
         return false;
     }

@@ -4,12 +4,16 @@
 // after the other in a working copy, then sees that all that a start must bring is there. The store is
 // written only where every step passed.
 use dictionary::Found;
+use dictionary::ROWS;
 use dictionary::SIZE;
 use record::Refusal;
 use tlv::Front;
 ghost use mathlib.Core.Path.{_≡_};
+ghost use Prim.Native.Nat.{_<_};
 ghost use lib.ListN.{length};
-ghost use Rattle.dictionary.specs.Rows.{storeSize};
+ghost use Rattle.dictionary.specs.Rows.{rows, rowCount, storeSize};
+ghost use Rattle.dictionary.specs.Lent.{Lent, codesOf};
+ghost use Rattle.store.specs.Place.{placesOf};
 ghost use Rattle.tlv.specs.Primitives.{object, primitives};
 ghost use Rattle.terminal.specs.Terminal.{typeListed, settable, setObject, setRun, Sets, load as loadOf, Loads};
 
@@ -36,7 +40,10 @@ pub fn load(store: &mut [u8], terminal: &[u8]) -> Said
     }
     let mut work = [0u8; SIZE];
     bytes::copy(store, &mut work);
-    if !set_objects(terminal, &mut work) {
+    let tags = dictionary::tags();
+    let codes = dictionary::codes();
+    let places = store::row_places();
+    if !set_objects(terminal, &mut work, &tags, &codes, &places) {
         return refused(basics::REFUSED_OBJECT);
     }
     if !record::all_brought(&work) {
@@ -54,8 +61,16 @@ fn refused(number: u8) -> Said
 }
 
 // Sets the objects of a run one after the other: whether each of them may be set.
-fn set_objects(terminal: &[u8], store: &mut [u8; SIZE]) -> bool
+fn set_objects(
+    terminal: &[u8],
+    store: &mut [u8; SIZE],
+    tags: &[u32; ROWS],
+    codes: &[u32; ROWS],
+    places: &[u32; ROWS],
+) -> bool
     requires { ⌜ length (now store) ≡ storeSize ⌝ }
+    requires { ⌜ Lent (now tags) (now codes) ⌝ }
+    requires { ⌜ now places ≡ placesOf rows ⌝ }
     ensures set { λ r. ⌜ Sets r (now (store .exit)) (setRun (now (store .entry)) (primitives (now (terminal .entry)))) ⌝ }
     ensures sized { λ _. ⌜ length (now (store .exit)) ≡ storeSize ⌝ }
 {
@@ -69,7 +84,7 @@ fn set_objects(terminal: &[u8], store: &mut [u8; SIZE]) -> bool
         let e = start + h.len;
         let value = &s[start..e];
         let rest = &s[e..];
-        if !set_object(h.tag, value, store) {
+        if !set_object(h.tag, value, store, tags, codes, places) {
             return false;
         }
         s = rest;
@@ -78,35 +93,53 @@ fn set_objects(terminal: &[u8], store: &mut [u8; SIZE]) -> bool
 }
 
 // One object: skipped if unknown, set if it may be, else not.
-fn set_object(tag: u32, v: &[u8], store: &mut [u8; SIZE]) -> bool
+fn set_object(
+    tag: u32,
+    v: &[u8],
+    store: &mut [u8; SIZE],
+    tags: &[u32; ROWS],
+    codes: &[u32; ROWS],
+    places: &[u32; ROWS],
+) -> bool
     requires { ⌜ length (now store) ≡ storeSize ⌝ }
+    requires { ⌜ Lent (now tags) (now codes) ⌝ }
+    requires { ⌜ now places ≡ placesOf rows ⌝ }
     ensures set { λ r. ⌜ Sets r (now (store .exit)) (setObject (now (store .entry)) (object tag (now (v .entry)))) ⌝ }
     ensures sized { λ _. ⌜ length (now (store .exit)) ≡ storeSize ⌝ }
 {
-    let found = dictionary::lookup(tag);
+    let found = dictionary::search(tags, tag).found;
     let Found::At(row) = found else {
         return true;
     };
     let all = &store[..];
-    if !is_settable(all, row, tag, v) {
+    if !is_settable(all, row, tag, v, codes, places) {
         return false;
     }
-    store::put(store, row, v);
+    store::put_in(store, row, v, places);
     true
 }
 
 // Whether a start may set a row's object, with this value.
-fn is_settable(bytes: &[u8], row: usize, tag: u32, v: &[u8]) -> bool
+fn is_settable(
+    bytes: &[u8],
+    row: usize,
+    tag: u32,
+    v: &[u8],
+    codes: &[u32; ROWS],
+    places: &[u32; ROWS],
+) -> bool
+    requires { ⌜ (row < rowCount) × (now codes ≡ codesOf rows) ⌝ }
+    requires { ⌜ now places ≡ placesOf rows ⌝ }
     ensures { λ r. ⌜ r ≡ settable (now (bytes .entry)) row (object tag (now (v .entry))) ⌝ }
 {
-    let attributes = dictionary::attributes_of(row);
+    let attributes = dictionary::unpacked(codes[row]);
     if attributes.setters / dictionary::START % 2 != 1 {
         return false;
     }
     if !dictionary::fits(attributes, v) {
         return false;
     }
-    if store::is_there(bytes, row) {
+    if store::is_there_in(bytes, row, places) {
         return false;
     }
     is_type_listed(tag, v)

@@ -175,6 +175,38 @@ impl Object {
     }
 }
 
+/// What a search says.
+#[derive(Clone, Copy, Debug, PartialEq, Eq)]
+pub struct Searched {
+    /// Where the tag stands, if it is there.
+    pub place: Option<usize>,
+    /// How many tags were looked at.
+    pub looks: usize,
+}
+
+/// Searches rising tags by halving (document 02, Item 3): at most k looks in fewer than 2 to the k tags.
+/// `Object::of_tag` goes another way, so that the tests can hold one to the other.
+pub fn search(tags: &[u32], tag: u32) -> Searched {
+    let (mut left, mut passed, mut looks) = (tags, 0, 0);
+    while let Some(&looked) = left.get(left.len() / 2) {
+        let middle = left.len() / 2;
+        looks += 1;
+        if looked == tag {
+            return Searched {
+                place: Some(passed + middle),
+                looks,
+            };
+        }
+        if looked < tag {
+            passed += middle + 1;
+            left = &left[middle + 1..];
+        } else {
+            left = &left[..middle];
+        }
+    }
+    Searched { place: None, looks }
+}
+
 /// The mandatory objects of a start.
 pub const REQUIRED_AT_START: [Object; 12] = [
     Object::TransactionDate,

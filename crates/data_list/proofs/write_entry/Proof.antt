@@ -2,11 +2,14 @@
 -- Assumes nothing.
 use mathlib.Core.Path.{_≡_, sym, ap, _∙_}
 use mathlib.Core.List.{List}
-use Prim.Native.Nat.{ℕ}
+use Prim.Native.Nat.{ℕ, _<_}
+use native.Mathlib.Omega.{arith}
 use borrow.Author.Needs.{needs}
 use borrow.Author.Tests.{not-true, not-false}
 use Rattle.dictionary.specs.declared.Attributes.{Attributes}
-use Rattle.dictionary.specs.Rows.{rows}
+use Rattle.dictionary.specs.declared.Found.the-variants.{At}
+use Rattle.dictionary.specs.Rows.{rows, rowCount, find}
+use Rattle.dictionary.proofs.Lent.{lent-found, row-found, lent-row}
 use Rattle.data_list.specs.Filling.{zeros}
 use Rattle.data_list.specs.Inner.{over}
 use Rattle.data_list.proofs.Filling.{of-template, of-unknown, of-absent, of-present}
@@ -25,28 +28,42 @@ returns c =
 
 returns-2 : tie.Need-returns-2
 returns-2 c =
-    let a = c .before .before .before .before .before .before .before .before .before .before .before .before .args in
-    let t = sym (c .before .before .before .before .before .before .before .before .is-template .ensures) ∙ c .before .before .before .before .before .before .before .if1 .left in
-    let f = sym (c .before .before .before .before .before .before .lookup .ensures .0) ∙ c .before .before .before .before .enum-told .given .1 in
-    zeros-of _ _ _ _ _ _ (c .before .before .repeat2 .ensures) (c .before .before .before .before .before .before .before .before .before .wide .ensures .0) (of-unknown rows (a .store .now) (a .entry) t f)
+    let st = c .before .before .before .before .before .before .before .before .before .before .before .before .before in
+    let a = st .args in
+    let t = sym (c .before .before .before .before .before .before .before .before .before .is-template .ensures) ∙ c .before .before .before .before .before .before .before .before .if1 .left in
+    let f = sym (lent-found (a .entry .tag) (st .pre .1 .0 .tags) (c .before .before .before .before .before .before .search .ensures .1 .0)) ∙ c .before .before .before .before .enum-told .given .1 in
+    zeros-of _ _ _ _ _ _ (c .before .before .repeat2 .ensures) (c .before .before .before .before .before .before .before .before .before .before .wide .ensures .0) (of-unknown rows (a .store .now) (a .entry) t f)
 
 returns-3 : tie.Need-returns-3
 returns-3 c =
-    let a = c .before .before .before .before .before .before .before .before .before .before .before .before .before .before .before .args in
-    let t = sym (c .before .before .before .before .before .before .before .before .before .before .before .is-template .ensures) ∙ c .before .before .before .before .before .before .before .before .before .before .if1 .left in
-    let f = sym (c .before .before .before .before .before .before .before .before .before .lookup .ensures .0) ∙ c .before .before .before .before .before .before .before .found .given .1 in
-    let i = sym (c .before .before .before .before .before .is-there .ensures) ∙ not-true _ (c .before .before .before .before .if2 .taken) in
-    zeros-of _ _ _ _ _ _ (c .before .before .repeat3 .ensures) (c .before .before .before .before .before .before .before .before .before .before .before .before .wide .ensures .0) (of-absent rows (a .store .now) (a .entry) _ t f i)
+    let st = c .before .before .before .before .before .before .before .before .before .before .before .before .before .before .before .before in
+    let a = st .args in
+    let t = sym (c .before .before .before .before .before .before .before .before .before .before .before .before .is-template .ensures) ∙ c .before .before .before .before .before .before .before .before .before .before .before .if1 .left in
+    let f = sym (lent-found (a .entry .tag) (st .pre .1 .0 .tags) (c .before .before .before .before .before .before .before .before .before .search .ensures .1 .0)) ∙ c .before .before .before .before .before .before .before .found .given .1 in
+    let i = sym (c .before .before .before .before .before .is-there-in .ensures) ∙ not-true _ (c .before .before .before .before .if2 .taken) in
+    zeros-of _ _ _ _ _ _ (c .before .before .repeat3 .ensures) (c .before .before .before .before .before .before .before .before .before .before .before .before .before .wide .ensures .0) (of-absent rows (a .store .now) (a .entry) _ t f i)
+
+-- where the row's number is read
+abbrev At-row : Type 0
+At-row = tie.Else2
+
+row-at : (c : At-row) → find rows (c .before .before .before .before .before .before .before .before .before .before .before .before .args .entry .tag) ≡ At (c .before .before .before .found .given .0 .0)
+row-at c = sym (lent-found (c .before .before .before .before .before .before .before .before .before .before .before .before .args .entry .tag) (c .before .before .before .before .before .before .before .before .before .before .before .before .pre .1 .0 .tags) (c .before .before .before .before .before .search .ensures .1 .0)) ∙ c .before .before .before .found .given .1
+
+in-table : (c : At-row) → c .before .before .before .found .given .0 .0 < rowCount
+in-table c = row-found (c .before .before .before .before .before .before .before .before .before .before .before .before .args .entry .tag) (row-at c)
 
 returns-4 : tie.Need-returns-4
 returns-4 c =
-    let a = c .before .before .before .before .before .before .before .before .before .before .before .before .before .before .before .before .before .args in
-    let t = sym (c .before .before .before .before .before .before .before .before .before .before .before .before .before .is-template .ensures) ∙ c .before .before .before .before .before .before .before .before .before .before .before .before .if1 .left in
-    let f = sym (c .before .before .before .before .before .before .before .before .before .before .before .lookup .ensures .0) ∙ c .before .before .before .before .before .before .before .before .before .found .given .1 in
-    let i = sym (c .before .before .before .before .before .before .before .is-there .ensures) ∙ not-false _ (c .before .before .before .before .before .before .if2 .left) in
+    let st = c .before .before .before .before .before .before .before .before .before .before .before .before .before .before .before .before .before .before .before in
+    let a = st .args in
+    let e = c .before .before .before .before .before .before .before in
+    let t = sym (c .before .before .before .before .before .before .before .before .before .before .before .before .before .before .before .is-template .ensures) ∙ c .before .before .before .before .before .before .before .before .before .before .before .before .before .before .if1 .left in
+    let i = sym (c .before .before .before .before .before .before .before .before .is-there-in .ensures) ∙ not-false _ (e .if2 .left) in
+    let row = c .before .before .before .before .before .unpacked .ensures ∙ lent-row (st .pre .1 .0 .codes) (in-table e) in
     c .before .before .write-value .ensures
     ∙ ap (over (a .buffer .now) (a .at))
-    (rw (ap (λ (x : Attributes). x .form) (c .before .before .before .before .before .attributes-of .ensures), c .before .before .before .before .before .before .before .before .before .before .before .before .before .before .wide .ensures .0, c .before .before .before .before .value .ensures) (sym (of-present rows (a .store .now) (a .entry) _ t f i)))
+    (rw (ap (λ (x : Attributes). x .form) row, c .before .before .before .before .before .before .before .before .before .before .before .before .before .before .before .before .wide .ensures .0, c .before .before .before .before .value .ensures) (sym (of-present rows (a .store .now) (a .entry) _ t (row-at e) i)))
 
 pub write-entry-spec : {M : Type 1} → statement M
 write-entry-spec =
@@ -67,6 +84,8 @@ write-entry-spec =
     (λ c κs. search needs)
     (λ c. search needs)
     returns-3
+    (λ c. let h = in-table c in omega arith)
+    in-table
     (λ c κs. search needs)
     (λ c κs. search needs)
     (λ c κs. search needs)

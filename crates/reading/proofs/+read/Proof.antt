@@ -26,25 +26,25 @@ use Rattle.tlv.proofs.next.Reads as next-reads
 use Rattle.reading.proofs.+read.{statement}
 use Rattle.reading.proofs.+read.Tie.{close}
 
-abbrev μ-read : Measures 2 read-kinds.ps ℕ
+abbrev μ-read : Measures 5 read-kinds.ps ℕ
 μ-read κs a = a .1 .1 .0
 
-abbrev read-at : ℕ → In 2 read-kinds.ps
-read-at t = and 2 read-kinds.ps (is 2 read-kinds.ps μ-read t) read.Pre
+abbrev read-at : ℕ → In 5 read-kinds.ps
+read-at t = and 5 read-kinds.ps (is 5 read-kinds.ps μ-read t) read.Pre
 
-abbrev read-below : ℕ → In 2 read-kinds.ps
-read-below t = and 2 read-kinds.ps (falls 2 read-kinds.ps _<_ μ-read t) read.Pre
+abbrev read-below : ℕ → In 5 read-kinds.ps
+read-below t = and 5 read-kinds.ps (falls 5 read-kinds.ps _<_ μ-read t) read.Pre
 
 abbrev read-Inv-loop : read-lts.InvT-loop
-read-Inv-loop bytes around levels answer store₀ s₀ n₀ good₀ store s n good =
+read-Inv-loop bytes around levels answer store₀ tags codes places s₀ n₀ good₀ store s n good =
     ((r : Contents) (b : List ℕ) → Leaves answer around n (work good store) (parse levels s) r b
     → Leaves answer around n₀ (work good₀ store₀) (parse levels s₀) r b)
     × ((length store ≡ storeSize) × (2 * n + length s ≤ 2 * n₀ + length s₀))
 
 abbrev read-μ-loop : read-lts.MeasureT-loop
-read-μ-loop bytes around levels answer store₀ s₀ n₀ good₀ store s n good = length s
+read-μ-loop bytes around levels answer store₀ tags codes places s₀ n₀ good₀ store s n good = length s
 
-abbrev at : ℕ → (read-lts.Claims → In 2 read-kinds.ps → Out 2 read-kinds.ps read-kinds.r → read-lts.InvT-loop → read-lts.MeasureT-loop → Type 0) → Type 0
+abbrev at : ℕ → (read-lts.Claims → In 5 read-kinds.ps → Out 5 read-kinds.ps read-kinds.r → read-lts.InvT-loop → read-lts.MeasureT-loop → Type 0) → Type 0
 at t f = f (next-reads.Asked, next-reads.Learnt, read-below t, read.Post, take-next-reads.Asked, take-next-reads.Learnt) (read-at t) read.Post read-Inv-loop read-μ-loop
 
 -- where an object is next: its header lies inside what is left

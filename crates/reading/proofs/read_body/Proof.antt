@@ -27,14 +27,15 @@ as-it-was b w NotAllowed h = refl
 
 read-object-requires : tie.Need-read-object-requires
 read-object-requires c κs =
-    let st = c .before .before .before .before .before .before .before in
-    ap length (copied (st .args .store .now) _ _ (st .pre) (c .before .before .copy .ensures .1)) ∙ st .pre
+    let st = c .before .before .before .before .before .before .before .before .before .before .before .before .before in
+    let size = ap length (copied (st .args .store .now) _ _ (st .pre) (c .before .before .before .before .before .before .before .before .copy .ensures .1)) ∙ st .pre in
+    (size, (record { tags = c .before .before .before .before .before .before .tags .ensures; codes = c .before .before .before .before .before .codes .ensures }, c .before .before .before .before .row-places .ensures))
 
 returns : tie.Need-returns
 returns c =
-    let st = c .before .before .before .before .before .before .before .before .before in
+    let st = c .before .before .before .before .before .before .before .before .before .before .before .before .before .before .before in
     let r = c .before .read-object in
-    let e = copied (st .args .store .now) _ _ (st .pre) (c .before .before .before .before .copy .ensures .1) in
+    let e = copied (st .args .store .now) _ _ (st .pre) (c .before .before .before .before .before .before .before .before .before .before .copy .ensures .1) in
     let g = rw e at (r .ensures .0) in
     (restore (as-it-was _ _ (r .result .verdict) (c .match .keys2)) g, (st .pre, (r .ensures .1 .1, body-tree (st .args .awaited) (st .args .store .now) (st .args .body .now) g)))
 
@@ -46,9 +47,9 @@ copy-requires-2 c κs = omega (arith, c .before .before .before .before .read-ob
 
 returns-2 : tie.Need-returns-2
 returns-2 c =
-    let st = c .before .before .before .before .before .before .before .before .before .before .before .before .before .before .before in
+    let st = c .before .before .before .before .before .before .before .before .before .before .before .before .before .before .before .before .before .before .before .before .before in
     let r = c .before .before .before .before .before .before .before .read-object in
-    let e = copied (st .args .store .now) _ _ (st .pre) (c .before .before .before .before .before .before .before .before .before .before .copy .ensures .1) in
+    let e = copied (st .args .store .now) _ _ (st .pre) (c .before .before .before .before .before .before .before .before .before .before .before .before .before .before .before .before .copy .ensures .1) in
     let d = copied (r .last .0) _ _ (r .ensures .1 .0 ∙ sym (st .pre)) (c .before .before .copy2 .ensures .1) in
     let g = rw e at (r .ensures .0) in
     (restore (d ∙ sym (ap (storeAfter _ _) (c .before .before .before .before .before .enum-told .given .1))) g, (ap length d ∙ r .ensures .1 .0, (r .ensures .1 .1, body-tree (st .args .awaited) (st .args .store .now) (st .args .body .now) g)))
@@ -58,6 +59,9 @@ read-body-spec =
     tie.close
     (tie.spec
     (λ c. search needs)
+    (λ c κs. search needs)
+    (λ c κs. search needs)
+    (λ c κs. search needs)
     (λ c κs. search needs)
     read-object-requires
     (λ c. search needs)

@@ -22,7 +22,7 @@ returns c =
     let st = c .before .before .before .before .before in
     let a = st .args in
     let n : c .made .result .objects ≡ 0 = ap (λ (x : Reading). x .objects) (c .made .ensures) in
-    (gives Malformed 0 (storeAfter (a .work .now) _) (c .made .ensures) (body-read (a .awaited) (a .work .now) (a .body .now) (body-broken (a .body .now) (sym (c .before .before .before .head .ensures) ∙ c .before .enum-told .given .1))), (st .pre, omega arith))
+    (gives Malformed 0 (storeAfter (a .work .now) _) (c .made .ensures) (body-read (a .awaited) (a .work .now) (a .body .now) (body-broken (a .body .now) (sym (c .before .before .before .head .ensures) ∙ c .before .enum-told .given .1))), (st .pre .0, omega arith))
 
 add-e : tie.Need-add-e
 add-e c =
@@ -35,7 +35,7 @@ returns-2 c =
     let f = c .before .before .before .before .front .given in
     let e = sym (c .before .before .before .before .before .before .head .ensures) ∙ f .1 in
     let n : c .made2 .result .objects ≡ 0 = ap (λ (x : Reading). x .objects) (c .made2 .ensures) in
-    (gives Malformed 0 (storeAfter (a .work .now) _) (c .made2 .ensures) (body-read (a .awaited) (a .work .now) (a .body .now) (body-behind (a .body .now) (f .0 .0) e (c .before .if1 .taken))), (st .pre, omega arith))
+    (gives Malformed 0 (storeAfter (a .work .now) _) (c .made2 .ensures) (body-read (a .awaited) (a .work .now) (a .body .now) (body-behind (a .body .now) (f .0 .0) e (c .before .if1 .taken))), (st .pre .0, omega arith))
 
 returns-3 : tie.Need-returns-3
 returns-3 c =
@@ -80,7 +80,7 @@ read-object-spec =
     (λ c. search needs)
     (λ c. search needs)
     (λ c. search needs)
-    (λ c κs. search needs)
+    (λ c κs. (search needs, (search needs, (search needs, search needs))))
     returns-3
-    (λ c κs. search needs)
+    (λ c κs. (search needs, (search needs, search needs)))
     returns-4)

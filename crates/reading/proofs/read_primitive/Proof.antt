@@ -15,7 +15,7 @@ returns : tie.Need-returns
 returns c =
     let st = c .before .before .before in
     let a = st .args in
-    (gives Malformed 1 (storeAfter (a .work .now) _) (c .made .ensures) (ap (takenParts (a .awaited) (a .work .now) 1) (wrong-tag (a .tag) (a .value .now) (a .awaited) (c .before .if1 .taken))), (st .pre, ap (λ (x : Reading). x .objects) (c .made .ensures)))
+    (gives Malformed 1 (storeAfter (a .work .now) _) (c .made .ensures) (ap (takenParts (a .awaited) (a .work .now) 1) (wrong-tag (a .tag) (a .value .now) (a .awaited) (c .before .if1 .taken))), (st .pre .0, ap (λ (x : Reading). x .objects) (c .made .ensures)))
 
 returns-2 : tie.Need-returns-2
 returns-2 c =
@@ -31,7 +31,7 @@ returns-3 c =
     let a = st .args in (
       gives Malformed 1 (storeAfter (a .work .now) _) (c .made2 .ensures)
           (ap (λ (w : Awaited). takenParts w (a .work .now) 1 (primitiveParts w (a .tag) (a .value .now))) (c .before .enum-told2 .given .1) ∙ ap (takenParts _ (a .work .now) 1) (as-record (a .tag) (a .value .now) _)),
-      (st .pre, ap (λ (x : Reading). x .objects) (c .made2 .ensures)),
+      (st .pre .0, ap (λ (x : Reading). x .objects) (c .made2 .ensures)),
     )
 
 returns-4 : tie.Need-returns-4

@@ -68,7 +68,7 @@ read-template-spec =
     tie.close
     (tie.spec
     (λ c κs. search needs)
-    (λ c κs. search needs)
+    (λ c κs. (search needs, (search needs, (search needs, (search needs, search needs)))))
     (λ c. search needs)
     (λ c. search needs)
     (λ c κs. search needs)

@@ -37,14 +37,14 @@ returns-2 c =
 -- the working copy, where its objects are set
 set-objects-requires : tie.Need-set-objects-requires
 set-objects-requires c κs =
-    let k = c .before .before in
+    let k = c .before .before .before .before .before .before .before .before in
     let st = k .before .before .before .before .before .before .before .before in
-    ap length (same (st .args .store .now) (st .pre) (k .copy .ensures .1)) ∙ st .pre
+    (ap length (same (st .args .store .now) (st .pre) (k .copy .ensures .1)) ∙ st .pre, (record { tags = c .before .before .before .before .before .before .tags .ensures; codes = c .before .before .before .before .before .codes .ensures }, c .before .before .before .before .row-places .ensures))
 
 returns-3 : tie.Need-returns-3
 returns-3 c =
     let so = c .before .before in
-    let k = so .before .before .before in
+    let k = so .before .before .before .before .before .before .before .before .before in
     let r = k .before .before .before .before in
     let st = r .before .before .before .before in
     let a = st .args in (
@@ -58,7 +58,7 @@ returns-4 : tie.Need-returns-4
 returns-4 c =
     let b = c .before .before in
     let so = b .before .before .before in
-    let k = so .before .before .before in
+    let k = so .before .before .before .before .before .before .before .before .before in
     let r = k .before .before .before .before in
     let st = r .before .before .before .before in
     let a = st .args in (
@@ -73,7 +73,7 @@ same-length-3 : tie.Need-same-length-3
 same-length-3 c =
     let k = c .before .before in
     let so = k .before .before .before .before .before .before .before in
-    let st = so .before .before .before .before .before .before .before .before .before .before .before in
+    let st = so .before .before .before .before .before .before .before .before .before .before .before .before .before .before .before .before .before in
     ap length (copied (so .set-objects .last .1 .0) (st .args .store .now) _ (so .set-objects .ensures .1 ∙ sym (st .pre)) (k .copy2 .ensures .1)) ∙ so .set-objects .ensures .1 ∙ sym (st .pre)
 
 returns-5 : tie.Need-returns-5
@@ -81,7 +81,7 @@ returns-5 c =
     let k2 = c .before .before in
     let n = k2 .before .before .before in
     let so = n .before .before .before .before in
-    let k = so .before .before .before in
+    let k = so .before .before .before .before .before .before .before .before .before in
     let r = k .before .before .before .before in
     let st = r .before .before .before .before in
     let a = st .args in
@@ -103,6 +103,9 @@ load-spec =
     (λ c κs. search needs)
     returns-2
     (λ c. search needs)
+    (λ c κs. search needs)
+    (λ c κs. search needs)
+    (λ c κs. search needs)
     (λ c κs. search needs)
     set-objects-requires
     (λ c κs. search needs)

@@ -21,10 +21,10 @@ use Rattle.tlv.proofs.primitive.Reads as primitive
 use Rattle.terminal.proofs.set_object.Reads as set-object
 
 abbrev Inv-loop : tie.InvT-loop
-Inv-loop terminal store₀ s₀ store s = (setRun store₀ (primitives s₀) ≡ setRun store (primitives s)) × ((length store ≡ storeSize) × (length s ≤ length s₀))
+Inv-loop terminal store₀ tags codes places s₀ store s = (setRun store₀ (primitives s₀) ≡ setRun store (primitives s)) × ((length store ≡ storeSize) × (length s ≤ length s₀))
 
 abbrev μ-loop : tie.MeasureT-loop
-μ-loop terminal store₀ s₀ store s = length s
+μ-loop terminal store₀ tags codes places s₀ store s = length s
 
 -- where an object is next
 abbrev At-object : Type 0
@@ -70,7 +70,7 @@ set-objects-spec =
     (tie.spec
     Inv-loop
     μ-loop
-    (λ c. (refl, (c .before .pre, omega arith)))
+    (λ c. (refl, (c .before .pre .0, omega arith)))
     (λ c κs. search needs)
     (λ c. search needs)
     (λ c. search needs)
@@ -82,7 +82,7 @@ set-objects-spec =
     (λ c. let h = fits-at (c .before .before .before) in omega arith)
     (λ c. let h = fits-at (c .before .before .before) in omega arith)
     (λ c. omega arith)
-    (λ c κs. c .before .before .before .before .before .before .before .before .before .loop .inv .1 .0)
+    (λ c κs. (c .before .before .before .before .before .before .before .before .before .loop .inv .1 .0, c .before .before .before .before .before .before .before .before .before .before .before .pre .1))
     returns-2
     (λ c. let h = fits-at (c .before .before .before .before .before .before .before) in simp (length-take, length-drop) (omega arith))
     loop-again

@@ -1,0 +1,12 @@
+-- `dictionary::tags` meets its contract: the array is the rows' tags. Assumes nothing.
+use mathlib.Core.Path.{refl}
+use Rattle.dictionary.specs.Rows.{rows}
+use Rattle.dictionary.proofs.tags.Statement.{statement}
+use Rattle.dictionary.proofs.tags.Tie as tie
+
+returns : tie.Need-returns
+unfolding rows
+returns c = refl
+
+pub tags-spec : {M : Type 1} → statement M
+tags-spec = tie.close (tie.spec returns)
