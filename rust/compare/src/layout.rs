@@ -624,10 +624,14 @@ impl Draft {
             Damage::HalfPlacement => self.half = Some(rng.pick(&[record, record, 0, 255])),
             Damage::Content254 => self.fill(rng, record, 254),
             Damage::TwoRecords => {
-                let other = self.some_record(rng);
-                self.placements.extend([[record, 0], [other, 255]]);
-                let behind = self.count as u8 + 1;
-                self.some_piece(rng).records = vec![rng.pick(&[0, behind])];
+                if rng.one_in(2) {
+                    self.fill(rng, record, 254);
+                } else {
+                    self.placements.push([record, 0]);
+                }
+                let (other, behind) = (self.some_record(rng), self.count as u8 + 1);
+                let other = rng.pick(&[other, other, 0, behind]);
+                self.placements.push([other, 255]);
             }
             _ => {
                 self.fill(rng, record, 254);

@@ -5,9 +5,7 @@
 use crate::layout::{Damage, Drawn, Kind, Layout, DAMAGES};
 use crate::rng::Rng;
 use crate::step::Hex;
-use model::dictionary::{Setter, ROWS};
-use model::personalise;
-use model::tlv;
+use model::{personalise, tlv};
 use std::fmt::Write as _;
 
 /// The side that is compared with the model: the library's word.
@@ -175,7 +173,6 @@ fn edges(layout: &Layout, kind: Kind, left: &Left) -> [(&'static str, bool); 22]
     let written = |test: bool| kind == Kind::Written && test;
     let refused = |kind_due: Kind, test: bool| kind == kind_due && test;
     let objects: usize = contents.iter().map(|content| count(content)).sum();
-    let all = ROWS.iter().filter(|row| row.setter == Setter::Card70);
     let empty_value = |content: &&[u8]| {
         [[0x57, 0], [0x5A, 0], [0x8C, 0]]
             .iter()
@@ -194,7 +191,7 @@ fn edges(layout: &Layout, kind: Kind, left: &Left) -> [(&'static str, bool); 22]
             some_content(0) && objects > 0,
         ),
         ("no objects", written(objects == 0)),
-        ("all objects", objects == all.count()),
+        ("12 objects", objects >= 12),
         ("an empty value", contents.iter().any(empty_value)),
         (
             "lengths that become shorter",
@@ -252,7 +249,7 @@ fn moved(placements: &[u8]) -> bool {
         .any(|(i, a)| pairs[i..].iter().any(|b| a[0] == b[0] && a[1] > b[1]))
 }
 
-/// Draws one layout and makes the call on both sides; an error says what differs.
+/// Makes the call on both sides; an error says what differs.
 fn compare(drawn: &Drawn, reached: &mut Reached) -> Result<(), String> {
     let left = expected(&drawn.layout);
     let left_other = make(other, &drawn.layout);
