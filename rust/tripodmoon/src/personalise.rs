@@ -99,17 +99,17 @@ impl fmt::Display for Refusal {
             Refusal::RecordsBuffer => f.write_str("records buffer shorter than 32,768 bytes"),
             Refusal::LocatorBuffer => f.write_str("locator buffer shorter than 248 bytes"),
             Refusal::List => f.write_str(
-                "list: an object is malformed, not a card's in template 70, of a wrong length or digit, \
-                 there twice, or not placed exactly once",
+                "list: every object must be whole, of a tag for template 70, of a length and digits that fit, \
+                 there once and placed once",
             ),
             Refusal::Entry(number) => write!(
                 f,
-                "entry {number}: absent, cut short, the 63rd, of a wrong file, record number or byte 4, \
-                 with a record named before, or over 128 records"
+                "entry {number}: must be there, whole and among the first 62, byte 1 eight times a file 1 to 10, \
+                 first record not 0, last not below it, byte 4 zero, no record named before, at most 128 in all"
             ),
             Refusal::Record(number) => write!(
                 f,
-                "record {number}: not named by the locator, over 253 bytes, or given an object that the list does not have"
+                "record {number}: must be one of the locator's, hold objects of the list only, with at most 253 bytes of content"
             ),
         }
     }

@@ -87,6 +87,6 @@ fn words() {
     );
     assert_eq!(
         Refusal::Record(0).to_string(),
-        "record 0: not named by the locator, over 253 bytes, or given an object that the list does not have"
+        "record 0: must be one of the locator's, hold objects of the list only, with at most 253 bytes of content"
     );
 }
