@@ -1,0 +1,74 @@
+-- The rules of a personalisation, a clause for each (document 02, Item 4). It is written exactly where all of them hold.
+-- Assumes nothing.
+use mathlib.Core.Path.{_≡_}
+use mathlib.Core.Bool.{Bool, true, false, not}
+use mathlib.Core.List.{List, [], _∷_}
+use Prim.Native.Nat.{ℕ, _≤_}
+use lib.ListN.{length}
+use Rattle.basics.specs.Choice.{_and_, every}
+use Rattle.basics.specs.Number.{between}
+use Rattle.tlv.specs.Primitives.{Object, primitives, isRun}
+use Rattle.locator.specs.declared.Entry.{Entry}
+use Rattle.locator.specs.Records.{entries, wholeEntries, total}
+use Rattle.personalise.specs.declared.Placement.{Placement}
+use Rattle.personalise.specs.declared.Answer.{Answer}
+use Rattle.personalise.specs.declared.Answer.the-variants.{Written, ShortRecords, ShortLocator, BadList, BadEntry, BadRecord}
+use Rattle.personalise.specs.Objects.{settable, distinct, objectsOf}
+use Rattle.personalise.specs.Placements.{placementsIn, eachOnce}
+use Rattle.personalise.specs.Entries.{mostEntries, mostRecords, lowClear, fileRead, firstNamed, inOrder, noneOffline, meets}
+use Rattle.personalise.specs.Records.{contentOf, mostContent}
+use Rattle.personalise.specs.Outcome.{recordsRoom, locatorRoom}
+
+-- the list's objects, by its bytes
+abbrev pub listed : List ℕ → List Object
+listed objects = objectsOf (primitives objects)
+
+-- no two entries name a record both
+unfoldable pub allApart : List Entry → Bool
+allApart [] = true
+allApart (e ∷ es) = every (λ f. not (meets e f)) es and allApart es
+
+-- a placement's record is one of n
+abbrev pub recordNamed : ℕ → Placement → Bool
+recordNamed n p = between 1 (p .into) n
+
+-- a placement's object is one of n
+abbrev pub objectListed : ℕ → Placement → Bool
+objectListed n p = between 1 (p .object) n
+
+-- the rules, for objects, entries and placements in bytes and the lent records and locator
+pub record Kept (objects es placements lentRecords lentLocator : List ℕ) : Type 0 where
+  -- the buffers are large enough
+  pub recordsLent : recordsRoom ≤ length lentRecords
+  pub locatorLent : locatorRoom ≤ length lentLocator
+  -- the list: whole primitive objects that the card may set in template 70, lengths and digits fitting; no tag twice;
+  -- each object in one placement
+  pub run : isRun (primitives objects) ≡ true
+  pub settable : every settable (listed objects) ≡ true
+  pub distinct : distinct (listed objects) ≡ true
+  pub once : eachOnce (placementsIn placements) 1 (listed objects) ≡ true
+  -- the locator: 1 to 62 whole entries, each within its rules, no record named twice, 1 to 128 records
+  pub whole : wholeEntries es ≡ true
+  pub someEntry : 1 ≤ length (entries es)
+  pub fewEntries : length (entries es) ≤ mostEntries
+  pub lowBits : every lowClear (entries es) ≡ true
+  pub files : every fileRead (entries es) ≡ true
+  pub firsts : every firstNamed (entries es) ≡ true
+  pub lasts : every inOrder (entries es) ≡ true
+  pub byteFour : every noneOffline (entries es) ≡ true
+  pub apart : allApart (entries es) ≡ true
+  pub someRecord : 1 ≤ total es
+  pub fewRecords : total es ≤ mostRecords
+  -- the records: placements name records of the locator and objects of the list; each content is at most 253 bytes
+  pub named : every (recordNamed (total es)) (placementsIn placements) ≡ true
+  pub objectsThere : every (objectListed (length (listed objects))) (placementsIn placements) ≡ true
+  pub contents : (k : ℕ) → length (contentOf (listed objects) (placementsIn placements) k) ≤ mostContent
+
+-- an answer says that all is written
+abbrev pub isWritten : Answer → Bool
+isWritten (Written s) = true
+isWritten ShortRecords = false
+isWritten ShortLocator = false
+isWritten BadList = false
+isWritten (BadEntry i) = false
+isWritten (BadRecord k) = false

@@ -1,0 +1,73 @@
+-- The records of the card (document 02, Item 4): the bytes of each, and the least number of a bad one.
+-- Assumes nothing.
+use mathlib.Core.Bool.{Bool, true, false, not}
+use mathlib.Core.List.{List, [], _∷_, _++_}
+use Prim.Native.Nat.{ℕ, zero, suc}
+use lib.ListN.{length}
+use Rattle.basics.specs.Choice.{if_then_else_, _and_, _or_, _<?_, _=?_}
+use Rattle.basics.specs.Number.{between}
+use Rattle.tlv.specs.Primitives.{Object}
+use Rattle.tlv.specs.Encoding.{objectBytes}
+use Rattle.personalise.specs.declared.Placement.{Placement}
+use Rattle.personalise.specs.declared.Fault.{Fault}
+use Rattle.personalise.specs.declared.Fault.the-variants.{At, Nothing}
+use Rattle.personalise.specs.Objects.{recordTemplate}
+use Rattle.personalise.specs.Placements.{anyOf, objectsIn}
+
+-- ---- bytes
+
+-- objects one behind the other, each length in as few bytes as it can be
+unfoldable pub contentBytes : List Object → List ℕ
+contentBytes [] = []
+contentBytes (o ∷ os) = objectBytes (o .tag) (o .value) ++ contentBytes os
+
+-- what record k holds inside its template
+abbrev pub contentOf : List Object → List Placement → ℕ → List ℕ
+contentOf os ps k = contentBytes (objectsIn ps k os)
+
+-- record k: 70, the shortest length, its objects
+abbrev pub recordOf : List Object → List Placement → ℕ → List ℕ
+recordOf os ps k = objectBytes recordTemplate (contentOf os ps k)
+
+-- n records from number k on
+unfoldable pub recordsFrom : List Object → List Placement → ℕ → ℕ → List (List ℕ)
+recordsFrom os ps k zero = []
+recordsFrom os ps k (suc n) = recordOf os ps k ∷ recordsFrom os ps (suc k) n
+
+-- lists of bytes one behind the other
+unfoldable pub joined : List (List ℕ) → List ℕ
+joined [] = []
+joined (s ∷ ss) = s ++ joined ss
+
+-- ---- bad records
+
+-- the most bytes inside a record's template
+abbrev pub mostContent : ℕ
+mostContent = 253
+
+-- a placement's record is one of n, and its object one of the list
+abbrev pub inLayout : List Object → ℕ → Placement → Bool
+inLayout os n p = between 1 (p .into) n and between 1 (p .object) (length os)
+
+-- a placement names record k, which is none of n records, or with it an object that the list does not have
+unfoldable pub misplaced : List Object → List Placement → ℕ → ℕ → Bool
+misplaced os ps n k = anyOf (λ p. p .into =? k and not (inLayout os n p)) ps
+
+-- the content of record k is over 253 bytes
+abbrev pub overfull : List Object → List Placement → ℕ → Bool
+overfull os ps k = mostContent <? length (contentOf os ps k)
+
+-- record k is bad, of n records
+unfoldable pub badAt : List Object → List Placement → ℕ → ℕ → Bool
+badAt os ps n k = misplaced os ps n k or overfull os ps k
+
+-- the first of m numbers from k on that passes a test
+unfoldable pub firstOf : (ℕ → Bool) → ℕ → ℕ → Fault
+firstOf f k zero = Nothing
+firstOf f k (suc m) =
+    if f k then At k
+    else firstOf f (suc k) m
+
+-- the least bad record, of n: a placement's record is a byte, and n is at most 128
+unfoldable pub badRecord : List Object → List Placement → ℕ → Fault
+badRecord os ps n = firstOf (badAt os ps n) 0 256
