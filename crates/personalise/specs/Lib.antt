@@ -5,3 +5,4 @@ pub mod Records
 pub mod Outcome
 pub mod Clauses
 pub mod Read
+pub mod Inner

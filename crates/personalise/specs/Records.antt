@@ -45,13 +45,17 @@ joined (s ∷ ss) = s ++ joined ss
 abbrev pub mostContent : ℕ
 mostContent = 253
 
--- a placement's record is one of n, and its object one of the list
-abbrev pub inLayout : List Object → ℕ → Placement → Bool
-inLayout os n p = between 1 (p .into) n and between 1 (p .object) (length os)
+-- a placement's record is one of n, and its object one of m
+abbrev pub inLayout : ℕ → ℕ → Placement → Bool
+inLayout n m p = between 1 (p .into) n and between 1 (p .object) m
 
--- a placement names record k, which is none of n records, or with it an object that the list does not have
-unfoldable pub misplaced : List Object → List Placement → ℕ → ℕ → Bool
-misplaced os ps n k = anyOf (λ p. p .into =? k and not (inLayout os n p)) ps
+-- a placement names record k, and either the record is none of n or the object none of m
+abbrev pub strays : ℕ → ℕ → ℕ → Placement → Bool
+strays n m k p = p .into =? k and not (inLayout n m p)
+
+-- some placement does, of n records and m objects
+abbrev pub misplaced : List Placement → ℕ → ℕ → ℕ → Bool
+misplaced ps n m k = anyOf (strays n m k) ps
 
 -- the content of record k is over 253 bytes
 abbrev pub overfull : List Object → List Placement → ℕ → Bool
@@ -59,7 +63,7 @@ overfull os ps k = mostContent <? length (contentOf os ps k)
 
 -- record k is bad, of n records
 unfoldable pub badAt : List Object → List Placement → ℕ → ℕ → Bool
-badAt os ps n k = misplaced os ps n k or overfull os ps k
+badAt os ps n k = misplaced ps n (length os) k or overfull os ps k
 
 -- the first of m numbers from k on that passes a test
 unfoldable pub firstOf : (ℕ → Bool) → ℕ → ℕ → Fault

@@ -1,5 +1,14 @@
-// A list of objects written as a card's records and file locator, by a layout that is checked.
-use locator::Entry;
+// A list of objects written as a card's records and file locator, by a layout that is checked first.
+//
+// `personalise` takes the list, the proposed entries of the locator and the placements, and writes into two lent
+// buffers, or names what is refused and writes nothing. `emv_personalise` is the same for a host, with the answer as
+// one word. The tests are in `objects`, `entries` and `contents`, in the order of the refusals; `writing` writes.
+mod contents;
+mod entries;
+mod objects;
+mod placements;
+mod writing;
+
 ghost use mathlib.Core.Path.{_≡_};
 ghost use Rattle.personalise.specs.Outcome.{wordOf};
 

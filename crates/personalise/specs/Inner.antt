@@ -1,0 +1,56 @@
+-- What private functions promise, for their callers' proofs: runs of objects by parts, sizes up to a bound, and bytes
+-- written from a place on.
+-- No rule of document 02 stands here: a reader of the rules can pass it over. proofs/ ties it to the rules.
+-- Assumes nothing.
+use mathlib.Core.Path.{_≡_}
+use mathlib.Core.Bool.{Bool, true, false}
+use mathlib.Core.List.{List, _++_}
+use mathlib.Core.Option.{Option, some, none}
+use Prim.Native.Nat.{ℕ, _+_, min}
+use lib.ListN.{length, take, drop}
+use Rattle.basics.specs.Choice.{if_then_else_, _and_, every}
+use Rattle.basics.specs.Front.{inFront}
+use Rattle.tlv.specs.Primitives.{Object, primitives, isRun}
+use Rattle.tlv.specs.Encoding.{tagBytes, lengthBytes}
+use Rattle.personalise.specs.declared.Placement.{Placement}
+use Rattle.personalise.specs.Objects.{settable, lacksTag, distinct}
+use Rattle.personalise.specs.Placements.{anyOf, puts, eachOnce}
+use Rattle.personalise.specs.Clauses.{listed}
+
+-- ---- runs
+
+-- a run without a tag
+abbrev pub lacksIn : ℕ → Option (List Object) → Bool
+lacksIn t none = false
+lacksIn t (some os) = lacksTag t os
+
+-- a run that keeps the list's rules, its objects numbered from j on
+abbrev pub runKeeps : List Placement → ℕ → Option (List Object) → Bool
+runKeeps ps j none = false
+runKeeps ps j (some os) = every settable os and distinct os and eachOnce ps j os
+
+-- bytes that are a run, all of its objects settable
+abbrev pub Usable : List ℕ → Type 0
+Usable s = (isRun (primitives s) ≡ true) × (every settable (listed s) ≡ true)
+
+-- ---- sizes
+
+-- a size up to 253; any larger one counts as 254
+abbrev pub capped : ℕ → ℕ
+capped n = min n 254
+
+-- the size of an object by its tag and the length of its value
+abbrev pub objectSize : ℕ → ℕ → ℕ
+objectSize t n = length (tagBytes t) + (length (lengthBytes n) + n)
+
+-- the same for object j in record k; 0 where it does not stand there
+abbrev pub placedSize : List Placement → ℕ → ℕ → ℕ → ℕ → ℕ
+placedSize ps k j t n =
+    if anyOf (puts k j) ps then objectSize t n
+    else 0
+
+-- ---- bytes
+
+-- the bytes v written over s from a place on
+unfoldable pub over : List ℕ → ℕ → List ℕ → List ℕ
+over s at v = take at s ++ inFront v (drop at s)
