@@ -37,7 +37,7 @@ pub fn bad_entry(entries: &[u8]) -> Fault
 // How many records some entries name.
 pub fn count_records(entries: &[u8]) -> usize
     requires { ⌜ length (now entries) ≤ 248 ⌝ }
-    ensures { λ r. ⌜ r ≡ total (now (entries .entry)) ⌝ }
+    ensures { λ r. ⌜ (r ≡ total (now (entries .entry))) × (r ≤ 15872) ⌝ }
 {
     let mut rest = entries;
     let mut total: usize = 0;

@@ -1,83 +1,53 @@
+-- `entries::bad_entry` meets its contract. The invariant: the first bad entry of the whole is that of what is left behind those passed,
+-- which are whole. The measure is the length of what is left. Assumes nothing.
+use borrow.Author.Needs.{needs}
+use borrow.Author.Tests.{not-true, not-false}
+use mathlib.Core.Path.{_≡_, refl, sym, ap, _∙_}
+use Prim.Native.Nat.{ℕ, _-_, _%_, _≤_}
+use native.Mathlib.Omega.{arith}
+use lib.ListN.{length, take, drop, length-take, length-drop}
+use Rattle.locator.specs.Records.{entries, wholeEntries}
+use Rattle.personalise.specs.Entries.{badFrom, badEntry}
+use Rattle.personalise.proofs.Proposed.{bad-start, bad-here, bad-on, bad-cut, bad-none, bad-nothing}
 use Rattle.personalise.proofs.entries.bad_entry.Statement.{statement}
 use Rattle.personalise.proofs.entries.bad_entry.Tie as tie
-use Rattle.personalise.proofs.entries.bad_entry.Reads as reads
-use Rattle.personalise.proofs.entries.bad_entry.Lts as lts
-use Rattle.personalise.proofs.entries.front.Reads as front-reads
-use Rattle.personalise.proofs.entries.keeps_behind.Reads as keeps-behind-reads
 
 abbrev Inv-loop : tie.InvT-loop
-Inv-loop entries at₀ at = ?
+Inv-loop s at₀ at = (badEntry s ≡ badFrom (entries (take at s)) (entries (drop at s)) (wholeEntries s)) × (at % 4 ≡ 0) × (at ≤ length s)
 
 abbrev μ-loop : tie.MeasureT-loop
-μ-loop entries at₀ at = ?
+μ-loop s at₀ at = length s - at
 
--- src/entries.rt:21:5
-loop-holds : tie.Need-loop-holds Inv-loop μ-loop
-loop-holds c = ?
-
--- src/entries.rt:21:16
-sub-loop : tie.Need-sub-loop Inv-loop μ-loop
-sub-loop c = ?
-
--- src/entries.rt:22:23
-sub-front : tie.Need-sub-front Inv-loop μ-loop
-sub-front c = ?
-
--- src/entries.rt:22:23
-part-front-start : tie.Need-part-front-start Inv-loop μ-loop
-part-front-start c = ?
-
--- src/entries.rt:22:23
-part-front-end : tie.Need-part-front-end Inv-loop μ-loop
-part-front-end c = ?
-
--- src/entries.rt:22:13
-front-requires : tie.Need-front-requires Inv-loop μ-loop
-front-requires c κs = ?
-
--- src/entries.rt:23:26
-slice-aggregate-keeps-behind : tie.Need-slice-aggregate-keeps-behind Inv-loop μ-loop
-slice-aggregate-keeps-behind c = ?
-
--- src/entries.rt:23:13
-keeps-behind-requires : tie.Need-keeps-behind-requires Inv-loop μ-loop
-keeps-behind-requires c κs = ?
-
--- src/entries.rt:24:30
-add-t14 : tie.Need-add-t14 Inv-loop μ-loop
-add-t14 c = ?
-
--- src/entries.rt:24:13
 returns : tie.Need-returns Inv-loop μ-loop
-returns c = ?
+returns c =
+    let k = c .before in
+    let f = k .before .before in
+    let lp = f .before .before .before .loop in
+    sym (lp .inv .0 ∙ bad-here _ _ (lp .inv .1) (lp .inv .2) (f .before .before .loop-test .taken) _ (f .front .ensures) (sym (k .keeps-behind .ensures) ∙ not-true _ (c .if1 .taken)))
 
--- src/entries.rt:26:9
-add-at : tie.Need-add-at Inv-loop μ-loop
-add-at c = ?
-
--- src/entries.rt:21:5
-loop-less : tie.Need-loop-less Inv-loop μ-loop
-loop-less c = ?
-
--- src/entries.rt:21:5
 loop-again : tie.Need-loop-again Inv-loop μ-loop
-loop-again c = ?
+loop-again c =
+    let k = c .before in
+    let f = k .before .before in
+    let lp = f .before .before .before .loop in
+    (lp .inv .0 ∙ bad-on _ _ (lp .inv .1) (lp .inv .2) (f .before .before .loop-test .taken) _ (f .front .ensures) (sym (k .keeps-behind .ensures) ∙ not-false _ (c .if1 .left)), omega arith, omega arith)
 
--- src/entries.rt:29:26
-add-t18 : tie.Need-add-t18 Inv-loop μ-loop
-add-t18 c = ?
-
--- src/entries.rt:29:9
 returns-2 : tie.Need-returns-2 Inv-loop μ-loop
-returns-2 c = ?
+returns-2 c =
+    let lp = c .before .before .loop in
+    sym (lp .inv .0 ∙ bad-cut _ _ (lp .inv .1) (lp .inv .2) (c .before .loop-test .left) (c .if2 .taken))
 
--- src/entries.rt:32:9
 returns-3 : tie.Need-returns-3 Inv-loop μ-loop
-returns-3 c = ?
+returns-3 c =
+    let l = c .before .before in
+    let lp = l .before .loop in
+    sym (lp .inv .0 ∙ bad-none _ _ (lp .inv .1) (lp .inv .2) (l .loop-test .left) (c .if3 .taken))
 
--- src/entries.rt:17:1
 returns-4 : tie.Need-returns-4 Inv-loop μ-loop
-returns-4 c = ?
+returns-4 c =
+    let l = c .before .before in
+    let lp = l .before .loop in
+    sym (lp .inv .0 ∙ bad-nothing _ _ (lp .inv .1) (lp .inv .2) (l .loop-test .left) (c .before .if2 .left) (c .if3 .left))
 
 pub bad-entry-spec : {M : Type 1} → statement M
 bad-entry-spec =
@@ -85,20 +55,20 @@ bad-entry-spec =
     (tie.spec
     Inv-loop
     μ-loop
-    loop-holds
-    sub-loop
-    sub-front
-    part-front-start
-    part-front-end
-    front-requires
-    slice-aggregate-keeps-behind
-    keeps-behind-requires
-    add-t14
+    (λ c. (bad-start _, omega arith, omega arith))
+    (λ c. omega arith)
+    (λ c. omega arith)
+    (λ c. omega arith)
+    (λ c. omega arith)
+    (λ c κs. simp (length-take, length-drop) (omega arith))
+    (λ c. simp length-take (omega arith))
+    (λ c κs. simp length-take (omega arith))
+    (λ c. omega arith)
     returns
-    add-at
-    loop-less
+    (λ c. omega arith)
+    (λ c. omega arith)
     loop-again
-    add-t18
+    (λ c. omega arith)
     returns-2
     returns-3
     returns-4)

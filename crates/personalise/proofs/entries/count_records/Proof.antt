@@ -1,55 +1,35 @@
+-- `entries::count_records` meets its contract. The invariant: the count so far and that of what is left are that of the whole; each
+-- entry names at most 256. The measure is the length of what is left. Assumes nothing.
+use borrow.Author.Needs.{needs}
+use mathlib.Core.Path.{_≡_, refl, sym, _∙_}
+use Prim.Native.Nat.{ℕ, _+_, _*_, _≤_}
+use native.Mathlib.Omega.{arith}
+use lib.ListN.{length, length-take, length-drop}
+use Rattle.locator.specs.Records.{total}
+use Rattle.personalise.proofs.Proposed.{tail-less, total-end, total-on}
 use Rattle.personalise.proofs.entries.count_records.Statement.{statement}
 use Rattle.personalise.proofs.entries.count_records.Tie as tie
-use Rattle.personalise.proofs.entries.count_records.Reads as reads
-use Rattle.personalise.proofs.entries.count_records.Lts as lts
-use Rattle.personalise.proofs.entries.count.Reads as count-reads
-use Rattle.personalise.proofs.entries.front.Reads as front-reads
 
 abbrev Inv-loop : tie.InvT-loop
-Inv-loop entries rest₀ total₀ rest total = ?
+Inv-loop entries rest₀ total₀ rest n = (total₀ + total rest₀ ≡ n + total rest) × (n + 64 * length rest ≤ 64 * length rest₀)
 
 abbrev μ-loop : tie.MeasureT-loop
-μ-loop entries rest₀ total₀ rest total = ?
+μ-loop entries rest₀ total₀ rest n = length rest
 
--- src/entries.rt:44:5
-loop-holds : tie.Need-loop-holds Inv-loop μ-loop
-loop-holds c = ?
-
--- src/entries.rt:45:13
-front-requires : tie.Need-front-requires Inv-loop μ-loop
-front-requires c κs = ?
-
--- src/entries.rt:46:18
-count-requires : tie.Need-count-requires Inv-loop μ-loop
-count-requires c κs = ?
-
--- src/entries.rt:46:9
-add-total : tie.Need-add-total Inv-loop μ-loop
-add-total c = ?
-
--- src/entries.rt:47:16
-sub-rest : tie.Need-sub-rest Inv-loop μ-loop
-sub-rest c = ?
-
--- src/entries.rt:47:16
-part-rest-start : tie.Need-part-rest-start Inv-loop μ-loop
-part-rest-start c = ?
-
--- src/entries.rt:47:16
-part-rest-end : tie.Need-part-rest-end Inv-loop μ-loop
-part-rest-end c = ?
-
--- src/entries.rt:44:5
 loop-less : tie.Need-loop-less Inv-loop μ-loop
-loop-less c = ?
+loop-less c =
+    let f = c .before .before in
+    tail-less (f .before .before .loop .rest .now) (f .before .loop-test .taken) _ (f .front .ensures)
 
--- src/entries.rt:44:5
 loop-again : tie.Need-loop-again Inv-loop μ-loop
-loop-again c = ?
-
--- src/entries.rt:38:1
-returns : tie.Need-returns Inv-loop μ-loop
-returns c = ?
+loop-again c =
+    let n = c .before in
+    let f = n .before in
+    let lp = f .before .before .loop in
+    let h = f .before .loop-test .taken in (
+      lp .inv .0 ∙ total-on _ h _ (f .front .ensures) (lp .total) _ (n .count .ensures .0),
+      simp (length-take, length-drop) (omega (arith, lp .inv .1, n .count .ensures .1)),
+    )
 
 pub count-records-spec : {M : Type 1} → statement M
 count-records-spec =
@@ -57,13 +37,13 @@ count-records-spec =
     (tie.spec
     Inv-loop
     μ-loop
-    loop-holds
-    front-requires
-    count-requires
-    add-total
-    sub-rest
-    part-rest-start
-    part-rest-end
+    (λ c. (refl, omega arith))
+    (λ c κs. omega arith)
+    (λ c κs. search needs)
+    (λ c. omega arith)
+    (λ c. omega arith)
+    (λ c. omega arith)
+    (λ c. omega arith)
     loop-less
     loop-again
-    returns)
+    (λ c. (omega (arith, c .before .loop .inv .0, total-end (c .before .loop .rest .now) (c .loop-test .left)), omega arith)))

@@ -1,55 +1,36 @@
+-- `entries::is_apart` meets its contract. The invariant: the entry is apart from what is left exactly where it is from the whole.
+-- The measure is the length of what is left. Assumes nothing.
+use borrow.Author.Needs.{needs}
+use mathlib.Core.Path.{_≡_, refl, sym, _∙_}
+use native.Mathlib.Omega.{arith}
+use lib.ListN.{length}
+use Rattle.locator.specs.Records.{entries}
+use Rattle.personalise.specs.Entries.{apartFrom}
+use Rattle.personalise.proofs.Proposed.{tail-less, apart-end, apart-no, apart-on}
 use Rattle.personalise.proofs.entries.is_apart.Statement.{statement}
 use Rattle.personalise.proofs.entries.is_apart.Tie as tie
-use Rattle.personalise.proofs.entries.is_apart.Reads as reads
-use Rattle.personalise.proofs.entries.is_apart.Lts as lts
-use Rattle.personalise.proofs.entries.front.Reads as front-reads
-use Rattle.personalise.proofs.entries.meets.Reads as meets-reads
 
 abbrev Inv-loop : tie.InvT-loop
-Inv-loop before e rest₀ rest = ?
+Inv-loop before e rest₀ rest = apartFrom (entries rest₀) e ≡ apartFrom (entries rest) e
 
 abbrev μ-loop : tie.MeasureT-loop
-μ-loop before e rest₀ rest = ?
+μ-loop before e rest₀ rest = length rest
 
--- src/entries.rt:74:5
-loop-holds : tie.Need-loop-holds Inv-loop μ-loop
-loop-holds c = ?
-
--- src/entries.rt:75:13
-front-requires : tie.Need-front-requires Inv-loop μ-loop
-front-requires c κs = ?
-
--- src/entries.rt:76:12
-meets-requires : tie.Need-meets-requires Inv-loop μ-loop
-meets-requires c κs = ?
-
--- src/entries.rt:77:13
 returns : tie.Need-returns Inv-loop μ-loop
-returns c = ?
+returns c =
+    let f = c .before .before in
+    sym (f .before .before .loop .inv ∙ apart-no _ (f .before .loop-test .taken) _ (f .front .ensures) _ (sym (c .before .meets .ensures) ∙ c .if1 .taken))
 
--- src/entries.rt:79:16
-sub-rest : tie.Need-sub-rest Inv-loop μ-loop
-sub-rest c = ?
-
--- src/entries.rt:79:16
-part-rest-start : tie.Need-part-rest-start Inv-loop μ-loop
-part-rest-start c = ?
-
--- src/entries.rt:79:16
-part-rest-end : tie.Need-part-rest-end Inv-loop μ-loop
-part-rest-end c = ?
-
--- src/entries.rt:74:5
 loop-less : tie.Need-loop-less Inv-loop μ-loop
-loop-less c = ?
+loop-less c =
+    let f = c .before .before .before in
+    tail-less (f .before .before .loop .rest .now) (f .before .loop-test .taken) _ (f .front .ensures)
 
--- src/entries.rt:74:5
 loop-again : tie.Need-loop-again Inv-loop μ-loop
-loop-again c = ?
-
--- src/entries.rt:70:1
-returns-2 : tie.Need-returns-2 Inv-loop μ-loop
-returns-2 c = ?
+loop-again c =
+    let m = c .before .before in
+    let f = m .before in
+    f .before .before .loop .inv ∙ apart-on _ (f .before .loop-test .taken) _ (f .front .ensures) _ (sym (m .meets .ensures) ∙ c .before .if1 .left)
 
 pub is-apart-spec : {M : Type 1} → statement M
 is-apart-spec =
@@ -57,13 +38,13 @@ is-apart-spec =
     (tie.spec
     Inv-loop
     μ-loop
-    loop-holds
-    front-requires
-    meets-requires
+    (λ c. refl)
+    (λ c κs. omega arith)
+    (λ c κs. search needs)
     returns
-    sub-rest
-    part-rest-start
-    part-rest-end
+    (λ c. omega arith)
+    (λ c. omega arith)
+    (λ c. omega arith)
     loop-less
     loop-again
-    returns-2)
+    (λ c. sym (c .before .loop .inv ∙ apart-end _ _ (c .loop-test .left))))

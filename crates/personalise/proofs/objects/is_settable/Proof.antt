@@ -1,48 +1,34 @@
+-- `objects::is_settable` meets its contract: by the tag's row, if it has one.
+-- Assumes nothing.
 use borrow.Author.Needs.{needs}
+use mathlib.Core.Path.{_≡_, sym, ap, _∙_}
+use Rattle.dictionary.specs.declared.Found.{Found}
+use Rattle.dictionary.specs.Rows.{rowAt, cardRecord}
+use Rattle.reading.proofs.Laws.{row-comes}
+use Rattle.personalise.specs.Objects.{recordTemplate, settableFound, settable}
 use Rattle.personalise.proofs.objects.is_settable.Statement.{statement}
 use Rattle.personalise.proofs.objects.is_settable.Tie as tie
-use Rattle.personalise.proofs.objects.is_settable.Reads as reads
-use Rattle.personalise.proofs.objects.is_settable.Lts as lts
-use Rattle.dictionary.proofs.attributes_of.Reads as attributes-of-reads
-use Rattle.dictionary.proofs.lookup.Reads as lookup-reads
-use Rattle.personalise.proofs.objects.may_come.Reads as may-come-reads
 
--- src/objects.rt:91:9
-lookup-requires : tie.Need-lookup-requires
-lookup-requires c κs = search needs
-
--- src/objects.rt:92:19
-enum-known-found : tie.Need-enum-known-found
-enum-known-found c = search needs
-
--- src/objects.rt:93:9
-enum-told : tie.Need-enum-told
-enum-told c = search needs
-
--- src/objects.rt:93:9
 returns : tie.Need-returns
-returns c = ?
+unfolding settable
+returns c = sym (ap (λ (x : Found). settableFound x _) (sym (c .before .before .lookup .ensures .0) ∙ c .enum-told .given .1))
 
--- src/objects.rt:95:9
-attributes-of-requires : tie.Need-attributes-of-requires
-attributes-of-requires c κs = search needs
-
--- src/objects.rt:96:5
-may-come-requires : tie.Need-may-come-requires
-may-come-requires c κs = search needs
-
--- src/objects.rt:88:1
 returns-2 : tie.Need-returns-2
-returns-2 c = ?
+unfolding settable
+returns-2 c =
+    let k = c .before in
+    let f = k .before .before in
+    row-comes cardRecord (rowAt _) recordTemplate _ (c .may-come .ensures) (k .attributes-of .ensures)
+    ∙ sym (ap (λ (x : Found). settableFound x _) (sym (f .before .before .lookup .ensures .0) ∙ f .found .given .1))
 
 pub is-settable-spec : {M : Type 1} → statement M
 is-settable-spec =
     tie.close
     (tie.spec
-    lookup-requires
-    enum-known-found
-    enum-told
+    (λ c κs. search needs)
+    (λ c. search needs)
+    (λ c. search needs)
     returns
-    attributes-of-requires
-    may-come-requires
+    (λ c κs. search needs)
+    (λ c κs. search needs)
     returns-2)
