@@ -23,42 +23,43 @@ use Rattle.personalise.specs.Objects.{settable, lacksTag, distinct}
 use Rattle.personalise.specs.Placements.{placementsIn, countOf, anyOf, eachOnce, objectsFrom}
 use Rattle.personalise.specs.Entries.{apartFrom, roomBehind, keepsAlone, keepsBehind, badEnd, badFrom, badEntry}
 use Rattle.personalise.specs.Records.{contentBytes, recordsFrom, joined, badAt, firstOf, badRecord}
-use Rattle.personalise.specs.Outcome.{listKeeps, Outcome, outcome, afterBuffers}
+use Rattle.personalise.specs.Outcome.{listKeeps, afterBuffers, recordsLeft, locatorLeft}
 
--- objects, entries and placements
-abbrev done : List ℕ → List ℕ → List ℕ → Outcome
-done objects es placements = afterBuffers (primitives objects) (placementsIn placements) es [] []
-
--- the answer alone
+-- the answer to objects, entries and placements
 abbrev said : List ℕ → List ℕ → List ℕ → Answer
-said objects es placements = done objects es placements .answer
+said objects es placements = afterBuffers (primitives objects) (placementsIn placements) es
+
+-- the answer, with the records and the locator that are left of no bytes
+abbrev done : List ℕ → List ℕ → List ℕ → Answer × List ℕ × List ℕ
+done objects es placements =
+    (said objects es placements, recordsLeft (said objects es placements) objects es placements [], locatorLeft (said objects es placements) es [])
 
 -- records of this length and a locator of that
 abbrev sizes : ℕ → ℕ → Answer
 sizes n m = Written (record { records = n; locator = m })
 
 -- two objects in one record
-two : done (0x9F ∷ 0x08 ∷ 0x02 ∷ 0x00 ∷ 0x02 ∷ 0x5F ∷ 0x24 ∷ 0x03 ∷ 0x49 ∷ 0x12 ∷ 0x31 ∷ []) (0x08 ∷ 0x01 ∷ 0x01 ∷ 0x00 ∷ []) (0x01 ∷ 0x01 ∷ 0x01 ∷ 0x02 ∷ []) ≡ outcome (sizes 13 4) (0x70 ∷ 0x0B ∷ 0x9F ∷ 0x08 ∷ 0x02 ∷ 0x00 ∷ 0x02 ∷ 0x5F ∷ 0x24 ∷ 0x03 ∷ 0x49 ∷ 0x12 ∷ 0x31 ∷ []) (0x08 ∷ 0x01 ∷ 0x01 ∷ 0x00 ∷ [])
+two : done (0x9F ∷ 0x08 ∷ 0x02 ∷ 0x00 ∷ 0x02 ∷ 0x5F ∷ 0x24 ∷ 0x03 ∷ 0x49 ∷ 0x12 ∷ 0x31 ∷ []) (0x08 ∷ 0x01 ∷ 0x01 ∷ 0x00 ∷ []) (0x01 ∷ 0x01 ∷ 0x01 ∷ 0x02 ∷ []) ≡ (sizes 13 4, (0x70 ∷ 0x0B ∷ 0x9F ∷ 0x08 ∷ 0x02 ∷ 0x00 ∷ 0x02 ∷ 0x5F ∷ 0x24 ∷ 0x03 ∷ 0x49 ∷ 0x12 ∷ 0x31 ∷ []), (0x08 ∷ 0x01 ∷ 0x01 ∷ 0x00 ∷ []))
 unfolding primitives recurse recurseBy primitiveOf withObject headerOf tagAt tagSize secondByte thirdByte lengthAt oneByte firstByte isTemplate isPrivate numberFrom nibbles if both either every rows past find mayCome mayStand fitting numeric digitsFit compressed digitsThenFs tagBytes lengthBytes settable lacksTag distinct placementsIn countOf anyOf eachOnce objectsFrom entries wholeEntries sumOf apartFrom roomBehind keepsAlone keepsBehind badEnd badFrom badEntry contentBytes recordsFrom joined badAt firstOf badRecord listKeeps
 two = refl
 
 -- the list decides the order within a record, the placements do not
-order : done (0x57 ∷ 0x02 ∷ 0xAA ∷ 0xBB ∷ 0x5A ∷ 0x01 ∷ 0x1F ∷ 0x8C ∷ 0x03 ∷ 0x9F ∷ 0x37 ∷ 0x04 ∷ []) (0x10 ∷ 0x01 ∷ 0x01 ∷ 0x00 ∷ 0x08 ∷ 0x05 ∷ 0x05 ∷ 0x00 ∷ []) (0x02 ∷ 0x03 ∷ 0x01 ∷ 0x02 ∷ 0x02 ∷ 0x01 ∷ []) ≡ outcome (sizes 16 8) (0x70 ∷ 0x03 ∷ 0x5A ∷ 0x01 ∷ 0x1F ∷ 0x70 ∷ 0x09 ∷ 0x57 ∷ 0x02 ∷ 0xAA ∷ 0xBB ∷ 0x8C ∷ 0x03 ∷ 0x9F ∷ 0x37 ∷ 0x04 ∷ []) (0x10 ∷ 0x01 ∷ 0x01 ∷ 0x00 ∷ 0x08 ∷ 0x05 ∷ 0x05 ∷ 0x00 ∷ [])
+order : done (0x57 ∷ 0x02 ∷ 0xAA ∷ 0xBB ∷ 0x5A ∷ 0x01 ∷ 0x1F ∷ 0x8C ∷ 0x03 ∷ 0x9F ∷ 0x37 ∷ 0x04 ∷ []) (0x10 ∷ 0x01 ∷ 0x01 ∷ 0x00 ∷ 0x08 ∷ 0x05 ∷ 0x05 ∷ 0x00 ∷ []) (0x02 ∷ 0x03 ∷ 0x01 ∷ 0x02 ∷ 0x02 ∷ 0x01 ∷ []) ≡ (sizes 16 8, (0x70 ∷ 0x03 ∷ 0x5A ∷ 0x01 ∷ 0x1F ∷ 0x70 ∷ 0x09 ∷ 0x57 ∷ 0x02 ∷ 0xAA ∷ 0xBB ∷ 0x8C ∷ 0x03 ∷ 0x9F ∷ 0x37 ∷ 0x04 ∷ []), (0x10 ∷ 0x01 ∷ 0x01 ∷ 0x00 ∷ 0x08 ∷ 0x05 ∷ 0x05 ∷ 0x00 ∷ []))
 unfolding primitives recurse recurseBy primitiveOf withObject headerOf tagAt tagSize secondByte thirdByte lengthAt oneByte firstByte isTemplate isPrivate numberFrom nibbles if both either every rows past find mayCome mayStand fitting numeric digitsFit compressed digitsThenFs tagBytes lengthBytes settable lacksTag distinct placementsIn countOf anyOf eachOnce objectsFrom entries wholeEntries sumOf apartFrom roomBehind keepsAlone keepsBehind badEnd badFrom badEntry contentBytes recordsFrom joined badAt firstOf badRecord listKeeps
 order = refl
 
 -- no objects: empty records
-empty : done [] (0x08 ∷ 0x01 ∷ 0x02 ∷ 0x00 ∷ []) [] ≡ outcome (sizes 4 4) (0x70 ∷ 0x00 ∷ 0x70 ∷ 0x00 ∷ []) (0x08 ∷ 0x01 ∷ 0x02 ∷ 0x00 ∷ [])
+empty : done [] (0x08 ∷ 0x01 ∷ 0x02 ∷ 0x00 ∷ []) [] ≡ (sizes 4 4, (0x70 ∷ 0x00 ∷ 0x70 ∷ 0x00 ∷ []), (0x08 ∷ 0x01 ∷ 0x02 ∷ 0x00 ∷ []))
 unfolding primitives recurse recurseBy primitiveOf withObject headerOf tagAt tagSize secondByte thirdByte lengthAt oneByte firstByte isTemplate isPrivate numberFrom nibbles if both either every rows past find mayCome mayStand fitting numeric digitsFit compressed digitsThenFs tagBytes lengthBytes settable lacksTag distinct placementsIn countOf anyOf eachOnce objectsFrom entries wholeEntries sumOf apartFrom roomBehind keepsAlone keepsBehind badEnd badFrom badEntry contentBytes recordsFrom joined badAt firstOf badRecord listKeeps
 empty = refl
 
 -- a length in two bytes is written in one
-shortest : done (0x57 ∷ 0x81 ∷ 0x02 ∷ 0xAA ∷ 0xBB ∷ []) (0x08 ∷ 0x01 ∷ 0x01 ∷ 0x00 ∷ []) (0x01 ∷ 0x01 ∷ []) ≡ outcome (sizes 6 4) (0x70 ∷ 0x04 ∷ 0x57 ∷ 0x02 ∷ 0xAA ∷ 0xBB ∷ []) (0x08 ∷ 0x01 ∷ 0x01 ∷ 0x00 ∷ [])
+shortest : done (0x57 ∷ 0x81 ∷ 0x02 ∷ 0xAA ∷ 0xBB ∷ []) (0x08 ∷ 0x01 ∷ 0x01 ∷ 0x00 ∷ []) (0x01 ∷ 0x01 ∷ []) ≡ (sizes 6 4, (0x70 ∷ 0x04 ∷ 0x57 ∷ 0x02 ∷ 0xAA ∷ 0xBB ∷ []), (0x08 ∷ 0x01 ∷ 0x01 ∷ 0x00 ∷ []))
 unfolding primitives recurse recurseBy primitiveOf withObject headerOf tagAt tagSize secondByte thirdByte lengthAt oneByte firstByte isTemplate isPrivate numberFrom nibbles if both either every rows past find mayCome mayStand fitting numeric digitsFit compressed digitsThenFs tagBytes lengthBytes settable lacksTag distinct placementsIn countOf anyOf eachOnce objectsFrom entries wholeEntries sumOf apartFrom roomBehind keepsAlone keepsBehind badEnd badFrom badEntry contentBytes recordsFrom joined badAt firstOf badRecord listKeeps
 shortest = refl
 
 -- a content of 253 bytes
-fullest : done (0x8C ∷ 0x81 ∷ 0xFA ∷ replicate 250 0) (0x08 ∷ 0x01 ∷ 0x01 ∷ 0x00 ∷ []) (0x01 ∷ 0x01 ∷ []) ≡ outcome (sizes 256 4) (0x70 ∷ 0x81 ∷ 0xFD ∷ 0x8C ∷ 0x81 ∷ 0xFA ∷ replicate 250 0) (0x08 ∷ 0x01 ∷ 0x01 ∷ 0x00 ∷ [])
+fullest : done (0x8C ∷ 0x81 ∷ 0xFA ∷ replicate 250 0) (0x08 ∷ 0x01 ∷ 0x01 ∷ 0x00 ∷ []) (0x01 ∷ 0x01 ∷ []) ≡ (sizes 256 4, (0x70 ∷ 0x81 ∷ 0xFD ∷ 0x8C ∷ 0x81 ∷ 0xFA ∷ replicate 250 0), (0x08 ∷ 0x01 ∷ 0x01 ∷ 0x00 ∷ []))
 unfolding primitives recurse recurseBy primitiveOf withObject headerOf tagAt tagSize secondByte thirdByte lengthAt oneByte firstByte isTemplate isPrivate numberFrom nibbles if both either every rows past find mayCome mayStand fitting numeric digitsFit compressed digitsThenFs tagBytes lengthBytes settable lacksTag distinct placementsIn countOf anyOf eachOnce objectsFrom entries wholeEntries sumOf apartFrom roomBehind keepsAlone keepsBehind badEnd badFrom badEntry contentBytes recordsFrom joined badAt firstOf badRecord listKeeps
 fullest = refl
 

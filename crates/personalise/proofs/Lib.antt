@@ -2,3 +2,5 @@ pub mod Examples
 pub mod Placed
 pub mod Proposed
 pub mod Listed
+pub mod Forms
+pub mod Least

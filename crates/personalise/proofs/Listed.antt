@@ -26,7 +26,7 @@ use Rattle.personalise.specs.declared.Placement.{Placement}
 use Rattle.personalise.specs.Objects.{recordTemplate, settableFound, settable, lacksTag, distinct, objectsOf}
 use Rattle.personalise.specs.Placements.{countOf, anyOf, ofObject, puts, eachOnce, objectsFrom}
 use Rattle.personalise.specs.Records.{contentBytes}
-use Rattle.personalise.specs.Clauses.{listed}
+use Rattle.personalise.specs.Outcome.{listed}
 use Rattle.personalise.specs.Inner.{lacksIn, runKeeps, objectSize, placedSize}
 
 -- ---- one object
@@ -172,3 +172,14 @@ content-length ps k j o os =
         omega (arith, a, b)
       )
     ]
+
+-- the same by the bytes that are left
+module _ (s : List ℕ) (n : length s ≡ 0 → ⊥) (h : Header) (e : primitiveOf s ≡ front.Object h) (r : isRun (primitives s) ≡ true) (ps : List Placement) (k j : ℕ) where
+  pub size-on : length (contentBytes (objectsFrom ps k j (listed s))) ≡ placedSize ps k j (h .tag) (h .len) + length (contentBytes (objectsFrom ps k (j + 1) (listed (restOf s h))))
+  size-on =
+      rw (add-one, listed-on s n h e r)
+      (content-length ps k j (firstOf s h) (listed (restOf s h)) ∙ rw (value-length s n h e))
+
+pub size-end : (s : List ℕ) (ps : List Placement) (k j : ℕ) → length s ≡ 0 → length (contentBytes (objectsFrom ps k j (listed s))) ≡ 0
+unfolding contentBytes objectsFrom
+size-end s ps k j z = ap (λ (os : List Object). length (contentBytes (objectsFrom ps k j os))) (listed-end s z)

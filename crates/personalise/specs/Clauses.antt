@@ -7,21 +7,15 @@ use Prim.Native.Nat.{ℕ, _≤_}
 use lib.ListN.{length}
 use Rattle.basics.specs.Choice.{_and_, every}
 use Rattle.basics.specs.Number.{between}
-use Rattle.tlv.specs.Primitives.{Object, primitives, isRun}
+use Rattle.tlv.specs.Primitives.{primitives, isRun}
 use Rattle.locator.specs.declared.Entry.{Entry}
 use Rattle.locator.specs.Records.{entries, wholeEntries, total}
 use Rattle.personalise.specs.declared.Placement.{Placement}
-use Rattle.personalise.specs.declared.Answer.{Answer}
-use Rattle.personalise.specs.declared.Answer.the-variants.{Written, ShortRecords, ShortLocator, BadList, BadEntry, BadRecord}
-use Rattle.personalise.specs.Objects.{settable, distinct, objectsOf}
+use Rattle.personalise.specs.Objects.{settable, distinct}
 use Rattle.personalise.specs.Placements.{placementsIn, eachOnce}
 use Rattle.personalise.specs.Entries.{mostEntries, mostRecords, lowClear, fileRead, firstNamed, inOrder, noneOffline, meets}
 use Rattle.personalise.specs.Records.{contentOf, mostContent}
-use Rattle.personalise.specs.Outcome.{recordsRoom, locatorRoom}
-
--- the list's objects, by its bytes
-abbrev pub listed : List ℕ → List Object
-listed objects = objectsOf (primitives objects)
+use Rattle.personalise.specs.Outcome.{recordsRoom, locatorRoom, listed}
 
 -- no two entries name a record both
 unfoldable pub allApart : List Entry → Bool
@@ -63,12 +57,3 @@ pub record Kept (objects es placements lentRecords lentLocator : List ℕ) : Typ
   pub named : every (recordNamed (total es)) (placementsIn placements) ≡ true
   pub objectsThere : every (objectListed (length (listed objects))) (placementsIn placements) ≡ true
   pub contents : (k : ℕ) → length (contentOf (listed objects) (placementsIn placements) k) ≤ mostContent
-
--- an answer says that all is written
-abbrev pub isWritten : Answer → Bool
-isWritten (Written s) = true
-isWritten ShortRecords = false
-isWritten ShortLocator = false
-isWritten BadList = false
-isWritten (BadEntry i) = false
-isWritten (BadRecord k) = false

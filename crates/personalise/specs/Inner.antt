@@ -14,8 +14,8 @@ use Rattle.tlv.specs.Primitives.{Object, primitives, isRun}
 use Rattle.tlv.specs.Encoding.{tagBytes, lengthBytes}
 use Rattle.personalise.specs.declared.Placement.{Placement}
 use Rattle.personalise.specs.Objects.{settable, lacksTag, distinct}
+use Rattle.personalise.specs.Outcome.{listed}
 use Rattle.personalise.specs.Placements.{anyOf, puts, eachOnce}
-use Rattle.personalise.specs.Clauses.{listed}
 
 -- ---- runs
 

@@ -15,7 +15,7 @@ use Rattle.personalise.specs.declared.Fault.{Fault}
 use Rattle.personalise.specs.declared.Fault.the-variants.{At, Nothing}
 use Rattle.personalise.specs.declared.Answer.{Answer}
 use Rattle.personalise.specs.declared.Answer.the-variants.{Written, ShortRecords, ShortLocator, BadList, BadEntry, BadRecord}
-use Rattle.personalise.specs.Objects.{settable, distinct}
+use Rattle.personalise.specs.Objects.{settable, distinct, objectsOf}
 use Rattle.personalise.specs.Placements.{placementsIn, eachOnce}
 use Rattle.personalise.specs.Entries.{badEntry}
 use Rattle.personalise.specs.Records.{joined, recordsFrom, badRecord}
@@ -35,55 +35,69 @@ locatorRoom = 248
 unfoldable pub listKeeps : List Object → List Placement → Bool
 listKeeps os ps = every settable os and distinct os and eachOnce ps 1 os
 
--- ---- what is left
-
--- the answer, and both whole buffers
-pub record Outcome : Type 0 where
-  pub answer : Answer
-  pub records : List ℕ
-  pub locator : List ℕ
-
--- an outcome of these parts; a refusal is the answer with both buffers as they were
-abbrev pub outcome : Answer → List ℕ → List ℕ → Outcome
-outcome a r l = record { answer = a; records = r; locator = l }
+-- ---- the answer
 
 -- the bytes of all records, of which the locator names n
 abbrev pub recordBytes : List Object → List Placement → ℕ → List ℕ
 recordBytes os ps n = joined (recordsFrom os ps 1 n)
 
--- the records s and the locator es are written, each in front of its buffer
-abbrev pub written : List ℕ → List ℕ → List ℕ → List ℕ → Outcome
-written s es r l = outcome (Written (record { records = length s; locator = length es })) (inFront s r) (inFront es l)
+-- after the records: the least bad one is named, or all is written
+abbrev pub afterRecords : List Object → List Placement → List ℕ → Fault → Answer
+afterRecords os ps es (At k) = BadRecord k
+afterRecords os ps es Nothing =
+    Written (record { records = length (recordBytes os ps (total es)); locator = length es })
 
--- after the records: the least bad one is named
-abbrev pub afterRecords : List Object → List Placement → List ℕ → List ℕ → List ℕ → Fault → Outcome
-afterRecords os ps es r l (At k) = outcome (BadRecord k) r l
-afterRecords os ps es r l Nothing = written (recordBytes os ps (total es)) es r l
-
--- after the entries: the first bad one is named
-abbrev pub afterEntries : List Object → List Placement → List ℕ → List ℕ → List ℕ → Fault → Outcome
-afterEntries os ps es r l (At i) = outcome (BadEntry i) r l
-afterEntries os ps es r l Nothing = afterRecords os ps es r l (badRecord os ps (total es))
+-- after the entries: the first bad one is named, or the records are looked at
+abbrev pub afterEntries : List Object → List Placement → List ℕ → Fault → Answer
+afterEntries os ps es (At i) = BadEntry i
+afterEntries os ps es Nothing = afterRecords os ps es (badRecord os ps (total es))
 
 -- after the buffers: bytes that are no run, and a list that breaks a rule, are refused
-abbrev pub afterBuffers : Option (List Object) → List Placement → List ℕ → List ℕ → List ℕ → Outcome
-afterBuffers none ps es r l = outcome BadList r l
-afterBuffers (some os) ps es r l =
-    if listKeeps os ps then afterEntries os ps es r l (badEntry es)
-    else outcome BadList r l
+abbrev pub afterBuffers : Option (List Object) → List Placement → List ℕ → Answer
+afterBuffers none ps es = BadList
+afterBuffers (some os) ps es =
+    if listKeeps os ps then afterEntries os ps es (badEntry es)
+    else BadList
 
--- the objects, the entries and the placements, with the lent records r and locator l
-unfoldable pub personalised : List ℕ → List ℕ → List ℕ → List ℕ → List ℕ → Outcome
-personalised objects es placements r l =
-    if length r <? recordsRoom then outcome ShortRecords r l
-    else if length l <? locatorRoom then outcome ShortLocator r l
-    else afterBuffers (primitives objects) (placementsIn placements) es r l
+-- the answer to objects, entries and placements in bytes, with the lent records r and locator l
+unfoldable pub answerOf : List ℕ → List ℕ → List ℕ → List ℕ → List ℕ → Answer
+answerOf objects es placements r l =
+    if length r <? recordsRoom then ShortRecords
+    else if length l <? locatorRoom then ShortLocator
+    else afterBuffers (primitives objects) (placementsIn placements) es
+
+-- ---- the buffers
+
+-- an answer says that all is written
+abbrev pub isWritten : Answer → Bool
+isWritten (Written z) = true
+isWritten ShortRecords = false
+isWritten ShortLocator = false
+isWritten BadList = false
+isWritten (BadEntry i) = false
+isWritten (BadRecord k) = false
+
+-- the list's objects, by its bytes
+abbrev pub listed : List ℕ → List Object
+listed objects = objectsOf (primitives objects)
+
+-- the lent records r after an answer: the card's records in front where all is written, else as they were
+abbrev pub recordsLeft : Answer → List ℕ → List ℕ → List ℕ → List ℕ → List ℕ
+recordsLeft a objects es placements r =
+    if isWritten a then inFront (recordBytes (listed objects) (placementsIn placements) (total es)) r
+    else r
+
+-- the lent locator l after an answer: the entries in front where all is written, else as it was
+abbrev pub locatorLeft : Answer → List ℕ → List ℕ → List ℕ
+locatorLeft a es l =
+    if isWritten a then inFront es l
+    else l
 
 -- ---- numbers
 
 -- the kind of an answer
 abbrev pub kindOf : Answer → ℕ
-kindOf (Written s) = 0
+kindOf (Written z) = 0
 kindOf ShortRecords = 1
 kindOf ShortLocator = 2
 kindOf BadList = 3
@@ -92,7 +106,7 @@ kindOf (BadRecord k) = 5
 
 -- what it names: the records' length, the number of the entry or of the record
 abbrev pub numberOf : Answer → ℕ
-numberOf (Written s) = s .records
+numberOf (Written z) = z .records
 numberOf ShortRecords = 0
 numberOf ShortLocator = 0
 numberOf BadList = 0
@@ -101,7 +115,7 @@ numberOf (BadRecord k) = k
 
 -- the locator's length where it is written
 abbrev pub locatorOf : Answer → ℕ
-locatorOf (Written s) = s .locator
+locatorOf (Written z) = z .locator
 locatorOf ShortRecords = 0
 locatorOf ShortLocator = 0
 locatorOf BadList = 0

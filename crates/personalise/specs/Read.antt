@@ -22,8 +22,7 @@ use Rattle.personalise.specs.declared.Answer.the-variants.{Written, Shor
 use Rattle.personalise.specs.declared.Sizes.{Sizes}
 use Rattle.personalise.specs.Placements.{placementsIn}
 use Rattle.personalise.specs.Records.{recordsFrom, joined}
-use Rattle.personalise.specs.Outcome.{recordsRoom, locatorRoom}
-use Rattle.personalise.specs.Clauses.{listed}
+use Rattle.personalise.specs.Outcome.{recordsRoom, locatorRoom, listed}
 
 -- ---- the store of a list
 

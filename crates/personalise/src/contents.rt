@@ -11,7 +11,7 @@ ghost use Rattle.tlv.specs.Primitives.{primitives, isRun};
 ghost use Rattle.tlv.specs.Encoding.{tagBytes, lengthBytes};
 ghost use Rattle.personalise.specs.Placements.{placementsIn};
 ghost use Rattle.personalise.specs.Records.{contentOf, badAt, badRecord};
-ghost use Rattle.personalise.specs.Clauses.{listed};
+ghost use Rattle.personalise.specs.Outcome.{listed};
 ghost use Rattle.personalise.specs.Inner.{capped, objectSize, placedSize};
 
 // The most bytes of a content, and what stands for any size above.

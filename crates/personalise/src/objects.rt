@@ -11,7 +11,7 @@ ghost use Rattle.dictionary.specs.Packing.{rowOf};
 ghost use Rattle.reading.specs.Taking.{mayCome};
 ghost use Rattle.personalise.specs.Objects.{recordTemplate, settable};
 ghost use Rattle.personalise.specs.Placements.{placementsIn};
-ghost use Rattle.personalise.specs.Clauses.{listed};
+ghost use Rattle.personalise.specs.Outcome.{listed};
 ghost use Rattle.personalise.specs.Inner.{lacksIn, runKeeps};
 
 // Whether the bytes are a run of objects that may all be set, no tag twice, each placed once.

@@ -9,7 +9,7 @@ ghost use Rattle.tlv.specs.Encoding.{tagBytes, lengthBytes, objectBytes};
 ghost use Rattle.personalise.specs.Placements.{placementsIn};
 ghost use Rattle.personalise.specs.Records.{contentOf, recordOf};
 ghost use Rattle.personalise.specs.Outcome.{recordBytes};
-ghost use Rattle.personalise.specs.Clauses.{listed};
+ghost use Rattle.personalise.specs.Outcome.{listed};
 ghost use Rattle.personalise.specs.Inner.{Usable, over};
 
 // The tag of a record's template.

@@ -1,15 +1,20 @@
+-- `contents::length_size` meets its contract: by the two forms of a length below 256.
+-- Assumes nothing.
+use borrow.Author.Tests.{lt-ltb, le-ltb}
+use mathlib.Core.Path.{_≡_, sym, ap, _∙_}
+use mathlib.Core.List.{List}
+use Prim.Native.Nat.{ℕ}
+use native.Mathlib.Omega.{arith}
+use lib.ListN.{length}
+use Rattle.basics.proofs.Laws.{if-yes, if-no}
+use Rattle.tlv.specs.Encoding.{lengthBytes}
+use Rattle.personalise.proofs.Forms.{length-short, length-long}
 use Rattle.personalise.proofs.contents.length_size.Statement.{statement}
 use Rattle.personalise.proofs.contents.length_size.Tie as tie
-use Rattle.personalise.proofs.contents.length_size.Reads as reads
-use Rattle.personalise.proofs.contents.length_size.Lts as lts
-
--- src/contents.rt:118:9
-returns : tie.Need-returns
-returns c = ?
-
--- src/contents.rt:113:1
-returns-2 : tie.Need-returns-2
-returns-2 c = ?
 
 pub length-size-spec : {M : Type 1} → statement M
-length-size-spec = tie.close (tie.spec returns returns-2)
+length-size-spec =
+    tie.close
+    (tie.spec
+    (λ c. (sym (ap length (length-short _ (c .if1 .taken))), omega arith))
+    (λ c. (sym (ap length (length-long _ (c .if1 .left) (c .before .pre))), omega arith)))
