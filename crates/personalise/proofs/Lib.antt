@@ -4,3 +4,5 @@ pub mod Proposed
 pub mod Listed
 pub mod Forms
 pub mod Least
+pub mod Over
+pub mod Known

@@ -27,7 +27,7 @@ use Rattle.personalise.specs.Objects.{recordTemplate, settableFound, set
 use Rattle.personalise.specs.Placements.{countOf, anyOf, ofObject, puts, eachOnce, objectsFrom}
 use Rattle.personalise.specs.Records.{contentBytes}
 use Rattle.personalise.specs.Outcome.{listed}
-use Rattle.personalise.specs.Inner.{lacksIn, runKeeps, objectSize, placedSize}
+use Rattle.personalise.specs.Inner.{lacksIn, runKeeps, Usable, objectSize, placedSize, placedBytes}
 
 -- ---- one object
 
@@ -183,3 +183,32 @@ module _ (s : List ℕ) (n : length s ≡ 0 → ⊥) (h : Header) (e : primitive
 pub size-end : (s : List ℕ) (ps : List Placement) (k j : ℕ) → length s ≡ 0 → length (contentBytes (objectsFrom ps k j (listed s))) ≡ 0
 unfolding contentBytes objectsFrom
 size-end s ps k j z = ap (λ (os : List Object). length (contentBytes (objectsFrom ps k j os))) (listed-end s z)
+
+-- ---- bytes
+
+pub content-bytes : (ps : List Placement) (k j : ℕ) (o : Object) (os : List Object)
+    → contentBytes (objectsFrom ps k j (o ∷ os)) ≡ placedBytes ps k j (o .tag) (o .value) ++ contentBytes (objectsFrom ps k (suc j) os)
+unfolding objectsFrom contentBytes
+content-bytes ps k j o os =
+    let rest = objectsFrom ps k (suc j) os in
+    elim (bool-cases (anyOf (puts k j) ps)) [
+      | inl y ↦ ap contentBytes (if-yes (o ∷ rest) rest y) ∙ ap (λ (x : List ℕ). x ++ contentBytes rest) (sym (if-yes (objectBytes (o .tag) (o .value)) [] y))
+      | inr f ↦ ap contentBytes (if-no (o ∷ rest) rest f) ∙ ap (λ (x : List ℕ). x ++ contentBytes rest) (sym (if-no (objectBytes (o .tag) (o .value)) [] f))
+    ]
+
+module _ (s : List ℕ) (n : length s ≡ 0 → ⊥) (h : Header) (e : primitiveOf s ≡ front.Object h) (u : Usable s) where
+  pub rest-usable : Usable (restOf s h)
+  unfolding every
+  rest-usable = (rest-run s n h e (u .0), both-right _ _ (sym (ap (every settable) (listed-on s n h e (u .0))) ∙ u .1))
+
+  pub first-settable : settable (firstOf s h) ≡ true
+  unfolding every
+  first-settable = both-left _ _ (sym (ap (every settable) (listed-on s n h e (u .0))) ∙ u .1)
+
+  pub bytes-on : (ps : List Placement) (k j : ℕ)
+      → contentBytes (objectsFrom ps k j (listed s)) ≡ placedBytes ps k j (h .tag) (firstOf s h .value) ++ contentBytes (objectsFrom ps k (j + 1) (listed (restOf s h)))
+  bytes-on ps k j = rw (add-one, listed-on s n h e (u .0)) (content-bytes ps k j (firstOf s h) (listed (restOf s h)))
+
+pub bytes-end : (s : List ℕ) (ps : List Placement) (k j : ℕ) → length s ≡ 0 → contentBytes (objectsFrom ps k j (listed s)) ≡ []
+unfolding contentBytes objectsFrom
+bytes-end s ps k j z = ap (λ (os : List Object). contentBytes (objectsFrom ps k j os)) (listed-end s z)

@@ -4,16 +4,16 @@
 -- Assumes nothing.
 use mathlib.Core.Path.{_≡_}
 use mathlib.Core.Bool.{Bool, true, false}
-use mathlib.Core.List.{List, _++_}
+use mathlib.Core.List.{List, [], _++_}
 use mathlib.Core.Option.{Option, some, none}
-use Prim.Native.Nat.{ℕ, _+_, min}
+use Prim.Native.Nat.{ℕ, _+_, _≤_, min}
 use lib.ListN.{length, take, drop}
 use Rattle.basics.specs.Choice.{if_then_else_, _and_, every}
-use Rattle.basics.specs.Front.{inFront}
 use Rattle.tlv.specs.Primitives.{Object, primitives, isRun}
-use Rattle.tlv.specs.Encoding.{tagBytes, lengthBytes}
+use Rattle.tlv.specs.Encoding.{tagBytes, lengthBytes, objectBytes}
 use Rattle.personalise.specs.declared.Placement.{Placement}
 use Rattle.personalise.specs.Objects.{settable, lacksTag, distinct}
+use Rattle.personalise.specs.Records.{contentOf, mostContent}
 use Rattle.personalise.specs.Outcome.{listed}
 use Rattle.personalise.specs.Placements.{anyOf, puts, eachOnce}
 
@@ -53,4 +53,19 @@ placedSize ps k j t n =
 
 -- the bytes v written over s from a place on
 unfoldable pub over : List ℕ → ℕ → List ℕ → List ℕ
-over s at v = take at s ++ inFront v (drop at s)
+over s at v = take at s ++ (v ++ drop (at + length v) s)
+
+-- the bytes v are written over s from a place on, which leaves t; n is the place behind them
+pub record Puts (n : ℕ) (t s : List ℕ) (at : ℕ) (v : List ℕ) : Type 0 where
+  pub next : n ≡ at + length v
+  pub wrote : t ≡ over s at v
+
+-- the bytes of an object in record k, none where it does not stand there
+abbrev pub placedBytes : List Placement → ℕ → ℕ → ℕ → List ℕ → List ℕ
+placedBytes ps k j t v =
+    if anyOf (puts k j) ps then objectBytes t v
+    else []
+
+-- every content fits its record
+abbrev pub Fitting : List Object → List Placement → Type 0
+Fitting os ps = (k : ℕ) → length (contentOf os ps k) ≤ mostContent

@@ -1,70 +1,43 @@
+-- `writing::put_length` meets its contract: the stores, one by one, are the length's bytes.
+-- Assumes nothing.
 use borrow.Author.Needs.{needs}
+use mathlib.Core.Path.{_≡_, sym, ap, _∙_}
+use mathlib.Core.List.{List, [], _∷_}
+use Prim.Native.Nat.{ℕ, _+_}
+use native.Mathlib.Omega.{arith}
+use lib.ListN.{length, length-set}
+use Rattle.personalise.proofs.Forms.{length-short, length-long}
+use Rattle.personalise.proofs.Over.{sets-put, two-put}
 use Rattle.personalise.proofs.writing.put_length.Statement.{statement}
 use Rattle.personalise.proofs.writing.put_length.Tie as tie
-use Rattle.personalise.proofs.writing.put_length.Reads as reads
-use Rattle.personalise.proofs.writing.put_length.Lts as lts
 
--- src/writing.rt:57:19
-cast-out : tie.Need-cast-out
-cast-out c = search needs
-
--- src/writing.rt:57:9
-slice-write-out : tie.Need-slice-write-out
-slice-write-out c = ?
-
--- src/writing.rt:58:16
-add-result : tie.Need-add-result
-add-result c = search needs
-
--- src/writing.rt:58:9
-same-length : tie.Need-same-length
-same-length c = search needs
-
--- src/writing.rt:58:9
 returns : tie.Need-returns
-returns c = ?
+returns c =
+    let a = c .before .args in
+    let e = length-short (a .len) (c .if1 .taken) in
+    let l = ap length e in
+    sets-put (a .out .now) (a .at) (a .len ∷ []) (omega arith) e
 
--- src/writing.rt:60:5
-slice-write-out-2 : tie.Need-slice-write-out-2
-slice-write-out-2 c = ?
-
--- src/writing.rt:61:19
-cast-out-2 : tie.Need-cast-out-2
-cast-out-2 c = search needs
-
--- src/writing.rt:61:9
-add-out : tie.Need-add-out
-add-out c = search needs
-
--- src/writing.rt:61:5
-slice-write-out-3 : tie.Need-slice-write-out-3
-slice-write-out-3 c = ?
-
--- src/writing.rt:62:5
-add-result-2 : tie.Need-add-result-2
-add-result-2 c = search needs
-
--- src/writing.rt:51:1
-same-length-2 : tie.Need-same-length-2
-same-length-2 c = search needs
-
--- src/writing.rt:51:1
 returns-2 : tie.Need-returns-2
-returns-2 c = ?
+returns-2 c =
+    let a = c .before .args in
+    let e = length-long (a .len) (c .if1 .left) (c .before .pre .0) in
+    let l = ap length e in
+    two-put (a .out .now) (a .at) 0x81 (a .len) (omega arith) e
 
 pub put-length-spec : {M : Type 1} → statement M
 put-length-spec =
     tie.close
     (tie.spec
-    cast-out
-    slice-write-out
-    add-result
-    same-length
+    (λ c. search needs)
+    (λ c. let l = ap length (length-short (c .before .args .len) (c .if1 .taken)) in omega arith)
+    (λ c. search needs)
+    (λ c. search needs)
     returns
-    slice-write-out-2
-    cast-out-2
-    add-out
-    slice-write-out-3
-    add-result-2
-    same-length-2
+    (λ c. let l = ap length (length-long (c .before .args .len) (c .if1 .left) (c .before .pre .0)) in omega arith)
+    (λ c. search needs)
+    (λ c. search needs)
+    (λ c. let l = ap length (length-long (c .before .args .len) (c .if1 .left) (c .before .pre .0)) in simp length-set (omega arith))
+    (λ c. search needs)
+    (λ c. search needs)
     returns-2)

@@ -1,130 +1,62 @@
+-- `writing::put_tag` meets its contract: the stores, one by one, are the tag's bytes.
+-- Assumes nothing.
 use borrow.Author.Needs.{needs}
+use mathlib.Core.Path.{_≡_, sym, ap, _∙_}
+use mathlib.Core.List.{List, [], _∷_}
+use Prim.Native.Nat.{ℕ, _+_, _/_, _%_}
+use native.Mathlib.Omega.{arith}
+use lib.ListN.{length, length-set}
+use Rattle.personalise.proofs.Forms.{tag-one, tag-two, tag-three}
+use Rattle.personalise.proofs.Over.{sets-put, two-put, three-put}
 use Rattle.personalise.proofs.writing.put_tag.Statement.{statement}
 use Rattle.personalise.proofs.writing.put_tag.Tie as tie
-use Rattle.personalise.proofs.writing.put_tag.Reads as reads
-use Rattle.personalise.proofs.writing.put_tag.Lts as lts
 
--- src/writing.rt:36:19
-cast-out : tie.Need-cast-out
-cast-out c = search needs
-
--- src/writing.rt:36:9
-slice-write-out : tie.Need-slice-write-out
-slice-write-out c = ?
-
--- src/writing.rt:37:16
-add-result : tie.Need-add-result
-add-result c = search needs
-
--- src/writing.rt:37:9
-same-length : tie.Need-same-length
-same-length c = search needs
-
--- src/writing.rt:37:9
 returns : tie.Need-returns
-returns c = ?
+returns c =
+    let a = c .before .args in
+    let e = tag-one (a .tag) (c .if1 .taken) in
+    let l = ap length e in
+    sets-put (a .out .now) (a .at) (a .tag ∷ []) (omega arith) e
 
--- src/writing.rt:40:19
-cast-out-2 : tie.Need-cast-out-2
-cast-out-2 c = search needs
-
--- src/writing.rt:40:9
-slice-write-out-2 : tie.Need-slice-write-out-2
-slice-write-out-2 c = ?
-
--- src/writing.rt:41:23
-cast-out-3 : tie.Need-cast-out-3
-cast-out-3 c = search needs
-
--- src/writing.rt:41:13
-add-out : tie.Need-add-out
-add-out c = search needs
-
--- src/writing.rt:41:9
-slice-write-out-3 : tie.Need-slice-write-out-3
-slice-write-out-3 c = ?
-
--- src/writing.rt:42:16
-add-result-2 : tie.Need-add-result-2
-add-result-2 c = search needs
-
--- src/writing.rt:42:9
-same-length-2 : tie.Need-same-length-2
-same-length-2 c = search needs
-
--- src/writing.rt:42:9
 returns-2 : tie.Need-returns-2
-returns-2 c = ?
+returns-2 c =
+    let a = c .before .before .args in
+    let e = tag-two (a .tag) (c .before .if1 .left) (c .if2 .taken) in
+    let l = ap length e in
+    two-put (a .out .now) (a .at) (a .tag / 0x100) (a .tag % 0x100) (omega arith) e
 
--- src/writing.rt:44:15
-cast-out-4 : tie.Need-cast-out-4
-cast-out-4 c = search needs
-
--- src/writing.rt:44:5
-slice-write-out-4 : tie.Need-slice-write-out-4
-slice-write-out-4 c = ?
-
--- src/writing.rt:45:19
-cast-out-5 : tie.Need-cast-out-5
-cast-out-5 c = search needs
-
--- src/writing.rt:45:9
-add-out-2 : tie.Need-add-out-2
-add-out-2 c = search needs
-
--- src/writing.rt:45:5
-slice-write-out-5 : tie.Need-slice-write-out-5
-slice-write-out-5 c = ?
-
--- src/writing.rt:46:19
-cast-out-6 : tie.Need-cast-out-6
-cast-out-6 c = search needs
-
--- src/writing.rt:46:9
-add-out-3 : tie.Need-add-out-3
-add-out-3 c = search needs
-
--- src/writing.rt:46:5
-slice-write-out-6 : tie.Need-slice-write-out-6
-slice-write-out-6 c = ?
-
--- src/writing.rt:47:5
-add-result-3 : tie.Need-add-result-3
-add-result-3 c = search needs
-
--- src/writing.rt:30:1
-same-length-3 : tie.Need-same-length-3
-same-length-3 c = search needs
-
--- src/writing.rt:30:1
 returns-3 : tie.Need-returns-3
-returns-3 c = ?
+returns-3 c =
+    let a = c .before .before .args in
+    let e = tag-three (a .tag) (c .if2 .left) in
+    let l = ap length e in
+    three-put (a .out .now) (a .at) (a .tag / 0x10000) (a .tag / 0x100 % 0x100) (a .tag % 0x100) (omega arith) e
 
 pub put-tag-spec : {M : Type 1} → statement M
 put-tag-spec =
     tie.close
     (tie.spec
-    cast-out
-    slice-write-out
-    add-result
-    same-length
+    (λ c. search needs)
+    (λ c. let l = ap length (tag-one (c .before .args .tag) (c .if1 .taken)) in omega arith)
+    (λ c. search needs)
+    (λ c. search needs)
     returns
-    cast-out-2
-    slice-write-out-2
-    cast-out-3
-    add-out
-    slice-write-out-3
-    add-result-2
-    same-length-2
+    (λ c. search needs)
+    (λ c. let l = ap length (tag-two (c .before .before .args .tag) (c .before .if1 .left) (c .if2 .taken)) in omega arith)
+    (λ c. search needs)
+    (λ c. search needs)
+    (λ c. let l = ap length (tag-two (c .before .before .args .tag) (c .before .if1 .left) (c .if2 .taken)) in simp length-set (omega arith))
+    (λ c. search needs)
+    (λ c. search needs)
     returns-2
-    cast-out-4
-    slice-write-out-4
-    cast-out-5
-    add-out-2
-    slice-write-out-5
-    cast-out-6
-    add-out-3
-    slice-write-out-6
-    add-result-3
-    same-length-3
+    (λ c. search needs)
+    (λ c. let l = ap length (tag-three (c .before .before .args .tag) (c .if2 .left)) in omega arith)
+    (λ c. search needs)
+    (λ c. search needs)
+    (λ c. let l = ap length (tag-three (c .before .before .args .tag) (c .if2 .left)) in simp length-set (omega arith))
+    (λ c. search needs)
+    (λ c. search needs)
+    (λ c. let l = ap length (tag-three (c .before .before .args .tag) (c .if2 .left)) in simp length-set (omega arith))
+    (λ c. search needs)
+    (λ c. search needs)
     returns-3)

@@ -1,39 +1,24 @@
+-- `writing::put_value` meets its contract: the part that was lent comes back with the bytes copied into it.
+-- Assumes nothing.
 use borrow.Author.Needs.{needs}
+use mathlib.Core.Path.{refl}
+use Rattle.personalise.proofs.Over.{over-part}
 use Rattle.personalise.proofs.writing.put_value.Statement.{statement}
 use Rattle.personalise.proofs.writing.put_value.Tie as tie
-use Rattle.personalise.proofs.writing.put_value.Reads as reads
-use Rattle.personalise.proofs.writing.put_value.Lts as lts
-use Rattle.bytes.proofs.copy.Reads as copy-reads
 
--- src/writing.rt:24:13
-add-e : tie.Need-add-e
-add-e c = search needs
-
--- src/writing.rt:25:20
-sub-copy : tie.Need-sub-copy
-sub-copy c = search needs
-
--- src/writing.rt:25:20
-part-copy-start : tie.Need-part-copy-start
-part-copy-start c = search needs
-
--- src/writing.rt:25:20
-part-copy-end : tie.Need-part-copy-end
-part-copy-end c = search needs
-
--- src/writing.rt:25:5
-copy-requires : tie.Need-copy-requires
-copy-requires c κs = search needs
-
--- src/writing.rt:19:1
-same-length : tie.Need-same-length
-same-length c = search needs
-
--- src/writing.rt:19:1
 returns : tie.Need-returns
-returns c = ?
+returns c =
+    let a = c .before .before .before .before .before .before .args in
+    record { next = refl; wrote = over-part (a .out .now) (a .at) (a .v .now) _ (search needs) (c .before .before .copy .ensures .1) }
 
 pub put-value-spec : {M : Type 1} → statement M
 put-value-spec =
     tie.close
-    (tie.spec add-e sub-copy part-copy-start part-copy-end copy-requires same-length returns)
+    (tie.spec
+    (λ c. search needs)
+    (λ c. search needs)
+    (λ c. search needs)
+    (λ c. search needs)
+    (λ c κs. search needs)
+    (λ c. search needs)
+    returns)
