@@ -6,3 +6,4 @@ pub mod Forms
 pub mod Least
 pub mod Over
 pub mod Known
+pub mod Filled

@@ -1,44 +1,86 @@
+-- `writing::put_record` meets its contract: the template's tag, the length and the content are written one behind the other.
+-- Assumes nothing.
 use borrow.Author.Needs.{needs}
+use mathlib.Core.Path.{_≡_, sym, ap, subst, _∙_}
+use mathlib.Core.List.{List}
+use Prim.Native.Nat.{ℕ, _+_, _<_, _≤_}
+use native.Mathlib.Omega.{arith}
+use lib.ListN.{length}
+use Rattle.tlv.specs.Encoding.{tagBytes, lengthBytes}
+use Rattle.personalise.specs.Objects.{recordTemplate}
+use Rattle.personalise.specs.Placements.{placementsIn}
+use Rattle.personalise.specs.Records.{contentOf, mostContent}
+use Rattle.personalise.specs.Outcome.{listed}
+use Rattle.personalise.specs.Inner.{capped, Puts}
+use Rattle.personalise.proofs.Forms.{tag-one, length-most}
+use Rattle.personalise.proofs.Over.{tag-room, length-room, value-room, all-put}
 use Rattle.personalise.proofs.writing.put_record.Statement.{statement}
 use Rattle.personalise.proofs.writing.put_record.Tie as tie
-use Rattle.personalise.proofs.writing.put_record.Reads as reads
-use Rattle.personalise.proofs.writing.put_record.Lts as lts
-use Rattle.personalise.proofs.contents.size.Reads as size-reads
-use Rattle.personalise.proofs.writing.put_content.Reads as put-content-reads
-use Rattle.personalise.proofs.writing.put_length.Reads as put-length-reads
-use Rattle.personalise.proofs.writing.put_tag.Reads as put-tag-reads
 
--- src/writing.rt:42:9
-size-requires : tie.Need-size-requires
-size-requires c κs = search needs
+-- the room for the three parts
+room : (s : List ℕ) (at : ℕ) (v : List ℕ) → length v ≤ mostContent → at + 256 ≤ length s
+    → at + (length (tagBytes recordTemplate) + (length (lengthBytes (length v)) + length v)) ≤ length s
+room s at v m h =
+    let t = ap length (tag-one recordTemplate (omega arith)) in
+    let l = length-most (length v) (omega arith) in
+    omega arith
 
--- src/writing.rt:43:9
+-- the size that was measured is the content's
+exact : (n : ℕ) (v : List ℕ) → n ≡ capped (length v) → length v ≤ mostContent → n ≡ length v
+exact n v e m = omega arith
+
 put-tag-requires : tie.Need-put-tag-requires
-put-tag-requires c κs = ?
+put-tag-requires c κs =
+    let st = c .before .before .before .before .before in
+    let a = st .args in
+    let v = contentOf (listed (a .objects .now)) (placementsIn (a .placements .now)) (a .k) in
+    (omega arith, tag-room (a .out .now) (a .at) (tagBytes recordTemplate) (lengthBytes (length v)) v (room (a .out .now) (a .at) v (st .pre .1 .0) (st .pre .1 .1)))
 
--- src/writing.rt:44:9
 put-length-requires : tie.Need-put-length-requires
-put-length-requires c κs = ?
+put-length-requires c κs =
+    let t = c .before .before .before in
+    let z = t .before .before in
+    let st = z .before .before .before .before in
+    let a = st .args in
+    let v = contentOf (listed (a .objects .now)) (placementsIn (a .placements .now)) (a .k) in
+    let e = exact (z .size .result) v (z .size .ensures) (st .pre .1 .0) in
+    (omega (arith, st .pre .1 .0),
+      subst (λ (n : ℕ). t .put-tag .result + length (lengthBytes n) ≤ length (t .put-tag .last .0)) (sym e)
+      (length-room (a .out .now) (a .at) (tagBytes recordTemplate) (lengthBytes (length v)) v (room (a .out .now) (a .at) v (st .pre .1 .0) (st .pre .1 .1)) (t .put-tag .ensures)))
 
--- src/writing.rt:45:5
 put-content-requires : tie.Need-put-content-requires
-put-content-requires c κs = ?
+put-content-requires c κs =
+    let l = c .before .before .before in
+    let t = l .before .before .before .before in
+    let z = t .before .before in
+    let st = z .before .before .before .before in
+    let a = st .args in
+    let v = contentOf (listed (a .objects .now)) (placementsIn (a .placements .now)) (a .k) in
+    let e = exact (z .size .result) v (z .size .ensures) (st .pre .1 .0) in
+    let q = subst (λ (n : ℕ). Puts (l .put-length .result) (l .put-length .last .0) (t .put-tag .last .0) (t .put-tag .result) (lengthBytes n)) e (l .put-length .ensures) in
+    (st .pre .0,
+      value-room (a .out .now) (a .at) (tagBytes recordTemplate) (lengthBytes (length v)) v (room (a .out .now) (a .at) v (st .pre .1 .0) (st .pre .1 .1)) (t .put-tag .ensures) q)
 
--- src/writing.rt:35:1
-same-length : tie.Need-same-length
-same-length c = search needs
-
--- src/writing.rt:35:1
 returns : tie.Need-returns
-returns c = ?
+returns c =
+    let w = c .before .before in
+    let l = w .before .before .before .before in
+    let t = l .before .before .before .before in
+    let z = t .before .before in
+    let st = z .before .before .before .before in
+    let a = st .args in
+    let v = contentOf (listed (a .objects .now)) (placementsIn (a .placements .now)) (a .k) in
+    let e = exact (z .size .result) v (z .size .ensures) (st .pre .1 .0) in
+    let q = subst (λ (n : ℕ). Puts (l .put-length .result) (l .put-length .last .0) (t .put-tag .last .0) (t .put-tag .result) (lengthBytes n)) e (l .put-length .ensures) in
+    all-put (a .out .now) (a .at) (tagBytes recordTemplate) (lengthBytes (length v)) v (room (a .out .now) (a .at) v (st .pre .1 .0) (st .pre .1 .1)) (t .put-tag .ensures) q (w .put-content .ensures)
 
 pub put-record-spec : {M : Type 1} → statement M
 put-record-spec =
     tie.close
     (tie.spec
-    size-requires
+    (λ c κs. c .before .before .before .pre .0 .0)
     put-tag-requires
     put-length-requires
     put-content-requires
-    same-length
+    (λ c. search needs)
     returns)
