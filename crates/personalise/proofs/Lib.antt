@@ -7,3 +7,5 @@ pub mod Least
 pub mod Over
 pub mod Known
 pub mod Filled
+pub mod Rules
+pub mod Stages

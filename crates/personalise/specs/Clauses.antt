@@ -11,11 +11,12 @@ use Rattle.tlv.specs.Primitives.{primitives, isRun}
 use Rattle.locator.specs.declared.Entry.{Entry}
 use Rattle.locator.specs.Records.{entries, wholeEntries, total}
 use Rattle.personalise.specs.declared.Placement.{Placement}
+use Rattle.personalise.specs.declared.Answer.{Answer}
 use Rattle.personalise.specs.Objects.{settable, distinct}
 use Rattle.personalise.specs.Placements.{placementsIn, eachOnce}
 use Rattle.personalise.specs.Entries.{mostEntries, mostRecords, lowClear, fileRead, firstNamed, inOrder, noneOffline, meets}
 use Rattle.personalise.specs.Records.{contentOf, mostContent}
-use Rattle.personalise.specs.Outcome.{recordsRoom, locatorRoom, listed}
+use Rattle.personalise.specs.Outcome.{recordsRoom, locatorRoom, listed, isWritten}
 
 -- no two entries name a record both
 unfoldable pub allApart : List Entry → Bool
@@ -56,4 +57,10 @@ pub record Kept (objects es placements lentRecords lentLocator : List ℕ) : Typ
   -- the records: placements name records of the locator and objects of the list; each content is at most 253 bytes
   pub named : every (recordNamed (total es)) (placementsIn placements) ≡ true
   pub objectsThere : every (objectListed (length (listed objects))) (placementsIn placements) ≡ true
-  pub contents : (k : ℕ) → length (contentOf (listed objects) (placementsIn placements) k) ≤ mostContent
+  pub contents : (k : ℕ) → 1 ≤ k → k ≤ total es
+      → length (contentOf (listed objects) (placementsIn placements) k) ≤ mostContent
+
+-- the answer a says that all is written exactly where the rules are kept
+abbrev pub Exactly : Answer → List ℕ → List ℕ → List ℕ → List ℕ → List ℕ → Type 0
+Exactly a objects es placements r l =
+    (isWritten a ≡ true → Kept objects es placements r l) × (Kept objects es placements r l → isWritten a ≡ true)

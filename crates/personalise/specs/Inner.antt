@@ -11,11 +11,15 @@ use lib.ListN.{length, take, drop}
 use Rattle.basics.specs.Choice.{if_then_else_, _and_, every}
 use Rattle.tlv.specs.Primitives.{Object, primitives, isRun}
 use Rattle.tlv.specs.Encoding.{tagBytes, lengthBytes, objectBytes}
+use Rattle.locator.specs.Records.{total}
 use Rattle.personalise.specs.declared.Placement.{Placement}
+use Rattle.personalise.specs.declared.Fault.{Fault}
+use Rattle.personalise.specs.declared.Answer.{Answer}
 use Rattle.personalise.specs.Objects.{settable, lacksTag, distinct}
-use Rattle.personalise.specs.Records.{contentOf, mostContent}
-use Rattle.personalise.specs.Outcome.{listed}
-use Rattle.personalise.specs.Placements.{anyOf, puts, eachOnce}
+use Rattle.personalise.specs.Entries.{badEntry}
+use Rattle.personalise.specs.Records.{contentOf, mostContent, badRecord}
+use Rattle.personalise.specs.Outcome.{recordsRoom, locatorRoom, listed, afterRecords, afterEntries}
+use Rattle.personalise.specs.Placements.{placementsIn, anyOf, puts, eachOnce}
 
 -- ---- runs
 
@@ -66,6 +70,25 @@ placedBytes ps k j t v =
     if anyOf (puts k j) ps then objectBytes t v
     else []
 
--- every content fits its record
-abbrev pub Fitting : List Object → List Placement → Type 0
-Fitting os ps = (k : ℕ) → length (contentOf os ps k) ≤ mostContent
+-- the contents of n records fit
+abbrev pub Fitting : List Object → List Placement → ℕ → Type 0
+Fitting os ps n = (k : ℕ) → k ≤ n → length (contentOf os ps k) ≤ mostContent
+
+-- ---- the stages of the answer, by bytes
+
+-- after the entries
+abbrev pub recordStage : List ℕ → List ℕ → List ℕ → Answer
+recordStage objects es placements =
+    afterRecords (listed objects) (placementsIn placements) es (badRecord (listed objects) (placementsIn placements) (total es))
+
+-- after the list
+abbrev pub entryStage : List ℕ → List ℕ → List ℕ → Answer
+entryStage objects es placements = afterEntries (listed objects) (placementsIn placements) es (badEntry es)
+
+-- all is written
+abbrev pub writtenOf : List ℕ → List ℕ → List ℕ → Answer
+writtenOf objects es placements = afterRecords (listed objects) (placementsIn placements) es Fault.Nothing
+
+-- both buffers are large enough
+abbrev pub Roomy : List ℕ → List ℕ → Type 0
+Roomy r l = (recordsRoom ≤ length r) × (locatorRoom ≤ length l)

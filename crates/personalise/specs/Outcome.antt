@@ -4,7 +4,7 @@
 use mathlib.Core.Bool.{Bool, true, false}
 use mathlib.Core.List.{List}
 use mathlib.Core.Option.{Option, some, none}
-use Prim.Native.Nat.{ℕ, _+_, _*_}
+use Prim.Native.Nat.{ℕ, _+_, _*_, _≤_}
 use lib.ListN.{length}
 use Rattle.basics.specs.Choice.{if_then_else_, _and_, _<?_, every}
 use Rattle.basics.specs.Front.{inFront}
@@ -81,17 +81,24 @@ isWritten (BadRecord k) = false
 abbrev pub listed : List ℕ → List Object
 listed objects = objectsOf (primitives objects)
 
--- the lent records r after an answer: the card's records in front where all is written, else as they were
-abbrev pub recordsLeft : Answer → List ℕ → List ℕ → List ℕ → List ℕ → List ℕ
-recordsLeft a objects es placements r =
-    if isWritten a then inFront (recordBytes (listed objects) (placementsIn placements) (total es)) r
+-- the lent records r: the card's records in front where all is written, else as they were
+abbrev pub recordsIf : Bool → List ℕ → List ℕ → List ℕ → List ℕ → List ℕ
+recordsIf w objects es placements r =
+    if w then inFront (recordBytes (listed objects) (placementsIn placements) (total es)) r
     else r
 
--- the lent locator l after an answer: the entries in front where all is written, else as it was
-abbrev pub locatorLeft : Answer → List ℕ → List ℕ → List ℕ
-locatorLeft a es l =
-    if isWritten a then inFront es l
+-- the lent locator l: the entries in front where all is written, else as it was
+abbrev pub locatorIf : Bool → List ℕ → List ℕ → List ℕ
+locatorIf w es l =
+    if w then inFront es l
     else l
+
+-- both by the answer
+abbrev pub recordsLeft : Answer → List ℕ → List ℕ → List ℕ → List ℕ → List ℕ
+recordsLeft a objects es placements r = recordsIf (isWritten a) objects es placements r
+
+abbrev pub locatorLeft : Answer → List ℕ → List ℕ → List ℕ
+locatorLeft a es l = locatorIf (isWritten a) es l
 
 -- ---- numbers
 
@@ -125,3 +132,23 @@ locatorOf (BadRecord k) = 0
 -- as one word: the kind in bits 48 to 55, the locator's length in bits 32 to 47, the number in bits 0 to 31
 abbrev pub wordOf : Answer → ℕ
 wordOf a = kindOf a * 0x1000000000000 + locatorOf a * 0x100000000 + numberOf a
+
+-- what it names is at most 32,768, and the locator's length at most 248, so that the parts of a word are apart
+pub record Small (a : Answer) : Type 0 where
+  pub number : numberOf a ≤ recordsRoom
+  pub locator : locatorOf a ≤ locatorRoom
+
+-- the word of the answer to objects, entries and placements in bytes, with the lent records r and locator l
+abbrev pub wordFor : List ℕ → List ℕ → List ℕ → List ℕ → List ℕ → ℕ
+wordFor objects es placements r l = wordOf (answerOf objects es placements r l)
+
+-- a word says that all is written: its kind is 0
+abbrev pub saysWritten : ℕ → Bool
+saysWritten w = w <? 0x1000000000000
+
+-- the lent records and the lent locator, by the word
+abbrev pub recordsBy : ℕ → List ℕ → List ℕ → List ℕ → List ℕ → List ℕ
+recordsBy w objects es placements r = recordsIf (saysWritten w) objects es placements r
+
+abbrev pub locatorBy : ℕ → List ℕ → List ℕ → List ℕ
+locatorBy w es l = locatorIf (saysWritten w) es l

@@ -17,7 +17,7 @@ const TEMPLATE: u32 = 0x70;
 // Writes the records 1 to `records`, one behind the other.
 pub fn put_records(objects: &[u8], placements: &[u8], records: usize, out: &mut [u8]) -> usize
     requires { ⌜ Usable (now objects) ⌝ }
-    requires { ⌜ Fitting (listed (now objects)) (placementsIn (now placements)) ⌝ }
+    requires { ⌜ Fitting (listed (now objects)) (placementsIn (now placements)) records ⌝ }
     requires { ⌜ (records < 256) × (256 * records ≤ length (now out)) ⌝ }
     ensures { λ r. ⌜ Puts r (now (out .exit)) (now (out .entry)) 0
         (recordBytes (listed (now (objects .entry))) (placementsIn (now (placements .entry))) records) ⌝ }

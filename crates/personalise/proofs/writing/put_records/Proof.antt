@@ -31,7 +31,7 @@ put-record-requires : tie.Need-put-record-requires Inv-loop μ-loop
 put-record-requires c κs =
     let lp = c .before .before .loop in
     let st = c .before .before .before .before .before .before in
-    (st .pre .0, (st .pre .1 .0 (lp .k), omega (arith, lp .inv .2, lp .inv .3, lp .inv .4, lp .inv .5, c .before .loop-test .taken, st .pre .1 .1 .1)))
+    (st .pre .0, (st .pre .1 .0 (lp .k) (c .before .loop-test .taken), omega (arith, lp .inv .2, lp .inv .3, lp .inv .4, lp .inv .5, c .before .loop-test .taken, st .pre .1 .1 .1)))
 
 loop-again : tie.Need-loop-again Inv-loop μ-loop
 loop-again c =
@@ -43,7 +43,7 @@ loop-again c =
     let os = listed (a .objects .now) in
     let ps = placementsIn (a .placements .now) in
     let h = l .loop-test .taken in
-    let f = st .pre .1 .0 (lp .k) in
+    let f = st .pre .1 .0 (lp .k) h in
     let room : lp .at + 256 ≤ length (lp .out) = omega (arith, lp .inv .2, lp .inv .3, lp .inv .4, lp .inv .5, st .pre .1 .1 .1) in
     let p = w .put-record .ensures in
     let m = turn-most os ps (a .records) (lp .k) h f (lp .out) (lp .at) room p in (
