@@ -9,3 +9,5 @@ pub mod Known
 pub mod Filled
 pub mod Rules
 pub mod Stages
+pub mod Exact
+pub mod Arranged
