@@ -11,3 +11,5 @@ pub mod Rules
 pub mod Stages
 pub mod Exact
 pub mod Arranged
+pub mod Stored
+pub mod ReadBack
