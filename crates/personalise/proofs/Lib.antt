@@ -13,3 +13,4 @@ pub mod Exact
 pub mod Arranged
 pub mod Stored
 pub mod ReadBack
+pub mod Holding

@@ -201,7 +201,7 @@ unfolding recordsFrom every
 files-from g n zero h = refl
 files-from g n (suc k) h = both-yes _ _ (le-leb g 10 h) (files-from g (n + 1) k h)
 
-files-of : (es : List Entry) → every fileRead es ≡ true → every read-file (recordsOf es) ≡ true
+pub files-of : (es : List Entry) → every fileRead es ≡ true → every read-file (recordsOf es) ≡ true
 unfolding recordsOf every
 files-of [] e = refl
 files-of (x ∷ es) e =

@@ -16,6 +16,8 @@ ghost use Rattle.locator.specs.Records.{total};
 ghost use Rattle.personalise.specs.Placements.{placementsIn};
 ghost use Rattle.personalise.specs.Entries.{badEntry, mostRecords};
 ghost use Rattle.personalise.specs.Outcome.{locatorRoom, listed, answerOf, recordsLeft, locatorLeft, Small, wordOf, wordFor, recordsBy, locatorBy};
+ghost use Rattle.personalise.specs.Clauses.{Exactly};
+ghost use Rattle.personalise.specs.Read.{HoldsOf};
 ghost use Rattle.personalise.specs.Inner.{Usable, Fitting, Roomy, entryStage, recordStage, writtenOf};
 
 // Where an object goes: the number of its record and its own, both counted from 1.
@@ -66,6 +68,8 @@ pub fn personalise(
     ensures wrote { λ r. ⌜ now (records .exit) ≡ recordsLeft r (now (objects .entry)) (now (entries .entry)) (now (placements .entry)) (now (records .entry)) ⌝ }
     ensures located { λ r. ⌜ now (locator .exit) ≡ locatorLeft r (now (entries .entry)) (now (locator .entry)) ⌝ }
     ensures small { λ r. ⌜ Small r ⌝ }
+    ensures exact { λ r. ⌜ Exactly r (now (objects .entry)) (now (entries .entry)) (now (placements .entry)) (now (records .entry)) (now (locator .entry)) ⌝ }
+    ensures reads { λ r. ⌜ HoldsOf (now (objects .entry)) (now (entries .entry)) (now (placements .entry)) r (now (records .exit)) (now (locator .exit)) ⌝ }
 {
     if records.len() < RECORDS_ROOM {
         return Answer::ShortRecords;

@@ -13,7 +13,7 @@ returns c =
     let p = c .before .before .before .before .before in
     let a = p .before .before .before .before .before .before .before .before .args in
     let q = p .personalise .ensures in
-    let w = sym (ap saysWritten (c .word .ensures) ∙ says-written (p .personalise .result) (q .1 .1 .1)) in (
+    let w = sym (ap saysWritten (c .word .ensures) ∙ says-written (p .personalise .result) (q .1 .1 .1 .0)) in (
       c .word .ensures ∙ ap wordOf (q .0),
       (q .1 .0 ∙ ap (λ (b : Bool). recordsIf b (a .objects .now) (a .entries .now) (a .placements .now) (a .records .now)) w,
       q .1 .1 .0 ∙ ap (λ (b : Bool). locatorIf b (a .entries .now) (a .locator .now)) w),
@@ -24,7 +24,7 @@ emv-personalise-spec =
     tie.close
     (tie.spec
     (λ c κs. search needs)
-    (λ c κs. c .before .before .before .before .personalise .ensures .1 .1 .1)
+    (λ c κs. c .before .before .before .before .personalise .ensures .1 .1 .1 .0)
     (λ c. search needs)
     (λ c. search needs)
     returns)
