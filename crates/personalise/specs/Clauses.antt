@@ -1,4 +1,4 @@
--- The rules of a personalisation, a clause for each (document 02, Item 4). It is written exactly where all of them hold.
+-- The rules of a personalisation, a clause for each (document 02, Item 4): it is written exactly where all of them hold.
 -- Assumes nothing.
 use mathlib.Core.Path.{_≡_}
 use mathlib.Core.Bool.{Bool, true, false, not}
@@ -14,7 +14,8 @@ use Rattle.personalise.specs.declared.Placement.{Placement}
 use Rattle.personalise.specs.declared.Answer.{Answer}
 use Rattle.personalise.specs.Objects.{settable, distinct}
 use Rattle.personalise.specs.Placements.{placementsIn, eachOnce}
-use Rattle.personalise.specs.Entries.{mostEntries, mostRecords, lowClear, fileRead, firstNamed, inOrder, noneOffline, meets}
+use Rattle.personalise.specs.Entries.{mostEntries, mostRecords, meets}
+use Rattle.personalise.specs.Entries.{lowClear, fileRead, firstNamed, inOrder, noneOffline}
 use Rattle.personalise.specs.Records.{contentOf, mostContent}
 use Rattle.personalise.specs.Outcome.{recordsRoom, locatorRoom, listed, isWritten}
 

@@ -18,7 +18,7 @@ use Rattle.personalise.specs.declared.Answer.{Answer}
 use Rattle.personalise.specs.Objects.{settable, lacksTag, distinct}
 use Rattle.personalise.specs.Entries.{badEntry}
 use Rattle.personalise.specs.Records.{contentOf, mostContent, badRecord}
-use Rattle.personalise.specs.Outcome.{recordsRoom, locatorRoom, listed, afterRecords, afterEntries}
+use Rattle.personalise.specs.Outcome.{recordsRoom, locatorRoom, listed, recordBytes, afterRecords, afterEntries}
 use Rattle.personalise.specs.Placements.{placementsIn, anyOf, puts, eachOnce}
 
 -- ---- runs
@@ -70,6 +70,10 @@ placedBytes ps k j t v =
     if anyOf (puts k j) ps then objectBytes t v
     else []
 
+-- the bytes of n records, by the bytes of objects and placements
+abbrev pub bytesFor : List ℕ → List ℕ → ℕ → List ℕ
+bytesFor objects placements n = recordBytes (listed objects) (placementsIn placements) n
+
 -- the contents of n records fit
 abbrev pub Fitting : List Object → List Placement → ℕ → Type 0
 Fitting os ps n = (k : ℕ) → k ≤ n → length (contentOf os ps k) ≤ mostContent
@@ -79,7 +83,8 @@ Fitting os ps n = (k : ℕ) → k ≤ n → length (contentOf os ps k) ≤ mostC
 -- after the entries
 abbrev pub recordStage : List ℕ → List ℕ → List ℕ → Answer
 recordStage objects es placements =
-    afterRecords (listed objects) (placementsIn placements) es (badRecord (listed objects) (placementsIn placements) (total es))
+    afterRecords (listed objects) (placementsIn placements) es
+    (badRecord (listed objects) (placementsIn placements) (total es))
 
 -- after the list
 abbrev pub entryStage : List ℕ → List ℕ → List ℕ → Answer

@@ -14,7 +14,6 @@ use Rattle.personalise.specs.declared.Placement.{Placement}
 use Rattle.personalise.specs.declared.Fault.{Fault}
 use Rattle.personalise.specs.declared.Fault.the-variants.{At, Nothing}
 use Rattle.personalise.specs.declared.Answer.{Answer}
-use Rattle.personalise.specs.declared.Answer.the-variants.{Written, ShortRecords, ShortLocator, BadList, BadEntry, BadRecord}
 use Rattle.personalise.specs.Objects.{settable, distinct, objectsOf}
 use Rattle.personalise.specs.Placements.{placementsIn, eachOnce}
 use Rattle.personalise.specs.Entries.{badEntry}
@@ -43,39 +42,39 @@ recordBytes os ps n = joined (recordsFrom os ps 1 n)
 
 -- after the records: the least bad one is named, or all is written
 abbrev pub afterRecords : List Object → List Placement → List ℕ → Fault → Answer
-afterRecords os ps es (At k) = BadRecord k
+afterRecords os ps es (At k) = Answer.BadRecord k
 afterRecords os ps es Nothing =
-    Written (record { records = length (recordBytes os ps (total es)); locator = length es })
+    Answer.Written (record { records = length (recordBytes os ps (total es)); locator = length es })
 
 -- after the entries: the first bad one is named, or the records are looked at
 abbrev pub afterEntries : List Object → List Placement → List ℕ → Fault → Answer
-afterEntries os ps es (At i) = BadEntry i
+afterEntries os ps es (At i) = Answer.BadEntry i
 afterEntries os ps es Nothing = afterRecords os ps es (badRecord os ps (total es))
 
 -- after the buffers: bytes that are no run, and a list that breaks a rule, are refused
 abbrev pub afterBuffers : Option (List Object) → List Placement → List ℕ → Answer
-afterBuffers none ps es = BadList
+afterBuffers none ps es = Answer.BadList
 afterBuffers (some os) ps es =
     if listKeeps os ps then afterEntries os ps es (badEntry es)
-    else BadList
+    else Answer.BadList
 
 -- the answer to objects, entries and placements in bytes, with the lent records r and locator l
 unfoldable pub answerOf : List ℕ → List ℕ → List ℕ → List ℕ → List ℕ → Answer
 answerOf objects es placements r l =
-    if length r <? recordsRoom then ShortRecords
-    else if length l <? locatorRoom then ShortLocator
+    if length r <? recordsRoom then Answer.ShortRecords
+    else if length l <? locatorRoom then Answer.ShortLocator
     else afterBuffers (primitives objects) (placementsIn placements) es
 
 -- ---- the buffers
 
 -- an answer says that all is written
 abbrev pub isWritten : Answer → Bool
-isWritten (Written z) = true
-isWritten ShortRecords = false
-isWritten ShortLocator = false
-isWritten BadList = false
-isWritten (BadEntry i) = false
-isWritten (BadRecord k) = false
+isWritten (Answer.Written z) = true
+isWritten Answer.ShortRecords = false
+isWritten Answer.ShortLocator = false
+isWritten Answer.BadList = false
+isWritten (Answer.BadEntry i) = false
+isWritten (Answer.BadRecord k) = false
 
 -- the list's objects, by its bytes
 abbrev pub listed : List ℕ → List Object
@@ -104,30 +103,30 @@ locatorLeft a es l = locatorIf (isWritten a) es l
 
 -- the kind of an answer
 abbrev pub kindOf : Answer → ℕ
-kindOf (Written z) = 0
-kindOf ShortRecords = 1
-kindOf ShortLocator = 2
-kindOf BadList = 3
-kindOf (BadEntry i) = 4
-kindOf (BadRecord k) = 5
+kindOf (Answer.Written z) = 0
+kindOf Answer.ShortRecords = 1
+kindOf Answer.ShortLocator = 2
+kindOf Answer.BadList = 3
+kindOf (Answer.BadEntry i) = 4
+kindOf (Answer.BadRecord k) = 5
 
 -- what it names: the records' length, the number of the entry or of the record
 abbrev pub numberOf : Answer → ℕ
-numberOf (Written z) = z .records
-numberOf ShortRecords = 0
-numberOf ShortLocator = 0
-numberOf BadList = 0
-numberOf (BadEntry i) = i
-numberOf (BadRecord k) = k
+numberOf (Answer.Written z) = z .records
+numberOf Answer.ShortRecords = 0
+numberOf Answer.ShortLocator = 0
+numberOf Answer.BadList = 0
+numberOf (Answer.BadEntry i) = i
+numberOf (Answer.BadRecord k) = k
 
 -- the locator's length where it is written
 abbrev pub locatorOf : Answer → ℕ
-locatorOf (Written z) = z .locator
-locatorOf ShortRecords = 0
-locatorOf ShortLocator = 0
-locatorOf BadList = 0
-locatorOf (BadEntry i) = 0
-locatorOf (BadRecord k) = 0
+locatorOf (Answer.Written z) = z .locator
+locatorOf Answer.ShortRecords = 0
+locatorOf Answer.ShortLocator = 0
+locatorOf Answer.BadList = 0
+locatorOf (Answer.BadEntry i) = 0
+locatorOf (Answer.BadRecord k) = 0
 
 -- as one word: the kind in bits 48 to 55, the locator's length in bits 32 to 47, the number in bits 0 to 31
 abbrev pub wordOf : Answer → ℕ

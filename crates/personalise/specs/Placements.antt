@@ -1,5 +1,5 @@
--- Placements (document 02, Item 4, the layout): two bytes each, the number of a record and the number of an object, both
--- counted from 1, records in the locator's order and objects in the list's. A byte past the end reads as 0.
+-- Placements (document 02, Item 4, the layout): two bytes each, the number of a record and the number of an object,
+-- both counted from 1, records in the locator's order and objects in the list's. A byte past the end reads as 0.
 -- Assumes nothing.
 use mathlib.Core.Bool.{Bool, true, false}
 use mathlib.Core.List.{List, [], _∷_}

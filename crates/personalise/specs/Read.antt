@@ -18,7 +18,6 @@ use Rattle.locator.specs.Records.{records, total, accepts}
 use Rattle.reading.specs.declared.Awaited.{Awaited}
 use Rattle.reading.specs.Answer.{Outcome, readAnswer}
 use Rattle.personalise.specs.declared.Answer.{Answer}
-use Rattle.personalise.specs.declared.Answer.the-variants.{Written, ShortRecords, ShortLocator, BadList, BadEntry, BadRecord}
 use Rattle.personalise.specs.declared.Sizes.{Sizes}
 use Rattle.personalise.specs.Placements.{placementsIn}
 use Rattle.personalise.specs.Records.{recordsFrom, joined}
@@ -81,9 +80,9 @@ pub record Holds (objects es placements : List ℕ) (z : Sizes) (leftRecords lef
 
 -- what holds by the answer
 abbrev pub HoldsOf : List ℕ → List ℕ → List ℕ → Answer → List ℕ → List ℕ → Type 0
-HoldsOf objects es placements (Written z) r l = Holds objects es placements z r l
-HoldsOf objects es placements ShortRecords r l = Unit {0}
-HoldsOf objects es placements ShortLocator r l = Unit {0}
-HoldsOf objects es placements BadList r l = Unit {0}
-HoldsOf objects es placements (BadEntry i) r l = Unit {0}
-HoldsOf objects es placements (BadRecord k) r l = Unit {0}
+HoldsOf objects es placements (Answer.Written z) r l = Holds objects es placements z r l
+HoldsOf objects es placements Answer.ShortRecords r l = Unit {0}
+HoldsOf objects es placements Answer.ShortLocator r l = Unit {0}
+HoldsOf objects es placements Answer.BadList r l = Unit {0}
+HoldsOf objects es placements (Answer.BadEntry i) r l = Unit {0}
+HoldsOf objects es placements (Answer.BadRecord k) r l = Unit {0}

@@ -19,7 +19,7 @@ const MOST: usize = 253;
 const OVER: usize = 254;
 
 // The least bad record of so many.
-pub fn bad_record(objects: &[u8], placements: &[u8], records: usize) -> Fault
+pub(crate) fn bad_record(objects: &[u8], placements: &[u8], records: usize) -> Fault
     requires { ⌜ isRun (primitives (now objects)) ≡ true ⌝ }
     ensures { λ r. ⌜ r ≡ badRecord (listed (now (objects .entry))) (placementsIn (now (placements .entry))) records ⌝ }
 {
@@ -47,7 +47,7 @@ fn is_bad(objects: &[u8], placements: &[u8], k: usize, records: usize, count: us
 }
 
 // How many bytes record k has inside its template; 254 for any number above 253.
-pub fn size(objects: &[u8], placements: &[u8], k: usize) -> usize
+pub(crate) fn size(objects: &[u8], placements: &[u8], k: usize) -> usize
     requires { ⌜ isRun (primitives (now objects)) ≡ true ⌝ }
     ensures { λ r. ⌜ r ≡ capped (length (contentOf (listed (now (objects .entry))) (placementsIn (now (placements .entry))) k)) ⌝ }
 {

@@ -14,7 +14,7 @@ const MOST_RECORDS: usize = 128;
 const LAST_FILE: u8 = 10;
 
 // The first bad entry, by its number from 1; the first where there is none.
-pub fn bad_entry(entries: &[u8]) -> Fault
+pub(crate) fn bad_entry(entries: &[u8]) -> Fault
     ensures { λ r. ⌜ r ≡ badEntry (now (entries .entry)) ⌝ }
 {
     let mut at = 0;
@@ -35,7 +35,7 @@ pub fn bad_entry(entries: &[u8]) -> Fault
 }
 
 // How many records some entries name.
-pub fn count_records(entries: &[u8]) -> usize
+pub(crate) fn count_records(entries: &[u8]) -> usize
     requires { ⌜ length (now entries) ≤ 248 ⌝ }
     ensures { λ r. ⌜ (r ≡ total (now (entries .entry))) × (r ≤ 15872) ⌝ }
 {

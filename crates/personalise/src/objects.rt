@@ -15,7 +15,7 @@ ghost use Rattle.personalise.specs.Outcome.{listed};
 ghost use Rattle.personalise.specs.Inner.{lacksIn, runKeeps};
 
 // Whether the bytes are a run of objects that may all be set, no tag twice, each placed once.
-pub fn keeps(objects: &[u8], placements: &[u8]) -> bool
+pub(crate) fn keeps(objects: &[u8], placements: &[u8]) -> bool
     ensures { λ r. ⌜ r ≡ runKeeps (placementsIn (now (placements .entry))) 1 (primitives (now (objects .entry))) ⌝ }
 {
     let mut s = objects;
@@ -45,7 +45,7 @@ pub fn keeps(objects: &[u8], placements: &[u8]) -> bool
 }
 
 // How many objects a run has.
-pub fn count(objects: &[u8]) -> usize
+pub(crate) fn count(objects: &[u8]) -> usize
     requires { ⌜ isRun (primitives (now objects)) ≡ true ⌝ }
     ensures { λ r. ⌜ r ≡ length (listed (now (objects .entry))) ⌝ }
 {

@@ -7,7 +7,7 @@ ghost use Rattle.personalise.specs.Placements.{placement, placementsIn, 
 ghost use Rattle.personalise.specs.Records.{strays as straysFrom, misplaced};
 
 // How many placements name an object.
-pub fn count_named(placements: &[u8], object: usize) -> usize
+pub(crate) fn count_named(placements: &[u8], object: usize) -> usize
     ensures { λ r. ⌜ r ≡ countOf (ofObject object) (placementsIn (now (placements .entry))) ⌝ }
 {
     let mut rest = placements;
@@ -24,7 +24,7 @@ pub fn count_named(placements: &[u8], object: usize) -> usize
 }
 
 // Whether some placement puts an object into a record.
-pub fn is_placed(placements: &[u8], into: usize, object: usize) -> bool
+pub(crate) fn is_placed(placements: &[u8], into: usize, object: usize) -> bool
     ensures { λ r. ⌜ r ≡ anyOf (puts into object) (placementsIn (now (placements .entry))) ⌝ }
 {
     let mut rest = placements;
@@ -40,7 +40,7 @@ pub fn is_placed(placements: &[u8], into: usize, object: usize) -> bool
 }
 
 // Whether some placement names a record that is none of `records`, or with it an object that is none of `objects`.
-pub fn is_misplaced(placements: &[u8], into: usize, records: usize, objects: usize) -> bool
+pub(crate) fn is_misplaced(placements: &[u8], into: usize, records: usize, objects: usize) -> bool
     ensures { λ r. ⌜ r ≡ misplaced (placementsIn (now (placements .entry))) records objects into ⌝ }
 {
     let mut rest = placements;

@@ -8,19 +8,18 @@ ghost use lib.ListN.{length};
 ghost use Rattle.tlv.specs.Encoding.{tagBytes, lengthBytes, objectBytes};
 ghost use Rattle.personalise.specs.Placements.{placementsIn};
 ghost use Rattle.personalise.specs.Records.{contentOf, recordOf, mostContent};
-ghost use Rattle.personalise.specs.Outcome.{recordBytes, listed};
-ghost use Rattle.personalise.specs.Inner.{Usable, Fitting, Puts, placedBytes};
+ghost use Rattle.personalise.specs.Outcome.{listed};
+ghost use Rattle.personalise.specs.Inner.{Usable, Fitting, Puts, placedBytes, bytesFor};
 
 // The tag of a record's template.
 const TEMPLATE: u32 = 0x70;
 
 // Writes the records 1 to `records`, one behind the other.
-pub fn put_records(objects: &[u8], placements: &[u8], records: usize, out: &mut [u8]) -> usize
+pub(crate) fn put_records(objects: &[u8], placements: &[u8], records: usize, out: &mut [u8]) -> usize
     requires { ⌜ Usable (now objects) ⌝ }
     requires { ⌜ Fitting (listed (now objects)) (placementsIn (now placements)) records ⌝ }
     requires { ⌜ (records < 256) × (256 * records ≤ length (now out)) ⌝ }
-    ensures { λ r. ⌜ Puts r (now (out .exit)) (now (out .entry)) 0
-        (recordBytes (listed (now (objects .entry))) (placementsIn (now (placements .entry))) records) ⌝ }
+    ensures { λ r. ⌜ Puts r (now (out .exit)) (now (out .entry)) 0 (bytesFor (now (objects .entry)) (now (placements .entry)) records) ⌝ }
 {
     let mut k: usize = 1;
     let mut at: usize = 0;
