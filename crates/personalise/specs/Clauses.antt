@@ -1,4 +1,4 @@
--- The rules of a personalisation, a clause for each (document 02, Item 4): it is written exactly where all of them hold.
+-- The rules of a personalisation, a clause for each (document 02, Item 4): all is written exactly where they hold.
 -- Assumes nothing.
 use mathlib.Core.Path.{_≡_}
 use mathlib.Core.Bool.{Bool, true, false, not}
