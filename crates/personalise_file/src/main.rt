@@ -12,8 +12,6 @@ mod text;
 
 use arguments::Arguments;
 use libc::{STDERR_FILENO, STDIN_FILENO};
-ghost use mathlib.Core.Path.{_≡_};
-ghost use lib.ListN.{length};
 
 // How much of a file is there, whether to read on, and whether a part could not be read.
 struct Filled {
@@ -114,9 +112,7 @@ fn answered_of(fd: i32) -> u8 {
 }
 
 // Fills the space from a file. Each part has a character or more, so there are no more turns than characters.
-fn read(fd: i32, space: &mut [u8]) -> Filled
-    ensures { λ _. ⌜ length (now (space .exit)) ≡ length (now (space .entry)) ⌝ }
-{
+fn read(fd: i32, space: &mut [u8]) -> Filled {
     let mut state = Filled {
         size: 0,
         going: true,
@@ -131,9 +127,7 @@ fn read(fd: i32, space: &mut [u8]) -> Filled
 }
 
 // One part more, behind those that are there.
-fn read_part(state: Filled, fd: i32, space: &mut [u8]) -> Filled
-    ensures { λ _. ⌜ length (now (space .exit)) ≡ length (now (space .entry)) ⌝ }
-{
+fn read_part(state: Filled, fd: i32, space: &mut [u8]) -> Filled {
     let filled = state.size;
     let mut part = [0u8; 4096];
     let got = libc::read(fd, &mut part);
@@ -162,9 +156,7 @@ fn ended(size: usize, failed: bool) -> Filled {
 }
 
 // Puts characters behind those that are there, as many as there is room for: how many are there then.
-fn append(chars: &[u8], space: &mut [u8], filled: usize) -> usize
-    ensures { λ _. ⌜ length (now (space .exit)) ≡ length (now (space .entry)) ⌝ }
-{
+fn append(chars: &[u8], space: &mut [u8], filled: usize) -> usize {
     let mut to = filled;
     let mut i = 0;
     while i < chars.len() {

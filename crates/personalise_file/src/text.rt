@@ -2,7 +2,6 @@
 use crate::complain;
 use libc::STDERR_FILENO;
 use line::Decoded;
-ghost use mathlib.Core.Path.{_≡_};
 ghost use Prim.Native.Nat.{_≤_};
 ghost use lib.ListN.{length};
 
@@ -31,11 +30,7 @@ enum Word {
 }
 
 // Reads all lines, up to one that is wrong, which is reported by its number.
-pub fn lines(chars: &[u8], objects: &mut [u8], entries: &mut [u8], placements: &mut [u8]) -> Given
-    ensures { λ _. ⌜ length (now (objects .exit)) ≡ length (now (objects .entry)) ⌝ }
-    ensures { λ _. ⌜ length (now (entries .exit)) ≡ length (now (entries .entry)) ⌝ }
-    ensures { λ _. ⌜ length (now (placements .exit)) ≡ length (now (placements .entry)) ⌝ }
-{
+pub fn lines(chars: &[u8], objects: &mut [u8], entries: &mut [u8], placements: &mut [u8]) -> Given {
     let mut given = nothing();
     let mut rest = chars;
     while rest.len() != 0 {
@@ -78,11 +73,7 @@ fn with_line(
     objects: &mut [u8],
     entries: &mut [u8],
     placements: &mut [u8],
-) -> Given
-    ensures { λ _. ⌜ length (now (objects .exit)) ≡ length (now (objects .entry)) ⌝ }
-    ensures { λ _. ⌜ length (now (entries .exit)) ≡ length (now (entries .entry)) ⌝ }
-    ensures { λ _. ⌜ length (now (placements .exit)) ≡ length (now (placements .entry)) ⌝ }
-{
+) -> Given {
     if given.wrong {
         return given;
     }
@@ -150,7 +141,8 @@ fn checked(given: Given, twice: bool, d: Decoded) -> Given {
     if twice {
         return wrong(given, b"this word for the second time; expected it once");
     }
-    match d.problem {
+    let problem = d.problem;
+    match problem {
         0 => next_line(given),
         line::HEX => wrong(
             given,
@@ -185,23 +177,19 @@ fn wrong(given: Given, words: &[u8]) -> Given {
     out
 }
 
-// Whether no line was wrong and each was there; one that is absent is reported at the line behind the last.
+// Whether no line was wrong and each was there; the first that is absent is reported at the line behind the last.
 pub fn is_whole(given: Given) -> bool {
-    let found = found(
-        found(
-            found(given, given.objects.there, b"expected objects HEX; the file ends"),
-            given.entries.there,
-            b"expected entries HEX; the file ends",
-        ),
-        given.placements.there,
-        b"expected placements HEX; the file ends",
-    );
-    !found.wrong
+    if given.wrong {
+        return false;
+    }
+    is_there(given, given.objects, b"expected objects HEX; the file ends")
+        && is_there(given, given.entries, b"expected entries HEX; the file ends")
+        && is_there(given, given.placements, b"expected placements HEX; the file ends")
 }
 
-fn found(given: Given, there: bool, words: &[u8]) -> Given {
-    if given.wrong || there {
-        return given;
+fn is_there(given: Given, part: Part, words: &[u8]) -> bool {
+    if !part.there {
+        wrong(given, words);
     }
-    wrong(given, words)
+    part.there
 }

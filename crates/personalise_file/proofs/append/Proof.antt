@@ -1,0 +1,35 @@
+-- One character to a turn of the loop; the slice keeps its length. Assumes nothing.
+use borrow.Author.Needs.{needs}
+use native.Mathlib.Omega.{arith}
+use mathlib.Core.Path.{_≡_, refl}
+use Prim.Native.Nat.{_-_}
+use lib.ListN.{length, length-set}
+use Rattle.personalise_file.proofs.append.Statement.{statement}
+use Rattle.personalise_file.proofs.append.Tie as tie
+
+abbrev Inv-loop : tie.InvT-loop
+Inv-loop chars space₀ filled to₀ i₀ space to i = length space ≡ length space₀
+
+abbrev μ-loop : tie.MeasureT-loop
+μ-loop chars space₀ filled to₀ i₀ space to i = length chars - i
+
+loop-again : tie.Need-loop-again Inv-loop μ-loop
+loop-again c = simp length-set (omega arith)
+
+pub append-spec : {M : Type 1} → statement M
+append-spec =
+    tie.close
+    (tie.spec
+    Inv-loop
+    μ-loop
+    (λ c. refl)
+    (λ c. search needs)
+    (λ c. search needs)
+    (λ c. omega arith)
+    (λ c. omega arith)
+    (λ c. omega arith)
+    (λ c. omega arith)
+    (λ c. omega arith)
+    loop-again
+    (λ c. search needs)
+    (λ c. search needs))
