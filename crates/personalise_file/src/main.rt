@@ -129,8 +129,11 @@ fn read(fd: i32, space: &mut [u8]) -> Filled {
 // One part more, behind those that are there.
 fn read_part(state: Filled, fd: i32, space: &mut [u8]) -> Filled {
     let filled = state.size;
-    let mut part = [0u8; 4096];
-    let got = libc::read(fd, &mut part);
+    if space.len() <= filled {
+        return ended(filled, false);
+    }
+    let rest = &mut space[filled..];
+    let got = libc::read(fd, rest);
     if got < 0 {
         os::fail(b"personalise: the file cannot be read");
         return ended(filled, true);
@@ -138,11 +141,10 @@ fn read_part(state: Filled, fd: i32, space: &mut [u8]) -> Filled {
     if got == 0 {
         return ended(filled, false);
     }
-    let n = io::count(got, &part);
-    let size = append(&part[..n], space, filled);
+    let n = io::count(got, rest);
     Filled {
-        size,
-        going: size < space.len(),
+        size: filled + n,
+        going: true,
         failed: false,
     }
 }
@@ -153,21 +155,6 @@ fn ended(size: usize, failed: bool) -> Filled {
         going: false,
         failed,
     }
-}
-
-// Puts characters behind those that are there, as many as there is room for: how many are there then.
-fn append(chars: &[u8], space: &mut [u8], filled: usize) -> usize {
-    let mut to = filled;
-    let mut i = 0;
-    while i < chars.len() {
-        if space.len() <= to {
-            return to;
-        }
-        space[to] = chars[i];
-        to += 1;
-        i += 1;
-    }
-    to
 }
 
 // ---- the answer
