@@ -21,8 +21,12 @@ use Rattle.locator.proofs.Laws.{kept-keeps}
 use Rattle.personalise.specs.declared.Fault.{Fault}
 use Rattle.personalise.specs.declared.Fault.the-variants.{At, Nothing}
 use Rattle.personalise.specs.Entries.{mostEntries, mostRecords, lowClear, fileRead, firstNamed, inOrder, noneOffline, meets, apartFrom, roomBehind, keepsAlone, keepsBehind, badEnd, badFrom, badEntry}
-use Rattle.personalise.specs.Clauses.{allApart}
 use Rattle.personalise.proofs.Proposed.{entries-count}
+
+-- no two entries name a record both
+unfoldable pub allApart : List Entry → Bool
+allApart [] = true
+allApart (e ∷ es) = both (every (λ f. not (meets e f)) es) (allApart es)
 
 -- ---- a test at every entry
 
@@ -47,7 +51,7 @@ every-snoc f [] x = both-one (f x)
     both-one false = refl
 every-snoc f (y ∷ l) x = ap (both (f y)) (every-snoc f l x) ∙ both-assoc (f y) (every f l) (f x)
 
-every-same : {A : Type 0} (f g : A → Bool) → ((x : A) → f x ≡ g x) → (l : List A) → every f l ≡ every g l
+pub every-same : {A : Type 0} (f g : A → Bool) → ((x : A) → f x ≡ g x) → (l : List A) → every f l ≡ every g l
 unfolding every
 every-same f g h [] = refl
 every-same f g h (x ∷ l) = ap₂ both (h x) (every-same f g h l)
