@@ -5,22 +5,21 @@ use mathlib.Core.Path.{_≡_, refl, sym, ap, ap₂, _∙_}
 use mathlib.Core.Bool.{Bool, true, false, not}
 use mathlib.Core.Logic.{inl, inr}
 use mathlib.Core.List.{List, [], _∷_, _++_}
-use Prim.Native.Nat.{ℕ, suc, _+_, _*_, _/_, _%_, _<_, _≤_}
+use Prim.Native.Nat.{ℕ, _+_, _<_, _≤_}
 use native.Mathlib.Nat.{zero-add, add-zero}
 use native.Mathlib.Omega.{arith}
 use lib.Dec.{ltb}
 use lib.ListN.{length, length-append}
-use borrow.Author.Tests.{ltb-true, leb-true, eqb-true, lt-ltb, le-leb}
-use Rattle.basics.specs.Choice.{if, both, every}
+use borrow.Author.Tests.{ltb-true, leb-true, lt-ltb, le-leb}
+use Rattle.basics.specs.Choice.{both, every}
 use Rattle.basics.proofs.Laws.{if-yes, if-no, bool-cases, both-yes, both-left, both-right, both-assoc}
 use Rattle.locator.specs.declared.Entry.{Entry}
-use Rattle.locator.specs.Entry.{countOf, keeps}
-use Rattle.locator.specs.Records.{entries, wholeEntries, sumOf, total, accepts}
+use Rattle.locator.specs.Entry.{countOf}
+use Rattle.locator.specs.Records.{entries, wholeEntries, sumOf, total}
 use Rattle.locator.proofs.Records.{whole-length}
-use Rattle.locator.proofs.Laws.{kept-keeps}
 use Rattle.personalise.specs.declared.Fault.{Fault}
 use Rattle.personalise.specs.declared.Fault.the-variants.{At, Nothing}
-use Rattle.personalise.specs.Entries.{mostEntries, mostRecords, lowClear, fileRead, firstNamed, inOrder, noneOffline, meets, apartFrom, roomBehind, keepsAlone, keepsBehind, badEnd, badFrom, badEntry}
+use Rattle.personalise.specs.Entries.{mostEntries, mostRecords, meets, apartFrom, roomBehind, keepsAlone, keepsBehind, badEnd, badFrom, badEntry}
 use Rattle.personalise.proofs.Proposed.{entries-count}
 
 -- no two entries name a record both

@@ -3,18 +3,14 @@
 -- Assumes nothing.
 use mathlib.Core.Path.{_≡_, refl, sym, ap, ap₂, _∙_}
 use mathlib.Core.Bool.{Bool, true, false, not}
-use mathlib.Core.Logic.{_⊎_, inl, inr}
+use mathlib.Core.Logic.{inl, inr}
 use mathlib.Core.List.{List, [], _∷_, _++_}
 use Prim.Native.Nat.{ℕ, zero, suc, _+_, _-_, _<_, _≤_}
-use native.Mathlib.Nat.{add-zero}
 use native.Mathlib.Omega.{arith}
-use lib.Dec.{eqb, leb}
-use lib.ListN.{length, getD}
-use borrow.Author.Tests.{eq-eqb, ne-eqb, eqb-true, leb-true, le-leb, lt-leb, not-true, not-false}
+use borrow.Author.Tests.{eq-eqb, ne-eqb, eqb-true, leb-true, le-leb}
 use Rattle.basics.specs.Choice.{both, every}
 use Rattle.basics.proofs.Laws.{bool-cases, both-yes, both-true, both-left, both-right, both-no-left, both-no-right, both-assoc}
 use Rattle.basics.proofs.Order.{le-or-gt, equal-or-not}
-use Rattle.basics.proofs.Table.{at}
 use Rattle.locator.specs.declared.Entry.{Entry}
 use Rattle.locator.specs.declared.CardRecord.{CardRecord}
 use Rattle.locator.specs.Entry.{fileOf, countOf}

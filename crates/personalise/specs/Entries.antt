@@ -1,9 +1,9 @@
 -- The file locator as it is proposed (document 02, Item 4; document 01, "Commands and steps", Locator): what an entry
 -- must keep behind the entries before it, and the number of the first that does not.
 -- Assumes nothing.
-use mathlib.Core.Bool.{Bool, true, false, not}
+use mathlib.Core.Bool.{Bool, not}
 use mathlib.Core.List.{List, [], _∷_, _++_}
-use Prim.Native.Nat.{ℕ, zero, suc, _+_, _%_}
+use Prim.Native.Nat.{ℕ, _+_, _%_}
 use lib.ListN.{length}
 use Rattle.basics.specs.Choice.{if_then_else_, _and_, _or_, _≤?_, _<?_, _=?_, every}
 use Rattle.basics.specs.Number.{between}

@@ -1,7 +1,7 @@
 -- `emv_personalise` meets its contract: a word says that all is written exactly where the answer does.
 -- Assumes nothing.
 use borrow.Author.Needs.{needs}
-use mathlib.Core.Path.{_≡_, refl, sym, ap, _∙_}
+use mathlib.Core.Path.{sym, ap, _∙_}
 use mathlib.Core.Bool.{Bool}
 use Rattle.personalise.specs.Outcome.{wordOf, saysWritten, recordsIf, locatorIf}
 use Rattle.personalise.proofs.Stages.{says-written}
