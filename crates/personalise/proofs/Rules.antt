@@ -88,20 +88,20 @@ pub record Follows (before es : List Entry) (w : Bool) : Type 0 where
   pub room : sumOf countOf before + sumOf countOf es ≤ mostRecords
 
 -- what an entry that keeps the rules behind those before it keeps
-pub record Kept (before : List Entry) (e : Entry) : Type 0 where
+pub record EntryKept (before : List Entry) (e : Entry) : Type 0 where
   pub few : length before < mostEntries
   pub alone : keepsAlone e ≡ true
   pub apart : apartFrom before e ≡ true
   pub room : sumOf countOf before + countOf e ≤ mostRecords
 
-keeps-kept : (before : List Entry) (e : Entry) → keepsBehind before e ≡ true → Kept before e
+keeps-kept : (before : List Entry) (e : Entry) → keepsBehind before e ≡ true → EntryKept before e
 unfolding keepsBehind roomBehind
 keeps-kept before e k =
     let b = both-right _ _ k in
     let c = both-right _ _ b in
     record { few = ltb-true _ _ (both-left _ _ k); alone = both-left _ _ b; apart = both-left _ _ c; room = leb-true _ _ (both-right _ _ c) }
 
-kept-behind : (before : List Entry) (e : Entry) → Kept before e → keepsBehind before e ≡ true
+kept-behind : (before : List Entry) (e : Entry) → EntryKept before e → keepsBehind before e ≡ true
 unfolding keepsBehind roomBehind
 kept-behind before e k = both-yes _ _ (lt-ltb _ _ (k .few)) (both-yes _ _ (k .alone) (both-yes _ _ (k .apart) (le-leb _ _ (k .room))))
 
@@ -142,7 +142,7 @@ follows-back [] before w f = if-yes _ _ (both-yes _ _ (f .whole) (lt-ltb 0 (leng
 follows-back (e ∷ es) before w f =
     let n = length-more before e in
     let s = sum-more before e in
-    let k : Kept before e = record { few = omega (arith, f .few); alone = both-left _ _ (f .alone); apart = both-left _ _ (f .behind); room = omega (arith, f .room) } in
+    let k : EntryKept before e = record { few = omega (arith, f .few); alone = both-left _ _ (f .alone); apart = both-left _ _ (f .behind); room = omega (arith, f .room) } in
     if-yes _ _ (kept-behind before e k)
     ∙ follows-back es (before ++ (e ∷ [])) w
     (record {

@@ -22,7 +22,8 @@ use Rattle.personalise.specs.Objects.{settable, objectsOf}
 use Rattle.personalise.specs.Placements.{placementsIn}
 use Rattle.personalise.specs.Entries.{badEntry}
 use Rattle.personalise.specs.Records.{contentOf, recordOf, recordsFrom, joined, mostContent, badRecord}
-use Rattle.personalise.specs.Outcome.{recordsRoom, locatorRoom, listKeeps, listed, afterRecords, afterEntries, afterBuffers, answerOf, recordBytes, recordsIf, locatorIf, isWritten, Small, wordOf, saysWritten}
+use Rattle.personalise.specs.Outcome.{recordsRoom, locatorRoom, listKeeps, listed, afterRecords, afterEntries, afterBuffers, answerOf, recordBytes, recordsIf, locatorIf, isWritten}
+use Rattle.personalise.specs.Word.{Small, wordOf, saysWritten}
 use Rattle.personalise.specs.Inner.{runKeeps, Usable, Fitting, entryStage, recordStage}
 use Rattle.personalise.proofs.Filled.{record-most}
 use Rattle.personalise.proofs.Rules.{locator-most, total-most, entry-number}

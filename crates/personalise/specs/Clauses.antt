@@ -73,3 +73,5 @@ pub record Kept (objects es placements lentRecords lentLocator : List ℕ) : Typ
 abbrev pub Exactly : Answer → List ℕ → List ℕ → List ℕ → List ℕ → List ℕ → Type 0
 Exactly a objects es placements r l =
     (isWritten a ≡ true → Kept objects es placements r l) × (Kept objects es placements r l → isWritten a ≡ true)
+
+-- ---- what holds of it, proved in proofs/Exact for all bytes: exactly

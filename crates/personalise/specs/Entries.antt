@@ -86,3 +86,9 @@ badFrom before (e ∷ es) whole =
 -- the first bad entry of a locator
 unfoldable pub badEntry : List ℕ → Fault
 badEntry s = badFrom [] (entries s) (wholeEntries s)
+
+-- ---- what holds of it, proved in proofs/ (Rules, Twice) for all entries
+--   follows, follows-back    no entry is bad exactly where each keeps the rules by itself, no two meet, there are 1 to
+--                            62 whole ones, and they name at most 128 records
+--   twice-is                 of entries in order no two meet exactly where no record is named twice
+--   entry-number             the number of a bad entry is at most 63

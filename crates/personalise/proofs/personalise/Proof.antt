@@ -11,7 +11,8 @@ use lib.ListN.{getD}
 use Rattle.personalise.specs.Placements.{placementsIn}
 use Rattle.personalise.specs.declared.Answer.{Answer}
 use Rattle.personalise.specs.declared.Answer.the-variants.{ShortRecords, ShortLocator, BadList}
-use Rattle.personalise.specs.Outcome.{answerOf, recordsLeft, locatorLeft, Small}
+use Rattle.personalise.specs.Outcome.{answerOf, recordsLeft, locatorLeft}
+use Rattle.personalise.specs.Word.{Small}
 use Rattle.personalise.specs.Clauses.{Exactly}
 use Rattle.personalise.specs.Read.{HoldsOf}
 use Rattle.personalise.proofs.Exact.{exactly}

@@ -3,7 +3,7 @@
 use borrow.Author.Needs.{needs}
 use mathlib.Core.Path.{ap, subst}
 use native.Mathlib.Omega.{arith}
-use Rattle.personalise.specs.Outcome.{Small, wordOf}
+use Rattle.personalise.specs.Word.{Small, wordOf}
 use Rattle.personalise.proofs.word.Statement.{statement}
 use Rattle.personalise.proofs.word.Tie as tie
 
