@@ -39,7 +39,8 @@ pub struct Sizes {
     pub locator: usize,
 }
 
-// What a personalisation answers: all is written, or what is refused. Entries are counted from 1, records too.
+// What a personalisation answers: all is written, or what is refused. Entries and records are counted from 1; a
+// placement that names record 0 makes 0 the number of a bad record.
 pub enum Answer {
     Written(Sizes),
     ShortRecords,
