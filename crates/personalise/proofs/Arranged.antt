@@ -3,17 +3,15 @@
 -- Assumes nothing.
 use mathlib.Core.Path.{_≡_, refl, sym, ap, ap₂, _∙_}
 use mathlib.Core.Bool.{Bool, true, false, not}
-use mathlib.Core.Logic.{_⊎_, inl, inr}
+use mathlib.Core.Logic.{inl, inr}
 use mathlib.Core.List.{List, [], _∷_, _++_}
 use Prim.Native.Nat.{ℕ, zero, suc, _+_, _<_, _≤_}
 use native.Mathlib.Omega.{arith}
 use lib.Dec.{eqb}
-use lib.ListN.{length}
-use borrow.Author.Tests.{eq-eqb, ne-eqb, eqb-true, eqb-false, leb-true, not-true, not-false}
-use Rattle.basics.specs.Choice.{if, both, either, every}
-use Rattle.basics.specs.Number.{between}
-use Rattle.basics.proofs.Laws.{if-yes, if-no, bool-cases, both-yes, both-true, both-left, both-right, both-no-left, both-no-right, either-no, either-false}
-use Rattle.basics.proofs.Order.{sides, equal-or-not}
+use borrow.Author.Tests.{eq-eqb, ne-eqb, eqb-true, eqb-false, leb-true, not-true}
+use Rattle.basics.specs.Choice.{both, either, every}
+use Rattle.basics.proofs.Laws.{if-yes, if-no, bool-cases, both-yes, both-left, both-right, both-no-right, either-no, either-false}
+use Rattle.basics.proofs.Order.{equal-or-not}
 use Rattle.tlv.specs.Primitives.{Object}
 use Rattle.personalise.specs.declared.Placement.{Placement}
 use Rattle.personalise.specs.Objects.{lacksTag, distinct}

@@ -1,16 +1,16 @@
 -- All is written exactly where every rule is kept: the tests of the answer, clause by clause, both ways.
 -- Assumes nothing.
-use mathlib.Core.Path.{_≡_, refl, sym, ap, subst, _∙_}
+use mathlib.Core.Path.{_≡_, refl, sym, ap, _∙_}
 use mathlib.Core.Bool.{Bool, true, false, not}
 use mathlib.Core.Logic.{_⊎_, inl, inr}
-use mathlib.Core.List.{List, [], _∷_, _++_}
+use mathlib.Core.List.{List, [], _∷_}
 use mathlib.Core.Option.{Option, some, none}
-use Prim.Native.Nat.{ℕ, zero, suc, _+_, _<_, _≤_}
+use Prim.Native.Nat.{ℕ, suc, _<_, _≤_}
 use native.Mathlib.Omega.{arith}
-use lib.Dec.{eqb, leb, ltb}
+use lib.Dec.{eqb, ltb}
 use lib.ListN.{length, getD}
-use borrow.Author.Tests.{ltb-true, leb-true, leb-false, lt-ltb, le-ltb, eq-eqb, eqb-true, not-false}
-use Rattle.basics.specs.Choice.{if, both, either, every}
+use borrow.Author.Tests.{ltb-true, leb-true, lt-ltb, le-ltb, eq-eqb, eqb-true, not-false}
+use Rattle.basics.specs.Choice.{both, every}
 use Rattle.basics.specs.Number.{between}
 use Rattle.basics.proofs.Laws.{if-no, bool-cases, both-yes, both-true, both-left, both-right, both-no-left, both-no-right, either-no}
 use Rattle.basics.proofs.Order.{le-or-gt}
@@ -24,12 +24,13 @@ use Rattle.personalise.specs.declared.Fault.the-variants.{At, Nothing}
 use Rattle.personalise.specs.declared.Answer.{Answer}
 use Rattle.personalise.specs.Objects.{settable, distinct, objectsOf}
 use Rattle.personalise.specs.Placements.{placementsIn, anyOf, puts, eachOnce, objectsFrom}
-use Rattle.personalise.specs.Entries.{mostEntries, mostRecords, lowClear, fileRead, firstNamed, inOrder, noneOffline, apartFrom, keepsAlone, badEntry}
-use Rattle.personalise.specs.Records.{contentBytes, contentOf, mostContent, inLayout, strays, misplaced, overfull, badAt, badRecord}
+use Rattle.personalise.specs.Entries.{lowClear, fileRead, firstNamed, inOrder, noneOffline, apartFrom, keepsAlone, badEntry}
+use Rattle.personalise.specs.Records.{contentBytes, contentOf, mostContent, inLayout, strays, overfull, badAt, badRecord}
 use Rattle.personalise.specs.Outcome.{recordsRoom, locatorRoom, listed, isWritten, answerOf, afterRecords, afterEntries}
-use Rattle.personalise.specs.Clauses.{allApart, recordNamed, objectListed, Kept, Exactly}
-use Rattle.personalise.specs.Inner.{runKeeps, entryStage, recordStage, writtenOf}
-use Rattle.personalise.proofs.Rules.{every-split, Follows, follows-back, entries-follow, total-most}
+use Rattle.personalise.specs.Clauses.{recordNamed, objectListed, Kept, Exactly}
+use Rattle.personalise.specs.Inner.{runKeeps, writtenOf}
+use Rattle.personalise.proofs.Rules.{every-split, follows-back, entries-follow, total-most}
+use Rattle.personalise.proofs.Twice.{twice-is}
 use Rattle.personalise.proofs.Least.{either-left-false, either-right-false, no-bad, no-bad-back, fitting-of}
 use Rattle.personalise.proofs.Stages.{short-records, short-locator, bad-list, good-list}
 
@@ -193,7 +194,7 @@ module _ (o es p r l : List ℕ) where
         firsts = both-left _ _ a₃;
         lasts = both-left _ _ a₄;
         byteFour = both-right _ _ a₄;
-        apart = f .apart;
+        apart = twice-is (entries es) (both-left _ _ a₄) ∙ f .apart;
         someRecord = some-record (entries es) (omega (arith, f .some)) (both-left _ _ a₄);
         fewRecords = t;
         named = both-left _ _ y;
@@ -214,7 +215,7 @@ module _ (o es p r l : List ℕ) where
       few = omega (arith, k .fewEntries);
       alone = alone-split (entries es) ∙ both-yes _ _ (k .lowBits) (both-yes _ _ (k .files) (both-yes _ _ (k .firsts) (both-yes _ _ (k .lasts) (k .byteFour))));
       behind = apart-first (entries es);
-      apart = k .apart;
+      apart = sym (twice-is (entries es) (k .lasts)) ∙ k .apart;
       room = omega (arith, k .fewRecords);
     });
     records = no-bad-back (listed o) (placementsIn p) (total es) bad;

@@ -2,35 +2,33 @@
 -- Assumes nothing.
 use mathlib.Core.Path.{_≡_, refl, sym, ap, subst, _∙_}
 use mathlib.Core.Bool.{true}
-use mathlib.Core.List.{List, [], _∷_, _++_}
+use mathlib.Core.List.{List, [], _∷_}
 use mathlib.Core.Option.{some}
-use Prim.Native.Nat.{ℕ, zero, suc, _+_, _<_, _≤_}
+use Prim.Native.Nat.{ℕ, zero, suc, _<_, _≤_}
 use native.Mathlib.Omega.{arith}
 use lib.ListN.{length, getD, take, length-replicate}
 use lib.Seq.{take-append-seam}
 use borrow.Author.Tests.{leb-true, eqb-true, le-leb}
-use Rattle.basics.specs.Choice.{if, both, every}
+use Rattle.basics.specs.Choice.{every}
 use Rattle.basics.proofs.Laws.{if-yes, both-yes, both-left, both-right}
 use Rattle.tlv.specs.Primitives.{Object}
 use Rattle.dictionary.specs.Rows.{storeSize}
 use Rattle.locator.specs.declared.Entry.{Entry}
-use Rattle.locator.specs.declared.CardRecord.{CardRecord}
-use Rattle.locator.specs.Entry.{fileOf, countOf, keeps}
+use Rattle.locator.specs.Entry.{fileOf, keeps}
 use Rattle.locator.specs.Records.{entries, records, total, accepts}
 use Rattle.locator.proofs.Records.{records-length}
 use Rattle.locator.proofs.Laws.{kept-keeps}
 use Rattle.personalise.specs.declared.Placement.{Placement}
 use Rattle.personalise.specs.declared.Fault.the-variants.{Nothing}
-use Rattle.personalise.specs.declared.Sizes.{Sizes}
 use Rattle.personalise.specs.declared.Answer.{Answer}
 use Rattle.personalise.specs.declared.Answer.the-variants.{Written, ShortRecords, ShortLocator, BadList, BadEntry, BadRecord}
 use Rattle.personalise.specs.Objects.{settable, distinct}
 use Rattle.personalise.specs.Placements.{placementsIn}
 use Rattle.personalise.specs.Entries.{keepsAlone, badEntry}
-use Rattle.personalise.specs.Records.{recordsFrom, joined}
+use Rattle.personalise.specs.Records.{recordsFrom}
 use Rattle.personalise.specs.Outcome.{recordBytes, listed, isWritten, answerOf, recordsLeft, locatorLeft}
 use Rattle.personalise.specs.Clauses.{Kept}
-use Rattle.personalise.specs.Read.{putObjects, emptyStore, storeOf, readAll, recordsOf, Holds, HoldsOf}
+use Rattle.personalise.specs.Read.{putObjects, emptyStore, storeOf, readAll, recordsOf, HoldsOf}
 use Rattle.personalise.specs.Inner.{writtenOf}
 use Rattle.personalise.proofs.Rules.{entries-follow, locator-most, total-most}
 use Rattle.personalise.proofs.Least.{fitting-of}

@@ -1,7 +1,7 @@
 -- An object that the card may set: its row, and what the row says of its tag and its length.
 -- Assumes nothing.
 use mathlib.Core.Path.{_≡_, refl, sym, ap, _∙_}
-use mathlib.Core.Bool.{Bool, true, false, not}
+use mathlib.Core.Bool.{true, false, not}
 use Prim.Native.Nat.{ℕ, _<_, _≤_}
 use native.Mathlib.Omega.{arith}
 use lib.ListN.{length}
@@ -14,7 +14,7 @@ use Rattle.tlv.specs.Primitives.{Object}
 use Rattle.tlv.specs.Encoding.{wellFormedTag}
 use Rattle.dictionary.specs.declared.Found.{Found}
 use Rattle.dictionary.specs.declared.Found.the-variants.{At, Unknown}
-use Rattle.dictionary.specs.Rows.{Row, rows, blank, rowAt, find, rowCount, cardRecord}
+use Rattle.dictionary.specs.Rows.{rows, blank, rowAt, find, rowCount, cardRecord}
 use Rattle.dictionary.proofs.Rule.{rows-proper, proper-row}
 use Rattle.dictionary.proofs.Find.{found}
 use Rattle.dictionary.proofs.Fit.{fits-length}

@@ -10,13 +10,13 @@ use native.Mathlib.Omega.{arith}
 use lib.Dec.{ltb}
 use lib.ListN.{length}
 use borrow.Author.Tests.{lt-ltb, le-ltb, ltb-false}
-use Rattle.basics.specs.Choice.{if, either}
+use Rattle.basics.specs.Choice.{either}
 use Rattle.basics.proofs.Laws.{if-yes, if-no, bool-cases, either-left, either-false}
 use Rattle.basics.proofs.Order.{le-or-gt, equal-or-not}
 use Rattle.tlv.specs.Primitives.{Object}
 use Rattle.personalise.specs.declared.Placement.{Placement}
 use Rattle.personalise.specs.declared.Fault.the-variants.{At, Nothing}
-use Rattle.personalise.specs.Records.{contentOf, mostContent, misplaced, overfull, badAt, firstOf, badRecord}
+use Rattle.personalise.specs.Records.{contentOf, mostContent, misplaced, badAt, firstOf, badRecord}
 use Rattle.personalise.specs.Inner.{capped, Fitting}
 
 -- neither of two tests passes

@@ -14,3 +14,4 @@ pub mod Arranged
 pub mod Stored
 pub mod ReadBack
 pub mod Holding
+pub mod Twice

@@ -5,18 +5,17 @@ use mathlib.Core.Bool.{Bool, true, false, not}
 use mathlib.Core.Logic.{inl, inr}
 use mathlib.Core.List.{List, [], _∷_, _++_}
 use mathlib.Core.Option.{Option, some, none}
-use Prim.Native.Nat.{ℕ, suc, _+_, _-_, _<_, _≤_}
+use Prim.Native.Nat.{ℕ, suc, _+_, _-_, _<_}
 use native.Mathlib.Numerals.{add-one}
 use native.Mathlib.Omega.{arith}
-use lib.ListN.{length, take, drop, length-take, length-drop, length-append}
+use lib.ListN.{length, length-take, length-drop, length-append}
 use borrow.Author.Tests.{eq-eqb, ne-eqb}
-use Rattle.basics.specs.Choice.{if, both, every}
+use Rattle.basics.specs.Choice.{both, every}
 use Rattle.basics.proofs.Laws.{if-yes, if-no, bool-cases, both-true, both-left, both-right, both-no-left, both-no-right}
 use Rattle.tlv.specs.declared.Header.{Header}
 use Rattle.tlv.specs.declared.Front.the-variants as front
 use Rattle.tlv.specs.Primitives.{Object, withObject, primitiveOf, primitives, isRun}
-use Rattle.tlv.specs.Encoding.{tagBytes, lengthBytes, objectBytes}
-use Rattle.tlv.proofs.Laws.{HeaderFits}
+use Rattle.tlv.specs.Encoding.{objectBytes}
 use Rattle.tlv.proofs.Primitives.{primitive-fits, primitives-end, primitives-broken, firstOf, restOf, parts, is-run-on, is-run-broken}
 use Rattle.dictionary.specs.declared.Found.{Found}
 use Rattle.dictionary.specs.declared.Found.the-variants.{At, Unknown}

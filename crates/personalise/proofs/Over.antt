@@ -1,13 +1,13 @@
 -- Bytes written into a buffer: written one behind the other they are written at once.
 -- Assumes nothing.
-use mathlib.Core.Path.{_≡_, refl, sym, ap, _∙_}
+use mathlib.Core.Path.{_≡_, sym, ap, _∙_}
 use mathlib.Core.List.{List, [], _∷_, _++_, append-nil, append-assoc}
-use Prim.Native.Nat.{ℕ, suc, _+_, _-_, _≤_, _<_}
+use Prim.Native.Nat.{ℕ, suc, _+_, _-_, _≤_}
 use native.Mathlib.Nat.{zero-add, add-zero, add-assoc}
 use native.Mathlib.Numerals.{add-one}
 use native.Mathlib.Omega.{arith}
 use lib.ListN.{length, take, drop, set, length-append, length-take, length-drop, take-append-drop, drop-of-length-le}
-use lib.Seq.{take-at, drop-at, drop-drop, take-length, length-take-le, sets, sets-eq}
+use lib.Seq.{take-at, drop-at, drop-drop, take-length, sets, sets-eq}
 use Rattle.basics.specs.Front.{inFront}
 use Rattle.personalise.specs.Inner.{over, Puts}
 

@@ -1,12 +1,11 @@
 -- The placements of some bytes, one at a time: what a test or a count says of the bytes that are left. The loops cite these.
 -- Assumes nothing.
-use mathlib.Core.Path.{_≡_, refl, sym, ap, _∙_}
+use mathlib.Core.Path.{_≡_, refl, ap, _∙_}
 use mathlib.Core.Bool.{Bool, true, false, not}
 use mathlib.Core.List.{List, [], _∷_}
 use Prim.Native.Nat.{ℕ, suc, _+_, _<_, _≤_, min}
 use native.Mathlib.Omega.{arith}
 use lib.ListN.{length, getD, drop, length-drop}
-use Rattle.basics.specs.Choice.{if, either}
 use borrow.Author.Tests.{eq-eqb, ne-eqb, le-leb, lt-leb}
 use Rattle.basics.proofs.Laws.{if-yes, if-no, either-left, either-false, both-yes, both-true, both-no-left, both-no-right}
 use Rattle.tlv.proofs.Laws.{tail, tail-is}

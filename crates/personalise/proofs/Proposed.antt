@@ -1,22 +1,20 @@
 -- The entries of a proposed locator, one at a time: what is said of the bytes behind those that were passed. The loops cite these.
 -- Assumes nothing.
 use mathlib.Core.Path.{_≡_, refl, sym, ap, _∙_}
-use mathlib.Core.Bool.{Bool, true, false, not}
+use mathlib.Core.Bool.{true, false, not}
 use mathlib.Core.List.{List, [], _∷_, _++_}
-use Prim.Native.Nat.{ℕ, zero, suc, _+_, _-_, _/_, _%_, _<_, _≤_}
-use native.Mathlib.Nat.{le-refl}
+use Prim.Native.Nat.{ℕ, _+_, _-_, _/_, _%_, _<_, _≤_}
 use native.Mathlib.Omega.{arith}
 use lib.ListN.{length, take, drop, length-take, length-drop}
-use lib.Seq.{take-add, drop-drop, take-all, drop-nil}
-use borrow.Author.Tests.{lt-ltb, le-ltb, le-leb, lt-leb}
-use Rattle.basics.specs.Choice.{if, every, both}
+use lib.Seq.{take-add, drop-drop}
+use borrow.Author.Tests.{lt-ltb, le-ltb}
+use Rattle.basics.specs.Choice.{every}
 use Rattle.basics.proofs.Laws.{if-yes, if-no, both-yes, both-true, both-no-left, both-no-right}
 use Rattle.tlv.proofs.Laws.{tail, tail-is}
 use Rattle.locator.specs.declared.Entry.{Entry}
 use Rattle.locator.specs.Entry.{frontOf, countOf}
 use Rattle.locator.specs.Records.{entries, wholeEntries, sumOf, total}
-use Rattle.locator.proofs.Records.{entries-front, entries-short, entries-join, whole-of, part-of, total-front}
-use Rattle.personalise.specs.declared.Fault.{Fault}
+use Rattle.locator.proofs.Records.{entries-front, entries-short, entries-join, whole-of, part-of}
 use Rattle.personalise.specs.declared.Fault.the-variants.{At, Nothing}
 use Rattle.personalise.specs.Entries.{mostEntries, meets, apartFrom, roomBehind, keepsAlone, keepsBehind, badEnd, badFrom, badEntry}
 

@@ -1,28 +1,27 @@
 -- A record that was written is read with reason 0 and puts its objects: its encoding is that of a template with the objects as leaves, and
 -- each of them may come and finds its row free. So the records one after the other give the store of the list.
 -- Assumes nothing.
-use mathlib.Core.Path.{_≡_, refl, sym, ap, ap₂, _∙_}
-use mathlib.Core.Bool.{Bool, true, false, not}
+use mathlib.Core.Path.{_≡_, refl, sym, ap, _∙_}
+use mathlib.Core.Bool.{Bool, true, not}
 use mathlib.Core.List.{List, [], _∷_, _++_, append-nil}
-use mathlib.Core.Option.{Option, some, none}
+use mathlib.Core.Option.{some, none}
 use Prim.Native.Nat.{ℕ, zero, suc, _+_, _-_, _<_, _≤_}
-use native.Mathlib.Nat.{add-zero}
 use native.Mathlib.Omega.{arith}
 use lib.Dec.{eqb, leb}
-use lib.ListN.{length, getD, take, drop, length-append}
-use lib.Seq.{take-append-seam, drop-append-add, drop-append-seam, take-length, take-at, getD-append-add}
+use lib.ListN.{length, getD, take, length-append}
+use lib.Seq.{drop-append-add, drop-append-seam, take-length, take-at, getD-append-add}
 use borrow.Author.Tests.{eq-eqb, le-leb, leb-true}
 use Rattle.basics.specs.Choice.{if, both, every}
 use Rattle.basics.specs.Reason.{reasonNone}
-use Rattle.basics.proofs.Laws.{if-yes, if-no, both-yes, both-left, both-right, both-no-right}
-use Rattle.tlv.specs.Tag.{firstByte, isTemplate, isPrivate, tagSize}
+use Rattle.basics.proofs.Laws.{if-yes, both-yes, both-left, both-right, both-no-right}
+use Rattle.tlv.specs.Tag.{firstByte, isTemplate, tagSize}
 use Rattle.tlv.specs.Object.{header, headerOf, valueIn}
 use Rattle.tlv.specs.Tree.{Forest, end, leaf, count, parse}
 use Rattle.tlv.specs.Primitives.{Object}
 use Rattle.tlv.specs.Encoding.{tagBytes, lengthBytes, objectBytes, encode, wellFormedTag, Encodable}
 use Rattle.tlv.specs.declared.Front.the-variants as front
 use Rattle.tlv.proofs.Encoding.{header-encoded, parse-encode}
-use Rattle.dictionary.specs.Rows.{rows, rowAt, find, storeSize, cardRecord}
+use Rattle.dictionary.specs.Rows.{rows, find, storeSize, cardRecord}
 use Rattle.dictionary.specs.Named.{placeOf}
 use Rattle.store.specs.Place.{isFree, putAt}
 use Rattle.locator.specs.declared.Entry.{Entry}
@@ -30,8 +29,8 @@ use Rattle.locator.specs.declared.CardRecord.{CardRecord}
 use Rattle.locator.specs.Entry.{fileOf, countOf}
 use Rattle.locator.specs.Records.{recordsFrom, named, recordsOf}
 use Rattle.reading.specs.declared.Awaited.{Awaited}
-use Rattle.reading.specs.Taking.{Item, item, items, mayCome, byCard, Work, work, takeItem, takeNext, takeAll}
-use Rattle.reading.specs.Answer.{Outcome, outcome, Body, template, frontBody, bodyOf, bodyCount, templateBody, judged, templateParts, partsOf, takenParts, readTree, readBody, isRead, goodStatus, goodLength, readAnswer}
+use Rattle.reading.specs.Taking.{item, items, mayCome, Work, work, takeItem, takeAll}
+use Rattle.reading.specs.Answer.{Outcome, outcome, template, frontBody, bodyOf, templateBody, judged, templateParts, takenParts, readTree, readBody, isRead, goodStatus, goodLength, readAnswer}
 use Rattle.reading.proofs.Laws.{item-put, next-good}
 use Rattle.personalise.specs.Objects.{recordTemplate, settable, lacksTag, distinct}
 use Rattle.personalise.specs.declared.Placement.{Placement}
@@ -39,7 +38,7 @@ use Rattle.personalise.specs.Placements.{objectsIn}
 use Rattle.personalise.specs.Entries.{fileRead}
 use Rattle.personalise.specs.Records.{contentBytes, contentOf, recordsFrom as records, mostContent}
 use Rattle.personalise.specs.Read.{putObjects, readOne, readOn, readAll}
-use Rattle.personalise.proofs.Known.{Known, known}
+use Rattle.personalise.proofs.Known.{known}
 use Rattle.personalise.proofs.Forms.{tag-one, length-most}
 use Rattle.personalise.proofs.Listed.{object-length}
 use Rattle.personalise.proofs.Arranged.{ordered}

@@ -5,24 +5,27 @@ use mathlib.Core.Path.{_≡_, refl, sym, ap, ap₂, _∙_}
 use mathlib.Core.Bool.{Bool, true, false, not}
 use mathlib.Core.Logic.{inl, inr}
 use mathlib.Core.List.{List, [], _∷_, _++_}
-use Prim.Native.Nat.{ℕ, suc, _+_, _*_, _/_, _%_, _<_, _≤_}
+use Prim.Native.Nat.{ℕ, _+_, _<_, _≤_}
 use native.Mathlib.Nat.{zero-add, add-zero}
 use native.Mathlib.Omega.{arith}
 use lib.Dec.{ltb}
 use lib.ListN.{length, length-append}
-use borrow.Author.Tests.{ltb-true, leb-true, eqb-true, lt-ltb, le-leb}
-use Rattle.basics.specs.Choice.{if, both, every}
+use borrow.Author.Tests.{ltb-true, leb-true, lt-ltb, le-leb}
+use Rattle.basics.specs.Choice.{both, every}
 use Rattle.basics.proofs.Laws.{if-yes, if-no, bool-cases, both-yes, both-left, both-right, both-assoc}
 use Rattle.locator.specs.declared.Entry.{Entry}
-use Rattle.locator.specs.Entry.{countOf, keeps}
-use Rattle.locator.specs.Records.{entries, wholeEntries, sumOf, total, accepts}
+use Rattle.locator.specs.Entry.{countOf}
+use Rattle.locator.specs.Records.{entries, wholeEntries, sumOf, total}
 use Rattle.locator.proofs.Records.{whole-length}
-use Rattle.locator.proofs.Laws.{kept-keeps}
 use Rattle.personalise.specs.declared.Fault.{Fault}
 use Rattle.personalise.specs.declared.Fault.the-variants.{At, Nothing}
-use Rattle.personalise.specs.Entries.{mostEntries, mostRecords, lowClear, fileRead, firstNamed, inOrder, noneOffline, meets, apartFrom, roomBehind, keepsAlone, keepsBehind, badEnd, badFrom, badEntry}
-use Rattle.personalise.specs.Clauses.{allApart}
+use Rattle.personalise.specs.Entries.{mostEntries, mostRecords, meets, apartFrom, roomBehind, keepsAlone, keepsBehind, badEnd, badFrom, badEntry}
 use Rattle.personalise.proofs.Proposed.{entries-count}
+
+-- no two entries name a record both
+unfoldable pub allApart : List Entry → Bool
+allApart [] = true
+allApart (e ∷ es) = both (every (λ f. not (meets e f)) es) (allApart es)
 
 -- ---- a test at every entry
 
@@ -47,7 +50,7 @@ every-snoc f [] x = both-one (f x)
     both-one false = refl
 every-snoc f (y ∷ l) x = ap (both (f y)) (every-snoc f l x) ∙ both-assoc (f y) (every f l) (f x)
 
-every-same : {A : Type 0} (f g : A → Bool) → ((x : A) → f x ≡ g x) → (l : List A) → every f l ≡ every g l
+pub every-same : {A : Type 0} (f g : A → Bool) → ((x : A) → f x ≡ g x) → (l : List A) → every f l ≡ every g l
 unfolding every
 every-same f g h [] = refl
 every-same f g h (x ∷ l) = ap₂ both (h x) (every-same f g h l)
@@ -85,20 +88,20 @@ pub record Follows (before es : List Entry) (w : Bool) : Type 0 where
   pub room : sumOf countOf before + sumOf countOf es ≤ mostRecords
 
 -- what an entry that keeps the rules behind those before it keeps
-pub record Kept (before : List Entry) (e : Entry) : Type 0 where
+pub record EntryKept (before : List Entry) (e : Entry) : Type 0 where
   pub few : length before < mostEntries
   pub alone : keepsAlone e ≡ true
   pub apart : apartFrom before e ≡ true
   pub room : sumOf countOf before + countOf e ≤ mostRecords
 
-keeps-kept : (before : List Entry) (e : Entry) → keepsBehind before e ≡ true → Kept before e
+keeps-kept : (before : List Entry) (e : Entry) → keepsBehind before e ≡ true → EntryKept before e
 unfolding keepsBehind roomBehind
 keeps-kept before e k =
     let b = both-right _ _ k in
     let c = both-right _ _ b in
     record { few = ltb-true _ _ (both-left _ _ k); alone = both-left _ _ b; apart = both-left _ _ c; room = leb-true _ _ (both-right _ _ c) }
 
-kept-behind : (before : List Entry) (e : Entry) → Kept before e → keepsBehind before e ≡ true
+kept-behind : (before : List Entry) (e : Entry) → EntryKept before e → keepsBehind before e ≡ true
 unfolding keepsBehind roomBehind
 kept-behind before e k = both-yes _ _ (lt-ltb _ _ (k .few)) (both-yes _ _ (k .alone) (both-yes _ _ (k .apart) (le-leb _ _ (k .room))))
 
@@ -139,7 +142,7 @@ follows-back [] before w f = if-yes _ _ (both-yes _ _ (f .whole) (lt-ltb 0 (leng
 follows-back (e ∷ es) before w f =
     let n = length-more before e in
     let s = sum-more before e in
-    let k : Kept before e = record { few = omega (arith, f .few); alone = both-left _ _ (f .alone); apart = both-left _ _ (f .behind); room = omega (arith, f .room) } in
+    let k : EntryKept before e = record { few = omega (arith, f .few); alone = both-left _ _ (f .alone); apart = both-left _ _ (f .behind); room = omega (arith, f .room) } in
     if-yes _ _ (kept-behind before e k)
     ∙ follows-back es (before ++ (e ∷ [])) w
     (record {

@@ -1,7 +1,7 @@
 -- The stages of the answer, by the bytes; and the buffers where nothing is written and where all is.
 -- Assumes nothing.
 use mathlib.Core.Path.{_≡_, refl, sym, ap, _∙_}
-use mathlib.Core.Bool.{Bool, true, false}
+use mathlib.Core.Bool.{true, false}
 use mathlib.Core.List.{List, _++_}
 use mathlib.Core.Option.{Option, some, none}
 use Prim.Native.Nat.{ℕ, zero, suc, _+_, _*_, _<_, _≤_}
@@ -9,9 +9,8 @@ use native.Mathlib.Omega.{arith}
 use lib.ListN.{length, take, drop, length-append}
 use lib.Seq.{take-length}
 use borrow.Author.Tests.{lt-ltb, le-ltb}
-use Rattle.basics.specs.Choice.{if, both, every}
-use Rattle.basics.specs.Front.{inFront}
-use Rattle.basics.proofs.Laws.{if-yes, if-no, if-ind, both-left, both-right}
+use Rattle.basics.specs.Choice.{every}
+use Rattle.basics.proofs.Laws.{if-yes, if-no, if-ind, both-left}
 use Rattle.tlv.specs.Primitives.{Object, primitives, isRun}
 use Rattle.locator.specs.Records.{total}
 use Rattle.personalise.specs.declared.Placement.{Placement}
@@ -23,7 +22,8 @@ use Rattle.personalise.specs.Objects.{settable, objectsOf}
 use Rattle.personalise.specs.Placements.{placementsIn}
 use Rattle.personalise.specs.Entries.{badEntry}
 use Rattle.personalise.specs.Records.{contentOf, recordOf, recordsFrom, joined, mostContent, badRecord}
-use Rattle.personalise.specs.Outcome.{recordsRoom, locatorRoom, listKeeps, listed, afterRecords, afterEntries, afterBuffers, answerOf, recordBytes, recordsIf, locatorIf, isWritten, Small, wordOf, saysWritten}
+use Rattle.personalise.specs.Outcome.{recordsRoom, locatorRoom, listKeeps, listed, afterRecords, afterEntries, afterBuffers, answerOf, recordBytes, recordsIf, locatorIf, isWritten}
+use Rattle.personalise.specs.Word.{Small, wordOf, saysWritten}
 use Rattle.personalise.specs.Inner.{runKeeps, Usable, Fitting, entryStage, recordStage}
 use Rattle.personalise.proofs.Filled.{record-most}
 use Rattle.personalise.proofs.Rules.{locator-most, total-most, entry-number}

@@ -1,24 +1,23 @@
 -- Objects put into a store: each in its own row, so that the order does not matter, and a row is free until its object is put.
 -- Assumes nothing.
 use mathlib.Core.Path.{_≡_, refl, sym, ap, _∙_}
-use mathlib.Core.Bool.{Bool, true, false, not}
+use mathlib.Core.Bool.{true, not}
 use mathlib.Core.List.{List, [], _∷_, _++_}
 use Prim.Native.Nat.{ℕ}
-use native.Mathlib.Omega.{arith}
 use lib.Dec.{eqb}
 use lib.ListN.{length, replicate}
-use borrow.Author.Tests.{eq-eqb, eqb-false, not-true}
-use Rattle.basics.specs.Choice.{both, every}
+use borrow.Author.Tests.{eqb-false, not-true}
+use Rattle.basics.specs.Choice.{every}
 use Rattle.basics.proofs.Laws.{both-left, both-right}
 use Rattle.tlv.specs.Primitives.{Object}
 use Rattle.dictionary.specs.Rows.{rows, rowAt, storeSize}
 use Rattle.dictionary.specs.Named.{placeFound, placeOf}
 use Rattle.dictionary.proofs.Find.{found}
 use Rattle.store.specs.Place.{Value, bytesOf, valueAt, isFree, putAt}
-use Rattle.store.proofs.Laws.{Fits, put-length, put-other, put-put, emptyOf, empty-holds-nothing}
+use Rattle.store.proofs.Laws.{Fits, put-length, put-other, put-put, empty-holds-nothing}
 use Rattle.store.proofs.Rows.{rows-size, fits-row}
 use Rattle.personalise.specs.Objects.{settable, lacksTag, distinct}
-use Rattle.personalise.specs.Read.{putObjects, emptyStore, storeOf}
+use Rattle.personalise.specs.Read.{putObjects, emptyStore}
 use Rattle.personalise.proofs.Known.{Known, known}
 use Rattle.personalise.proofs.Arranged.{Insert, here, there, Perm, none, add, perm-every}
 

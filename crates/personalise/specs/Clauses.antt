@@ -1,28 +1,36 @@
 -- The rules of a personalisation, a clause for each (document 02, Item 4): all is written exactly where they hold.
 -- Assumes nothing.
 use mathlib.Core.Path.{_≡_}
-use mathlib.Core.Bool.{Bool, true, false, not}
+use mathlib.Core.Bool.{Bool, true, not}
 use mathlib.Core.List.{List, [], _∷_}
 use Prim.Native.Nat.{ℕ, _≤_}
 use lib.ListN.{length}
-use Rattle.basics.specs.Choice.{_and_, every}
+use Rattle.basics.specs.Choice.{_and_, _=?_, every}
 use Rattle.basics.specs.Number.{between}
 use Rattle.tlv.specs.Primitives.{primitives, isRun}
-use Rattle.locator.specs.declared.Entry.{Entry}
-use Rattle.locator.specs.Records.{entries, wholeEntries, total}
+use Rattle.locator.specs.declared.CardRecord.{CardRecord}
+use Rattle.locator.specs.Records.{entries, wholeEntries, records, total}
 use Rattle.personalise.specs.declared.Placement.{Placement}
 use Rattle.personalise.specs.declared.Answer.{Answer}
 use Rattle.personalise.specs.Objects.{settable, distinct}
 use Rattle.personalise.specs.Placements.{placementsIn, eachOnce}
-use Rattle.personalise.specs.Entries.{mostEntries, mostRecords, meets}
+use Rattle.personalise.specs.Entries.{mostEntries, mostRecords}
 use Rattle.personalise.specs.Entries.{lowClear, fileRead, firstNamed, inOrder, noneOffline}
 use Rattle.personalise.specs.Records.{contentOf, mostContent}
 use Rattle.personalise.specs.Outcome.{recordsRoom, locatorRoom, listed, isWritten}
 
--- no two entries name a record both
-unfoldable pub allApart : List Entry → Bool
-allApart [] = true
-allApart (e ∷ es) = every (λ f. not (meets e f)) es and allApart es
+-- two records are the same: file and number
+abbrev pub sameRecord : CardRecord → CardRecord → Bool
+sameRecord r s = r .file =? s .file and r .number =? s .number
+
+-- a record is not one of a list
+unfoldable pub lacksRecord : CardRecord → List CardRecord → Bool
+lacksRecord r rs = every (λ s. not (sameRecord r s)) rs
+
+-- no record stands in a list twice
+unfoldable pub noneTwice : List CardRecord → Bool
+noneTwice [] = true
+noneTwice (r ∷ rs) = lacksRecord r rs and noneTwice rs
 
 -- a placement's record is one of n
 abbrev pub recordNamed : ℕ → Placement → Bool
@@ -52,7 +60,7 @@ pub record Kept (objects es placements lentRecords lentLocator : List ℕ) : Typ
   pub firsts : every firstNamed (entries es) ≡ true
   pub lasts : every inOrder (entries es) ≡ true
   pub byteFour : every noneOffline (entries es) ≡ true
-  pub apart : allApart (entries es) ≡ true
+  pub apart : noneTwice (records es) ≡ true
   pub someRecord : 1 ≤ total es
   pub fewRecords : total es ≤ mostRecords
   -- the records: placements name records of the locator and objects of the list; each content is at most 253 bytes
@@ -65,3 +73,5 @@ pub record Kept (objects es placements lentRecords lentLocator : List ℕ) : Typ
 abbrev pub Exactly : Answer → List ℕ → List ℕ → List ℕ → List ℕ → List ℕ → Type 0
 Exactly a objects es placements r l =
     (isWritten a ≡ true → Kept objects es placements r l) × (Kept objects es placements r l → isWritten a ≡ true)
+
+-- ---- what holds of it, proved in proofs/Exact for all bytes: exactly

@@ -1,9 +1,9 @@
 -- The file locator as it is proposed (document 02, Item 4; document 01, "Commands and steps", Locator): what an entry
 -- must keep behind the entries before it, and the number of the first that does not.
 -- Assumes nothing.
-use mathlib.Core.Bool.{Bool, true, false, not}
+use mathlib.Core.Bool.{Bool, not}
 use mathlib.Core.List.{List, [], _∷_, _++_}
-use Prim.Native.Nat.{ℕ, zero, suc, _+_, _%_}
+use Prim.Native.Nat.{ℕ, _+_, _%_}
 use lib.ListN.{length}
 use Rattle.basics.specs.Choice.{if_then_else_, _and_, _or_, _≤?_, _<?_, _=?_, every}
 use Rattle.basics.specs.Number.{between}
@@ -86,3 +86,9 @@ badFrom before (e ∷ es) whole =
 -- the first bad entry of a locator
 unfoldable pub badEntry : List ℕ → Fault
 badEntry s = badFrom [] (entries s) (wholeEntries s)
+
+-- ---- what holds of it, proved in proofs/ (Rules, Twice) for all entries
+--   follows, follows-back    no entry is bad exactly where each keeps the rules by itself, no two meet, there are 1 to
+--                            62 whole ones, and they name at most 128 records
+--   twice-is                 of entries in order no two meet exactly where no record is named twice
+--   entry-number             the number of a bad entry is at most 63

@@ -3,6 +3,7 @@ pub mod Placements
 pub mod Entries
 pub mod Records
 pub mod Outcome
+pub mod Word
 pub mod Clauses
 pub mod Read
 pub mod Inner

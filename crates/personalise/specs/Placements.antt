@@ -3,7 +3,7 @@
 -- Assumes nothing.
 use mathlib.Core.Bool.{Bool, true, false}
 use mathlib.Core.List.{List, [], _∷_}
-use Prim.Native.Nat.{ℕ, zero, suc, _+_}
+use Prim.Native.Nat.{ℕ, suc}
 use Rattle.basics.specs.Choice.{if_then_else_, _and_, _or_, _=?_}
 use Rattle.tlv.specs.Primitives.{Object}
 use Rattle.personalise.specs.declared.Placement.{Placement}

@@ -86,3 +86,9 @@ HoldsOf objects es placements Answer.ShortLocator r l = Unit {0}
 HoldsOf objects es placements Answer.BadList r l = Unit {0}
 HoldsOf objects es placements (Answer.BadEntry i) r l = Unit {0}
 HoldsOf objects es placements (Answer.BadRecord k) r l = Unit {0}
+
+-- ---- what holds of it, proved in proofs/ (Arranged, Stored, ReadBack, Holding) for all bytes
+--   arranged     in the order of the records, the list's objects are only rearranged
+--   perm-put     rearranged objects of different tags give the same store
+--   read-all     the records read back one after the other give the store of their objects
+--   holds        where all is written, all of `Holds`

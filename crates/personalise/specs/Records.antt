@@ -1,6 +1,6 @@
 -- The records of the card (document 02, Item 4): the bytes of each, and the least number of a bad one.
 -- Assumes nothing.
-use mathlib.Core.Bool.{Bool, true, false, not}
+use mathlib.Core.Bool.{Bool, not}
 use mathlib.Core.List.{List, [], _∷_, _++_}
 use Prim.Native.Nat.{ℕ, zero, suc}
 use lib.ListN.{length}
@@ -75,3 +75,8 @@ firstOf f k (suc m) =
 -- the least bad record, of n: a placement's record is a byte, and n is at most 128
 unfoldable pub badRecord : List Object → List Placement → ℕ → Fault
 badRecord os ps n = firstOf (badAt os ps n) 0 256
+
+-- ---- what holds of it, proved in proofs/ (Least, Stages) for all lists and placements
+--   no-bad, no-bad-back    where no bad record is named none of the first 256 numbers is bad; where no number is bad
+--                          none is named
+--   bytes-most             n records whose contents fit take at most 256 n bytes

@@ -15,7 +15,8 @@ ghost use lib.ListN.{length};
 ghost use Rattle.locator.specs.Records.{total};
 ghost use Rattle.personalise.specs.Placements.{placementsIn};
 ghost use Rattle.personalise.specs.Entries.{badEntry, mostRecords};
-ghost use Rattle.personalise.specs.Outcome.{locatorRoom, listed, answerOf, recordsLeft, locatorLeft, Small, wordOf, wordFor, recordsBy, locatorBy};
+ghost use Rattle.personalise.specs.Outcome.{locatorRoom, listed, answerOf, recordsLeft, locatorLeft};
+ghost use Rattle.personalise.specs.Word.{Small, wordOf, wordFor, recordsBy, locatorBy};
 ghost use Rattle.personalise.specs.Clauses.{Exactly};
 ghost use Rattle.personalise.specs.Read.{HoldsOf};
 ghost use Rattle.personalise.specs.Inner.{Usable, Fitting, Roomy, entryStage, recordStage, writtenOf};
@@ -38,7 +39,8 @@ pub struct Sizes {
     pub locator: usize,
 }
 
-// What a personalisation answers: all is written, or what is refused. Entries are counted from 1, records too.
+// What a personalisation answers: all is written, or what is refused. Entries and records are counted from 1; a
+// placement that names record 0 makes 0 the number of a bad record.
 pub enum Answer {
     Written(Sizes),
     ShortRecords,

@@ -2,7 +2,6 @@
 use crate::contents;
 use crate::placements;
 use tlv::Front;
-ghost use mathlib.Core.Path.{_≡_};
 ghost use Prim.Native.Nat.{_+_, _*_, _≤_, _<_};
 ghost use lib.ListN.{length};
 ghost use Rattle.tlv.specs.Encoding.{tagBytes, lengthBytes, objectBytes};

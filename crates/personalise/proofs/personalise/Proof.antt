@@ -3,7 +3,7 @@
 -- Assumes nothing.
 use borrow.Author.Needs.{needs}
 use borrow.Author.Tests.{not-true, not-false}
-use mathlib.Core.Path.{_≡_, refl, sym, ap, subst, _∙_}
+use mathlib.Core.Path.{_≡_, sym, subst, _∙_}
 use mathlib.Core.List.{List}
 use Prim.Native.Nat.{ℕ, _<_}
 use native.Mathlib.Omega.{arith}
@@ -11,7 +11,8 @@ use lib.ListN.{getD}
 use Rattle.personalise.specs.Placements.{placementsIn}
 use Rattle.personalise.specs.declared.Answer.{Answer}
 use Rattle.personalise.specs.declared.Answer.the-variants.{ShortRecords, ShortLocator, BadList}
-use Rattle.personalise.specs.Outcome.{answerOf, recordsLeft, locatorLeft, Small}
+use Rattle.personalise.specs.Outcome.{answerOf, recordsLeft, locatorLeft}
+use Rattle.personalise.specs.Word.{Small}
 use Rattle.personalise.specs.Clauses.{Exactly}
 use Rattle.personalise.specs.Read.{HoldsOf}
 use Rattle.personalise.proofs.Exact.{exactly}

@@ -1,11 +1,9 @@
 -- `with_entries` meets its contract: by the least bad record. The entries that were accepted are at most 248 bytes and name at most 128 records.
 -- Assumes nothing.
 use borrow.Author.Needs.{needs}
-use mathlib.Core.Path.{_≡_, refl, sym, ap, _∙_}
+use mathlib.Core.Path.{sym, _∙_}
 use native.Mathlib.Omega.{arith}
-use Rattle.personalise.specs.declared.Fault.the-variants.{Nothing}
 use Rattle.personalise.specs.Placements.{placementsIn}
-use Rattle.personalise.specs.Records.{badRecord}
 use Rattle.personalise.specs.Outcome.{listed}
 use Rattle.personalise.proofs.Rules.{locator-most, total-most}
 use Rattle.personalise.proofs.Least.{fitting-of}

@@ -1,7 +1,7 @@
 -- `with_list` meets its contract: by the first bad entry.
 -- Assumes nothing.
 use borrow.Author.Needs.{needs}
-use mathlib.Core.Path.{_≡_, refl, sym, ap, _∙_}
+use mathlib.Core.Path.{sym, ap, _∙_}
 use Rattle.personalise.specs.Placements.{placementsIn}
 use Rattle.personalise.specs.Outcome.{listed, afterEntries}
 use Rattle.personalise.proofs.Stages.{records-stay, locator-stays}

@@ -1,9 +1,9 @@
 -- `word` meets its contract: case by case; the numbers are small enough that nothing wraps.
 -- Assumes nothing.
 use borrow.Author.Needs.{needs}
-use mathlib.Core.Path.{_≡_, sym, ap, subst, _∙_}
+use mathlib.Core.Path.{ap, subst}
 use native.Mathlib.Omega.{arith}
-use Rattle.personalise.specs.Outcome.{Small, wordOf}
+use Rattle.personalise.specs.Word.{Small, wordOf}
 use Rattle.personalise.proofs.word.Statement.{statement}
 use Rattle.personalise.proofs.word.Tie as tie
 

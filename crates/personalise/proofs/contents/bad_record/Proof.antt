@@ -1,8 +1,7 @@
 -- `contents::bad_record` meets its contract. The invariant: the least bad record is the first bad one from k on. The measure is 256 - k.
 -- Assumes nothing.
-use borrow.Author.Needs.{needs}
-use mathlib.Core.Path.{_≡_, refl, sym, _∙_}
-use Prim.Native.Nat.{ℕ, _+_, _-_, _≤_}
+use mathlib.Core.Path.{_≡_, sym, _∙_}
+use Prim.Native.Nat.{_-_, _≤_}
 use native.Mathlib.Omega.{arith}
 use Rattle.personalise.specs.Placements.{placementsIn}
 use Rattle.personalise.specs.Records.{badAt, firstOf, badRecord}

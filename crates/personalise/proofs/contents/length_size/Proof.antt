@@ -1,13 +1,8 @@
 -- `contents::length_size` meets its contract: by the two forms of a length below 256.
 -- Assumes nothing.
-use borrow.Author.Tests.{lt-ltb, le-ltb}
-use mathlib.Core.Path.{_≡_, sym, ap, _∙_}
-use mathlib.Core.List.{List}
-use Prim.Native.Nat.{ℕ}
+use mathlib.Core.Path.{sym, ap}
 use native.Mathlib.Omega.{arith}
 use lib.ListN.{length}
-use Rattle.basics.proofs.Laws.{if-yes, if-no}
-use Rattle.tlv.specs.Encoding.{lengthBytes}
 use Rattle.personalise.proofs.Forms.{length-short, length-long}
 use Rattle.personalise.proofs.contents.length_size.Statement.{statement}
 use Rattle.personalise.proofs.contents.length_size.Tie as tie

@@ -2,7 +2,7 @@
 -- Assumes nothing.
 use borrow.Author.Needs.{needs}
 use borrow.Author.Tests.{not-true, not-false}
-use mathlib.Core.Path.{_≡_, sym, ap, _∙_}
+use mathlib.Core.Path.{sym, ap, _∙_}
 use Rattle.basics.proofs.Laws.{if-yes, if-no}
 use Rattle.personalise.specs.Inner.{capped}
 use Rattle.personalise.proofs.contents.placed_size.Statement.{statement}

@@ -1,9 +1,8 @@
 -- `entries::bad_entry` meets its contract. The invariant: the first bad entry of the whole is that of what is left behind those passed,
 -- which are whole. The measure is the length of what is left. Assumes nothing.
-use borrow.Author.Needs.{needs}
 use borrow.Author.Tests.{not-true, not-false}
-use mathlib.Core.Path.{_≡_, refl, sym, ap, _∙_}
-use Prim.Native.Nat.{ℕ, _-_, _%_, _≤_}
+use mathlib.Core.Path.{_≡_, sym, _∙_}
+use Prim.Native.Nat.{_-_, _%_, _≤_}
 use native.Mathlib.Omega.{arith}
 use lib.ListN.{length, take, drop, length-take, length-drop}
 use Rattle.locator.specs.Records.{entries, wholeEntries}

@@ -1,8 +1,8 @@
 -- `entries::count_records` meets its contract. The invariant: the count so far and that of what is left are that of the whole; each
 -- entry names at most 256. The measure is the length of what is left. Assumes nothing.
 use borrow.Author.Needs.{needs}
-use mathlib.Core.Path.{_≡_, refl, sym, _∙_}
-use Prim.Native.Nat.{ℕ, _+_, _*_, _≤_}
+use mathlib.Core.Path.{_≡_, refl, _∙_}
+use Prim.Native.Nat.{_+_, _*_, _≤_}
 use native.Mathlib.Omega.{arith}
 use lib.ListN.{length, length-take, length-drop}
 use Rattle.locator.specs.Records.{total}

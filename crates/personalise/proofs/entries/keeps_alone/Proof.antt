@@ -3,8 +3,6 @@
 use borrow.Author.Needs.{needs}
 use borrow.Author.Tests.{eq-eqb, ne-eqb, le-leb, lt-leb, not-true, not-false}
 use mathlib.Core.Path.{sym, _∙_}
-use Prim.Native.Nat.{_%_}
-use native.Mathlib.Omega.{arith}
 use Rattle.basics.proofs.Laws.{both-true, both-no-left}
 use Rattle.personalise.specs.Entries.{keepsAlone}
 use Rattle.personalise.proofs.entries.keeps_alone.Statement.{statement}

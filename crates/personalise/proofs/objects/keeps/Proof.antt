@@ -1,17 +1,16 @@
 -- `objects::keeps` meets its contract. The invariant: what is left keeps the rules, from the next number on, exactly where the whole does.
 -- The measure is the length of what is left. Assumes nothing.
 use borrow.Author.Needs.{needs}
-use mathlib.Core.Path.{_≡_, refl, sym, ap, _∙_}
-use Prim.Native.Nat.{ℕ, _+_, _*_, _≤_}
+use mathlib.Core.Path.{_≡_, refl, sym, _∙_}
+use Prim.Native.Nat.{_+_, _≤_}
 use native.Mathlib.Omega.{arith}
-use lib.ListN.{length, length-take, length-drop}
+use lib.ListN.{length}
 use Rattle.tlv.specs.declared.Front.the-variants as front
-use Rattle.tlv.specs.Primitives.{primitiveOf, primitives, isRun}
+use Rattle.tlv.specs.Primitives.{primitiveOf, primitives}
 use Rattle.tlv.proofs.Laws.{HeaderFits}
 use Rattle.tlv.proofs.Primitives.{primitive-fits}
 use Rattle.tlv.proofs.primitive.Reads as primitive
 use borrow.Author.Tests.{not-true, not-false}
-use Rattle.tlv.proofs.Primitives.{firstOf}
 use Rattle.personalise.specs.Placements.{placementsIn}
 use Rattle.personalise.specs.Inner.{runKeeps}
 use Rattle.personalise.proofs.Listed.{keeps-end, keeps-broken, run-not-set, run-twice, run-not-once, run-next, rest-less}

@@ -1,12 +1,12 @@
 -- `objects::lacks_tag` meets its contract. The invariant: what is left is a run without the tag exactly where the whole is.
 -- The measure is the length of what is left. Assumes nothing.
 use borrow.Author.Needs.{needs}
-use mathlib.Core.Path.{_≡_, refl, sym, ap, _∙_}
-use Prim.Native.Nat.{ℕ, _+_, _*_, _≤_}
+use mathlib.Core.Path.{_≡_, refl, sym, _∙_}
+use Prim.Native.Nat.{_≤_}
 use native.Mathlib.Omega.{arith}
-use lib.ListN.{length, length-take, length-drop}
+use lib.ListN.{length}
 use Rattle.tlv.specs.declared.Front.the-variants as front
-use Rattle.tlv.specs.Primitives.{primitiveOf, primitives, isRun}
+use Rattle.tlv.specs.Primitives.{primitiveOf, primitives}
 use Rattle.tlv.proofs.Laws.{HeaderFits}
 use Rattle.tlv.proofs.Primitives.{primitive-fits}
 use Rattle.tlv.proofs.primitive.Reads as primitive

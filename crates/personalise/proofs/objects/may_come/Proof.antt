@@ -2,7 +2,7 @@
 -- Assumes nothing.
 use borrow.Author.Needs.{needs}
 use borrow.Author.Tests.{eq-eqb, ne-eqb}
-use mathlib.Core.Path.{refl, sym, _∙_}
+use mathlib.Core.Path.{sym, _∙_}
 use Rattle.basics.specs.Choice.{if}
 use Rattle.basics.proofs.Laws.{both-true, both-no-left}
 use Rattle.reading.specs.Taking.{mayStand, mayCome}

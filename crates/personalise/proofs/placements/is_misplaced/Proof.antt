@@ -2,10 +2,9 @@
 -- The measure is the length of what is left. Assumes nothing.
 use borrow.Author.Needs.{needs}
 use mathlib.Core.Path.{_≡_, refl, sym, _∙_}
-use Prim.Native.Nat.{_≤_}
 use native.Mathlib.Omega.{arith}
 use lib.ListN.{length}
-use Rattle.personalise.specs.Placements.{placementsIn, anyOf, puts}
+use Rattle.personalise.specs.Placements.{placementsIn, anyOf}
 use Rattle.personalise.specs.Records.{strays}
 use Rattle.personalise.proofs.Placed.{any-end, any-yes, any-on, tail-less}
 use Rattle.personalise.proofs.placements.is_misplaced.Statement.{statement}

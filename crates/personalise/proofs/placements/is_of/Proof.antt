@@ -5,7 +5,6 @@ use borrow.Author.Tests.{eq-eqb, ne-eqb}
 use mathlib.Core.Path.{sym, ap, _∙_}
 use Prim.Native.Nat.{ℕ}
 use lib.Dec.{eqb}
-use native.Mathlib.Omega.{arith}
 use Rattle.basics.proofs.Laws.{both-true, both-no-left}
 use Rattle.personalise.proofs.placements.is_of.Statement.{statement}
 use Rattle.personalise.proofs.placements.is_of.Tie as tie

@@ -2,7 +2,6 @@
 -- Assumes nothing.
 use borrow.Author.Needs.{needs}
 use mathlib.Core.Path.{sym, _∙_}
-use Prim.Native.Nat.{ℕ}
 use native.Mathlib.Omega.{arith}
 use Rattle.personalise.proofs.Placed.{stray-other, stray-zero, stray-past, stray-no-object, stray-object-past, stray-none}
 use Rattle.personalise.proofs.placements.strays.Statement.{statement}

@@ -2,16 +2,13 @@
 -- Assumes nothing.
 use borrow.Author.Needs.{needs}
 use borrow.Author.Tests.{not-true, not-false}
-use mathlib.Core.Path.{_≡_, refl, sym, ap, subst, _∙_}
+use mathlib.Core.Path.{sym, subst, _∙_}
 use mathlib.Core.List.{List, []}
 use Prim.Native.Nat.{ℕ, _+_, _≤_}
-use native.Mathlib.Nat.{add-zero}
-use native.Mathlib.Omega.{arith}
 use lib.ListN.{length}
 use Rattle.basics.proofs.Laws.{if-yes, if-no}
 use Rattle.tlv.specs.Encoding.{objectBytes}
-use Rattle.personalise.specs.Placements.{placementsIn}
-use Rattle.personalise.specs.Inner.{Puts, placedBytes}
+use Rattle.personalise.specs.Inner.{Puts}
 use Rattle.personalise.proofs.Over.{puts-nothing}
 use Rattle.personalise.proofs.writing.put_placed.Statement.{statement}
 use Rattle.personalise.proofs.writing.put_placed.Tie as tie
