@@ -1,14 +1,17 @@
-# Installs the library for a host in C: the header, the archive and a pkg-config file.
+# Installs the library for a host in C: the headers, the archives and a pkg-config file. The archive of the card's side stands
+# beside the kernel's; who links it adds -lpersonalise.
 #
 #     make install [PREFIX=/usr/local] [DESTDIR=]
 #     make uninstall
 #
-# The archive is proved and built by `rt staticlib host` where it is missing or older than a crate that it has.
+# An archive is proved and built by `rt staticlib NAME` where it is missing or older than a crate that it has.
 PREFIX = /usr/local
 DESTDIR =
 
 archive = target/staticlib/libhost.a
 header = include/tripodmoon.h
+card_archive = target/staticlib/libpersonalise.a
+card_header = include/tripodmoon_personalise.h
 
 # The three parts of the library's version, from the header.
 word = $(shell sed -n 's/^.define EMV_VERSION \(0x[0-9A-Fa-f]*\)u$$/\1/p' $(header))
@@ -17,26 +20,33 @@ version = $(shell echo $$(($(word) >> 24)).$$(($(word) >> 16 & 255)).$$(($(word)
 headers = $(DESTDIR)$(PREFIX)/include
 folder = $(DESTDIR)$(PREFIX)/lib/tripodmoon
 package = $(DESTDIR)$(PREFIX)/lib/pkgconfig/tripodmoon.pc
+installed = '$(headers)/tripodmoon.h' '$(headers)/tripodmoon_personalise.h' '$(folder)/libhost.a' '$(folder)/libpersonalise.a' '$(package)'
 
-crates = $(wildcard $(addprefix crates/,host $(shell sed -n 's/^host://p' crates.txt)))
-sources = crates.txt $(shell find $(crates) -type f -not -path '*/must-fail/*')
+# The files of an archive's crates.
+crates = $(wildcard $(addprefix crates/,$(1) $(shell sed -n 's/^$(1)://p' crates.txt)))
+sources = crates.txt $(shell find $(call crates,$(1)) -type f -not -path '*/must-fail/*')
 
 .PHONY: all install uninstall
 
-all: $(archive)
+all: $(archive) $(card_archive)
 
-$(archive): $(sources)
+$(archive): $(call sources,host)
 	rt staticlib host
 
-install: $(archive)
+$(card_archive): $(call sources,personalise)
+	rt staticlib personalise
+
+install: $(archive) $(card_archive)
 	mkdir -p '$(headers)' '$(folder)' '$(dir $(package))'
 	cp $(header) '$(headers)/tripodmoon.h'
+	cp $(card_header) '$(headers)/tripodmoon_personalise.h'
 	cp $(archive) '$(folder)/libhost.a'
+	cp $(card_archive) '$(folder)/libpersonalise.a'
 	printf '%s\n' 'prefix=$(PREFIX)' 'includedir=$${prefix}/include' 'libdir=$${prefix}/lib/tripodmoon' '' \
 	    'Name: tripodmoon' 'Description: One contactless payment session in EMV mode, proved' 'Version: $(version)' \
 	    'Cflags: -I$${includedir}' 'Libs: -L$${libdir} -lhost' >'$(package)'
-	chmod 644 '$(headers)/tripodmoon.h' '$(folder)/libhost.a' '$(package)'
+	chmod 644 $(installed)
 
 uninstall:
-	rm -f '$(headers)/tripodmoon.h' '$(folder)/libhost.a' '$(package)'
+	rm -f $(installed)
 	rmdir '$(folder)' 2>/dev/null || true

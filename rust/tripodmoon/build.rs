@@ -1,4 +1,5 @@
-//! Links libhost.a, from target/staticlib at the repository's root or from where TRIPODMOON_LIB says.
+//! Links libhost.a, from target/staticlib at the repository's root or from where TRIPODMOON_LIB says; with the feature
+//! `personalise` libpersonalise.a too, from the same folder.
 
 use std::path::{Path, PathBuf};
 use std::{env, process};
@@ -12,20 +13,29 @@ fn main() {
             Path::new(&here).join("../../target/staticlib")
         }
     };
-    let library = folder.join("libhost.a");
+    println!("cargo:rustc-link-search=native={}", folder.display());
+    let library = link(&folder, "host");
+    if env::var_os("CARGO_FEATURE_PERSONALISE").is_some() {
+        link(&folder, "personalise");
+    }
+    // DEP_HOST_LIBRARY for the crates that depend on this one.
+    println!("cargo:library={}", library.display());
+}
+
+/// Links the archive of a crate, and says where it is.
+fn link(folder: &Path, name: &str) -> PathBuf {
+    let library = folder.join(format!("lib{name}.a"));
     if !library.is_file() {
         eprintln!(
-            "{} is not there: run `rt staticlib host` at the repository's root, \
+            "{} is not there: run `rt staticlib {name}` at the repository's root, \
              or set TRIPODMOON_LIB to libhost.a or its folder",
             library.display()
         );
         process::exit(1);
     }
     println!("cargo:rerun-if-changed={}", library.display());
-    println!("cargo:rustc-link-search=native={}", folder.display());
-    println!("cargo:rustc-link-lib=static=host");
-    // DEP_HOST_LIBRARY for the crates that depend on this one.
-    println!("cargo:library={}", library.display());
+    println!("cargo:rustc-link-lib=static={name}");
+    library
 }
 
 /// TRIPODMOON_LIB names the library or its folder.

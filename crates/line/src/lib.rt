@@ -6,6 +6,8 @@
 // Blanks (space, tab, carriage return) may stand around words and between the bytes of HEX; a byte is
 // two hexadecimal digits side by side, small or capital. `#` starts a comment to the line's end, so `#!` in
 // front of a file does too. N is a decimal number, at most 4,096. A line with no word is blank.
+//
+// `uncommented`, `first_word`, `behind_word` and `decode` read the lines of files with other words.
 ghost use mathlib.Core.Path.{_≡_};
 ghost use Prim.Native.Nat.{_≤_};
 ghost use lib.ListN.{length};
@@ -88,9 +90,9 @@ enum Pair {
 }
 
 // How many bytes were decoded, and the number of the problem that stopped it, 0 for none.
-struct Decoded {
-    size: usize,
-    problem: u8,
+pub struct Decoded {
+    pub size: usize,
+    pub problem: u8,
 }
 
 // What a line says. The bytes of a start or an answer stand in the front of `out`.
@@ -156,7 +158,7 @@ fn front_length(s: &[u8], kind: Kind) -> usize
 }
 
 // The line up to its comment.
-fn uncommented(s: &[u8]) -> &[u8]
+pub fn uncommented(s: &[u8]) -> &[u8]
     ensures { λ r. ⌜ now r ≡ uncommentedOf (now (s .entry)) ⌝ }
 {
     let n = front_length(s, Kind::NotHash);
@@ -172,7 +174,7 @@ fn past_blanks(s: &[u8]) -> &[u8]
 }
 
 // The first word of a text.
-fn first_word(s: &[u8]) -> &[u8]
+pub fn first_word(s: &[u8]) -> &[u8]
     ensures { λ r. ⌜ now r ≡ wordOf (now (s .entry)) ⌝ }
 {
     let t = past_blanks(s);
@@ -181,7 +183,7 @@ fn first_word(s: &[u8]) -> &[u8]
 }
 
 // What stands behind the first word.
-fn behind_word(s: &[u8]) -> &[u8]
+pub fn behind_word(s: &[u8]) -> &[u8]
     ensures { λ r. ⌜ now r ≡ behind (now (s .entry)) ⌝ }
 {
     let t = past_blanks(s);
@@ -274,7 +276,7 @@ fn size_line(w: &[u8]) -> Line
 
 // Decodes pairs of hexadecimal digits with blanks between them into the front of `out`, up to the first
 // that is no pair or that finds no room.
-fn decode(s: &[u8], out: &mut [u8]) -> Decoded
+pub fn decode(s: &[u8], out: &mut [u8]) -> Decoded
     ensures { λ r. ⌜ Decodes r (now (out .exit)) (within (length (now (out .entry))) (spelled (now (s .entry)))) (now (out .entry)) ⌝ }
 {
     let mut rest = past_blanks(s);

@@ -12,6 +12,7 @@ fn main() {
     statements();
     parts();
     calls();
+    card();
     judge();
 }
 
@@ -122,6 +123,25 @@ fn test_wanted(bytes: &[u8], out: &mut [u8]) -> usize {
     journal_test::emv_test_wanted(bytes, out)
 }
 
+fn card() {
+    let mut records = [0u8; 32768];
+    let mut locator = [0u8; 248];
+    found(
+        b"emv_personalise",
+        write_card(b"", b"\x08\x01\x02\x00", b"", &mut records, &mut locator),
+    );
+}
+
+fn write_card(
+    objects: &[u8],
+    entries: &[u8],
+    placements: &[u8],
+    records: &mut [u8],
+    locator: &mut [u8],
+) -> u64 {
+    personalise::emv_personalise(objects, entries, placements, records, locator)
+}
+
 // ---- a journal
 
 fn judge() {
@@ -166,7 +186,7 @@ fn word(name: &[u8], word: u32) {
     show::text(b"\n");
 }
 
-// A place by its two halves.
+// A word of 64 bits by its two halves.
 fn found(name: &[u8], place: u64) {
     show::text(name);
     show::text(b": ");

@@ -3,13 +3,16 @@
 //! After each call the reply word, the whole command buffer, the count and the whole session slice
 //! must be equal. `rng`, `objects`, `terminal`, `card`, `damage` and `play` draw the sessions; `run`
 //! makes the calls and counts what occurred. `reading` compares single readings, with the object count that no call hands out.
+//! `layout` draws lists of objects and layouts of the card's side, and `personalise` compares what is written for them.
 
 #![forbid(unsafe_code)]
 
 pub mod card;
 pub mod damage;
 pub mod journal;
+pub mod layout;
 pub mod objects;
+pub mod personalise;
 pub mod play;
 pub mod reading;
 pub mod rng;

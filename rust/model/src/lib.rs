@@ -10,6 +10,7 @@
 //! - `data_list`, `locator`, `analysis`: data object lists, the file locator, result bits and choice
 //! - `session`: the session record, its ranges and its steps
 //! - `journal`: the journal of a session, written from its calls and checked
+//! - `personalise`: the card's side, records and locator written from a list of objects
 
 #![no_std]
 #![forbid(unsafe_code)]
@@ -21,6 +22,7 @@ pub mod data_list;
 pub mod dictionary;
 pub mod journal;
 pub mod locator;
+pub mod personalise;
 pub mod reading;
 pub mod reason;
 pub mod session;

@@ -36,10 +36,15 @@
 //!
 //! The C calls, the result words and the record's layout are described in docs/HOST.md, the rules
 //! of the session in docs/SPEC-MAP.md.
+//!
+//! With the feature `personalise` the module of that name writes a card's records and file locator, by
+//! a second archive.
 
 #![no_std]
 
 pub mod calls;
+#[cfg(feature = "personalise")]
+pub mod personalise;
 
 use core::fmt;
 

@@ -1,0 +1,124 @@
+-- The list, the entries and the records on both sides of each rule's edge, computed, in buffers that hold nothing; and buffers that are too
+-- short.
+-- Assumes nothing.
+use mathlib.Core.Path.{_≡_, refl}
+use mathlib.Core.List.{List, [], _∷_, _++_}
+use Prim.Native.Nat.{ℕ, zero, suc}
+use native.Mathlib.Omega.{arith}
+use lib.ListN.{length, replicate}
+use Rattle.basics.specs.Choice.{if, both, either, every}
+use Rattle.basics.specs.Recursion.{recurseBy, recurse}
+use Rattle.basics.specs.Number.{numberFrom, nibbles}
+use Rattle.tlv.specs.Tag.{tagSize, secondByte, thirdByte, tagAt, firstByte, isTemplate, isPrivate}
+use Rattle.tlv.specs.Length.{oneByte, lengthAt}
+use Rattle.tlv.specs.Object.{headerOf}
+use Rattle.tlv.specs.Primitives.{withObject, primitiveOf, primitives}
+use Rattle.tlv.specs.Encoding.{tagBytes, lengthBytes}
+use Rattle.dictionary.specs.Rows.{rows, past, find}
+use Rattle.dictionary.specs.Form.{numeric, compressed, digitsThenFs, digitsFit, fitting}
+use Rattle.locator.specs.Records.{entries, wholeEntries, sumOf}
+use Rattle.reading.specs.Taking.{mayStand, mayCome}
+use Rattle.personalise.specs.declared.Answer.{Answer}
+use Rattle.personalise.specs.declared.Answer.the-variants.{Written, BadList, BadEntry, BadRecord}
+use Rattle.personalise.specs.Objects.{settable, lacksTag, distinct}
+use Rattle.personalise.specs.Placements.{placementsIn, countOf, anyOf, eachOnce, objectsFrom}
+use Rattle.personalise.specs.Entries.{apartFrom, roomBehind, keepsAlone, keepsBehind, badEnd, badFrom, badEntry}
+use Rattle.personalise.specs.Records.{contentBytes, recordsFrom, joined, badAt, firstOf, badRecord}
+use Rattle.personalise.specs.Outcome.{listKeeps, afterBuffers, answerOf, recordsLeft, locatorLeft}
+use Rattle.personalise.proofs.Stages.{short-records, short-locator}
+
+-- the answer to objects, entries and placements
+abbrev said : List ℕ → List ℕ → List ℕ → Answer
+said objects es placements = afterBuffers (primitives objects) (placementsIn placements) es
+
+-- the answer, with the records and the locator that are left of no bytes
+abbrev done : List ℕ → List ℕ → List ℕ → Answer × List ℕ × List ℕ
+done objects es placements =
+    (said objects es placements, recordsLeft (said objects es placements) objects es placements [], locatorLeft (said objects es placements) es [])
+
+-- records of this length and a locator of that
+abbrev sizes : ℕ → ℕ → Answer
+sizes n m = Written (record { records = n; locator = m })
+
+-- n entries of one record each, numbered from k on
+abbrev apart : ℕ → ℕ → List ℕ
+apart k zero = []
+apart k (suc n) = 0x08 ∷ k ∷ k ∷ 0x00 ∷ apart (suc k) n
+
+pub record Examples : Type 0 where
+  -- two objects in one record
+  two : done (0x9F ∷ 0x08 ∷ 0x02 ∷ 0x00 ∷ 0x02 ∷ 0x5F ∷ 0x24 ∷ 0x03 ∷ 0x49 ∷ 0x12 ∷ 0x31 ∷ []) (0x08 ∷ 0x01 ∷ 0x01 ∷ 0x00 ∷ []) (0x01 ∷ 0x01 ∷ 0x01 ∷ 0x02 ∷ [])
+      ≡ (sizes 13 4, (0x70 ∷ 0x0B ∷ 0x9F ∷ 0x08 ∷ 0x02 ∷ 0x00 ∷ 0x02 ∷ 0x5F ∷ 0x24 ∷ 0x03 ∷ 0x49 ∷ 0x12 ∷ 0x31 ∷ []), (0x08 ∷ 0x01 ∷ 0x01 ∷ 0x00 ∷ []))
+  -- the list decides the order within a record, the placements do not
+  order : done (0x57 ∷ 0x02 ∷ 0xAA ∷ 0xBB ∷ 0x5A ∷ 0x01 ∷ 0x1F ∷ 0x8C ∷ 0x03 ∷ 0x9F ∷ 0x37 ∷ 0x04 ∷ []) (0x10 ∷ 0x01 ∷ 0x01 ∷ 0x00 ∷ 0x08 ∷ 0x05 ∷ 0x05 ∷ 0x00 ∷ []) (0x02 ∷ 0x03 ∷ 0x01 ∷ 0x02 ∷ 0x02 ∷ 0x01 ∷ [])
+      ≡ (sizes 16 8, (0x70 ∷ 0x03 ∷ 0x5A ∷ 0x01 ∷ 0x1F ∷ 0x70 ∷ 0x09 ∷ 0x57 ∷ 0x02 ∷ 0xAA ∷ 0xBB ∷ 0x8C ∷ 0x03 ∷ 0x9F ∷ 0x37 ∷ 0x04 ∷ []), (0x10 ∷ 0x01 ∷ 0x01 ∷ 0x00 ∷ 0x08 ∷ 0x05 ∷ 0x05 ∷ 0x00 ∷ []))
+  -- no objects: empty records
+  empty : done [] (0x08 ∷ 0x01 ∷ 0x02 ∷ 0x00 ∷ []) []
+      ≡ (sizes 4 4, (0x70 ∷ 0x00 ∷ 0x70 ∷ 0x00 ∷ []), (0x08 ∷ 0x01 ∷ 0x02 ∷ 0x00 ∷ []))
+  -- a length in two bytes is written in one
+  shortest : done (0x57 ∷ 0x81 ∷ 0x02 ∷ 0xAA ∷ 0xBB ∷ []) (0x08 ∷ 0x01 ∷ 0x01 ∷ 0x00 ∷ []) (0x01 ∷ 0x01 ∷ [])
+      ≡ (sizes 6 4, (0x70 ∷ 0x04 ∷ 0x57 ∷ 0x02 ∷ 0xAA ∷ 0xBB ∷ []), (0x08 ∷ 0x01 ∷ 0x01 ∷ 0x00 ∷ []))
+  -- a content of 253 bytes
+  fullest : done (0x8C ∷ 0x81 ∷ 0xFA ∷ replicate 250 0) (0x08 ∷ 0x01 ∷ 0x01 ∷ 0x00 ∷ []) (0x01 ∷ 0x01 ∷ [])
+      ≡ (sizes 256 4, (0x70 ∷ 0x81 ∷ 0xFD ∷ 0x8C ∷ 0x81 ∷ 0xFA ∷ replicate 250 0), (0x08 ∷ 0x01 ∷ 0x01 ∷ 0x00 ∷ []))
+  -- one of 257, and the two objects apart
+  over : said (0x8C ∷ 0x81 ∷ 0xFA ∷ (replicate 250 0 ++ (0x5F ∷ 0x34 ∷ 0x01 ∷ 0x01 ∷ []))) (0x08 ∷ 0x01 ∷ 0x02 ∷ 0x00 ∷ []) (0x01 ∷ 0x01 ∷ 0x01 ∷ 0x02 ∷ []) ≡ BadRecord 1
+  split : said (0x8C ∷ 0x81 ∷ 0xFA ∷ (replicate 250 0 ++ (0x5F ∷ 0x34 ∷ 0x01 ∷ 0x01 ∷ []))) (0x08 ∷ 0x01 ∷ 0x02 ∷ 0x00 ∷ []) (0x02 ∷ 0x01 ∷ 0x01 ∷ 0x02 ∷ []) ≡ sizes 262 4
+  -- a content of 127 bytes, and of 128
+  below : said (0x8C ∷ 0x7D ∷ replicate 125 0) (0x08 ∷ 0x01 ∷ 0x01 ∷ 0x00 ∷ []) (0x01 ∷ 0x01 ∷ []) ≡ sizes 129 4
+  above : said (0x8C ∷ 0x7E ∷ replicate 126 0) (0x08 ∷ 0x01 ∷ 0x01 ∷ 0x00 ∷ []) (0x01 ∷ 0x01 ∷ []) ≡ sizes 131 4
+  -- a tag twice, the first value empty
+  twice : said (0x57 ∷ 0x00 ∷ 0x57 ∷ 0x01 ∷ 0xAA ∷ []) (0x08 ∷ 0x01 ∷ 0x02 ∷ 0x00 ∷ []) (0x01 ∷ 0x01 ∷ 0x02 ∷ 0x02 ∷ []) ≡ BadList
+  -- an object left out, which comes before a byte 4 that is not 0
+  left-out : said (0x9F ∷ 0x08 ∷ 0x02 ∷ 0x00 ∷ 0x02 ∷ 0x5F ∷ 0x24 ∷ 0x03 ∷ 0x49 ∷ 0x12 ∷ 0x31 ∷ []) (0x08 ∷ 0x01 ∷ 0x01 ∷ 0x01 ∷ []) (0x01 ∷ 0x01 ∷ []) ≡ BadList
+  -- an object placed twice
+  placed-twice : said (0x9F ∷ 0x08 ∷ 0x02 ∷ 0x00 ∷ 0x02 ∷ []) (0x08 ∷ 0x01 ∷ 0x02 ∷ 0x00 ∷ []) (0x01 ∷ 0x01 ∷ 0x02 ∷ 0x01 ∷ []) ≡ BadList
+  -- two ranges of one file meet, and of two files do not
+  meeting : said (0x9F ∷ 0x08 ∷ 0x02 ∷ 0x00 ∷ 0x02 ∷ []) (0x08 ∷ 0x01 ∷ 0x03 ∷ 0x00 ∷ 0x08 ∷ 0x03 ∷ 0x04 ∷ 0x00 ∷ []) (0x01 ∷ 0x01 ∷ []) ≡ BadEntry 2
+  files : said (0x9F ∷ 0x08 ∷ 0x02 ∷ 0x00 ∷ 0x02 ∷ []) (0x08 ∷ 0x01 ∷ 0x03 ∷ 0x00 ∷ 0x10 ∷ 0x03 ∷ 0x04 ∷ 0x00 ∷ []) (0x01 ∷ 0x01 ∷ []) ≡ sizes 15 8
+  -- no entry
+  no-entry : said (0x9F ∷ 0x08 ∷ 0x02 ∷ 0x00 ∷ 0x02 ∷ []) [] (0x01 ∷ 0x01 ∷ []) ≡ BadEntry 1
+  -- an entry cut short
+  cut : said (0x9F ∷ 0x08 ∷ 0x02 ∷ 0x00 ∷ 0x02 ∷ []) (0x08 ∷ 0x01 ∷ 0x01 ∷ 0x00 ∷ 0x10 ∷ 0x01 ∷ 0x01 ∷ []) (0x01 ∷ 0x01 ∷ []) ≡ BadEntry 2
+  -- 63 entries, and 62
+  sixty-three : said (0x9F ∷ 0x08 ∷ 0x02 ∷ 0x00 ∷ 0x02 ∷ []) (apart 1 63) (0x01 ∷ 0x01 ∷ []) ≡ BadEntry 63
+  sixty-two : said (0x9F ∷ 0x08 ∷ 0x02 ∷ 0x00 ∷ 0x02 ∷ []) (apart 1 62) (0x01 ∷ 0x01 ∷ []) ≡ sizes 129 248
+  -- 128 records, and 129
+  all : said (0x9F ∷ 0x08 ∷ 0x02 ∷ 0x00 ∷ 0x02 ∷ []) (0x08 ∷ 0x01 ∷ 0x80 ∷ 0x00 ∷ []) (0x01 ∷ 0x01 ∷ []) ≡ sizes 261 4
+  many : said (0x9F ∷ 0x08 ∷ 0x02 ∷ 0x00 ∷ 0x02 ∷ []) (0x08 ∷ 0x01 ∷ 0x80 ∷ 0x00 ∷ 0x10 ∷ 0x01 ∷ 0x01 ∷ 0x00 ∷ []) (0x01 ∷ 0x01 ∷ []) ≡ BadEntry 2
+  -- 256 records in two entries
+  total : said (0x9F ∷ 0x08 ∷ 0x02 ∷ 0x00 ∷ 0x02 ∷ []) (0x08 ∷ 0x01 ∷ 0x80 ∷ 0x00 ∷ 0x10 ∷ 0x01 ∷ 0x80 ∷ 0x00 ∷ []) (0x01 ∷ 0x01 ∷ []) ≡ BadEntry 2
+  -- byte 1 with a low bit, file 0, file 11, first record 0, last below first, byte 4 not 0
+  low-bits : said [] (0x09 ∷ 0x01 ∷ 0x01 ∷ 0x00 ∷ []) [] ≡ BadEntry 1
+  file-zero : said [] (0x00 ∷ 0x01 ∷ 0x01 ∷ 0x00 ∷ []) [] ≡ BadEntry 1
+  file-ten : said [] (0x50 ∷ 0x01 ∷ 0x01 ∷ 0x00 ∷ []) [] ≡ sizes 2 4
+  file-eleven : said [] (0x58 ∷ 0x01 ∷ 0x01 ∷ 0x00 ∷ []) [] ≡ BadEntry 1
+  first-zero : said [] (0x08 ∷ 0x00 ∷ 0x01 ∷ 0x00 ∷ []) [] ≡ BadEntry 1
+  not-below : said [] (0x08 ∷ 0x02 ∷ 0x01 ∷ 0x00 ∷ []) [] ≡ BadEntry 1
+  offline : said [] (0x08 ∷ 0x01 ∷ 0x01 ∷ 0x01 ∷ []) [] ≡ BadEntry 1
+  -- an object of the session, of template 77, a template, an unknown one, a private one of the terminal
+  session : said (0x95 ∷ 0x05 ∷ 0x00 ∷ 0x00 ∷ 0x00 ∷ 0x00 ∷ 0x00 ∷ []) (0x08 ∷ 0x01 ∷ 0x01 ∷ 0x00 ∷ []) (0x01 ∷ 0x01 ∷ []) ≡ BadList
+  options : said (0x82 ∷ 0x02 ∷ 0x00 ∷ 0x80 ∷ []) (0x08 ∷ 0x01 ∷ 0x01 ∷ 0x00 ∷ []) (0x01 ∷ 0x01 ∷ []) ≡ BadList
+  template : said (0x70 ∷ 0x00 ∷ []) (0x08 ∷ 0x01 ∷ 0x01 ∷ 0x00 ∷ []) (0x01 ∷ 0x01 ∷ []) ≡ BadList
+  unknown : said (0x42 ∷ 0x01 ∷ 0x41 ∷ []) (0x08 ∷ 0x01 ∷ 0x01 ∷ 0x00 ∷ []) (0x01 ∷ 0x01 ∷ []) ≡ BadList
+  private : said (0xDF ∷ 0x81 ∷ 0x23 ∷ 0x06 ∷ 0x00 ∷ 0x00 ∷ 0x00 ∷ 0x00 ∷ 0x00 ∷ 0x00 ∷ []) (0x08 ∷ 0x01 ∷ 0x01 ∷ 0x00 ∷ []) (0x01 ∷ 0x01 ∷ []) ≡ BadList
+  -- a length and a digit that do not fit
+  too-long : said (0x9F ∷ 0x08 ∷ 0x03 ∷ 0x00 ∷ 0x02 ∷ 0x00 ∷ []) (0x08 ∷ 0x01 ∷ 0x01 ∷ 0x00 ∷ []) (0x01 ∷ 0x01 ∷ []) ≡ BadList
+  digit : said (0x5F ∷ 0x24 ∷ 0x03 ∷ 0x49 ∷ 0x12 ∷ 0x3A ∷ []) (0x08 ∷ 0x01 ∷ 0x01 ∷ 0x00 ∷ []) (0x01 ∷ 0x01 ∷ []) ≡ BadList
+  -- an object that is not in the list, and a record that is not in the locator
+  object-nine : said (0x9F ∷ 0x08 ∷ 0x02 ∷ 0x00 ∷ 0x02 ∷ 0x5F ∷ 0x34 ∷ 0x01 ∷ 0x01 ∷ []) (0x08 ∷ 0x01 ∷ 0x02 ∷ 0x00 ∷ []) (0x01 ∷ 0x01 ∷ 0x02 ∷ 0x02 ∷ 0x01 ∷ 0x09 ∷ []) ≡ BadRecord 1
+  record-three : said (0x9F ∷ 0x08 ∷ 0x02 ∷ 0x00 ∷ 0x02 ∷ 0x5F ∷ 0x34 ∷ 0x01 ∷ 0x01 ∷ []) (0x08 ∷ 0x01 ∷ 0x02 ∷ 0x00 ∷ []) (0x01 ∷ 0x01 ∷ 0x03 ∷ 0x02 ∷ []) ≡ BadRecord 3
+  -- record 0, and one byte alone behind the placements
+  record-zero : said (0x9F ∷ 0x08 ∷ 0x02 ∷ 0x00 ∷ 0x02 ∷ []) (0x08 ∷ 0x01 ∷ 0x02 ∷ 0x00 ∷ []) (0x00 ∷ 0x01 ∷ []) ≡ BadRecord 0
+  odd : said (0x9F ∷ 0x08 ∷ 0x02 ∷ 0x00 ∷ 0x02 ∷ []) (0x08 ∷ 0x01 ∷ 0x02 ∷ 0x00 ∷ []) (0x01 ∷ 0x01 ∷ 0x02 ∷ []) ≡ BadRecord 2
+
+examples : Examples
+unfolding primitives recurse recurseBy primitiveOf withObject headerOf tagAt tagSize secondByte thirdByte lengthAt oneByte firstByte isTemplate isPrivate numberFrom nibbles if both either every rows past find mayCome mayStand fitting numeric digitsFit compressed digitsThenFs tagBytes lengthBytes settable lacksTag distinct placementsIn countOf anyOf eachOnce objectsFrom entries wholeEntries sumOf apartFrom roomBehind keepsAlone keepsBehind badEnd badFrom badEntry contentBytes recordsFrom joined badAt firstOf badRecord listKeeps
+examples = record { two = refl; order = refl; empty = refl; shortest = refl; fullest = refl; over = refl; split = refl; below = refl; above = refl; twice = refl; left-out = refl; placed-twice = refl; meeting = refl; files = refl; no-entry = refl; cut = refl; sixty-three = refl; sixty-two = refl; all = refl; many = refl; total = refl; low-bits = refl; file-zero = refl; file-ten = refl; file-eleven = refl; first-zero = refl; not-below = refl; offline = refl; session = refl; options = refl; template = refl; unknown = refl; private = refl; too-long = refl; digit = refl; object-nine = refl; record-three = refl; record-zero = refl; odd = refl }
+
+-- buffers of 32,767 and 247 bytes, and of 32,768 and 247, whatever they hold, with a list that is bad and no entry
+buffers : (r l : List ℕ) → length r ≡ 32767 → length l ≡ 247 → answerOf (0x57 ∷ 0x00 ∷ 0x57 ∷ 0x00 ∷ []) [] [] r l ≡ Answer.ShortRecords
+buffers r l e f = short-records (0x57 ∷ 0x00 ∷ 0x57 ∷ 0x00 ∷ []) [] [] r l (omega arith)
+
+second : (r l : List ℕ) → length r ≡ 32768 → length l ≡ 247 → answerOf (0x57 ∷ 0x00 ∷ 0x57 ∷ 0x00 ∷ []) [] [] r l ≡ Answer.ShortLocator
+second r l e f = short-locator (0x57 ∷ 0x00 ∷ 0x57 ∷ 0x00 ∷ []) [] [] r l (omega arith) (omega arith)

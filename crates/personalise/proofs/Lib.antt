@@ -1,0 +1,17 @@
+pub mod Examples
+pub mod Placed
+pub mod Proposed
+pub mod Listed
+pub mod Forms
+pub mod Least
+pub mod Over
+pub mod Known
+pub mod Filled
+pub mod Rules
+pub mod Stages
+pub mod Exact
+pub mod Arranged
+pub mod Stored
+pub mod ReadBack
+pub mod Holding
+pub mod Twice

@@ -1,0 +1,213 @@
+-- The list of objects, one at a time: what is said of the run that is left behind an object. The loops cite these.
+-- Assumes nothing.
+use mathlib.Core.Path.{_≡_, refl, sym, ap, _∙_}
+use mathlib.Core.Bool.{Bool, true, false, not}
+use mathlib.Core.Logic.{inl, inr}
+use mathlib.Core.List.{List, [], _∷_, _++_}
+use mathlib.Core.Option.{Option, some, none}
+use Prim.Native.Nat.{ℕ, suc, _+_, _-_, _<_}
+use native.Mathlib.Numerals.{add-one}
+use native.Mathlib.Omega.{arith}
+use lib.ListN.{length, length-take, length-drop, length-append}
+use borrow.Author.Tests.{eq-eqb, ne-eqb}
+use Rattle.basics.specs.Choice.{both, every}
+use Rattle.basics.proofs.Laws.{if-yes, if-no, bool-cases, both-true, both-left, both-right, both-no-left, both-no-right}
+use Rattle.tlv.specs.declared.Header.{Header}
+use Rattle.tlv.specs.declared.Front.the-variants as front
+use Rattle.tlv.specs.Primitives.{Object, withObject, primitiveOf, primitives, isRun}
+use Rattle.tlv.specs.Encoding.{objectBytes}
+use Rattle.tlv.proofs.Primitives.{primitive-fits, primitives-end, primitives-broken, firstOf, restOf, parts, is-run-on, is-run-broken}
+use Rattle.dictionary.specs.declared.Found.{Found}
+use Rattle.dictionary.specs.declared.Found.the-variants.{At, Unknown}
+use Rattle.dictionary.specs.Rows.{rows, rowAt, find, cardRecord}
+use Rattle.reading.specs.Taking.{mayCome}
+use Rattle.personalise.specs.declared.Placement.{Placement}
+use Rattle.personalise.specs.Objects.{recordTemplate, settableFound, settable, lacksTag, distinct, objectsOf}
+use Rattle.personalise.specs.Placements.{countOf, anyOf, ofObject, puts, eachOnce, objectsFrom}
+use Rattle.personalise.specs.Records.{contentBytes}
+use Rattle.personalise.specs.Outcome.{listed}
+use Rattle.personalise.specs.Inner.{lacksIn, runKeeps, Usable, objectSize, placedSize, placedBytes}
+
+-- ---- one object
+
+module _ (o : Object) (x : Found) (p : x ≡ find rows (o .tag)) where
+  pub settable-unknown : x ≡ Unknown → settable o ≡ false
+  unfolding settable
+  settable-unknown q = ap (λ (y : Found). settableFound y (o .value)) (sym p ∙ q)
+
+  pub settable-at : (k : ℕ) → x ≡ At k → settable o ≡ mayCome cardRecord (rowAt k) recordTemplate (o .value)
+  unfolding settable
+  settable-at k q = ap (λ (y : Found). settableFound y (o .value)) (sym p ∙ q)
+
+-- ---- an object and the run behind it
+
+same-tag : (t : ℕ) (o : Object) (x : Option (List Object)) → o .tag ≡ t → lacksIn t (withObject o x) ≡ false
+unfolding withObject lacksTag every
+same-tag t o none e = refl
+same-tag t o (some os) e = both-no-left _ _ (ap not (eq-eqb _ _ e))
+
+other-tag : (t : ℕ) (o : Object) (x : Option (List Object)) → (o .tag ≡ t → ⊥) → lacksIn t (withObject o x) ≡ lacksIn t x
+unfolding withObject lacksTag every
+other-tag t o none e = refl
+other-tag t o (some os) e = both-true _ (ap not (ne-eqb _ _ e))
+
+-- three tests that pass, each in front of its own others
+shuffle : (s e l d c f : Bool) → s ≡ true → l ≡ true → c ≡ true → both (both s e) (both (both l d) (both c f)) ≡ both e (both d f)
+unfolding both
+shuffle true e true d true f p q r = refl
+shuffle true e true d false f p q r = cc
+shuffle true e false d c f p q r = cc
+shuffle false e l d c f p q r = cc
+
+module _ (ps : List Placement) (j : ℕ) (o : Object) where
+  keeps-not-set : (x : Option (List Object)) → settable o ≡ false → runKeeps ps j (withObject o x) ≡ false
+  unfolding withObject every distinct eachOnce
+  keeps-not-set none e = refl
+  keeps-not-set (some os) e = both-no-left _ _ (both-no-left _ _ e)
+
+  keeps-twice : (x : Option (List Object)) → lacksIn (o .tag) x ≡ false → runKeeps ps j (withObject o x) ≡ false
+  unfolding withObject every distinct eachOnce
+  keeps-twice none e = refl
+  keeps-twice (some os) e = both-no-right _ _ (both-no-left _ _ (both-no-left _ _ e))
+
+  keeps-not-once : (x : Option (List Object)) → (countOf (ofObject j) ps ≡ 1 → ⊥) → runKeeps ps j (withObject o x) ≡ false
+  unfolding withObject every distinct eachOnce
+  keeps-not-once none e = refl
+  keeps-not-once (some os) e = both-no-right _ _ (both-no-right _ _ (both-no-left _ _ (ne-eqb _ _ e)))
+
+  keeps-next : (x : Option (List Object)) → settable o ≡ true → lacksIn (o .tag) x ≡ true → countOf (ofObject j) ps ≡ 1
+      → runKeeps ps j (withObject o x) ≡ runKeeps ps (suc j) x
+  unfolding withObject every distinct eachOnce
+  keeps-next none a b e = refl
+  keeps-next (some os) a b e = shuffle _ _ _ _ _ _ a b (eq-eqb _ _ e)
+
+-- ---- by the bytes that are left, as the code makes their parts
+
+module _ (s : List ℕ) where
+  pub lacks-end : (t : ℕ) → length s ≡ 0 → lacksIn t (primitives s) ≡ true
+  unfolding lacksTag every
+  lacks-end t z = ap (lacksIn t) (primitives-end s z)
+
+  pub keeps-end : (ps : List Placement) (j : ℕ) → length s ≡ 0 → runKeeps ps j (primitives s) ≡ true
+  unfolding every distinct eachOnce both
+  keeps-end ps j z = ap (runKeeps ps j) (primitives-end s z)
+
+  pub listed-end : length s ≡ 0 → listed s ≡ []
+  listed-end z = ap objectsOf (primitives-end s z)
+
+  module _ (n : length s ≡ 0 → ⊥) where
+    pub lacks-broken : (t : ℕ) → primitiveOf s ≡ front.Broken → lacksIn t (primitives s) ≡ false
+    lacks-broken t e = ap (lacksIn t) (primitives-broken s n e)
+
+    pub keeps-broken : (ps : List Placement) (j : ℕ) → primitiveOf s ≡ front.Broken → runKeeps ps j (primitives s) ≡ false
+    keeps-broken ps j e = ap (runKeeps ps j) (primitives-broken s n e)
+
+    pub run-broken : isRun (primitives s) ≡ true → primitiveOf s ≡ front.Broken → ⊥
+    run-broken r e = let b = is-run-broken s n e in let z : _≡_ {A = ℕ} 0 1 = cc in omega arith
+
+    module _ (h : Header) (e : primitiveOf s ≡ front.Object h) where
+      pub rest-less : length (restOf s h) < length s
+      rest-less = let f = primitive-fits s h e in simp (length-take, length-drop) (omega arith)
+
+      pub value-length : length (firstOf s h .value) ≡ h .len
+      value-length = let f = primitive-fits s h e in simp (length-take, length-drop) (omega arith)
+
+      pub lacks-here : (t : ℕ) → h .tag ≡ t → lacksIn t (primitives s) ≡ false
+      lacks-here t q = ap (lacksIn t) (parts s n h e) ∙ same-tag t (firstOf s h) (primitives (restOf s h)) q
+
+      pub lacks-on : (t : ℕ) → (h .tag ≡ t → ⊥) → lacksIn t (primitives s) ≡ lacksIn t (primitives (restOf s h))
+      lacks-on t q = ap (lacksIn t) (parts s n h e) ∙ other-tag t (firstOf s h) (primitives (restOf s h)) q
+
+      module _ (ps : List Placement) (j : ℕ) where
+        pub run-not-set : settable (firstOf s h) ≡ false → runKeeps ps j (primitives s) ≡ false
+        run-not-set q = ap (runKeeps ps j) (parts s n h e) ∙ keeps-not-set ps j (firstOf s h) (primitives (restOf s h)) q
+
+        pub run-twice : lacksIn (h .tag) (primitives (restOf s h)) ≡ false → runKeeps ps j (primitives s) ≡ false
+        run-twice q = ap (runKeeps ps j) (parts s n h e) ∙ keeps-twice ps j (firstOf s h) (primitives (restOf s h)) q
+
+        pub run-not-once : (countOf (ofObject j) ps ≡ 1 → ⊥) → runKeeps ps j (primitives s) ≡ false
+        run-not-once q = ap (runKeeps ps j) (parts s n h e) ∙ keeps-not-once ps j (firstOf s h) (primitives (restOf s h)) q
+
+        pub run-next : settable (firstOf s h) ≡ true → lacksIn (h .tag) (primitives (restOf s h)) ≡ true → countOf (ofObject j) ps ≡ 1
+            → runKeeps ps j (primitives s) ≡ runKeeps ps (j + 1) (primitives (restOf s h))
+        run-next a b q = rw add-one (ap (runKeeps ps j) (parts s n h e) ∙ keeps-next ps j (firstOf s h) (primitives (restOf s h)) a b q)
+
+      module _ (r : isRun (primitives s) ≡ true) where
+        pub rest-run : isRun (primitives (restOf s h)) ≡ true
+        rest-run = sym (is-run-on s n h e) ∙ r
+
+        pub listed-on : listed s ≡ firstOf s h ∷ listed (restOf s h)
+        unfolding withObject
+        listed-on = ap objectsOf (parts s n h e) ∙ go (primitives (restOf s h)) rest-run
+          where
+            go : (x : Option (List Object)) → isRun x ≡ true → objectsOf (withObject (firstOf s h) x) ≡ firstOf s h ∷ objectsOf x
+            go none p = cc
+            go (some os) p = refl
+
+-- ---- sizes
+
+pub object-length : (t : ℕ) (v : List ℕ) → length (objectBytes t v) ≡ objectSize t (length v)
+object-length t v = simp length-append
+
+content-joins : (o : Object) (os : List Object) → length (contentBytes (o ∷ os)) ≡ objectSize (o .tag) (length (o .value)) + length (contentBytes os)
+unfolding contentBytes
+content-joins o os = length-append (objectBytes (o .tag) (o .value)) (contentBytes os) ∙ rw (object-length (o .tag) (o .value))
+
+-- an object and those behind it, in record k
+pub content-length : (ps : List Placement) (k j : ℕ) (o : Object) (os : List Object)
+    → length (contentBytes (objectsFrom ps k j (o ∷ os))) ≡ placedSize ps k j (o .tag) (length (o .value)) + length (contentBytes (objectsFrom ps k (suc j) os))
+unfolding objectsFrom
+content-length ps k j o os =
+    let rest = objectsFrom ps k (suc j) os in
+    elim (bool-cases (anyOf (puts k j) ps)) [
+      | inl y ↦ (
+        let a = ap (λ (x : List Object). length (contentBytes x)) (if-yes (o ∷ rest) rest y) in
+        let b : placedSize ps k j (o .tag) (length (o .value)) ≡ objectSize (o .tag) (length (o .value)) = if-yes _ _ y in
+        omega (arith, a, b, content-joins o rest)
+      )
+      | inr f ↦ (
+        let a = ap (λ (x : List Object). length (contentBytes x)) (if-no (o ∷ rest) rest f) in
+        let b : placedSize ps k j (o .tag) (length (o .value)) ≡ 0 = if-no _ _ f in
+        omega (arith, a, b)
+      )
+    ]
+
+-- the same by the bytes that are left
+module _ (s : List ℕ) (n : length s ≡ 0 → ⊥) (h : Header) (e : primitiveOf s ≡ front.Object h) (r : isRun (primitives s) ≡ true) (ps : List Placement) (k j : ℕ) where
+  pub size-on : length (contentBytes (objectsFrom ps k j (listed s))) ≡ placedSize ps k j (h .tag) (h .len) + length (contentBytes (objectsFrom ps k (j + 1) (listed (restOf s h))))
+  size-on =
+      rw (add-one, listed-on s n h e r)
+      (content-length ps k j (firstOf s h) (listed (restOf s h)) ∙ rw (value-length s n h e))
+
+pub size-end : (s : List ℕ) (ps : List Placement) (k j : ℕ) → length s ≡ 0 → length (contentBytes (objectsFrom ps k j (listed s))) ≡ 0
+unfolding contentBytes objectsFrom
+size-end s ps k j z = ap (λ (os : List Object). length (contentBytes (objectsFrom ps k j os))) (listed-end s z)
+
+-- ---- bytes
+
+pub content-bytes : (ps : List Placement) (k j : ℕ) (o : Object) (os : List Object)
+    → contentBytes (objectsFrom ps k j (o ∷ os)) ≡ placedBytes ps k j (o .tag) (o .value) ++ contentBytes (objectsFrom ps k (suc j) os)
+unfolding objectsFrom contentBytes
+content-bytes ps k j o os =
+    let rest = objectsFrom ps k (suc j) os in
+    elim (bool-cases (anyOf (puts k j) ps)) [
+      | inl y ↦ ap contentBytes (if-yes (o ∷ rest) rest y) ∙ ap (λ (x : List ℕ). x ++ contentBytes rest) (sym (if-yes (objectBytes (o .tag) (o .value)) [] y))
+      | inr f ↦ ap contentBytes (if-no (o ∷ rest) rest f) ∙ ap (λ (x : List ℕ). x ++ contentBytes rest) (sym (if-no (objectBytes (o .tag) (o .value)) [] f))
+    ]
+
+module _ (s : List ℕ) (n : length s ≡ 0 → ⊥) (h : Header) (e : primitiveOf s ≡ front.Object h) (u : Usable s) where
+  pub rest-usable : Usable (restOf s h)
+  unfolding every
+  rest-usable = (rest-run s n h e (u .0), both-right _ _ (sym (ap (every settable) (listed-on s n h e (u .0))) ∙ u .1))
+
+  pub first-settable : settable (firstOf s h) ≡ true
+  unfolding every
+  first-settable = both-left _ _ (sym (ap (every settable) (listed-on s n h e (u .0))) ∙ u .1)
+
+  pub bytes-on : (ps : List Placement) (k j : ℕ)
+      → contentBytes (objectsFrom ps k j (listed s)) ≡ placedBytes ps k j (h .tag) (firstOf s h .value) ++ contentBytes (objectsFrom ps k (j + 1) (listed (restOf s h)))
+  bytes-on ps k j = rw (add-one, listed-on s n h e (u .0)) (content-bytes ps k j (firstOf s h) (listed (restOf s h)))
+
+pub bytes-end : (s : List ℕ) (ps : List Placement) (k j : ℕ) → length s ≡ 0 → contentBytes (objectsFrom ps k j (listed s)) ≡ []
+unfolding contentBytes objectsFrom
+bytes-end s ps k j z = ap (λ (os : List Object). contentBytes (objectsFrom ps k j os)) (listed-end s z)

@@ -1,0 +1,169 @@
+-- No record is named twice exactly where no two entries meet: the records of an entry are numbered upwards, and two entries in order that
+-- meet both name the higher of their first records.
+-- Assumes nothing.
+use mathlib.Core.Path.{_≡_, refl, sym, ap, ap₂, _∙_}
+use mathlib.Core.Bool.{Bool, true, false, not}
+use mathlib.Core.Logic.{inl, inr}
+use mathlib.Core.List.{List, [], _∷_, _++_}
+use Prim.Native.Nat.{ℕ, zero, suc, _+_, _-_, _<_, _≤_}
+use native.Mathlib.Omega.{arith}
+use borrow.Author.Tests.{eq-eqb, ne-eqb, eqb-true, leb-true, le-leb}
+use Rattle.basics.specs.Choice.{both, every}
+use Rattle.basics.proofs.Laws.{bool-cases, both-yes, both-true, both-left, both-right, both-no-left, both-no-right, both-assoc}
+use Rattle.basics.proofs.Order.{le-or-gt, equal-or-not}
+use Rattle.locator.specs.declared.Entry.{Entry}
+use Rattle.locator.specs.declared.CardRecord.{CardRecord}
+use Rattle.locator.specs.Entry.{fileOf, countOf}
+use Rattle.locator.specs.Records.{recordsFrom, named, recordsOf}
+use Rattle.personalise.specs.Entries.{inOrder, meets}
+use Rattle.personalise.specs.Clauses.{sameRecord, lacksRecord, noneTwice}
+use Rattle.personalise.proofs.Rules.{allApart, every-split, every-same}
+
+-- ---- lists joined
+
+every-append : {A : Type 0} (f : A → Bool) (x y : List A) → every f (x ++ y) ≡ both (every f x) (every f y)
+unfolding every both
+every-append f [] y = refl
+every-append f (a ∷ x) y = ap (both (f a)) (every-append f x y) ∙ both-assoc (f a) (every f x) (every f y)
+
+every-true : {A : Type 0} (f : A → Bool) → ((a : A) → f a ≡ true) → (x : List A) → every f x ≡ true
+unfolding every
+every-true f h [] = refl
+every-true f h (a ∷ x) = both-yes _ _ (h a) (every-true f h x)
+
+-- a record not in the first, not in the second; none twice in the first; and so on
+regroup : (a b c d e : Bool) → both (both a b) (both c (both d e)) ≡ both (both a c) (both (both b d) e)
+unfolding both
+regroup true true true d e = refl
+regroup true true false d e = refl
+regroup true false true d e = refl
+regroup true false false d e = refl
+regroup false b c d e = refl
+
+twice-join : (x y : List CardRecord) → noneTwice (x ++ y) ≡ both (noneTwice x) (both (every (λ r. lacksRecord r y) x) (noneTwice y))
+unfolding noneTwice lacksRecord every both
+twice-join [] y = refl
+twice-join (r ∷ x) y =
+    ap₂ both (every-append (λ s. not (sameRecord r s)) x y) (twice-join x y)
+    ∙ regroup (lacksRecord r x) (lacksRecord r y) (noneTwice x) (every (λ s. lacksRecord s y) x) (noneTwice y)
+
+-- ---- the records of one entry
+
+one : ℕ → ℕ → CardRecord
+one f n = record { file = f; number = n }
+
+-- a number below the others is not among them
+lacks-above : (f g n m k : ℕ) → n < m → lacksRecord (one f n) (recordsFrom g m k) ≡ true
+unfolding lacksRecord recordsFrom every one
+lacks-above f g n m zero h = refl
+lacks-above f g n m (suc k) h = both-yes _ _ (ap not (both-no-right _ _ (ne-eqb n m (λ e. omega arith)))) (lacks-above f g n (m + 1) k (omega arith))
+
+run-once : (f n k : ℕ) → noneTwice (recordsFrom f n k) ≡ true
+unfolding noneTwice recordsFrom one
+run-once f n zero = refl
+run-once f n (suc k) = both-yes _ _ (lacks-above f f n (n + 1) k (omega arith)) (run-once f (n + 1) k)
+
+-- a record of another file, or outside the range, is not among them
+lacks-other : (f g n m k : ℕ) → (f ≡ g → ⊥) → lacksRecord (one f n) (recordsFrom g m k) ≡ true
+unfolding lacksRecord recordsFrom every one
+lacks-other f g n m zero h = refl
+lacks-other f g n m (suc k) h = both-yes _ _ (ap not (both-no-left _ _ (ne-eqb f g h))) (lacks-other f g n (m + 1) k h)
+
+lacks-below : (f g n m k : ℕ) → m + k ≤ n → lacksRecord (one f n) (recordsFrom g m k) ≡ true
+unfolding lacksRecord recordsFrom every one
+lacks-below f g n m zero h = refl
+lacks-below f g n m (suc k) h = both-yes _ _ (ap not (both-no-right _ _ (ne-eqb n m (λ e. omega arith)))) (lacks-below f g n (m + 1) k (omega arith))
+
+-- what holds of each of them
+every-run : (P : CardRecord → Bool) (f n k : ℕ) → ((i : ℕ) → n ≤ i → i < n + k → P (one f i) ≡ true) → every P (recordsFrom f n k) ≡ true
+unfolding recordsFrom every one
+every-run P f n zero h = refl
+every-run P f n (suc k) h = both-yes _ _ (h n (omega arith) (omega arith)) (every-run P f (n + 1) k (λ i a b. h i (omega arith) (omega arith)))
+
+at-run : (P : CardRecord → Bool) (f n k : ℕ) → every P (recordsFrom f n k) ≡ true → (i : ℕ) → n ≤ i → i < n + k → P (one f i) ≡ true
+unfolding recordsFrom every one
+at-run P f n zero e i a b = absurd (omega arith)
+at-run P f n (suc k) e i a b = elim (equal-or-not n i) [
+  | inl q ↦ ap (λ (x : ℕ). P (one f x)) (sym q) ∙ both-left _ _ e
+  | inr q ↦ at-run P f (n + 1) k (both-right _ _ e) i (omega arith) (omega arith)
+]
+
+-- ---- two entries
+
+module _ (e f : Entry) (p : e .first ≤ e .last) (q : f .first ≤ f .last) where
+  both-lack : Bool
+  both-lack = every (λ r. lacksRecord r (named f)) (named e)
+
+  -- entries that do not meet name no record both
+  apart-lack : meets e f ≡ false → both-lack ≡ true
+  unfolding both-lack
+  apart-lack m =
+      every-run (λ r. lacksRecord r (named f)) (fileOf e) (e .first) (countOf e)
+      (λ i a b. elim (equal-or-not (fileOf e) (fileOf f)) [
+        | inr d ↦ lacks-other (fileOf e) (fileOf f) i (f .first) (countOf f) d
+        | inl s ↦ elim (le-or-gt (f .first) i) [
+          | inr g ↦ lacks-above (fileOf e) (fileOf f) i (f .first) (countOf f) g
+          | inl g ↦ elim (le-or-gt (f .first + countOf f) i) [
+            | inl h ↦ lacks-below (fileOf e) (fileOf f) i (f .first) (countOf f) h
+            | inr h ↦ absurd (let y : meets e f ≡ true = both-yes _ _ (eq-eqb _ _ s) (both-yes _ _ (le-leb (e .first) (f .last) (omega arith)) (le-leb (f .first) (e .last) (omega arith))) in
+                let z : _≡_ {A = ℕ} 0 1 = cc in omega arith)
+          ]
+        ]
+      ])
+
+  -- a record that both name
+  common : (i : ℕ) → fileOf e ≡ fileOf f → e .first ≤ i → i ≤ e .last → f .first ≤ i → i ≤ f .last → both-lack ≡ true → ⊥
+  unfolding both-lack lacksRecord one
+  common i s a b c d h =
+      let x = at-run (λ r. lacksRecord r (named f)) (fileOf e) (e .first) (countOf e) h i a (omega arith) in
+      let y = at-run (λ r. not (sameRecord (one (fileOf e) i) r)) (fileOf f) (f .first) (countOf f) x i c (omega arith) in
+      let z : sameRecord (one (fileOf e) i) (one (fileOf f) i) ≡ true = same i s in
+      let w : _≡_ {A = ℕ} 0 1 = cc in omega arith
+    where
+      same : (i : ℕ) → fileOf e ≡ fileOf f → sameRecord (one (fileOf e) i) (one (fileOf f) i) ≡ true
+      same i s = both-yes _ _ (eq-eqb _ _ s) (eq-eqb i i refl)
+
+  meet-not : meets e f ≡ true → both-lack ≡ false
+  meet-not m = elim (bool-cases both-lack) [
+    | inr n ↦ n
+    | inl y ↦ absurd (
+      let s : fileOf e ≡ fileOf f = eqb-true _ _ (both-left _ _ m) in
+      let a : e .first ≤ f .last = leb-true _ _ (both-left _ _ (both-right _ _ m)) in
+      let b : f .first ≤ e .last = leb-true _ _ (both-right _ _ (both-right _ _ m)) in
+      elim (le-or-gt (f .first) (e .first)) [
+        | inl g ↦ common (e .first) s (omega arith) p g a y
+        | inr g ↦ common (f .first) s (omega arith) b (omega arith) q y
+      ]
+    )
+  ]
+
+  lack-is : both-lack ≡ not (meets e f)
+  lack-is = elim (bool-cases (meets e f)) [
+    | inl m ↦ meet-not m ∙ ap not (sym m)
+    | inr m ↦ apart-lack m ∙ ap not (sym m)
+  ]
+
+-- ---- all entries
+
+order-of : (e : Entry) (es : List Entry) → every inOrder (e ∷ es) ≡ true → (e .first ≤ e .last) × (every inOrder es ≡ true)
+unfolding every
+order-of e es k = (leb-true _ _ (both-left _ _ k), both-right _ _ k)
+
+lack-all : (e : Entry) (es : List Entry) → e .first ≤ e .last → every inOrder es ≡ true
+    → every (λ r. lacksRecord r (recordsOf es)) (named e) ≡ every (λ f. not (meets e f)) es
+unfolding recordsOf every lacksRecord both-lack both
+lack-all e [] p k = every-true (λ r. true) (λ r. refl) (named e)
+lack-all e (f ∷ es) p k =
+    let o = order-of f es k in
+    every-same _ _ (λ r. every-append (λ s. not (sameRecord r s)) (named f) (recordsOf es)) (named e)
+    ∙ every-split (λ r. lacksRecord r (named f)) (λ r. lacksRecord r (recordsOf es)) (named e)
+    ∙ ap₂ both (lack-is e f p (o .0)) (lack-all e es p (o .1))
+
+pub twice-is : (es : List Entry) → every inOrder es ≡ true → noneTwice (recordsOf es) ≡ allApart es
+unfolding recordsOf allApart noneTwice
+twice-is [] k = refl
+twice-is (e ∷ es) k =
+    let o = order-of e es k in
+    twice-join (named e) (recordsOf es)
+    ∙ both-true _ (run-once (fileOf e) (e .first) (countOf e))
+    ∙ ap₂ both (lack-all e es (o .0) (o .1)) (twice-is es (o .1))

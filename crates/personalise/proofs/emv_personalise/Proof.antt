@@ -1,0 +1,31 @@
+-- `emv_personalise` meets its contract: a word says that all is written exactly where the answer does.
+-- Assumes nothing.
+use borrow.Author.Needs.{needs}
+use mathlib.Core.Path.{sym, ap, _∙_}
+use mathlib.Core.Bool.{Bool}
+use Rattle.personalise.specs.Outcome.{recordsIf, locatorIf}
+use Rattle.personalise.specs.Word.{wordOf, saysWritten}
+use Rattle.personalise.proofs.Stages.{says-written}
+use Rattle.personalise.proofs.emv_personalise.Statement.{statement}
+use Rattle.personalise.proofs.emv_personalise.Tie as tie
+
+returns : tie.Need-returns
+returns c =
+    let p = c .before .before .before .before .before in
+    let a = p .before .before .before .before .before .before .before .before .args in
+    let q = p .personalise .ensures in
+    let w = sym (ap saysWritten (c .word .ensures) ∙ says-written (p .personalise .result) (q .1 .1 .1 .0)) in (
+      c .word .ensures ∙ ap wordOf (q .0),
+      (q .1 .0 ∙ ap (λ (b : Bool). recordsIf b (a .objects .now) (a .entries .now) (a .placements .now) (a .records .now)) w,
+      q .1 .1 .0 ∙ ap (λ (b : Bool). locatorIf b (a .entries .now) (a .locator .now)) w),
+    )
+
+pub emv-personalise-spec : {M : Type 1} → statement M
+emv-personalise-spec =
+    tie.close
+    (tie.spec
+    (λ c κs. search needs)
+    (λ c κs. c .before .before .before .before .personalise .ensures .1 .1 .1 .0)
+    (λ c. search needs)
+    (λ c. search needs)
+    returns)

@@ -1,0 +1,47 @@
+-- `with_list` meets its contract: by the first bad entry.
+-- Assumes nothing.
+use borrow.Author.Needs.{needs}
+use mathlib.Core.Path.{sym, ap, _∙_}
+use Rattle.personalise.specs.Placements.{placementsIn}
+use Rattle.personalise.specs.Outcome.{listed, afterEntries}
+use Rattle.personalise.proofs.Stages.{records-stay, locator-stays}
+use Rattle.personalise.proofs.with_list.Statement.{statement}
+use Rattle.personalise.proofs.with_list.Tie as tie
+
+with-entries-requires : tie.Need-with-entries-requires
+with-entries-requires c κs =
+    let n = c .before .before in
+    let b = n .before .before in
+    let st = b .before .before .before .before .before .before in
+    (st .pre .0, (st .pre .1, sym (b .bad-entry .ensures) ∙ n .enum-told .given .1))
+
+returns : tie.Need-returns
+returns c =
+    let f = c .before in
+    let b = f .before .before in
+    let a = b .before .before .before .before .before .before .args in (
+      sym (ap (afterEntries (listed (a .objects .now)) (placementsIn (a .placements .now)) (a .entries .now)) (sym (b .bad-entry .ensures) ∙ f .fault .given .1)),
+      (records-stay (a .objects .now) (a .entries .now) (a .placements .now) (a .records .now), locator-stays (a .entries .now) (a .locator .now)),
+    )
+
+returns-2 : tie.Need-returns-2
+returns-2 c =
+    let w = c .before .before .before .before in
+    let n = w .before .before .before in
+    let b = n .before .before in
+    let a = b .before .before .before .before .before .before .args in
+    let q = w .with-entries .ensures in
+    (q .0 ∙ sym (ap (afterEntries (listed (a .objects .now)) (placementsIn (a .placements .now)) (a .entries .now)) (sym (b .bad-entry .ensures) ∙ n .enum-told .given .1)), q .1)
+
+pub with-list-spec : {M : Type 1} → statement M
+with-list-spec =
+    tie.close
+    (tie.spec
+    (λ c κs. search needs)
+    (λ c. search needs)
+    (λ c. search needs)
+    with-entries-requires
+    returns
+    (λ c. search needs)
+    (λ c. search needs)
+    returns-2)

@@ -1,0 +1,49 @@
+-- `write_all` meets its contract: 128 records of 256 bytes fit the one buffer, and 248 bytes the other.
+-- Assumes nothing.
+use borrow.Author.Needs.{needs}
+use mathlib.Core.Path.{_≡_, refl, sym, ap, _∙_}
+use mathlib.Core.List.{List}
+use Prim.Native.Nat.{ℕ}
+use native.Mathlib.Nat.{zero-add}
+use native.Mathlib.Omega.{arith}
+use lib.ListN.{length}
+use Rattle.basics.specs.Front.{inFront}
+use Rattle.basics.proofs.Laws.{if-yes}
+use Rattle.locator.specs.Records.{total}
+use Rattle.personalise.specs.declared.Answer.the-variants.{Written}
+use Rattle.personalise.specs.Placements.{placementsIn}
+use Rattle.personalise.specs.Outcome.{listed, recordBytes}
+use Rattle.personalise.proofs.Over.{over-front}
+use Rattle.personalise.proofs.Stages.{locator-copied}
+use Rattle.personalise.proofs.write_all.Statement.{statement}
+use Rattle.personalise.proofs.write_all.Tie as tie
+
+put-records-requires : tie.Need-put-records-requires
+put-records-requires c κs =
+    let st = c .before .before .before .before .before .before in
+    let p = st .pre in
+    (p .0, (p .1 .1 .1, (omega (arith, p .1 .1 .0 .1), omega (arith, p .1 .1 .0 .1, p .1 .0 .0))))
+
+returns : tie.Need-returns
+returns c =
+    let k = c .before .before in
+    let w = k .before .before .before .before in
+    let st = w .before .before .before .before .before .before .before in
+    let a = st .args in
+    let q = w .put-records .ensures in
+    let b : ℕ → List ℕ = λ n. recordBytes (listed (a .objects .now)) (placementsIn (a .placements .now)) n in
+    let e : b (a .count) ≡ b (total (a .entries .now)) = ap b (st .pre .1 .1 .0 .0) in (
+      ap (λ (n : ℕ). Written (record { records = n; locator = length (a .entries .now) })) (q .next ∙ zero-add _ ∙ ap length e),
+      (q .wrote ∙ over-front (a .records .now) (b (a .count)) ∙ ap (λ (v : List ℕ). inFront v (a .records .now)) e ∙ sym (if-yes _ _ refl),
+      locator-copied (a .entries .now) (a .locator .now) _ (k .copy .ensures .1)),
+    )
+
+pub write-all-spec : {M : Type 1} → statement M
+write-all-spec =
+    tie.close
+    (tie.spec
+    put-records-requires
+    (λ c κs. search needs)
+    (λ c. search needs)
+    (λ c. search needs)
+    returns)

@@ -1,0 +1,40 @@
+-- The list of objects that a card is to carry (document 02, Item 4): which objects it may hold, and that no tag stands
+-- in it twice. The list is a run of whole primitive objects, read as start bytes are.
+-- Assumes nothing.
+use mathlib.Core.Bool.{Bool, true, false, not}
+use mathlib.Core.List.{List, [], _∷_}
+use mathlib.Core.Option.{Option, some, none}
+use Prim.Native.Nat.{ℕ}
+use Rattle.basics.specs.Choice.{_and_, _=?_, every}
+use Rattle.tlv.specs.Primitives.{Object}
+use Rattle.dictionary.specs.declared.Found.{Found}
+use Rattle.dictionary.specs.Rows.{rows, rowAt, find, cardRecord}
+use Rattle.reading.specs.Taking.{mayCome}
+
+-- the template of a record
+abbrev pub recordTemplate : ℕ
+recordTemplate = 0x70
+
+-- by its row in the table: the card may set it in template 70 with an answer to READ RECORD, its length and digits fit;
+-- an unknown tag has no row
+abbrev pub settableFound : Found → List ℕ → Bool
+settableFound Found.Unknown v = false
+settableFound (Found.At k) v = mayCome cardRecord (rowAt k) recordTemplate v
+
+-- an object is one that the card may set in template 70, its length and digits fitting
+unfoldable pub settable : Object → Bool
+settable o = settableFound (find rows (o .tag)) (o .value)
+
+-- no object of a list has this tag, whatever its value
+unfoldable pub lacksTag : ℕ → List Object → Bool
+lacksTag t os = every (λ o. not (o .tag =? t)) os
+
+-- no tag stands in the list twice
+unfoldable pub distinct : List Object → Bool
+distinct [] = true
+distinct (o ∷ os) = lacksTag (o .tag) os and distinct os
+
+-- the objects of a run; none where there is no run
+abbrev pub objectsOf : Option (List Object) → List Object
+objectsOf none = []
+objectsOf (some os) = os

@@ -1,0 +1,113 @@
+// The list of objects: what its rules ask of each, and how many there are.
+use crate::placements;
+use dictionary::{Attributes, Found};
+use tlv::Front;
+ghost use mathlib.Core.Path.{_≡_};
+ghost use mathlib.Core.Bool.{true};
+ghost use lib.ListN.{length};
+ghost use Rattle.tlv.specs.Primitives.{object, primitives, isRun};
+ghost use Rattle.dictionary.specs.Rows.{cardRecord};
+ghost use Rattle.dictionary.specs.Packing.{rowOf};
+ghost use Rattle.reading.specs.Taking.{mayCome};
+ghost use Rattle.personalise.specs.Objects.{recordTemplate, settable};
+ghost use Rattle.personalise.specs.Placements.{placementsIn};
+ghost use Rattle.personalise.specs.Outcome.{listed};
+ghost use Rattle.personalise.specs.Inner.{lacksIn, runKeeps};
+
+// Whether the bytes are a run of objects that may all be set, no tag twice, each placed once.
+pub(crate) fn keeps(objects: &[u8], placements: &[u8]) -> bool
+    ensures { λ r. ⌜ r ≡ runKeeps (placementsIn (now (placements .entry))) 1 (primitives (now (objects .entry))) ⌝ }
+{
+    let mut s = objects;
+    let mut number: usize = 1;
+    while s.len() != 0 {
+        let front = tlv::primitive(s);
+        let Front::Object(h) = front else {
+            return false;
+        };
+        let start = h.start;
+        let e = start + h.len;
+        let value = &s[start..e];
+        let rest = &s[e..];
+        if !is_settable(h.tag, value) {
+            return false;
+        }
+        if !lacks_tag(rest, h.tag) {
+            return false;
+        }
+        if placements::count_named(placements, number) != 1 {
+            return false;
+        }
+        number += 1;
+        s = rest;
+    }
+    true
+}
+
+// How many objects a run has.
+pub(crate) fn count(objects: &[u8]) -> usize
+    requires { ⌜ isRun (primitives (now objects)) ≡ true ⌝ }
+    ensures { λ r. ⌜ r ≡ length (listed (now (objects .entry))) ⌝ }
+{
+    let mut s = objects;
+    let mut n: usize = 0;
+    while s.len() != 0 {
+        let front = tlv::primitive(s);
+        let Front::Object(h) = front else {
+            return n;
+        };
+        let start = h.start;
+        let e = start + h.len;
+        n += 1;
+        s = &s[e..];
+    }
+    n
+}
+
+// Whether the bytes are a run without a tag.
+fn lacks_tag(objects: &[u8], tag: u32) -> bool
+    ensures { λ r. ⌜ r ≡ lacksIn tag (primitives (now (objects .entry))) ⌝ }
+{
+    let mut s = objects;
+    while s.len() != 0 {
+        let front = tlv::primitive(s);
+        let Front::Object(h) = front else {
+            return false;
+        };
+        if h.tag == tag {
+            return false;
+        }
+        let start = h.start;
+        let e = start + h.len;
+        s = &s[e..];
+    }
+    true
+}
+
+// Whether the card may set an object in template 70, its length and digits fitting.
+fn is_settable(tag: u32, v: &[u8]) -> bool
+    ensures { λ r. ⌜ r ≡ settable (object tag (now (v .entry))) ⌝ }
+{
+    let found = dictionary::lookup(tag);
+    let Found::At(row) = found else {
+        return false;
+    };
+    let attributes = dictionary::attributes_of(row);
+    may_come(attributes, v)
+}
+
+// Whether the card may bring an object of these attributes in a record, with this value.
+fn may_come(attributes: Attributes, v: &[u8]) -> bool
+    ensures { λ r. ⌜ r ≡ mayCome cardRecord (rowOf attributes) recordTemplate (now (v .entry)) ⌝ }
+{
+    if attributes.setters / dictionary::CARD % 2 != 1 {
+        return false;
+    }
+    if attributes.answers / dictionary::CARD_RECORD % 2 != 1 {
+        return false;
+    }
+    if attributes.templates / dictionary::IN_70 % 2 != 1 {
+        return false;
+    }
+    dictionary::fits(attributes, v)
+}

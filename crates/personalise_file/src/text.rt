@@ -1,0 +1,195 @@
+// The lines of a file: `objects HEX`, `entries HEX` and `placements HEX`, each once.
+use crate::complain;
+use libc::STDERR_FILENO;
+use line::Decoded;
+ghost use Prim.Native.Nat.{_≤_};
+ghost use lib.ListN.{length};
+
+// What a line brought: whether it was there, and how many bytes it has.
+pub struct Part {
+    pub there: bool,
+    pub size: usize,
+}
+
+// What the lines brought so far, the number of the line that is read, and whether one was wrong.
+pub struct Given {
+    pub objects: Part,
+    pub entries: Part,
+    pub placements: Part,
+    pub number: usize,
+    pub wrong: bool,
+}
+
+// The word in front of a line.
+enum Word {
+    Absent,
+    Objects,
+    Entries,
+    Placements,
+    Unknown,
+}
+
+// Reads all lines, up to one that is wrong, which is reported by its number.
+pub fn lines(chars: &[u8], objects: &mut [u8], entries: &mut [u8], placements: &mut [u8]) -> Given {
+    let mut given = nothing();
+    let mut rest = chars;
+    while rest.len() != 0 {
+        let e = line_end(rest);
+        given = with_line(given, &rest[..e], objects, entries, placements);
+        if rest.len() <= e {
+            return given;
+        }
+        let ended = &rest[e..];
+        rest = &ended[1..];
+    }
+    given
+}
+
+fn nothing() -> Given {
+    let absent = Part {
+        there: false,
+        size: 0,
+    };
+    Given {
+        objects: absent,
+        entries: absent,
+        placements: absent,
+        number: 1,
+        wrong: false,
+    }
+}
+
+// Where the first line ends: at its newline, or at the end where there is none.
+fn line_end(s: &[u8]) -> usize
+    ensures { λ r. ⌜ r ≤ length (now (s .entry)) ⌝ }
+{
+    bytes::scan::find(s, 0, s.len(), b'\n')
+}
+
+// One line more; nothing behind a wrong one is looked at.
+fn with_line(
+    given: Given,
+    line: &[u8],
+    objects: &mut [u8],
+    entries: &mut [u8],
+    placements: &mut [u8],
+) -> Given {
+    if given.wrong {
+        return given;
+    }
+    let text = line::uncommented(line);
+    let rest = line::behind_word(text);
+    let word = word_named(line::first_word(text));
+    match word {
+        Word::Absent => next_line(given),
+        Word::Objects => with_objects(given, line::decode(rest, objects)),
+        Word::Entries => with_entries(given, line::decode(rest, entries)),
+        Word::Placements => with_placements(given, line::decode(rest, placements)),
+        Word::Unknown => wrong(
+            given,
+            b"unknown word; expected objects HEX, entries HEX or placements HEX",
+        ),
+    }
+}
+
+// Which word it is.
+fn word_named(w: &[u8]) -> Word {
+    if w.len() == 0 {
+        return Word::Absent;
+    }
+    if basics::same(w, b"objects") {
+        return Word::Objects;
+    }
+    if basics::same(w, b"entries") {
+        return Word::Entries;
+    }
+    if basics::same(w, b"placements") {
+        return Word::Placements;
+    }
+    Word::Unknown
+}
+
+// ---- one line more of each kind
+
+fn with_objects(given: Given, d: Decoded) -> Given {
+    let mut out = checked(given, given.objects.there, d);
+    out.objects = brought(d);
+    out
+}
+
+fn with_entries(given: Given, d: Decoded) -> Given {
+    let mut out = checked(given, given.entries.there, d);
+    out.entries = brought(d);
+    out
+}
+
+fn with_placements(given: Given, d: Decoded) -> Given {
+    let mut out = checked(given, given.placements.there, d);
+    out.placements = brought(d);
+    out
+}
+
+fn brought(d: Decoded) -> Part {
+    Part {
+        there: true,
+        size: d.size,
+    }
+}
+
+// The next line, unless this one comes twice or what stands behind its word spells no bytes.
+fn checked(given: Given, twice: bool, d: Decoded) -> Given {
+    if twice {
+        return wrong(given, b"this word for the second time; expected it once");
+    }
+    let problem = d.problem;
+    match problem {
+        0 => next_line(given),
+        line::HEX => wrong(
+            given,
+            b"expected bytes, each two hexadecimal digits side by side",
+        ),
+        _ => wrong(given, b"expected at most 32,768 bytes"),
+    }
+}
+
+fn next_line(given: Given) -> Given {
+    let mut out = given;
+    out.number = counted(given.number);
+    out
+}
+
+// One more; the greatest number stays.
+pub fn counted(n: usize) -> usize {
+    if n < usize::MAX { n + 1 } else { n }
+}
+
+// ---- what is wrong
+
+// A line that is wrong, by its number, with what was expected.
+fn wrong(given: Given, words: &[u8]) -> Given {
+    complain(b"personalise: line ");
+    io::print_decimal(STDERR_FILENO, given.number as u64);
+    complain(b": ");
+    complain(words);
+    complain(b"\n");
+    let mut out = given;
+    out.wrong = true;
+    out
+}
+
+// Whether no line was wrong and each was there; the first that is absent is reported at the line behind the last.
+pub fn is_whole(given: Given) -> bool {
+    if given.wrong {
+        return false;
+    }
+    is_there(given, given.objects, b"expected objects HEX; the file ends")
+        && is_there(given, given.entries, b"expected entries HEX; the file ends")
+        && is_there(given, given.placements, b"expected placements HEX; the file ends")
+}
+
+fn is_there(given: Given, part: Part, words: &[u8]) -> bool {
+    if !part.there {
+        wrong(given, words);
+    }
+    part.there
+}
