@@ -5,7 +5,7 @@
 
 use crate::rng::Rng;
 use crate::step::Hex;
-use crate::{card, damage, terminal};
+use crate::{card, damage, never, terminal};
 use model::journal::{self, Call, Verdict};
 use model::SESSION_SIZE;
 
@@ -121,11 +121,7 @@ impl Reached {
     /// What should be reached and never was.
     pub fn missing(&self) -> Vec<String> {
         let mut missing = Vec::new();
-        let mut need = |counts: &[u64], what: &str| {
-            for (i, _) in counts.iter().enumerate().filter(|(_, &count)| count == 0) {
-                missing.push(format!("{what} {i}"));
-            }
-        };
+        let mut need = |counts: &[u64], what: &str| missing.extend(never(counts, what));
         for (change, verdicts) in CHANGES.iter().zip(&self.changes) {
             let [accepted, unlike, cut] = *verdicts;
             match change {

@@ -20,3 +20,9 @@ pub mod run;
 pub mod side;
 pub mod step;
 pub mod terminal;
+
+/// The counts that are 0, each named by its place.
+fn never<'a>(counts: &'a [u64], what: &'a str) -> impl Iterator<Item = String> + 'a {
+    let zero = counts.iter().enumerate().filter(|(_, &count)| count == 0);
+    zero.map(move |(i, _)| format!("{what} {i}"))
+}

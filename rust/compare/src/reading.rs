@@ -5,7 +5,7 @@
 use crate::objects::{self, TEMPLATES, UNKNOWN};
 use crate::rng::Rng;
 use crate::step::Hex;
-use crate::{card, damage};
+use crate::{card, damage, never};
 use model::dictionary::Object;
 use model::reading::{self, AnswerTo};
 use model::store::Store;
@@ -63,11 +63,7 @@ impl Reached {
     /// What should be reached and never was.
     pub fn missing(&self) -> Vec<String> {
         let mut missing = Vec::new();
-        let mut need = |counts: &[u64], what: &str| {
-            for (i, _) in counts.iter().enumerate().filter(|(_, &count)| count == 0) {
-                missing.push(format!("{what} {i}"));
-            }
-        };
+        let mut need = |counts: &[u64], what: &str| missing.extend(never(counts, what));
         for (answer, reasons) in ["options", "record", "cryptogram"]
             .iter()
             .zip(&self.reasons)

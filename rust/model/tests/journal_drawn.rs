@@ -2,28 +2,12 @@
 
 mod common;
 
-use common::{hex, start_with, start_without, Host};
+use common::{hex, start_with, start_without, Draw, Host};
 use model::journal::{check, record_size, write, Call, Verdict};
 use Verdict::{Accepted, Cut, Unlike};
 
 /// The most records of an accepted journal: start, 130 answers, and as many replies.
 const MOST_RECORDS: usize = 262;
-
-/// Numbers that look random (xorshift).
-struct Draw(u64);
-
-impl Draw {
-    fn below(&mut self, bound: usize) -> usize {
-        self.0 ^= self.0 << 13;
-        self.0 ^= self.0 >> 7;
-        self.0 ^= self.0 << 17;
-        (self.0 >> 11) as usize % bound
-    }
-
-    fn pick<T: Clone>(&mut self, from: &[T]) -> T {
-        from[self.below(from.len())].clone()
-    }
-}
 
 /// A call with bytes of its own.
 #[derive(Clone)]

@@ -3,7 +3,7 @@
 
 mod common;
 
-use common::hex;
+use common::{hex, Draw};
 use model::dictionary::Object;
 use model::locator::{self, Record};
 use model::personalise::{personalise, Answer, Refusal};
@@ -14,31 +14,15 @@ use Refusal::{Entry, List, LocatorBuffer, RecordsBuffer};
 
 const EMPTY: Store = [0; STORE_SIZE];
 
-/// Numbers that look random (xorshift).
-struct Draw(u64);
-
-impl Draw {
-    fn below(&mut self, bound: usize) -> usize {
-        self.0 ^= self.0 << 13;
-        self.0 ^= self.0 >> 7;
-        self.0 ^= self.0 << 17;
-        (self.0 >> 11) as usize % bound
-    }
-
-    fn pick<T: Clone>(&mut self, from: &[T]) -> T {
-        from[self.below(from.len())].clone()
-    }
-
-    /// Puts a byte in, takes one out, or changes one.
-    fn damage(&mut self, bytes: &mut Vec<u8>) {
-        let at = self.below(bytes.len() + 1);
-        let byte = self.pick(&[0, 1, 2, 3, 4, 8, 0x10, 0x57, 0x81, 0x82, 0xFF]);
-        match self.below(3) {
-            0 => bytes.insert(at, byte),
-            1 if at < bytes.len() => drop(bytes.remove(at)),
-            _ if at < bytes.len() => bytes[at] ^= byte,
-            _ => bytes.push(byte),
-        }
+/// Puts a byte in, takes one out, or changes one.
+fn damage(draw: &mut Draw, bytes: &mut Vec<u8>) {
+    let at = draw.below(bytes.len() + 1);
+    let byte = draw.pick(&[0, 1, 2, 3, 4, 8, 0x10, 0x57, 0x81, 0x82, 0xFF]);
+    match draw.below(3) {
+        0 => bytes.insert(at, byte),
+        1 if at < bytes.len() => drop(bytes.remove(at)),
+        _ if at < bytes.len() => bytes[at] ^= byte,
+        _ => bytes.push(byte),
     }
 }
 
@@ -284,9 +268,9 @@ fn damaged_layouts() {
         let mut input = draw_input(&mut draw);
         for _ in 0..draw.pick(&[1, 1, 1, 2, 5]) {
             match draw.below(3) {
-                0 => draw.damage(&mut input.objects),
-                1 => draw.damage(&mut input.entries),
-                _ => draw.damage(&mut input.placements),
+                0 => damage(&mut draw, &mut input.objects),
+                1 => damage(&mut draw, &mut input.entries),
+                _ => damage(&mut draw, &mut input.placements),
             }
         }
         seen.count(answer(&input));

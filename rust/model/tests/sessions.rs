@@ -433,7 +433,11 @@ fn dates_across_the_century() {
         let host = Host::generating(&[&format!("9A 03 {today}")], &record);
         let byte = u8::from(expired) << 6 | u8::from(early) << 5;
         let bits = host.get(Object::VerificationResults).map(<[u8]>::to_vec);
-        assert_eq!(bits, Some(vec![0x80, byte, 0, 0, 0]), "{today} {expiry} {effective}");
+        assert_eq!(
+            bits,
+            Some(vec![0x80, byte, 0, 0, 0]),
+            "{today} {expiry} {effective}"
+        );
     }
 }
 

@@ -172,3 +172,19 @@ impl Host {
         store::get(self.store(), object)
     }
 }
+
+/// Numbers that look random (xorshift).
+pub struct Draw(pub u64);
+
+impl Draw {
+    pub fn below(&mut self, bound: usize) -> usize {
+        self.0 ^= self.0 << 13;
+        self.0 ^= self.0 >> 7;
+        self.0 ^= self.0 << 17;
+        (self.0 >> 11) as usize % bound
+    }
+
+    pub fn pick<T: Clone>(&mut self, from: &[T]) -> T {
+        from[self.below(from.len())].clone()
+    }
+}
