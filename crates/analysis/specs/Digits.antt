@@ -49,5 +49,5 @@ unfoldable pub amountAbove : List ℕ → List ℕ → Bool
 amountAbove a b = amountOf b <? amountOf a
 
 -- ---- what holds of it, proved in proofs/Decimal
---   one-century    on dates whose years are both 00 to 49, or both not, the later one is the greater number of six digits:
+--   one-century    on dates whose years are both 00 to 49, or both not, the later one has the greater six digits:
 --                  laterThan a b ≡ (decimal (front 3 b) <? decimal (front 3 a))

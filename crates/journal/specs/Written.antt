@@ -149,8 +149,7 @@ WantedOnly =
     (s : List ℕ) (n : ℕ) → verdictOf s ≡ Verdict.Unlike n → 0 < length (wantedOf s)
     → OnlyRight verdictOf n s (wantedOf s)
 
--- a reply stands at the records of even number: there some bytes are given, and none where a call was due. (There a right
--- kernel has more than one record, or none behind the outcome.)
+-- a reply stands at the records of even number: there some bytes are given, and none where a call was due
 abbrev pub WantedEven : Type 0
 WantedEven = (s : List ℕ) (n : ℕ) → verdictOf s ≡ Verdict.Unlike n → (n % 2 ≡ 0) ↔ (0 < length (wantedOf s))
 

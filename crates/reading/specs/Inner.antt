@@ -17,7 +17,8 @@ use Rattle.reading.specs.declared.Tally.{Tally}
 use Rattle.reading.specs.declared.Contents.{Contents}
 use Rattle.reading.specs.declared.Contents.the-variants.{Whole, Broken}
 use Rattle.reading.specs.Taking.{Work, work, items, takeAll}
-use Rattle.reading.specs.Answer.{Outcome, Gives, templateBody, optionsParts, cryptogramParts, takenParts, readTree}
+use Rattle.reading.specs.Answer.{Outcome, Gives, templateBody, optionsParts, cryptogramParts}
+use Rattle.reading.specs.Answer.{takenParts, readTree}
 
 -- ---- the working copy
 
@@ -32,7 +33,7 @@ storeAfter b w NotAllowed = b
 abbrev pub GivesIn : Reading → List ℕ → List ℕ → Outcome → Type 0
 GivesIn r b w o = Gives r (storeAfter b w (r .verdict)) o
 
--- the answers of three private functions, on the store b: a template by its tag and contents, and the two bodies under 80
+-- what three private functions give on the store b: a template by its tag and contents, and the two bodies under 80
 abbrev pub readTemplate : Awaited → List ℕ → ℕ → List ℕ → Outcome
 readTemplate a b t v = readTree a b (templateBody t (parse 3 v))
 
