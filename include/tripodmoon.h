@@ -20,13 +20,13 @@ typedef char emv_size_t_has_64_bits[sizeof(size_t) == 8 ? 1 : -1];
 extern "C" {
 #endif
 
-/* Sizes in bytes. EMV_SESSION_SIZE is what emv_session_size gives for version 1 of the layout. */
-#define EMV_SESSION_SIZE 948u
+/* Sizes in bytes. EMV_SESSION_SIZE is what emv_session_size gives for version 2 of the layout. */
+#define EMV_SESSION_SIZE 1214u
 #define EMV_LEAST_BUFFER 261u
 #define EMV_MOST_TERMINAL 1024u
 
-/* A word: a command's length, an outcome and its reason, or a refusal. Bits 16 to 23 tell which;
- * bits 24 to 31 are 0, and are kept for a later use with an outcome. */
+/* A word: a command's length, an outcome with its reason and the method of cardholder verification, or a refusal.
+ * Bits 16 to 23 tell which; bits 24 to 31 are an outcome's method, and 0 in every other word. */
 #define EMV_OUTCOMES 0x00010000u
 #define EMV_REFUSALS 0x00020000u
 #define EMV_IS_COMMAND(word) ((((word) >> 16) & 0xFFu) == 0u)
@@ -34,6 +34,7 @@ extern "C" {
 #define EMV_IS_REFUSAL(word) ((((word) >> 16) & 0xFFu) == 2u)
 #define EMV_OUTCOME(word) (((word) >> 8) & 0xFFu)
 #define EMV_REASON(word) ((word) & 0xFFu)
+#define EMV_METHOD(word) (((word) >> 24) & 0xFFu)
 #define EMV_REFUSAL(word) ((word) & 0xFFu)
 
 /* The words of emv_object beside a length and a refusal, told by the same bits. */
@@ -63,7 +64,7 @@ extern "C" {
 #define EMV_VERSION_LAYOUT(word) ((word) & 0xFFu)
 
 /* The version that this header is of, as emv_version gives it. */
-#define EMV_VERSION 0x00010001u
+#define EMV_VERSION 0x00010002u
 
 /* Outcomes. */
 #define EMV_APPROVED 0u
@@ -71,6 +72,14 @@ extern "C" {
 #define EMV_DECLINED 2u
 #define EMV_ENDED 3u
 #define EMV_SELECT_NEXT 4u
+
+/* Methods of cardholder verification. A decision always has one of the first four; an end before the choice of the method
+ * has none. Nobody has verified an offline PIN: its result is unknown. */
+#define EMV_METHOD_NO_CVM 0u
+#define EMV_METHOD_SIGNATURE 1u
+#define EMV_METHOD_ONLINE_PIN 2u
+#define EMV_METHOD_OFFLINE_PIN 4u
+#define EMV_METHOD_NOT_APPLICABLE 15u
 
 /* Reasons: 0 where a decision was reached, 6 where another application is to be selected, else why the session ended. */
 #define EMV_REASON_NONE 0u

@@ -8,7 +8,7 @@
 
 #define DEPTH 65536u
 #define PAINT 0xA5u
-#define HEAD 5u
+#define HEAD 6u
 #define MOST (4096u + 2u * (EMV_SESSION_SIZE - HEAD))
 #define BYTES(text) (const uint8_t *)(text), sizeof(text) - 1
 
@@ -77,10 +77,14 @@ static void measure(const char *name, void (*call)(void), const uint8_t *bytes, 
 #define TERMINAL \
     "\x9A\x03\x25\x11\x15\x9C\x01\x00\x9F\x02\x06\x00\x00\x00\x00\x12\x34\x9F\x09\x02\x00\x02\x9F\x1A\x02\x00\x56\x9F\x35\x01\x22" \
     "\x9F\x37\x04\x01\x02\x03\x04\xDF\x81\x20\x05\x00\x00\x00\x00\x00\xDF\x81\x21\x05\x00\x00\x00\x00\x00\xDF\x81\x22\x05\x00\x00" \
-    "\x00\x00\x00\xDF\x81\x23\x06\x00\x00\x00\x01\x00\x00\xDF\x81\x24\x06\x00\x00\x00\x02\x00\x00"
-#define OPTIONS "\x80\x06\x00\x80\x08\x01\x02\x00\x90\x00"
+    "\x00\x00\x00\xDF\x81\x23\x06\x00\x00\x00\x01\x00\x00\xDF\x81\x24\x06\x00\x00\x00\x02\x00\x00" \
+    "\x9F\x33\x03\xE0\xF8\xC8\xDF\x81\x26\x06\x00\x00\x00\x00\x25\x00"
+#define OPTIONS "\x80\x06\x10\x80\x08\x01\x02\x00\x90\x00"
 #define FOUR_LEVELS "\x70\x0B\xE1\x09\xE1\x07\xE1\x05\x9F\x7F\x02\x00\x02\x90\x00"
-#define RECORD "\x70\x14\x5F\x24\x03\x30\x12\x31\x5A\x08\x47\x61\x73\x90\x01\x01\x00\x10\x8C\x02\x95\x05\x90\x00"
+#define RECORD \
+    "\x70\x22\x5F\x24\x03\x30\x12\x31\x5A\x08\x47\x61\x73\x90\x01\x01\x00\x10\x8C\x02\x95\x05" \
+    "\x8E\x0C\x00\x00\x00\x00\x00\x00\x00\x00\x42\x09\x5E\x03\x90\x00" /* a PIN over 0 in the card's currency, else a signature */
+#define EARLY ((EMV_METHOD_NOT_APPLICABLE << 24) + EMV_OUTCOMES + EMV_ENDED * 256u) /* an end before the choice of a method */
 #define CRYPTOGRAM "\x77\x14\x9F\x27\x01\x80\x9F\x36\x02\x00\x01\x9F\x26\x08\x01\x02\x03\x04\x05\x06\x07\x08\x90\x00"
 
 int main(void)
@@ -91,15 +95,15 @@ int main(void)
     measure("answer, processing options", call_answer, BYTES(OPTIONS), 5);
     measure("answer, a record of four levels", call_answer, BYTES(FOUR_LEVELS), 5);
     measure("answer, the last record", call_answer, BYTES(RECORD), 11);
-    measure("answer, the cryptogram", call_answer, BYTES(CRYPTOGRAM), EMV_OUTCOMES + EMV_ONLINE_REQUEST * 256u);
+    measure("answer, the cryptogram", call_answer, BYTES(CRYPTOGRAM), (EMV_METHOD_SIGNATURE << 24) + EMV_OUTCOMES + EMV_ONLINE_REQUEST * 256u);
     measure("object", call_object, BYTES(""), 8);
     measure("answer, refused", call_answer, BYTES(CRYPTOGRAM), EMV_REFUSALS + EMV_REFUSED_PHASE);
     measure("open", call_open, BYTES(""), 0);
     measure("start", call_start, BYTES(TERMINAL), 8);
-    measure("link failed", call_link_failed, BYTES(""), EMV_OUTCOMES + EMV_ENDED * 256u + EMV_REASON_LINK);
+    measure("link failed", call_link_failed, BYTES(""), EARLY + EMV_REASON_LINK);
     measure("open", call_open, BYTES(""), 0);
     measure("start", call_start, BYTES(TERMINAL), 8);
-    measure("stop", call_stop, BYTES(""), EMV_OUTCOMES + EMV_ENDED * 256u + EMV_REASON_STOPPED);
+    measure("stop", call_stop, BYTES(""), EARLY + EMV_REASON_STOPPED);
     measure("find, four levels", call_find, (const uint8_t *)FOUR_LEVELS, sizeof(FOUR_LEVELS) - 3, 2);
     measure("wipe", call_wipe, BYTES(""), 0);
     printf("%6lu  deepest, of %lu at most\n", (unsigned long)deepest, (unsigned long)MOST);

@@ -10,7 +10,8 @@
 #define CHECK(fact) check((fact) != 0, #fact, __LINE__)
 #define BYTES(text) (const uint8_t *)(text), sizeof(text) - 1
 #define BEHIND 16u
-#define OUTCOME_OF(outcome, reason) (EMV_OUTCOMES + (outcome) * 256u + (reason))
+#define OUTCOME_OF(method, outcome, reason) (((method) << 24) + EMV_OUTCOMES + (outcome) * 256u + (reason))
+#define ENDED_EARLY(reason) OUTCOME_OF(EMV_METHOD_NOT_APPLICABLE, EMV_ENDED, reason)
 #define REFUSED(number) (EMV_REFUSALS + (number))
 
 static void check(int holds, const char *fact, int line)
@@ -97,14 +98,16 @@ static void reopen(void)
     CHECK(memcmp(session + EMV_SESSION_SIZE, session_before + EMV_SESSION_SIZE, BEHIND) == 0);
 }
 
-/* All that a start must bring: type 22, an amount of 12.34, floor limit 100.00, transaction limit 200.00, action codes of zeros. */
+/* All that a start must bring: type 22, an amount of 12.34, floor limit 100.00, transaction limit 200.00, action codes of zeros,
+ * capabilities E0 F8 C8 with every method. */
 #define TYPE_AT 30
 static uint8_t terminal[] = {
     0x9A, 0x03, 0x25, 0x11, 0x15, 0x9C, 0x01, 0x00, 0x9F, 0x02, 0x06, 0x00, 0x00, 0x00, 0x00, 0x12, 0x34, 0x9F,
     0x09, 0x02, 0x00, 0x02, 0x9F, 0x1A, 0x02, 0x00, 0x56, 0x9F, 0x35, 0x01, 0x22, 0x9F, 0x37, 0x04, 0x01, 0x02,
     0x03, 0x04, 0xDF, 0x81, 0x20, 0x05, 0x00, 0x00, 0x00, 0x00, 0x00, 0xDF, 0x81, 0x21, 0x05, 0x00, 0x00, 0x00,
     0x00, 0x00, 0xDF, 0x81, 0x22, 0x05, 0x00, 0x00, 0x00, 0x00, 0x00, 0xDF, 0x81, 0x23, 0x06, 0x00, 0x00, 0x00,
-    0x01, 0x00, 0x00, 0xDF, 0x81, 0x24, 0x06, 0x00, 0x00, 0x00, 0x02, 0x00, 0x00,
+    0x01, 0x00, 0x00, 0xDF, 0x81, 0x24, 0x06, 0x00, 0x00, 0x00, 0x02, 0x00, 0x00, 0x9F, 0x33, 0x03, 0xE0, 0xF8,
+    0xC8, 0xDF, 0x81, 0x26, 0x06, 0x00, 0x00, 0x00, 0x00, 0x25, 0x00,
 };
 
 #define OPTIONS "\x80\x06\x00\x80\x08\x01\x01\x00\x90\x00"
@@ -130,41 +133,74 @@ static void purchases(void)
     begin(0x22);
     CHECK(commands(answer(BYTES(RECORD_OFFLINE)), BYTES("\x80\xAE\x40\x00\x05\x80\x00\x00\x00\x00\x00")));
     CHECK(count() == 3);
-    CHECK(answer(BYTES(CRYPTOGRAM("\x40"))) == OUTCOME_OF(EMV_APPROVED, EMV_REASON_NONE));
+    CHECK(answer(BYTES(CRYPTOGRAM("\x40"))) == OUTCOME_OF(EMV_METHOD_NO_CVM, EMV_APPROVED, EMV_REASON_NONE));
     CHECK(count() == 3);
 
     begin(0x22);
     CHECK(commands(answer(BYTES(RECORD_ONLINE)), BYTES("\x80\xAE\x80\x00\x05\x80\x00\x00\x00\x00\x00")));
-    CHECK(answer(BYTES(CRYPTOGRAM("\x80"))) == OUTCOME_OF(EMV_ONLINE_REQUEST, EMV_REASON_NONE));
+    CHECK(answer(BYTES(CRYPTOGRAM("\x80"))) == OUTCOME_OF(EMV_METHOD_NO_CVM, EMV_ONLINE_REQUEST, EMV_REASON_NONE));
 
     begin(0x23);
     CHECK(commands(answer(BYTES(RECORD_ONLINE)), BYTES("\x80\xAE\x00\x00\x05\x80\x00\x00\x00\x00\x00")));
-    CHECK(answer(BYTES(CRYPTOGRAM("\x00"))) == OUTCOME_OF(EMV_DECLINED, EMV_REASON_NONE));
+    CHECK(answer(BYTES(CRYPTOGRAM("\x00"))) == OUTCOME_OF(EMV_METHOD_NO_CVM, EMV_DECLINED, EMV_REASON_NONE));
 }
 
 static void reasons(void)
 {
     uint32_t word;
     begin(0x22);
-    CHECK(answer(BYTES("\x70\x80\x00\x00\x90\x00")) == OUTCOME_OF(EMV_ENDED, EMV_REASON_MALFORMED));
+    CHECK(answer(BYTES("\x70\x80\x00\x00\x90\x00")) == ENDED_EARLY(EMV_REASON_MALFORMED));
     begin(0x22);
-    CHECK(answer(BYTES("\x70\x03\x95\x01\x00\x90\x00")) == OUTCOME_OF(EMV_ENDED, EMV_REASON_NOT_ALLOWED));
+    CHECK(answer(BYTES("\x70\x03\x95\x01\x00\x90\x00")) == ENDED_EARLY(EMV_REASON_NOT_ALLOWED));
     begin(0x22);
-    CHECK(link_failed() == OUTCOME_OF(EMV_ENDED, EMV_REASON_LINK));
+    CHECK(link_failed() == ENDED_EARLY(EMV_REASON_LINK));
     begin(0x22);
-    CHECK(stop() == OUTCOME_OF(EMV_ENDED, EMV_REASON_STOPPED));
+    CHECK(stop() == ENDED_EARLY(EMV_REASON_STOPPED));
     CHECK(stop() == REFUSED(EMV_REFUSED_PHASE));
     terminal[14] = 0x02; /* 212.34, above the limit of 200.00 */
     begin(0x22);
     word = answer(BYTES(RECORD_ONLINE));
     terminal[14] = 0x00;
     CHECK(EMV_IS_OUTCOME(word) && EMV_OUTCOME(word) == EMV_SELECT_NEXT && EMV_REASON(word) == EMV_REASON_ABOVE_LIMIT);
+    CHECK(EMV_METHOD(word) == EMV_METHOD_NOT_APPLICABLE && !EMV_IS_COMMAND(word) && !EMV_IS_REFUSAL(word));
 }
 
-/* The head of a record of each phase, by its offsets. */
+/* The card supports cardholder verification; its list has one rule, with this code. The command carries 9F34 and 95. */
+static void verify(uint8_t code, const uint8_t *asked, size_t n)
+{
+    uint8_t record[] = "\x70\x23\x5F\x24\x03\x30\x12\x31\x5A\x08\x47\x61\x73\x90\x01\x01\x00\x10\x8C\x05\x9F\x34\x03\x95\x05"
+                       "\x8E\x0A\x00\x00\x00\x00\x00\x00\x00\x00\x00\x00\x90\x00";
+    record[sizeof record - 5] = code;
+    reopen();
+    terminal[TYPE_AT] = 0x22;
+    (void)start(terminal, sizeof terminal);
+    CHECK(commands(answer(BYTES("\x80\x06\x10\x80\x08\x01\x01\x00\x90\x00")), BYTES("\x00\xB2\x01\x0C\x00")));
+    CHECK(commands(answer(record, sizeof record - 1), asked, n));
+}
+
+static void methods(void)
+{
+    uint32_t word;
+    verify(0x42, BYTES("\x80\xAE\x80\x00\x08\x42\x00\x00\x80\x00\x04\x00\x00\x00"));
+    CHECK(session[5] == EMV_METHOD_ONLINE_PIN);
+    word = answer(BYTES(CRYPTOGRAM("\x80")));
+    CHECK(EMV_IS_OUTCOME(word) && EMV_OUTCOME(word) == EMV_ONLINE_REQUEST && EMV_METHOD(word) == EMV_METHOD_ONLINE_PIN);
+    CHECK(session[5] == 0);
+    verify(0x1E, BYTES("\x80\xAE\x80\x00\x08\x1E\x00\x00\x80\x00\x00\x00\x00\x00"));
+    CHECK(link_failed() == OUTCOME_OF(EMV_METHOD_SIGNATURE, EMV_ENDED, EMV_REASON_LINK));
+    verify(0x1F, BYTES("\x80\xAE\x80\x00\x08\x1F\x00\x02\x80\x00\x00\x00\x00\x00"));
+    CHECK(stop() == OUTCOME_OF(EMV_METHOD_NO_CVM, EMV_ENDED, EMV_REASON_STOPPED));
+    verify(0x04, BYTES("\x80\xAE\x80\x00\x08\x04\x00\x00\x80\x00\x00\x00\x00\x00"));
+    CHECK(answer(BYTES("\x6A\x83")) == OUTCOME_OF(EMV_METHOD_OFFLINE_PIN, EMV_ENDED, EMV_REASON_STATUS));
+    verify(0x00, BYTES("\x80\xAE\x80\x00\x08\x00\x00\x01\x80\x00\x80\x00\x00\x00"));
+    session[5] = 3; /* a number that no method has */
+    CHECK(count() == EMV_NO_COUNT);
+}
+
+/* The head of a record of each phase, by its offsets; the method is 0 in all of them. */
 static int head(uint8_t phase, uint8_t datum, uint8_t reason, uint8_t n)
 {
-    return session[0] == 1 && session[1] == phase && session[2] == datum && session[3] == reason && session[4] == n;
+    return session[0] == 2 && session[1] == phase && session[2] == datum && session[3] == reason && session[4] == n && session[5] == 0;
 }
 
 static void layout(void)
@@ -173,7 +209,7 @@ static void layout(void)
     CHECK(emv_session_size() == EMV_SESSION_SIZE);
     reopen();
     CHECK(head(0, 0, 0, 0));
-    for (i = 5; i < EMV_SESSION_SIZE; i++)
+    for (i = 6; i < EMV_SESSION_SIZE; i++)
         CHECK(session[i] == 0);
     terminal[TYPE_AT] = 0x22;
     (void)start(terminal, sizeof terminal);
@@ -233,10 +269,12 @@ static void lent_bytes(void)
     CHECK(all_stays());
     CHECK(emv_count(session, EMV_SESSION_SIZE - 1) == EMV_NO_COUNT);
     no_record(0, 0); /* no version */
-    no_record(0, 2); /* another version */
+    no_record(0, 1); /* another version */
+    no_record(0, 3);
     no_record(1, 5); /* no phase */
     no_record(2, 1); /* a fresh record with a number */
     no_record(3, 1); /* a fresh record with a reason */
+    no_record(5, 1); /* a fresh record with a method */
 
     reopen(); /* a record that breaks its ranges */
     session[4] = 1;
@@ -293,7 +331,7 @@ static void objects(void)
     CHECK(commands(answer(BYTES(RECORD_ONLINE)), BYTES("\x80\xAE\x80\x00\x05\x80\x00\x00\x00\x00\x00")));
     CHECK(holds(0x5A, BYTES("\x47\x61\x73\x90\x01\x01\x00\x10")) && holds(0x95, BYTES("\x80\x00\x00\x00\x00")));
     CHECK(answer(BYTES("\x77\x17\x9F\x27\x01\x80\x9F\x36\x02\x00\x01\x9F\x26\x08\x01\x02\x03\x04\x05\x06\x07\x08\x9F\x10\x00\x90\x00")) ==
-          OUTCOME_OF(EMV_ONLINE_REQUEST, EMV_REASON_NONE));
+          OUTCOME_OF(EMV_METHOD_NO_CVM, EMV_ONLINE_REQUEST, EMV_REASON_NONE));
     CHECK(holds(0x9F26, BYTES("\x01\x02\x03\x04\x05\x06\x07\x08")) && holds(0x9F36, BYTES("\x00\x01")) && holds(0x9F27, BYTES("\x80")));
     CHECK(holds(0x9F10, BYTES(""))); /* there, and empty */
 
@@ -302,7 +340,7 @@ static void objects(void)
     session[4] = 131; /* a count that no session reaches */
     CHECK(object_in(0x9F26, sizeof value) == REFUSED(EMV_REFUSED_RANGES) && object_in(0x9F12, 0) == REFUSED(EMV_REFUSED_RANGES));
     session[4] = 3;
-    session[0] = 2; /* another version */
+    session[0] = 1; /* another version */
     CHECK(object_in(0x9F26, sizeof value) == REFUSED(EMV_REFUSED_RANGES));
 }
 
@@ -360,6 +398,7 @@ int main(void)
     layout();
     purchases();
     reasons();
+    methods();
     refusals();
     lent_bytes();
     objects();

@@ -9,7 +9,7 @@ use Rattle.dictionary.specs.Rows.{rows, find}
 use Rattle.dictionary.specs.declared.Found.the-variants.{At}
 use Rattle.store.specs.Place.{Value, absent, present, bytesOf, isThere, valueAt, valueOf}
 use Rattle.store.proofs.Laws.{by-row}
-use Rattle.store.specs.Held.{bytesIn, byteIn}
+use Rattle.store.specs.Held.{holds, bytesIn, byteIn}
 use Rattle.analysis.specs.Value.{given}
 
 -- a value is its flag and its bytes
@@ -26,6 +26,9 @@ module _ (b : List ℕ) (t : ℕ) {k : ℕ} (at : find rows t ≡ At k) where
 
   pub bytes-by-row : {s : List ℕ} → s ≡ bytesOf (valueAt rows b k) → s ≡ bytesIn b t
   bytes-by-row e = e ∙ ap bytesOf (sym (by-row rows b t k at))
+
+  pub there-by-row : {f : Bool} → f ≡ isThere (valueAt rows b k) → f ≡ holds b t
+  there-by-row e = e ∙ ap isThere (sym (by-row rows b t k at))
 
   pub byte-by-row : {x : ℕ} → x ≡ getD (bytesOf (valueAt rows b k)) 0 0 → x ≡ byteIn b t 1
   byte-by-row e = e ∙ ap (λ (v : Value). getD (bytesOf v) 0 0) (sym (by-row rows b t k at))

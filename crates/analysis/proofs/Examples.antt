@@ -64,7 +64,7 @@ centuries :
 unfolding notYetEffective laterThan dateOf yearOf if front decimalFrom nibbles
 centuries = refl
 
--- the last year of the window and the first before it; month and day are compared as digits
+-- the last year of the window and its first; month and day are compared as digits
 expiries : expired (0x25 ∷ 0x11 ∷ 0x16 ∷ []) (0x49 ∷ 0x12 ∷ 0x31 ∷ [])
     ∷ expired (0x25 ∷ 0x11 ∷ 0x16 ∷ []) (0x50 ∷ 0x01 ∷ 0x01 ∷ [])
     ∷ expired (0x00 ∷ 0x01 ∷ 0x01 ∷ []) (0x99 ∷ 0x12 ∷ 0x31 ∷ [])

@@ -8,12 +8,12 @@ use Prim.Native.Nat.{ℕ, zero, suc, _<_, _≤_, _-_, _^_}
 use native.Mathlib.Omega.{arith}
 use lib.ListN.{length, getD}
 use Rattle.basics.specs.Choice.{if}
-use Rattle.analysis.specs.Action.{restrictionsOf, resultOf}
+use Rattle.analysis.specs.Action.{restrictionsOf, resultOf, fullResult, findingsOf}
 use Rattle.analysis.specs.Bits.{worth}
 use Rattle.analysis.specs.Choice.{lastDigit, capabilityAt, choiceBy, choiceOf, p1Of, p1For}
 use Rattle.analysis.specs.Digits.{oneOf, amountAbove}
 use Rattle.analysis.specs.Restrictions.{restrictionBits}
-use Rattle.analysis.specs.Result.{floorBits}
+use Rattle.analysis.specs.Result.{floorBits, withBits}
 use Rattle.analysis.specs.declared.choice.Pair.{Pair}
 use Rattle.analysis.specs.declared.choice.Capability.the-variants.{OnlineOnly, OnlineCapable, OfflineOnly, Unlisted}
 use Rattle.analysis.specs.declared.choice.Choice.{Choice}
@@ -40,6 +40,15 @@ module _ (store : List ℕ) where
   pub result-length : length (resultOf store) ≡ 5
   unfolding resultOf
   result-length = refl
+
+  -- 9F34 has three bytes, and 95 five
+  pub found-length : length (findingsOf store .results) ≡ 3
+  unfolding findingsOf
+  found-length = refl
+
+  pub bits-length : length (findingsOf store .bits) ≡ 5
+  unfolding findingsOf fullResult withBits resultOf
+  bits-length = refl
 
   -- byte 1 b8 is always set, and alone
   pub result-first : getD (resultOf store) 0 0 ≡ 0x80

@@ -8,3 +8,8 @@ pub mod Listed
 pub mod Lowest
 pub mod Stages
 pub mod Value
+pub mod VerificationExamples
+pub mod VerificationLaws
+pub mod VerificationSteps
+pub mod VerificationStore
+pub mod FindingsExamples

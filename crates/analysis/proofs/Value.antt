@@ -1,10 +1,12 @@
 -- Values handed over as a flag and bytes, their first bytes one by one. Assumes nothing.
 use mathlib.Core.Bool.{Bool, true, false}
 use mathlib.Core.List.{List, [], _∷_}
-use mathlib.Core.Path.{_≡_, refl, ap}
-use Prim.Native.Nat.{ℕ, zero, suc}
+use mathlib.Core.Path.{_≡_, refl, ap, _∙_}
+use Prim.Native.Nat.{ℕ, zero, suc, _+_, _*_}
 use native.Mathlib.Omega.{arith}
-use lib.ListN.{length, getD}
+use lib.ListN.{length, getD, drop}
+use lib.Seq.{getD-drop}
+use Rattle.basics.specs.Number.{number, numberFrom}
 use Rattle.store.specs.Place.{absent, present}
 use Rattle.analysis.specs.Value.{given, front}
 
@@ -35,6 +37,23 @@ front-five (a ∷ b ∷ []) = refl
 front-five (a ∷ b ∷ c ∷ []) = refl
 front-five (a ∷ b ∷ c ∷ d ∷ []) = refl
 front-five (a ∷ b ∷ c ∷ d ∷ e ∷ s) = refl
+
+pub front-four : (s : List ℕ) → front 4 s ≡ getD s 0 0 ∷ getD s 1 0 ∷ getD s 2 0 ∷ getD s 3 0 ∷ []
+unfolding front
+front-four [] = refl
+front-four (a ∷ []) = refl
+front-four (a ∷ b ∷ []) = refl
+front-four (a ∷ b ∷ c ∷ []) = refl
+front-four (a ∷ b ∷ c ∷ d ∷ s) = refl
+
+-- four bytes from place i on as one number
+pub number-four : (s : List ℕ) (i : ℕ)
+    → number (front 4 (drop i s)) ≡ ((getD s i 0 * 256 + getD s (i + 1) 0) * 256 + getD s (i + 2) 0) * 256 + getD s (i + 3) 0
+unfolding numberFrom
+number-four s i =
+    let first : i + 0 ≡ i = omega arith in
+    ap number (front-four (drop i s))
+    ∙ omega (arith, getD-drop i s 0 0 ∙ ap (λ (k : ℕ). getD s k 0) first, getD-drop i s 1 0, getD-drop i s 2 0, getD-drop i s 3 0)
 
 pub front-three : (s : List ℕ) → front 3 s ≡ getD s 0 0 ∷ getD s 1 0 ∷ getD s 2 0 ∷ []
 unfolding front

@@ -1,22 +1,28 @@
 -- Action analysis over a session's store (document 01, "Result bits and the choice" and, for the limit, "Commands
--- and steps"): the result bits 95, the three pairs of action codes, the choice and the transaction limit, from the
--- values of the tags that the rules name. A running session in its ranges holds 9A, 9C, 9F02, 9F09, 9F1A, 9F35 and
--- DF8120 to DF8124, each at its length, and 5F24 when the bits are made. Document 01 leaves open what comes of a
--- store that lacks one of them. Here an absent value reads as no bytes, and a byte past a value's end as 0: so a
--- missing date, amount, type or terminal's code is zero, and a missing version or country is unlike any that has
--- bytes.
+-- and steps"; document 02, Item 5 for cardholder verification): the result bits 95, the method, the three pairs of
+-- action codes, the choice and the transaction limit, from the values of the tags that the rules name. A running
+-- session in its ranges holds 9A, 9C, 9F02, 9F09, 9F1A, 9F33, 9F35 and DF8120 to DF8124, each at its length, and
+-- 5F24 when the bits are made. The papers leave open what comes of a store that lacks one of them. Here an absent
+-- value reads as no bytes, and a byte past a value's end as 0: so a missing date, amount, type, capability or
+-- terminal's code is zero, and a missing version or country is unlike any that has bytes.
 -- Assumes nothing.
-use mathlib.Core.Bool.{Bool}
+use mathlib.Core.Bool.{Bool, false}
 use mathlib.Core.List.{List, [], _∷_}
 use Prim.Native.Nat.{ℕ}
-use Rattle.store.specs.Place.{valueOf}
+use Rattle.basics.specs.Alike.{alike}
+use Rattle.basics.specs.Choice.{_=?_}
+use Rattle.store.specs.Place.{Value, absent, present, valueOf}
 use Rattle.store.specs.Held.{bytesIn, byteIn}
 use Rattle.analysis.specs.Choice.{denial, online, default, pairOf, choiceOf}
-use Rattle.analysis.specs.Digits.{amountAbove}
-use Rattle.analysis.specs.Restrictions.{otherVersion, expired, notYetEffective, usageOf, restrictionBits}
-use Rattle.analysis.specs.Result.{floorBits, resultBits}
+use Rattle.analysis.specs.Digits.{oneOf, amountOf, amountAbove}
+use Rattle.analysis.specs.Restrictions.{otherVersion, expired, notYetEffective, atAtm, usageOf, restrictionBits}
+use Rattle.analysis.specs.Result.{floorBits, resultBits, withBits}
+use Rattle.analysis.specs.Verification.{amountX, amountY, verification, resultsOf, bitsOf}
+use Rattle.analysis.specs.declared.action.Findings.{Findings}
 use Rattle.analysis.specs.declared.choice.Choice.{Choice}
 use Rattle.analysis.specs.declared.choice.Pair.{Pair}
+use Rattle.analysis.specs.declared.verification.Terms.{Terms}
+use Rattle.analysis.specs.declared.verification.Verified.{Verified}
 
 -- ---- what the store holds
 
@@ -57,9 +63,45 @@ restrictionsOf store =
     (notYetEffective (valueOf store 0x5F25) (bytesIn store 0x9A))
     (usageIn store)
 
--- the five bytes of 95
+-- the five bytes of 95 by restrictions and floor limit
 unfoldable pub resultOf : List ℕ → List ℕ
 resultOf store = resultBits (restrictionsOf store) (floorBits (bytesIn store 0x9F02) (bytesIn store 0xDF8123))
+
+-- ---- cardholder verification
+
+-- the transaction's currency 5F2A is the application's 9F42; one that is absent counts as another
+unfoldable pub sameCurrency : Value → Value → Bool
+sameCurrency absent application = false
+sameCurrency (present transaction) absent = false
+sameCurrency (present transaction) (present application) = alike transaction application
+
+-- what the conditions of the card's rules are told by: byte 2 of 9F33; cash, type 01 or 17, and cashback, type 09; an
+-- ATM; the currency; the amount 9F02, and X and Y of the list 8E
+unfoldable pub termsIn : List ℕ → Terms
+termsIn store =
+    record {
+      capabilities = byteIn store 0x9F33 2;
+      cash = oneOf (transactionType store) 0x01 0x17;
+      cashback = transactionType store =? 0x09;
+      atm = atAtm (terminalType store) (valueOf store 0x9F40);
+      currency = sameCurrency (valueOf store 0x5F2A) (valueOf store 0x9F42);
+      amount = amountOf (bytesIn store 0x9F02);
+      x = amountX (bytesIn store 0x8E);
+      y = amountY (bytesIn store 0x8E);
+    }
+
+-- the method by the card's profile 82 and its list 8E
+unfoldable pub verifiedIn : List ℕ → Verified
+verifiedIn store = verification (byteIn store 0x82 1) (valueOf store 0x8E) (termsIn store)
+
+-- the five bytes of 95 with the bits that the verification adds
+unfoldable pub fullResult : List ℕ → List ℕ
+fullResult store = withBits (resultOf store) (bitsOf (verifiedIn store))
+
+-- what is found before the choice: 9F34, 95 and the method
+unfoldable pub findingsOf : List ℕ → Findings
+findingsOf store =
+    record { results = resultsOf (verifiedIn store); bits = fullResult store; method = verifiedIn store .method }
 
 -- ---- the choice
 
@@ -74,3 +116,7 @@ codesOf store =
 -- what is asked for on a result
 unfoldable pub chosen : List ℕ → List ℕ → Choice
 chosen store result = choiceOf result (terminalType store) (codesOf store)
+
+-- ---- what holds of it, proved in proofs/VerificationStore
+--   odd-byte-stored   of two stores alike but for an 8E that is even in the one and has a byte more in the other, the
+--                     verification is the same

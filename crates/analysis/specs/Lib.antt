@@ -6,3 +6,4 @@ pub mod Inner
 pub mod Restrictions
 pub mod Result
 pub mod Value
+pub mod Verification

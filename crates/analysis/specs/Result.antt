@@ -1,8 +1,8 @@
--- The result bits, 95 (document 01, "Result bits and the choice"): the floor limit's byte, and the five bytes put
--- together.
+-- The result bits, 95 (document 01, "Result bits and the choice"): the floor limit's byte, the five bytes put
+-- together, and bits added to them.
 -- Assumes nothing.
 use mathlib.Core.List.{List, [], _∷_}
-use Prim.Native.Nat.{ℕ}
+use Prim.Native.Nat.{ℕ, _+_}
 use Rattle.analysis.specs.Bits.{worth}
 use Rattle.analysis.specs.Digits.{amountAbove}
 
@@ -13,3 +13,9 @@ floorBits amount limit = worth 8 (amountAbove amount limit)
 -- byte 1 has b8 alone, byte 2 the restrictions, byte 4 the floor limit
 abbrev pub resultBits : ℕ → ℕ → List ℕ
 resultBits restrictions floor = 0x80 ∷ restrictions ∷ 0 ∷ floor ∷ 0 ∷ []
+
+-- bits added to a result that has none of them, byte by byte
+unfoldable pub withBits : List ℕ → List ℕ → List ℕ
+withBits [] t = []
+withBits (x ∷ s) [] = x ∷ s
+withBits (x ∷ s) (y ∷ t) = (x + y) ∷ withBits s t

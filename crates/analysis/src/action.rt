@@ -1,4 +1,5 @@
-// Action analysis over a session's store, lent as its bytes: the result bits, the action codes, the choice, the transaction limit.
+// Action analysis over a session's store, lent as its bytes: the result bits, cardholder verification, the action codes, the choice, the
+// transaction limit.
 use crate::byte;
 use crate::choice;
 use crate::choice::Choice;
@@ -10,22 +11,56 @@ use crate::digits;
 use crate::restrictions;
 use crate::restrictions::Country;
 use crate::result;
+use crate::verification;
+use crate::verification::Method;
+use crate::verification::Terms;
+use crate::verification::Verified;
 ghost use mathlib.Core.Path.{_≡_};
 ghost use lib.ListN.{getD};
 ghost use Rattle.dictionary.specs.Rows.{rows};
 ghost use Rattle.store.specs.Place.{bytesOf, valueAt, valueOf};
 ghost use Rattle.store.specs.Held.{bytesIn};
 ghost use Rattle.analysis.specs.Choice.{pairOf, p1Of, p1For};
+ghost use Rattle.analysis.specs.Digits.{oneOf};
 ghost use Rattle.analysis.specs.Restrictions.{otherVersion, notYetEffective, atAtm, countryOf, cashback};
 ghost use Rattle.analysis.specs.Action.{limitOf, aboveLimit, usageIn, restrictionsOf, resultOf, terminalType, codesOf, chosen};
+ghost use Rattle.analysis.specs.Action.{sameCurrency, termsIn, verifiedIn, fullResult, findingsOf};
 
-// The five bytes of 95 that the store's values give.
+// What the analysis finds before the choice: the three bytes of 9F34, the five of 95, and the method.
+pub struct Findings {
+    pub results: [u8; 3],
+    pub bits: [u8; 5],
+    pub method: Method,
+}
+
+// The five bytes of 95 that the store's values give, without the verification's bits.
 pub fn result_of(bytes: &[u8]) -> [u8; 5]
     ensures { λ r. ⌜ r ≡ resultOf (now (bytes .entry)) ⌝ }
 {
     let amount = store::value(bytes, dictionary::ROW_9F02);
     let floor = store::value(bytes, dictionary::ROW_DF8123);
     result::result_bits(restrictions_of(bytes), result::floor_bits(amount, floor))
+}
+
+// What the restrictions, the limit and cardholder verification give: 9F34, 95 and the method.
+pub fn findings_of(bytes: &[u8]) -> Findings
+    ensures { λ r. ⌜ r ≡ findingsOf (now (bytes .entry)) ⌝ }
+{
+    let verified = verified_in(bytes);
+    let results = [verified.code, verified.condition, verified.result];
+    let bits = full_result(bytes, verified.first, verified.third);
+    let method = verified.method;
+    Findings { results, bits, method }
+}
+
+// What cardholder verification gives: the method, the bytes of 9F34 and the bits for 95.
+pub fn verified_in(bytes: &[u8]) -> Verified
+    ensures { λ r. ⌜ r ≡ verifiedIn (now (bytes .entry)) ⌝ }
+{
+    let profile = byte_in(bytes, dictionary::ROW_82);
+    let there = store::is_there(bytes, dictionary::ROW_8E);
+    let list = store::value(bytes, dictionary::ROW_8E);
+    verification::verify(profile, there, list, terms_in(bytes))
 }
 
 // The three pairs of action codes.
@@ -131,6 +166,52 @@ fn cashback_in(bytes: &[u8]) -> bool
 {
     let there = store::is_there(bytes, dictionary::ROW_9F03);
     restrictions::asks_cashback(there, store::value(bytes, dictionary::ROW_9F03))
+}
+
+// What the conditions of the card's rules are told by.
+fn terms_in(bytes: &[u8]) -> Terms
+    ensures { λ r. ⌜ r ≡ termsIn (now (bytes .entry)) ⌝ }
+{
+    let list = store::value(bytes, dictionary::ROW_8E);
+    let transaction = byte_in(bytes, dictionary::ROW_9C);
+    let capabilities = basics::byte_at(store::value(bytes, dictionary::ROW_9F33), 1);
+    let amount = digits::amount_of(store::value(bytes, dictionary::ROW_9F02));
+    let atm = atm_in(bytes);
+    let currency = currency_in(bytes);
+    let x = byte::number_at(list, 0);
+    let y = byte::number_at(list, 4);
+    let cash = is_cash(transaction);
+    let cashback = transaction == 0x09;
+    Terms { capabilities, cash, cashback, atm, currency, amount, x, y }
+}
+
+// Cash, by the transaction's type.
+fn is_cash(transaction: u8) -> bool
+    ensures { λ r. ⌜ r ≡ oneOf transaction 0x01 0x17 ⌝ }
+{
+    (transaction == 0x01) | (transaction == 0x17)
+}
+
+// The transaction's currency is the application's, and both are there.
+fn currency_in(bytes: &[u8]) -> bool
+    ensures { λ r. ⌜ r ≡ sameCurrency (valueOf (now (bytes .entry)) 0x5F2A) (valueOf (now (bytes .entry)) 0x9F42) ⌝ }
+{
+    if !store::is_there(bytes, dictionary::ROW_5F2A) {
+        return false;
+    }
+    if !store::is_there(bytes, dictionary::ROW_9F42) {
+        return false;
+    }
+    basics::same(store::value(bytes, dictionary::ROW_5F2A), store::value(bytes, dictionary::ROW_9F42))
+}
+
+// The five bytes of 95, with the verification's bits in bytes 1 and 3.
+fn full_result(bytes: &[u8], first: u8, third: u8) -> [u8; 5]
+    requires { ⌜ (first ≡ verifiedIn (now bytes) .first) × (third ≡ verifiedIn (now bytes) .third) ⌝ }
+    ensures { λ r. ⌜ r ≡ fullResult (now (bytes .entry)) ⌝ }
+{
+    let result = result_of(bytes);
+    [result[0] + first, result[1], result[2] + third, result[3], result[4]]
 }
 
 // The pair of a stage, from the rows of the card's code and the terminal's.

@@ -1,7 +1,9 @@
-// The first five bytes of a value, a bit of a byte, and what a bit adds to its byte.
+// The first five bytes of a value, four bytes as a number, a bit of a byte, and what a bit adds to its byte.
 ghost use mathlib.Core.Path.{_≡_};
 ghost use Prim.Native.Nat.{_<_, _≤_};
+ghost use lib.ListN.{drop};
 ghost use Rattle.basics.specs.Choice.{if};
+ghost use Rattle.basics.specs.Number.{number};
 ghost use Rattle.analysis.specs.Bits.{bitIn, has as bitOf};
 ghost use Rattle.analysis.specs.Value.{front};
 
@@ -16,6 +18,18 @@ pub fn five(s: &[u8]) -> [u8; 5]
         basics::byte_at(s, 3),
         basics::byte_at(s, 4),
     ]
+}
+
+// The four bytes from place i on, counted from 0, as one number, high byte first; bytes past the end are 0.
+pub fn number_at(s: &[u8], i: usize) -> u64
+    requires { ⌜ i ≤ 4 ⌝ }
+    ensures { λ r. ⌜ r ≡ number (front 4 (drop i (now (s .entry)))) ⌝ }
+{
+    let a = basics::wide32(basics::byte_at(s, i)) as u64;
+    let b = basics::wide32(basics::byte_at(s, i + 1)) as u64;
+    let c = basics::wide32(basics::byte_at(s, i + 2)) as u64;
+    let d = basics::wide32(basics::byte_at(s, i + 3)) as u64;
+    ((a * 256 + b) * 256 + c) * 256 + d
 }
 
 // Bit b of byte n of a value, the first byte 1.

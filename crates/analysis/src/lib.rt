@@ -6,3 +6,4 @@ pub mod choice;
 pub mod digits;
 pub mod restrictions;
 pub mod result;
+pub mod verification;

@@ -6,7 +6,7 @@
 // standard error. With --tell the exit status that is due goes to descriptor 3: 0 accepted, 1 unlike or cut, 2 no verdict.
 use journal::{Checker, Verdict};
 use libc::{STDERR_FILENO, STDIN_FILENO};
-use record::{Answer, End, Issued, Outcome};
+use record::{Answer, Issued, Outcome};
 
 // The words that the program is called with: whether the exit status is told, which argument names the file (0: none
 // does), and whether there is one name too many or an unknown option.
@@ -219,9 +219,11 @@ fn right_record(checker: Checker) {
     }
     let bytes = wanted.bytes;
     show::text(b"a right kernel has there: ");
-    show::answer_in_words(answer_in(&bytes), body_in(&bytes));
     if is_command(&bytes) {
+        show::answer_in_words(command_in(&bytes), body_in(&bytes));
         show::text(b", zeros behind");
+    } else {
+        show::outcome_in_words(outcome_of(basics::byte_at(&bytes, 1)), basics::byte_at(&bytes, 2));
     }
     show::text(b"\n");
 }
@@ -238,19 +240,12 @@ fn is_command(record: &[u8]) -> bool {
     basics::byte_at(record, 0) == 5
 }
 
-// What a reply's record stands for: a command of so many bytes, or an outcome and its reason.
-fn answer_in(record: &[u8]) -> Answer {
+// What a command's record stands for: a command of so many bytes.
+fn command_in(record: &[u8]) -> Answer {
     let first = basics::byte_at(record, 1);
     let second = basics::byte_at(record, 2);
-    if is_command(record) {
-        let size = basics::wide(first) * 256 + basics::wide(second);
-        return Answer::Command(Issued { size });
-    }
-    let outcome = outcome_of(first);
-    Answer::Outcome(End {
-        outcome,
-        reason: second,
-    })
+    let size = basics::wide(first) * 256 + basics::wide(second);
+    Answer::Command(Issued { size })
 }
 
 // The outcome of a number.

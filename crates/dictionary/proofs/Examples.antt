@@ -12,7 +12,7 @@ use Rattle.dictionary.specs.declared.Searched.{Searched}
 use Rattle.dictionary.specs.Rows.{rows, rowAt, formB, formN, formCn}
 use Rattle.dictionary.specs.Search.{halve, halvingOf, lookedAt, searchOf, tagsOf}
 use Rattle.dictionary.specs.Form.{numeric, digitsThenFs, compressed, digitsFit, fitting}
-use Rattle.dictionary.specs.Named.{row5A, row9F02}
+use Rattle.dictionary.specs.Named.{row5A, row8E, row9F02}
 use Rattle.dictionary.specs.TerminalType.{listed}
 
 -- terminal types: 11 to 16, 21 to 26, 34 to 36
@@ -56,6 +56,11 @@ numbers : map (λ n. fitting (rowAt row5A) (replicate n 0)) (0 ∷ 10 ∷ 11 ∷
 unfolding rows fitting digitsFit compressed digitsThenFs nibbles every both if
 numbers = refl
 
+-- 10 to 250 for 8E, so that a list has a rule
+lists : map (λ n. fitting (rowAt row8E) (replicate n 0)) (0 ∷ 9 ∷ 10 ∷ 250 ∷ 251 ∷ []) ≡ false ∷ false ∷ true ∷ true ∷ false ∷ []
+unfolding rows fitting digitsFit both if
+lists = refl
+
 -- ---- searches: where a tag stands, and how many are looked at
 
 abbrev said : Found → ℕ → Searched
@@ -98,17 +103,17 @@ unfolding searchOf halvingOf halve if
 of-eight = refl
 
 -- the dictionary: first row, two within, last; below all, between, above all
-of-rows : map (searchOf (tagsOf rows)) (0x57 ∷ 0x5F24 ∷ 0x9F09 ∷ 0xDF8124 ∷ [])
-    ≡ said (At 0) 6 ∷ said (At 8) 5 ∷ said (At 17) 5 ∷ said (At 35) 5 ∷ []
+of-rows : map (searchOf (tagsOf rows)) (0x57 ∷ 0x5F24 ∷ 0x9F09 ∷ 0xDF8126 ∷ [])
+    ≡ said (At 0) 6 ∷ said (At 9) 5 ∷ said (At 18) 4 ∷ said (At 39) 5 ∷ []
 unfolding rows searchOf halvingOf halve if
 of-rows = refl
 
-of-no-row : map (searchOf (tagsOf rows)) (0 ∷ 0x5F26 ∷ 0xDF8125 ∷ 0xFFFFFFFF ∷ [])
+of-no-row : map (searchOf (tagsOf rows)) (0 ∷ 0x5F26 ∷ 0xDF8127 ∷ 0xFFFFFFFF ∷ [])
     ≡ said Unknown 6 ∷ said Unknown 6 ∷ said Unknown 5 ∷ said Unknown 5 ∷ []
 unfolding rows searchOf halvingOf halve if
 of-no-row = refl
 
 -- the places looked at, in their order
-places-of-last : lookedAt (tagsOf rows) 0xDF8124 ≡ 18 ∷ 27 ∷ 32 ∷ 34 ∷ 35 ∷ []
+places-of-last : lookedAt (tagsOf rows) 0xDF8126 ≡ 20 ∷ 30 ∷ 35 ∷ 38 ∷ 39 ∷ []
 unfolding rows halvingOf halve if
 places-of-last = refl

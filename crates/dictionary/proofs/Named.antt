@@ -3,7 +3,7 @@ use mathlib.Core.Path.{_≡_, refl}
 use Rattle.basics.specs.Choice.{if}
 use Rattle.dictionary.specs.declared.Found.the-variants.{At}
 use Rattle.dictionary.specs.Rows.{rows, past, find}
-use Rattle.dictionary.specs.Named.{row5A, row82, row8C, row94, row95, row9A, row9C, row5F24, row5F25, row5F28, row9F02, row9F03, row9F07, row9F08, row9F09, row9F0D, row9F0E, row9F0F, row9F10, row9F1A, row9F26, row9F27, row9F35, row9F36, row9F38, row9F40, rowDF8120, rowDF8121, rowDF8122, rowDF8123, rowDF8124}
+use Rattle.dictionary.specs.Named.{row5A, row82, row8C, row8E, row94, row95, row9A, row9C, row5F24, row5F25, row5F28, row5F2A, row9F02, row9F03, row9F07, row9F08, row9F09, row9F0D, row9F0E, row9F0F, row9F10, row9F1A, row9F26, row9F27, row9F33, row9F34, row9F35, row9F36, row9F38, row9F40, row9F42, rowDF8120, rowDF8121, rowDF8122, rowDF8123, rowDF8124}
 
 pub at-5A : find rows 0x5A ≡ At row5A
 unfolding if rows past find
@@ -16,6 +16,10 @@ at-82 = refl
 pub at-8C : find rows 0x8C ≡ At row8C
 unfolding if rows past find
 at-8C = refl
+
+pub at-8E : find rows 0x8E ≡ At row8E
+unfolding if rows past find
+at-8E = refl
 
 pub at-94 : find rows 0x94 ≡ At row94
 unfolding if rows past find
@@ -44,6 +48,10 @@ at-5F25 = refl
 pub at-5F28 : find rows 0x5F28 ≡ At row5F28
 unfolding if rows past find
 at-5F28 = refl
+
+pub at-5F2A : find rows 0x5F2A ≡ At row5F2A
+unfolding if rows past find
+at-5F2A = refl
 
 pub at-9F02 : find rows 0x9F02 ≡ At row9F02
 unfolding if rows past find
@@ -93,6 +101,14 @@ pub at-9F27 : find rows 0x9F27 ≡ At row9F27
 unfolding if rows past find
 at-9F27 = refl
 
+pub at-9F33 : find rows 0x9F33 ≡ At row9F33
+unfolding if rows past find
+at-9F33 = refl
+
+pub at-9F34 : find rows 0x9F34 ≡ At row9F34
+unfolding if rows past find
+at-9F34 = refl
+
 pub at-9F35 : find rows 0x9F35 ≡ At row9F35
 unfolding if rows past find
 at-9F35 = refl
@@ -108,6 +124,10 @@ at-9F38 = refl
 pub at-9F40 : find rows 0x9F40 ≡ At row9F40
 unfolding if rows past find
 at-9F40 = refl
+
+pub at-9F42 : find rows 0x9F42 ≡ At row9F42
+unfolding if rows past find
+at-9F42 = refl
 
 pub at-DF8120 : find rows 0xDF8120 ≡ At rowDF8120
 unfolding if rows past find

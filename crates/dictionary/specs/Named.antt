@@ -18,10 +18,11 @@ placeOf t = placeFound (find rows t)
 -- the tags that code uses, in the order of the constants
 unfoldable pub usedTags : List ℕ
 usedTags =
-    0x5A ∷ 0x82 ∷ 0x8C ∷ 0x94 ∷ 0x95 ∷ 0x9A ∷ 0x9C ∷ 0x5F24 ∷
-    0x5F25 ∷ 0x5F28 ∷ 0x9F02 ∷ 0x9F03 ∷ 0x9F07 ∷ 0x9F08 ∷ 0x9F09 ∷ 0x9F0D ∷
-    0x9F0E ∷ 0x9F0F ∷ 0x9F10 ∷ 0x9F1A ∷ 0x9F26 ∷ 0x9F27 ∷ 0x9F35 ∷ 0x9F36 ∷
-    0x9F38 ∷ 0x9F40 ∷ 0xDF8120 ∷ 0xDF8121 ∷ 0xDF8122 ∷ 0xDF8123 ∷ 0xDF8124 ∷
+    0x5A ∷ 0x82 ∷ 0x8C ∷ 0x8E ∷ 0x94 ∷ 0x95 ∷ 0x9A ∷ 0x9C ∷
+    0x5F24 ∷ 0x5F25 ∷ 0x5F28 ∷ 0x5F2A ∷ 0x9F02 ∷ 0x9F03 ∷ 0x9F07 ∷ 0x9F08 ∷
+    0x9F09 ∷ 0x9F0D ∷ 0x9F0E ∷ 0x9F0F ∷ 0x9F10 ∷ 0x9F1A ∷ 0x9F26 ∷ 0x9F27 ∷
+    0x9F33 ∷ 0x9F34 ∷ 0x9F35 ∷ 0x9F36 ∷ 0x9F38 ∷ 0x9F40 ∷ 0x9F42 ∷ 0xDF8120 ∷
+    0xDF8121 ∷ 0xDF8122 ∷ 0xDF8123 ∷ 0xDF8124 ∷
     []
 
 -- ---- the numbers of these rows, counted from 0: proofs/Named finds each in the table
@@ -35,86 +36,101 @@ row82 = 2
 abbrev pub row8C : ℕ
 row8C = 3
 
+abbrev pub row8E : ℕ
+row8E = 4
+
 abbrev pub row94 : ℕ
-row94 = 4
+row94 = 5
 
 abbrev pub row95 : ℕ
-row95 = 5
+row95 = 6
 
 abbrev pub row9A : ℕ
-row9A = 6
+row9A = 7
 
 abbrev pub row9C : ℕ
-row9C = 7
+row9C = 8
 
 abbrev pub row5F24 : ℕ
-row5F24 = 8
+row5F24 = 9
 
 abbrev pub row5F25 : ℕ
-row5F25 = 9
+row5F25 = 10
 
 abbrev pub row5F28 : ℕ
-row5F28 = 10
+row5F28 = 11
+
+abbrev pub row5F2A : ℕ
+row5F2A = 12
 
 abbrev pub row9F02 : ℕ
-row9F02 = 13
+row9F02 = 14
 
 abbrev pub row9F03 : ℕ
-row9F03 = 14
+row9F03 = 15
 
 abbrev pub row9F07 : ℕ
-row9F07 = 15
+row9F07 = 16
 
 abbrev pub row9F08 : ℕ
-row9F08 = 16
+row9F08 = 17
 
 abbrev pub row9F09 : ℕ
-row9F09 = 17
+row9F09 = 18
 
 abbrev pub row9F0D : ℕ
-row9F0D = 18
+row9F0D = 19
 
 abbrev pub row9F0E : ℕ
-row9F0E = 19
+row9F0E = 20
 
 abbrev pub row9F0F : ℕ
-row9F0F = 20
+row9F0F = 21
 
 abbrev pub row9F10 : ℕ
-row9F10 = 21
+row9F10 = 22
 
 abbrev pub row9F1A : ℕ
-row9F1A = 22
+row9F1A = 23
 
 abbrev pub row9F26 : ℕ
-row9F26 = 23
+row9F26 = 24
 
 abbrev pub row9F27 : ℕ
-row9F27 = 24
+row9F27 = 25
+
+abbrev pub row9F33 : ℕ
+row9F33 = 26
+
+abbrev pub row9F34 : ℕ
+row9F34 = 27
 
 abbrev pub row9F35 : ℕ
-row9F35 = 26
+row9F35 = 28
 
 abbrev pub row9F36 : ℕ
-row9F36 = 27
+row9F36 = 29
 
 abbrev pub row9F38 : ℕ
-row9F38 = 29
+row9F38 = 31
 
 abbrev pub row9F40 : ℕ
-row9F40 = 30
+row9F40 = 32
+
+abbrev pub row9F42 : ℕ
+row9F42 = 33
 
 abbrev pub rowDF8120 : ℕ
-rowDF8120 = 31
+rowDF8120 = 34
 
 abbrev pub rowDF8121 : ℕ
-rowDF8121 = 32
+rowDF8121 = 35
 
 abbrev pub rowDF8122 : ℕ
-rowDF8122 = 33
+rowDF8122 = 36
 
 abbrev pub rowDF8123 : ℕ
-rowDF8123 = 34
+rowDF8123 = 37
 
 abbrev pub rowDF8124 : ℕ
-rowDF8124 = 35
+rowDF8124 = 38

@@ -101,6 +101,7 @@ rows =
     row 0x5A       0  10 formCn card    in70    anyAnswer  optional ∷
     row 0x82       2   2 formB  card    in77    anyAnswer  optional ∷
     row 0x8C       0 250 formB  card    in70    anyAnswer  optional ∷
+    row 0x8E      10 250 formB  card    in70    anyAnswer  optional ∷
     row 0x94       4 248 formB  card    in77    anyAnswer  optional ∷
     row 0x95       5   5 formB  session nowhere noAnswer   optional ∷
     row 0x9A       3   3 formN  start   nowhere noAnswer   required ∷
@@ -122,17 +123,20 @@ rows =
     row 0x9F1A     2   2 formN  start   nowhere noAnswer   required ∷
     row 0x9F26     8   8 formB  card    in77    cryptogram optional ∷
     row 0x9F27     1   1 formB  card    in77    cryptogram optional ∷
-    row 0x9F33     3   3 formB  start   nowhere noAnswer   optional ∷
+    row 0x9F33     3   3 formB  start   nowhere noAnswer   required ∷
+    row 0x9F34     3   3 formB  session nowhere noAnswer   optional ∷
     row 0x9F35     1   1 formN  start   nowhere noAnswer   required ∷
     row 0x9F36     2   2 formB  card    in77    cryptogram optional ∷
     row 0x9F37     4   4 formB  start   nowhere noAnswer   required ∷
     row 0x9F38     0 240 formB  start   nowhere noAnswer   optional ∷
     row 0x9F40     5   5 formB  start   nowhere noAnswer   optional ∷
+    row 0x9F42     2   2 formN  card    in70    anyAnswer  optional ∷
     row 0xDF8120   5   5 formB  start   nowhere noAnswer   required ∷
     row 0xDF8121   5   5 formB  start   nowhere noAnswer   required ∷
     row 0xDF8122   5   5 formB  start   nowhere noAnswer   required ∷
     row 0xDF8123   6   6 formN  start   nowhere noAnswer   required ∷
     row 0xDF8124   6   6 formN  start   nowhere noAnswer   required ∷
+    row 0xDF8126   6   6 formN  start   nowhere noAnswer   required ∷
     []
 
 -- what stands past the last row
@@ -151,10 +155,10 @@ rowAt k = rowIn rows k
 -- with a length byte
 -- (`rows-length` and `rows-size` in the store's proofs compute both)
 abbrev pub rowCount : ℕ
-rowCount = 36
+rowCount = 40
 
 abbrev pub storeSize : ℕ
-storeSize = 943
+storeSize = 1208
 
 -- ---- lookup
 

@@ -19,10 +19,10 @@ ghost use Rattle.dictionary.specs.Named.{placeOf, usedTags};
 ghost use Rattle.dictionary.specs.TerminalType.{listed};
 
 // How many rows there are.
-pub const ROWS: usize = 36;
+pub const ROWS: usize = 40;
 
 // The store's size: the sum over the rows of the greatest length and one byte more.
-pub const SIZE: usize = 943;
+pub const SIZE: usize = 1208;
 
 // Forms of a value.
 pub const FORM_B: u8 = 0;
@@ -57,68 +57,79 @@ pub const ROW_82: usize = 2;
 
 pub const ROW_8C: usize = 3;
 
-pub const ROW_94: usize = 4;
+pub const ROW_8E: usize = 4;
 
-pub const ROW_95: usize = 5;
+pub const ROW_94: usize = 5;
 
-pub const ROW_9A: usize = 6;
+pub const ROW_95: usize = 6;
 
-pub const ROW_9C: usize = 7;
+pub const ROW_9A: usize = 7;
 
-pub const ROW_5F24: usize = 8;
+pub const ROW_9C: usize = 8;
 
-pub const ROW_5F25: usize = 9;
+pub const ROW_5F24: usize = 9;
 
-pub const ROW_5F28: usize = 10;
+pub const ROW_5F25: usize = 10;
 
-pub const ROW_9F02: usize = 13;
+pub const ROW_5F28: usize = 11;
 
-pub const ROW_9F03: usize = 14;
+pub const ROW_5F2A: usize = 12;
 
-pub const ROW_9F07: usize = 15;
+pub const ROW_9F02: usize = 14;
 
-pub const ROW_9F08: usize = 16;
+pub const ROW_9F03: usize = 15;
 
-pub const ROW_9F09: usize = 17;
+pub const ROW_9F07: usize = 16;
 
-pub const ROW_9F0D: usize = 18;
+pub const ROW_9F08: usize = 17;
 
-pub const ROW_9F0E: usize = 19;
+pub const ROW_9F09: usize = 18;
 
-pub const ROW_9F0F: usize = 20;
+pub const ROW_9F0D: usize = 19;
 
-pub const ROW_9F10: usize = 21;
+pub const ROW_9F0E: usize = 20;
 
-pub const ROW_9F1A: usize = 22;
+pub const ROW_9F0F: usize = 21;
 
-pub const ROW_9F26: usize = 23;
+pub const ROW_9F10: usize = 22;
 
-pub const ROW_9F27: usize = 24;
+pub const ROW_9F1A: usize = 23;
 
-pub const ROW_9F35: usize = 26;
+pub const ROW_9F26: usize = 24;
 
-pub const ROW_9F36: usize = 27;
+pub const ROW_9F27: usize = 25;
 
-pub const ROW_9F38: usize = 29;
+pub const ROW_9F33: usize = 26;
 
-pub const ROW_9F40: usize = 30;
+pub const ROW_9F34: usize = 27;
 
-pub const ROW_DF8120: usize = 31;
+pub const ROW_9F35: usize = 28;
 
-pub const ROW_DF8121: usize = 32;
+pub const ROW_9F36: usize = 29;
 
-pub const ROW_DF8122: usize = 33;
+pub const ROW_9F38: usize = 31;
 
-pub const ROW_DF8123: usize = 34;
+pub const ROW_9F40: usize = 32;
 
-pub const ROW_DF8124: usize = 35;
+pub const ROW_9F42: usize = 33;
+
+pub const ROW_DF8120: usize = 34;
+
+pub const ROW_DF8121: usize = 35;
+
+pub const ROW_DF8122: usize = 36;
+
+pub const ROW_DF8123: usize = 37;
+
+pub const ROW_DF8124: usize = 38;
 
 // The table: the tags, and what their rows say. An array of numbers costs a few moves where it is read; one of
 // structs would be built field by field.
 const TAGS: [u32; ROWS] = [
-    0x57, 0x5A, 0x82, 0x8C, 0x94, 0x95, 0x9A, 0x9C, 0x5F24, 0x5F25, 0x5F28, 0x5F2A,
-    0x5F34, 0x9F02, 0x9F03, 0x9F07, 0x9F08, 0x9F09, 0x9F0D, 0x9F0E, 0x9F0F, 0x9F10, 0x9F1A, 0x9F26,
-    0x9F27, 0x9F33, 0x9F35, 0x9F36, 0x9F37, 0x9F38, 0x9F40, 0xDF8120, 0xDF8121, 0xDF8122, 0xDF8123, 0xDF8124,
+    0x57, 0x5A, 0x82, 0x8C, 0x8E, 0x94, 0x95, 0x9A, 0x9C, 0x5F24,
+    0x5F25, 0x5F28, 0x5F2A, 0x5F34, 0x9F02, 0x9F03, 0x9F07, 0x9F08, 0x9F09, 0x9F0D,
+    0x9F0E, 0x9F0F, 0x9F10, 0x9F1A, 0x9F26, 0x9F27, 0x9F33, 0x9F34, 0x9F35, 0x9F36,
+    0x9F37, 0x9F38, 0x9F40, 0x9F42, 0xDF8120, 0xDF8121, 0xDF8122, 0xDF8123, 0xDF8124, 0xDF8126,
 ];
 
 // What each row says beside its tag, in one number: the least length, and above it a unit for each further
@@ -147,42 +158,46 @@ const MUST_START: u32 = OF_START + MUST;
 const OF_SESSION: u32 = (SESSION as u32) * SETTERS;
 
 const CODES: [u32; ROWS] = [
-    0 +  19 * GREATEST + B  + OF_RECORD,     // 57
-    0 +  10 * GREATEST + CN + OF_RECORD,     // 5A
-    2 +   2 * GREATEST + B  + OF_OPTIONS,    // 82
-    0 + 250 * GREATEST + B  + OF_RECORD,     // 8C
-    4 + 248 * GREATEST + B  + OF_OPTIONS,    // 94
-    5 +   5 * GREATEST + B  + OF_SESSION,    // 95
-    3 +   3 * GREATEST + N  + MUST_START,    // 9A
-    1 +   1 * GREATEST + N  + MUST_START,    // 9C
-    3 +   3 * GREATEST + N  + OF_RECORD,     // 5F24
-    3 +   3 * GREATEST + N  + OF_RECORD,     // 5F25
-    2 +   2 * GREATEST + N  + OF_RECORD,     // 5F28
-    2 +   2 * GREATEST + N  + OF_START,      // 5F2A
-    1 +   1 * GREATEST + N  + OF_RECORD,     // 5F34
-    6 +   6 * GREATEST + N  + MUST_START,    // 9F02
-    6 +   6 * GREATEST + N  + OF_START,      // 9F03
-    2 +   2 * GREATEST + B  + OF_RECORD,     // 9F07
-    2 +   2 * GREATEST + B  + OF_RECORD,     // 9F08
-    2 +   2 * GREATEST + B  + MUST_START,    // 9F09
-    5 +   5 * GREATEST + B  + OF_RECORD,     // 9F0D
-    5 +   5 * GREATEST + B  + OF_RECORD,     // 9F0E
-    5 +   5 * GREATEST + B  + OF_RECORD,     // 9F0F
-    0 +  32 * GREATEST + B  + OF_CRYPTOGRAM, // 9F10
-    2 +   2 * GREATEST + N  + MUST_START,    // 9F1A
-    8 +   8 * GREATEST + B  + OF_CRYPTOGRAM, // 9F26
-    1 +   1 * GREATEST + B  + OF_CRYPTOGRAM, // 9F27
-    3 +   3 * GREATEST + B  + OF_START,      // 9F33
-    1 +   1 * GREATEST + N  + MUST_START,    // 9F35
-    2 +   2 * GREATEST + B  + OF_CRYPTOGRAM, // 9F36
-    4 +   4 * GREATEST + B  + MUST_START,    // 9F37
-    0 + 240 * GREATEST + B  + OF_START,      // 9F38
-    5 +   5 * GREATEST + B  + OF_START,      // 9F40
-    5 +   5 * GREATEST + B  + MUST_START,    // DF8120
-    5 +   5 * GREATEST + B  + MUST_START,    // DF8121
-    5 +   5 * GREATEST + B  + MUST_START,    // DF8122
-    6 +   6 * GREATEST + N  + MUST_START,    // DF8123
-    6 +   6 * GREATEST + N  + MUST_START,    // DF8124
+     0 +  19 * GREATEST + B  + OF_RECORD,     // 57
+     0 +  10 * GREATEST + CN + OF_RECORD,     // 5A
+     2 +   2 * GREATEST + B  + OF_OPTIONS,    // 82
+     0 + 250 * GREATEST + B  + OF_RECORD,     // 8C
+    10 + 250 * GREATEST + B  + OF_RECORD,     // 8E
+     4 + 248 * GREATEST + B  + OF_OPTIONS,    // 94
+     5 +   5 * GREATEST + B  + OF_SESSION,    // 95
+     3 +   3 * GREATEST + N  + MUST_START,    // 9A
+     1 +   1 * GREATEST + N  + MUST_START,    // 9C
+     3 +   3 * GREATEST + N  + OF_RECORD,     // 5F24
+     3 +   3 * GREATEST + N  + OF_RECORD,     // 5F25
+     2 +   2 * GREATEST + N  + OF_RECORD,     // 5F28
+     2 +   2 * GREATEST + N  + OF_START,      // 5F2A
+     1 +   1 * GREATEST + N  + OF_RECORD,     // 5F34
+     6 +   6 * GREATEST + N  + MUST_START,    // 9F02
+     6 +   6 * GREATEST + N  + OF_START,      // 9F03
+     2 +   2 * GREATEST + B  + OF_RECORD,     // 9F07
+     2 +   2 * GREATEST + B  + OF_RECORD,     // 9F08
+     2 +   2 * GREATEST + B  + MUST_START,    // 9F09
+     5 +   5 * GREATEST + B  + OF_RECORD,     // 9F0D
+     5 +   5 * GREATEST + B  + OF_RECORD,     // 9F0E
+     5 +   5 * GREATEST + B  + OF_RECORD,     // 9F0F
+     0 +  32 * GREATEST + B  + OF_CRYPTOGRAM, // 9F10
+     2 +   2 * GREATEST + N  + MUST_START,    // 9F1A
+     8 +   8 * GREATEST + B  + OF_CRYPTOGRAM, // 9F26
+     1 +   1 * GREATEST + B  + OF_CRYPTOGRAM, // 9F27
+     3 +   3 * GREATEST + B  + MUST_START,    // 9F33
+     3 +   3 * GREATEST + B  + OF_SESSION,    // 9F34
+     1 +   1 * GREATEST + N  + MUST_START,    // 9F35
+     2 +   2 * GREATEST + B  + OF_CRYPTOGRAM, // 9F36
+     4 +   4 * GREATEST + B  + MUST_START,    // 9F37
+     0 + 240 * GREATEST + B  + OF_START,      // 9F38
+     5 +   5 * GREATEST + B  + OF_START,      // 9F40
+     2 +   2 * GREATEST + N  + OF_RECORD,     // 9F42
+     5 +   5 * GREATEST + B  + MUST_START,    // DF8120
+     5 +   5 * GREATEST + B  + MUST_START,    // DF8121
+     5 +   5 * GREATEST + B  + MUST_START,    // DF8122
+     6 +   6 * GREATEST + N  + MUST_START,    // DF8123
+     6 +   6 * GREATEST + N  + MUST_START,    // DF8124
+     6 +   6 * GREATEST + N  + MUST_START,    // DF8126
 ];
 
 // What a row says beside its tag: the lengths, the form, and the sets of bits; `must` is 1 where a start
@@ -251,13 +266,14 @@ pub fn search(tags: &[u32], tag: u32) -> Searched
 }
 
 // The rows of the tags that code uses, in the order of their constants.
-pub fn used_rows() -> [usize; 31]
+pub fn used_rows() -> [usize; 36]
     ensures { λ r. ⌜ r ≡ map placeOf usedTags ⌝ }
 {
     [
         ROW_5A,
         ROW_82,
         ROW_8C,
+        ROW_8E,
         ROW_94,
         ROW_95,
         ROW_9A,
@@ -265,6 +281,7 @@ pub fn used_rows() -> [usize; 31]
         ROW_5F24,
         ROW_5F25,
         ROW_5F28,
+        ROW_5F2A,
         ROW_9F02,
         ROW_9F03,
         ROW_9F07,
@@ -277,10 +294,13 @@ pub fn used_rows() -> [usize; 31]
         ROW_9F1A,
         ROW_9F26,
         ROW_9F27,
+        ROW_9F33,
+        ROW_9F34,
         ROW_9F35,
         ROW_9F36,
         ROW_9F38,
         ROW_9F40,
+        ROW_9F42,
         ROW_DF8120,
         ROW_DF8121,
         ROW_DF8122,

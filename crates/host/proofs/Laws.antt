@@ -18,7 +18,7 @@ use Rattle.record.specs.declared.Session.{Session}
 use Rattle.record.specs.declared.Turn.{Turn}
 use Rattle.dictionary.specs.Rows.{storeSize}
 use Rattle.basics.specs.Reason.{refusedBuffer, refusedRanges}
-use Rattle.record.specs.Session.{sessionOf, replyOf}
+use Rattle.record.specs.Session.{parametersOf, sessionOf, replyOf}
 use Rattle.session.specs.Steps.{Step, Did, leastBuffer, linkStep, stopStep}
 use Rattle.session.specs.Start.{startStep}
 use Rattle.session.specs.Answer.{answerStep}
@@ -26,9 +26,9 @@ use Rattle.trace.proofs.EveryCall.{Came, answer-came, start-came, link-came, st
 use Rattle.layout.specs.declared.Head.{Head}
 use Rattle.layout.specs.declared.Held.{Held}
 use Rattle.layout.specs.Layout.{headSize, recordSize, withRecord, withHead, decoded, heldOf}
-use Rattle.layout.specs.Word.{outcomes, refusals, refusalWord, outcomeWord, wordOf}
+use Rattle.layout.specs.Word.{kindOf, ofCommand, ofOutcome, ofRefusal, refusalWord, outcomeWord, wordOf}
 use Rattle.layout.proofs.Lists.{put-head}
-use Rattle.layout.proofs.Laws.{held-store, written-back, command-length, command-below, outcome-below}
+use Rattle.layout.proofs.Laws.{held-store, written-back, command-length, command-kind, outcome-kind, refusal-kind}
 use Rattle.host.proofs.Sizes.{Small, SmallStep, answer-small, start-small, link-small, stop-small}
 use Rattle.host.specs.declared.Admission.{Admission}
 use Rattle.host.specs.Hosted.{Hosted, DidOver, refuses, carries, stepped, hosted, countWord}
@@ -106,14 +106,14 @@ module _ (step : Session → List ℕ → Step) (l buf : List ℕ) where
 
 -- what a word says of an answer: the three kinds are apart
 abbrev pub Tells : Answer → ℕ → Type 0
-Tells (Answer.Command c) w = (w ≡ c .size) × (w ≤ 261)
-Tells (Answer.Outcome e) w = (w ≡ outcomeWord e) × (outcomes ≤ w) × (w < refusals)
-Tells (Answer.Refused r) w = (w ≡ refusalWord (r .number)) × (refusals ≤ w)
+Tells (Answer.Command c) w = (w ≡ c .size) × (w ≤ 261) × (kindOf w ≡ ofCommand)
+Tells (Answer.Outcome e) w = (w ≡ outcomeWord e) × (kindOf w ≡ ofOutcome)
+Tells (Answer.Refused r) w = (w ≡ refusalWord (r .number)) × (kindOf w ≡ ofRefusal)
 
 pub tells : (a : Answer) → Small a → Tells a (wordOf a)
-tells (Answer.Command c) h = let e = command-length (c .size) (omega arith) in (e, omega arith)
-tells (Answer.Outcome e) h = (refl, omega arith, outcome-below e (omega arith))
-tells (Answer.Refused r) h = (refl, omega arith)
+tells (Answer.Command c) h = let e = command-length (c .size) (omega arith) in (e, omega arith, command-kind (c .size))
+tells (Answer.Outcome e) h = (refl, outcome-kind e (omega arith))
+tells (Answer.Refused r) h = (refl, refusal-kind (r .number) (omega arith))
 
 -- ---- a refusal leaves all lent bytes as they were
 
@@ -122,32 +122,32 @@ pub record Kept (l buf : List ℕ) (h : Hosted) : Type 0 where
   pub buffer : h .buffer ≡ buf
 
 -- a step whose word is that of a refusal is one
-came-kept : {s : Session} {l buf : List ℕ} {st : Step} → decoded l ≡ some s → SmallStep st → Came s buf st → refusals ≤ wordOf (st .reply .answer) → Kept l buf (carries l st)
+came-kept : {s : Session} {l buf : List ℕ} {st : Step} → decoded l ≡ some s → SmallStep st → Came s buf st → kindOf (wordOf (st .reply .answer)) ≡ ofRefusal → Kept l buf (carries l st)
 came-kept {s} {l} e z (Came.refused n) h = record { session = written-back l s e; buffer = refl }
-came-kept e z (Came.ended b o n) h = absurd (omega (arith, outcome-below (record { outcome = o; reason = n }) (omega arith)))
-came-kept e z (Came.sent b p c k) h = absurd (omega (arith, command-below (length c)))
+came-kept e z (Came.ended m b o n) h = absurd (omega (arith, h, outcome-kind (parametersOf o n m) (omega arith)))
+came-kept e z (Came.sent b p c k) h = absurd (omega (arith, h, command-kind (length c)))
 
 module _ (step : Session → List ℕ → Step) (came : (s : Session) (b : List ℕ) → Came s b (step s b)) (small : (s : Session) (b : List ℕ) → SmallStep (step s b)) where
-  stepped-kept : (l buf : List ℕ) (x : Option Session) → decoded l ≡ x → refusals ≤ stepped step l buf x .word → Kept l buf (stepped step l buf x)
+  stepped-kept : (l buf : List ℕ) (x : Option Session) → decoded l ≡ x → kindOf (stepped step l buf x .word) ≡ ofRefusal → Kept l buf (stepped step l buf x)
   stepped-kept l buf none e h = record { session = refl; buffer = refl }
   stepped-kept l buf (some s) e h = came-kept e (small s buf) (came s buf) h
 
-  refusal-kept : (l buf : List ℕ) → refusals ≤ hosted step l buf .word → Kept l buf (hosted step l buf)
+  refusal-kept : (l buf : List ℕ) → kindOf (hosted step l buf .word) ≡ ofRefusal → Kept l buf (hosted step l buf)
   unfolding hosted
   refusal-kept l buf =
-      if-ind (λ (h : Hosted). refusals ≤ h .word → Kept l buf h) (ltb (length buf) leastBuffer) _ _ (λ t h. record { session = refl; buffer = refl })
+      if-ind (λ (h : Hosted). kindOf (h .word) ≡ ofRefusal → Kept l buf h) (ltb (length buf) leastBuffer) _ _ (λ t h. record { session = refl; buffer = refl })
       (λ t. stepped-kept l buf (decoded l) refl)
 
 module _ (l bytes buf : List ℕ) where
-  pub start-kept : let h = hosted (λ s b. startStep s bytes b) l buf in refusals ≤ h .word → Kept l buf h
+  pub start-kept : let h = hosted (λ s b. startStep s bytes b) l buf in kindOf (h .word) ≡ ofRefusal → Kept l buf h
   start-kept = refusal-kept (λ s b. startStep s bytes b) (λ s b. start-came s bytes b) (λ s b. start-small s bytes b) l buf
 
-  pub answer-kept : let h = hosted (λ s b. answerStep s bytes b) l buf in refusals ≤ h .word → Kept l buf h
+  pub answer-kept : let h = hosted (λ s b. answerStep s bytes b) l buf in kindOf (h .word) ≡ ofRefusal → Kept l buf h
   answer-kept = refusal-kept (λ s b. answerStep s bytes b) (λ s b. answer-came s bytes b) (λ s b. answer-small s bytes b) l buf
 
 module _ (l buf : List ℕ) where
-  pub link-kept : refusals ≤ hosted linkStep l buf .word → Kept l buf (hosted linkStep l buf)
+  pub link-kept : kindOf (hosted linkStep l buf .word) ≡ ofRefusal → Kept l buf (hosted linkStep l buf)
   link-kept = refusal-kept linkStep link-came link-small l buf
 
-  pub stop-kept : refusals ≤ hosted stopStep l buf .word → Kept l buf (hosted stopStep l buf)
+  pub stop-kept : kindOf (hosted stopStep l buf .word) ≡ ofRefusal → Kept l buf (hosted stopStep l buf)
   stop-kept = refusal-kept stopStep stop-came stop-small l buf

@@ -1,4 +1,5 @@
--- What a call hands out is small: a command has at most 261 bytes, an outcome has a reason of at most 11. A number of 16 bits holds either.
+-- What a call hands out is small: a command has at most 261 bytes, an outcome has a reason of at most 11, a refusal is at most 25. A number
+-- of 16 bits holds each.
 -- Assumes nothing.
 use mathlib.Core.List.{List}
 use Prim.Native.Nat.{ℕ, _≤_}
@@ -9,22 +10,22 @@ use Rattle.record.specs.declared.Answer.{Answer}
 use Rattle.record.specs.declared.Place.{Place}
 use Rattle.record.specs.declared.Reply.{Reply}
 use Rattle.record.specs.declared.Session.{Session}
-use Rattle.basics.specs.Reason.{reasonMode, reasonLink, reasonStopped}
+use Rattle.basics.specs.Reason.{refusedRanges, reasonMode, reasonLink, reasonStopped}
 use Rattle.record.specs.Session.{stored}
 use Rattle.session.specs.Steps.{Step, leastBuffer, linkStep, stopStep}
 use Rattle.session.specs.Start.{startStep}
 use Rattle.session.specs.Answer.{answerStep}
-use Rattle.trace.proofs.Ways.{OptionsWay, RecordsWay, RecordWay, CryptogramWay, AnswerWay, answer-way, analysedSession, choiceIn, loadedSession, StartWay, start-way, BrokenWay, broken-way}
+use Rattle.trace.proofs.Ways.{OptionsWay, RecordsWay, RecordWay, CryptogramWay, AnswerWay, answer-way, analysedSession, askedBy, loadedSession, StartWay, start-way, BrokenWay, broken-way}
 
 abbrev pub Small : Answer → Type 0
 Small (Answer.Command c) = c .size ≤ leastBuffer
 Small (Answer.Outcome e) = e .reason ≤ reasonMode
-Small (Answer.Refused r) = Unit {0}
+Small (Answer.Refused r) = r .number ≤ refusedRanges
 
 abbrev pub SmallStep : Step → Type 0
 SmallStep st = Small (st .reply .answer)
 
-small-cryptogram : {t : Session} {q : Reply} → CryptogramWay t q → Small (q .answer)
+small-cryptogram : {m : ℕ} {t : Session} {q : Reply} → CryptogramWay m t q → Small (q .answer)
 small-cryptogram (CryptogramWay.failed n r) = r .most
 small-cryptogram (CryptogramWay.decides o g) = omega arith
 
@@ -34,29 +35,29 @@ module _ {buf : List ℕ} where
   small-options (OptionsWay.first r m a e) = omega arith
 
   small-records : {t : Session} {st : Step} → RecordsWay t buf st → SmallStep st
-  small-records (RecordsWay.failed n r) = r .most
+  small-records (RecordsWay.failed n r x) = r .most
   small-records RecordsWay.unlisted = omega arith
-  small-records {t} (RecordsWay.asked c f g) = cryptogram-proper (stored (analysedSession t)) c (p1Of (choiceIn t)) g .most
+  small-records {t} (RecordsWay.asked c f g) = cryptogram-proper (stored (analysedSession t)) c (p1Of (askedBy t .choice)) g .most
 
   small-record : (p : Place) {t : Session} {st : Step} → RecordWay p t buf st → SmallStep st
   small-record p (RecordWay.next r e) = omega arith
   small-record p (RecordWay.last e w) = small-records w
 
   small-answer : {s : Session} {card : List ℕ} {st : Step} → AnswerWay s card buf st → SmallStep st
-  small-answer (AnswerWay.refused n) = tt
-  small-answer (AnswerWay.unread n i r) = r .most
+  small-answer (AnswerWay.refused n l) = l
+  small-answer (AnswerWay.unread m n i r h x) = r .most
   small-answer (AnswerWay.options i q z w) = small-options w
   small-answer (AnswerWay.recorded p r i q e w) = small-record p w
   small-answer (AnswerWay.cryptogram a i q w) = small-cryptogram w
 
   small-start : {s : Session} {bytes : List ℕ} {st : Step} → StartWay s bytes buf st → SmallStep st
-  small-start (StartWay.refused n) = tt
+  small-start (StartWay.refused n l) = l
   small-start (StartWay.unlisted b i q e) = omega arith
   small-start {s} (StartWay.asked b c i q e f) = options-proper (stored (loadedSession s b)) c f .most
 
 small-broken : {s : Session} {n : ℕ} {buf : List ℕ} {st : Step} → n ≤ reasonMode → BrokenWay s n buf st → SmallStep st
-small-broken h (BrokenWay.refused m) = tt
-small-broken h (BrokenWay.broken i) = h
+small-broken h (BrokenWay.refused m l) = l
+small-broken h (BrokenWay.broken m i x) = h
 
 module _ (s : Session) (bytes buf : List ℕ) where
   pub answer-small : SmallStep (answerStep s bytes buf)

@@ -35,7 +35,7 @@ in-front c n =
 
 pub whole-is : {s : Session} {st : Step} → Came s lent st → wholeRecord (st .reply .answer) (st .buffer) ≡ replyRecord (st .reply .answer) (st .buffer)
 whole-is (Came.refused n) = refl
-whole-is (Came.ended b o n) = refl
+whole-is (Came.ended y b o n) = refl
 whole-is (Came.sent b p c l) = ap (λ (v : List ℕ). 5 ∷ (twoBytes (length c) ++ v)) (in-front c mostCommand)
 
 -- ---- the standing behind a record

@@ -43,7 +43,7 @@ record Answered (st : Step) (t : Expected) : Type 0 where
 
 replied-by : {s : Session} {buf : List ℕ} {st : Step} (t : Expected) → Came s buf st → repliedBy st ≡ some t → Answered st t
 replied-by t (Came.refused n) e = nothing e
-replied-by t (Came.ended b o n) e =
+replied-by t (Came.ended y b o n) e =
     let d = same-some e in record { taken = refl; due = sym d; there = omega (arith, ap (λ (x : Expected). length (x .due)) d) }
 replied-by t (Came.sent b p c l) e =
     let d = same-some e in record { taken = refl; due = sym d; there = omega (arith, ap (λ (x : Expected). length (x .due)) d) }

@@ -138,7 +138,7 @@ came-kept : {s : Session} {buf : List ℕ} {st : Step} (n : ℕ) (t : Expected) 
     → n + 0 ≤ 2 * (s .count + oneIf (isEnded (s .phase))) → repliedBy st ≡ some t → Kept t (n + 1)
 unfolding sizeOf if
 came-kept n t (Came.refused k) m i f h e = nothing e
-came-kept n t (Came.ended b o k) m i f h e =
+came-kept n t (Came.ended y b o k) m i f h e =
     let g = ap oneIf (f refl) in
     subst (λ (x : Expected). Kept x (n + 1)) (same-some e) (record { ranges = i; few = omega arith; fits = omega arith; whole = λ z. refl })
 came-kept n t (Came.sent b p c l) m i f h e =

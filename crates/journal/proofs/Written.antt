@@ -51,7 +51,7 @@ verdict-behind {e} n more (Walks.next {t = t} {u = u} {r = r} {rs = rs} h z j w)
 
 refused-same : {s : Session} {buf : List ℕ} {st : Step} → Came s buf st → isRefusal (st .reply .answer) ≡ true → st .reply .session ≡ s
 refused-same (Came.refused n) r = refl
-refused-same (Came.ended b o n) r = no r
+refused-same (Came.ended y b o n) r = no r
 refused-same (Came.sent b p c l) r = no r
 
 abbrev AllWalked : Session → List (List ℕ) → Type 0

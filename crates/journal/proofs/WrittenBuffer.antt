@@ -21,7 +21,8 @@ use Rattle.reading.specs.declared.Awaited.{Awaited}
 use Rattle.reading.specs.Answer as reading
 use Rattle.data_list.specs.Commands.{processingOptions, generateAc}
 use Rattle.analysis.specs.Choice.{p1Of}
-use Rattle.analysis.specs.Action.{resultOf, chosen}
+use Rattle.analysis.specs.Action.{findingsOf}
+use Rattle.analysis.specs.Verification.{methodNumber, notApplicable}
 use Rattle.record.specs.declared.End.{End}
 use Rattle.record.specs.declared.Place.{Place}
 use Rattle.record.specs.declared.Asked.{Asked}
@@ -33,9 +34,9 @@ use Rattle.record.specs.Ranges.{locatorIn, inRanges}
 use Rattle.record.specs.Clauses.{noResults}
 use Rattle.terminal.specs.Terminal.{Loaded, refusal, loaded, load}
 use Rattle.session.specs.Steps as steps
-use Rattle.session.specs.Steps.{Step, withoutCommand, refuses, endBy, commands, withResults, admitted, handOut, endsIn}
+use Rattle.session.specs.Steps.{Step, withoutCommand, refuses, endBy, commands, withResults, withFindings, admitted, handOut, endsIn}
 use Rattle.session.specs.Start.{askOptions, startLoaded, startIn}
-use Rattle.session.specs.Answer.{recordPhase, askFound, storedReason, optionsRead, optionsStep, cryptogramPhase, askCryptogram, analysed, recordsRead, nextFound, recordRead, recordFound, recordStep, cryptogramEnd, cryptogramReply, answerIn}
+use Rattle.session.specs.Answer.{recordPhase, askFound, storedReason, optionsRead, optionsStep, askCryptogram, askedIn, analysed, recordsRead, nextFound, recordRead, recordFound, recordStep, cryptogramEnd, cryptogramReply, answerIn}
 use Rattle.trace.specs.Calls.{Call, start, answer, link-failed, stop, step, isRefusal}
 use Rattle.trace.proofs.Rules.{no}
 use Rattle.journal.specs.Record.{twoBytes, zeroPadded, mostCommand, replyRecord}
@@ -45,7 +46,7 @@ use Rattle.journal.specs.Record.{twoBytes, zeroPadded, mostCommand, repl
 -- refused, ended, or with the same command in front
 pub data SameStep (s : Session) (buf other : List ℕ) : Step → Step → Type 0 where
   refused : (n : ℕ) → SameStep s buf other (refuses s n buf) (refuses s n other)
-  ended : (n : ℕ) (b : List ℕ) (e : End) → SameStep s buf other (withoutCommand (steps.ended n b e) buf) (withoutCommand (steps.ended n b e) other)
+  ended : (m n : ℕ) (b : List ℕ) (e : End) → SameStep s buf other (withoutCommand (steps.ended m n b e) buf) (withoutCommand (steps.ended m n b e) other)
   sent : (n : ℕ) (b : List ℕ) (p : Phase) (c : List ℕ) → SameStep s buf other (commands n b p c buf) (commands n b p c other)
 
 if-both : {A B : Type 0} (R : A → B → Type 0) (b : Bool) {x y : A} {v w : B} → R x v → R y w → R (if b x y) (if b v w)
@@ -57,33 +58,33 @@ module _ (s : Session) (buf other : List ℕ) where
   abbrev R : Step → Step → Type 0
   R = SameStep s buf other
 
-  hand-out : (n : ℕ) (b : List ℕ) (p : Phase) (o : Option (List ℕ)) → R (handOut n b p buf o) (handOut n b p other o)
-  hand-out n b p none = ended n b (endBy reasonDataList)
-  hand-out n b p (some c) = sent n b p c
+  hand-out : (m n : ℕ) (b : List ℕ) (p : Phase) (o : Option (List ℕ)) → R (handOut m n b p buf o) (handOut m n b p other o)
+  hand-out m n b p none = ended m n b (endBy reasonDataList)
+  hand-out m n b p (some c) = sent n b p c
 
   -- the answer to processing options
 
   ask-found : (n : ℕ) (b : List ℕ) (k : ℕ) (f : Found) → R (askFound n b k buf f) (askFound n b k other f)
-  ask-found n b k Found.Nothing = ended n b (endBy reasonLocator)
+  ask-found n b k Found.Nothing = ended notApplicable n b (endBy reasonLocator)
   ask-found n b k (Found.At r) = sent n b (recordPhase k) (readRecord r)
 
   options-read : (n : ℕ) (b : List ℕ) → R (optionsRead n b buf) (optionsRead n b other)
   unfolding optionsRead
-  options-read n b = if-both R _ (ask-found n b 1 (recordAt (locatorIn b) 1)) (ended n b (endBy (storedReason b)))
+  options-read n b = if-both R _ (ask-found n b 1 (recordAt (locatorIn b) 1)) (ended notApplicable n b (endBy (storedReason b)))
 
   options-step : (n : ℕ) (b card : List ℕ) → R (optionsStep n b card buf) (optionsStep n b card other)
   unfolding optionsStep
   options-step n b card =
-      let o = reading.readAnswer Awaited.Options b card in if-both R _ (options-read n (o .store)) (ended n b (endBy (o .reason)))
+      let o = reading.readAnswer Awaited.Options b card in if-both R _ (options-read n (o .store)) (ended notApplicable n b (endBy (o .reason)))
 
   -- the answer to a record
 
   records-read : (n : ℕ) (b : List ℕ) → R (recordsRead n b buf) (recordsRead n b other)
   unfolding recordsRead analysed askCryptogram
   records-read n b =
-      if-both R _ (ended n b (endBy reasonAboveLimit))
-      (if-both R _ (ended n b (endBy reasonMissing))
-      (hand-out n (withResults b (resultOf b)) (cryptogramPhase (chosen b (resultOf b))) (generateAc (p1Of (chosen b (resultOf b))) (withResults b (resultOf b)))))
+      if-both R _ (ended notApplicable n b (endBy reasonAboveLimit))
+      (if-both R _ (ended notApplicable n b (endBy reasonMissing))
+      (hand-out (methodNumber (askedIn b .method)) n (withFindings b (findingsOf b)) (Phase.Cryptogram (askedIn b)) (generateAc (p1Of (askedIn b .choice)) (withFindings b (findingsOf b)))))
 
   next-found : (n : ℕ) (b : List ℕ) (k : ℕ) (f : Found) → R (nextFound n b k buf f) (nextFound n b k other f)
   next-found n b k Found.Nothing = records-read n b
@@ -94,10 +95,10 @@ module _ (s : Session) (buf other : List ℕ) where
   record-read p n b = next-found n b (p .number + 1) (recordAt (locatorIn b) (p .number + 1))
 
   record-found : (p : Place) (n : ℕ) (b card : List ℕ) (f : Found) → R (recordFound p n b card buf f) (recordFound p n b card other f)
-  record-found p n b card Found.Nothing = ended n b (endBy reasonLocator)
+  record-found p n b card Found.Nothing = ended notApplicable n b (endBy reasonLocator)
   record-found p n b card (Found.At r) =
       let o = reading.readAnswer (Awaited.Record (record { number = r .file })) b card in
-      if-both R _ (record-read p n (o .store)) (ended n b (endBy (o .reason)))
+      if-both R _ (record-read p n (o .store)) (ended notApplicable n b (endBy (o .reason)))
 
   record-step : (p : Place) (n : ℕ) (b card : List ℕ) → R (recordStep p n b card buf) (recordStep p n b card other)
   unfolding recordStep
@@ -109,8 +110,8 @@ module _ (s : Session) (buf other : List ℕ) where
   unfolding cryptogramReply
   cryptogram-step a n b card =
       let o = reading.readAnswer Awaited.Cryptogram b card in
-      if-ind (λ (q : Reply). R (withoutCommand q buf) (withoutCommand q other)) _ _ _ (λ e. ended n (o .store) (cryptogramEnd a (o .store)))
-      (λ e. ended n b (endBy (o .reason)))
+      if-ind (λ (q : Reply). R (withoutCommand q buf) (withoutCommand q other)) _ _ _ (λ e. ended (methodNumber (a .method)) n (o .store) (cryptogramEnd a (o .store)))
+      (λ e. ended (methodNumber (a .method)) n b (endBy (o .reason)))
 
   -- by the phase
 
@@ -124,7 +125,7 @@ module _ (s : Session) (buf other : List ℕ) where
   start-loaded : (x : Loaded) → R (startLoaded s buf x) (startLoaded s other x)
   unfolding askOptions
   start-loaded (refusal n) = refused n
-  start-loaded (loaded b) = hand-out (s .count) (withResults b noResults) Phase.Options (processingOptions (withResults b noResults))
+  start-loaded (loaded b) = hand-out notApplicable (s .count) (withResults b noResults) Phase.Options (processingOptions (withResults b noResults))
 
   start-in : (p : Phase) (bytes : List ℕ) → R (startIn p s bytes buf) (startIn p s bytes other)
   start-in Phase.Fresh bytes = start-loaded (load (stored s) bytes)
@@ -135,9 +136,9 @@ module _ (s : Session) (buf other : List ℕ) where
 
   ends-in : (p : Phase) (reason : ℕ) → R (endsIn p s reason buf) (endsIn p s reason other)
   ends-in Phase.Fresh reason = refused refusedPhase
-  ends-in Phase.Options reason = ended (s .count) (stored s) (endBy reason)
-  ends-in (Phase.Record p) reason = ended (s .count) (stored s) (endBy reason)
-  ends-in (Phase.Cryptogram a) reason = ended (s .count) (stored s) (endBy reason)
+  ends-in Phase.Options reason = ended _ (s .count) (stored s) (endBy reason)
+  ends-in (Phase.Record p) reason = ended _ (s .count) (stored s) (endBy reason)
+  ends-in (Phase.Cryptogram a) reason = ended _ (s .count) (stored s) (endBy reason)
   ends-in (Phase.Ended e) reason = refused refusedPhase
 
 -- ---- the refusals that every call checks first
@@ -194,7 +195,7 @@ module _ (s : Session) (other : List ℕ) (k : 261 ≤ length other) where
 
 pub same-reply : {s : Session} {buf other : List ℕ} {st st′ : Step} → SameStep s buf other st st′ → st .reply ≡ st′ .reply
 same-reply (SameStep.refused n) = refl
-same-reply (SameStep.ended n b e) = refl
+same-reply (SameStep.ended m n b e) = refl
 same-reply (SameStep.sent n b p c) = refl
 
 abbrev pub dueBy : Step → List ℕ
@@ -202,7 +203,7 @@ dueBy st = replyRecord (st .reply .answer) (st .buffer)
 
 pub same-due : {s : Session} {buf other : List ℕ} {st st′ : Step} → SameStep s buf other st st′ → dueBy st ≡ dueBy st′
 same-due (SameStep.refused n) = refl
-same-due (SameStep.ended n b e) = refl
+same-due (SameStep.ended m n b e) = refl
 same-due {s} {buf} {other} (SameStep.sent n b p c) =
     ap (λ (v : List ℕ). 5 ∷ (twoBytes (length c) ++ zeroPadded mostCommand v))
     (take-append-seam c (drop (length c) buf) ∙ sym (take-append-seam c (drop (length c) other)))

@@ -132,19 +132,19 @@ read s (stop buf) r =
 module _ {s : Session} where
   reply-there : {st : Step} → Came s lent st → isRefusal (st .reply .answer) ≡ false → 0 < length (dueBy st)
   reply-there (Came.refused n) r = no (sym r)
-  reply-there (Came.ended b o n) r = omega arith
+  reply-there (Came.ended y b o n) r = omega arith
   reply-there (Came.sent b p c l) r = omega arith
 
   pub reply-some : {st : Step} → Came s lent st → isRefusal (st .reply .answer) ≡ false
       → repliedBy st ≡ some (expected (st .reply .session) (dueBy st))
   reply-some (Came.refused n) r = no (sym r)
-  reply-some (Came.ended b o n) r = refl
+  reply-some (Came.ended y b o n) r = refl
   reply-some (Came.sent b p c l) r = refl
 
   reply-sized : {st : Step} → Came s lent st → isRefusal (st .reply .answer) ≡ false → length (dueBy st) ≡ sizeOf (getD (dueBy st) 0 0)
   unfolding sizeOf if
   reply-sized (Came.refused n) r = no (sym r)
-  reply-sized (Came.ended b o n) r = refl
+  reply-sized (Came.ended y b o n) r = refl
   reply-sized (Came.sent b p c l) r =
       ap length (sym (whole-is {s = s} (Came.sent b p c l))) ∙ (let e = buffer-length {s = s} {buf = lent} (Came.sent b p c l) in omega arith)
 

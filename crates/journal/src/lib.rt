@@ -4,7 +4,7 @@
 // A journal is records of one byte of kind and a body whose size the kind fixes. At most one record is
 // held, so a journal of any size needs the room of one `Checker`.
 use record::Answer;
-use record::End;
+use record::OutcomeParameters;
 use record::Reply;
 use record::Session;
 ghost use mathlib.Core.Path.{_≡_};
@@ -390,7 +390,7 @@ fn command_due(session: Session, size: usize, buffer: [u8; 261]) -> Standing
 }
 
 // An outcome's record is due.
-fn outcome_due(session: Session, end: End) -> Standing
+fn outcome_due(session: Session, end: OutcomeParameters) -> Standing
     ensures { λ r. ⌜ r ≡ standingOf (expected session (6 ∷ outcomeNumber (end .outcome) ∷ end .reason ∷ [])) ⌝ }
 {
     let outcome = end.outcome;

@@ -2,7 +2,7 @@
 //
 // A record is one byte of kind and a body whose size the kind fixes. What stands in each is defined with the library
 // `journal`, which checks them.
-use record::End;
+use record::OutcomeParameters;
 ghost use mathlib.Core.Path.{_≡_};
 ghost use mathlib.Core.List.{[]};
 ghost use Prim.Native.Nat.{_+_, _≤_};
@@ -69,7 +69,7 @@ pub fn command(size: usize, buffer: &[u8]) -> [u8; 264]
 }
 
 // An outcome and its reason.
-pub fn outcome(end: End) -> [u8; 3]
+pub fn outcome(end: OutcomeParameters) -> [u8; 3]
     ensures { λ r. ⌜ r ≡ replyRecord (Answer.Outcome end) [] ⌝ }
 {
     let outcome = end.outcome;

@@ -1,6 +1,6 @@
 -- The layout is strict: what is encoded is read back, what was read is encoded as the bytes it was read from, and a word tells its kind.
 -- Assumes nothing.
-use mathlib.Core.Path.{_≡_, refl, sym, ap, _∙_}
+use mathlib.Core.Path.{_≡_, refl, sym, ap, ap₂, _∙_}
 use mathlib.Core.Bool.{true, false}
 use mathlib.Core.List.{List, [], _∷_, _++_}
 use mathlib.Core.Logic.{inl, inr}
@@ -16,8 +16,10 @@ use Rattle.basics.proofs.Laws.{if-yes, if-no, if-ind, both-yes, both-left, both
 use Rattle.dictionary.specs.Rows.{storeSize}
 use Rattle.analysis.specs.declared.choice.Choice.{Choice}
 use Rattle.analysis.specs.Choice.{p1Of}
+use Rattle.analysis.specs.declared.verification.Method.{Method}
+use Rattle.analysis.specs.Verification.{methodNumber}
 use Rattle.record.specs.declared.Outcome.{Outcome}
-use Rattle.record.specs.declared.End.{End}
+use Rattle.record.specs.declared.OutcomeParameters.{OutcomeParameters}
 use Rattle.record.specs.declared.Phase.{Phase}
 use Rattle.record.specs.declared.Session.{Session}
 use Rattle.record.specs.Numbers.{outcomeNumber}
@@ -25,28 +27,39 @@ use Rattle.record.specs.Session.{stored, sessionOf}
 use Rattle.layout.specs.declared.Code.{Code}
 use Rattle.layout.specs.declared.Head.{Head}
 use Rattle.layout.specs.declared.Held.{Held}
-use Rattle.layout.specs.Layout.{version, headSize, recordSize, choiceFrom, outcomeFrom, codeOf, phaseOf, sameCode, encoded, withRecord, codeIn, sessionIn, holdsRecord, decoded, heldOf, storeOf}
-use Rattle.layout.specs.Word.{outcomes, refusals, commandWord, outcomeWord}
+use Rattle.layout.specs.Layout.{version, headSize, recordSize, choiceFrom, methodFrom, outcomeFrom, codeOf, phaseOf, sameCode, encoded, withRecord, codeIn, sessionIn, holdsRecord, decoded, heldOf, storeOf}
+use Rattle.layout.specs.Word.{kindOf, ofCommand, ofOutcome, ofRefusal, outcomes, commandWord, outcomeWord, refusalWord}
 
 -- ---- codes
 
 same-self : (c : Code) → sameCode c c ≡ true
 unfolding sameCode
-same-self c = both-yes _ _ (eq-eqb (c .number) (c .number) refl) (both-yes _ _ (eq-eqb (c .datum) (c .datum) refl) (eq-eqb (c .reason) (c .reason) refl))
+same-self c =
+    both-yes _ _ (eq-eqb (c .number) (c .number) refl)
+    (both-yes _ _ (eq-eqb (c .datum) (c .datum) refl)
+    (both-yes _ _ (eq-eqb (c .reason) (c .reason) refl) (eq-eqb (c .method) (c .method) refl)))
 
 same-is : (a b : Code) → sameCode a b ≡ true → a ≡ b
 unfolding sameCode
 same-is a b e =
     let n = eqb-true (a .number) (b .number) (both-left _ _ e) in
     let d = eqb-true (a .datum) (b .datum) (both-left _ _ (both-right _ _ e)) in
-    let r = eqb-true (a .reason) (b .reason) (both-right _ _ (both-right _ _ e)) in
-    λ i. record { number = n i; datum = d i; reason = r i }
+    let r = eqb-true (a .reason) (b .reason) (both-left _ _ (both-right _ _ (both-right _ _ e))) in
+    let m = eqb-true (a .method) (b .method) (both-right _ _ (both-right _ _ (both-right _ _ e))) in
+    λ i. record { number = n i; datum = d i; reason = r i; method = m i }
 
 choice-back : (c : Choice) → choiceFrom (p1Of c) ≡ c
 unfolding choiceFrom if
 choice-back Choice.Decline = refl
 choice-back Choice.Online = refl
 choice-back Choice.Offline = refl
+
+method-back : (m : Method) → methodFrom (methodNumber m) ≡ m
+unfolding methodFrom if
+method-back Method.NoCvm = refl
+method-back Method.Signature = refl
+method-back Method.OnlinePin = refl
+method-back Method.OfflinePin = refl
 
 outcome-back : (o : Outcome) → outcomeFrom (outcomeNumber o) ≡ o
 unfolding outcomeFrom if
@@ -62,7 +75,8 @@ unfolding phaseOf if
 phase-back Phase.Fresh = refl
 phase-back Phase.Options = refl
 phase-back (Phase.Record p) = refl
-phase-back (Phase.Cryptogram a) = ap (λ (c : Choice). Phase.Cryptogram (record { choice = c })) (choice-back (a .choice))
+phase-back (Phase.Cryptogram a) =
+    ap₂ (λ (c : Choice) (m : Method). Phase.Cryptogram (record { choice = c; method = m })) (choice-back (a .choice)) (method-back (a .method))
 phase-back (Phase.Ended e) = ap (λ (o : Outcome). Phase.Ended (record { outcome = o; reason = e .reason })) (outcome-back (e .outcome))
 
 -- ---- which bytes are a record
@@ -115,9 +129,10 @@ encode-known (_ ∷ []) k = absurd (omega (arith, k .enough))
 encode-known (_ ∷ _ ∷ []) k = absurd (omega (arith, k .enough))
 encode-known (_ ∷ _ ∷ _ ∷ []) k = absurd (omega (arith, k .enough))
 encode-known (_ ∷ _ ∷ _ ∷ _ ∷ []) k = absurd (omega (arith, k .enough))
-encode-known (v ∷ n ∷ d ∷ r ∷ c ∷ t) k =
+encode-known (_ ∷ _ ∷ _ ∷ _ ∷ _ ∷ []) k = absurd (omega (arith, k .enough))
+encode-known (v ∷ n ∷ d ∷ r ∷ c ∷ m ∷ t) k =
     let e = k .code in
-    λ i. sym (k .first) i ∷ e i .number ∷ e i .datum ∷ e i .reason ∷ c ∷ take-append-drop storeSize t i
+    λ i. sym (k .first) i ∷ e i .number ∷ e i .datum ∷ e i .reason ∷ c ∷ e i .method ∷ take-append-drop storeSize t i
 
 -- ---- what is said of bytes, as callers take it apart
 
@@ -195,6 +210,13 @@ outcome-most Outcome.Declined = omega arith
 outcome-most Outcome.Ended = omega arith
 outcome-most Outcome.SelectNext = omega arith
 
--- an outcome whose reason is a byte lies below every refusal
-pub outcome-below : (e : End) → e .reason < 256 → outcomeWord e < refusals
-outcome-below e h = omega (arith, outcome-most (e .outcome))
+-- the kind of a command is its own, whatever its length; so is that of an outcome whose reason is a byte, whatever its method, and that of
+-- a refusal whose number has 16 bits
+pub command-kind : (n : ℕ) → kindOf (commandWord n) ≡ ofCommand
+command-kind n = omega (arith, command-below n)
+
+pub outcome-kind : (e : OutcomeParameters) → e .reason < 256 → kindOf (outcomeWord e) ≡ ofOutcome
+outcome-kind e h = omega (arith, outcome-most (e .outcome))
+
+pub refusal-kind : (n : ℕ) → n < 0x10000 → kindOf (refusalWord n) ≡ ofRefusal
+refusal-kind n h = omega arith

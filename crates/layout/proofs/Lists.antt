@@ -1,4 +1,4 @@
--- The lists behind `encode`, `put_head` and `decode`: five bytes set one by one, a store behind them, and a store copied out again.
+-- The lists behind `encode`, `put_head` and `decode`: six bytes set one by one, a store behind them, and a store copied out again.
 -- Assumes nothing.
 use mathlib.Core.Path.{_≡_, refl, sym, ap, _∙_}
 use mathlib.Core.List.{List, [], _∷_, _++_, append-nil}
@@ -14,14 +14,16 @@ use Rattle.record.specs.declared.Phase.{Phase}
 use Rattle.record.specs.Session.{sessionOf}
 use Rattle.layout.specs.Layout.{headSize, recordSize, headOf, encoded, withRecord, withHead}
 
--- five bytes set one by one in front of a list that has them
-pub set-head : (l : List ℕ) (v n d r k : ℕ) → headSize ≤ length l → set (set (set (set (set l 0 v) 1 n) 2 d) 3 r) 4 k ≡ (v ∷ n ∷ d ∷ r ∷ k ∷ []) ++ drop headSize l
-set-head [] v n d r k h = absurd (omega arith)
-set-head (_ ∷ []) v n d r k h = absurd (omega arith)
-set-head (_ ∷ _ ∷ []) v n d r k h = absurd (omega arith)
-set-head (_ ∷ _ ∷ _ ∷ []) v n d r k h = absurd (omega arith)
-set-head (_ ∷ _ ∷ _ ∷ _ ∷ []) v n d r k h = absurd (omega arith)
-set-head (_ ∷ _ ∷ _ ∷ _ ∷ _ ∷ l) v n d r k h = refl
+-- six bytes set one by one in front of a list that has them
+pub set-head : (l : List ℕ) (v n d r k m : ℕ) → headSize ≤ length l
+    → set (set (set (set (set (set l 0 v) 1 n) 2 d) 3 r) 4 k) 5 m ≡ (v ∷ n ∷ d ∷ r ∷ k ∷ m ∷ []) ++ drop headSize l
+set-head [] v n d r k m h = absurd (omega arith)
+set-head (_ ∷ []) v n d r k m h = absurd (omega arith)
+set-head (_ ∷ _ ∷ []) v n d r k m h = absurd (omega arith)
+set-head (_ ∷ _ ∷ _ ∷ []) v n d r k m h = absurd (omega arith)
+set-head (_ ∷ _ ∷ _ ∷ _ ∷ []) v n d r k m h = absurd (omega arith)
+set-head (_ ∷ _ ∷ _ ∷ _ ∷ _ ∷ []) v n d r k m h = absurd (omega arith)
+set-head (_ ∷ _ ∷ _ ∷ _ ∷ _ ∷ _ ∷ l) v n d r k m h = refl
 
 module _ (l : List ℕ) (p : Phase) (n : ℕ) where
   pub headed-yes : recordSize ≤ length l → withHead p n l ≡ headOf p n ++ drop headSize l

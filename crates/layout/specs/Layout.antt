@@ -1,5 +1,5 @@
 -- The session record as bytes (docs/HOST.md has the table by offset): a head of the layout's version, the code of the
--- phase and the count of commands handed out, and behind it the store as it stands.
+-- phase with the count of commands handed out among its bytes, and behind it the store as it stands.
 -- Assumes nothing.
 use mathlib.Core.Path.{_≡_}
 use mathlib.Core.Bool.{Bool}
@@ -12,6 +12,8 @@ use Rattle.basics.specs.Front.{inFront}
 use Rattle.dictionary.specs.Rows.{storeSize}
 use Rattle.analysis.specs.declared.choice.Choice.{Choice}
 use Rattle.analysis.specs.Choice.{p1Of}
+use Rattle.analysis.specs.declared.verification.Method.{Method}
+use Rattle.analysis.specs.Verification.{methodNumber}
 use Rattle.record.specs.declared.Outcome.{Outcome}
 use Rattle.record.specs.declared.Phase.{Phase}
 use Rattle.record.specs.declared.Session.{Session}
@@ -22,11 +24,11 @@ use Rattle.layout.specs.declared.Held.{Held}
 
 -- the layout's version, the first byte of every record
 abbrev pub version : ℕ
-version = 1
+version = 2
 
 -- the bytes in front of the store, and of the whole record
 abbrev pub headSize : ℕ
-headSize = 5
+headSize = 6
 
 abbrev pub recordSize : ℕ
 recordSize = headSize + storeSize
@@ -49,18 +51,18 @@ onCryptogram = 3
 abbrev pub onEnded : ℕ
 onEnded = 4
 
--- a code of its three bytes
-abbrev pub code : ℕ → ℕ → ℕ → Code
-code n d r = record { number = n; datum = d; reason = r }
+-- a code of its four bytes
+abbrev pub code : ℕ → ℕ → ℕ → ℕ → Code
+code n d r m = record { number = n; datum = d; reason = r; method = m }
 
--- what the head says of a phase: the record's number, the P1 asked for, or the outcome and its reason; 0 where there
--- is none
+-- what the head says of a phase: the record's number, the P1 asked for and the method's number, or the outcome and its
+-- reason; 0 where there is none
 abbrev pub codeOf : Phase → Code
-codeOf Phase.Fresh          = code onFresh 0 0
-codeOf Phase.Options        = code onOptions 0 0
-codeOf (Phase.Record p)     = code onRecord (p .number) 0
-codeOf (Phase.Cryptogram a) = code onCryptogram (p1Of (a .choice)) 0
-codeOf (Phase.Ended e)      = code onEnded (outcomeNumber (e .outcome)) (e .reason)
+codeOf Phase.Fresh          = code onFresh 0 0 0
+codeOf Phase.Options        = code onOptions 0 0 0
+codeOf (Phase.Record p)     = code onRecord (p .number) 0 0
+codeOf (Phase.Cryptogram a) = code onCryptogram (p1Of (a .choice)) 0 (methodNumber (a .method))
+codeOf (Phase.Ended e)      = code onEnded (outcomeNumber (e .outcome)) (e .reason) 0
 
 -- the way back: any code is read as some phase, and is that phase's code only where a phase has it.
 -- the choice that a P1 asks for; a decline where none has it
@@ -69,6 +71,14 @@ choiceFrom p1 =
     if p1 =? 0x40 then Choice.Offline
     else if p1 =? 0x80 then Choice.Online
     else Choice.Decline
+
+-- the method of a number; the last one where none has it
+unfoldable pub methodFrom : ℕ → Method
+methodFrom n =
+    if n =? 0 then Method.NoCvm
+    else if n =? 1 then Method.Signature
+    else if n =? 2 then Method.OnlinePin
+    else Method.OfflinePin
 
 -- the outcome of a number; the last one where none has it
 unfoldable pub outcomeFrom : ℕ → Outcome
@@ -85,7 +95,8 @@ phaseOf c =
     if c .number =? onFresh then Phase.Fresh
     else if c .number =? onOptions then Phase.Options
     else if c .number =? onRecord then Phase.Record (record { number = c .datum })
-    else if c .number =? onCryptogram then Phase.Cryptogram (record { choice = choiceFrom (c .datum) })
+    else if c .number =? onCryptogram then
+        Phase.Cryptogram (record { choice = choiceFrom (c .datum); method = methodFrom (c .method) })
     else Phase.Ended (record { outcome = outcomeFrom (c .datum); reason = c .reason })
 
 -- two codes are the same
@@ -94,12 +105,13 @@ sameCode a b =
     a .number =? b .number
     and a .datum =? b .datum
     and a .reason =? b .reason
+    and a .method =? b .method
 
 -- ---- the record
 
--- the head: the version, the code of the phase, the count
+-- the head: the version, the phase's number, what it holds, the reason, the count, the method
 abbrev pub headOf : Phase → ℕ → List ℕ
-headOf p n = version ∷ codeOf p .number ∷ codeOf p .datum ∷ codeOf p .reason ∷ n ∷ []
+headOf p n = version ∷ codeOf p .number ∷ codeOf p .datum ∷ codeOf p .reason ∷ n ∷ codeOf p .method ∷ []
 
 -- a session as bytes
 unfoldable pub encoded : Session → List ℕ
@@ -119,7 +131,7 @@ withHead p n l =
 
 -- the code in a head
 abbrev pub codeIn : List ℕ → Code
-codeIn l = code (getD l 1 0) (getD l 2 0) (getD l 3 0)
+codeIn l = code (getD l 1 0) (getD l 2 0) (getD l 3 0) (getD l 5 0)
 
 -- the session in a phase with the count and the store that the bytes have
 abbrev pub sessionIn : Phase → List ℕ → Session

@@ -1,27 +1,28 @@
 // The session record as bytes that a host lends, and a call's answer as one number.
 //
-// The record is a head and the store: a byte for the layout's version, the code of the phase, the count
-// of commands handed out, and then the store's bytes as they stand. `encode` writes it in front of the
+// The record is a head and the store: a byte for the layout's version, the code of the phase with the count
+// of commands handed out before its last byte, and then the store's bytes as they stand. `encode` writes it in front of the
 // lent bytes, `decode` takes it apart again: only bytes that some record is encoded as are a record. Both
 // lend the store, which is the largest part; `head_in` and `put_head` read and write the head alone, for a
 // caller that works on the store in its place.
 use analysis::choice::Choice;
+use analysis::verification::Method;
 use dictionary::SIZE;
-use record::{Answer, Asked, End, Issued, Outcome, Phase, Place};
+use record::{Answer, Asked, End, Issued, Outcome, OutcomeParameters, Phase, Place};
 ghost use mathlib.Core.Path.{_≡_};
 ghost use Prim.Native.Nat.{_≤_};
 ghost use lib.ListN.{length};
 ghost use Rattle.dictionary.specs.Rows.{storeSize};
 ghost use Rattle.record.specs.Session.{sessionOf};
-ghost use Rattle.layout.specs.Layout.{recordSize, choiceFrom, outcomeFrom, codeOf, phaseOf, codeIn, sameCode, withHead, decoded, heldOf, Wrote, Decodes};
+ghost use Rattle.layout.specs.Layout.{recordSize, choiceFrom, methodFrom, outcomeFrom, codeOf, phaseOf, codeIn, sameCode, withHead, decoded, heldOf, Wrote, Decodes};
 ghost use Rattle.layout.specs.Layout.{version as layoutVersion};
 ghost use Rattle.layout.specs.Word.{commandWord, outcomeWord, refusalWord, wordOf};
 
 // The layout's version, the first byte of every record.
-const VERSION: u8 = 1;
+const VERSION: u8 = 2;
 
 // How many bytes stand in front of the store.
-pub const HEAD: usize = 5;
+pub const HEAD: usize = 6;
 
 // How many bytes a record takes.
 pub const RECORD_SIZE: usize = HEAD + SIZE;
@@ -38,6 +39,7 @@ pub struct Code {
     pub number: u8,
     pub datum: u8,
     pub reason: u8,
+    pub method: u8,
 }
 
 // The phase and the count that a record's head has.
@@ -55,9 +57,10 @@ pub enum Held {
 // A command's length in a word: what a word can tell apart from an outcome.
 const MOST_LENGTH: usize = 65535;
 
-// In front of an outcome and its reason, and of a refusal's number.
+// The kinds of an outcome and of a refusal in a word, and a unit of the method's number.
 const OUTCOME: u32 = 65536;
 const REFUSAL: u32 = 131072;
+const METHOD: u32 = 16777216;
 
 // How many bytes a host lends for a session.
 pub fn session_size() -> usize
@@ -99,6 +102,7 @@ pub fn put_head(phase: Phase, count: u8, bytes: &mut [u8])
     bytes[2] = code.datum;
     bytes[3] = code.reason;
     bytes[4] = count;
+    bytes[5] = code.method;
 }
 
 // Takes apart the record in front of the bytes: its store goes into the one that is lent.
@@ -162,15 +166,18 @@ fn command_word(issued: Issued) -> u32
     size as u32
 }
 
-// An outcome with its reason.
-fn outcome_word(end: End) -> u32
+// An outcome with its reason and the method.
+fn outcome_word(end: OutcomeParameters) -> u32
     ensures { λ r. ⌜ r ≡ outcomeWord end ⌝ }
 {
     let outcome = end.outcome;
-    OUTCOME + basics::wide32(record::outcome_number(outcome)) * 256 + basics::wide32(end.reason)
+    basics::wide32(end.method) * METHOD
+        + OUTCOME
+        + basics::wide32(record::outcome_number(outcome)) * 256
+        + basics::wide32(end.reason)
 }
 
-// The three bytes that enough bytes have for the code.
+// The four bytes that enough bytes have for the code.
 fn code_in(bytes: &[u8]) -> Code
     requires { ⌜ recordSize ≤ length (now bytes) ⌝ }
     ensures { λ r. ⌜ r ≡ codeIn (now (bytes .entry)) ⌝ }
@@ -179,6 +186,7 @@ fn code_in(bytes: &[u8]) -> Code
         number: bytes[1],
         datum: bytes[2],
         reason: bytes[3],
+        method: bytes[5],
     }
 }
 
@@ -191,23 +199,28 @@ fn code_of(phase: Phase) -> Code
             number: ON_FRESH,
             datum: 0,
             reason: 0,
+            method: 0,
         },
         Phase::Options => Code {
             number: ON_OPTIONS,
             datum: 0,
             reason: 0,
+            method: 0,
         },
         Phase::Record(place) => Code {
             number: ON_RECORD,
             datum: place.number,
             reason: 0,
+            method: 0,
         },
         Phase::Cryptogram(asked) => {
             let choice = asked.choice;
+            let method = asked.method;
             Code {
                 number: ON_CRYPTOGRAM,
                 datum: analysis::choice::p1(choice),
                 reason: 0,
+                method: analysis::verification::method_number(method),
             }
         }
         Phase::Ended(end) => {
@@ -216,6 +229,7 @@ fn code_of(phase: Phase) -> Code
                 number: ON_ENDED,
                 datum: record::outcome_number(outcome),
                 reason: end.reason,
+                method: 0,
             }
         }
     }
@@ -236,7 +250,7 @@ fn phase_of(code: Code) -> Phase
         return Phase::Record(Place { number: code.datum });
     }
     if number == ON_CRYPTOGRAM {
-        return Phase::Cryptogram(Asked { choice: choice_from(code.datum) });
+        return Phase::Cryptogram(Asked { choice: choice_from(code.datum), method: method_from(code.method) });
     }
     Phase::Ended(End { outcome: outcome_from(code.datum), reason: code.reason })
 }
@@ -251,7 +265,10 @@ fn is_same(a: Code, b: Code) -> bool
     if a.datum != b.datum {
         return false;
     }
-    a.reason == b.reason
+    if a.reason != b.reason {
+        return false;
+    }
+    a.method == b.method
 }
 
 // The choice that P1 of the command asks for; a decline where no choice has that P1.
@@ -265,6 +282,18 @@ fn choice_from(p1: u8) -> Choice
         return Choice::Online;
     }
     Choice::Decline
+}
+
+// The method of a number; the last one where no method has that number.
+fn method_from(number: u8) -> Method
+    ensures { λ r. ⌜ r ≡ methodFrom number ⌝ }
+{
+    match number {
+        0 => Method::NoCvm,
+        1 => Method::Signature,
+        2 => Method::OnlinePin,
+        _ => Method::OfflinePin,
+    }
 }
 
 // The outcome of a number; the last one where no outcome has that number.

@@ -7,12 +7,12 @@ use native.Mathlib.Omega.{arith}
 use lib.ListN.{length}
 use Rattle.basics.specs.Choice.{both, every}
 use Rattle.dictionary.specs.Rows.{rows, rowAt, rowCount, storeSize, find}
-use Rattle.dictionary.specs.Named.{row5A, row82, row8C, row94, row95, row5F24}
+use Rattle.dictionary.specs.Named.{row5A, row82, row8C, row94, row95, row9F34, row5F24}
 use Rattle.dictionary.specs.declared.Found.the-variants.{At}
 use Rattle.dictionary.specs.Form.{fitting}
 use Rattle.dictionary.proofs.Fit.{fits-length}
-use Rattle.dictionary.proofs.Named.{at-5A, at-82, at-8C, at-94, at-95, at-5F24}
-use Rattle.store.specs.Place.{Value, bytesOf, valueOf, putAt}
+use Rattle.dictionary.proofs.Named.{at-5A, at-82, at-8C, at-94, at-95, at-5F24, at-9F34}
+use Rattle.store.specs.Place.{Value, bytesOf, valueOf, putAt, isThere}
 use Rattle.locator.specs.Records.{accepts, total}
 use Rattle.analysis.specs.Bits.{has}
 use Rattle.record.specs.declared.Outcome.{Outcome}
@@ -110,5 +110,6 @@ cryptogram-with-any-95 s a e q v w =
       some-5F24 = subst (λ (x : Value). 0 < length (bytesOf x)) (same 0x5F24 row5F24 at-5F24 (λ z. omega arith)) (c .some-5F24);
       some-5A = subst (λ (x : Value). 0 < length (bytesOf x)) (same 0x5A row5A at-5A (λ z. omega arith)) (c .some-5A);
       some-8C = subst (λ (x : Value). 0 < length (bytesOf x)) (same 0x8C row8C at-8C (λ z. omega arith)) (c .some-8C);
+      verified = subst (λ (x : Value). isThere x ≡ true) (same 0x9F34 row9F34 at-9F34 (λ z. omega arith)) (c .verified);
       count = c .count ∙ ap (λ (x : Value). 2 + total (bytesOf x)) (same 0x94 row94 at-94 (λ z. omega arith));
     }

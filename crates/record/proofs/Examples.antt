@@ -18,6 +18,7 @@ use Rattle.store.specs.Held.{lengthIn}
 use Rattle.locator.specs.Entry.{keeps}
 use Rattle.locator.specs.Records.{entries, wholeEntries, sumOf, accepts}
 use Rattle.analysis.specs.declared.choice.Choice.{Choice}
+use Rattle.analysis.specs.declared.verification.Method.{Method}
 use Rattle.record.specs.declared.Outcome.{Outcome}
 use Rattle.record.specs.declared.Phase.{Phase}
 use Rattle.record.specs.Numbers.{outcomeNumber, goesWith, outcomeFor}
@@ -82,16 +83,17 @@ storing l = without 0 l
 abbrev started : List (ℕ × List ℕ)
 started =
     (0x9A, 0x25 ∷ 0x12 ∷ 0x31 ∷ []) ∷ (0x9C, 0x00 ∷ []) ∷ (0x9F02, 0 ∷ 0 ∷ 0 ∷ 0 ∷ 0x10 ∷ 0x00 ∷ []) ∷ (0x9F09, 0 ∷ 2 ∷ []) ∷ (0x9F1A, 0x08 ∷ 0x40 ∷ [])
-    ∷ (0x9F35, 0x22 ∷ []) ∷ (0x9F37, 1 ∷ 2 ∷ 3 ∷ 4 ∷ []) ∷ (0xDF8120, replicate 5 0) ∷ (0xDF8121, replicate 5 0) ∷ (0xDF8122, replicate 5 0)
-    ∷ (0xDF8123, replicate 6 0) ∷ (0xDF8124, replicate 6 0) ∷ (0x95, replicate 5 0) ∷ []
+    ∷ (0x9F33, 0xE0 ∷ 0x68 ∷ 0xC8 ∷ []) ∷ (0x9F35, 0x22 ∷ []) ∷ (0x9F37, 1 ∷ 2 ∷ 3 ∷ 4 ∷ []) ∷ (0xDF8120, replicate 5 0) ∷ (0xDF8121, replicate 5 0) ∷ (0xDF8122, replicate 5 0)
+    ∷ (0xDF8123, replicate 6 0) ∷ (0xDF8124, replicate 6 0) ∷ (0xDF8126, replicate 6 0) ∷ (0x95, replicate 5 0) ∷ []
 
 -- EMV mode and a locator of two records
 abbrev opened : List (ℕ × List ℕ)
 opened = (0x82, 0x00 ∷ 0x80 ∷ []) ∷ (0x94, 0x08 ∷ 1 ∷ 2 ∷ 0 ∷ []) ∷ started
 
--- what the cryptogram needs
+-- what the cryptogram needs, and the results of the verification
 abbrev complete : List (ℕ × List ℕ)
-complete = (0x5F24, 0x25 ∷ 0x12 ∷ 0x31 ∷ []) ∷ (0x5A, 0x12 ∷ 0x3F ∷ []) ∷ (0x8C, 0x95 ∷ 0x05 ∷ []) ∷ opened
+complete =
+    (0x5F24, 0x25 ∷ 0x12 ∷ 0x31 ∷ []) ∷ (0x5A, 0x12 ∷ 0x3F ∷ []) ∷ (0x8C, 0x95 ∷ 0x05 ∷ []) ∷ (0x9F34, 0x3F ∷ 0x00 ∷ 0x00 ∷ []) ∷ opened
 
 -- ---- fresh
 
@@ -113,18 +115,19 @@ options-counts = refl
 
 -- each object that a start must bring is asked for, and so is 95
 options-lacking : map (λ t. inRanges (sessionOf Phase.Options 1 (without t started)))
-    (0x9A ∷ 0x9C ∷ 0x9F02 ∷ 0x9F09 ∷ 0x9F1A ∷ 0x9F35 ∷ 0x9F37 ∷ 0xDF8120 ∷ 0xDF8121 ∷ 0xDF8122 ∷ 0xDF8123 ∷ 0xDF8124 ∷ 0x95 ∷ [])
-    ≡ replicate 13 false
+    (0x9A ∷ 0x9C ∷ 0x9F02 ∷ 0x9F09 ∷ 0x9F1A ∷ 0x9F33 ∷ 0x9F35 ∷ 0x9F37 ∷ 0xDF8120 ∷ 0xDF8121 ∷ 0xDF8122 ∷ 0xDF8123 ∷ 0xDF8124 ∷ 0xDF8126 ∷ 0x95 ∷ [])
+    ≡ replicate 15 false
 unfolding inRanges allFit objectFits lengthIn lengthByte fitting digitsFit numeric nibbles putAt placeOf valueIn valueAt placeAt held offsetIn find past rows
     optionsRanges running brought isBrought cryptogramAbsent listed every both either if
 options-lacking = refl
 
 -- 82; 94; a result bit; each object of the cryptogram's answer; a terminal type that is not listed; a digit that is none; a
--- length over the row's and one under it. Then an account number, and an empty one
+-- length over the row's and two under it. Then an account number, an empty one, the least list of rules, and 9F34
 options-with : map (λ x. inRanges (sessionOf Phase.Options 1 (storing (x ∷ started))))
     ((0x82, 0x00 ∷ 0x80 ∷ []) ∷ (0x94, 0x08 ∷ 1 ∷ 2 ∷ 0 ∷ []) ∷ (0x95, 0 ∷ 0 ∷ 0 ∷ 0 ∷ 1 ∷ []) ∷ (0x9F10, []) ∷ (0x9F26, replicate 8 0) ∷ (0x9F27, 0 ∷ []) ∷ (0x9F36, 0 ∷ 1 ∷ [])
-    ∷ (0x9F35, 0x17 ∷ []) ∷ (0x9A, 0x25 ∷ 0x12 ∷ 0x3A ∷ []) ∷ (0xDF8124, replicate 7 0) ∷ (0x9F07, 0xFF ∷ []) ∷ (0x5A, 0x12 ∷ 0x3F ∷ []) ∷ (0x5A, []) ∷ [])
-    ≡ false ∷ false ∷ false ∷ false ∷ false ∷ false ∷ false ∷ false ∷ false ∷ false ∷ false ∷ true ∷ true ∷ []
+    ∷ (0x9F35, 0x17 ∷ []) ∷ (0x9A, 0x25 ∷ 0x12 ∷ 0x3A ∷ []) ∷ (0xDF8124, replicate 7 0) ∷ (0x9F07, 0xFF ∷ []) ∷ (0x8E, replicate 9 0)
+    ∷ (0x5A, 0x12 ∷ 0x3F ∷ []) ∷ (0x5A, []) ∷ (0x8E, replicate 10 0) ∷ (0x9F34, 0x3F ∷ 0x00 ∷ 0x00 ∷ []) ∷ [])
+    ≡ false ∷ false ∷ false ∷ false ∷ false ∷ false ∷ false ∷ false ∷ false ∷ false ∷ false ∷ false ∷ true ∷ true ∷ true ∷ true ∷ []
 unfolding inRanges allFit objectFits lengthIn lengthByte fitting digitsFit numeric compressed digitsThenFs nibbles putAt placeOf valueIn valueAt placeAt held offsetIn find past rows
     optionsRanges running brought isBrought cryptogramAbsent listed every both either if
 options-with = refl
@@ -150,15 +153,15 @@ record-with = refl
 -- ---- waiting on the cryptogram: 2 + R commands
 
 abbrev onCryptogram : ℕ → List ℕ → Bool
-onCryptogram n b = inRanges (sessionOf (Phase.Cryptogram (record { choice = Choice.Online })) n b)
+onCryptogram n b = inRanges (sessionOf (Phase.Cryptogram (record { choice = Choice.Online; method = Method.OnlinePin })) n b)
 
 cryptogram-counts : map (λ n. onCryptogram n (storing complete)) (3 ∷ 4 ∷ 5 ∷ []) ≡ false ∷ true ∷ false ∷ []
 unfolding inRanges allFit objectFits lengthIn lengthByte fitting digitsFit numeric compressed digitsThenFs nibbles putAt placeOf valueIn valueAt placeAt held offsetIn find past rows
     cryptogramRanges running brought isBrought cryptogramAbsent completed listed accepts wholeEntries entries keeps sumOf every both either if
 cryptogram-counts = refl
 
--- each needed object absent, and 82 and 94
-cryptogram-lacking : map (λ t. onCryptogram 4 (without t complete)) (0x5F24 ∷ 0x5A ∷ 0x8C ∷ 0x82 ∷ 0x94 ∷ 0x95 ∷ []) ≡ replicate 6 false
+-- each needed object absent, 9F34, and 82 and 94
+cryptogram-lacking : map (λ t. onCryptogram 4 (without t complete)) (0x5F24 ∷ 0x5A ∷ 0x8C ∷ 0x9F34 ∷ 0x82 ∷ 0x94 ∷ 0x95 ∷ []) ≡ replicate 7 false
 unfolding inRanges allFit objectFits lengthIn lengthByte fitting digitsFit numeric compressed digitsThenFs nibbles putAt placeOf valueIn valueAt placeAt held offsetIn find past rows
     cryptogramRanges running brought isBrought cryptogramAbsent completed listed accepts wholeEntries entries keeps sumOf every both either if
 cryptogram-lacking = refl

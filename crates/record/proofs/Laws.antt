@@ -160,10 +160,12 @@ cryptogram-clauses n b e =
     let p = both-right _ _ e in
     let q = both-right _ _ p in
     let k = both-left _ _ q in
-    let u = both-right _ _ q in
+    let v = both-right _ _ q in
+    let u = both-right _ _ v in
     record {
       runs = runs b (both-left _ _ e);
       mode = both-left _ _ p;
+      verified = both-left _ _ v;
       locator = both-left _ _ u;
       some-5F24 = ltb-true 0 _ (both-left _ _ k);
       some-5A = ltb-true 0 _ (both-left _ _ (both-right _ _ k));
@@ -177,8 +179,9 @@ cryptogram-passes n b c =
     both-yes _ _ (running-passes b (c .runs))
     (both-yes _ _ (c .mode)
     (both-yes _ _ (both-yes _ _ (lt-ltb 0 _ (c .some-5F24)) (both-yes _ _ (lt-ltb 0 _ (c .some-5A)) (both-yes _ _ (lt-ltb 0 _ (c .some-8C)) refl)))
+    (both-yes _ _ (c .verified)
     (both-yes _ _ (c .locator)
-    (eq-eqb n (2 + recordsIn b) (c .count)))))
+    (eq-eqb n (2 + recordsIn b) (c .count))))))
 
 pub ended-clauses : (x : End) (n : ℕ) → endedRanges x n ≡ true → OnEnded x n
 unfolding endedRanges

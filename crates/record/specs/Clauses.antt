@@ -66,7 +66,8 @@ pub record OnRecord (p : Place) (n : ℕ) (b : List ℕ) : Type 0 where
   pub last : p .number ≤ recordsIn b
   pub count : n ≡ 1 + p .number
 
--- waiting on the cryptogram; that one of the three choices was asked for is in the record's type
+-- waiting on the cryptogram; that one of the three choices was asked for, and that a method was chosen, is in the
+-- record's type
 pub record OnCryptogram (n : ℕ) (b : List ℕ) : Type 0 where
   pub runs : Running b
   pub mode : emvMode b ≡ true
@@ -74,6 +75,7 @@ pub record OnCryptogram (n : ℕ) (b : List ℕ) : Type 0 where
   pub some-5F24 : 0 < length (bytesIn b 0x5F24)
   pub some-5A : 0 < length (bytesIn b 0x5A)
   pub some-8C : 0 < length (bytesIn b 0x8C)
+  pub verified : holds b 0x9F34 ≡ true
   pub count : n ≡ 2 + recordsIn b
 
 -- ended

@@ -112,13 +112,14 @@ recordRanges p n b =
     and between 1 (p .number) (recordsIn b)
     and n =? 1 + p .number
 
--- on the cryptogram: EMV mode, what it needs is there, an accepted locator, 2 + R commands; that it holds one of the
--- three choices is the phase's type
+-- on the cryptogram: EMV mode, what it needs is there, the verification's results 9F34, an accepted locator, 2 + R
+-- commands; that it holds one of the three choices and a method is the phase's type
 unfoldable pub cryptogramRanges : ℕ → List ℕ → Bool
 cryptogramRanges n b =
     running b
     and emvMode b
     and completed b
+    and holds b 0x9F34
     and accepts (locatorIn b)
     and n =? 2 + recordsIn b
 

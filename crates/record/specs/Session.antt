@@ -8,6 +8,7 @@ use Rattle.dictionary.specs.Rows.{storeSize}
 use Rattle.store.specs.declared.Store.{Store}
 use Rattle.record.specs.declared.Outcome.{Outcome}
 use Rattle.record.specs.declared.End.{End}
+use Rattle.record.specs.declared.OutcomeParameters.{OutcomeParameters}
 use Rattle.record.specs.declared.Phase.{Phase}
 use Rattle.record.specs.declared.Session.{Session}
 use Rattle.record.specs.declared.Answer.{Answer}
@@ -51,6 +52,10 @@ storedSession s b = record { phase = s .phase; count = s .count; store = b }
 abbrev pub endOf : Outcome → ℕ → End
 endOf o n = record { outcome = o; reason = n }
 
+-- what an outcome tells: the outcome with its reason, and the method's number (document 02, Item 5)
+abbrev pub parametersOf : Outcome → ℕ → ℕ → OutcomeParameters
+parametersOf o n m = record { outcome = o; reason = n; method = m }
+
 -- a refusal, by its number; the session is as it was
 abbrev pub refusedReply : Session → ℕ → Reply
 refusedReply s n = record { session = s; answer = Answer.Refused (record { number = n }) }
@@ -65,13 +70,13 @@ replyOf t b = record { session = sessionOf (t .phase) (t .count) b; answer = t .
 abbrev pub refusedTurn : Phase → ℕ → ℕ → Turn
 refusedTurn p k n = record { phase = p; count = k; answer = Answer.Refused (record { number = n }) }
 
--- the session ends with an outcome and a reason
-abbrev pub endsTurn : ℕ → Outcome → ℕ → Turn
-endsTurn k o n = record { phase = Phase.Ended (endOf o n); count = k; answer = Answer.Outcome (endOf o n) }
+-- the session ends with an outcome and a reason, and tells the method by its number m; the record keeps no method
+abbrev pub endsTurn : ℕ → ℕ → Outcome → ℕ → Turn
+endsTurn m k o n = record { phase = Phase.Ended (endOf o n); count = k; answer = Answer.Outcome (parametersOf o n m) }
 
 -- the session ends for a reason other than 0
-abbrev pub failsTurn : ℕ → ℕ → Turn
-failsTurn k n = endsTurn k (outcomeFor n) n
+abbrev pub failsTurn : ℕ → ℕ → ℕ → Turn
+failsTurn m k n = endsTurn m k (outcomeFor n) n
 
 -- a command of n bytes is handed out, and the session waits in a phase on its answer
 abbrev pub commandsTurn : Phase → ℕ → ℕ → Turn

@@ -5,8 +5,10 @@
 // by `fresh`, `waiting` and `reply_of`, and a turn only by `refused`, `ends`, `fails` and `commands`: a new
 // field is added there.
 use analysis::choice::Choice;
+use analysis::verification::Method;
 use dictionary::{
-    Attributes, ROWS, ROW_5A, ROW_5F24, ROW_82, ROW_8C, ROW_94, ROW_95, ROW_9F10, ROW_9F26, ROW_9F27, ROW_9F35, ROW_9F36, SIZE,
+    Attributes, ROWS, ROW_5A, ROW_5F24, ROW_82, ROW_8C, ROW_94, ROW_95, ROW_9F10, ROW_9F26, ROW_9F27, ROW_9F34, ROW_9F35, ROW_9F36,
+    SIZE,
 };
 use locator::Checked;
 use store::Store;
@@ -44,9 +46,10 @@ pub struct Place {
     pub number: u8,
 }
 
-// The cryptogram that is awaited: what was asked for.
+// The cryptogram that is awaited: what was asked for, and the method of cardholder verification.
 pub struct Asked {
     pub choice: Choice,
+    pub method: Method,
 }
 
 // Fresh; waiting on processing options, on a record or on the cryptogram; or ended.
@@ -74,9 +77,16 @@ pub struct Refusal {
     pub number: u8,
 }
 
+// What an outcome tells: the outcome with its reason, and the number of the method of cardholder verification.
+pub struct OutcomeParameters {
+    pub outcome: Outcome,
+    pub reason: u8,
+    pub method: u8,
+}
+
 pub enum Answer {
     Command(Issued),
-    Outcome(End),
+    Outcome(OutcomeParameters),
     Refused(Refusal),
 }
 
@@ -160,23 +170,22 @@ pub fn refused(phase: Phase, count: u8, number: u8) -> Turn
     }
 }
 
-// The session ends with an outcome and its reason.
-pub fn ends(count: u8, outcome: Outcome, reason: u8) -> Turn
-    ensures { λ r. ⌜ r ≡ endsTurn count outcome reason ⌝ }
+// The session ends with an outcome and its reason, and tells the method; the record keeps no method.
+pub fn ends(count: u8, outcome: Outcome, reason: u8, method: u8) -> Turn
+    ensures { λ r. ⌜ r ≡ endsTurn method count outcome reason ⌝ }
 {
-    let end = End { outcome, reason };
     Turn {
-        phase: Phase::Ended(end),
+        phase: Phase::Ended(End { outcome, reason }),
         count,
-        answer: Answer::Outcome(end),
+        answer: Answer::Outcome(OutcomeParameters { outcome, reason, method }),
     }
 }
 
 // The session ends for a reason other than 0, with the outcome that goes with it.
-pub fn fails(count: u8, reason: u8) -> Turn
-    ensures { λ r. ⌜ r ≡ failsTurn count reason ⌝ }
+pub fn fails(count: u8, reason: u8, method: u8) -> Turn
+    ensures { λ r. ⌜ r ≡ failsTurn method count reason ⌝ }
 {
-    ends(count, outcome_for(reason), reason)
+    ends(count, outcome_for(reason), reason, method)
 }
 
 // The session waits, in a phase, on the answer to a command of so many bytes.
@@ -292,7 +301,7 @@ fn record_keeps(place: Place, count: u8, bytes: &[u8]) -> bool
     basics::wide(count) == 1 + k
 }
 
-// Waiting on the cryptogram: every record was asked for, and what the choice needs is there.
+// Waiting on the cryptogram: every record was asked for, what the choice needs is there, and 9F34.
 fn cryptogram_keeps(count: u8, bytes: &[u8]) -> bool
     requires { ⌜ length (now bytes) ≡ storeSize ⌝ }
     ensures { λ r. ⌜ r ≡ both (allFit (now (bytes .entry))) (cryptogramRanges count (now (bytes .entry))) ⌝ }
@@ -304,6 +313,9 @@ fn cryptogram_keeps(count: u8, bytes: &[u8]) -> bool
         return false;
     }
     if !is_complete(bytes) {
+        return false;
+    }
+    if !store::is_there(bytes, ROW_9F34) {
         return false;
     }
     let c = locator::check(store::value(bytes, ROW_94));

@@ -16,8 +16,8 @@ use borrow.Author.Tests.{lt-ltb, le-ltb, eq-eqb, ne-eqb, not-true, not-false}
 use Rattle.basics.specs.Choice.{if}
 use Rattle.basics.proofs.Laws.{if-yes, if-no, if-ind}
 use Rattle.dictionary.specs.Rows.{rows, rowAt}
-use Rattle.dictionary.specs.Named.{placeFound, placeOf, row94, row95}
-use Rattle.dictionary.proofs.Named.{at-94, at-95}
+use Rattle.dictionary.specs.Named.{placeFound, placeOf, row94, row95, row9F34}
+use Rattle.dictionary.proofs.Named.{at-94, at-95, at-9F34}
 use Rattle.store.specs.Place.{bytesOf, valueAt, putAt}
 use Rattle.locator.specs.declared.CardRecord.{CardRecord}
 use Rattle.locator.specs.declared.Found.{Found}
@@ -35,7 +35,9 @@ use Rattle.reading.specs.Answer as reading
 use Rattle.reading.specs.Taking.{Item}
 use Rattle.reading.proofs.Verdict.{the-type as verdict-type}
 use Rattle.analysis.specs.declared.choice.Choice.{Choice}
-use Rattle.analysis.specs.Action.{aboveLimit, resultOf, chosen}
+use Rattle.analysis.specs.Action.{aboveLimit, findingsOf, chosen}
+use Rattle.analysis.specs.Verification.{notApplicable}
+use Rattle.analysis.specs.declared.action.Findings.{Findings}
 use Rattle.record.specs.declared.Outcome.{Outcome}
 use Rattle.record.specs.declared.End.{End}
 use Rattle.record.specs.declared.Asked.{Asked}
@@ -59,9 +61,9 @@ use Rattle.session.specs.declared.Mode.{Mode}
 use Rattle.session.specs.declared.Limit.{Limit}
 use Rattle.session.specs.declared.Decided.{Decided}
 use Rattle.session.specs.declared.Decision.{Decision}
-use Rattle.session.specs.Steps.{Step, Did, withoutCommand, refuses, endBy, fails, withResults, leastBuffer, admitted, handOut}
+use Rattle.session.specs.Steps.{Step, Did, withoutCommand, refuses, endBy, fails, withResults, withFindings, leastBuffer, admitted, handOut}
 use Rattle.session.specs.Start.{askOptions, startLoaded, startIn}
-use Rattle.session.specs.Answer.{askFound, optionsThere, storedReason, optionsRead, askCryptogram, analysed, recordsRead, decision, endFor, cryptogramThere, cryptogramEnd}
+use Rattle.session.specs.Answer.{askFound, optionsThere, storedReason, optionsRead, askCryptogram, askedIn, analysed, recordsRead, decision, endFor, cryptogramThere, cryptogramEnd}
 use Rattle.session.specs.Inner.{refusalNumber, neededNumber, modeNumber, limitNumber, decidedEnd}
 
 -- ---- a step by an equation
@@ -195,6 +197,22 @@ pub results-stored : (b v : List ℕ) {k : List ℕ} → k ≡ putAt rows b row9
 unfolding withResults
 results-stored b v g = ap (λ (n : ℕ). putAt rows b n v) results-place ∙ sym g
 
+-- 9F34 has room for the results of the verification
+pub verification-fits : rowAt row9F34 .greatest ≡ 3
+unfolding rows
+verification-fits = refl
+
+pub verification-place : placeOf 0x9F34 ≡ row9F34
+unfolding placeOf
+verification-place = ap placeFound at-9F34
+
+-- what was found as it is stored
+pub findings-stored : (b : List ℕ) (f : Findings) {k l : List ℕ} → k ≡ putAt rows b row9F34 (f .results) → l ≡ putAt rows k row95 (f .bits) → withFindings b f ≡ l
+unfolding withFindings
+findings-stored b f p q =
+    ap (λ (n : ℕ). withResults (putAt rows b n (f .results)) (f .bits)) verification-place
+    ∙ ap (λ (d : List ℕ). withResults d (f .bits)) (sym p) ∙ results-stored _ (f .bits) q
+
 -- ---- start
 
 -- a phase other than fresh
@@ -234,36 +252,36 @@ found-there v k {r} {w} f e =
 
 -- ---- a command that carries a filled list, by what was written
 
-module _ (n : ℕ) (d : List ℕ) (p : Phase) (buf : List ℕ) {b : List ℕ} {t : Turn} {w : Written} where
+module _ (m n : ℕ) (d : List ℕ) (p : Phase) (buf : List ℕ) {b : List ℕ} {t : Turn} {w : Written} where
   pub handed-none : (x : Option (List ℕ)) → w ≡ writtenOf x → b ≡ bufferWith x buf → w ≡ NoCommand
-      → t ≡ failsTurn n reasonDataList → Did (replyOf t d) b (handOut n d p buf x)
+      → t ≡ failsTurn m n reasonDataList → Did (replyOf t d) b (handOut m n d p buf x)
   handed-none none e f g h = record { reply = reply-as d h; buffer = f }
   handed-none (some c) e f g h = let z : _≡_ {A = ℕ} 0 1 = cc in absurd (omega arith)
 
-  pub handed-some : {m : Handed} (x : Option (List ℕ)) → w ≡ writtenOf x → b ≡ bufferWith x buf → w ≡ Command m
-      → t ≡ commandsTurn p (n + 1) (m .len) → Did (replyOf t d) b (handOut n d p buf x)
+  pub handed-some : {k : Handed} (x : Option (List ℕ)) → w ≡ writtenOf x → b ≡ bufferWith x buf → w ≡ Command k
+      → t ≡ commandsTurn p (n + 1) (k .len) → Did (replyOf t d) b (handOut m n d p buf x)
   handed-some none e f g h = let z : _≡_ {A = ℕ} 0 1 = cc in absurd (omega arith)
-  handed-some {m} (some c) e f g h =
-      let z : m ≡ record { len = length c } = cc in
+  handed-some {k} (some c) e f g h =
+      let z : k ≡ record { len = length c } = cc in
       record { reply = reply-as d (h ∙ ap (λ (y : Handed). commandsTurn p (n + 1) (y .len)) z); buffer = f }
 
 module _ (n : ℕ) (b buf : List ℕ) where
   -- ---- after the processing options
 
   -- a reason of the store ends the session
-  stops : (m : ℕ) → storedReason b ≡ suc m → optionsRead n b buf ≡ fails n b (suc m) buf
+  stops : (m : ℕ) → storedReason b ≡ suc m → optionsRead n b buf ≡ fails notApplicable n b (suc m) buf
   unfolding optionsRead
-  stops m e = if-no _ _ (ne-eqb (storedReason b) 0 (λ z. omega (arith, z, e))) ∙ ap (λ (r : ℕ). fails n b r buf) e
+  stops m e = if-no _ _ (ne-eqb (storedReason b) 0 (λ z. omega (arith, z, e))) ∙ ap (λ (r : ℕ). fails notApplicable n b r buf) e
 
-  pub options-missing : optionsThere b ≡ false → optionsRead n b buf ≡ fails n b reasonMissing buf
+  pub options-missing : optionsThere b ≡ false → optionsRead n b buf ≡ fails notApplicable n b reasonMissing buf
   unfolding storedReason
   options-missing e = stops 3 (if-yes _ _ (ap not e))
 
-  pub options-mode : optionsThere b ≡ true → emvMode b ≡ false → optionsRead n b buf ≡ fails n b reasonMode buf
+  pub options-mode : optionsThere b ≡ true → emvMode b ≡ false → optionsRead n b buf ≡ fails notApplicable n b reasonMode buf
   unfolding storedReason
   options-mode e m = stops 10 (if-no _ _ (ap not e) ∙ if-yes _ _ (ap not m))
 
-  pub options-locator : optionsThere b ≡ true → emvMode b ≡ true → accepts (locatorIn b) ≡ false → optionsRead n b buf ≡ fails n b reasonLocator buf
+  pub options-locator : optionsThere b ≡ true → emvMode b ≡ true → accepts (locatorIn b) ≡ false → optionsRead n b buf ≡ fails notApplicable n b reasonLocator buf
   unfolding storedReason
   options-locator e m a = stops 4 (if-no _ _ (ap not e) ∙ if-no _ _ (ap not m) ∙ if-yes _ _ (ap not a))
 
@@ -275,11 +293,11 @@ module _ (n : ℕ) (b buf : List ℕ) where
 
   -- ---- after the last record
 
-  pub records-limit : aboveLimit b ≡ true → recordsRead n b buf ≡ fails n b reasonAboveLimit buf
+  pub records-limit : aboveLimit b ≡ true → recordsRead n b buf ≡ fails notApplicable n b reasonAboveLimit buf
   unfolding recordsRead
   records-limit e = if-yes _ _ e
 
-  pub records-missing : aboveLimit b ≡ false → completed b ≡ false → recordsRead n b buf ≡ fails n b reasonMissing buf
+  pub records-missing : aboveLimit b ≡ false → completed b ≡ false → recordsRead n b buf ≡ fails notApplicable n b reasonMissing buf
   unfolding recordsRead
   records-missing e f = if-no _ _ e ∙ if-yes _ _ (ap not f)
 
@@ -287,13 +305,15 @@ module _ (n : ℕ) (b buf : List ℕ) where
   unfolding recordsRead
   records-analysed e f = if-no _ _ e ∙ if-no _ _ (ap not f)
 
-  -- the result bits as they are found, stored and chosen on
-  pub analysed-as : {r k : List ℕ} {x : Choice} → r ≡ resultOf b → x ≡ chosen b r → k ≡ putAt rows b row95 r → analysed n b buf ≡ askCryptogram n k x buf
-  unfolding analysed
-  analysed-as {r} e f g =
-      ap₂ (λ (c : List ℕ) (x : Choice). askCryptogram n c x buf)
-      (ap (withResults b) (sym e) ∙ results-stored b r g)
-      (ap (chosen b) (sym e) ∙ sym f)
+  -- what is found, stored and chosen on
+  pub analysed-as : {f : Findings} {k l : List ℕ} {x : Choice} → f ≡ findingsOf b → x ≡ chosen b (f .bits)
+      → k ≡ putAt rows b row9F34 (f .results) → l ≡ putAt rows k row95 (f .bits)
+      → analysed n b buf ≡ askCryptogram n l (record { choice = x; method = f .method }) buf
+  unfolding analysed askedIn
+  analysed-as {f} e c p q =
+      ap₂ (λ (d : List ℕ) (a : Asked). askCryptogram n d a buf)
+      (ap (withFindings b) (sym e) ∙ findings-stored b f p q)
+      (ap (λ (g : Findings). record { choice = chosen b (g .bits); method = g .method }) (sym e) ∙ ap (λ (y : Choice). record { choice = y; method = f .method }) (sym c))
 
 -- ---- the answer to the cryptogram
 

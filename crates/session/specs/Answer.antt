@@ -17,7 +17,8 @@ use Rattle.reading.specs.Answer.{readAnswer}
 use Rattle.data_list.specs.Commands.{generateAc}
 use Rattle.analysis.specs.declared.choice.Choice.{Choice}
 use Rattle.analysis.specs.Choice.{p1Of}
-use Rattle.analysis.specs.Action.{aboveLimit, resultOf, chosen}
+use Rattle.analysis.specs.Action.{aboveLimit, findingsOf, chosen}
+use Rattle.analysis.specs.Verification.{methodNumber, notApplicable}
 use Rattle.record.specs.declared.Outcome.{Outcome}
 use Rattle.record.specs.declared.End.{End}
 use Rattle.record.specs.declared.Place.{Place}
@@ -27,7 +28,7 @@ use Rattle.record.specs.declared.Session.{Session}
 use Rattle.record.specs.declared.Reply.{Reply}
 use Rattle.record.specs.Session.{stored, sessionOf, endOf}
 use Rattle.record.specs.Ranges.{emvMode, locatorIn, completed}
-use Rattle.session.specs.Steps.{Step, withoutCommand, refuses, ended, endBy, fails, commands, withResults}
+use Rattle.session.specs.Steps.{Step, withoutCommand, refuses, ended, endBy, fails, commands, withFindings}
 use Rattle.session.specs.Steps.{admitted, handOut}
 
 -- ---- the answer to processing options
@@ -38,7 +39,7 @@ recordPhase k = Phase.Record (record { number = k })
 
 -- the command for the k-th record of the stored locator; one that was accepted has one for each k from 1 to R
 abbrev pub askFound : ℕ → List ℕ → ℕ → List ℕ → Found → Step
-askFound n b k buf Found.Nothing = fails n b reasonLocator buf
+askFound n b k buf Found.Nothing = fails notApplicable n b reasonLocator buf
 askFound n b k buf (Found.At r) = commands n b (recordPhase k) (readRecord r) buf
 
 -- 82 and 94 are there
@@ -58,14 +59,14 @@ storedReason b =
 unfoldable pub optionsRead : ℕ → List ℕ → List ℕ → Step
 optionsRead n b buf =
     if storedReason b =? reasonNone then askFound n b 1 buf (recordAt (locatorIn b) 1)
-    else fails n b (storedReason b) buf
+    else fails notApplicable n b (storedReason b) buf
 
 -- a reason that the reading gives ends the session, and nothing of the answer is stored
 unfoldable pub optionsStep : ℕ → List ℕ → List ℕ → List ℕ → Step
 optionsStep n b card buf =
     let o = readAnswer Awaited.Options b card in
     if o .reason =? reasonNone then optionsRead n (o .store) buf
-    else fails n b (o .reason) buf
+    else fails notApplicable n b (o .reason) buf
 
 -- the reason that the rules give to an answer on the store b, 0 where they give none: the reading's, then the store's
 unfoldable pub optionsReason : List ℕ → List ℕ → ℕ
@@ -76,23 +77,24 @@ optionsReason b card =
 
 -- ---- the answer to a record
 
--- waiting on the cryptogram that a choice asked for
-abbrev pub cryptogramPhase : Choice → Phase
-cryptogramPhase c = Phase.Cryptogram (record { choice = c })
+-- the cryptogram is asked for by the choice; the session holds the method, and tells it where 8C cannot be filled
+unfoldable pub askCryptogram : ℕ → List ℕ → Asked → List ℕ → Step
+askCryptogram n b a buf =
+    handOut (methodNumber (a .method)) n b (Phase.Cryptogram a) buf (generateAc (p1Of (a .choice)) b)
 
--- the cryptogram is asked for by the choice
-unfoldable pub askCryptogram : ℕ → List ℕ → Choice → List ℕ → Step
-askCryptogram n b c buf = handOut n b (cryptogramPhase c) buf (generateAc (p1Of c) b)
+-- what is asked for: the method by the card's list, and the choice on the result bits with those of the verification
+unfoldable pub askedIn : List ℕ → Asked
+askedIn b = record { choice = chosen b (findingsOf b .bits); method = findingsOf b .method }
 
--- the result bits are stored, the choice is made on them, and 8C is filled after
+-- 9F34 and the result bits are stored, the choice is made on the bits, and 8C is filled after
 unfoldable pub analysed : ℕ → List ℕ → List ℕ → Step
-analysed n b buf = askCryptogram n (withResults b (resultOf b)) (chosen b (resultOf b)) buf
+analysed n b buf = askCryptogram n (withFindings b (findingsOf b)) (askedIn b) buf
 
 -- after the last record: the amount above the limit (6), an object that is needed missing (4)
 unfoldable pub recordsRead : ℕ → List ℕ → List ℕ → Step
 recordsRead n b buf =
-    if aboveLimit b then fails n b reasonAboveLimit buf
-    else if not (completed b) then fails n b reasonMissing buf
+    if aboveLimit b then fails notApplicable n b reasonAboveLimit buf
+    else if not (completed b) then fails notApplicable n b reasonMissing buf
     else analysed n b buf
 
 -- after a record: the k-th, if the locator names so many
@@ -107,11 +109,11 @@ recordRead p n b buf = nextFound n b (p .number + 1) buf (recordAt (locatorIn b)
 -- the answer is read by the file of the record that was asked for; a reason that the reading gives ends the session.
 -- A record in its ranges always has the one asked for.
 abbrev pub recordFound : Place → ℕ → List ℕ → List ℕ → List ℕ → Found → Step
-recordFound p n b card buf Found.Nothing = fails n b reasonLocator buf
+recordFound p n b card buf Found.Nothing = fails notApplicable n b reasonLocator buf
 recordFound p n b card buf (Found.At r) =
     let o = readAnswer (Awaited.Record (record { number = r .file })) b card in
     if o .reason =? reasonNone then recordRead p n (o .store) buf
-    else fails n b (o .reason) buf
+    else fails notApplicable n b (o .reason) buf
 
 -- the record that was asked for is the one at the place that is waited on
 unfoldable pub recordStep : Place → ℕ → List ℕ → List ℕ → List ℕ → Step
@@ -155,12 +157,12 @@ cryptogramEnd a b =
     if not (cryptogramThere b) then endBy reasonMissing
     else endFor (decision (a .choice) (byteIn b 0x9F27 1 / 64))
 
--- a reason that the reading gives comes first, and nothing of the answer is stored
+-- a reason that the reading gives comes first, and nothing of the answer is stored; every end tells the method held
 unfoldable pub cryptogramReply : Asked → ℕ → List ℕ → List ℕ → Reply
 cryptogramReply a n b card =
     let o = readAnswer Awaited.Cryptogram b card in
-    if o .reason =? reasonNone then ended n (o .store) (cryptogramEnd a (o .store))
-    else ended n b (endBy (o .reason))
+    if o .reason =? reasonNone then ended (methodNumber (a .method)) n (o .store) (cryptogramEnd a (o .store))
+    else ended (methodNumber (a .method)) n b (endBy (o .reason))
 
 -- ---- the call
 

@@ -5,6 +5,7 @@ use mathlib.Core.List.{List}
 use Prim.Native.Nat.{ℕ}
 use Rattle.basics.specs.Reason.{refusedPhase}
 use Rattle.data_list.specs.Commands.{processingOptions}
+use Rattle.analysis.specs.Verification.{notApplicable}
 use Rattle.record.specs.declared.Phase.{Phase}
 use Rattle.record.specs.declared.Session.{Session}
 use Rattle.record.specs.Session.{stored, sessionOf}
@@ -14,7 +15,7 @@ use Rattle.session.specs.Steps.{Step, refuses, withResults, admitted, ha
 
 -- processing options, asked for with the store that the start loaded
 unfoldable pub askOptions : ℕ → List ℕ → List ℕ → Step
-askOptions n b buf = handOut n b Phase.Options buf (processingOptions b)
+askOptions n b buf = handOut notApplicable n b Phase.Options buf (processingOptions b)
 
 -- a loading that is refused hands its number on (20, 23, 24); else 95 is zero at start
 abbrev pub startLoaded : Session → List ℕ → Loaded → Step

@@ -14,6 +14,8 @@ use Rattle.basics.specs.Reason.{refusedBuffer, refusedRanges, refusedPhase, rea
 use Rattle.dictionary.specs.Rows.{rows}
 use Rattle.dictionary.specs.Named.{placeOf}
 use Rattle.store.specs.Place.{putAt}
+use Rattle.analysis.specs.declared.action.Findings.{Findings}
+use Rattle.analysis.specs.Verification.{methodNumber, notApplicable}
 use Rattle.record.specs.declared.End.{End}
 use Rattle.record.specs.declared.Phase.{Phase}
 use Rattle.record.specs.declared.Session.{Session}
@@ -47,17 +49,17 @@ withoutCommand r buf = record { reply = r; buffer = buf }
 abbrev pub refuses : Session → ℕ → List ℕ → Step
 refuses s n buf = withoutCommand (refusedReply s n) buf
 
--- a session of count n and store b ends, with an outcome and its reason
-abbrev pub ended : ℕ → List ℕ → End → Reply
-ended n b e = replyOf (endsTurn n (e .outcome) (e .reason)) b
+-- a session of count n and store b ends, with an outcome and its reason; m is the number of the method that is told
+abbrev pub ended : ℕ → ℕ → List ℕ → End → Reply
+ended m n b e = replyOf (endsTurn m n (e .outcome) (e .reason)) b
 
 -- a reason other than 0, with its outcome
 abbrev pub endBy : ℕ → End
 endBy reason = endOf (outcomeFor reason) reason
 
 -- a session of count n and store b ends for a reason other than 0
-abbrev pub fails : ℕ → List ℕ → ℕ → List ℕ → Step
-fails n b reason buf = withoutCommand (ended n b (endBy reason)) buf
+abbrev pub fails : ℕ → ℕ → List ℕ → ℕ → List ℕ → Step
+fails m n b reason buf = withoutCommand (ended m n b (endBy reason)) buf
 
 -- a command fills the front of the buffer: a session of count n and store b waits on its answer in a phase, with one
 -- command more
@@ -68,6 +70,10 @@ commands n b phase command buf =
 -- the store with these result bits in 95
 unfoldable pub withResults : List ℕ → List ℕ → List ℕ
 withResults b v = putAt rows b (placeOf 0x95) v
+
+-- the store with what the analysis found: the results of the verification in 9F34, over what is there, and 95
+unfoldable pub withFindings : List ℕ → Findings → List ℕ
+withFindings b f = withResults (putAt rows b (placeOf 0x9F34) (f .results)) (f .bits)
 
 -- ---- refusals that every call checks first
 
@@ -85,18 +91,19 @@ admitted s buf step =
 -- ---- a command that carries a filled list
 
 -- a list that is broken, or that fills to a length no command can carry, ends the session with reason 7
-abbrev pub handOut : ℕ → List ℕ → Phase → List ℕ → Option (List ℕ) → Step
-handOut n b phase buf none = fails n b reasonDataList buf
-handOut n b phase buf (some command) = commands n b phase command buf
+abbrev pub handOut : ℕ → ℕ → List ℕ → Phase → List ℕ → Option (List ℕ) → Step
+handOut m n b phase buf none = fails m n b reasonDataList buf
+handOut m n b phase buf (some command) = commands n b phase command buf
 
 -- ---- link failed and stop
 
--- a running session ends for a reason, count and store untouched; others are refused (21)
+-- a running session ends for a reason, count and store untouched, and tells the method that it holds; others are
+-- refused (21)
 abbrev pub endsIn : Phase → Session → ℕ → List ℕ → Step
 endsIn Phase.Fresh s reason buf = refuses s refusedPhase buf
-endsIn Phase.Options s reason buf = fails (s .count) (stored s) reason buf
-endsIn (Phase.Record p) s reason buf = fails (s .count) (stored s) reason buf
-endsIn (Phase.Cryptogram a) s reason buf = fails (s .count) (stored s) reason buf
+endsIn Phase.Options s reason buf = fails notApplicable (s .count) (stored s) reason buf
+endsIn (Phase.Record p) s reason buf = fails notApplicable (s .count) (stored s) reason buf
+endsIn (Phase.Cryptogram a) s reason buf = fails (methodNumber (a .method)) (s .count) (stored s) reason buf
 endsIn (Phase.Ended e) s reason buf = refuses s refusedPhase buf
 
 -- the refusals of every call, then the end
@@ -110,3 +117,7 @@ linkStep s buf = brokenOff s reasonLink buf
 -- the call stop: reason 10
 abbrev pub stopStep : Session → List ℕ → Step
 stopStep s buf = brokenOff s reasonStopped buf
+
+-- ---- what holds of every call, proved in trace's proofs/Methods
+--   tells-method   an outcome's method is not applicable exactly where no choice was made or held: a choice is held while
+--                  the cryptogram is awaited, and made after the last record once reasons 6 and 4 are ruled out

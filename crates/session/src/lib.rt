@@ -7,8 +7,9 @@
 // `start_in`, `answer_in`, `link_failed_in` and `stop_in` are the same calls on a session's parts with the
 // store lent or shared: a turn is handed back, and the store is not copied.
 use analysis::choice::Choice;
+use analysis::verification::NOT_APPLICABLE;
 use data_list::Written;
-use dictionary::{ROW_82, ROW_94, ROW_95, ROW_9F26, ROW_9F27, ROW_9F36};
+use dictionary::{ROW_82, ROW_94, ROW_95, ROW_9F26, ROW_9F27, ROW_9F34, ROW_9F36};
 use locator::{Checked, Found};
 use reading::{Awaited, File, Verdict};
 use record::{Asked, Outcome, Phase, Place, Reply, Session, Turn};
@@ -23,6 +24,7 @@ ghost use Rattle.basics.specs.Reason.{reasonMissing, reasonAboveLimit, reasonMo
 ghost use Rattle.dictionary.specs.Rows.{storeSize};
 ghost use Rattle.locator.specs.Command.{readRecord};
 ghost use Rattle.analysis.specs.Action.{aboveLimit};
+ghost use Rattle.analysis.specs.Verification.{methodNumber};
 ghost use Rattle.record.specs.Session.{sessionOf, replyOf, commandsTurn};
 ghost use Rattle.record.specs.Ranges.{emvMode, completed};
 ghost use Rattle.session.specs.Steps.{Did, DidIn, ended, leastBuffer, brokenOff, linkStep, stopStep};
@@ -171,9 +173,9 @@ fn broken_off(phase: Phase, count: u8, bytes: &[u8], reason: u8, command: &mut [
     }
     match phase {
         Phase::Fresh => record::refused(phase, count, basics::REFUSED_PHASE),
-        Phase::Options => record::fails(count, reason),
-        Phase::Record(_) => record::fails(count, reason),
-        Phase::Cryptogram(_) => record::fails(count, reason),
+        Phase::Options => record::fails(count, reason, NOT_APPLICABLE),
+        Phase::Record(_) => record::fails(count, reason, NOT_APPLICABLE),
+        Phase::Cryptogram(asked) => record::fails(count, reason, held_method(asked)),
         Phase::Ended(_) => record::refused(phase, count, basics::REFUSED_PHASE),
     }
 }
@@ -211,7 +213,7 @@ fn ask_options(count: u8, bytes: &[u8], command: &mut [u8]) -> Turn
         (askOptions count (now (bytes .entry)) (now (command .entry))) ⌝ }
 {
     let Written::Command(c) = data_list::processing_options(bytes, command) else {
-        return record::fails(count, basics::REASON_DATA_LIST);
+        return record::fails(count, basics::REASON_DATA_LIST, NOT_APPLICABLE);
     };
     record::commands(Phase::Options, count + 1, c.len)
 }
@@ -226,7 +228,7 @@ fn take_options(count: u8, store: &mut [u8], card: &[u8], command: &mut [u8]) ->
     let read = reading::read_answer(store, Awaited::Options, card);
     let verdict = read.verdict;
     let Verdict::Accepted = verdict else {
-        return record::fails(count, reading::number(verdict));
+        return record::fails(count, reading::number(verdict), NOT_APPLICABLE);
     };
     after_options(count, &store[..], command)
 }
@@ -238,17 +240,17 @@ fn after_options(count: u8, bytes: &[u8], command: &mut [u8]) -> Turn
         (optionsRead count (now (bytes .entry)) (now (command .entry))) ⌝ }
 {
     let Needed::Complete = options_there(bytes) else {
-        return record::fails(count, basics::REASON_MISSING);
+        return record::fails(count, basics::REASON_MISSING, NOT_APPLICABLE);
     };
     let Mode::Emv = mode_in(bytes) else {
-        return record::fails(count, basics::REASON_MODE);
+        return record::fails(count, basics::REASON_MODE, NOT_APPLICABLE);
     };
     let entries = store::value(bytes, ROW_94);
     let Checked::Accepted(_) = locator::check(entries) else {
-        return record::fails(count, basics::REASON_LOCATOR);
+        return record::fails(count, basics::REASON_LOCATOR, NOT_APPLICABLE);
     };
     let Found::At(wanted) = locator::record_at(entries, 1) else {
-        return record::fails(count, basics::REASON_LOCATOR);
+        return record::fails(count, basics::REASON_LOCATOR, NOT_APPLICABLE);
     };
     ask_record(count, wanted, 1, command)
 }
@@ -274,13 +276,13 @@ fn take_record(place: Place, count: u8, store: &mut [u8], card: &[u8], command: 
     let k = basics::wide(place.number);
     let found = locator::record_at(store::value(&store[..], ROW_94), k);
     let Found::At(asked) = found else {
-        return record::fails(count, basics::REASON_LOCATOR);
+        return record::fails(count, basics::REASON_LOCATOR, NOT_APPLICABLE);
     };
     let file = asked.file;
     let read = reading::read_answer(store, Awaited::Record(File { number: file }), card);
     let verdict = read.verdict;
     let Verdict::Accepted = verdict else {
-        return record::fails(count, reading::number(verdict));
+        return record::fails(count, reading::number(verdict), NOT_APPLICABLE);
     };
     after_record(place, count, store, command)
 }
@@ -309,38 +311,51 @@ fn after_records(count: u8, store: &mut [u8], command: &mut [u8]) -> Turn
         (recordsRead count (now (store .entry)) (now (command .entry))) ⌝ }
 {
     let Limit::Within = limit_in(&store[..]) else {
-        return record::fails(count, basics::REASON_ABOVE_LIMIT);
+        return record::fails(count, basics::REASON_ABOVE_LIMIT, NOT_APPLICABLE);
     };
     let Needed::Complete = card_complete(&store[..]) else {
-        return record::fails(count, basics::REASON_MISSING);
+        return record::fails(count, basics::REASON_MISSING, NOT_APPLICABLE);
     };
     analyse(count, store, command)
 }
 
-// The result bits are stored and the choice is made on them.
+// What the analysis finds is stored, and the choice is made on the result bits.
 fn analyse(count: u8, store: &mut [u8], command: &mut [u8]) -> Turn
     requires { ⌜ (leastBuffer ≤ length (now command)) × (count < 255) ⌝ }
     requires { ⌜ length (now store) ≡ storeSize ⌝ }
     ensures { λ r. ⌜ DidIn r (now (store .exit)) (now (command .exit))
         (analysed count (now (store .entry)) (now (command .entry))) ⌝ }
 {
-    let result = analysis::action::result_of(&store[..]);
-    let choice = analysis::action::choice_for(&store[..], result);
-    store::put(store, ROW_95, &result);
-    ask_cryptogram(choice, count, &store[..], command)
+    let found = analysis::action::findings_of(&store[..]);
+    let results = found.results;
+    let bits = found.bits;
+    let method = found.method;
+    let choice = analysis::action::choice_for(&store[..], bits);
+    store::put(store, ROW_9F34, &results);
+    store::put(store, ROW_95, &bits);
+    ask_cryptogram(Asked { choice, method }, count, &store[..], command)
 }
 
 // The command for the cryptogram.
-fn ask_cryptogram(choice: Choice, count: u8, bytes: &[u8], command: &mut [u8]) -> Turn
+fn ask_cryptogram(asked: Asked, count: u8, bytes: &[u8], command: &mut [u8]) -> Turn
     requires { ⌜ (leastBuffer ≤ length (now command)) × (count < 255) ⌝ }
     ensures { λ r. ⌜ DidIn r (now (bytes .entry)) (now (command .exit))
-        (askCryptogram count (now (bytes .entry)) choice (now (command .entry))) ⌝ }
+        (askCryptogram count (now (bytes .entry)) asked (now (command .entry))) ⌝ }
 {
+    let choice = asked.choice;
     let p1 = analysis::choice::p1(choice);
     let Written::Command(c) = data_list::generate_ac(bytes, p1, command) else {
-        return record::fails(count, basics::REASON_DATA_LIST);
+        return record::fails(count, basics::REASON_DATA_LIST, held_method(asked));
     };
-    record::commands(Phase::Cryptogram(Asked { choice }), count + 1, c.len)
+    record::commands(Phase::Cryptogram(asked), count + 1, c.len)
+}
+
+// The number of the method that a session holds while it waits on the cryptogram.
+fn held_method(asked: Asked) -> u8
+    ensures { λ r. ⌜ r ≡ methodNumber (asked .method) ⌝ }
+{
+    let method = asked.method;
+    analysis::verification::method_number(method)
 }
 
 // The answer to the cryptogram: no command follows it.
@@ -351,25 +366,26 @@ fn take_cryptogram(asked: Asked, count: u8, store: &mut [u8], card: &[u8]) -> Tu
     let read = reading::read_answer(store, Awaited::Cryptogram, card);
     let verdict = read.verdict;
     let Verdict::Accepted = verdict else {
-        return record::fails(count, reading::number(verdict));
+        return record::fails(count, reading::number(verdict), held_method(asked));
     };
     decide(asked, count, &store[..])
 }
 
 // The outcome, by the type of the cryptogram that came.
 fn decide(asked: Asked, count: u8, bytes: &[u8]) -> Turn
-    ensures { λ r. ⌜ replyOf r (now (bytes .entry)) ≡ ended count (now (bytes .entry)) (cryptogramEnd asked (now (bytes .entry))) ⌝ }
+    ensures { λ r. ⌜ replyOf r (now (bytes .entry)) 
+        ≡ ended (methodNumber (asked .method)) count (now (bytes .entry)) (cryptogramEnd asked (now (bytes .entry))) ⌝ }
 {
     let Needed::Complete = cryptogram_there(bytes) else {
-        return record::fails(count, basics::REASON_MISSING);
+        return record::fails(count, basics::REASON_MISSING, held_method(asked));
     };
     let kind = basics::byte_at(store::value(bytes, ROW_9F27), 0) / 64;
     let choice = asked.choice;
     let Decided::On(d) = decision_for(choice, kind) else {
-        return record::fails(count, basics::REASON_CRYPTOGRAM);
+        return record::fails(count, basics::REASON_CRYPTOGRAM, held_method(asked));
     };
     let outcome = d.outcome;
-    record::ends(count, outcome, basics::REASON_NONE)
+    record::ends(count, outcome, basics::REASON_NONE, held_method(asked))
 }
 
 // What a type of cryptogram decides, by what was asked for.

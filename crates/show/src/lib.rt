@@ -4,7 +4,7 @@
 pub mod bits;
 pub mod tree;
 
-use record::{Answer, End, Outcome, Reply};
+use record::{Answer, Outcome, OutcomeParameters, Reply};
 
 // Text, as it is.
 pub fn text(s: &[u8]) {
@@ -29,6 +29,24 @@ pub fn bytes(s: &[u8]) {
 // A reply, and a new line: a command with its bytes, an outcome with its reason, or a refusal.
 pub fn reply(reply: Reply, buffer: &[u8]) {
     let answer = reply.answer;
+    answered(answer, buffer);
+    text(b"\n");
+}
+
+// The same, and behind an outcome the method in words.
+pub fn reply_with_method(reply: Reply, buffer: &[u8]) {
+    let answer = reply.answer;
+    answered(answer, buffer);
+    if let Answer::Outcome(end) = answer {
+        text(b" method ");
+        numbered(end.method);
+        method_words(end.method);
+    }
+    text(b"\n");
+}
+
+// What a call hands back, by its numbers.
+fn answered(answer: Answer, buffer: &[u8]) {
     match answer {
         Answer::Command(issued) => {
             command(issued.size, buffer);
@@ -45,7 +63,6 @@ pub fn reply(reply: Reply, buffer: &[u8]) {
             number(basics::wide(refusal.number));
         }
     }
-    text(b"\n");
 }
 
 // A command: the front of the buffer.
@@ -84,7 +101,8 @@ pub fn reply_in_words(reply: Reply, buffer: &[u8]) {
     text(b"\n");
 }
 
-// What a call hands back, in words: a command by its name with its bytes, an outcome with its reason, or a refusal.
+// What a call hands back, in words: a command by its name with its bytes, an outcome with its reason and the method, or
+// a refusal.
 pub fn answer_in_words(answer: Answer, buffer: &[u8]) {
     match answer {
         Answer::Command(issued) => {
@@ -140,15 +158,23 @@ fn cryptogram_name(p1: u8) {
     }
 }
 
-// An outcome and its reason, each by its number and in words.
-fn ending(end: End) {
+// An outcome, its reason and the method of cardholder verification, each by its number and in words.
+fn ending(end: OutcomeParameters) {
     let outcome = end.outcome;
+    outcome_in_words(outcome, end.reason);
+    text(b", method ");
+    numbered(end.method);
+    method_words(end.method);
+}
+
+// An outcome and its reason, each by its number and in words.
+pub fn outcome_in_words(outcome: Outcome, reason: u8) {
     text(b"outcome ");
     numbered(record::outcome_number(outcome));
     outcome_words(outcome);
     text(b", reason ");
-    numbered(end.reason);
-    reason_words(end.reason);
+    numbered(reason);
+    reason_words(reason);
 }
 
 // A number and a space.
@@ -181,6 +207,18 @@ fn reason_words(reason: u8) {
         9 => text(b"no link to the card"),
         10 => text(b"stopped by the terminal"),
         11 => text(b"card without EMV mode"),
+        _ => text(b"unknown"),
+    }
+}
+
+// The methods of cardholder verification by their numbers (Book C-2, A.1.117; 4 is the kernel's own).
+fn method_words(number: u8) {
+    match number {
+        0 => text(b"no CVM"),
+        1 => text(b"signature"),
+        2 => text(b"online PIN"),
+        4 => text(b"offline PIN"),
+        15 => text(b"not applicable"),
         _ => text(b"unknown"),
     }
 }
@@ -287,6 +325,7 @@ fn short_name(tag: u32) {
         0x80 => text(b"Response Message Template Format 1"),
         0x82 => text(b"Application Interchange Profile"),
         0x8C => text(b"CDOL1"),
+        0x8E => text(b"CVM List"),
         0x94 => text(b"Application File Locator"),
         0x95 => text(b"Terminal Verification Results"),
         0x9A => text(b"Transaction Date"),
@@ -327,11 +366,13 @@ fn terminal_name(tag: u32) {
         0x9F26 => text(b"Application Cryptogram"),
         0x9F27 => text(b"Cryptogram Information Data"),
         0x9F33 => text(b"Terminal Capabilities"),
+        0x9F34 => text(b"CVM Results"),
         0x9F35 => text(b"Terminal Type"),
         0x9F36 => text(b"Application Transaction Counter"),
         0x9F37 => text(b"Unpredictable Number"),
         0x9F38 => text(b"PDOL"),
         0x9F40 => text(b"Additional Terminal Capabilities"),
+        0x9F42 => text(b"Application Currency Code"),
         _ => text(b"unknown"),
     }
 }
@@ -343,6 +384,7 @@ fn reader_name(tag: u32) {
         0xDF8122 => text(b"Terminal Action Code - Online"),
         0xDF8123 => text(b"Reader Contactless Floor Limit"),
         0xDF8124 => text(b"Reader Contactless Transaction Limit (No On-device CVM)"),
+        0xDF8126 => text(b"Reader CVM Required Limit"),
         _ => text(b"unknown"),
     }
 }

@@ -20,12 +20,13 @@ pub struct Store {
 const START: u32 = 256;
 
 const PLACES: [u32; ROWS] = [
-    0 * START + 19, 20 * START + 10, 31 * START + 2, 34 * START + 250, 285 * START + 248, 534 * START + 5,
-    540 * START + 3, 544 * START + 1, 546 * START + 3, 550 * START + 3, 554 * START + 2, 557 * START + 2,
-    560 * START + 1, 562 * START + 6, 569 * START + 6, 576 * START + 2, 579 * START + 2, 582 * START + 2,
-    585 * START + 5, 591 * START + 5, 597 * START + 5, 603 * START + 32, 636 * START + 2, 639 * START + 8,
-    648 * START + 1, 650 * START + 3, 654 * START + 1, 656 * START + 2, 659 * START + 4, 664 * START + 240,
-    905 * START + 5, 911 * START + 5, 917 * START + 5, 923 * START + 5, 929 * START + 6, 936 * START + 6,
+    0 * START + 19, 20 * START + 10, 31 * START + 2, 34 * START + 250, 285 * START + 250, 536 * START + 248,
+    785 * START + 5, 791 * START + 3, 795 * START + 1, 797 * START + 3, 801 * START + 3, 805 * START + 2,
+    808 * START + 2, 811 * START + 1, 813 * START + 6, 820 * START + 6, 827 * START + 2, 830 * START + 2,
+    833 * START + 2, 836 * START + 5, 842 * START + 5, 848 * START + 5, 854 * START + 32, 887 * START + 2,
+    890 * START + 8, 899 * START + 1, 901 * START + 3, 905 * START + 3, 909 * START + 1, 911 * START + 2,
+    914 * START + 4, 919 * START + 240, 1160 * START + 5, 1166 * START + 2, 1169 * START + 5, 1175 * START + 5,
+    1181 * START + 5, 1187 * START + 6, 1194 * START + 6, 1201 * START + 6,
 ];
 
 // A row's place: where it starts, and the greatest length of its value.

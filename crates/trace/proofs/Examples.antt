@@ -2,7 +2,7 @@
 -- document 01's own example of the published order, from the card's bytes to the three commands.
 -- Assumes nothing.
 use mathlib.Core.Path.{_≡_, refl}
-use mathlib.Core.List.{List, [], _∷_}
+use mathlib.Core.List.{List, [], _∷_, map}
 use mathlib.Core.Option.{some, none}
 use Prim.Native.Nat.{ℕ}
 use lib.ListN.{length, replicate}
@@ -16,28 +16,40 @@ use Rattle.tlv.specs.Primitives.{withObject, primitiveOf, primitives}
 use Rattle.tlv.specs.Encoding.{lengthBytes}
 use Rattle.dictionary.specs.Rows.{rows, past, find}
 use Rattle.dictionary.specs.Named.{placeOf}
-use Rattle.dictionary.specs.Form.{numeric, digitsFit, fitting}
+use Rattle.dictionary.specs.Form.{numeric, digitsFit, fitting, digitsThenFs, compressed}
 use Rattle.dictionary.specs.TerminalType.{listed}
 use Rattle.store.specs.Place.{offsetIn, placeAt, held, valueAt, putAt, valueIn, lengthByte}
 use Rattle.locator.specs.Entry.{keeps}
 use Rattle.locator.specs.Records.{entries as entriesOf, wholeEntries, recordsFrom as runOf, recordsOf, sumOf, accepts, nth, kth, recordAt}
-use Rattle.reading.specs.Taking.{mayStand, mayCome, allowed, takeItem, takeNext, takeAll}
-use Rattle.reading.specs.Answer.{bodyOf, optionsParts, primitiveParts, readBody, isRead, goodStatus, goodLength, readAnswer}
-use Rattle.data_list.specs.Entries.{along, listEntries}
-use Rattle.data_list.specs.Filling.{fillingOf, filledBy}
-use Rattle.data_list.specs.Commands.{optionsOf, processingOptions}
+use Rattle.reading.specs.Taking.{mayStand, mayCome, allowed, takeItem, takeNext, takeAll, items}
+use Rattle.reading.specs.Answer.{bodyOf, optionsParts, primitiveParts, readBody, isRead, goodStatus, goodLength, readAnswer, templateParts}
+use Rattle.data_list.specs.Entries.{along, listEntries, withLength, entryAt, withEntry}
+use Rattle.data_list.specs.Filling.{fillingOf, filledBy, cut, padding, padded, fitted, entryBytes}
+use Rattle.data_list.specs.Commands.{optionsOf, processingOptions, cryptogramOf, generateAc}
 use Rattle.record.specs.declared.Phase.{Phase}
 use Rattle.record.specs.Numbers.{goesWith, outcomeFor}
 use Rattle.basics.specs.Reason.{reasonLink, reasonMode}
 use Rattle.store.specs.Held.{lengthIn}
-use Rattle.record.specs.Ranges.{isBrought, brought, cryptogramAbsent, running, optionsRanges, inRanges, allFit, objectFits, freshRanges, endedRanges}
-use Rattle.record.specs.Session.{freshSession, endOf}
+use Rattle.record.specs.Ranges.{isBrought, brought, cryptogramAbsent, running, optionsRanges, inRanges, allFit, objectFits, freshRanges, endedRanges, recordRanges, cryptogramRanges, completed}
+use Rattle.record.specs.Session.{freshSession, endOf, parametersOf}
 use Rattle.terminal.specs.Terminal.{typeListed, settable, setObject, setAll, load}
-use Rattle.session.specs.Steps.{withResults, admitted}
+use Rattle.session.specs.Steps.{withResults, admitted, withFindings}
 use Rattle.session.specs.Start.{askOptions}
-use Rattle.session.specs.Answer.{storedReason, optionsRead, optionsStep, optionsReason}
-use Rattle.trace.specs.Calls.{Call, start, answer, link-failed, stop, play, final, commands, taken}
+use Rattle.session.specs.Answer.{storedReason, optionsRead, optionsStep, optionsReason, recordStep, recordRead, recordsRead, analysed, askedIn, askCryptogram}
+use Rattle.trace.specs.Calls.{Call, start, answer, link-failed, stop, play, final, said, commands, taken}
 use Rattle.trace.specs.Order.{broughtLocator, firstAnswer, acceptedLocator, options, record-command, cryptogram, published}
+use Rattle.basics.specs.Alike.{alike}
+use Rattle.tlv.specs.Tree.{count, nextOf, withLeaf, withNode, parse}
+use Rattle.analysis.specs.Bits.{bit}
+use Rattle.analysis.specs.Value.{front}
+use Rattle.analysis.specs.Digits.{decimalFrom, yearOf, dateOf, laterThan, amountOf, amountAbove}
+use Rattle.analysis.specs.Restrictions.{otherVersion, notYetEffective, atAtm, countryOf, cashback, usageBroken}
+use Rattle.analysis.specs.Result.{withBits}
+use Rattle.analysis.specs.Choice.{holdsBit, lowestFrom, lowestBit, cardCode, heldAt, capabilityAt, choiceOf}
+use Rattle.analysis.specs.Verification.{rulesFrom, recognised, supported, amountMet, met, taken as takenBy, unsuccessful, byRules, verification}
+use Rattle.analysis.specs.Action.{limitOf, aboveLimit, usageIn, restrictionsOf, resultOf, sameCurrency, termsIn, verifiedIn, fullResult, findingsOf, codesOf, chosen}
+use Rattle.record.specs.declared.Outcome.{Outcome}
+use Rattle.record.specs.declared.Answer.{Answer}
 
 -- ---- lists of calls
 
@@ -45,10 +57,11 @@ use Rattle.trace.specs.Order.{broughtLocator, firstAnswer, acceptedLocat
 abbrev startBytes : List ℕ
 startBytes =
     0x9A ∷ 0x03 ∷ 0x25 ∷ 0x11 ∷ 0x15 ∷ 0x9C ∷ 0x01 ∷ 0x00 ∷ 0x9F ∷ 0x02 ∷ 0x06 ∷ 0x00 ∷ 0x00 ∷ 0x00 ∷ 0x00 ∷ 0x12 ∷ 0x34 ∷
-    0x9F ∷ 0x09 ∷ 0x02 ∷ 0x00 ∷ 0x02 ∷ 0x9F ∷ 0x1A ∷ 0x02 ∷ 0x00 ∷ 0x56 ∷ 0x9F ∷ 0x35 ∷ 0x01 ∷ 0x22 ∷ 0x9F ∷ 0x37 ∷ 0x04 ∷ 0x01 ∷ 0x02 ∷ 0x03 ∷ 0x04 ∷
+    0x9F ∷ 0x09 ∷ 0x02 ∷ 0x00 ∷ 0x02 ∷ 0x9F ∷ 0x1A ∷ 0x02 ∷ 0x00 ∷ 0x56 ∷ 0x9F ∷ 0x33 ∷ 0x03 ∷ 0xE0 ∷ 0x68 ∷ 0xC8 ∷ 0x9F ∷ 0x35 ∷ 0x01 ∷ 0x22 ∷ 0x9F ∷ 0x37 ∷ 0x04 ∷ 0x01 ∷ 0x02 ∷ 0x03 ∷ 0x04 ∷
     0xDF ∷ 0x81 ∷ 0x20 ∷ 0x05 ∷ 0x00 ∷ 0x00 ∷ 0x00 ∷ 0x00 ∷ 0x00 ∷ 0xDF ∷ 0x81 ∷ 0x21 ∷ 0x05 ∷ 0x00 ∷ 0x00 ∷ 0x00 ∷ 0x00 ∷ 0x00 ∷
     0xDF ∷ 0x81 ∷ 0x22 ∷ 0x05 ∷ 0x00 ∷ 0x00 ∷ 0x00 ∷ 0x00 ∷ 0x00 ∷ 0xDF ∷ 0x81 ∷ 0x23 ∷ 0x06 ∷ 0x00 ∷ 0x00 ∷ 0x00 ∷ 0x01 ∷ 0x00 ∷ 0x00 ∷
-    0xDF ∷ 0x81 ∷ 0x24 ∷ 0x06 ∷ 0x00 ∷ 0x00 ∷ 0x00 ∷ 0x02 ∷ 0x00 ∷ 0x00 ∷ []
+    0xDF ∷ 0x81 ∷ 0x24 ∷ 0x06 ∷ 0x00 ∷ 0x00 ∷ 0x00 ∷ 0x02 ∷ 0x00 ∷ 0x00 ∷
+    0xDF ∷ 0x81 ∷ 0x26 ∷ 0x06 ∷ 0x00 ∷ 0x00 ∷ 0x00 ∷ 0x00 ∷ 0x10 ∷ 0x00 ∷ []
 
 abbrev locator : List ℕ
 locator = 0x08 ∷ 0x01 ∷ 0x01 ∷ 0x00 ∷ []
@@ -119,3 +132,44 @@ worked =
 pub order : published cryptogram (some locator) ≡ options ∷ record-command recordCommand ∷ cryptogram ∷ []
 unfolding published entriesOf recordsOf runOf
 order = refl
+
+-- ---- cardholder verification
+
+-- 82 of 10 80; then expiry, PAN, CDOL1 = 95 05 9F34 03 and a list: an online PIN or a signature, where it is supported
+abbrev verifyingAnswer : List ℕ
+verifyingAnswer = 0x80 ∷ 0x06 ∷ 0x10 ∷ 0x80 ∷ 0x08 ∷ 0x01 ∷ 0x01 ∷ 0x00 ∷ 0x90 ∷ 0x00 ∷ []
+
+abbrev ruleRecord : List ℕ
+ruleRecord =
+    0x70 ∷ 0x25 ∷ 0x5F ∷ 0x24 ∷ 0x03 ∷ 0x30 ∷ 0x12 ∷ 0x31 ∷ 0x5A ∷ 0x08 ∷ 0x47 ∷ 0x61 ∷ 0x73 ∷ 0x90 ∷ 0x01 ∷ 0x01 ∷ 0x00 ∷ 0x10 ∷
+    0x8C ∷ 0x05 ∷ 0x95 ∷ 0x05 ∷ 0x9F ∷ 0x34 ∷ 0x03 ∷
+    0x8E ∷ 0x0C ∷ 0x00 ∷ 0x00 ∷ 0x00 ∷ 0x00 ∷ 0x00 ∷ 0x00 ∷ 0x00 ∷ 0x00 ∷ 0x42 ∷ 0x03 ∷ 0x5E ∷ 0x03 ∷ 0x90 ∷ 0x00 ∷ []
+
+-- 8C is filled with the bit of an online PIN and with 9F34. The link fails, and the outcome tells the method
+verified : map said (play freshSession (start startBytes lent ∷ answer verifyingAnswer lent ∷ answer ruleRecord lent ∷ link-failed lent ∷ []))
+    ≡ Answer.Command (record { size = 8 }) ∷ Answer.Command (record { size = 5 }) ∷ Answer.Command (record { size = 14 })
+    ∷ Answer.Outcome (parametersOf Outcome.Ended 9 2) ∷ []
+unfolding commands play final taken admitted endedRanges goesWith outcomeFor inRanges allFit objectFits lengthIn lengthByte freshRanges optionsRanges recordRanges cryptogramRanges
+    completed running cryptogramAbsent askOptions processingOptions optionsOf filledBy fillingOf listEntries recurse recurseBy along lengthBytes withLength entryAt withEntry cut padding padded
+    fitted entryBytes cryptogramOf generateAc optionsStep storedReason optionsRead recordAt kth nth accepts wholeEntries entriesOf keeps sumOf recordsOf runOf readAnswer goodLength goodStatus
+    isRead readBody bodyOf primitiveParts optionsParts templateParts parse nextOf withLeaf withNode count items takeAll takeNext takeItem allowed mayCome mayStand withResults withFindings placeOf
+    load primitives withObject primitiveOf headerOf tagAt tagSize secondByte thirdByte lengthAt firstByte isTemplate isPrivate numberFrom if both either every rows past find settable setObject
+    setAll fitting digitsFit numeric nibbles digitsThenFs compressed typeListed listed offsetIn placeAt held valueAt putAt valueIn brought isBrought recordStep recordRead recordsRead analysed
+    askedIn askCryptogram limitOf aboveLimit usageIn restrictionsOf resultOf sameCurrency termsIn verifiedIn fullResult findingsOf codesOf chosen bit front decimalFrom yearOf dateOf laterThan
+    amountOf amountAbove otherVersion notYetEffective atAtm countryOf cashback usageBroken withBits holdsBit lowestFrom lowestBit cardCode heldAt capabilityAt choiceOf rulesFrom recognised
+    supported amountMet met takenBy unsuccessful byRules verification alike
+verified = refl
+
+verified-sent : commands (play freshSession (start startBytes lent ∷ answer verifyingAnswer lent ∷ answer ruleRecord lent ∷ []))
+    ≡ optionsCommand ∷ recordCommand
+    ∷ (0x80 ∷ 0xAE ∷ 0x80 ∷ 0x00 ∷ 0x08 ∷ 0x80 ∷ 0x00 ∷ 0x04 ∷ 0x00 ∷ 0x00 ∷ 0x42 ∷ 0x03 ∷ 0x00 ∷ 0x00 ∷ []) ∷ []
+unfolding commands play final taken admitted endedRanges goesWith outcomeFor inRanges allFit objectFits lengthIn lengthByte freshRanges optionsRanges recordRanges cryptogramRanges
+    completed running cryptogramAbsent askOptions processingOptions optionsOf filledBy fillingOf listEntries recurse recurseBy along lengthBytes withLength entryAt withEntry cut padding padded
+    fitted entryBytes cryptogramOf generateAc optionsStep storedReason optionsRead recordAt kth nth accepts wholeEntries entriesOf keeps sumOf recordsOf runOf readAnswer goodLength goodStatus
+    isRead readBody bodyOf primitiveParts optionsParts templateParts parse nextOf withLeaf withNode count items takeAll takeNext takeItem allowed mayCome mayStand withResults withFindings placeOf
+    load primitives withObject primitiveOf headerOf tagAt tagSize secondByte thirdByte lengthAt firstByte isTemplate isPrivate numberFrom if both either every rows past find settable setObject
+    setAll fitting digitsFit numeric nibbles digitsThenFs compressed typeListed listed offsetIn placeAt held valueAt putAt valueIn brought isBrought recordStep recordRead recordsRead analysed
+    askedIn askCryptogram limitOf aboveLimit usageIn restrictionsOf resultOf sameCurrency termsIn verifiedIn fullResult findingsOf codesOf chosen bit front decimalFrom yearOf dateOf laterThan
+    amountOf amountAbove otherVersion notYetEffective atAtm countryOf cashback usageBroken withBits holdsBit lowestFrom lowestBit cardCode heldAt capabilityAt choiceOf rulesFrom recognised
+    supported amountMet met takenBy unsuccessful byRules verification alike
+verified-sent = refl

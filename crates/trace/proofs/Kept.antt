@@ -1,4 +1,5 @@
--- What the reading of an answer and the result bits leave of what the ranges speak of: each put is one that its row allows.
+-- What the reading of an answer, the result bits and the results of the verification leave of what the ranges speak of: each put is one
+-- that its row allows.
 -- Assumes nothing.
 use mathlib.Core.Path.{_≡_, refl, sym, ap, subst, _∙_}
 use mathlib.Core.Bool.{true}
@@ -7,14 +8,15 @@ use Prim.Native.Nat.{ℕ, _≤_, _<_}
 use native.Mathlib.Omega.{arith}
 use lib.ListN.{length}
 use borrow.Author.Tests.{le-leb}
+use Rattle.basics.specs.Choice.{both, every}
 use Rattle.basics.specs.Number.{hasBit}
 use Rattle.basics.proofs.Laws.{if-no, both-yes}
-use Rattle.dictionary.specs.Named.{row82, row94, row95}
+use Rattle.dictionary.specs.Named.{row82, row94, row95, row9F34}
 use Rattle.dictionary.specs.declared.Found.the-variants.{At}
 use Rattle.dictionary.specs.Rows.{rows, rowAt, rowCount, storeSize, find, cryptogram}
 use Rattle.dictionary.specs.Form.{digitsFit, fitting}
 use Rattle.dictionary.proofs.Fit.{fits-length}
-use Rattle.dictionary.proofs.Named.{at-82, at-94, at-95}
+use Rattle.dictionary.proofs.Named.{at-82, at-94, at-95, at-9F34}
 use Rattle.store.specs.Place.{Value, present, bytesOf, valueOf, putAt}
 use Rattle.store.proofs.Laws.{by-row}
 use Rattle.locator.specs.Records.{accepts}
@@ -24,12 +26,13 @@ use Rattle.reading.specs.Taking.{Item}
 use Rattle.reading.specs.Answer.{answerBit, readAnswer}
 use Rattle.reading.proofs.Kept.{Put, read-holds, read-grows}
 use Rattle.analysis.specs.Bits.{has}
+use Rattle.analysis.specs.declared.action.Findings.{Findings}
 use Rattle.store.specs.Held.{holds, bytesIn}
 use Rattle.record.specs.Ranges.{locatorIn}
 use Rattle.record.specs.Clauses.{Fits, Running, noResults}
-use Rattle.record.proofs.Stored.{put-size, put-here, put-named, put-holds, put-apart, put-runs, fits-kept, apart-rest, card-apart, runningTags, results-apart}
-use Rattle.session.specs.Steps.{withResults}
-use Rattle.session.proofs.Laws.{results-fit, results-place}
+use Rattle.record.proofs.Stored.{put-size, put-here, put-named, put-holds, put-apart, put-runs, fits-kept, apartFrom, apart-rest, card-apart, runningTags, results-apart}
+use Rattle.session.specs.Steps.{withResults, withFindings}
+use Rattle.session.proofs.Laws.{results-fit, results-place, verification-fits, verification-place}
 
 -- what a running session holds before its result bits are set
 pub record Waits (b : List ℕ) : Type 0 where
@@ -129,3 +132,55 @@ module _ (b v : List ℕ) (l : length b ≡ storeSize) (n : length v ≡ 5) wher
 
   pub bits-hold : (t : ℕ) → holds b t ≡ true → holds (withResults b v) t ≡ true
   bits-hold t h = ap (λ (d : List ℕ). holds d t) put ∙ put-holds b row95 v l here room t h
+
+-- ---- what the analysis found: 9F34, and the result bits behind it
+
+-- 9F34 takes any three bytes, and is the session's own
+verification-fitting : (v : List ℕ) → length v ≡ 3 → fitting (rowAt row9F34) v ≡ true
+unfolding rows fitting digitsFit
+verification-fitting v e = both-yes _ _ (le-leb 3 (length v) (omega arith)) (both-yes _ _ (le-leb (length v) 3 (omega arith)) (if-no _ _ refl ∙ if-no _ _ refl))
+
+verification-apart : apartFrom runningTags (rowAt row9F34) ≡ true
+unfolding rows every both apartFrom
+verification-apart = refl
+
+module _ (b : List ℕ) (f : Findings) (l : length b ≡ storeSize) (n : length (f .results) ≡ 3) (m : length (f .bits) ≡ 5) where
+  found : withFindings b f ≡ withResults (putAt rows b row9F34 (f .results)) (f .bits)
+  unfolding withFindings
+  found = ap (λ (k : ℕ). withResults (putAt rows b k (f .results)) (f .bits)) verification-place
+
+  there : row9F34 < rowCount
+  there = omega arith
+
+  fit : length (f .results) ≤ rowAt row9F34 .greatest
+  fit = omega (arith, verification-fits)
+
+  put-sized : length (putAt rows b row9F34 (f .results)) ≡ storeSize
+  put-sized = put-size b row9F34 (f .results) l there fit
+
+  pub found-size : length (withFindings b f) ≡ storeSize
+  found-size = ap length found ∙ bits-size _ (f .bits) put-sized m
+
+  pub found-fits : Fits b → Fits (withFindings b f)
+  found-fits g =
+      subst (λ (e : List ℕ). Fits e) (sym found)
+      (bits-fits _ (f .bits) put-sized m (fits-kept b row9F34 (f .results) l there (verification-fitting (f .results) n) g))
+
+  pub found-runs : Running b → Running (withFindings b f)
+  found-runs r =
+      subst (λ (e : List ℕ). Running e) (sym found)
+      (bits-runs _ (f .bits) put-sized m (put-runs b row9F34 (f .results) l there fit verification-apart r))
+
+  pub found-9F34 : valueOf (withFindings b f) 0x9F34 ≡ present (f .results)
+  found-9F34 =
+      ap (λ (e : List ℕ). valueOf e 0x9F34) found ∙ bits-other _ (f .bits) put-sized m 0x9F34 row9F34 at-9F34 (λ z. omega arith)
+      ∙ put-here b row9F34 (f .results) l there fit 0x9F34 at-9F34
+
+  pub found-95 : valueOf (withFindings b f) 0x95 ≡ present (f .bits)
+  found-95 = ap (λ (e : List ℕ). valueOf e 0x95) found ∙ bits-here _ (f .bits) put-sized m
+
+  -- every other tag keeps its value
+  pub found-other : (t j : ℕ) → find rows t ≡ At j → (j ≡ row95 → ⊥) → (j ≡ row9F34 → ⊥) → valueOf (withFindings b f) t ≡ valueOf b t
+  found-other t j e ne nf =
+      ap (λ (x : List ℕ). valueOf x t) found ∙ bits-other _ (f .bits) put-sized m t j e ne
+      ∙ put-named b row9F34 (f .results) l there fit t j e nf

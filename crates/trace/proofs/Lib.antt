@@ -7,3 +7,4 @@ pub mod Long
 pub mod Brought
 pub mod Trace
 pub mod Examples
+pub mod Methods

@@ -12,6 +12,7 @@ use Rattle.locator.specs.declared.Found.{Found}
 use Rattle.locator.specs.Records.{recordAt}
 use Rattle.reading.specs.declared.Awaited.{Awaited}
 use Rattle.reading.specs.Answer as reading
+use Rattle.analysis.specs.Verification.{methodNumber, notApplicable}
 use Rattle.record.specs.declared.Place.{Place}
 use Rattle.record.specs.declared.Phase.{Phase}
 use Rattle.record.specs.declared.Session.{Session}
@@ -49,18 +50,18 @@ module _ (s : Session) (x y buf : List ℕ) (h : 258 < length x) (k : 258 < leng
   long-found : (p : Place) (f : Found) → recordFound p (s .count) (stored s) x buf f ≡ recordFound p (s .count) (stored s) y buf f
   long-found p Found.Nothing = refl
   long-found p (Found.At r) =
-      ap (λ (o : reading.Outcome). if (eqb (o .reason) 0) (recordRead p (s .count) (o .store) buf) (fails (s .count) (stored s) (o .reason) buf))
+      ap (λ (o : reading.Outcome). if (eqb (o .reason) 0) (recordRead p (s .count) (o .store) buf) (fails notApplicable (s .count) (stored s) (o .reason) buf))
       (same-read (Awaited.Record (record { number = r .file })))
 
   long-in : (p : Phase) → answerIn p s x buf ≡ answerIn p s y buf
   unfolding optionsStep recordStep cryptogramReply
   long-in Phase.Fresh = refl
   long-in Phase.Options =
-      ap (λ (o : reading.Outcome). if (eqb (o .reason) 0) (optionsRead (s .count) (o .store) buf) (fails (s .count) (stored s) (o .reason) buf))
+      ap (λ (o : reading.Outcome). if (eqb (o .reason) 0) (optionsRead (s .count) (o .store) buf) (fails notApplicable (s .count) (stored s) (o .reason) buf))
       (same-read Awaited.Options)
   long-in (Phase.Record p) = long-found p (recordAt (locatorIn (stored s)) (p .number))
   long-in (Phase.Cryptogram a) =
-      ap (λ (o : reading.Outcome). withoutCommand (if (eqb (o .reason) 0) (ended (s .count) (o .store) (cryptogramEnd a (o .store))) (ended (s .count) (stored s) (endBy (o .reason)))) buf)
+      ap (λ (o : reading.Outcome). withoutCommand (if (eqb (o .reason) 0) (ended (methodNumber (a .method)) (s .count) (o .store) (cryptogramEnd a (o .store))) (ended (methodNumber (a .method)) (s .count) (stored s) (endBy (o .reason)))) buf)
       (same-read Awaited.Cryptogram)
   long-in (Phase.Ended e) = refl
 

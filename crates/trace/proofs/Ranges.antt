@@ -10,7 +10,7 @@ use borrow.Author.Tests.{ltb-true}
 use Rattle.basics.specs.Choice.{every}
 use Rattle.basics.specs.Number.{hasBit}
 use Rattle.basics.proofs.Laws.{both-left, both-right}
-use Rattle.dictionary.specs.Named.{row5A, row5F24, row82, row8C, row94, row95, row9F10, row9F26, row9F27, row9F35, row9F36}
+use Rattle.dictionary.specs.Named.{row5A, row5F24, row82, row8C, row94, row95, row9F34, row9F10, row9F26, row9F27, row9F35, row9F36}
 use Rattle.dictionary.specs.declared.Found.the-variants.{At}
 use Rattle.dictionary.specs.Rows.{rows, rowAt, storeSize, find, start}
 use Rattle.dictionary.specs.TerminalType.{listed}
@@ -21,8 +21,9 @@ use Rattle.locator.specs.Records.{accepts, total, recordAt}
 use Rattle.locator.proofs.Laws.{accepted-total, record-inside, record-there}
 use Rattle.reading.specs.declared.Awaited.{Awaited}
 use Rattle.analysis.specs.Bits.{has}
-use Rattle.analysis.specs.Action.{resultOf}
-use Rattle.analysis.proofs.Laws.{result-length}
+use Rattle.analysis.specs.Action.{findingsOf}
+use Rattle.analysis.specs.declared.action.Findings.{Findings}
+use Rattle.analysis.proofs.Laws.{found-length, bits-length}
 use Rattle.record.specs.declared.Place.{Place}
 use Rattle.record.specs.declared.Phase.{Phase}
 use Rattle.record.specs.declared.Session.{Session}
@@ -39,10 +40,10 @@ use Rattle.record.proofs.Reasons.{outcome-goes}
 use Rattle.record.proofs.Phases.{store-size, store-fits, on-fresh, on-options, on-record, count-most, waiting-keeps, ended-keeps, fails-keeps}
 use Rattle.terminal.specs.Terminal.{loaded, load}
 use Rattle.terminal.proofs.Laws.{load-brought, load-size, load-fits, load-untouched-of, load-listed}
-use Rattle.session.specs.Steps.{Step, withResults, brokenOff, linkStep, stopStep}
+use Rattle.session.specs.Steps.{Step, withResults, withFindings, brokenOff, linkStep, stopStep}
 use Rattle.session.specs.Start.{startStep}
 use Rattle.session.specs.Answer.{answerStep}
-use Rattle.trace.proofs.Kept.{Waits, options-plain, record-plain, read-waits, read-fits, read-mode, read-locator, bits-size, bits-fits, bits-runs, bits-here, bits-other, bits-hold}
+use Rattle.trace.proofs.Kept.{Waits, options-plain, record-plain, read-waits, read-fits, read-mode, read-locator, bits-size, bits-fits, bits-runs, bits-here, bits-other, bits-hold, found-size, found-fits, found-runs, found-9F34, found-other}
 use Rattle.trace.proofs.Ways.{Reason, taken, OptionsWay, RecordsWay, RecordWay, CryptogramWay, AnswerWay, answer-way, loadedSession, analysedSession, StartWay, start-way, BrokenWay, broken-way}
 
 -- a session that ends for a reason
@@ -117,49 +118,57 @@ module _ (s : Session) (i : inRanges s ≡ true) (p : Place) (q : s .phase ≡ P
 
   records-keeps : p .number ≡ recordsIn (stored t) → {st : Step} → RecordsWay t buf st → inRanges (st .reply .session) ≡ true
   unfolding completed every
-  records-keeps d (RecordsWay.failed n r) = failing t n r (record-after .size) (record-after .fits) (count-most s i)
-  records-keeps d RecordsWay.unlisted = failing (analysedSession t) reasonDataList list-reason (bits-size b v l n) (bits-fits b v l n (record-after .fits)) (count-most s i)
+  records-keeps d (RecordsWay.failed n r x) = failing t n r (record-after .size) (record-after .fits) (count-most s i)
+  records-keeps d RecordsWay.unlisted =
+      failing (analysedSession t) reasonDataList list-reason (found-size b f l n m) (found-fits b f l n m (record-after .fits)) (count-most s i)
     where
       b : List ℕ
       b = stored t
 
-      v : List ℕ
-      v = resultOf (stored t)
+      f : Findings
+      f = findingsOf (stored t)
 
       l : length b ≡ storeSize
       l = record-after .size
 
-      n : length v ≡ 5
-      n = result-length (stored t)
-  records-keeps d (RecordsWay.asked c f g) =
-      waiting-keeps (analysedSession t) _ (s .count + 1) (bits-size b v l n) (bits-fits b v l n (record-after .fits))
+      n : length (f .results) ≡ 3
+      n = found-length (stored t)
+
+      m : length (f .bits) ≡ 5
+      m = bits-length (stored t)
+  records-keeps d (RecordsWay.asked c h g) =
+      waiting-keeps (analysedSession t) _ (s .count + 1) (found-size b f l n m) (found-fits b f l n m (record-after .fits))
       (record {
-        runs = bits-runs b v l n (record-after .runs);
-        mode = ap (λ (x : Value). has (bytesOf x) 2 8) (bits-other b v l n 0x82 row82 at-82 (λ z. omega arith)) ∙ mode;
+        runs = found-runs b f l n m (record-after .runs);
+        mode = ap (λ (x : Value). has (bytesOf x) 2 8) (found-other b f l n m 0x82 row82 at-82 (λ z. omega arith) (λ z. omega arith)) ∙ mode;
         locator = ap accepts kept ∙ located;
-        some-5F24 = filled 0x5F24 row5F24 at-5F24 (λ z. omega arith) (ltb-true 0 _ (both-left _ _ f));
-        some-5A = filled 0x5A row5A at-5A (λ z. omega arith) (ltb-true 0 _ (both-left _ _ (both-right _ _ f)));
-        some-8C = filled 0x8C row8C at-8C (λ z. omega arith) (ltb-true 0 _ (both-left _ _ (both-right _ _ (both-right _ _ f))));
+        some-5F24 = filled 0x5F24 row5F24 at-5F24 (λ z. omega arith) (λ z. omega arith) (ltb-true 0 _ (both-left _ _ h));
+        some-5A = filled 0x5A row5A at-5A (λ z. omega arith) (λ z. omega arith) (ltb-true 0 _ (both-left _ _ (both-right _ _ h)));
+        some-8C = filled 0x8C row8C at-8C (λ z. omega arith) (λ z. omega arith) (ltb-true 0 _ (both-left _ _ (both-right _ _ (both-right _ _ h))));
+        verified = ap isThere (found-9F34 b f l n m);
         count = omega (arith, record-on .count, d, ap total kept);
       })
     where
       b : List ℕ
       b = stored t
 
-      v : List ℕ
-      v = resultOf (stored t)
+      f : Findings
+      f = findingsOf (stored t)
 
       l : length b ≡ storeSize
       l = record-after .size
 
-      n : length v ≡ 5
-      n = result-length (stored t)
+      n : length (f .results) ≡ 3
+      n = found-length (stored t)
 
-      kept : locatorIn (withResults b v) ≡ locatorIn b
-      kept = ap bytesOf (bits-other b v l n 0x94 row94 at-94 (λ z. omega arith))
+      m : length (f .bits) ≡ 5
+      m = bits-length (stored t)
 
-      filled : (u j : ℕ) → find rows u ≡ At j → (j ≡ row95 → ⊥) → 0 < length (bytesIn b u) → 0 < length (bytesIn (withResults b v) u)
-      filled u j e ne h = subst (λ (x : Value). 0 < length (bytesOf x)) (sym (bits-other b v l n u j e ne)) h
+      kept : locatorIn (withFindings b f) ≡ locatorIn b
+      kept = ap bytesOf (found-other b f l n m 0x94 row94 at-94 (λ z. omega arith) (λ z. omega arith))
+
+      filled : (u j : ℕ) → find rows u ≡ At j → (j ≡ row95 → ⊥) → (j ≡ row9F34 → ⊥) → 0 < length (bytesIn b u) → 0 < length (bytesIn (withFindings b f) u)
+      filled u j e ne nf k = subst (λ (x : Value). 0 < length (bytesOf x)) (sym (found-other b f l n m u j e ne nf)) k
 
   record-keeps : {st : Step} → RecordWay p t buf st → inRanges (st .reply .session) ≡ true
   record-keeps (RecordWay.next r e) =
@@ -177,11 +186,11 @@ module _ (s : Session) (i : inRanges s ≡ true) (p : Place) (q : s .phase ≡ P
 
 -- ---- the cryptogram
 
-cryptogram-keeps : (s : Session) (card : List ℕ) → inRanges s ≡ true → {r : Reply} → CryptogramWay (taken Awaited.Cryptogram s card) r → inRanges (r .session) ≡ true
-cryptogram-keeps s card i (CryptogramWay.failed n r) =
+cryptogram-keeps : (s : Session) (card : List ℕ) (m : ℕ) → inRanges s ≡ true → {r : Reply} → CryptogramWay m (taken Awaited.Cryptogram s card) r → inRanges (r .session) ≡ true
+cryptogram-keeps s card m i (CryptogramWay.failed n r) =
     let w = read-fits Awaited.Cryptogram (stored s) card (store-size s i) (store-fits s i) in
     failing (taken Awaited.Cryptogram s card) n r (w .0) (w .1) (count-most s i)
-cryptogram-keeps s card i (CryptogramWay.decides o g) =
+cryptogram-keeps s card m i (CryptogramWay.decides o g) =
     let w = read-fits Awaited.Cryptogram (stored s) card (store-size s i) (store-fits s i) in
     ended-keeps (taken Awaited.Cryptogram s card) o 0 g (w .0) (w .1) (count-most s i)
 
@@ -191,18 +200,18 @@ pub answer-keeps : (s : Session) (card buf : List ℕ) → inRanges s ≡ true �
 answer-keeps s card buf i = go (answer-way s card buf)
   where
     go : {st : Step} → AnswerWay s card buf st → inRanges (st .reply .session) ≡ true
-    go (AnswerWay.refused n) = i
-    go (AnswerWay.unread n k r) = fails-keeps s n (r .least) (r .most) i
+    go (AnswerWay.refused n l) = i
+    go (AnswerWay.unread m n k r h x) = fails-keeps s n (r .least) (r .most) i
     go (AnswerWay.options k q z w) = options-keeps s i q card buf w
     go (AnswerWay.recorded p r k q e w) = record-keeps s i p q (r .file) card buf w
-    go (AnswerWay.cryptogram a k q w) = cryptogram-keeps s card i w
+    go (AnswerWay.cryptogram a k q w) = cryptogram-keeps s card _ i w
 
 broken-keeps : (s : Session) (n : ℕ) (buf : List ℕ) → Reason n → inRanges s ≡ true → inRanges (brokenOff s n buf .reply .session) ≡ true
 broken-keeps s n buf r i = go (broken-way s n buf)
   where
     go : {st : Step} → BrokenWay s n buf st → inRanges (st .reply .session) ≡ true
-    go (BrokenWay.refused m) = i
-    go (BrokenWay.broken k) = fails-keeps s n (r .least) (r .most) i
+    go (BrokenWay.refused m l) = i
+    go (BrokenWay.broken m k h) = fails-keeps s n (r .least) (r .most) i
 
 pub link-keeps : (s : Session) (buf : List ℕ) → inRanges s ≡ true → inRanges (linkStep s buf .reply .session) ≡ true
 link-keeps s buf i = broken-keeps s reasonLink buf (record { least = omega arith; most = omega arith }) i
@@ -265,6 +274,6 @@ pub start-keeps : (s : Session) (bytes buf : List ℕ) → inRanges s ≡ true �
 start-keeps s bytes buf i = go (start-way s bytes buf)
   where
     go : {st : Step} → StartWay s bytes buf st → inRanges (st .reply .session) ≡ true
-    go (StartWay.refused n) = i
+    go (StartWay.refused n l) = i
     go (StartWay.unlisted b k q e) = start-fails s i q bytes buf b e
     go (StartWay.asked b c k q e f) = start-waits s i q bytes buf b e

@@ -21,6 +21,7 @@ use Rattle.record.specs.declared.Phase.{Phase}
 use Rattle.record.specs.declared.Session.{Session}
 use Rattle.record.specs.Session.{stored}
 use Rattle.record.specs.Ranges.{locatorIn}
+use Rattle.analysis.specs.Verification.{notApplicable}
 use Rattle.session.specs.Steps.{Step, fails, admitted, brokenOff}
 use Rattle.session.specs.Start.{startStep}
 use Rattle.session.specs.Answer.{askFound, storedReason, optionsRead, optionsStep, optionsReason, answerIn, answerStep}
@@ -47,7 +48,7 @@ there l a e =
     omega arith
 
 by-test : (n : ℕ) (b buf : List ℕ) (x : Bool) → eqb (storedReason b) 0 ≡ x → (f : Found) → recordAt (locatorIn b) 1 ≡ f
-    → hands (if x (askFound n b 1 buf f) (fails n b (storedReason b) buf)) ≡ x
+    → hands (if x (askFound n b 1 buf f) (fails notApplicable n b (storedReason b) buf)) ≡ x
 unfolding if
 by-test n b buf false e f g = refl
 by-test n b buf true e Found.Nothing g = absurd (there (locatorIn b) (stored-none b (eqb-true (storedReason b) 0 e) .1) g)
@@ -58,7 +59,7 @@ unfolding optionsRead
 read-hands n b buf = by-test n b buf (eqb (storedReason b) 0) refl (recordAt (locatorIn b) 1) refl
 
 by-reason : (n : ℕ) (b buf : List ℕ) (o : reading.Outcome) (x : Bool) → eqb (o .reason) 0 ≡ x
-    → hands (if x (optionsRead n (o .store) buf) (fails n b (o .reason) buf)) ≡ eqb (if x (storedReason (o .store)) (o .reason)) 0
+    → hands (if x (optionsRead n (o .store) buf) (fails notApplicable n b (o .reason) buf)) ≡ eqb (if x (storedReason (o .store)) (o .reason)) 0
 unfolding if
 by-reason n b buf o true e = read-hands n (o .store) buf
 by-reason n b buf o false e = sym e
@@ -123,7 +124,7 @@ module _ (s : Session) (e : early (s .phase) ≡ true) where
   start-stays bytes buf = go (start-way s bytes buf)
     where
       go : {st : Step} → StartWay s bytes buf st → Stays (start bytes buf) st
-      go (StartWay.refused n) = λ x. e
+      go (StartWay.refused n l) = λ x. e
       go (StartWay.unlisted b i q f) = λ x. refl
       go (StartWay.asked b c i q f g) = λ x. refl
 
@@ -138,8 +139,8 @@ module _ (s : Session) (e : early (s .phase) ≡ true) where
       first (OptionsWay.first r m a f) = λ x. no x
 
       go : {st : Step} → AnswerWay s card buf st → P st
-      go (AnswerWay.refused n) = λ x. e
-      go (AnswerWay.unread n i r) = λ x. no x
+      go (AnswerWay.refused n l) = λ x. e
+      go (AnswerWay.unread m n i r h y) = λ x. no x
       go (AnswerWay.options i q z w) = first w
       go (AnswerWay.recorded p r i q f w) = λ x. no (sym (ap early q) ∙ e)
       go (AnswerWay.cryptogram a i q w) = λ x. no (sym (ap early q) ∙ e)
@@ -149,8 +150,8 @@ module _ (s : Session) (e : early (s .phase) ≡ true) where
   broken-stays c n buf = go (broken-way s n buf)
     where
       go : {st : Step} → BrokenWay s n buf st → Stays c st
-      go (BrokenWay.refused m) = λ x. e
-      go (BrokenWay.broken i) = λ x. refl
+      go (BrokenWay.refused m l) = λ x. e
+      go (BrokenWay.broken m i h) = λ x. refl
 
   stays : (c : Call) → Stays c (step s c)
   stays (start bytes buf) = start-stays bytes buf

@@ -24,7 +24,7 @@ use Rattle.locator.proofs.Records.{records-length}
 use Rattle.reading.specs.declared.Awaited.{Awaited}
 use Rattle.reading.specs.Answer as reading
 use Rattle.data_list.proofs.Commands as list
-use Rattle.analysis.specs.Action.{resultOf}
+use Rattle.analysis.specs.Action.{findingsOf}
 use Rattle.analysis.specs.Choice.{p1Of}
 use Rattle.record.specs.declared.Outcome.{Outcome}
 use Rattle.record.specs.declared.Place.{Place}
@@ -37,12 +37,12 @@ use Rattle.record.specs.Ranges.{locatorIn, inRanges}
 use Rattle.record.specs.Clauses.{noResults}
 use Rattle.record.proofs.Phases.{store-size, on-fresh, on-options, on-record, count-most}
 use Rattle.session.specs.Steps as steps
-use Rattle.session.specs.Steps.{Step, withoutCommand, refuses, withResults, admitted, endsIn, brokenOff}
+use Rattle.session.specs.Steps.{Step, withoutCommand, refuses, withResults, withFindings, admitted, endsIn, brokenOff}
 use Rattle.session.specs.Start.{startStep}
-use Rattle.session.specs.Answer.{recordPhase, optionsReason, cryptogramPhase, answerStep}
+use Rattle.session.specs.Answer.{recordPhase, optionsReason, answerStep}
 use Rattle.trace.proofs.Kept.{read-locator}
 use Rattle.trace.proofs.Ways as ways
-use Rattle.trace.proofs.Ways.{OptionsWay, RecordsWay, RecordWay, CryptogramWay, AnswerWay, answer-way, StartWay, start-way, analysedSession, choiceIn, loadedSession}
+use Rattle.trace.proofs.Ways.{OptionsWay, RecordsWay, RecordWay, CryptogramWay, AnswerWay, answer-way, StartWay, start-way, analysedSession, askedBy, loadedSession}
 use Rattle.trace.proofs.Ranges.{start-keeps, answer-keeps, link-keeps, stop-keeps}
 use Rattle.trace.specs.Calls.{Call, start, answer, link-failed, stop, step, Made, made, play, final, isRefusal, isCommand, isOutcome, said, commandIn, commands, taken, lastOf, isAnswer, anAnswer, notAnswered, unanswered}
 use Rattle.trace.specs.Order.{broughtLocator, firstAnswer, locatorOf, acceptedLocator, Kind, options, record-command, cryptogram, kindOf, published}
@@ -230,8 +230,8 @@ Goes s c st =
 goes-refused : (s : Session) (c : Call) (n : ℕ) (buf : List ℕ) → Goes s c (refuses s n buf)
 goes-refused s c n buf sent tk f r = subst (λ (x : List Made). Run s sent x f) (sym (if-yes _ _ refl)) r
 
-goes-ended : (s : Session) (c : Call) (b : List ℕ) (o : Outcome) (n : ℕ) (buf : List ℕ) → isEnded (s .phase) ≡ false → Goes s c (withoutCommand (steps.ended (s .count) b (endOf o n)) buf)
-goes-ended s c b o n buf e sent tk f r =
+goes-ended : (s : Session) (c : Call) (k : ℕ) (b : List ℕ) (o : Outcome) (n : ℕ) (buf : List ℕ) → isEnded (s .phase) ≡ false → Goes s c (withoutCommand (steps.ended k (s .count) b (endOf o n)) buf)
+goes-ended s c k b o n buf e sent tk f r =
     subst (λ (x : List Made). Run s sent x f) (sym (if-no _ _ refl))
     (record {
       count = r .count;
@@ -245,7 +245,7 @@ goes-ended s c b o n buf e sent tk f r =
     })
   where
     m : Made
-    m = made s c (withoutCommand (steps.ended (s .count) b (endOf o n)) buf)
+    m = made s c (withoutCommand (steps.ended k (s .count) b (endOf o n)) buf)
 
     left : Front (map kindOf sent) (rest (s .phase) (locatorIn (stored s)) (acceptedIn (m ∷ tk))) × (length sent ≡ 0)
     left = none-left sent _ (r .order)
@@ -284,8 +284,8 @@ start-goes : (s : Session) (bytes buf : List ℕ) → Goes s (start bytes buf) (
 start-goes s bytes buf = go (start-way s bytes buf)
   where
     go : {st : Step} → StartWay s bytes buf st → Goes s (start bytes buf) st
-    go (StartWay.refused n) = goes-refused s (start bytes buf) n buf
-    go (StartWay.unlisted b i q e) = goes-ended s (start bytes buf) (withResults b noResults) _ _ buf (ap isEnded q)
+    go (StartWay.refused n l) = goes-refused s (start bytes buf) n buf
+    go (StartWay.unlisted b i q e) = goes-ended s (start bytes buf) _ (withResults b noResults) _ _ buf (ap isEnded q)
     go (StartWay.asked b c i q e f) =
         goes-sent s (start bytes buf) (withResults b noResults) Phase.Options c buf (ap isEnded q) refl (λ w. no (sym (ap isRunning q) ∙ w))
         (λ sent tk h. let m = made s (start bytes buf) (steps.commands (s .count) (stored (loadedSession s b)) Phase.Options c buf) in
@@ -304,7 +304,7 @@ module _ (s : Session) (card buf : List ℕ) where
       → {st : Step} → OptionsWay (ways.taken Awaited.Options s card) buf st
       → (isCommand (st .reply .answer) ≡ true → eqb (optionsReason (stored s) card) 0 ≡ true) → Goes s call st
   unfolding published
-  options-goes i q z (OptionsWay.failed n r) k = goes-ended s call _ _ n buf (ap isEnded q)
+  options-goes i q z (OptionsWay.failed n r) k = goes-ended s call _ _ _ n buf (ap isEnded q)
   options-goes i q z (OptionsWay.first r v a e) k =
       goes-sent s call b (Phase.Record (record { number = 1 })) (readRecord r) buf (ap isEnded q) refl (λ w. refl)
       (λ sent tk h. subst (λ (p : Phase). Front (kindOf (readRecord r) ∷ map kindOf sent) (rest p (locatorIn (stored s)) (acceptedIn (m ∷ tk)))) (sym q)
@@ -339,14 +339,14 @@ module _ (s : Session) (card buf : List ℕ) where
         subst (λ (x : Phase). Front xs (rest x (locatorIn (stored s)) a)) (sym q) (subst (λ (l : List ℕ). Front xs (rest (Phase.Record p) l a)) same h)
 
     records-goes : recordAt (locatorIn b) (p .number + 1) ≡ Found.Nothing → {st : Step} → RecordsWay (ways.taken w s card) buf st → Goes s call st
-    records-goes e (RecordsWay.failed n r) = goes-ended s call b _ n buf (ap isEnded q)
-    records-goes e RecordsWay.unlisted = goes-ended s call _ _ _ buf (ap isEnded q)
+    records-goes e (RecordsWay.failed n r x) = goes-ended s call _ b _ n buf (ap isEnded q)
+    records-goes e RecordsWay.unlisted = goes-ended s call _ _ _ _ buf (ap isEnded q)
     records-goes e (RecordsWay.asked c f g) =
-        goes-sent s call (withResults b (resultOf b)) _ c buf (ap isEnded q) refl (λ w. refl)
-        (λ sent tk h. left (kindOf c ∷ map kindOf sent) (acceptedIn (made s call (steps.commands (s .count) (stored (analysedSession (ways.taken w s card))) (cryptogramPhase (choiceIn (ways.taken w s card))) c buf) ∷ tk))
+        goes-sent s call (withFindings b (findingsOf b)) _ c buf (ap isEnded q) refl (λ w. refl)
+        (λ sent tk h. left (kindOf c ∷ map kindOf sent) (acceptedIn (made s call (steps.commands (s .count) (stored (analysedSession (ways.taken w s card))) (Phase.Cryptogram (askedBy (ways.taken w s card))) c buf) ∷ tk))
         (front-cons (kindOf c) cryptogram (map kindOf sent) (map reads (drop (p .number) (records (locatorIn b))) ++ (cryptogram ∷ [])) []
         (ap (λ (x : List CardRecord). map reads x ++ (cryptogram ∷ [])) (no-record (locatorIn b) (p .number) (ap accepts same ∙ on-record s i p q .locator) e))
-        (kind-cryptogram c (list.cryptogram-proper (stored (analysedSession (ways.taken w s card))) c (p1Of (choiceIn (ways.taken w s card))) g)) h))
+        (kind-cryptogram c (list.cryptogram-proper (stored (analysedSession (ways.taken w s card))) c (p1Of (askedBy (ways.taken w s card) .choice)) g)) h))
 
     record-goes : {st : Step} → RecordWay p (ways.taken w s card) buf st → Goes s call st
     record-goes (RecordWay.next r e) =
@@ -357,9 +357,9 @@ module _ (s : Session) (card buf : List ℕ) where
         (ap (λ (x : List CardRecord). map reads x ++ (cryptogram ∷ [])) (next-record (locatorIn b) (p .number) r e)) (kind-record r) h))
     record-goes (RecordWay.last e v) = records-goes e v
 
-  cryptogram-goes : isEnded (s .phase) ≡ false → {y : Reply} → CryptogramWay (ways.taken Awaited.Cryptogram s card) y → Goes s call (withoutCommand y buf)
-  cryptogram-goes e (CryptogramWay.failed n r) = goes-ended s call _ _ n buf e
-  cryptogram-goes e (CryptogramWay.decides o g) = goes-ended s call _ o _ buf e
+  cryptogram-goes : (m : ℕ) → isEnded (s .phase) ≡ false → {y : Reply} → CryptogramWay m (ways.taken Awaited.Cryptogram s card) y → Goes s call (withoutCommand y buf)
+  cryptogram-goes m e (CryptogramWay.failed n r) = goes-ended s call _ _ _ n buf e
+  cryptogram-goes m e (CryptogramWay.decides o g) = goes-ended s call _ _ o _ buf e
 
   answer-goes : Goes s call (answerStep s card buf)
   answer-goes = go (answer-way s card buf) (answer-off s card buf) (sent-by-rules s card buf)
@@ -370,11 +370,11 @@ module _ (s : Session) (card buf : List ℕ) where
 
       go : {st : Step} → AnswerWay s card buf st → (isRunning (s .phase) ≡ false → isRefusal (st .reply .answer) ≡ true)
           → (s .phase ≡ Phase.Options → isCommand (st .reply .answer) ≡ true → eqb (optionsReason (stored s) card) 0 ≡ true) → Goes s call st
-      go (AnswerWay.refused n) o k = goes-refused s call n buf
-      go (AnswerWay.unread n i r) o k = goes-ended s call (stored s) _ n buf (runs o (bool-cases (isRunning (s .phase))))
+      go (AnswerWay.refused n l) o k = goes-refused s call n buf
+      go (AnswerWay.unread m n i r h x) o k = goes-ended s call _ (stored s) _ n buf (runs o (bool-cases (isRunning (s .phase))))
       go (AnswerWay.options i q z w) o k = options-goes (i .ranges) q z w (k q)
       go (AnswerWay.recorded p r i q e w) o k = record-goes (i .ranges) p q (Awaited.Record (record { number = r .file })) w
-      go (AnswerWay.cryptogram a i q w) o k = cryptogram-goes (ap isEnded q) w
+      go (AnswerWay.cryptogram a i q w) o k = cryptogram-goes _ (ap isEnded q) w
 
 -- ---- link failed and stop
 
@@ -388,9 +388,9 @@ broken-goes s c n buf =
 
     go : (p : Phase) → s .phase ≡ p → P (endsIn p s n buf)
     go Phase.Fresh q = goes-refused s c _ buf
-    go Phase.Options q = goes-ended s c (stored s) _ n buf (ap isEnded q)
-    go (Phase.Record p) q = goes-ended s c (stored s) _ n buf (ap isEnded q)
-    go (Phase.Cryptogram a) q = goes-ended s c (stored s) _ n buf (ap isEnded q)
+    go Phase.Options q = goes-ended s c _ (stored s) _ n buf (ap isEnded q)
+    go (Phase.Record p) q = goes-ended s c _ (stored s) _ n buf (ap isEnded q)
+    go (Phase.Cryptogram a) q = goes-ended s c _ (stored s) _ n buf (ap isEnded q)
     go (Phase.Ended x) q = goes-refused s c _ buf
 
 -- ---- every call, and every list of calls

@@ -1,6 +1,6 @@
 -- The ways out of each call's step, with what is known on each: a call's step is one of them, and every law on steps goes by these cases.
 -- Assumes nothing.
-use mathlib.Core.Path.{_≡_, refl}
+use mathlib.Core.Path.{_≡_, refl, sym, ap}
 use mathlib.Core.Bool.{true}
 use mathlib.Core.List.{List}
 use mathlib.Core.Option.{Option, some, none}
@@ -20,7 +20,8 @@ use Rattle.reading.specs.Answer as reading
 use Rattle.data_list.specs.Commands.{processingOptions, generateAc}
 use Rattle.analysis.specs.declared.choice.Choice.{Choice}
 use Rattle.analysis.specs.Choice.{p1Of}
-use Rattle.analysis.specs.Action.{resultOf, chosen}
+use Rattle.analysis.specs.Action.{findingsOf}
+use Rattle.analysis.specs.Verification.{methodNumber, notApplicable}
 use Rattle.record.specs.declared.Outcome.{Outcome}
 use Rattle.record.specs.declared.Place.{Place}
 use Rattle.record.specs.declared.Asked.{Asked}
@@ -28,17 +29,18 @@ use Rattle.record.specs.declared.Phase.{Phase}
 use Rattle.record.specs.declared.Session.{Session}
 use Rattle.record.specs.declared.Reply.{Reply}
 use Rattle.record.specs.Numbers.{goesWith}
-use Rattle.basics.specs.Reason.{refusedPhase, refusedBuffer, refusedRanges, reasonNone, reasonMissing, reasonLocator, reasonAboveLimit, reasonDataList, reasonCryptogram, reasonMode}
+use Rattle.basics.specs.Reason.{refusedBytes, refusedPhase, refusedBuffer, refusedObject, refusedAbsent, refusedRanges, reasonNone, reasonMissing, reasonLocator, reasonAboveLimit, reasonDataList, reasonCryptogram, reasonMode}
 use Rattle.record.specs.declared.End.{End}
 use Rattle.record.specs.Session.{stored, storedSession, endOf}
 use Rattle.store.specs.Held.{byteIn}
 use Rattle.record.specs.Ranges.{emvMode, locatorIn, completed, inRanges}
 use Rattle.record.specs.Clauses.{noResults}
 use Rattle.record.proofs.Reasons.{decided}
-use Rattle.terminal.specs.Terminal.{Loaded, refusal, loaded, load}
-use Rattle.session.specs.Steps.{Step, withoutCommand, refuses, ended, endBy, fails, commands, withResults, leastBuffer, admitted, handOut, endsIn, brokenOff}
+use Rattle.tlv.specs.Primitives.{Object, primitives}
+use Rattle.terminal.specs.Terminal.{Loaded, refusal, loaded, setAll, afterSetting, afterRun, load}
+use Rattle.session.specs.Steps.{Step, withoutCommand, refuses, ended, endBy, fails, commands, withResults, withFindings, leastBuffer, admitted, handOut, endsIn, brokenOff}
 use Rattle.session.specs.Start.{askOptions, startLoaded, startIn, startStep}
-use Rattle.session.specs.Answer.{recordPhase, askFound, storedReason, optionsRead, optionsStep, cryptogramPhase, askCryptogram, analysed, recordsRead, nextFound, recordRead, recordFound, recordStep, onlineFor, approvedFor, decision, endFor, cryptogramEnd, cryptogramReply, answerIn, answerStep}
+use Rattle.session.specs.Answer.{recordPhase, askFound, storedReason, optionsRead, optionsStep, askCryptogram, askedIn, analysed, recordsRead, nextFound, recordRead, recordFound, recordStep, onlineFor, approvedFor, decision, endFor, cryptogramEnd, cryptogramReply, answerIn, answerStep}
 use Rattle.session.proofs.Laws.{read-ind}
 
 -- the session with a store of these bytes
@@ -61,11 +63,11 @@ pub record Admitted (s : Session) (size : ℕ) : Type 0 where
   pub ranges : inRanges s ≡ true
 
 admitted-ind : (P : Step → Type 0) (s : Session) (buf : List ℕ) (step : Step)
-    → ((n : ℕ) → P (refuses s n buf)) → (Admitted s (length buf) → P step) → P (admitted s buf step)
+    → ((n : ℕ) → n ≤ refusedRanges → P (refuses s n buf)) → (Admitted s (length buf) → P step) → P (admitted s buf step)
 unfolding admitted
 admitted-ind P s buf step f g =
-    if-ind P _ _ _ (λ e. f refusedBuffer)
-    (λ e. if-ind P _ _ _ (λ r. f refusedRanges) (λ r. g (record { room = ltb-false (length buf) leastBuffer e; ranges = not-false _ r })))
+    if-ind P _ _ _ (λ e. f refusedBuffer (omega arith))
+    (λ e. if-ind P _ _ _ (λ r. f refusedRanges (omega arith)) (λ r. g (record { room = ltb-false (length buf) leastBuffer e; ranges = not-false _ r })))
 
 -- ---- an answer
 
@@ -84,6 +86,9 @@ few-reasons a b s = read-ind (λ (o : reading.Outcome). o .reason ≤ 3) b (λ r
 
 unread-reason : (a : Awaited) (b s : List ℕ) → (reading.readAnswer a b s .reason ≡ 0 → ⊥) → Reason (reading.readAnswer a b s .reason)
 unread-reason a b s z = let f = few-reasons a b s in reason _ (omega arith) (omega arith)
+
+not-list : (a : Awaited) (b s : List ℕ) → reading.readAnswer a b s .reason ≡ reasonDataList → ⊥
+not-list a b s z = let f = few-reasons a b s in omega arith
 
 -- ---- after the processing options
 
@@ -109,7 +114,7 @@ stored-some b =
     P n = (n ≡ reasonNone → ⊥) → Reason n
 
 pub data OptionsWay (t : Session) (buf : List ℕ) : Step → Type 0 where
-  failed : (n : ℕ) → Reason n → OptionsWay t buf (fails (t .count) (stored t) n buf)
+  failed : (n : ℕ) → Reason n → OptionsWay t buf (fails notApplicable (t .count) (stored t) n buf)
   first : (r : CardRecord) → emvMode (stored t) ≡ true → accepts (locatorIn (stored t)) ≡ true → recordAt (locatorIn (stored t)) 1 ≡ Found.At r
       → OptionsWay t buf (commands (t .count) (stored t) (recordPhase 1) (readRecord r) buf)
 
@@ -130,31 +135,31 @@ options-way t buf =
 
 -- ---- after the last record
 
--- the session with its result bits, and the choice on them
+-- the session with 9F34 and its result bits, and what is asked for
 abbrev pub analysedSession : Session → Session
-analysedSession t = withStore t (withResults (stored t) (resultOf (stored t)))
+analysedSession t = withStore t (withFindings (stored t) (findingsOf (stored t)))
 
-abbrev pub choiceIn : Session → Choice
-choiceIn t = chosen (stored t) (resultOf (stored t))
+abbrev pub askedBy : Session → Asked
+askedBy t = askedIn (stored t)
 
 pub data RecordsWay (t : Session) (buf : List ℕ) : Step → Type 0 where
-  failed : (n : ℕ) → Reason n → RecordsWay t buf (fails (t .count) (stored t) n buf)
-  unlisted : RecordsWay t buf (fails (t .count) (stored (analysedSession t)) reasonDataList buf)
-  asked : (c : List ℕ) → completed (stored t) ≡ true → generateAc (p1Of (choiceIn t)) (stored (analysedSession t)) ≡ some c
-      → RecordsWay t buf (commands (t .count) (stored (analysedSession t)) (cryptogramPhase (choiceIn t)) c buf)
+  failed : (n : ℕ) → Reason n → (n ≡ reasonDataList → ⊥) → RecordsWay t buf (fails notApplicable (t .count) (stored t) n buf)
+  unlisted : RecordsWay t buf (fails (methodNumber (askedBy t .method)) (t .count) (stored (analysedSession t)) reasonDataList buf)
+  asked : (c : List ℕ) → completed (stored t) ≡ true → generateAc (p1Of (askedBy t .choice)) (stored (analysedSession t)) ≡ some c
+      → RecordsWay t buf (commands (t .count) (stored (analysedSession t)) (Phase.Cryptogram (askedBy t)) c buf)
 
 pub records-way : (t : Session) (buf : List ℕ) → RecordsWay t buf (recordsRead (t .count) (stored t) buf)
 unfolding recordsRead analysed askCryptogram
 records-way t buf =
-    if-ind P _ _ _ (λ e. failed reasonAboveLimit (reason 6 (omega arith) (omega arith)))
-    (λ e. if-ind P _ _ _ (λ f. failed reasonMissing (reason 4 (omega arith) (omega arith)))
-    (λ f. go (not-false _ f) (generateAc (p1Of (choiceIn t)) (stored (analysedSession t))) refl))
+    if-ind P _ _ _ (λ e. failed reasonAboveLimit (reason 6 (omega arith) (omega arith)) (λ z. omega arith))
+    (λ e. if-ind P _ _ _ (λ f. failed reasonMissing (reason 4 (omega arith) (omega arith)) (λ z. omega arith))
+    (λ f. go (not-false _ f) (generateAc (p1Of (askedBy t .choice)) (stored (analysedSession t))) refl))
   where
     P : Step → Type 0
     P = RecordsWay t buf
 
-    go : completed (stored t) ≡ true → (x : Option (List ℕ)) → generateAc (p1Of (choiceIn t)) (stored (analysedSession t)) ≡ x
-        → P (handOut (t .count) (stored (analysedSession t)) (cryptogramPhase (choiceIn t)) buf x)
+    go : completed (stored t) ≡ true → (x : Option (List ℕ)) → generateAc (p1Of (askedBy t .choice)) (stored (analysedSession t)) ≡ x
+        → P (handOut (methodNumber (askedBy t .method)) (t .count) (stored (analysedSession t)) (Phase.Cryptogram (askedBy t)) buf x)
     go f none e = unlisted
     go f (some c) e = asked c f e
 
@@ -175,9 +180,9 @@ record-way p t buf = go (recordAt (locatorIn (stored t)) (p .number + 1)) refl
 
 -- ---- after the cryptogram
 
-pub data CryptogramWay (t : Session) : Reply → Type 0 where
-  failed : (n : ℕ) → Reason n → CryptogramWay t (ended (t .count) (stored t) (endBy n))
-  decides : (o : Outcome) → goesWith o reasonNone ≡ true → CryptogramWay t (ended (t .count) (stored t) (endOf o reasonNone))
+pub data CryptogramWay (m : ℕ) (t : Session) : Reply → Type 0 where
+  failed : (n : ℕ) → Reason n → CryptogramWay m t (ended m (t .count) (stored t) (endBy n))
+  decides : (o : Outcome) → goesWith o reasonNone ≡ true → CryptogramWay m t (ended m (t .count) (stored t) (endOf o reasonNone))
 
 -- a decision has no reason
 abbrev Fine : Option Outcome → Type 0
@@ -200,33 +205,47 @@ fine-decision c kind =
     if-ind Fine _ _ _ (λ e. decided .2)
     (λ e. if-ind Fine _ _ _ (λ f. fine-online c) (λ f. if-ind Fine _ _ _ (λ g. fine-approved c) (λ g. tt)))
 
-pub cryptogram-way : (a : Asked) (t : Session) → CryptogramWay t (ended (t .count) (stored t) (cryptogramEnd a (stored t)))
+pub cryptogram-way : (a : Asked) (t : Session) → CryptogramWay (methodNumber (a .method)) t (ended (methodNumber (a .method)) (t .count) (stored t) (cryptogramEnd a (stored t)))
 unfolding cryptogramEnd
 cryptogram-way a t =
-    if-ind (λ (e : End). CryptogramWay t (ended (t .count) (stored t) e)) _ _ _ (λ e. failed reasonMissing (reason 4 (omega arith) (omega arith)))
+    if-ind (λ (e : End). CryptogramWay m t (ended m (t .count) (stored t) e)) _ _ _ (λ e. failed reasonMissing (reason 4 (omega arith) (omega arith)))
     (λ e. go (decision (a .choice) (byteIn (stored t) 0x9F27 1 / 64)) (fine-decision (a .choice) (byteIn (stored t) 0x9F27 1 / 64)))
   where
-    go : (o : Option Outcome) → Fine o → CryptogramWay t (ended (t .count) (stored t) (endFor o))
+    m : ℕ
+    m = methodNumber (a .method)
+
+    go : (o : Option Outcome) → Fine o → CryptogramWay m t (ended m (t .count) (stored t) (endFor o))
     go none f = failed reasonCryptogram (reason 8 (omega arith) (omega arith))
     go (some o) f = decides o f
+
+-- ---- the method that a session holds
+
+-- its number: not applicable but while the cryptogram is awaited
+abbrev pub heldNumber : Phase → ℕ
+heldNumber Phase.Fresh = notApplicable
+heldNumber Phase.Options = notApplicable
+heldNumber (Phase.Record p) = notApplicable
+heldNumber (Phase.Cryptogram a) = methodNumber (a .method)
+heldNumber (Phase.Ended e) = notApplicable
 
 -- ---- the call answer
 
 pub data AnswerWay (s : Session) (card buf : List ℕ) : Step → Type 0 where
-  refused : (n : ℕ) → AnswerWay s card buf (refuses s n buf)
-  unread : (n : ℕ) → Admitted s (length buf) → Reason n → AnswerWay s card buf (fails (s .count) (stored s) n buf)
+  refused : (n : ℕ) → n ≤ refusedRanges → AnswerWay s card buf (refuses s n buf)
+  unread : (m n : ℕ) → Admitted s (length buf) → Reason n → m ≡ heldNumber (s .phase) → (n ≡ reasonDataList → ⊥) → AnswerWay s card buf (fails m (s .count) (stored s) n buf)
   options : {st : Step} → Admitted s (length buf) → s .phase ≡ Phase.Options → reading.readAnswer Awaited.Options (stored s) card .reason ≡ 0
       → OptionsWay (taken Awaited.Options s card) buf st → AnswerWay s card buf st
   recorded : {st : Step} (p : Place) (r : CardRecord) → Admitted s (length buf) → s .phase ≡ Phase.Record p → recordAt (locatorIn (stored s)) (p .number) ≡ Found.At r
       → RecordWay p (taken (Awaited.Record (record { number = r .file })) s card) buf st → AnswerWay s card buf st
-  cryptogram : {q : Reply} (a : Asked) → Admitted s (length buf) → s .phase ≡ Phase.Cryptogram a → CryptogramWay (taken Awaited.Cryptogram s card) q
+  cryptogram : {q : Reply} (a : Asked) → Admitted s (length buf) → s .phase ≡ Phase.Cryptogram a → CryptogramWay (methodNumber (a .method)) (taken Awaited.Cryptogram s card) q
       → AnswerWay s card buf (withoutCommand q buf)
 
 module _ (s : Session) (card buf : List ℕ) (i : Admitted s (length buf)) where
   step-options : s .phase ≡ Phase.Options → AnswerWay s card buf (optionsStep (s .count) (stored s) card buf)
   unfolding optionsStep
   step-options q =
-      reading-ind (AnswerWay s card buf) (reading.readAnswer Awaited.Options (stored s) card) _ _ (λ z. unread _ i (unread-reason Awaited.Options (stored s) card z))
+      reading-ind (AnswerWay s card buf) (reading.readAnswer Awaited.Options (stored s) card) _ _
+      (λ z. unread _ _ i (unread-reason Awaited.Options (stored s) card z) (sym (ap heldNumber q)) (not-list Awaited.Options (stored s) card))
       (λ z. options i q z (options-way (taken Awaited.Options s card) buf))
 
   step-record : (p : Place) → s .phase ≡ Phase.Record p → AnswerWay s card buf (recordStep p (s .count) (stored s) card buf)
@@ -234,38 +253,58 @@ module _ (s : Session) (card buf : List ℕ) (i : Admitted s (length buf)) where
   step-record p q = go (recordAt (locatorIn (stored s)) (p .number)) refl
     where
       go : (x : Found) → recordAt (locatorIn (stored s)) (p .number) ≡ x → AnswerWay s card buf (recordFound p (s .count) (stored s) card buf x)
-      go Found.Nothing e = unread reasonLocator i (reason 5 (omega arith) (omega arith))
+      go Found.Nothing e = unread _ reasonLocator i (reason 5 (omega arith) (omega arith)) (sym (ap heldNumber q)) (λ z. omega arith)
       go (Found.At r) e =
           reading-ind (AnswerWay s card buf) (reading.readAnswer (Awaited.Record (record { number = r .file })) (stored s) card) _ _
-          (λ z. unread _ i (unread-reason (Awaited.Record (record { number = r .file })) (stored s) card z))
+          (λ z. unread _ _ i (unread-reason (Awaited.Record (record { number = r .file })) (stored s) card z) (sym (ap heldNumber q))
+          (not-list (Awaited.Record (record { number = r .file })) (stored s) card))
           (λ z. recorded p r i q e (record-way p (taken (Awaited.Record (record { number = r .file })) s card) buf))
 
   step-cryptogram : (a : Asked) → s .phase ≡ Phase.Cryptogram a → AnswerWay s card buf (withoutCommand (cryptogramReply a (s .count) (stored s) card) buf)
   unfolding cryptogramReply
   step-cryptogram a q =
       reading-ind (λ (r : Reply). AnswerWay s card buf (withoutCommand r buf)) (reading.readAnswer Awaited.Cryptogram (stored s) card) _ _
-      (λ z. unread _ i (unread-reason Awaited.Cryptogram (stored s) card z))
+      (λ z. unread _ _ i (unread-reason Awaited.Cryptogram (stored s) card z) (sym (ap heldNumber q)) (not-list Awaited.Cryptogram (stored s) card))
       (λ z. cryptogram a i q (cryptogram-way a (taken Awaited.Cryptogram s card)))
 
   step-in : (p : Phase) → s .phase ≡ p → AnswerWay s card buf (answerIn p s card buf)
-  step-in Phase.Fresh q = refused refusedPhase
+  step-in Phase.Fresh q = refused refusedPhase (omega arith)
   step-in Phase.Options q = step-options q
   step-in (Phase.Record p) q = step-record p q
   step-in (Phase.Cryptogram a) q = step-cryptogram a q
-  step-in (Phase.Ended e) q = refused refusedPhase
+  step-in (Phase.Ended e) q = refused refusedPhase (omega arith)
 
 pub answer-way : (s : Session) (card buf : List ℕ) → AnswerWay s card buf (answerStep s card buf)
 answer-way s card buf = admitted-ind (AnswerWay s card buf) s buf _ refused (λ i. step-in s card buf i (s .phase) refl)
 
 -- ---- the call start
 
+-- a loading is refused by 20, 23 or 24
+load-most : (b bytes : List ℕ) (n : ℕ) → load b bytes ≡ refusal n → n ≤ refusedRanges
+unfolding load
+load-most b bytes n = if-ind P _ _ _ (λ e. by-run (primitives bytes)) (λ e. few refusedBytes (omega arith))
+  where
+    P : Loaded → Type 0
+    P x = x ≡ refusal n → n ≤ refusedRanges
+
+    few : (m : ℕ) → m ≤ refusedRanges → P (refusal m)
+    few m h e = let z : m ≡ n = cc in omega arith
+
+    by-set : (x : Option (List ℕ)) → P (afterSetting x)
+    by-set none = few refusedObject (omega arith)
+    by-set (some c) = if-ind P _ _ _ (λ t e. let z : _≡_ {A = ℕ} 0 1 = cc in absurd (omega arith)) (λ t. few refusedAbsent (omega arith))
+
+    by-run : (x : Option (List Object)) → P (afterRun b x)
+    by-run none = few refusedBytes (omega arith)
+    by-run (some os) = by-set (setAll b os)
+
 -- the session with the store that a start loaded
 abbrev pub loadedSession : Session → List ℕ → Session
 loadedSession s b = withStore s (withResults b noResults)
 
 pub data StartWay (s : Session) (bytes buf : List ℕ) : Step → Type 0 where
-  refused : (n : ℕ) → StartWay s bytes buf (refuses s n buf)
-  unlisted : (b : List ℕ) → Admitted s (length buf) → s .phase ≡ Phase.Fresh → load (stored s) bytes ≡ loaded b → StartWay s bytes buf (fails (s .count) (stored (loadedSession s b)) reasonDataList buf)
+  refused : (n : ℕ) → n ≤ refusedRanges → StartWay s bytes buf (refuses s n buf)
+  unlisted : (b : List ℕ) → Admitted s (length buf) → s .phase ≡ Phase.Fresh → load (stored s) bytes ≡ loaded b → StartWay s bytes buf (fails notApplicable (s .count) (stored (loadedSession s b)) reasonDataList buf)
   asked : (b c : List ℕ) → Admitted s (length buf) → s .phase ≡ Phase.Fresh → load (stored s) bytes ≡ loaded b → processingOptions (stored (loadedSession s b)) ≡ some c
       → StartWay s bytes buf (commands (s .count) (stored (loadedSession s b)) Phase.Options c buf)
 
@@ -277,33 +316,33 @@ start-way s bytes buf = admitted-ind P s buf _ refused (λ i. go i (s .phase) re
     P = StartWay s bytes buf
 
     sent : (b : List ℕ) → Admitted s (length buf) → s .phase ≡ Phase.Fresh → load (stored s) bytes ≡ loaded b → (x : Option (List ℕ)) → processingOptions (stored (loadedSession s b)) ≡ x
-        → P (handOut (s .count) (stored (loadedSession s b)) Phase.Options buf x)
+        → P (handOut notApplicable (s .count) (stored (loadedSession s b)) Phase.Options buf x)
     sent b i q e none f = unlisted b i q e
     sent b i q e (some c) f = asked b c i q e f
 
     by : Admitted s (length buf) → s .phase ≡ Phase.Fresh → (x : Loaded) → load (stored s) bytes ≡ x → P (startLoaded s buf x)
-    by i q (refusal n) e = refused n
+    by i q (refusal n) e = refused n (load-most (stored s) bytes n e)
     by i q (loaded b) e = sent b i q e (processingOptions (stored (loadedSession s b))) refl
 
     go : Admitted s (length buf) → (p : Phase) → s .phase ≡ p → P (startIn p s bytes buf)
     go i Phase.Fresh q = by i q (load (stored s) bytes) refl
-    go i Phase.Options q = refused refusedPhase
-    go i (Phase.Record p) q = refused refusedPhase
-    go i (Phase.Cryptogram a) q = refused refusedPhase
-    go i (Phase.Ended e) q = refused refusedPhase
+    go i Phase.Options q = refused refusedPhase (omega arith)
+    go i (Phase.Record p) q = refused refusedPhase (omega arith)
+    go i (Phase.Cryptogram a) q = refused refusedPhase (omega arith)
+    go i (Phase.Ended e) q = refused refusedPhase (omega arith)
 
 -- ---- link failed and stop
 
 pub data BrokenWay (s : Session) (n : ℕ) (buf : List ℕ) : Step → Type 0 where
-  refused : (m : ℕ) → BrokenWay s n buf (refuses s m buf)
-  broken : Admitted s (length buf) → BrokenWay s n buf (fails (s .count) (stored s) n buf)
+  refused : (m : ℕ) → m ≤ refusedRanges → BrokenWay s n buf (refuses s m buf)
+  broken : (m : ℕ) → Admitted s (length buf) → m ≡ heldNumber (s .phase) → BrokenWay s n buf (fails m (s .count) (stored s) n buf)
 
 pub broken-way : (s : Session) (n : ℕ) (buf : List ℕ) → BrokenWay s n buf (brokenOff s n buf)
-broken-way s n buf = admitted-ind (BrokenWay s n buf) s buf _ refused (λ i. go i (s .phase))
+broken-way s n buf = admitted-ind (BrokenWay s n buf) s buf _ refused (λ i. go i (s .phase) refl)
   where
-    go : Admitted s (length buf) → (p : Phase) → BrokenWay s n buf (endsIn p s n buf)
-    go i Phase.Fresh = refused refusedPhase
-    go i Phase.Options = broken i
-    go i (Phase.Record p) = broken i
-    go i (Phase.Cryptogram a) = broken i
-    go i (Phase.Ended e) = refused refusedPhase
+    go : Admitted s (length buf) → (p : Phase) → s .phase ≡ p → BrokenWay s n buf (endsIn p s n buf)
+    go i Phase.Fresh q = refused refusedPhase (omega arith)
+    go i Phase.Options q = broken _ i (sym (ap heldNumber q))
+    go i (Phase.Record p) q = broken _ i (sym (ap heldNumber q))
+    go i (Phase.Cryptogram a) q = broken _ i (sym (ap heldNumber q))
+    go i (Phase.Ended e) q = refused refusedPhase (omega arith)

@@ -3,6 +3,7 @@ use record::{Answer, Phase, Reply};
 
 fn main() {
     decisions();
+    methods();
     card_reasons();
     later_reasons();
     broken_off();
@@ -14,13 +15,14 @@ fn main() {
 
 // All that a start must bring: a terminal type, and an amount of 12.34 and so many hundreds. The floor
 // limit is 100.00, the transaction limit 200.00.
-fn terminal(kind: u8, hundreds: u8) -> [u8; 85] {
+fn terminal(kind: u8, hundreds: u8) -> [u8; 101] {
     [
         0x9A, 0x03, 0x25, 0x11, 0x15, 0x9C, 0x01, 0x00, 0x9F, 0x02, 0x06, 0x00, 0x00, 0x00, hundreds, 0x12, 0x34, 0x9F,
-        0x09, 0x02, 0x00, 0x02, 0x9F, 0x1A, 0x02, 0x00, 0x56, 0x9F, 0x35, 0x01, kind, 0x9F, 0x37, 0x04, 0x01, 0x02,
-        0x03, 0x04, 0xDF, 0x81, 0x20, 0x05, 0x00, 0x00, 0x00, 0x00, 0x00, 0xDF, 0x81, 0x21, 0x05, 0x00, 0x00, 0x00,
-        0x00, 0x00, 0xDF, 0x81, 0x22, 0x05, 0x00, 0x00, 0x00, 0x00, 0x00, 0xDF, 0x81, 0x23, 0x06, 0x00, 0x00, 0x00,
-        0x01, 0x00, 0x00, 0xDF, 0x81, 0x24, 0x06, 0x00, 0x00, 0x00, 0x02, 0x00, 0x00,
+        0x09, 0x02, 0x00, 0x02, 0x9F, 0x1A, 0x02, 0x00, 0x56, 0x9F, 0x33, 0x03, 0xE0, 0x68, 0xC8, 0x9F, 0x35, 0x01,
+        kind, 0x9F, 0x37, 0x04, 0x01, 0x02, 0x03, 0x04, 0xDF, 0x81, 0x20, 0x05, 0x00, 0x00, 0x00, 0x00, 0x00, 0xDF,
+        0x81, 0x21, 0x05, 0x00, 0x00, 0x00, 0x00, 0x00, 0xDF, 0x81, 0x22, 0x05, 0x00, 0x00, 0x00, 0x00, 0x00, 0xDF,
+        0x81, 0x23, 0x06, 0x00, 0x00, 0x00, 0x01, 0x00, 0x00, 0xDF, 0x81, 0x24, 0x06, 0x00, 0x00, 0x00, 0x02, 0x00,
+        0x00, 0xDF, 0x81, 0x26, 0x06, 0x00, 0x00, 0x00, 0x00, 0x10, 0x00,
     ]
 }
 
@@ -29,7 +31,7 @@ fn begin(kind: u8, hundreds: u8) -> Reply {
     let mut command = [0u8; 261];
     let bytes = terminal(kind, hundreds);
     let reply = session::start(record::fresh(), &bytes, &mut command);
-    show::reply(reply, &command);
+    show::reply_with_method(reply, &command);
     reply
 }
 
@@ -41,7 +43,7 @@ fn next(reply: Reply, card: &[u8]) -> Reply {
     };
     let mut command = [0u8; 261];
     let after = session::answer(reply.session, card, &mut command);
-    show::reply(after, &command);
+    show::reply_with_method(after, &command);
     after
 }
 
@@ -72,6 +74,40 @@ fn decisions() {
     purchase(0x23, 0, options, online, b"\x80\x0B\x00\x00\x01\x01\x02\x03\x04\x05\x06\x07\x08\x90\x00");
     show::text(b"declined by the card\n");
     purchase(0x22, 0, options, offline, b"\x80\x0B\x00\x00\x01\x01\x02\x03\x04\x05\x06\x07\x08\x90\x00");
+}
+
+// ---- methods of cardholder verification
+
+// 82 says that the card supports verification; 8C asks for 95 and 9F34.
+fn methods() {
+    show::text(b"online PIN\n");
+    verified(b"\x70\x25\x5F\x24\x03\x30\x12\x31\x5A\x08\x47\x61\x73\x90\x01\x01\x00\x10\x8C\x05\x95\x05\x9F\x34\x03\x8E\x0C\x00\x00\x00\x00\x00\x00\x00\x00\x42\x03\x5E\x03\x90\x00");
+    show::text(b"signature\n");
+    verified(b"\x70\x23\x5F\x24\x03\x30\x12\x31\x5A\x08\x47\x61\x73\x90\x01\x01\x00\x10\x8C\x05\x95\x05\x9F\x34\x03\x8E\x0A\x00\x00\x00\x00\x00\x00\x00\x00\x5E\x03\x90\x00");
+    show::text(b"no list\n");
+    verified(b"\x70\x17\x5F\x24\x03\x30\x12\x31\x5A\x08\x47\x61\x73\x90\x01\x01\x00\x10\x8C\x05\x95\x05\x9F\x34\x03\x90\x00");
+    show::text(b"a list that fails\n");
+    verified(b"\x70\x23\x5F\x24\x03\x30\x12\x31\x5A\x08\x47\x61\x73\x90\x01\x01\x00\x10\x8C\x05\x95\x05\x9F\x34\x03\x8E\x0A\x00\x00\x00\x00\x00\x00\x00\x00\x00\x00\x90\x00");
+    show::text(b"reason 7 after the choice of the method\n");
+    verified(b"\x70\x1F\x5F\x24\x03\x30\x12\x31\x5A\x08\x47\x61\x73\x90\x01\x01\x00\x10\x8C\x01\x95\x8E\x0A\x00\x00\x00\x00\x00\x00\x00\x00\x5E\x03\x90\x00");
+    show::text(b"a failed link after the choice of the method\n");
+    unlinked(b"\x70\x23\x5F\x24\x03\x30\x12\x31\x5A\x08\x47\x61\x73\x90\x01\x01\x00\x10\x8C\x05\x95\x05\x9F\x34\x03\x8E\x0A\x00\x00\x00\x00\x00\x00\x00\x00\x5E\x03\x90\x00");
+}
+
+// A purchase that the card sends online.
+fn verified(record: &[u8]) {
+    let options = b"\x80\x06\x10\x80\x08\x01\x01\x00\x90\x00";
+    purchase(0x22, 0, options, record, b"\x80\x0B\x80\x00\x01\x01\x02\x03\x04\x05\x06\x07\x08\x90\x00");
+}
+
+// A purchase whose link fails after its record.
+fn unlinked(record: &[u8]) {
+    let mut command = [0u8; 261];
+    let started = begin(0x22, 0);
+    let asked = next(started, b"\x80\x06\x10\x80\x08\x01\x01\x00\x90\x00");
+    let read = next(asked, record);
+    let failed = session::link_failed(read.session, &mut command);
+    show::reply_with_method(failed, &command);
 }
 
 // ---- reasons
@@ -111,11 +147,11 @@ fn broken_off() {
     show::text(b"reason 9\n");
     let linked = begin(0x22, 0);
     let failed = session::link_failed(linked.session, &mut command);
-    show::reply(failed, &command);
+    show::reply_with_method(failed, &command);
     show::text(b"reason 10\n");
     let started = begin(0x22, 0);
     let stopped = session::stop(started.session, &mut command);
-    show::reply(stopped, &command);
+    show::reply_with_method(stopped, &command);
 }
 
 // ---- refusals
@@ -123,19 +159,19 @@ fn broken_off() {
 fn refusals() {
     let mut command = [0u8; 261];
     show::text(b"a template in the start bytes\n");
-    show::reply(session::start(record::fresh(), b"\xE1\x00", &mut command), &command);
+    show::reply_with_method(session::start(record::fresh(), b"\xE1\x00", &mut command), &command);
     show::text(b"an answer to a fresh session\n");
-    show::reply(session::answer(record::fresh(), b"\x90\x00", &mut command), &command);
+    show::reply_with_method(session::answer(record::fresh(), b"\x90\x00", &mut command), &command);
     show::text(b"a command buffer of 260 bytes\n");
     let mut short = [0u8; 260];
-    show::reply(session::start(record::fresh(), b"", &mut short), &short);
+    show::reply_with_method(session::start(record::fresh(), b"", &mut short), &short);
     show::text(b"result bits in the start bytes\n");
-    show::reply(session::start(record::fresh(), b"\x95\x05\x00\x00\x00\x00\x00", &mut command), &command);
+    show::reply_with_method(session::start(record::fresh(), b"\x95\x05\x00\x00\x00\x00\x00", &mut command), &command);
     show::text(b"no start bytes\n");
-    show::reply(session::start(record::fresh(), b"", &mut command), &command);
+    show::reply_with_method(session::start(record::fresh(), b"", &mut command), &command);
     show::text(b"a fresh session with a count of 1\n");
     let broken = record::waiting(record::fresh(), Phase::Fresh, 1);
-    show::reply(session::start(broken, b"", &mut command), &command);
+    show::reply_with_method(session::start(broken, b"", &mut command), &command);
 }
 
 // ---- the longest session: 128 records

@@ -1,11 +1,13 @@
-// Every word that `show` has for a number or a tag: each reason, refusal and outcome in a reply, and each row of the
+// Every word that `show` has for a number or a tag: each reason, refusal, outcome and method in a reply, and each row of the
 // dictionary as an object that is there and empty.
+use analysis::verification::NOT_APPLICABLE;
 use dictionary::{ROWS, SIZE};
-use record::{Answer, End, Outcome, Refusal, Reply};
+use record::{Answer, Outcome, OutcomeParameters, Refusal, Reply};
 
 fn main() {
     outcomes();
     reasons();
+    methods();
     refusals();
     names();
 }
@@ -16,9 +18,9 @@ fn reply_with(answer: Answer) {
     show::reply_in_words(Reply { session, answer }, b"");
 }
 
-// An outcome with a reason, whether they go together or not.
+// An outcome with a reason, whether they go together or not, and no method.
 fn ending(outcome: Outcome, reason: u8) {
-    reply_with(Answer::Outcome(End { outcome, reason }));
+    reply_with(Answer::Outcome(OutcomeParameters { outcome, reason, method: NOT_APPLICABLE }));
 }
 
 fn outcomes() {
@@ -33,6 +35,14 @@ fn outcomes() {
 fn reasons() {
     for reason in 1..13u8 {
         ending(record::outcome_for(reason), reason);
+    }
+}
+
+// Every method with an approval, and the numbers beside them.
+fn methods() {
+    let outcome = Outcome::Approved;
+    for method in 0..17u8 {
+        reply_with(Answer::Outcome(OutcomeParameters { outcome, reason: 0, method }));
     }
 }
 

@@ -22,7 +22,7 @@ pub fn answer(rng: &mut Rng, session: &[u8], faults: bool) -> Vec<u8> {
     let detail = session.get(2).copied().unwrap_or(0);
     let empty = [0; model::STORE_SIZE];
     let store: &Store = session
-        .get(5..)
+        .get(model::HEAD_SIZE..)
         .and_then(<[u8]>::first_chunk)
         .unwrap_or(&empty);
     let fault = faults.then(|| rng.below(20));
@@ -164,7 +164,12 @@ fn record(rng: &mut Rng, store: &Store, k: u32, fault: Option<usize>) -> Vec<u8>
             object,
             Object::IssuerActionDefault | Object::IssuerActionOnline
         );
-        let wanted = rng.one_in(if code { 2 } else { rate });
+        let wanted = match object {
+            Object::CvmList | Object::ApplicationCurrency => {
+                rng.percent(if last { 75 } else { 30 })
+            }
+            _ => rng.one_in(if code { 2 } else { rate }),
+        };
         if wanted && !NEEDED.contains(&object) && !store::has_value(store, object) {
             if object == Object::Track2 && rng.one_in(3) {
                 add(rng, object, &[]);
@@ -285,7 +290,8 @@ fn unknown(rng: &mut Rng) -> Vec<u8> {
 fn private(rng: &mut Rng) -> Vec<u8> {
     let length = rng.below(8);
     let value = rng.bytes(length);
-    let tag = 0xDF8120 + rng.below(5) as u32;
+    // DF8125 is not known, and skipped as well.
+    let tag = 0xDF8120 + rng.below(7) as u32;
     objects::object(rng, tag, &value)
 }
 

@@ -3,7 +3,7 @@
 use crate::objects;
 use crate::rng::Rng;
 use model::dictionary::{Object, Setter, REQUIRED_AT_START, ROWS};
-use model::{locator, SESSION_SIZE};
+use model::{locator, HEAD_SIZE, SESSION_SIZE};
 
 /// Flips, cuts, inserts, appends or replaces some bytes.
 pub fn bytes(rng: &mut Rng, bytes: &mut Vec<u8>) {
@@ -29,9 +29,24 @@ pub fn bytes(rng: &mut Rng, bytes: &mut Vec<u8>) {
     }
 }
 
+/// Values of the head's last byte: the methods' numbers, and others near them.
+const METHODS: [u8; 10] = [0, 1, 2, 4, 3, 5, 8, 15, 16, 255];
+
+/// The method's byte for a phase, mostly one that goes with it.
+fn method(rng: &mut Rng, phase: u8) -> u8 {
+    if phase == 3 {
+        let known = rng.percent(95);
+        rng.pick(if known { &METHODS[..4] } else { &METHODS })
+    } else if rng.one_in(30) {
+        rng.pick(&METHODS)
+    } else {
+        0
+    }
+}
+
 /// Offset of an object's place in a session record.
 fn place(object: Object) -> usize {
-    5 + object.row().place
+    HEAD_SIZE + object.row().place
 }
 
 /// Puts a value at its place in a session record.
@@ -52,10 +67,10 @@ fn records(record: &[u8]) -> Option<u32> {
 /// Fills the bytes that are free: the places of absent objects and those behind values.
 fn fill_free(rng: &mut Rng, record: &mut [u8]) {
     for row in &ROWS {
-        let used = usize::from(record[5 + row.place]).max(1);
+        let used = usize::from(record[HEAD_SIZE + row.place]).max(1);
         let end = 1 + usize::from(row.most);
         if used < end {
-            rng.fill(&mut record[5 + row.place..][used..end]);
+            rng.fill(&mut record[HEAD_SIZE + row.place..][used..end]);
         }
     }
 }
@@ -65,14 +80,14 @@ pub fn record(rng: &mut Rng, record: &mut [u8]) {
     let object = rng.pick(&Object::ALL);
     let at = place(object);
     let most = object.row().most;
-    match rng.below(18) {
+    match rng.below(19) {
         0 => {
             for _ in 0..rng.within(1..=3) {
                 record[rng.below(SESSION_SIZE)] ^= 1 << rng.below(8);
             }
         }
         1 => {
-            let at = rng.below(5);
+            let at = rng.below(HEAD_SIZE);
             record[at] = if rng.one_in(2) {
                 rng.byte()
             } else {
@@ -132,6 +147,9 @@ pub fn record(rng: &mut Rng, record: &mut [u8]) {
                 Object::CryptogramInformation,
                 Object::TransactionCounter,
                 Object::TerminalType,
+                Object::CvmResults,
+                Object::TerminalCapabilities,
+                Object::CvmRequiredLimit,
             ]);
             if rng.one_in(2) {
                 record[place(object)] = rng.below(2) as u8;
@@ -144,6 +162,7 @@ pub fn record(rng: &mut Rng, record: &mut [u8]) {
             record[place(Object::TerminalType) + 1] =
                 rng.pick(&[0x10, 0x17, 0x27, 0x31, 0x33, 0x37, 0x00]);
         }
+        16 => record[5] = rng.pick(&METHODS),
         _ => other_phase(rng, record),
     }
 }
@@ -177,6 +196,7 @@ fn other_phase(rng: &mut Rng, record: &mut [u8]) {
         }
     };
     record[1..5].copy_from_slice(&[phase, detail, reason, count]);
+    record[5] = method(rng, phase);
     if rng.one_in(6) {
         record[4] = rng.byte();
     }
@@ -185,7 +205,7 @@ fn other_phase(rng: &mut Rng, record: &mut [u8]) {
 /// A session record built from nothing, mostly within its ranges.
 pub fn built_record(rng: &mut Rng) -> Vec<u8> {
     let mut bytes = vec![0; SESSION_SIZE];
-    bytes[0] = 1;
+    model::open(&mut bytes);
     let phase = rng.below(5);
     if phase == 0 {
         return bytes;
@@ -194,7 +214,8 @@ pub fn built_record(rng: &mut Rng) -> Vec<u8> {
     for object in Object::ALL {
         let wanted = match object.row().setter {
             _ if REQUIRED_AT_START.contains(&object) => running || rng.one_in(2),
-            Setter::Session => running || rng.one_in(2),
+            Setter::Session if object == Object::VerificationResults => running || rng.one_in(2),
+            Setter::Session => rng.one_in(3),
             Setter::Start | Setter::Card70 => rng.one_in(2),
             Setter::Card77 => phase >= 2,
             Setter::Cryptogram77 => !running && rng.one_in(2),
@@ -208,7 +229,12 @@ pub fn built_record(rng: &mut Rng) -> Vec<u8> {
         put(&mut bytes, Object::VerificationResults, &[0; 5]);
     }
     if phase == 3 {
-        for object in [Object::ExpirationDate, Object::Pan, Object::Cdol1] {
+        for object in [
+            Object::ExpirationDate,
+            Object::Pan,
+            Object::Cdol1,
+            Object::CvmResults,
+        ] {
             let value = objects::good_value(rng, object);
             put(&mut bytes, object, &value);
         }
@@ -235,5 +261,6 @@ pub fn built_record(rng: &mut Rng) -> Vec<u8> {
         ]),
     };
     bytes[1..5].copy_from_slice(&[phase as u8, detail, reason, count]);
+    bytes[5] = method(rng, phase as u8);
     bytes
 }

@@ -393,6 +393,10 @@ impl Draft {
     /// Fills a record with an 8C up to a number of bytes; at least two of them are another object's.
     fn fill(&mut self, rng: &mut Rng, record: u8, target: usize) {
         self.pieces.retain(|piece| piece.tag != 0x8C);
+        if self.content(record) + 2 > target {
+            // The list for cardholder verification may be as long.
+            self.pieces.retain(|piece| piece.tag != 0x8E);
+        }
         if self.content(record) == 0 {
             self.pieces.retain(|piece| piece.tag != 0x57);
             let piece = Piece::new(rng, 0x57, &[], record);
@@ -487,6 +491,7 @@ impl Draft {
                     Object::EffectiveDate,
                     Object::IssuerCountry,
                     Object::PanSequenceNumber,
+                    Object::ApplicationCurrency,
                 ]);
                 let value = wrong_digits(rng, object);
                 self.replace(rng, object.row().tag, &value);

@@ -2,7 +2,7 @@
 //!
 //! After each call the reply word, the whole command buffer, the count and the whole session slice
 //! must be equal. `rng`, `objects`, `terminal`, `card`, `damage` and `play` draw the sessions; `run`
-//! makes the calls and counts what occurred. `reading` compares single readings, with the object count that no call hands out.
+//! makes the calls and counts what occurred, `verification` what the choices of a method reached. `reading` compares single readings, with the object count that no call hands out.
 //! `layout` draws lists of objects and layouts of the card's side, and `personalise` compares what is written for them.
 
 #![forbid(unsafe_code)]
@@ -20,6 +20,7 @@ pub mod run;
 pub mod side;
 pub mod step;
 pub mod terminal;
+pub mod verification;
 
 /// The counts that are 0, each named by its place.
 fn never<'a>(counts: &'a [u64], what: &'a str) -> impl Iterator<Item = String> + 'a {

@@ -104,6 +104,68 @@ pub fn object(rng: &mut Rng, tag: u32, value: &[u8]) -> Vec<u8> {
     out
 }
 
+/// Amounts near each other, and over 32 bits with the same low half.
+const AMOUNTS: [u64; 10] = [
+    0,
+    1,
+    1233,
+    1234,
+    1235,
+    123_400,
+    0xFFFF_FFFF,
+    0x1_0000_0000,
+    0x1_0000_04D2,
+    999_999_999_999,
+];
+
+/// A list for cardholder verification: two amounts and rules, mostly few, and in part with an odd byte behind.
+fn cvm_list(rng: &mut Rng) -> Vec<u8> {
+    const NAMES: [u8; 16] = [
+        0x00, 0x01, 0x02, 0x03, 0x04, 0x05, 0x1E, 0x1F, 0x06, 0x1D, 0x20, 0x3F, 0x02, 0x1E, 0x1F,
+        0x00,
+    ];
+    let mut list = Vec::new();
+    for _ in 0..2 {
+        let limit = match rng.below(4) {
+            0 => rng.bits() as u32,
+            1 => 0,
+            _ => rng.pick(&AMOUNTS) as u32,
+        };
+        list.extend(limit.to_be_bytes());
+    }
+    let rules = match rng.below(40) {
+        0 => 121,
+        1 => rng.within(8..=120),
+        _ => rng.within(1..=6),
+    };
+    let sorts = rng.below(3);
+    for i in 0..rules {
+        let name = rng.pick(&NAMES);
+        let go_on = i + 1 < rules && rng.percent(70) || rng.one_in(4);
+        let reserved = rng.one_in(12);
+        let any = rng.byte();
+        let code = name | u8::from(go_on) << 6 | u8::from(reserved) << 7;
+        let condition = rng.below(10) as u8;
+        list.extend(match sorts {
+            // Any rules; rules whose codes are not met or fail, up to the last ones; rules of the table.
+            0 if rng.one_in(4) => [any, rng.byte()],
+            1 if i + 2 < rules => [rng.pick(&[0x40, 0x46, code | 0x40]), condition],
+            _ => [
+                code,
+                if rng.one_in(10) {
+                    rng.byte()
+                } else {
+                    condition
+                },
+            ],
+        });
+    }
+    if list.len() < 250 && rng.one_in(5) {
+        list.push(rng.byte());
+    }
+    list
+}
+
 /// Digits of an amount.
 fn amount(mut number: u64) -> Vec<u8> {
     let mut digits = vec![0; 6];
@@ -123,14 +185,19 @@ fn action_code(rng: &mut Rng) -> Vec<u8> {
         [0, 0x20, 0, 0, 0],
         [0, 0x10, 0, 0, 0],
         [0, 0, 0, 0x80, 0],
+        [0x20, 0, 0, 0, 0],
+        [0, 0, 0x80, 0, 0],
+        [0, 0, 0x40, 0, 0],
+        [0, 0, 0x04, 0, 0],
     ]);
     match rng.below(10) {
         0..=4 => vec![0; 5],
         5 | 6 => bit.to_vec(),
-        7 => vec![0x7F, 0x0F, 0xFF, 0x7F, 0xFF],
+        7 => vec![0x5F, 0x0F, 0x3B, 0x7F, 0xFF],
         8 => {
             let mut code = rng.bytes(5);
             code[0] &= 0x7F;
+            code[2] &= 0x7F;
             code
         }
         _ => bit.iter().map(|byte| !byte).collect(),
@@ -160,11 +227,19 @@ pub fn good_value(rng: &mut Rng, object: Object) -> Vec<u8> {
             vec![rng.pick(&[0x00, 0x00, 0x01, 0x09, 0x17, 0x20])]
         }
         Object::AmountAuthorised | Object::FloorLimit | Object::TransactionLimit if special => {
-            amount(rng.pick(&[0, 1, 1233, 1234, 1235, 123_400, 999_999_999_999]))
+            amount(rng.pick(&AMOUNTS))
         }
         Object::AmountOther if special => amount(rng.pick(&[0, 0, 1, 100_000_000_000])),
         Object::IssuerCountry | Object::TerminalCountry if special => {
             rng.pick(&[[0x00, 0x56], [0x08, 0x40]]).to_vec()
+        }
+        Object::TransactionCurrency | Object::ApplicationCurrency if special => rng
+            .pick(&[[0x09, 0x78], [0x09, 0x78], [0x08, 0x40]])
+            .to_vec(),
+        Object::CvmList => cvm_list(rng),
+        Object::TerminalCapabilities if special => {
+            let bit = 1u8 << rng.within(3..=7);
+            vec![0xE0, rng.pick(&[0xF8, 0xF8, bit, !bit, 0x00]), 0xC8]
         }
         Object::VersionCard | Object::VersionReader if special => rng
             .pick(&[[0x00, 0x02], [0x00, 0x02], [0x01, 0x02]])
@@ -190,8 +265,10 @@ pub fn good_value(rng: &mut Rng, object: Object) -> Vec<u8> {
         | Object::TerminalActionDenial
         | Object::TerminalActionOnline => action_code(rng),
         Object::InterchangeProfile => {
+            let first = rng.byte();
             vec![
-                rng.byte(),
+                // Mostly with cardholder verification.
+                if rng.percent(60) { first | 0x10 } else { first },
                 if rng.one_in(20) {
                     rng.byte()
                 } else {

@@ -3,7 +3,7 @@
 use crate::rng::Rng;
 use crate::step::Step;
 use crate::{card, damage, terminal};
-use model::SESSION_SIZE;
+use model::{HEAD_SIZE, SESSION_SIZE};
 
 /// How often things go wrong in a session: each number is "one in", 0 is never.
 struct Profile {
@@ -28,7 +28,7 @@ pub struct Play {
     /// Whether a further session follows in the same bytes.
     again: bool,
     /// The head of the record before the last step, and for how many steps it stayed.
-    head: [u8; 5],
+    head: [u8; HEAD_SIZE],
     stayed: usize,
     steps_left: usize,
 }
@@ -42,7 +42,7 @@ impl Play {
         Play {
             calls_after_end: rng.pick(&[0, 0, 0, 1, 2]),
             again: rng.one_in(8),
-            head: [0; 5],
+            head: [0; HEAD_SIZE],
             stayed: 0,
             steps_left: 600,
             put_back: None,
@@ -75,7 +75,7 @@ impl Play {
         if session.starts_with(&self.head) {
             self.stayed += 1;
         } else {
-            self.head.copy_from_slice(&session[..5]);
+            self.head.copy_from_slice(&session[..HEAD_SIZE]);
             self.stayed = 0;
         }
         if self.stayed > 6 && self.put_back.is_none() {
@@ -94,7 +94,9 @@ impl Play {
                 let faults = self.rng.one_in(self.profile.start);
                 Some(self.start(faults))
             }
-            1..=3 if self.rng.one_in(self.profile.give_up) => {
+            phase @ 1..=3
+                if self.rng.one_in(self.profile.give_up) || phase == 3 && self.rng.one_in(25) =>
+            {
                 let buffer = self.buffer();
                 Some(if self.rng.one_in(2) {
                     Step::LinkFailed { buffer }
@@ -103,7 +105,9 @@ impl Play {
                 })
             }
             1..=3 => {
-                let faults = self.rng.one_in(self.profile.answer);
+                // More often on GENERATE AC, which each method is to see.
+                let on_cryptogram = session[1] == 3 && self.rng.one_in(6);
+                let faults = on_cryptogram || self.rng.one_in(self.profile.answer);
                 Some(self.answer(session, faults))
             }
             _ => self.after_end(session),
@@ -226,7 +230,7 @@ fn profile(rng: &mut Rng) -> Profile {
 /// The bytes to begin with, and mostly the opening; last step first.
 fn opening(rng: &mut Rng) -> Vec<Step> {
     let length = match rng.below(30) {
-        0 => rng.pick(&[0, 1, 4, 5, 6, 947, 946]),
+        0 => rng.pick(&[0, 1, 5, 6, 7, SESSION_SIZE - 1, SESSION_SIZE - 2]),
         1 => rng.below(SESSION_SIZE),
         2..=4 => SESSION_SIZE + rng.within(1..=40),
         _ => SESSION_SIZE,

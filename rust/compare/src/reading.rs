@@ -9,7 +9,7 @@ use crate::{card, damage, never};
 use model::dictionary::Object;
 use model::reading::{self, AnswerTo};
 use model::store::Store;
-use model::{tlv, STORE_SIZE};
+use model::{tlv, HEAD_SIZE, STORE_SIZE};
 use std::fmt::Write as _;
 
 /// The answers by the library's numbers.
@@ -144,7 +144,7 @@ impl Reading {
         };
         session[2] = 1;
         if rng.one_in(3) {
-            session[5..].fill(0);
+            session[HEAD_SIZE..].fill(0);
         }
         let mut card = match rng.below(6) {
             0 => {
@@ -163,7 +163,7 @@ impl Reading {
         if rng.one_in(12) {
             damage::bytes(rng, &mut card);
         }
-        let mut store = session.split_off(5);
+        let mut store = session.split_off(HEAD_SIZE);
         if rng.one_in(20) {
             rng.fill(&mut store);
         }

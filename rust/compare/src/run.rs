@@ -3,8 +3,9 @@
 use crate::play::Play;
 use crate::side::Side;
 use crate::step::{Hex, Step};
+use crate::verification::Reached;
 use model::dictionary::{Object, ROWS};
-use model::SESSION_SIZE;
+use model::{HEAD_SIZE, SESSION_SIZE};
 use std::fmt::Write as _;
 use std::panic::{self, AssertUnwindSafe};
 use std::sync::atomic::{AtomicBool, Ordering};
@@ -29,15 +30,31 @@ pub struct Coverage {
     pub refused_open: u64,
     /// GENERATE AC with P1 00, 40, 80.
     pub choices: [u64; 3],
-    /// Bits of 95 that were set on GENERATE AC: byte 1 b8, byte 2 b8 to b5, byte 4 b8.
-    pub result_bits: [u64; 6],
+    /// Bits of 95 that were set on GENERATE AC, in the order of `RESULT_BITS`.
+    pub result_bits: [u64; RESULT_BITS.len()],
     /// Types of cryptogram (top two bits) in ended sessions, for each choice asked.
     pub types: [[u64; 4]; 3],
     /// Objects held when a session ended.
     pub held: [u64; ROWS.len()],
     /// Sessions that handed out 130 commands.
     pub longest: u64,
+    /// What the choices of a method reached.
+    pub verification: Reached,
 }
+
+/// The bits of 95 that can be set: byte, counted from 0, and bit.
+const RESULT_BITS: [(usize, u8); 10] = [
+    (0, 0x80),
+    (0, 0x20),
+    (1, 0x80),
+    (1, 0x40),
+    (1, 0x20),
+    (1, 0x10),
+    (2, 0x80),
+    (2, 0x40),
+    (2, 0x04),
+    (3, 0x80),
+];
 
 impl Default for Coverage {
     fn default() -> Coverage {
@@ -50,10 +67,11 @@ impl Default for Coverage {
             refusals: [[0; 6]; 4],
             refused_open: 0,
             choices: [0; 3],
-            result_bits: [0; 6],
+            result_bits: [0; RESULT_BITS.len()],
             types: [[0; 4]; 3],
             held: [0; ROWS.len()],
             longest: 0,
+            verification: Reached::default(),
         }
     }
 }
@@ -79,6 +97,7 @@ impl Coverage {
         all(&mut self.result_bits, &other.result_bits);
         all(self.types.as_flattened_mut(), other.types.as_flattened());
         all(&mut self.held, &other.held);
+        self.verification.add(&other.verification);
     }
 
     /// What should occur and never did.
@@ -106,8 +125,8 @@ impl Coverage {
         for (i, &count) in self.choices.iter().enumerate() {
             need(count, format!("P1 {:02X}", i * 0x40));
         }
-        for (i, &count) in self.result_bits.iter().enumerate() {
-            need(count, format!("result bit {i}"));
+        for ((byte, bit), &count) in RESULT_BITS.iter().zip(&self.result_bits) {
+            need(count, format!("bit {bit:02X} of byte {} of 95", byte + 1));
         }
         for (choice, types) in self.types.iter().enumerate() {
             for (i, &count) in types.iter().enumerate() {
@@ -118,6 +137,7 @@ impl Coverage {
             need(count, format!("object {:X} held", row.tag));
         }
         need(self.longest, "a session of 130 commands".into());
+        missing.extend(self.verification.missing());
         missing
     }
 
@@ -140,7 +160,7 @@ impl Coverage {
         let _ = writeln!(out, "cryptogram types by P1: {:?}", self.types);
         let _ = writeln!(
             out,
-            "bits of 95 (byte 1 b8, byte 2 b8-b5, byte 4 b8): {:?}",
+            "bits of 95 (byte 1 b8, b6, byte 2 b8-b5, byte 3 b8, b7, b3, byte 4 b8): {:?}",
             self.result_bits
         );
         let held: Vec<String> = ROWS
@@ -149,39 +169,31 @@ impl Coverage {
             .map(|(row, count)| format!("{:X} {count}", row.tag))
             .collect();
         let _ = writeln!(out, "objects held at the end: {}", held.join(", "));
+        out += &self.verification.report();
         out
     }
 
     /// Counts what a call did. `asked` is P1 of the session that got an answer on GENERATE AC.
     fn count(&mut self, call: usize, word: u32, session: &[u8], command: &[u8], asked: Option<u8>) {
         self.calls += 1;
-        let [_, kind, high, low] = word.to_be_bytes();
+        let [method, kind, high, low] = word.to_be_bytes();
         match kind {
             0 if command.starts_with(&[0x80, 0xAE]) && session[1] == 3 => {
                 self.choices[usize::from(command[2] >> 6)] += 1;
-                let at = 5 + Object::VerificationResults.row().place + 1;
+                let at = HEAD_SIZE + Object::VerificationResults.row().place + 1;
                 let bits = &session[at..at + 5];
-                for (i, (byte, bit)) in [
-                    (0, 0x80),
-                    (1, 0x80),
-                    (1, 0x40),
-                    (1, 0x20),
-                    (1, 0x10),
-                    (3, 0x80),
-                ]
-                .into_iter()
-                .enumerate()
-                {
-                    self.result_bits[i] += u64::from(bits[byte] & bit != 0);
+                for ((byte, bit), count) in RESULT_BITS.iter().zip(&mut self.result_bits) {
+                    *count += u64::from(bits[*byte] & bit != 0);
                 }
             }
             1 => {
                 self.outcomes[usize::from(high)] += 1;
                 self.reasons[usize::from(low)] += 1;
+                self.verification.count_end(method, low);
                 for (row, held) in ROWS.iter().zip(&mut self.held) {
-                    *held += u64::from(session[5 + row.place] != 0);
+                    *held += u64::from(session[HEAD_SIZE + row.place] != 0);
                 }
-                let information = 5 + Object::CryptogramInformation.row().place;
+                let information = HEAD_SIZE + Object::CryptogramInformation.row().place;
                 if let (Some(p1), 2) = (asked, session[information]) {
                     self.types[usize::from(p1 >> 6)][usize::from(session[information + 1] >> 6)] +=
                         1;
@@ -260,7 +272,21 @@ impl<A: Side, B: Side> Pair<'_, A, B> {
             _ => None,
         };
         coverage.count(call, word, &self.session, &self.buffer, asked);
+        if self.method_was_chosen(call, word) {
+            let store = self.session[HEAD_SIZE..].first_chunk();
+            coverage
+                .verification
+                .count_choice(store.expect("a whole record"));
+        }
         Ok(())
+    }
+
+    /// Whether a call chose a method: the answer to the last record was taken, and gave GENERATE AC or reason 7.
+    fn method_was_chosen(&self, call: usize, word: u32) -> bool {
+        let gave_outcome_of_list = kind_of(word) == 1 && word & 0xFF == 7;
+        call == 1
+            && self.before.get(1) == Some(&2)
+            && (kind_of(word) == 0 && self.session[1] == 3 || gave_outcome_of_list)
     }
 
     fn open(&mut self, coverage: &mut Coverage) -> Result<(), String> {
@@ -290,19 +316,24 @@ impl<A: Side, B: Side> Pair<'_, A, B> {
 
     /// What holds of every call, whatever the model says: which bytes stay.
     fn kept(&self, word: u32, buffer: &[u8]) -> Result<(), String> {
-        let written = if word < 0x0001_0000 { word as usize } else { 0 };
+        let written = if kind_of(word) == 0 { word as usize } else { 0 };
         same(
             "buffer behind the command",
             &self.buffer[written..],
             &buffer[written..],
         )?;
-        let changed = if word < 0x0002_0000 { SESSION_SIZE } else { 0 };
+        let changed = if kind_of(word) < 2 { SESSION_SIZE } else { 0 };
         same(
             "session bytes that stay",
             &self.session[changed..],
             &self.before[changed..],
         )
     }
+}
+
+/// The kind of a word: 0 a command, 1 an outcome, 2 a refusal.
+fn kind_of(word: u32) -> u32 {
+    word >> 16 & 0xFF
 }
 
 /// Makes a call on one side.
@@ -340,7 +371,7 @@ fn print_reply(word: u32, buffer: &[u8], session: &[u8]) {
         0..=0xFFFF => &buffer[..(word as usize).min(buffer.len())],
         _ => &[],
     };
-    let head = &session[..session.len().min(5)];
+    let head = &session[..session.len().min(HEAD_SIZE)];
     println!("  -> {word:08X} {}  head {}", Hex(command), Hex(head));
 }
 

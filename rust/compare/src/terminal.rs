@@ -39,7 +39,12 @@ pub fn start(rng: &mut Rng, faults: bool) -> Vec<u8> {
 fn good_objects(rng: &mut Rng) -> Vec<(u32, Vec<u8>)> {
     let mut list = Vec::new();
     for object in objects::of_setter(Setter::Start) {
-        let wanted = REQUIRED_AT_START.contains(&object) || rng.percent(35);
+        let often = match object {
+            Object::TransactionCurrency => 75,
+            Object::AdditionalCapabilities => 60,
+            _ => 35,
+        };
+        let wanted = REQUIRED_AT_START.contains(&object) || rng.percent(often);
         if !wanted {
             continue;
         }

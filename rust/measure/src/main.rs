@@ -77,7 +77,8 @@ fn terminal() -> Vec<u8> {
     hex(
         "9A 03 250615  9C 01 00  9F02 06 000000001234  9F09 02 0002  9F1A 02 0056  9F35 01 22
          9F37 04 5A3C96E1  DF8120 05 0000000000  DF8121 05 0000000000  DF8122 05 0000000000
-         DF8123 06 000000010000  DF8124 06 000000100000  9F38 08 9F0206 9A03 9F3704",
+         DF8123 06 000000010000  DF8124 06 000000100000  DF8126 06 000000002500  9F33 03 E0F8C8
+         9F38 08 9F0206 9A03 9F3704",
     )
 }
 
@@ -94,7 +95,7 @@ fn purchase() -> Vec<Vec<u8>> {
     ]
 }
 
-/// A full record: all twelve objects of template 70, then twelve unknown ones.
+/// A full record: twelve objects of template 70, then twelve unknown ones.
 fn full_record() -> Vec<u8> {
     let mut content = hex(
         "57 13 4761739001010010D49122010000001F000000  5A 0A 4761739001010010FFFF  5F24 03 491231

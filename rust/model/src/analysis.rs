@@ -38,7 +38,7 @@ impl Choice {
 /// One pair of action codes: the card's, then the terminal's.
 type Pair = [[u8; 5]; 2];
 
-/// The terminal verification results after the last record.
+/// The terminal verification results after the last record, without the bits of cardholder verification.
 ///
 /// The store holds the mandatory objects of a start, and 5F24. Amounts are digits, so their bytes compare as numbers.
 pub fn result_bits(store: &Store) -> [u8; 5] {
@@ -72,16 +72,23 @@ fn in_century(date: &[u8]) -> (u8, &[u8]) {
     (if before_2000 { 19 } else { 20 }, date)
 }
 
+/// Whether the terminal is an ATM: terminal type 14, 15 or 16, and cash among its additional capabilities.
+pub fn at_atm(store: &Store) -> bool {
+    matches!(first_byte(store, Object::TerminalType), Some(0x14..=0x16))
+        && first_byte(store, Object::AdditionalCapabilities).is_some_and(|first| first & 0x80 != 0)
+}
+
+/// The first byte of an object, if it is there.
+fn first_byte(store: &Store, object: Object) -> Option<u8> {
+    store::get(store, object).and_then(|value| value.first().copied())
+}
+
 /// Whether the usage control, if it is there, allows the transaction.
 fn usage_allowed(store: &Store) -> bool {
     let Some(&[control, cashback_control]) = store::get_fixed(store, Object::UsageControl) else {
         return true;
     };
-    let byte = |object| store::get(store, object).and_then(|value| value.first().copied());
-
-    let at_atm = matches!(byte(Object::TerminalType), Some(0x14..=0x16))
-        && byte(Object::AdditionalCapabilities).is_some_and(|first| first & 0x80 != 0);
-    if control & if at_atm { 0x02 } else { 0x01 } == 0 {
+    if control & if at_atm(store) { 0x02 } else { 0x01 } == 0 {
         return false;
     }
 
@@ -89,7 +96,7 @@ fn usage_allowed(store: &Store) -> bool {
         return true;
     };
     let home = store::get(store, Object::TerminalCountry) == Some(country);
-    let needed = match byte(Object::TransactionType) {
+    let needed = match first_byte(store, Object::TransactionType) {
         Some(0x01 | 0x17) => Some(if home { 0x80 } else { 0x40 }),
         Some(0x00 | 0x09) => Some(if home { 0x20 | 0x08 } else { 0x10 | 0x04 }),
         _ => None,

@@ -1,7 +1,7 @@
-//! The table of known tags (document 01, "Dictionary").
+//! The table of known tags (document 01, "Dictionary"; document 02, Item 5).
 
 /// Bytes of the store: one place for each tag, with room for its greatest length.
-pub const STORE_SIZE: usize = 943;
+pub const STORE_SIZE: usize = 1208;
 
 /// Form of a value.
 #[derive(Clone, Copy, Debug, PartialEq, Eq)]
@@ -119,6 +119,7 @@ dictionary! {
     Pan                       0x5A     0  10 CompressedNumeric Card70,
     InterchangeProfile        0x82     2   2 Binary            Card77,
     Cdol1                     0x8C     0 250 Binary            Card70,
+    CvmList                   0x8E    10 250 Binary            Card70,
     FileLocator               0x94     4 248 Binary            Card77,
     VerificationResults       0x95     5   5 Binary            Session,
     TransactionDate           0x9A     3   3 Numeric           Start,
@@ -141,16 +142,19 @@ dictionary! {
     Cryptogram                0x9F26   8   8 Binary            Cryptogram77,
     CryptogramInformation     0x9F27   1   1 Binary            Cryptogram77,
     TerminalCapabilities      0x9F33   3   3 Binary            Start,
+    CvmResults                0x9F34   3   3 Binary            Session,
     TerminalType              0x9F35   1   1 Numeric           Start,
     TransactionCounter        0x9F36   2   2 Binary            Cryptogram77,
     UnpredictableNumber       0x9F37   4   4 Binary            Start,
     Pdol                      0x9F38   0 240 Binary            Start,
     AdditionalCapabilities    0x9F40   5   5 Binary            Start,
+    ApplicationCurrency       0x9F42   2   2 Numeric           Card70,
     TerminalActionDefault     0xDF8120 5   5 Binary            Start,
     TerminalActionDenial      0xDF8121 5   5 Binary            Start,
     TerminalActionOnline      0xDF8122 5   5 Binary            Start,
     FloorLimit                0xDF8123 6   6 Numeric           Start,
     TransactionLimit          0xDF8124 6   6 Numeric           Start,
+    CvmRequiredLimit          0xDF8126 6   6 Numeric           Start,
 }
 
 /// Gives each row its place: a length byte and room for the greatest length.
@@ -208,12 +212,13 @@ pub fn search(tags: &[u32], tag: u32) -> Searched {
 }
 
 /// The mandatory objects of a start.
-pub const REQUIRED_AT_START: [Object; 12] = [
+pub const REQUIRED_AT_START: [Object; 14] = [
     Object::TransactionDate,
     Object::TransactionType,
     Object::AmountAuthorised,
     Object::VersionReader,
     Object::TerminalCountry,
+    Object::TerminalCapabilities,
     Object::TerminalType,
     Object::UnpredictableNumber,
     Object::TerminalActionDefault,
@@ -221,6 +226,7 @@ pub const REQUIRED_AT_START: [Object; 12] = [
     Object::TerminalActionOnline,
     Object::FloorLimit,
     Object::TransactionLimit,
+    Object::CvmRequiredLimit,
 ];
 
 /// Whether a terminal type is one of those listed: 11-16, 21-26, 34-36.

@@ -147,7 +147,8 @@ impl Kernel {
         };
         Some(match reply.ok()? {
             Reply::Command(length) => filled_record(COMMAND, &buffer[..length]),
-            Reply::Outcome(outcome, reason) => vec![OUTCOME, outcome as u8, reason],
+            // The method is not in a journal.
+            Reply::Outcome(outcome, reason, _) => vec![OUTCOME, outcome as u8, reason],
         })
     }
 }

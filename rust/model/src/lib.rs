@@ -8,6 +8,7 @@
 //! - `reason`: why a session ends early, and with which outcome
 //! - `reading`: a card's answer into a store, whole or not at all
 //! - `data_list`, `locator`, `analysis`: data object lists, the file locator, result bits and choice
+//! - `verification`: the method of cardholder verification by the card's list
 //! - `session`: the session record, its ranges and its steps
 //! - `journal`: the journal of a session, written from its calls and checked
 //! - `personalise`: the card's side, records and locator written from a list of objects
@@ -28,14 +29,16 @@ pub mod reason;
 pub mod session;
 pub mod store;
 pub mod tlv;
+pub mod verification;
 
 pub use dictionary::STORE_SIZE;
-pub use session::{COMMAND_SIZE, SESSION_SIZE};
+pub use session::{COMMAND_SIZE, HEAD_SIZE, SESSION_SIZE};
 
 use reading::AnswerTo;
 use reason::Reason;
 use session::{Refusal, Reply, Session};
 use store::Store;
+use verification::NOT_APPLICABLE;
 
 /// What `count` gives where the bytes hold no record.
 pub const NO_COUNT: u32 = 0xFFFF_FFFF;
@@ -44,8 +47,9 @@ pub const NO_COUNT: u32 = 0xFFFF_FFFF;
 fn word(reply: Result<Reply, Refusal>) -> u32 {
     match reply {
         Ok(Reply::Command(length)) => length as u32,
-        Ok(Reply::Outcome(outcome, reason)) => {
-            0x0001_0000 | (outcome as u32) << 8 | u32::from(reason)
+        Ok(Reply::Outcome(outcome, reason, method)) => {
+            let method = method.map_or(NOT_APPLICABLE, |method| method as u8);
+            u32::from(method) << 24 | 0x0001_0000 | (outcome as u32) << 8 | u32::from(reason)
         }
         Err(refusal) => 0x0002_0000 | refusal as u32,
     }

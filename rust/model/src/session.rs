@@ -8,9 +8,10 @@ use crate::reading::{self, AnswerTo};
 use crate::reason::{self, Outcome, Reason};
 use crate::store::{self, Store};
 use crate::tlv;
+use crate::verification::{self, Method};
 
-/// Bytes in front of the store: version, phase, two bytes of detail, count.
-const HEAD_SIZE: usize = 5;
+/// Bytes in front of the store: version, phase, two bytes of detail, count, method.
+pub const HEAD_SIZE: usize = 6;
 
 /// Bytes of a session record.
 pub const SESSION_SIZE: usize = HEAD_SIZE + STORE_SIZE;
@@ -19,7 +20,7 @@ pub const SESSION_SIZE: usize = HEAD_SIZE + STORE_SIZE;
 pub const COMMAND_SIZE: usize = 261;
 
 /// Version of the record's layout.
-const VERSION: u8 = 1;
+const VERSION: u8 = 2;
 
 /// A call that is refused changes nothing (document 01, refusals 20 to 25).
 #[derive(Clone, Copy, Debug, PartialEq, Eq)]
@@ -44,8 +45,16 @@ pub enum Refusal {
 pub enum Reply {
     /// A command of this length stands at the front of the buffer.
     Command(usize),
-    /// The session has ended; a decision has reason 0.
-    Outcome(Outcome, u8),
+    /// The session has ended: how, why, and the method of cardholder verification if one was chosen. A decision has reason 0.
+    Outcome(Outcome, u8, Option<Method>),
+}
+
+/// What a step comes to when no reason is met.
+enum Next {
+    /// A command of this length.
+    Command(usize),
+    /// The decision after GENERATE AC.
+    Decision(Outcome),
 }
 
 /// Where a session stands.
@@ -57,7 +66,7 @@ enum Phase {
     /// Waiting on the answer for the k-th record.
     Record(u8),
     /// Waiting on the answer to GENERATE AC.
-    Cryptogram(Choice),
+    Cryptogram(Choice, Method),
     Ended {
         outcome: u8,
         reason: u8,
@@ -70,20 +79,22 @@ pub struct Session<'a> {
     store: &'a mut Store,
     phase: Phase,
     count: u8,
+    /// The method that is held or was just chosen.
+    method: Option<Method>,
 }
 
 /// Decodes the head of a record, or none if the bytes hold no record (docs/HOST.md, record layout).
 fn decode(head: &[u8; HEAD_SIZE]) -> Option<(Phase, u8)> {
-    let &[version, phase, detail, reason, count] = head;
+    let &[version, phase, detail, reason, count, method] = head;
     if version != VERSION {
         return None;
     }
-    let phase = match (phase, detail, reason) {
-        (0, 0, 0) => Phase::Fresh,
-        (1, 0, 0) => Phase::Options,
-        (2, k, 0) => Phase::Record(k),
-        (3, p1, 0) => Phase::Cryptogram(Choice::of_p1(p1)?),
-        (4, outcome @ 0..=4, reason) => Phase::Ended { outcome, reason },
+    let phase = match (phase, detail, reason, method) {
+        (0, 0, 0, 0) => Phase::Fresh,
+        (1, 0, 0, 0) => Phase::Options,
+        (2, k, 0, 0) => Phase::Record(k),
+        (3, p1, 0, method) => Phase::Cryptogram(Choice::of_p1(p1)?, Method::of_number(method)?),
+        (4, outcome @ 0..=4, reason, 0) => Phase::Ended { outcome, reason },
         _ => return None,
     };
     Some((phase, count))
@@ -114,11 +125,16 @@ impl<'a> Session<'a> {
         let (head, rest) = bytes.split_first_chunk_mut().ok_or(Refusal::Record)?;
         let store = rest.first_chunk_mut().ok_or(Refusal::Record)?;
         let (phase, count) = decode(head).ok_or(Refusal::Record)?;
+        let method = match phase {
+            Phase::Cryptogram(_, method) => Some(method),
+            _ => None,
+        };
         let session = Session {
             head,
             store,
             phase,
             count,
+            method,
         };
         if session.in_range() {
             Ok(session)
@@ -127,7 +143,7 @@ impl<'a> Session<'a> {
         }
     }
 
-    /// The ranges of a session record (document 01, "Session ranges").
+    /// The ranges of a session record (document 01, "Session ranges"; document 02, Item 5).
     fn in_range(&self) -> bool {
         let store = &*self.store;
         match self.phase {
@@ -152,12 +168,13 @@ impl<'a> Session<'a> {
                             && u32::from(self.count) == 1 + u32::from(k)
                     })
             }
-            Phase::Cryptogram(_) => {
+            Phase::Cryptogram(..) => {
                 store::fits(store)
                     && running(store)
                     && records_of_emv_card(store)
                         .is_some_and(|records| u32::from(self.count) == 2 + records)
                     && holds_record_data(store)
+                    && store::has(store, Object::CvmResults)
             }
         }
     }
@@ -168,19 +185,19 @@ impl<'a> Session<'a> {
             return Err(Refusal::Order);
         }
         *self.store = read_start(terminal)?;
-        let reply = self.ask_options(command);
-        Ok(self.finish(reply))
+        let next = self.ask_options(command);
+        Ok(self.finish(next))
     }
 
     /// Answer: takes the card's answer to the command handed out last.
     pub fn answer(mut self, answer: &[u8], command: &mut [u8]) -> Result<Reply, Refusal> {
-        let reply = match self.phase {
+        let next = match self.phase {
             Phase::Fresh | Phase::Ended { .. } => return Err(Refusal::Order),
             Phase::Options => self.take_options(answer, command),
             Phase::Record(k) => self.take_record(u32::from(k), answer, command),
-            Phase::Cryptogram(asked) => self.take_cryptogram(asked, answer),
+            Phase::Cryptogram(asked, _) => self.take_cryptogram(asked, answer),
         };
-        Ok(self.finish(reply))
+        Ok(self.finish(next))
     }
 
     /// Link failed and stop: end a running session with their reason.
@@ -191,10 +208,14 @@ impl<'a> Session<'a> {
         }
     }
 
-    /// Ends the session if a reason was met, and writes the head of the record.
-    fn finish(mut self, reply: Result<Reply, Reason>) -> Reply {
-        let reply = reply.unwrap_or_else(|reason| Reply::Outcome(reason.outcome(), reason as u8));
-        if let Reply::Outcome(outcome, reason) = reply {
+    /// Ends the session on a decision or a reason, and writes the head of the record.
+    fn finish(mut self, next: Result<Next, Reason>) -> Reply {
+        let reply = match next {
+            Ok(Next::Command(length)) => Reply::Command(length),
+            Ok(Next::Decision(outcome)) => Reply::Outcome(outcome, 0, self.method),
+            Err(reason) => Reply::Outcome(reason.outcome(), reason as u8, self.method),
+        };
+        if let Reply::Outcome(outcome, reason, _) = reply {
             self.phase = Phase::Ended {
                 outcome: outcome as u8,
                 reason,
@@ -202,19 +223,19 @@ impl<'a> Session<'a> {
         } else {
             self.count += 1;
         }
-        let (phase, detail, reason) = match self.phase {
-            Phase::Fresh => (0, 0, 0),
-            Phase::Options => (1, 0, 0),
-            Phase::Record(k) => (2, k, 0),
-            Phase::Cryptogram(choice) => (3, choice.p1(), 0),
-            Phase::Ended { outcome, reason } => (4, outcome, reason),
+        let (phase, detail, reason, method) = match self.phase {
+            Phase::Fresh => (0, 0, 0, 0),
+            Phase::Options => (1, 0, 0, 0),
+            Phase::Record(k) => (2, k, 0, 0),
+            Phase::Cryptogram(choice, method) => (3, choice.p1(), 0, method as u8),
+            Phase::Ended { outcome, reason } => (4, outcome, reason, 0),
         };
-        *self.head = [VERSION, phase, detail, reason, self.count];
+        *self.head = [VERSION, phase, detail, reason, self.count, method];
         reply
     }
 
     /// GET PROCESSING OPTIONS: its data are the values that the PDOL asks for, under tag 83.
-    fn ask_options(&mut self, command: &mut [u8]) -> Result<Reply, Reason> {
+    fn ask_options(&mut self, command: &mut [u8]) -> Result<Next, Reason> {
         let list = store::get(self.store, Object::Pdol).unwrap_or_default();
         let length = data_list::filled_length(list)
             .filter(|&length| length <= 252)
@@ -230,11 +251,11 @@ impl<'a> Session<'a> {
         data_list::fill(self.store, list, &mut command[front..][..length]);
         command[front + length] = 0x00;
         self.phase = Phase::Options;
-        Ok(Reply::Command(front + length + 1))
+        Ok(Next::Command(front + length + 1))
     }
 
     /// The answer to GET PROCESSING OPTIONS; then the first record.
-    fn take_options(&mut self, answer: &[u8], command: &mut [u8]) -> Result<Reply, Reason> {
+    fn take_options(&mut self, answer: &[u8], command: &mut [u8]) -> Result<Next, Reason> {
         let body = reading::body(answer)?;
         reading::read(self.store, AnswerTo::Options, body).0?;
         let (Some(&[_, profile]), Some(locator)) = (
@@ -251,11 +272,11 @@ impl<'a> Session<'a> {
     }
 
     /// READ RECORD for the k-th record: P1 is its number, P2 has its file as a short file identifier.
-    fn ask_record(&mut self, k: u32, command: &mut [u8]) -> Result<Reply, Reason> {
+    fn ask_record(&mut self, k: u32, command: &mut [u8]) -> Result<Next, Reason> {
         let record = self.record(k)?;
         command[..5].copy_from_slice(&[0x00, 0xB2, record.number, record.file << 3 | 0x04, 0x00]);
         self.phase = Phase::Record(k as u8);
-        Ok(Reply::Command(5))
+        Ok(Next::Command(5))
     }
 
     /// The k-th record of the accepted locator.
@@ -266,7 +287,7 @@ impl<'a> Session<'a> {
     }
 
     /// The answer to READ RECORD; then the next record, or GENERATE AC after the last.
-    fn take_record(&mut self, k: u32, answer: &[u8], command: &mut [u8]) -> Result<Reply, Reason> {
+    fn take_record(&mut self, k: u32, answer: &[u8], command: &mut [u8]) -> Result<Next, Reason> {
         let body = reading::body(answer)?;
         if self.record(k)?.is_read() {
             reading::read(self.store, AnswerTo::Record, body).0?;
@@ -279,8 +300,8 @@ impl<'a> Session<'a> {
         }
     }
 
-    /// After the last record: limit, missing objects, result bits, choice, then GENERATE AC.
-    fn ask_cryptogram(&mut self, command: &mut [u8]) -> Result<Reply, Reason> {
+    /// After the last record: limit, missing objects, restrictions, method, choice, then GENERATE AC.
+    fn ask_cryptogram(&mut self, command: &mut [u8]) -> Result<Next, Reason> {
         if store::get(self.store, Object::AmountAuthorised)
             > store::get(self.store, Object::TransactionLimit)
         {
@@ -289,8 +310,14 @@ impl<'a> Session<'a> {
         if !holds_record_data(self.store) {
             return Err(Reason::Missing);
         }
-        let bits = analysis::result_bits(self.store);
+        let selection = verification::select(self.store);
+        let mut bits = analysis::result_bits(self.store);
+        for (bits, added) in bits.iter_mut().zip(selection.bits) {
+            *bits |= added;
+        }
+        store::put(self.store, Object::CvmResults, &selection.results);
         store::put(self.store, Object::VerificationResults, &bits);
+        self.method = Some(selection.method);
         let choice = analysis::choice(self.store, &bits);
 
         let list = store::get(self.store, Object::Cdol1).unwrap_or_default();
@@ -300,12 +327,12 @@ impl<'a> Session<'a> {
         command[..5].copy_from_slice(&[0x80, 0xAE, choice.p1(), 0x00, length as u8]);
         data_list::fill(self.store, list, &mut command[5..][..length]);
         command[5 + length] = 0x00;
-        self.phase = Phase::Cryptogram(choice);
-        Ok(Reply::Command(5 + length + 1))
+        self.phase = Phase::Cryptogram(choice, selection.method);
+        Ok(Next::Command(5 + length + 1))
     }
 
     /// The answer to GENERATE AC; its type against the choice asked for gives the outcome.
-    fn take_cryptogram(&mut self, asked: Choice, answer: &[u8]) -> Result<Reply, Reason> {
+    fn take_cryptogram(&mut self, asked: Choice, answer: &[u8]) -> Result<Next, Reason> {
         let body = reading::body(answer)?;
         reading::read(self.store, AnswerTo::Cryptogram, body).0?;
         let Some(&[information]) = store::get_fixed(self.store, Object::CryptogramInformation)
@@ -323,7 +350,7 @@ impl<'a> Session<'a> {
             (0b01, Choice::Offline) => Outcome::Approved,
             _ => return Err(Reason::CryptogramType),
         };
-        Ok(Reply::Outcome(outcome, 0))
+        Ok(Next::Decision(outcome))
     }
 }
 

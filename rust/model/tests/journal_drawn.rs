@@ -2,7 +2,7 @@
 
 mod common;
 
-use common::{hex, start_with, start_without, Draw, Host};
+use common::{hex, is_refusal, start_with, start_without, Draw, Host};
 use model::journal::{check, record_size, write, Call, Verdict};
 use Verdict::{Accepted, Cut, Unlike};
 
@@ -90,7 +90,7 @@ fn not_refused(calls: &[Drawn]) -> usize {
         Drawn::LinkFailed => host.link_failed(),
         Drawn::Stop => host.stop(),
     });
-    words.filter(|&word| word < 0x20000).count()
+    words.filter(|&word| !is_refusal(word)).count()
 }
 
 /// The whole records at the front of some bytes.

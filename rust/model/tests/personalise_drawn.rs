@@ -336,6 +336,6 @@ fn every_tag() {
             }
         }
     }
-    // 57, 8C and 9F07 to 9F0F of any bytes; 5A of 0 or F, and empty three times; the dates, 5F28 and 5F34 of 0.
-    assert_eq!(good, 3 * 20 + 3 * 251 + 3 * 5 + (2 * 10 + 3) + 4);
+    // 57, 8C, 8E and 9F07 to 9F0F of any bytes; 5A of 0 or F, and empty three times; the dates, 5F28, 5F34 and 9F42 of 0.
+    assert_eq!(good, 3 * (20 + 251 + 241 + 5) + (2 * 10 + 3) + 5);
 }

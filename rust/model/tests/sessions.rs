@@ -2,9 +2,12 @@
 
 mod common;
 
-use common::{ended, hex, outcome, refused, start_with, start_without, Host};
+use common::{
+    decided, ended, ended_later, hex, is_command, outcome, refused, start_with, start_without,
+    Host, NOT_APPLICABLE,
+};
 use model::dictionary::{Object, REQUIRED_AT_START, ROWS};
-use model::{NO_COUNT, SESSION_SIZE};
+use model::{HEAD_SIZE, NO_COUNT, SESSION_SIZE};
 
 /// Content of a record that allows the purchase.
 const GOOD: &str = "5F24 03 491231 5A 08 1234567890123456 8C 02 9505";
@@ -36,12 +39,12 @@ fn purchase_of_three_records() {
     let word = host.answer_hex("01 02 03 9000");
     assert_eq!(
         host.command(word),
-        hex("80AE4000 0F 000000001234 11223344 8000000000 00")
+        hex("80AE4000 0F 000000001234 11223344 A000000000 00")
     );
     assert_eq!(host.count(), 5);
     let word = host.answer_hex("77 14 9F27 01 40 9F36 02 0007 9F26 08 1122334455667788 9000");
-    assert_eq!(word, outcome(0, 0));
-    assert_eq!(host.session[..5], [1, 4, 0, 0, 5]);
+    assert_eq!(word, decided(0));
+    assert_eq!(host.session[..HEAD_SIZE], [2, 4, 0, 0, 5, 0]);
     assert_eq!(host.get(Object::TransactionCounter), Some(&[0, 7][..]));
     assert_eq!(host.stop(), refused(21));
 }
@@ -51,16 +54,16 @@ fn types_against_the_choice_asked() {
     let at = |changes: &[&str], record: &str, information: &str| {
         Host::generating(changes, record).answer(&cryptogram(information))
     };
-    assert_eq!(at(&[], OFFLINE, "00"), outcome(2, 0));
-    assert_eq!(at(&[], OFFLINE, "7F"), outcome(0, 0));
-    assert_eq!(at(&[], OFFLINE, "80"), outcome(1, 0));
-    assert_eq!(at(&[], OFFLINE, "C0"), ended(8));
-    assert_eq!(at(&[], GOOD, "3F"), outcome(2, 0));
-    assert_eq!(at(&[], GOOD, "40"), ended(8));
-    assert_eq!(at(&[], GOOD, "80"), outcome(1, 0));
-    assert_eq!(at(&["9F35 01 23"], GOOD, "00"), outcome(2, 0));
-    assert_eq!(at(&["9F35 01 23"], GOOD, "40"), ended(8));
-    assert_eq!(at(&["9F35 01 23"], GOOD, "80"), ended(8));
+    assert_eq!(at(&[], OFFLINE, "00"), decided(2));
+    assert_eq!(at(&[], OFFLINE, "7F"), decided(0));
+    assert_eq!(at(&[], OFFLINE, "80"), decided(1));
+    assert_eq!(at(&[], OFFLINE, "C0"), ended_later(8));
+    assert_eq!(at(&[], GOOD, "3F"), decided(2));
+    assert_eq!(at(&[], GOOD, "40"), ended_later(8));
+    assert_eq!(at(&[], GOOD, "80"), decided(1));
+    assert_eq!(at(&["9F35 01 23"], GOOD, "00"), decided(2));
+    assert_eq!(at(&["9F35 01 23"], GOOD, "40"), ended_later(8));
+    assert_eq!(at(&["9F35 01 23"], GOOD, "80"), ended_later(8));
 }
 
 #[test]
@@ -72,7 +75,7 @@ fn cryptogram_bodies() {
         answer.extend([0x90, 0x00]);
         assert_eq!(
             host.answer(&answer),
-            if good { outcome(1, 0) } else { ended(2) }
+            if good { decided(1) } else { ended_later(2) }
         );
         let data = host.get(Object::IssuerApplicationData).map(<[u8]>::len);
         assert_eq!(
@@ -83,13 +86,13 @@ fn cryptogram_bodies() {
     let mut host = Host::generating(&[], GOOD);
     assert_eq!(
         host.answer_hex("77 09 9F27 01 80 9F36 02 0001 9000"),
-        ended(4)
+        ended_later(4)
     );
     assert!(host.get(Object::CryptogramInformation).is_some());
     let mut host = Host::generating(&[], GOOD);
-    assert_eq!(host.answer_hex("77 04 82 02 1980 9000"), ended(3));
+    assert_eq!(host.answer_hex("77 04 82 02 1980 9000"), ended_later(3));
     let mut host = Host::generating(&[], GOOD);
-    assert_eq!(host.answer_hex("70 00 9000"), ended(2));
+    assert_eq!(host.answer_hex("70 00 9000"), ended_later(2));
 }
 
 #[test]
@@ -109,10 +112,10 @@ fn refusals_in_order() {
     assert_eq!(host.link_failed(), refused(21));
     assert_eq!(host.stop(), refused(21));
     assert_eq!(host.start(&[0x00]), refused(20));
-    host.session.truncate(947);
+    host.session.truncate(SESSION_SIZE - 1);
     assert_eq!(host.start(&[0x00]), refused(25));
     assert_eq!(host.count(), NO_COUNT);
-    assert_eq!(model::open(&mut [0; 947]), refused(25));
+    assert_eq!(model::open(&mut [0; SESSION_SIZE - 1]), refused(25));
     let mut host = Host::started(&[]);
     assert_eq!(host.start(&[0x00]), refused(21));
 }
@@ -121,10 +124,10 @@ fn refusals_in_order() {
 fn start_bytes() {
     let start = |bytes: &[u8]| Host::open().start(bytes);
     assert_eq!(start(&[]), refused(24));
-    for tag in ["9A", "9C", "9F02", "9F09", "9F1A", "9F35", "9F37"] {
+    for tag in ["9A", "9C", "9F02", "9F09", "9F1A", "9F33", "9F35", "9F37"] {
         assert_eq!(start(&start_without(tag)), refused(24), "{tag}");
     }
-    for tag in ["DF8120", "DF8121", "DF8122", "DF8123", "DF8124"] {
+    for tag in ["DF8120", "DF8121", "DF8122", "DF8123", "DF8124", "DF8126"] {
         assert_eq!(start(&start_without(tag)), refused(24), "{tag}");
     }
     for bad in [
@@ -137,6 +140,12 @@ fn start_bytes() {
         "5A 01 12",
         "9F10 00",
         "9F03 05 0000000000",
+        "8E 0A 0000000000000000 1F00",
+        "9F42 02 0056",
+        "9F34 03 1F0002",
+        "9F33 02 E0F8",
+        "DF8126 06 00000000250A",
+        "DF8126 05 0000000025",
     ] {
         assert_eq!(start(&start_with(&[bad])), refused(23), "{bad}");
         // A malformed object anywhere comes first.
@@ -147,7 +156,7 @@ fn start_bytes() {
     let doubled = [start_with(&[]), hex("9F38 00 9F38 00")].concat();
     assert_eq!(start(&doubled), refused(23));
     let doubled_unknown = [start_with(&[]), hex("50 01 41 50 01 41 DF01 00")].concat();
-    assert!(start(&doubled_unknown) < 0x10000);
+    assert!(is_command(start(&doubled_unknown)));
     for broken in [
         "00",
         "70 00",
@@ -169,7 +178,7 @@ fn start_bytes() {
     let rest = 1024 - long.len() - 4;
     long.extend([0x50, 0x82, (rest >> 8) as u8, rest as u8]);
     long.resize(1024, 0x41);
-    assert!(start(&long) < 0x10000);
+    assert!(is_command(start(&long)));
     long.push(0x41);
     assert_eq!(start(&long), refused(20));
 }
@@ -208,7 +217,7 @@ fn options_list() {
         let (word, host) = start(bad);
         assert_eq!(word, ended(7), "{bad}");
         assert_eq!(host.count(), 0);
-        assert_eq!(host.session[..5], [1, 4, 3, 7, 0]);
+        assert_eq!(host.session[..HEAD_SIZE], [2, 4, 3, 7, 0, 0]);
         assert_eq!(host.get(Object::VerificationResults), Some(&[0; 5][..]));
         assert!(host.get(Object::AmountAuthorised).is_some());
     }
@@ -320,7 +329,7 @@ fn longest_session() {
     }
     assert_eq!(host.record(""), 11);
     assert_eq!(host.count(), 130);
-    assert_eq!(host.link_failed(), ended(9));
+    assert_eq!(host.link_failed(), ended_later(9));
     assert_eq!(host.count(), 130);
     assert_eq!(host.answer(&[]), refused(21));
 }
@@ -375,8 +384,8 @@ fn record_answers() {
 #[test]
 fn after_the_last_record() {
     let mut host = Host::reading(&["DF8124 06 000000001233"], "08010100");
-    assert_eq!(host.record(""), outcome(4, 6));
-    assert_eq!(host.session[..5], [1, 4, 4, 6, 2]);
+    assert_eq!(host.record(""), outcome(NOT_APPLICABLE, 4, 6));
+    assert_eq!(host.session[..HEAD_SIZE], [2, 4, 4, 6, 2, 0]);
     let mut host = Host::reading(&["DF8124 06 000000001234"], "08010100");
     assert_eq!(host.record(GOOD), 11);
     for missing in [
@@ -394,7 +403,7 @@ fn after_the_last_record() {
         let mut host = Host::reading(&[], "08010100");
         let length = hex(list).len();
         let word = host.record(&format!("5F24 03 491231 5A 01 12 8C {length:02X} {list}"));
-        assert_eq!(word, ended(7), "{list}");
+        assert_eq!(word, ended_later(7), "{list}");
         assert_eq!(
             host.get(Object::VerificationResults),
             Some(&[0x80, 0, 0, 0, 0][..])
@@ -557,8 +566,9 @@ fn link_and_stop() {
             } else {
                 host.stop()
             };
-            assert_eq!(word, ended(reason));
-            assert_eq!(host.session[..5], [1, 4, 3, reason as u8, count]);
+            let expected = if count == 3 { ended_later } else { ended };
+            assert_eq!(word, expected(reason));
+            assert_eq!(host.session[..HEAD_SIZE], [2, 4, 3, reason as u8, count, 0]);
             assert_eq!(*host.store(), store);
             assert_eq!(host.start(&start_with(&[])), refused(21));
         }
@@ -590,11 +600,11 @@ fn ranges() {
         }
         session
     };
-    let place = |object: Object| 5 + object.row().place;
+    let place = |object: Object| HEAD_SIZE + object.row().place;
 
     // The head.
     for session in [&fresh, &started, &reading, &generating, &ended] {
-        for version in [0, 2, 255] {
+        for version in [0, 1, 3, 255] {
             assert!(!in_range(&with(session, &[(0, version)])));
             assert_eq!(model::count(&with(session, &[(0, version)])), NO_COUNT);
         }
@@ -605,7 +615,7 @@ fn ranges() {
     for session in [&fresh, &started, &reading, &generating] {
         assert_eq!(model::count(&with(session, &[(3, 1)])), NO_COUNT);
     }
-    for at in 5..SESSION_SIZE {
+    for at in HEAD_SIZE..SESSION_SIZE {
         assert!(!in_range(&with(&fresh, &[(at, 1)])));
     }
     assert!(in_range(&with(&reading, &[(2, 2), (4, 3)])));
@@ -614,6 +624,18 @@ fn ranges() {
     for p1 in 0..=255 {
         let good = [0x00, 0x40, 0x80].contains(&p1);
         assert_eq!(in_range(&with(&generating, &[(2, p1)])), good);
+    }
+    for method in 0..=255 {
+        let good = [0, 1, 2, 4].contains(&method);
+        assert_eq!(in_range(&with(&generating, &[(5, method)])), good);
+        for session in [&fresh, &started, &reading, &ended] {
+            assert_eq!(in_range(&with(session, &[(5, method)])), method == 0);
+        }
+        for session in [&fresh, &started, &reading, &generating, &ended] {
+            let known = good && (method == 0 || session[1] == 3);
+            let count = model::count(&with(session, &[(5, method)]));
+            assert_eq!(count == NO_COUNT, !known);
+        }
     }
     for outcome in 0..=255u8 {
         for reason in 0..=255u8 {
@@ -631,9 +653,9 @@ fn ranges() {
     // Every length byte of every place, in an ended session.
     for row in &ROWS {
         let mut session = ended.clone();
-        session[5 + row.place + 1..][..usize::from(row.most)].fill(0);
+        session[HEAD_SIZE + row.place + 1..][..usize::from(row.most)].fill(0);
         for n in 0..=255u8 {
-            session[5 + row.place] = n;
+            session[HEAD_SIZE + row.place] = n;
             let good = n == 0 || (row.least..=row.most).contains(&(n - 1));
             assert_eq!(in_range(&session), good, "{:X} {n}", row.tag);
         }
@@ -695,6 +717,19 @@ fn ranges() {
     for object in [Object::ExpirationDate, Object::Pan, Object::Cdol1] {
         assert!(!in_range(&with(&generating, &[(place(object), 0)])));
     }
+    // 9F34 is needed on GENERATE AC alone, and may be there before; it need not be the method's.
+    assert!(!in_range(&with(
+        &generating,
+        &[(place(Object::CvmResults), 0)]
+    )));
+    for session in [&started, &reading, &generating, &ended] {
+        assert!(in_range(&with(session, &[(place(Object::CvmResults), 4)])));
+        assert!(!in_range(&with(session, &[(place(Object::CvmResults), 3)])));
+    }
+    assert!(in_range(&with(
+        &generating,
+        &[(5, 2), (place(Object::CvmResults) + 1, 0x1E)]
+    )));
     assert!(!in_range(&with(&generating, &[(place(Object::Pan), 1)])));
     assert!(!in_range(&with(&generating, &[(place(Object::Cdol1), 1)])));
     assert!(!in_range(&with(
@@ -706,7 +741,7 @@ fn ranges() {
 #[test]
 fn bytes_behind_a_value_stay() {
     let mut host = Host::reading(&[], "08010200");
-    let place = 5 + Object::Track2.row().place;
+    let place = HEAD_SIZE + Object::Track2.row().place;
     host.session[place + 1..place + 20].fill(0xEE);
     assert_eq!(host.record("57 00"), 5);
     assert_eq!(host.session[place], 1);

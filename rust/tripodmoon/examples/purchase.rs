@@ -29,7 +29,11 @@ const CARD_OF_ONE: Card = Card {
 const CARD_OF_THREE: Card = Card {
     options: (0x77, "82 02 1980  94 04 08010300"),
     records: &[
-        (0x70, "57 10 4761739001010010D49122010000001F"),
+        // The list for cardholder verification: a signature over 50.00, else none.
+        (
+            0x70,
+            "57 10 4761739001010010D49122010000001F  8E 0C 00001388 00000000 5E07 1F00  9F42 02 0978",
+        ),
         (0x70, "5F24 03 491231  5A 08 4761739001010010  9F07 02 FFC0"),
         (0x70, "8C 08 9F0206 9F3704 9505  9F0F 05 0000000000"),
     ],
@@ -40,7 +44,7 @@ const CARD_OF_THREE: Card = Card {
 const TERMINAL: &str = "
     9A 03 250615   9C 01 00   9F02 06 000000001234   9F09 02 0002   9F1A 02 0056   9F35 01 22
     9F37 04 5A3C96E1   DF8120 05 0000000000   DF8121 05 0000000000   DF8122 05 0000000000
-    DF8123 06 000000010000   DF8124 06 000000100000   9F38 05 9F0206 9A03";
+    DF8123 06 000000010000   DF8124 06 000000100000   DF8126 06 000000002500   9F33 03 E0F8C8   5F2A 02 0978   9F38 05 9F0206 9A03";
 
 impl Card {
     /// The card's answer to a command, status bytes included.
@@ -98,9 +102,13 @@ fn main() -> Result<(), Box<dyn Error>> {
                 println!("answer   {}", text(&bytes));
                 answer = Some(bytes);
             }
-            Reply::Outcome { outcome, reason } => {
+            Reply::Outcome {
+                outcome,
+                reason,
+                method,
+            } => {
                 println!(
-                    "outcome  {outcome}, reason {reason} ({})",
+                    "outcome  {outcome}, reason {reason} ({}), method {method}",
                     reason_text(reason)
                 );
                 println!("commands handed out: {}", session.count().unwrap_or(0));

@@ -1,6 +1,6 @@
 //! Safe wrapper over the static library of the payment kernel session.
 //!
-//! A [`Session`] owns the 948 bytes of one session record. The host opens it, starts it with the
+//! A [`Session`] owns the 1,214 bytes of one session record. The host opens it, starts it with the
 //! terminal's objects, sends each command it is handed to the card, and brings each answer back,
 //! until an outcome comes:
 //!
@@ -49,7 +49,7 @@ pub mod personalise;
 use core::fmt;
 
 /// Bytes of a session record.
-pub const SESSION_SIZE: usize = 948;
+pub const SESSION_SIZE: usize = 1214;
 
 /// The longest command, and so the least length of a command buffer.
 pub const COMMAND_SIZE: usize = 261;
@@ -95,6 +95,48 @@ impl fmt::Display for Outcome {
     }
 }
 
+/// The method of cardholder verification that an outcome tells. The host carries it out.
+#[derive(Clone, Copy, Debug, PartialEq, Eq)]
+pub enum Method {
+    /// None: the card does not support verification, none was wanted, or none succeeded; 9F34 and 95 say which.
+    NoCvm,
+    /// The cardholder signs.
+    Signature,
+    /// The PIN goes online.
+    OnlinePin,
+    /// A PIN that the card checks, which 9F33 says is supported. Nobody has checked it.
+    OfflinePin,
+    /// The session ended before a method was chosen.
+    NotApplicable,
+}
+
+impl Method {
+    /// The method of its number in a result word.
+    fn of_number(number: u8) -> Option<Method> {
+        Some(match number {
+            0 => Method::NoCvm,
+            1 => Method::Signature,
+            2 => Method::OnlinePin,
+            4 => Method::OfflinePin,
+            15 => Method::NotApplicable,
+            _ => return None,
+        })
+    }
+}
+
+impl fmt::Display for Method {
+    /// The words are those of the program `replay`.
+    fn fmt(&self, f: &mut fmt::Formatter<'_>) -> fmt::Result {
+        f.write_str(match self {
+            Method::NoCvm => "no CVM",
+            Method::Signature => "signature",
+            Method::OnlinePin => "online PIN",
+            Method::OfflinePin => "offline PIN",
+            Method::NotApplicable => "not applicable",
+        })
+    }
+}
+
 /// What a call hands back. `'b` is the time the command buffer is lent for.
 #[derive(Clone, Copy, Debug, PartialEq, Eq)]
 pub enum Reply<'b> {
@@ -106,6 +148,8 @@ pub enum Reply<'b> {
         outcome: Outcome,
         /// 0 where a decision was reached, else 1 to 11 (see [`reason_text`]).
         reason: u8,
+        /// The method of cardholder verification.
+        method: Method,
     },
     /// The call was refused, 20 to 25 (see [`refusal_text`]); session and buffer are as before.
     Refused(u8),
@@ -208,7 +252,7 @@ pub fn refusal_text(number: u8) -> &'static str {
     }
 }
 
-/// One session: its record of 948 bytes.
+/// One session: its record of 1,214 bytes.
 #[derive(Clone, PartialEq, Eq)]
 pub struct Session {
     bytes: [u8; SESSION_SIZE],
@@ -313,14 +357,15 @@ impl fmt::Debug for Session {
     }
 }
 
-/// Takes a result word apart (docs/HOST.md). Bits 24 to 31 are kept for a later use and passed over.
+/// Takes a result word apart (docs/HOST.md).
 fn reply(word: u32, command: &[u8]) -> Reply<'_> {
-    let [_, kind, high, low] = word.to_be_bytes();
+    let [method, kind, high, low] = word.to_be_bytes();
     match kind {
         0 => Reply::Command(&command[..usize::from(u16::from_be_bytes([high, low]))]),
         1 => Reply::Outcome {
             outcome: Outcome::of_number(high).expect("libhost.a gave an unknown outcome"),
             reason: low,
+            method: Method::of_number(method).expect("libhost.a gave an unknown method"),
         },
         2 => Reply::Refused(low),
         _ => panic!("libhost.a gave an unknown result word"),

@@ -1,12 +1,12 @@
 //! The wrapper's types over the linked library.
 
 use tripodmoon::{
-    calls, find, version, Found, Object, Outcome, Reply, Session, Version, COMMAND_SIZE,
+    calls, find, version, Found, Method, Object, Outcome, Reply, Session, Version, COMMAND_SIZE,
     MOST_VALUE, SESSION_SIZE,
 };
 
 /// The objects that a start must bring.
-const TERMINAL: [u8; 88] = [
+const TERMINAL: [u8; 104] = [
     0x9A, 0x03, 0x25, 0x06, 0x15, 0x9C, 0x01, 0x00, //
     0x9F, 0x02, 0x06, 0x00, 0x00, 0x00, 0x00, 0x12, 0x34, //
     0x9F, 0x09, 0x02, 0x00, 0x02, 0x9F, 0x1A, 0x02, 0x00, 0x56, //
@@ -15,6 +15,7 @@ const TERMINAL: [u8; 88] = [
     0xDF, 0x81, 0x22, 0x05, 0, 0, 0, 0, 0, //
     0xDF, 0x81, 0x23, 0x06, 0, 0, 0, 0, 0x99, 0x99, //
     0xDF, 0x81, 0x24, 0x06, 0, 0, 0, 0x99, 0x99, 0x99, //
+    0x9F, 0x33, 0x03, 0xE0, 0xF8, 0xC8, 0xDF, 0x81, 0x26, 0x06, 0, 0, 0, 0, 0x25, 0, //
     0x50, 0x01, 0x41,
 ];
 
@@ -73,14 +74,16 @@ fn kept_across_power_loss() {
         session.link_failed(&mut buffer),
         Reply::Outcome {
             outcome: Outcome::Ended,
-            reason: 9
+            reason: 9,
+            method: Method::NotApplicable,
         }
     );
     assert_eq!(
         other.stop(&mut buffer),
         Reply::Outcome {
             outcome: Outcome::Ended,
-            reason: 10
+            reason: 10,
+            method: Method::NotApplicable,
         }
     );
     assert_eq!(session.count(), Some(2));
@@ -156,6 +159,56 @@ fn objects_sent_online() {
     assert_eq!(calls::wipe(&mut []), 0);
 }
 
+/// A session on GENERATE AC, of a card with the list of this one rule.
+fn on_cryptogram(code: u8) -> Session {
+    let mut session = Session::new();
+    let mut buffer = [0; COMMAND_SIZE];
+    session.start(&TERMINAL, &mut buffer);
+    let options = [0x80, 0x06, 0x10, 0x80, 0x08, 0x01, 0x01, 0x00, 0x90, 0x00];
+    session.answer(&options, &mut buffer);
+    let record = [
+        0x70, 0x1A, 0x5F, 0x24, 0x03, 0x30, 0x12, 0x31, 0x5A, 0x02, 0x12, 0x34, 0x8C, 0x02, 0x95,
+        0x05, 0x8E, 0x0A, 0, 0, 0, 0, 0, 0, 0, 0, code, 0x00, 0x90, 0x00,
+    ];
+    assert!(matches!(
+        session.answer(&record, &mut buffer),
+        Reply::Command([0x80, 0xAE, ..])
+    ));
+    session
+}
+
+#[test]
+fn methods() {
+    let mut buffer = [0; COMMAND_SIZE];
+    for (code, method, text) in [
+        (0x1F, Method::NoCvm, "no CVM"),
+        (0x1E, Method::Signature, "signature"),
+        (0x02, Method::OnlinePin, "online PIN"),
+        (0x04, Method::OfflinePin, "offline PIN"),
+    ] {
+        let mut session = on_cryptogram(code);
+        let result = if code == 0x1F { 0x02 } else { 0x00 };
+        holds(&session, 0x9F34, &[code, 0x00, result]);
+        let stopped = Reply::Outcome {
+            outcome: Outcome::Ended,
+            reason: 10,
+            method,
+        };
+        assert_eq!(session.clone().stop(&mut buffer), stopped);
+        let cryptogram = [
+            0x80, 0x0B, 0x80, 0x00, 0x01, 1, 2, 3, 4, 5, 6, 7, 8, 0x90, 0x00,
+        ];
+        let online = Reply::Outcome {
+            outcome: Outcome::OnlineRequest,
+            reason: 0,
+            method,
+        };
+        assert_eq!(session.answer(&cryptogram, &mut buffer), online);
+        assert_eq!(method.to_string(), text);
+    }
+    assert_eq!(Method::NotApplicable.to_string(), "not applicable");
+}
+
 #[test]
 fn found_in_card_bytes() {
     let answer = [
@@ -181,7 +234,7 @@ fn version_of_the_layout() {
         major: 0,
         minor: 1,
         patch: 0,
-        layout: 1,
+        layout: 2,
     };
     assert_eq!(version, expected);
 }

@@ -14,7 +14,7 @@ returns-3 : tie.Need-returns-3
 returns-3 c = rw (c .before .phase .given .1)
 
 returns-4 : tie.Need-returns-4
-returns-4 c = rw (c .before .before .phase2 .given .1, c .p1 .ensures)
+returns-4 c = rw (c .before .before .before .phase2 .given .1, c .before .p1 .ensures, c .method-number .ensures)
 
 returns-5 : tie.Need-returns-5
 returns-5 c = rw (c .before .before .phase3 .given .1, c .outcome-number .ensures)
@@ -27,6 +27,7 @@ code-of-spec =
     (λ c. search needs)
     (λ c. search needs)
     (λ c. search needs)
+    (λ c κs. search needs)
     (λ c κs. search needs)
     (λ c. search needs)
     (λ c κs. search needs)

@@ -17,9 +17,14 @@ returns-2 c = sym (both-no-right _ _ (both-no-left _ _ (ne-eqb _ _ (c .if2 .take
 
 returns-3 : tie.Need-returns-3
 unfolding sameCode
-returns-3 c =
+returns-3 c = sym (both-no-right _ _ (both-no-right _ _ (both-no-left _ _ (ne-eqb _ _ (c .if3 .taken)))))
+
+returns-4 : tie.Need-returns-4
+unfolding sameCode
+returns-4 c =
     let k = c .before .before in
-    sym (both-true _ (eq-eqb _ _ (k .before .before .before .if1 .left)) ∙ both-true _ (eq-eqb _ _ (k .if2 .left)))
+    let j = k .before .before .before in
+    sym (both-true _ (eq-eqb _ _ (j .before .before .before .if1 .left)) ∙ both-true _ (eq-eqb _ _ (j .if2 .left)) ∙ both-true _ (eq-eqb _ _ (k .if3 .left)))
 
 pub is-same-spec : {M : Type 1} → statement M
-is-same-spec = tie.close (tie.spec returns returns-2 returns-3)
+is-same-spec = tie.close (tie.spec returns returns-2 returns-3 returns-4)

@@ -24,10 +24,10 @@ returns-3 c =
 returns-4 : tie.Need-returns-4
 unfolding phaseOf
 returns-4 c =
-    let k = c .before .before in
-    rw (c .choice-from .ensures)
+    let k = c .before .before .before in
+    rw (c .before .choice-from .ensures, c .method-from .ensures)
     (sym (if-no _ _ (ne-eqb _ _ (k .before .before .if1 .left)) ∙ (if-no _ _ (ne-eqb _ _ (k .before .if2 .left))
-    ∙ (if-no _ _ (ne-eqb _ _ (k .if3 .left)) ∙ if-yes _ _ (eq-eqb _ _ (c .before .if4 .taken))))))
+    ∙ (if-no _ _ (ne-eqb _ _ (k .if3 .left)) ∙ if-yes _ _ (eq-eqb _ _ (c .before .before .if4 .taken))))))
 
 returns-5 : tie.Need-returns-5
 unfolding phaseOf
@@ -38,4 +38,4 @@ returns-5 c =
     ∙ (if-no _ _ (ne-eqb _ _ (k .if3 .left)) ∙ if-no _ _ (ne-eqb _ _ (c .before .if4 .left))))))
 
 pub phase-of-spec : {M : Type 1} → statement M
-phase-of-spec = tie.close (tie.spec returns returns-2 returns-3 (λ c κs. search needs) returns-4 (λ c κs. search needs) returns-5)
+phase-of-spec = tie.close (tie.spec returns returns-2 returns-3 (λ c κs. search needs) (λ c κs. search needs) returns-4 (λ c κs. search needs) returns-5)

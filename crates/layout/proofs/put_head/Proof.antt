@@ -1,4 +1,4 @@
--- `layout::put_head` meets its contract: five bytes are set one by one.
+-- `layout::put_head` meets its contract: six bytes are set one by one.
 -- Assumes nothing.
 use borrow.Author.Needs.{needs}
 use mathlib.Core.Path.{refl, sym, _∙_}
@@ -15,7 +15,7 @@ returns-2 : tie.Need-returns-2
 returns-2 c =
     let a = c .before .before .before .args in
     let k = c .code-of .result in
-    set-head (a .bytes .now) 1 (k .number) (k .datum) (k .reason) (a .count) (omega arith)
+    set-head (a .bytes .now) 2 (k .number) (k .datum) (k .reason) (a .count) (k .method) (omega arith)
     ∙ (rw (c .code-of .ensures) refl ∙ sym (headed-yes (a .bytes .now) (a .phase) (a .count) (c .before .if1 .left)))
 
 pub put-head-spec : {M : Type 1} → statement M
@@ -25,6 +25,7 @@ put-head-spec =
     returns
     (λ c κs. search needs)
     (λ c. search needs)
+    (λ c. simp length-set (omega arith))
     (λ c. simp length-set (omega arith))
     (λ c. simp length-set (omega arith))
     (λ c. simp length-set (omega arith))

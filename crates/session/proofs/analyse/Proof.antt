@@ -1,22 +1,32 @@
--- `session::analyse` meets its contract: the bits are found, chosen on and stored; `analysed-as` puts them together.
+-- `session::analyse` meets its contract: what is found is chosen on and stored; `analysed-as` puts it together.
 -- Assumes nothing.
 use borrow.Author.Needs.{needs}
 use mathlib.Core.Path.{ap, _∙_}
 use native.Mathlib.Omega.{arith}
 use lib.ListN.{length}
-use Rattle.analysis.proofs.Laws.{result-length}
-use Rattle.session.proofs.Laws.{did-as, results-fit, analysed-as}
+use Rattle.analysis.specs.declared.action.Findings.{Findings}
+use Rattle.analysis.proofs.Laws.{found-length, bits-length}
+use Rattle.session.proofs.Laws.{did-as, verification-fits, results-fit, analysed-as}
 use Rattle.session.proofs.analyse.Statement.{statement}
 use Rattle.session.proofs.analyse.Tie as tie
 
 put-requires : tie.Need-put-requires
 put-requires c κs =
-    (search needs, (omega arith, omega (arith, results-fit, ap length (c .before .before .before .before .result-of .ensures) ∙ result-length (c .before .before .before .before .before .before .before .before .args .store .now))))
+    let f = c .before .before .before .before .before .before in
+    (search needs, (omega arith, omega (arith, verification-fits, ap (λ (x : Findings). length (x .results)) (f .findings-of .ensures) ∙ found-length (f .before .before .before .before .args .store .now))))
+
+put-requires-2 : tie.Need-put-requires-2
+put-requires-2 c κs =
+    let f = c .before .before .before .before .before .before .before .before .before .before .before in
+    (search needs, (omega arith, omega (arith, results-fit, ap (λ (x : Findings). length (x .bits)) (f .findings-of .ensures) ∙ bits-length (f .before .before .before .before .args .store .now))))
 
 returns : tie.Need-returns
 returns c =
-    let a = c .before .before .before .before .before .before .before .before .before .before .before .before .before .before .before .before .args in
-    did-as (analysed-as (a .count) (a .store .now) _ (c .before .before .before .before .before .before .before .before .before .before .before .before .result-of .ensures) (c .before .before .before .before .before .before .before .before .before .before .choice-for .ensures .0) (c .before .before .before .before .before .before .before .put .ensures .0))
+    let put2 = c .before .before .before .before .before .before .before in
+    let put = put2 .before .before .before .before .before in
+    let f = put .before .before .before .before .before .before .before in
+    let a = f .before .before .before .before .args in
+    did-as (analysed-as (a .count) (a .store .now) _ (f .findings-of .ensures) (put .before .before .before .choice-for .ensures .0) (put .put .ensures .0) (put2 .put2 .ensures .0))
     (c .before .before .ask-cryptogram .ensures)
 
 pub analyse-spec : {M : Type 1} → statement M
@@ -27,6 +37,8 @@ analyse-spec =
     (λ c κs. search needs)
     (λ c. search needs)
     put-requires
+    (λ c. search needs)
+    put-requires-2
     (λ c κs. search needs)
     (λ c. search needs)
     (λ c. search needs)

@@ -2,6 +2,7 @@
 -- Assumes nothing.
 use borrow.Author.Needs.{needs}
 use Rattle.data_list.specs.Commands.{processingOptions}
+use Rattle.analysis.specs.Verification.{notApplicable}
 use Rattle.record.specs.declared.Phase.{Phase}
 use Rattle.session.specs.Start.{askOptions}
 use Rattle.session.proofs.Laws.{handed-none, handed-some}
@@ -13,14 +14,14 @@ unfolding askOptions
 returns c =
     let a = c .before .before .before .before .before .before .before .before .before .args in
     let g = c .before .before .before .before .before .processing-options .ensures in
-    handed-none (a .count) (a .bytes .now) Phase.Options (a .command .now) (processingOptions (a .bytes .now)) (g .0) (g .1 .0) (c .before .enum-told .given .1) (c .fails .ensures)
+    handed-none notApplicable (a .count) (a .bytes .now) Phase.Options (a .command .now) (processingOptions (a .bytes .now)) (g .0) (g .1 .0) (c .before .enum-told .given .1) (c .fails .ensures)
 
 returns-2 : tie.Need-returns-2
 unfolding askOptions
 returns-2 c =
     let a = c .before .before .before .before .before .before .before .before .before .before .args in
     let g = c .before .before .before .before .before .before .processing-options .ensures in
-    handed-some (a .count) (a .bytes .now) Phase.Options (a .command .now) (processingOptions (a .bytes .now)) (g .0) (g .1 .0) (c .before .before .c .given .1) (c .commands .ensures)
+    handed-some notApplicable (a .count) (a .bytes .now) Phase.Options (a .command .now) (processingOptions (a .bytes .now)) (g .0) (g .1 .0) (c .before .before .c .given .1) (c .commands .ensures)
 
 pub ask-options-spec : {M : Type 1} → statement M
 ask-options-spec =

@@ -4,7 +4,8 @@ use borrow.Author.Needs.{needs}
 use borrow.Author.Tests.{not-true, not-false}
 use mathlib.Core.Path.{_≡_, sym, ap, _∙_}
 use Rattle.record.specs.declared.Phase.{Phase}
-use Rattle.record.specs.Session.{sessionOf}
+use Prim.Native.Nat.{ℕ}
+use Rattle.record.specs.Session.{sessionOf, failsTurn}
 use Rattle.session.specs.Steps.{endsIn, brokenOff}
 use Rattle.session.proofs.Laws.{did-without-command, admitted-short, admitted-ranges, admitted-in}
 use Rattle.session.proofs.broken_off.Statement.{statement}
@@ -34,10 +35,13 @@ returns-5 : tie.Need-returns-5
 returns-5 c = did-without-command _ (c .fails2 .ensures) (by-phase (c .before .before .before) _ (c .before .enum-told3 .given .1))
 
 returns-6 : tie.Need-returns-6
-returns-6 c = did-without-command _ (c .fails3 .ensures) (by-phase (c .before .before .before) _ (c .before .enum-told4 .given .1))
+returns-6 c =
+    let a = c .before .before .before .before .before .before .before .before .before .before .args in
+    did-without-command _ (c .fails3 .ensures ∙ ap (λ (m : ℕ). failsTurn m (a .count) (a .reason)) (c .before .held-method .ensures))
+    (by-phase (c .before .before .before .before .before) _ (c .before .before .before .phase .given .1))
 
 returns-7 : tie.Need-returns-7
-returns-7 c = did-without-command _ (c .refused4 .ensures) (by-phase (c .before .before .before) _ (c .before .enum-told5 .given .1))
+returns-7 c = did-without-command _ (c .refused4 .ensures) (by-phase (c .before .before .before) _ (c .before .enum-told4 .given .1))
 
 pub broken-off-spec : {M : Type 1} → statement M
 broken-off-spec =
@@ -55,6 +59,7 @@ broken-off-spec =
     (λ c. search needs)
     (λ c κs. search needs)
     (λ c. search needs)
+    (λ c κs. search needs)
     (λ c κs. search needs)
     (λ c. search needs)
     (λ c κs. search needs)

@@ -8,7 +8,10 @@ use Prim.Native.Nat.{ℕ, _/_}
 use lib.ListN.{getD}
 use Rattle.dictionary.proofs.Named.{at-9F27}
 use Rattle.record.proofs.Tags.{bytes-are}
+use Rattle.basics.specs.Reason.{reasonNone, reasonMissing, reasonCryptogram}
+use Rattle.analysis.specs.Verification.{methodNumber}
 use Rattle.record.specs.declared.Outcome.{Outcome}
+use Rattle.record.specs.Session.{endsTurn, failsTurn}
 use Rattle.session.specs.Steps.{ended}
 use Rattle.session.specs.Answer.{decision, endFor, cryptogramEnd}
 use Rattle.session.proofs.Laws.{reply-as, is-complete, is-missing, decides-nothing, decides-on, cryptogram-missing, cryptogram-decided}
@@ -17,11 +20,12 @@ use Rattle.session.proofs.decide.Tie as tie
 
 -- the decision, by the type that was read
 concludes : (c : tie.After-decision-for) (o : Option Outcome) → let a = c .before .before .before .before .before .before .before .args in
-    decision (a .asked .choice) (c .before .byte-at .result / 64) ≡ o → ended (a .count) (a .bytes .now) (cryptogramEnd (a .asked) (a .bytes .now)) ≡ ended (a .count) (a .bytes .now) (endFor o)
+    decision (a .asked .choice) (c .before .byte-at .result / 64) ≡ o → ended (methodNumber (a .asked .method)) (a .count) (a .bytes .now) (cryptogramEnd (a .asked) (a .bytes .now))
+    ≡ ended (methodNumber (a .asked .method)) (a .count) (a .bytes .now) (endFor o)
 concludes c o e =
     let a = c .before .before .before .before .before .before .before .args in
     let t = c .before .before .before in
-    ap (ended (a .count) (a .bytes .now))
+    ap (ended (methodNumber (a .asked .method)) (a .count) (a .bytes .now))
     (cryptogram-decided _ _ (is-complete _ (t .before .before .cryptogram-there .ensures) (t .enum-told .given .1))
     ∙ ap (λ (n : ℕ). endFor (decision (a .asked .choice) (n / 64)))
     (sym (c .before .byte-at .ensures ∙ ap (λ (v : List ℕ). getD v 0 0) (c .before .before .value .ensures ∙ bytes-are _ _ _ at-9F27)))
@@ -29,18 +33,23 @@ concludes c o e =
 
 returns : tie.Need-returns
 returns c =
-    let a = c .before .before .before .before .before .args in
-    reply-as _ (c .fails .ensures)
-    ∙ ap (ended (a .count) (a .bytes .now)) (sym (cryptogram-missing (a .asked) _ (is-missing _ (c .before .before .before .cryptogram-there .ensures) (c .before .enum-told2 .given .1))))
+    let a = c .before .before .before .before .before .before .args in
+    reply-as _ (c .fails .ensures ∙ ap (λ (m : ℕ). failsTurn m (a .count) reasonMissing) (c .before .held-method .ensures))
+    ∙ ap (ended (methodNumber (a .asked .method)) (a .count) (a .bytes .now)) (sym (cryptogram-missing (a .asked) _ (is-missing _ (c .before .before .before .before .cryptogram-there .ensures) (c .before .before .enum-told2 .given .1))))
 
 returns-2 : tie.Need-returns-2
-returns-2 c = reply-as _ (c .fails2 .ensures) ∙ sym (concludes (c .before .before .before) none (decides-nothing _ (c .before .before .before .decision-for .ensures) (c .before .enum-told3 .given .1)))
+returns-2 c =
+    let a = c .before .before .before .before .before .before .before .before .before .before .before .args in
+    reply-as _ (c .fails2 .ensures ∙ ap (λ (m : ℕ). failsTurn m (a .count) reasonCryptogram) (c .before .held-method2 .ensures))
+    ∙ sym (concludes (c .before .before .before .before) none (decides-nothing _ (c .before .before .before .before .decision-for .ensures) (c .before .before .enum-told3 .given .1)))
 
 returns-3 : tie.Need-returns-3
 returns-3 c =
-    let d = c .before .before in
+    let d = c .before .before .before in
     let f = d .before .before in
-    reply-as _ (c .ends .ensures) ∙ sym (concludes f (some (d .d .given .0 .0 .outcome)) (decides-on _ (f .decision-for .ensures) (d .d .given .1)))
+    let a = f .before .before .before .before .before .before .before .args in
+    reply-as _ (c .ends .ensures ∙ ap (λ (m : ℕ). endsTurn m (a .count) (d .d .given .0 .0 .outcome) reasonNone) (c .before .held-method3 .ensures))
+    ∙ sym (concludes f (some (d .d .given .0 .0 .outcome)) (decides-on _ (f .decision-for .ensures) (d .d .given .1)))
 
 pub decide-spec : {M : Type 1} → statement M
 decide-spec =
@@ -50,6 +59,7 @@ decide-spec =
     (λ c. search needs)
     (λ c. search needs)
     (λ c κs. search needs)
+    (λ c κs. search needs)
     returns
     (λ c κs. search needs)
     (λ c κs. search needs)
@@ -57,6 +67,8 @@ decide-spec =
     (λ c. search needs)
     (λ c. search needs)
     (λ c κs. search needs)
+    (λ c κs. search needs)
     returns-2
+    (λ c κs. search needs)
     (λ c κs. search needs)
     returns-3)

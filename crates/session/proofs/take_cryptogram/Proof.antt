@@ -1,8 +1,10 @@
 -- `session::take_cryptogram` meets its contract: the reading is accepted or not, and each has its law.
 -- Assumes nothing.
 use borrow.Author.Needs.{needs}
-use mathlib.Core.Path.{sym, ap, _∙_}
+use mathlib.Core.Path.{sym, ap₂, _∙_}
+use Prim.Native.Nat.{ℕ}
 use Rattle.reading.specs.declared.Awaited.{Awaited}
+use Rattle.analysis.specs.Verification.{methodNumber}
 use Rattle.record.specs.Session.{failsTurn}
 use Rattle.session.specs.Steps.{ended, endBy}
 use Rattle.session.specs.Answer.{cryptogramEnd, cryptogramReply}
@@ -13,10 +15,10 @@ use Rattle.session.proofs.take_cryptogram.Tie as tie
 returns : tie.Need-returns
 unfolding cryptogramReply
 returns c =
-    let a = c .before .before .before .before .before .before .before .before .before .args in
-    reply-as _ (c .fails .ensures ∙ ap (failsTurn (a .count)) (c .before .number .ensures))
-    ∙ sym (read-no Awaited.Cryptogram (a .store .now) (a .card .now) (c .before .before .before .before .before .read-answer .ensures .0)
-    _ (λ b n. ended (a .count) b (endBy n)) (c .before .before .match .keys2))
+    let a = c .before .before .before .before .before .before .before .before .before .before .args in
+    reply-as _ (c .fails .ensures ∙ ap₂ (λ (m n : ℕ). failsTurn m (a .count) n) (c .before .held-method .ensures) (c .before .before .number .ensures))
+    ∙ sym (read-no Awaited.Cryptogram (a .store .now) (a .card .now) (c .before .before .before .before .before .before .read-answer .ensures .0)
+    _ (λ b n. ended (methodNumber (a .asked .method)) (a .count) b (endBy n)) (c .before .before .before .match .keys2))
 
 returns-2 : tie.Need-returns-2
 unfolding cryptogramReply
@@ -24,7 +26,7 @@ returns-2 c =
     let a = c .before .before .before .before .before .before .before .before .before .before .args in
     c .decide .ensures
     ∙ sym (read-yes Awaited.Cryptogram (a .store .now) (a .card .now) (c .before .before .before .before .before .before .read-answer .ensures .0)
-    (λ b. ended (a .count) b (cryptogramEnd (a .asked) b)) _ (c .before .before .enum-told .given .1))
+    (λ b. ended (methodNumber (a .asked .method)) (a .count) b (cryptogramEnd (a .asked) b)) _ (c .before .before .enum-told .given .1))
 
 pub take-cryptogram-spec : {M : Type 1} → statement M
 take-cryptogram-spec =
@@ -32,6 +34,7 @@ take-cryptogram-spec =
     (tie.spec
     (λ c κs. search needs)
     (λ c. search needs)
+    (λ c κs. search needs)
     (λ c κs. search needs)
     (λ c κs. search needs)
     (λ c. search needs)

@@ -3,6 +3,7 @@
 use borrow.Author.Needs.{needs}
 use mathlib.Core.Path.{ap, _∙_}
 use Rattle.reading.specs.declared.Awaited.{Awaited}
+use Rattle.analysis.specs.Verification.{notApplicable}
 use Rattle.record.specs.Session.{failsTurn}
 use Rattle.session.specs.Steps.{fails}
 use Rattle.session.specs.Answer.{optionsRead, optionsStep}
@@ -14,9 +15,9 @@ returns : tie.Need-returns
 unfolding optionsStep
 returns c =
     let a = c .before .before .before .before .before .before .before .before .before .before .args in
-    did-without-command _ (c .fails .ensures ∙ ap (failsTurn (a .count)) (c .before .number .ensures))
+    did-without-command _ (c .fails .ensures ∙ ap (failsTurn notApplicable (a .count)) (c .before .number .ensures))
     (read-no Awaited.Options (a .store .now) (a .card .now) (c .before .before .before .before .before .read-answer .ensures .0)
-    _ (λ b n. fails (a .count) b n (a .command .now)) (c .before .before .match .keys2))
+    _ (λ b n. fails notApplicable (a .count) b n (a .command .now)) (c .before .before .match .keys2))
 
 returns-2 : tie.Need-returns-2
 unfolding optionsStep

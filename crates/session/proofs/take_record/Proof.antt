@@ -4,6 +4,7 @@ use borrow.Author.Needs.{needs}
 use mathlib.Core.Path.{_≡_, ap, _∙_}
 use Rattle.locator.specs.declared.Found.{Found}
 use Rattle.reading.specs.declared.Awaited.{Awaited}
+use Rattle.analysis.specs.Verification.{notApplicable}
 use Rattle.record.specs.Session.{failsTurn}
 use Rattle.session.specs.Steps.{fails}
 use Rattle.session.specs.Answer.{recordFound, recordRead, recordStep}
@@ -27,10 +28,10 @@ returns-2 c =
     let f = c .before .before .before .before .before .before .before .before in
     let w = f .found .given .0 .0 in
     let a = c .before .before .before .before .before .before .before .before .before .before .before .before .before .before .before .before .before .args in
-    did-without-command _ (c .fails2 .ensures ∙ ap (failsTurn (a .count)) (c .before .number .ensures))
+    did-without-command _ (c .fails2 .ensures ∙ ap (failsTurn notApplicable (a .count)) (c .before .number .ensures))
     (asked (c .before .before .before .before .before .before .before .before .before .before) (Found.At w) (f .found .given .1)
     ∙ read-no (Awaited.Record (record { number = w .file })) (a .store .now) (a .card .now) (c .before .before .before .before .before .read-answer .ensures .0)
-    _ (λ b n. fails (a .count) b n (a .command .now)) (c .before .before .match2 .keys2))
+    _ (λ b n. fails notApplicable (a .count) b n (a .command .now)) (c .before .before .match2 .keys2))
 
 returns-3 : tie.Need-returns-3
 returns-3 c =

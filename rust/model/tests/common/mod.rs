@@ -3,7 +3,7 @@
 
 use model::dictionary::Object;
 use model::store::{self, Store};
-use model::SESSION_SIZE;
+use model::{HEAD_SIZE, SESSION_SIZE};
 
 /// Bytes of a hexadecimal text; blanks are passed over.
 pub fn hex(text: &str) -> Vec<u8> {
@@ -20,12 +20,13 @@ pub fn hex(text: &str) -> Vec<u8> {
 }
 
 /// The objects of an ordinary start, each as one text.
-pub const START: [&str; 12] = [
+pub const START: [&str; 14] = [
     "9A 03 250615",
     "9C 01 00",
     "9F02 06 000000001234",
     "9F09 02 0002",
     "9F1A 02 0056",
+    "9F33 03 E0F8C8",
     "9F35 01 22",
     "9F37 04 11223344",
     "DF8120 05 0000000000",
@@ -33,6 +34,7 @@ pub const START: [&str; 12] = [
     "DF8122 05 0000000000",
     "DF8123 06 000000010000",
     "DF8124 06 000000100000",
+    "DF8126 06 000000002500",
 ];
 
 /// An ordinary start with some objects put in place of those of the same tag, or added.
@@ -59,16 +61,45 @@ pub fn start_without(tag: &str) -> Vec<u8> {
     hex(&objects.concat())
 }
 
+/// Whether a word is a command's length.
+pub fn is_command(word: u32) -> bool {
+    word < 0x0001_0000
+}
+
+/// Whether a word is a refusal. Bits 16 to 23 tell the kind; those above are an outcome's method.
+pub fn is_refusal(word: u32) -> bool {
+    word >> 16 & 0xFF == 2
+}
+
 pub fn refused(number: u32) -> u32 {
     0x0002_0000 + number
 }
 
-pub fn outcome(outcome: u32, reason: u32) -> u32 {
-    0x0001_0000 + outcome * 256 + reason
+/// The numbers of the methods in a word.
+pub const NO_CVM: u32 = 0;
+pub const SIGNATURE: u32 = 1;
+pub const ONLINE_PIN: u32 = 2;
+pub const OFFLINE_PIN: u32 = 4;
+pub const NOT_APPLICABLE: u32 = 15;
+
+/// An outcome with its reason and method.
+pub fn outcome(method: u32, outcome: u32, reason: u32) -> u32 {
+    (method << 24) + 0x0001_0000 + outcome * 256 + reason
 }
 
+/// A decision of a session without a method, as those of cards that do not support cardholder verification are.
+pub fn decided(decision: u32) -> u32 {
+    outcome(NO_CVM, decision, 0)
+}
+
+/// An end before the choice of a method.
 pub fn ended(reason: u32) -> u32 {
-    outcome(3, reason)
+    outcome(NOT_APPLICABLE, 3, reason)
+}
+
+/// An end after NO CVM was chosen.
+pub fn ended_later(reason: u32) -> u32 {
+    outcome(NO_CVM, 3, reason)
 }
 
 /// A session with its buffer. Every call tests that bytes which must stay do stay.
@@ -90,18 +121,24 @@ impl Host {
 
     pub fn started(changes: &[&str]) -> Host {
         let mut host = Host::open();
-        assert!(host.start(&start_with(changes)) < 0x10000);
+        assert!(is_command(host.start(&start_with(changes))));
         host
     }
 
-    /// A session past the processing options, with the locator given.
+    /// A session past the processing options, with the locator given. The card does not support cardholder verification.
     pub fn reading(changes: &[&str], locator: &str) -> Host {
+        Host::reading_card(changes, "0080", locator)
+    }
+
+    /// A session past the processing options, with the profile and the locator given.
+    pub fn reading_card(changes: &[&str], profile: &str, locator: &str) -> Host {
         let mut host = Host::started(changes);
-        let locator = hex(locator);
-        let mut answer = vec![0x80, locator.len() as u8 + 2, 0x00, 0x80];
+        let (profile, locator) = (hex(profile), hex(locator));
+        let mut answer = vec![0x80, locator.len() as u8 + 2];
+        answer.extend(&profile);
         answer.extend(&locator);
         answer.extend([0x90, 0x00]);
-        assert!(host.answer(&answer) < 0x10000);
+        assert!(is_command(host.answer(&answer)));
         host
     }
 
@@ -109,7 +146,7 @@ impl Host {
     pub fn generating(changes: &[&str], record: &str) -> Host {
         let mut host = Host::reading(changes, "08010100");
         let word = host.record(record);
-        assert!(word < 0x10000, "{word:x}");
+        assert!(is_command(word), "{word:x}");
         host
     }
 
@@ -125,9 +162,9 @@ impl Host {
     fn call(&mut self, call: impl FnOnce(&mut [u8], &mut [u8]) -> u32) -> u32 {
         let (session, buffer) = (self.session.clone(), self.buffer.clone());
         let word = call(&mut self.session, &mut self.buffer);
-        let kept_from = if word < 0x10000 { word as usize } else { 0 };
+        let kept_from = if is_command(word) { word as usize } else { 0 };
         assert_eq!(self.buffer[kept_from..], buffer[kept_from..]);
-        if word >= 0x20000 {
+        if is_refusal(word) {
             assert_eq!(self.session, session);
         }
         let behind = SESSION_SIZE.min(session.len());
@@ -165,7 +202,9 @@ impl Host {
     }
 
     pub fn store(&self) -> &Store {
-        self.session[5..].first_chunk().expect("a whole store")
+        self.session[HEAD_SIZE..]
+            .first_chunk()
+            .expect("a whole store")
     }
 
     pub fn get(&self, object: Object) -> Option<&[u8]> {
