@@ -11,6 +11,7 @@ ghost use Rattle.tlv.specs.Tag.{tagSize, tagAt, firstByte, isTemplate, i
 ghost use Rattle.tlv.specs.Length.{lengthAt};
 ghost use Rattle.tlv.specs.Object.{headerOf};
 ghost use Rattle.tlv.specs.Tree.{nextOf};
+ghost use Rattle.tlv.specs.Padding.{PassesOver};
 ghost use Rattle.tlv.specs.Primitives.{primitiveOf, primitives, isRun};
 
 // A tag: its bytes read as one number, and how many they are.
@@ -208,18 +209,29 @@ pub fn head(s: &[u8]) -> Front
     Front::Broken
 }
 
-// What stands next within a template's contents.
+// What stands next within a template's contents, behind any bytes of 00; the value's start counts them.
 pub fn next(s: &[u8]) -> Following
-    ensures { λ r. ⌜ r ≡ nextOf (now (s .entry)) ⌝ }
+    ensures next { λ r. ⌜ r ≡ nextOf (now (s .entry)) ⌝ }
+    ensures padding { λ _. ⌜ PassesOver (now (s .entry)) ⌝ }
 {
-    if s.len() == 0 {
+    let mut at = 0;
+    while at < s.len() && s[at] == 0 {
+        at += 1;
+    }
+    if at == s.len() {
         return Following::End;
     }
-    let front = head(s);
-    match front {
-        Front::Object(h) => Following::Inner(h),
-        Front::Broken => Following::Malformed,
-    }
+    let front = head(&s[at..]);
+    let Front::Object(h) = front else {
+        return Following::Malformed;
+    };
+    Following::Inner(Header {
+        tag: h.tag,
+        start: at + h.start,
+        len: h.len,
+        template: h.template,
+        private: h.private,
+    })
 }
 
 // The primitive object at the front; a template is none.
