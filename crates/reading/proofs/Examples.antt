@@ -127,7 +127,7 @@ unpadded : map (body (file 1))
     ∷ (0x70 ∷ 0x80 ∷ 0x00 ∷ 0x00 ∷ [])
     ∷ (0x00 ∷ 0x00 ∷ [])
     ∷ [])
-    ≡ map (λ _. 2 ∷ 0 ∷ []) (replicate 8 0)
+    ≡ replicate 8 (2 ∷ 0 ∷ [])
 unfolding readBody bodyOf headerOf tagAt tagSize secondByte lengthAt firstByte isTemplate isPrivate numberFrom if both parse recurse recurseBy nextOf withLeaf withNode
 unpadded = refl
 
