@@ -63,10 +63,10 @@ module _ (s : List ℕ) (i : ℕ) where
     pub pass-zero : getD s i 0 ≡ 0 → movedNext i (nextOf (drop i s)) ≡ movedNext (i + 1) (nextOf (drop (i + 1) s))
     pass-zero z = rw (add-one, drop-cons s i 0 h, z, next-zero (drop (suc i) s)) (rw add-one at (moved-twice i 1 (nextOf (drop (suc i) s))))
 
-    pub stop-at : (getD s i 0 ≡ 0 → ⊥) → (y : Front) → headerOf (drop i s) ≡ y → nextOf (drop i s) ≡ frontNext y
-    stop-at n y e =
+    pub stop-at : (getD s i 0 ≡ 0 → ⊥) → nextOf (drop i s) ≡ frontNext (headerOf (drop i s))
+    stop-at n =
         let d = drop-cons s i 0 h in
-        ap nextOf d ∙ next-first (getD s i 0) (drop (suc i) s) n ∙ ap frontNext (ap headerOf (sym d) ∙ e)
+        ap nextOf d ∙ next-first (getD s i 0) (drop (suc i) s) n ∙ ap (λ (r : List ℕ). frontNext (headerOf r)) (sym d)
 
 -- ---- what the parse needs
 

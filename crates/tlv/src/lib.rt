@@ -5,12 +5,12 @@
 // hold primitive objects alone. The tree of an encoding, its count and its laws are in specs/.
 ghost use mathlib.Core.Path.{_≡_};
 ghost use Prim.Native.Nat.{_+_, _≤_, _<_};
-ghost use lib.ListN.{length, take};
+ghost use lib.ListN.{length, take, drop};
 ghost use Rattle.basics.specs.Number.{number};
 ghost use Rattle.tlv.specs.Tag.{tagSize, tagAt, firstByte, isTemplate, isPrivate};
 ghost use Rattle.tlv.specs.Length.{lengthAt};
 ghost use Rattle.tlv.specs.Object.{headerOf};
-ghost use Rattle.tlv.specs.Tree.{nextOf};
+ghost use Rattle.tlv.specs.Tree.{frontNext, movedNext, nextOf};
 ghost use Rattle.tlv.specs.Padding.{PassesOver};
 ghost use Rattle.tlv.specs.Primitives.{primitiveOf, primitives, isRun};
 
@@ -215,19 +215,28 @@ pub fn next(s: &[u8]) -> Following
     ensures padding { λ _. ⌜ PassesOver (now (s .entry)) ⌝ }
 {
     let mut at = 0;
-    while at < s.len() && s[at] == 0 {
+    while at < s.len() {
+        if s[at] != 0 {
+            return object_at(s, at);
+        }
         at += 1;
     }
-    if at == s.len() {
-        return Following::End;
-    }
+    Following::End
+}
+
+// The object at a place, its value's start counted from the front.
+fn object_at(s: &[u8], at: usize) -> Following
+    requires { ⌜ at ≤ length (now s) ⌝ }
+    ensures { λ r. ⌜ r ≡ movedNext at (frontNext (headerOf (drop at (now (s .entry))))) ⌝ }
+{
     let front = head(&s[at..]);
     let Front::Object(h) = front else {
         return Following::Malformed;
     };
+    let start = at + h.start;
     Following::Inner(Header {
         tag: h.tag,
-        start: at + h.start,
+        start,
         len: h.len,
         template: h.template,
         private: h.private,
