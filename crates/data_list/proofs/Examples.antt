@@ -49,6 +49,12 @@ pub no-length : listEntries (0x9F ∷ 0x02 ∷ []) ≡ none
 unfolding listEntries recurse recurseBy along entryAt withLength withEntry tagAt tagSize secondByte thirdByte numberFrom if
 no-length = refl
 
+-- padding in front of the first tag and behind the last length
+pub padding-around : map listEntries ((0 ∷ 0x9F ∷ 0x02 ∷ 6 ∷ []) ∷ (0x9F ∷ 0x02 ∷ 6 ∷ 0 ∷ []) ∷ (0 ∷ 0x95 ∷ 5 ∷ []) ∷ (0x95 ∷ 5 ∷ 0 ∷ []) ∷ [])
+    ≡ none ∷ none ∷ none ∷ none ∷ []
+unfolding listEntries recurse recurseBy along entryAt withLength withEntry tagAt tagSize secondByte thirdByte numberFrom if
+padding-around = refl
+
 -- ---- values
 
 -- an amount keeps its right end, and grows at its left

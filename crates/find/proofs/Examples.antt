@@ -77,3 +77,12 @@ longest = (0x84 ∷ 0x82 ∷ 0xFF ∷ 0xFB ∷ replicate 0xFFFB 0) ∷ (0x84 ∷
 lengths : map (λ s. word s 0x84) longest ≡ 0x000000040000FFFB ∷ malformed ∷ []
 unfolding findOf firstTagged recurse recurseBy nextOf headerOf tagAt tagSize lengthAt twoBytes firstByte isTemplate isPrivate numberFrom if firstOf shifted
 lengths = refl
+
+-- padding: in front of 6F, in front of 84, in A5 and behind all; places count it. A value of a template begins with its padding
+abbrev spaced : List ℕ
+spaced = 0x00 ∷ 0x6F ∷ 0x0C ∷ 0x00 ∷ 0x84 ∷ 0x02 ∷ 0xA0 ∷ 0x00 ∷ 0xA5 ∷ 0x05 ∷ 0x00 ∷ 0x9F ∷ 0x38 ∷ 0x01 ∷ 0xAA ∷ 0x00 ∷ []
+
+spaces : map (word spaced) (0x6F ∷ 0x84 ∷ 0xA5 ∷ 0x9F38 ∷ 0x00 ∷ 0x4F ∷ [])
+    ≡ 0x000000030000000C ∷ 0x0000000600000002 ∷ 0x0000000A00000005 ∷ 0x0000000E00000001 ∷ none ∷ none ∷ []
+unfolding findOf firstTagged recurse recurseBy nextOf headerOf tagAt tagSize secondByte lengthAt firstByte isTemplate isPrivate numberFrom if firstOf shifted
+spaces = refl

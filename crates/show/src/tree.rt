@@ -2,9 +2,9 @@
 // cannot be read (document 01, "Reading an answer").
 //
 // `walked` goes through the bytes in order. What stands next is `tlv::next`'s matter; the ends of the templates that
-// are open stand in an array.
+// are open stand in an array. Within a template a 00 where a tag would start is passed over (document 02, Item 6).
 use crate::{bits, bytes, margin, named, object, text};
-use tlv::{Following, Header};
+use tlv::{Following, Front, Header};
 
 // What is shown: the tree, and the bits of its objects in words.
 pub struct View {
@@ -55,15 +55,38 @@ pub fn walked(body: &[u8], view: View) -> Walk {
 fn step(w: Walk, body: &[u8], view: View) -> Walk {
     let at = w.at;
     let rest = part(body, at, end_of(w, body.len()));
-    if w.open == 0 && 0 < at {
-        return behind(w, rest, view);
+    if w.open == 0 {
+        return outer(w, rest, view);
+    }
+    if is_padded(rest) {
+        return moved(w, plus(at, 1));
     }
     let following = tlv::next(rest);
     match following {
-        Following::End => closed(w, rest, view),
+        Following::End => closed(w),
         Following::Malformed => stopped(w, BROKEN, rest, view),
         Following::Inner(h) => met(w, h, rest, view),
     }
+}
+
+// The outer object, or what stands behind it.
+fn outer(w: Walk, rest: &[u8], view: View) -> Walk {
+    if 0 < w.at {
+        return behind(w, rest, view);
+    }
+    let front = tlv::head(rest);
+    match front {
+        Front::Object(h) => met(w, h, rest, view),
+        Front::Broken => stopped(w, BROKEN, rest, view),
+    }
+}
+
+// Whether a 00 stands in front.
+fn is_padded(s: &[u8]) -> bool {
+    if s.len() == 0 {
+        return false;
+    }
+    s[0] == 0
 }
 
 // Where the innermost open template ends; the answer's end where none is open.
@@ -98,13 +121,12 @@ fn behind(w: Walk, rest: &[u8], view: View) -> Walk {
     stopped(w, BEHIND, rest, view)
 }
 
-// The contents are used up. An answer with no object at all cannot be read.
-fn closed(w: Walk, rest: &[u8], view: View) -> Walk {
-    if w.open == 0 {
-        return stopped(w, BROKEN, rest, view);
-    }
+// The contents are used up.
+fn closed(w: Walk) -> Walk {
     let mut out = w;
-    out.open = w.open - 1;
+    if 0 < w.open {
+        out.open = w.open - 1;
+    }
     out
 }
 

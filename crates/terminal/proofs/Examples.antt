@@ -28,6 +28,10 @@ pub record Refused (b : List ℕ) : Type 0 where
   pub template : load b (0xE1 ∷ 0x00 ∷ []) ≡ refusal 20
   -- 00 where a tag should stand
   pub padding : load b (0x00 ∷ []) ≡ refusal 20
+  -- in front of an object, between two and behind one
+  pub padded-front : load b (0x00 ∷ 0x9C ∷ 0x01 ∷ 0x00 ∷ []) ≡ refusal 20
+  pub padded-between : load b (0x9C ∷ 0x01 ∷ 0x00 ∷ 0x00 ∷ 0x9A ∷ 0x00 ∷ []) ≡ refusal 20
+  pub padded-behind : load b (0x9C ∷ 0x01 ∷ 0x00 ∷ 0x00 ∷ []) ≡ refusal 20
   -- an object that may not be set, and behind it one that is cut short: all bytes are looked at first
   pub cut : load b (0x95 ∷ 0x00 ∷ 0x9A ∷ 0x03 ∷ 0x25 ∷ []) ≡ refusal 20
   -- result bits
@@ -47,6 +51,9 @@ unfolding load primitives recurse recurseBy withObject primitiveOf headerOf tagA
 refused b = record {
   template = refl;
   padding = refl;
+  padded-front = refl;
+  padded-between = refl;
+  padded-behind = refl;
   cut = refl;
   results = refl;
   digit = refl;

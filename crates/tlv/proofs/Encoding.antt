@@ -1,5 +1,5 @@
--- The shortest encoding parses back to its tree. A tag's bytes are its number again and a length's bytes its value, whatever stands
--- behind them; so an encoded object is next with its own header, and its parts are those that were encoded.
+-- An encoding parses back to its tree, the shortest one and every padded one. A tag's bytes are its number again and a length's bytes its
+-- value, whatever stands behind them; so an encoded object is next with its own header, and its parts are those that were encoded.
 -- Assumes nothing.
 use mathlib.Core.Path.{_≡_, refl, sym, ap, _∙_}
 use mathlib.Core.Bool.{true}
@@ -21,10 +21,11 @@ use Rattle.tlv.specs.Length.{oneByte, twoBytes, sized, lengthAt}
 use Rattle.tlv.specs.Object.{header, headerOf, valueIn, behind}
 use Rattle.tlv.specs.Tree.{Forest, end, leaf, node, nextOf, parse}
 use Rattle.tlv.specs.Encoding.{tagBytes, wellFormedTag, lengthBytes, objectBytes, encode, Encodable}
+use Rattle.tlv.specs.Padding.{Padded, nothing, padding, primitive, template, PassesOver}
 use Rattle.tlv.proofs.Laws.{tag-some, tail-is, header-with, with-whole}
 use Rattle.tlv.proofs.Prefix.{tag-kept}
 use Rattle.tlv.proofs.NextObject.{next-empty, next-object}
-use Rattle.tlv.proofs.Tree.{parse-end, parse-leaf, parse-node, with-leaf, with-node}
+use Rattle.tlv.proofs.Tree.{parse-end, parse-leaf, parse-node, parse-count, with-leaf, with-node, zeros-in-front, zeros-behind}
 
 -- ---- a tag's bytes
 
@@ -97,16 +98,34 @@ module _ (t : ℕ) (v r : List ℕ) where
   next-encoded : wellFormedTag t ≡ true → nextOf bytes ≡ Inner (header t start (length v))
   next-encoded w = next-object bytes _ (header-encoded w)
 
--- ---- a tree's bytes
+-- ---- a tree's bytes, padded or not
+
+pub parse-padded : {f : Forest} {s : List ℕ} → Padded f s → (l : ℕ) → Encodable f l → parse l s ≡ some f
+parse-padded nothing l u = parse-end l [] (next-empty [] refl)
+parse-padded (padding p) l u = zeros-in-front 1 l _ ∙ parse-padded p l u
+parse-padded (primitive t v {r} {s} p) l u =
+    parse-leaf l _ _ (next-encoded t v s (u .0)) (u .1)
+    ∙ rw (object-value t v s, object-behind t v s) (with-leaf t v _ r (parse-padded p l (u .3)))
+parse-padded (template t {f} {r} {v} {s} m p q) zero u = absurd (u .3)
+parse-padded (template t {f} {r} {v} {s} m p q) (suc l) u =
+    parse-node (suc l) _ _ (next-encoded t v s (u .0)) (u .1) (λ z. omega arith)
+    ∙ rw (sub-one, object-value t v s, object-behind t v s) (with-node t _ _ f r (parse-padded p l (u .3)) (parse-padded q (suc l) (u .4)))
+
+-- the shortest encoding has no padding
+pub encode-padded : (f : Forest) (l : ℕ) → Encodable f l → Padded f (encode f)
+unfolding encode
+encode-padded end l u = nothing
+encode-padded (leaf t v r) l u = primitive t v (encode-padded r l (u .3))
+encode-padded (node t f r) zero u = absurd (u .3)
+encode-padded (node t f r) (suc l) u = template t (u .2) (encode-padded f l (u .3)) (encode-padded r (suc l) (u .4))
 
 pub parse-encode : (f : Forest) (l : ℕ) → Encodable f l → parse l (encode f) ≡ some f
-unfolding encode
-parse-encode end l u = parse-end l [] (next-empty [] refl)
-parse-encode (leaf t v r) l u =
-    parse-leaf l _ _ (next-encoded t v (encode r) (u .0)) (u .1)
-    ∙ rw (object-value t v (encode r), object-behind t v (encode r)) (with-leaf t v _ r (parse-encode r l (u .3)))
-parse-encode (node t f r) zero u = absurd (u .3)
-parse-encode (node t f r) (suc l) u =
-    parse-node (suc l) _ _ (next-encoded t (encode f) (encode r) (u .0)) (u .1) (λ z. omega arith)
-    ∙ rw (sub-one, object-value t (encode f) (encode r), object-behind t (encode f) (encode r))
-    (with-node t _ _ f r (parse-encode f l (u .3)) (parse-encode r (suc l) (u .4)))
+parse-encode f l u = parse-padded (encode-padded f l u) l u
+
+pub passes-over : (s : List ℕ) → PassesOver s
+passes-over s = record {
+  in-front = λ n l. zeros-in-front n l s;
+  behind = λ n l f. zeros-behind n l s f;
+  encoded = λ f l u p. parse-padded p l u;
+  half = λ l f. parse-count l s f;
+}

@@ -4,3 +4,4 @@ pub mod NextObject
 pub mod Tree
 pub mod Primitives
 pub mod Encoding
+pub mod Examples

@@ -1,81 +1,130 @@
--- What stands next: the laws that open `nextOf`. All laws of the parse go by these.
+-- What stands next: the laws that open `nextOf`. All laws of the parse go by these. A first byte is padding, and then what is next stands
+-- behind it, one place further on (`next-zero`), or it is not, and then it is the object at the front (`next-first`).
 -- Assumes nothing.
-use mathlib.Core.Path.{_≡_, refl, sym, ap, subst⁻¹, _∙_}
+use mathlib.Core.Path.{_≡_, refl, sym, ap, subst, subst⁻¹, _∙_}
 use mathlib.Core.Logic.{_↔_}
 use mathlib.Core.List.{List, [], _∷_, _++_}
-use Prim.Native.Nat.{ℕ, _+_}
+use Prim.Native.Nat.{ℕ, zero, suc, _+_, _≤_, _<_}
+use native.Mathlib.Numerals.{add-one}
 use native.Mathlib.Omega.{arith}
-use lib.ListN.{length}
+use lib.ListN.{length, getD, drop, replicate, drop-of-length-le}
+use lib.Seq.{drop-cons}
+use borrow.Author.Tests.{ne-eqb}
+use Rattle.basics.specs.Choice.{if}
+use Rattle.basics.proofs.Laws.{if-no}
 use Rattle.tlv.specs.declared.Header.{Header}
 use Rattle.tlv.specs.declared.Front.{Front}
 use Rattle.tlv.specs.declared.Front.the-variants.{Object, Broken}
 use Rattle.tlv.specs.declared.Following.{Following}
 use Rattle.tlv.specs.declared.Following.the-variants.{End, Inner, Malformed}
-use Rattle.tlv.specs.Object.{headerOf}
-use Rattle.tlv.specs.Tree.{frontNext, nextOf}
+use Rattle.tlv.specs.Tag.{tagSize, tagAt}
+use Rattle.tlv.specs.Object.{headerOf, moved}
+use Rattle.tlv.specs.Tree.{frontNext, movedNext, nextOf}
 use Rattle.tlv.proofs.Laws.{HeaderFits, header-fits}
 use Rattle.tlv.proofs.Prefix.{header-kept}
 
--- ---- as the code reads it
+-- ---- so many places further on
+
+abbrev placed : Header → ℕ → Following
+placed h n = Inner (record { tag = h .tag; start = n; len = h .len; template = h .template; private = h .private })
+
+pub moved-zero : (x : Following) → movedNext 0 x ≡ x
+moved-zero End = refl
+moved-zero Malformed = refl
+moved-zero (Inner h) = let e : 0 + h .start ≡ h .start = omega arith in ap (placed h) e
+
+moved-twice : (n m : ℕ) (x : Following) → movedNext n (movedNext m x) ≡ movedNext (n + m) x
+moved-twice n m End = refl
+moved-twice n m Malformed = refl
+moved-twice n m (Inner h) = let e : n + (m + h .start) ≡ n + m + h .start = omega arith in ap (placed h) e
+
+-- ---- by the first byte
+
+next-zero : (s : List ℕ) → nextOf (0 ∷ s) ≡ movedNext 1 (nextOf s)
+unfolding nextOf if
+next-zero s = refl
+
+next-first : (b : ℕ) (s : List ℕ) → (b ≡ 0 → ⊥) → nextOf (b ∷ s) ≡ frontNext (headerOf (b ∷ s))
+unfolding nextOf
+next-first b s n = if-no _ _ (ne-eqb b 0 n)
 
 pub next-empty : (s : List ℕ) → length s ≡ 0 → nextOf s ≡ End
 unfolding nextOf
 next-empty [] e = refl
 next-empty (b ∷ s) e = absurd (omega arith)
 
-pub next-front : (s : List ℕ) (x y : Front) → (length s ≡ 0 → ⊥) → x ≡ headerOf s → x ≡ y → nextOf s ≡ frontNext y
-unfolding nextOf
-next-front [] x y n p q = absurd (n refl)
-next-front (b ∷ s) x y n p q = ap frontNext (sym p ∙ q)
+-- ---- as the code reads it: a place up to which all bytes are padding
+
+module _ (s : List ℕ) (i : ℕ) where
+  pub passed-all : length s ≤ i → movedNext i (nextOf (drop i s)) ≡ End
+  passed-all h = rw (drop-of-length-le s h, next-empty [] refl)
+
+  module _ (h : i < length s) where
+    pub pass-zero : getD s i 0 ≡ 0 → movedNext i (nextOf (drop i s)) ≡ movedNext (i + 1) (nextOf (drop (i + 1) s))
+    pass-zero z = rw (add-one, drop-cons s i 0 h, z, next-zero (drop (suc i) s)) (rw add-one at (moved-twice i 1 (nextOf (drop (suc i) s))))
+
+    pub stop-at : (getD s i 0 ≡ 0 → ⊥) → nextOf (drop i s) ≡ frontNext (headerOf (drop i s))
+    stop-at n =
+        let d = drop-cons s i 0 h in
+        ap nextOf d ∙ next-first (getD s i 0) (drop (suc i) s) n ∙ ap (λ (r : List ℕ). frontNext (headerOf r)) (sym d)
 
 -- ---- what the parse needs
 
--- nothing stands next exactly where nothing is left
-pub next-end : (s : List ℕ) → nextOf s ≡ End ↔ s ≡ []
-unfolding nextOf
-next-end [] = (λ e. refl, λ e. refl)
-next-end (b ∷ s) = (λ e. absurd (front (headerOf (b ∷ s)) e), λ e. cc)
-  where
-    front : (x : Front) → frontNext x ≡ End → ⊥
-    front Broken e = let z : _≡_ {A = ℕ} 0 1 = cc in omega arith
-    front (Object h) e = let z : _≡_ {A = ℕ} 0 1 = cc in omega arith
+moved-ends : (x : Following) → movedNext 1 x ≡ End → x ≡ End
+moved-ends End e = refl
+moved-ends Malformed e = cc
+moved-ends (Inner h) e = cc
 
--- an object at the front is next, and what is next is an object at the front
+front-ends : (x : Front) → frontNext x ≡ End → ⊥
+front-ends Broken e = let z : _≡_ {A = ℕ} 0 1 = cc in omega arith
+front-ends (Object h) e = let z : _≡_ {A = ℕ} 0 1 = cc in omega arith
+
+-- nothing stands next exactly where nothing but padding is left
+pub next-end : (s : List ℕ) → nextOf s ≡ End ↔ s ≡ replicate (length s) 0
+next-end [] = (λ e. refl, λ e. next-empty [] refl)
+next-end (zero ∷ s) = (
+  λ e. ap (λ (r : List ℕ). 0 ∷ r) (next-end s .0 (moved-ends (nextOf s) (sym (next-zero s) ∙ e))),
+  λ e. let r : s ≡ replicate (length s) 0 = cc in next-zero s ∙ ap (movedNext 1) (next-end s .1 r),
+)
+next-end (suc b ∷ s) = (
+  λ e. absurd (front-ends (headerOf (suc b ∷ s)) (sym (next-first (suc b) s (λ z. omega arith)) ∙ e)),
+  λ e. let z : suc b ≡ 0 = cc in absurd (omega arith),
+)
+
+pub next-zeros : (n : ℕ) → nextOf (replicate n 0) ≡ End
+next-zeros zero = next-empty [] refl
+next-zeros (suc n) = next-zero (replicate n 0) ∙ ap (movedNext 1) (next-zeros n)
+
+-- an object at the front is next, and no object begins with padding
+zero-broken : (s : List ℕ) → headerOf (0 ∷ s) ≡ Broken
+unfolding headerOf tagAt tagSize if
+zero-broken s = refl
+
 pub next-object : (s : List ℕ) (h : Header) → headerOf s ≡ Object h → nextOf s ≡ Inner h
-unfolding nextOf
 next-object [] h e = let f = header-fits [] h e in absurd (omega arith)
-next-object (b ∷ s) h e = ap frontNext e
+next-object (zero ∷ s) h e = cc (zero-broken s)
+next-object (suc b ∷ s) h e = next-first (suc b) s (λ z. omega arith) ∙ ap frontNext e
 
-object-next : (s : List ℕ) (h : Header) → nextOf s ≡ Inner h → headerOf s ≡ Object h
-unfolding nextOf
-object-next [] h e = cc
-object-next (b ∷ s) h e = front (headerOf (b ∷ s)) e
-  where
-    front : (x : Front) → frontNext x ≡ Inner h → x ≡ Object h
-    front Broken e = cc
-    front (Object k) e = cc
+front-object : (x : Front) (h : Header) → frontNext x ≡ Inner h → x ≡ Object h
+front-object Broken h e = cc
+front-object (Object k) h e = cc
 
 -- the next object lies inside its list and takes two bytes at least; its class is its tag's
+moved-fits : (s : List ℕ) (h : Header) (x : Following) → movedNext 1 x ≡ Inner h → ((k : Header) → x ≡ Inner k → HeaderFits s k) → HeaderFits (0 ∷ s) h
+moved-fits s h End e f = let z : _≡_ {A = ℕ} 0 1 = cc in absurd (omega arith)
+moved-fits s h Malformed e f = let z : _≡_ {A = ℕ} 0 1 = cc in absurd (omega arith)
+moved-fits s h (Inner k) e f =
+    let g = f k refl in
+    let r : moved 1 k ≡ h = cc in
+    subst (HeaderFits (0 ∷ s)) r (record { two = omega arith; inside = omega arith; whole = ap (moved 1) (g .whole) })
+
 pub next-fits : (s : List ℕ) (h : Header) → nextOf s ≡ Inner h → HeaderFits s h
-next-fits s h e = header-fits s h (object-next s h e)
+next-fits [] h e = let z : _≡_ {A = ℕ} 0 1 = cc (next-empty [] refl) in absurd (omega arith)
+next-fits (zero ∷ s) h e = moved-fits s h (nextOf s) (sym (next-zero s) ∙ e) (next-fits s)
+next-fits (suc b ∷ s) h e =
+    header-fits (suc b ∷ s) h (front-object (headerOf (suc b ∷ s)) h (sym (next-first (suc b) s (λ z. omega arith)) ∙ e))
 
 -- ---- one list behind another
-
--- the same object, so many places further on
-abbrev pub moved : ℕ → Header → Header
-moved n h = record { tag = h .tag; start = n + h .start; len = h .len; template = h .template; private = h .private }
-
-abbrev pub movedNext : ℕ → Following → Following
-movedNext n End = End
-movedNext n Malformed = Malformed
-movedNext n (Inner h) = Inner (moved n h)
-
-not-moved : (x : Following) → x ≡ movedNext 0 x
-not-moved End = refl
-not-moved Malformed = refl
-not-moved (Inner h) =
-    let e : h .start ≡ 0 + h .start = omega arith in
-    ap (λ (n : ℕ). Inner (record { tag = h .tag; start = n; len = h .len; template = h .template; private = h .private })) e
 
 -- what is next in the first list is next in both; where the first has nothing more, it is what is next in the second
 abbrev pub Joined : List ℕ → List ℕ → Following → Type 0
@@ -83,7 +132,22 @@ Joined s r Malformed = Unit {0}
 Joined s r (Inner h) = nextOf (s ++ r) ≡ Inner h
 Joined s r End = nextOf (s ++ r) ≡ movedNext (length s) (nextOf r)
 
+moved-join : (s r : List ℕ) (x : Following) → Joined s r x → Joined (0 ∷ s) r (movedNext 1 x)
+moved-join s r Malformed j = tt
+moved-join s r (Inner h) j = next-zero (s ++ r) ∙ ap (movedNext 1) j
+moved-join s r End j =
+    let e : 1 + length s ≡ suc (length s) = omega arith in
+    next-zero (s ++ r) ∙ ap (movedNext 1) j ∙ moved-twice 1 (length s) (nextOf r) ∙ ap (λ (n : ℕ). movedNext n (nextOf r)) e
+
+front-join : (s r : List ℕ) (x : Front) → headerOf s ≡ x → Joined s r (frontNext x)
+front-join s r Broken e = tt
+front-join s r (Object h) e = next-object (s ++ r) h (header-kept s r h e)
+
+next-joined : (s r : List ℕ) → Joined s r (nextOf s)
+next-joined [] r = subst⁻¹ (Joined [] r) (next-empty [] refl) (sym (moved-zero (nextOf r)))
+next-joined (zero ∷ s) r = subst⁻¹ (Joined (0 ∷ s) r) (next-zero s) (moved-join s r (nextOf s) (next-joined s r))
+next-joined (suc b ∷ s) r =
+    subst⁻¹ (Joined (suc b ∷ s) r) (next-first (suc b) s (λ z. omega arith)) (front-join (suc b ∷ s) r (headerOf (suc b ∷ s)) refl)
+
 pub next-join : (s r : List ℕ) (x : Following) → nextOf s ≡ x → Joined s r x
-next-join s r Malformed e = tt
-next-join s r (Inner h) e = next-object (s ++ r) h (header-kept s r h (object-next s h e))
-next-join s r End e = subst⁻¹ (λ (q : List ℕ). Joined q r End) (next-end s .0 e) (not-moved (nextOf r))
+next-join s r x e = subst (Joined s r) e (next-joined s r)

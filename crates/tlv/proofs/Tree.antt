@@ -1,5 +1,6 @@
 -- The laws of the parse. Each object is shorter than its list, so the steps allowed do not matter (`unroll`); then one law for each
--- way out of a step, one induction over a parse that succeeds (`parse-ind`), and from it joining, counting and deeper levels.
+-- way out of a step, one induction over a parse that succeeds (`parse-ind`), and from it joining, counting and deeper levels. Padding is a
+-- run of no object, so it can be joined in front and behind.
 -- Assumes nothing.
 use mathlib.Core.Path.{_≡_, refl, sym, ap, ap₂, subst, _∙_}
 use mathlib.Core.Bool.{true, false}
@@ -18,10 +19,11 @@ use Rattle.basics.proofs.Recursion.{AsksShorter, recurse-unroll}
 use Rattle.tlv.specs.declared.Header.{Header}
 use Rattle.tlv.specs.declared.Following.{Following}
 use Rattle.tlv.specs.declared.Following.the-variants.{End, Inner, Malformed}
-use Rattle.tlv.specs.Object.{valueIn, behind}
-use Rattle.tlv.specs.Tree.{Forest, end, leaf, node, count, nextOf, withLeaf, withNode, nested, oneObject, parseNext, parse}
+use Rattle.tlv.specs.Object.{moved, valueIn, behind}
+use Rattle.tlv.specs.Tree.{Forest, end, leaf, node, count, movedNext, nextOf, withLeaf, withNode, nested, oneObject, parseNext, parse}
+use Rattle.tlv.specs.Padding.{zeros}
 use Rattle.tlv.proofs.Laws.{HeaderFits}
-use Rattle.tlv.proofs.NextObject.{next-fits, next-join, moved, movedNext}
+use Rattle.tlv.proofs.NextObject.{next-fits, next-zeros, next-join}
 
 -- ---- both parts of an object are shorter than its list
 
@@ -224,3 +226,17 @@ parse-join l s t f g =
     let i = next-fits s h e in
     parse-node l (s ++ t) h (next-join s t (Inner h) e) q n ∙ rw (value-kept s t h i, behind-kept s t h i) (with-node _ _ _ f (join r g) x (k p)))
     l s f
+
+-- ---- padding, in front of any bytes and behind a whole run
+
+pub zeros-in-front : (n l : ℕ) (s : List ℕ) → parse l (zeros n ++ s) ≡ parse l s
+zeros-in-front n l s = parse-moved (zeros n) s l (next-zeros n)
+
+join-end : (f : Forest) → join f end ≡ f
+unfolding join
+join-end end = refl
+join-end (leaf t v r) = ap (leaf t v) (join-end r)
+join-end (node t f r) = ap (node t f) (join-end r)
+
+pub zeros-behind : (n l : ℕ) (s : List ℕ) (f : Forest) → parse l s ≡ some f → parse l (s ++ zeros n) ≡ some f
+zeros-behind n l s f e = parse-join l s (zeros n) f end e (parse-end l (zeros n) (next-zeros n)) ∙ ap some (join-end f)

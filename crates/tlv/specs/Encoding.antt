@@ -58,3 +58,4 @@ Encodable (node t f r) levels =
 --   length-encoded    a length's bytes are read as that length
 --   header-encoded    an object's bytes are read as its header
 --   parse-encode      an encodable tree's bytes parse to that tree
+--   parse-padded      and so do its padded encodings (specs/Padding), of which this is one (encode-padded)

@@ -4,3 +4,4 @@ pub mod Object
 pub mod Tree
 pub mod Primitives
 pub mod Encoding
+pub mod Padding

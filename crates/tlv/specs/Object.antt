@@ -35,6 +35,10 @@ withTag s (Tagged t) = withLength s t (lengthAt (drop (t .size) s))
 unfoldable pub headerOf : List ℕ → Front
 headerOf s = withTag s (tagAt s)
 
+-- the same object, with so many bytes more in front
+abbrev pub moved : ℕ → Header → Header
+moved n h = record { tag = h .tag; start = n + h .start; len = h .len; template = h .template; private = h .private }
+
 -- an object's value, and the bytes behind the object
 abbrev pub valueIn : List ℕ → Header → List ℕ
 valueIn s h = take (h .len) (drop (h .start) s)

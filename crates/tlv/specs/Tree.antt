@@ -1,16 +1,17 @@
 -- The tree of an encoding (document 01, "Reading an answer"): the objects within a template, in order, templates
--- nested at most so many levels deep, and how many objects there are, templates included.
+-- nested at most so many levels deep, and how many objects there are, templates included. Bytes of 00 before, between
+-- and behind the objects are padding (document 02, Item 6).
 -- Assumes nothing.
 use mathlib.Core.List.{List, [], _∷_}
 use mathlib.Core.Option.{Option, some, none}
 use Prim.Native.Nat.{ℕ, zero, suc, _+_}
-use Rattle.basics.specs.Choice.{if_then_else_}
+use Rattle.basics.specs.Choice.{if_then_else_, _=?_}
 use Rattle.basics.specs.Recursion.{recurse}
 use Rattle.tlv.specs.declared.Front.{Front}
 use Rattle.tlv.specs.declared.Front.the-variants.{Object, Broken}
 use Rattle.tlv.specs.declared.Following.{Following}
 use Rattle.tlv.specs.declared.Following.the-variants.{End, Inner, Malformed}
-use Rattle.tlv.specs.Object.{headerOf, valueIn, behind}
+use Rattle.tlv.specs.Object.{headerOf, moved, valueIn, behind}
 
 -- objects one behind the other: a leaf is a primitive object with tag and value, a node a template with what it holds
 pub data Forest : Type 0 where
@@ -31,10 +32,18 @@ abbrev pub frontNext : Front → Following
 frontNext Broken = Malformed
 frontNext (Object h) = Inner h
 
--- what stands next within a template's contents
+-- what is next, with so many bytes more in front
+abbrev pub movedNext : ℕ → Following → Following
+movedNext n End = End
+movedNext n Malformed = Malformed
+movedNext n (Inner h) = Inner (moved n h)
+
+-- what stands next within a template's contents: a 00 where a tag would start is passed over, and its place counts
 unfoldable pub nextOf : List ℕ → Following
 nextOf [] = End
-nextOf (b ∷ s) = frontNext (headerOf (b ∷ s))
+nextOf (b ∷ s) =
+    if b =? 0 then movedNext 1 (nextOf s)
+    else frontNext (headerOf (b ∷ s))
 
 -- a run behind a leaf, or behind a node; malformed where any part is
 unfoldable pub withLeaf : ℕ → List ℕ → Option Forest → Option Forest
@@ -73,11 +82,12 @@ parse levels s = recurse (λ l. none) parseNext s levels
 -- ---- what holds of it, proved in proofs/ (NextObject, Tree, Encoding) for all lists, levels and trees
 --   next-fits       an object that is next starts its value at 2 or later and ends inside the list; its class is
 --                   its tag's
---   next-end        nothing is next exactly where nothing is left
---   next-join       with bytes behind the list, the same object is next
+--   next-end        nothing is next exactly where nothing but padding is left
+--   next-join       with bytes behind the list, the same object is next; where nothing is, what is next in those bytes
 --   unroll          parse levels s ≡ oneObject parse levels s (nextOf s): the steps allowed do not matter
 --   parse-end, parse-malformed, parse-deep, parse-node, parse-leaf    the parse at each thing that can be next
 --   parse-join      the parse of two lists, one behind the other, is the one run behind the other
 --   parse-count     2 * count f ≤ length s, where s parses to f
 --   parse-deeper    what parses at some levels parses to the same tree at more
---   parse-encode    an encodable tree's shortest encoding parses to that tree
+--   zeros-in-front, zeros-behind    padding in front, and behind a whole run, changes nothing (specs/Padding)
+--   parse-padded    an encodable tree's padded encodings parse to that tree, its shortest one too (parse-encode)

@@ -5,12 +5,13 @@
 // hold primitive objects alone. The tree of an encoding, its count and its laws are in specs/.
 ghost use mathlib.Core.Path.{_≡_};
 ghost use Prim.Native.Nat.{_+_, _≤_, _<_};
-ghost use lib.ListN.{length, take};
+ghost use lib.ListN.{length, take, drop};
 ghost use Rattle.basics.specs.Number.{number};
 ghost use Rattle.tlv.specs.Tag.{tagSize, tagAt, firstByte, isTemplate, isPrivate};
 ghost use Rattle.tlv.specs.Length.{lengthAt};
 ghost use Rattle.tlv.specs.Object.{headerOf};
-ghost use Rattle.tlv.specs.Tree.{nextOf};
+ghost use Rattle.tlv.specs.Tree.{frontNext, movedNext, nextOf};
+ghost use Rattle.tlv.specs.Padding.{PassesOver};
 ghost use Rattle.tlv.specs.Primitives.{primitiveOf, primitives, isRun};
 
 // A tag: its bytes read as one number, and how many they are.
@@ -208,18 +209,38 @@ pub fn head(s: &[u8]) -> Front
     Front::Broken
 }
 
-// What stands next within a template's contents.
+// What stands next within a template's contents, behind any bytes of 00; the value's start counts them.
 pub fn next(s: &[u8]) -> Following
-    ensures { λ r. ⌜ r ≡ nextOf (now (s .entry)) ⌝ }
+    ensures next { λ r. ⌜ r ≡ nextOf (now (s .entry)) ⌝ }
+    ensures padding { λ _. ⌜ PassesOver (now (s .entry)) ⌝ }
 {
-    if s.len() == 0 {
-        return Following::End;
+    let mut at = 0;
+    while at < s.len() {
+        if s[at] != 0 {
+            return object_at(s, at);
+        }
+        at += 1;
     }
-    let front = head(s);
-    match front {
-        Front::Object(h) => Following::Inner(h),
-        Front::Broken => Following::Malformed,
-    }
+    Following::End
+}
+
+// The object at a place, its value's start counted from the front.
+fn object_at(s: &[u8], at: usize) -> Following
+    requires { ⌜ at ≤ length (now s) ⌝ }
+    ensures { λ r. ⌜ r ≡ movedNext at (frontNext (headerOf (drop at (now (s .entry))))) ⌝ }
+{
+    let front = head(&s[at..]);
+    let Front::Object(h) = front else {
+        return Following::Malformed;
+    };
+    let start = at + h.start;
+    Following::Inner(Header {
+        tag: h.tag,
+        start,
+        len: h.len,
+        template: h.template,
+        private: h.private,
+    })
 }
 
 // The primitive object at the front; a template is none.

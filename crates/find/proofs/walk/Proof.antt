@@ -29,18 +29,18 @@ At-object = lts.After-following (next-reads.Asked, next-reads.Learnt, first-read
 next-at : (c : At-object)
     → nextOf (part (c .before .before .before .before .before .before .args .bytes .now) (c .before .before .before .before .loop .at) (c .before .before .before .before .loop .end))
     ≡ Inner (c .following .given .0 .0)
-next-at c = sym (c .before .before .next .ensures) ∙ c .following .given .1
+next-at c = sym (c .before .before .next .ensures .0) ∙ c .following .given .1
 
 returns : tie.Need-returns Inv-loop μ-loop
-returns c = failed (c .before .before .before .before .loop .inv) (sym (c .before .before .next .ensures) ∙ c .enum-told .given .1)
+returns c = failed (c .before .before .before .before .loop .inv) (sym (c .before .before .next .ensures .0) ∙ c .enum-told .given .1)
 
 returns-2 : tie.Need-returns-2 Inv-loop μ-loop
 returns-2 c =
-    done (c .before .before .before .before .before .loop .inv) (sym (c .before .before .before .next .ensures) ∙ c .before .enum-told2 .given .1) (c .if1 .taken)
+    done (c .before .before .before .before .before .loop .inv) (sym (c .before .before .before .next .ensures .0) ∙ c .before .enum-told2 .given .1) (c .if1 .taken)
 
 loop-again : tie.Need-loop-again Inv-loop μ-loop
 loop-again c =
-    close (c .before .before .before .before .before .loop .inv) (sym (c .before .before .before .next .ensures) ∙ c .before .enum-told2 .given .1) (c .if1 .left)
+    close (c .before .before .before .before .before .loop .inv) (sym (c .before .before .before .next .ensures .0) ∙ c .before .enum-told2 .given .1) (c .if1 .left)
 
 returns-3 : tie.Need-returns-3 Inv-loop μ-loop
 returns-3 c =

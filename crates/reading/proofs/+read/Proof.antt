@@ -49,20 +49,20 @@ at t f = f (next-reads.Asked, next-reads.Learnt, read-below t, read.Post, take-n
 
 -- where an object is next: its header lies inside what is left
 fits-at : (t : ℕ) (c : at t read-lts.After-following) → HeaderFits (c .before .before .before .loop .s .now) (c .following .given .0 .0)
-fits-at t c = next-fits _ _ (sym (c .before .before .next .ensures) ∙ c .following .given .1)
+fits-at t c = next-fits _ _ (sym (c .before .before .next .ensures .0) ∙ c .following .given .1)
 
 read-returns : (t : ℕ) → at t read-lts.Need-returns
 read-returns t c =
     let lp = c .before .before .before .loop in
     let a = c .before .before .before .before .before .args in
-    let e = sym (c .before .before .next .ensures) ∙ c .enum-told .given .1 in
+    let e = sym (c .before .before .next .ensures .0) ∙ c .enum-told .given .1 in
     (lp .inv .0 _ _ (at-end (a .answer) (a .around) (a .levels) (lp .s .now) (lp .n) (work (lp .good) (lp .store)) e), (omega arith, lp .inv .1 .0))
 
 read-returns-2 : (t : ℕ) → at t read-lts.Need-returns-2
 read-returns-2 t c =
     let lp = c .before .before .before .loop in
     let a = c .before .before .before .before .before .args in
-    let e = sym (c .before .before .next .ensures) ∙ c .enum-told2 .given .1 in
+    let e = sym (c .before .before .next .ensures .0) ∙ c .enum-told2 .given .1 in
     (lp .inv .0 _ _ (at-malformed (a .answer) (a .around) (a .levels) (lp .s .now) (lp .n) (work (lp .good) (lp .store)) e (lp .store)), (omega arith, lp .inv .1 .0))
 
 read-returns-3 : (t : ℕ) → at t read-lts.Need-returns-3
@@ -70,7 +70,7 @@ read-returns-3 t c =
     let f = c .before .before .before .before .before .before .following .given in
     let lp = c .before .before .before .before .before .before .before .before .before .loop in
     let a = c .before .before .before .before .before .before .before .before .before .before .before .args in
-    let e = sym (c .before .before .before .before .before .before .before .before .next .ensures) ∙ f .1 in
+    let e = sym (c .before .before .before .before .before .before .before .before .next .ensures .0) ∙ f .1 in
     (lp .inv .0 _ _ (at-deep (a .answer) (a .around) (a .levels) (lp .s .now) (lp .n) (work (lp .good) (lp .store)) (f .0 .0) e (c .before .if1 .taken) (c .if2 .taken) (lp .store)), (omega arith, lp .inv .1 .0))
 
 read-read-requires : (t : ℕ) → at t read-lts.Need-read-requires
@@ -86,7 +86,7 @@ read-returns-4 t c =
     let a = c .before .before .before .before .before .before .before .before .before .before .before .before .before .before .before .args in
     let rd = c .before .before .read in
     let b = rd .last .1 .1 .1 .1 .1 .0 in
-    let e = sym (c .before .before .before .before .before .before .before .before .before .before .before .before .next .ensures) ∙ f .1 in
+    let e = sym (c .before .before .before .before .before .before .before .before .before .before .before .before .next .ensures .0) ∙ f .1 in
     let q = rw (c .enum-told3 .given .1) at (rd .ensures .0) in
     (lp .inv .0 _ _ (at-broken (a .answer) (a .around) (a .levels) (lp .s .now) (lp .n) (work (lp .good) (lp .store)) (f .0 .0) e (c .before .before .before .before .before .if1 .taken) (c .before .before .before .before .if2 .left) b q b), (omega arith, rd .ensures .1 .1))
 
@@ -103,7 +103,7 @@ read-loop-again t c =
     let rd = c .before .before .before .read in
     let i = c .before .inside .given in
     let b = rd .last .1 .1 .1 .1 .1 .0 in
-    let e = sym (c .before .before .before .before .before .before .before .before .before .before .before .before .before .next .ensures) ∙ f .1 in
+    let e = sym (c .before .before .before .before .before .before .before .before .before .before .before .before .before .next .ensures .0) ∙ f .1 in
     let q = rw (i .1) at (rd .ensures .0) in
     let m = rw (i .1) at (rd .ensures .1 .0) in (
       λ r d g. lp .inv .0 r d (at-node (a .answer) (a .around) (a .levels) (lp .s .now) (lp .n) (work (lp .good) (lp .store)) (f .0 .0) e (c .before .before .before .before .before .before .if1 .taken) (c .before .before .before .before .before .if2 .left) (i .0 .0) b q r d g),
@@ -122,7 +122,7 @@ read-loop-again-2 t c =
     let a = c .before .before .before .before .before .before .before .before .before .before .before .before .args in
     let tk = c .take-next in
     let b = tk .last .1 .1 .1 .1 .1 .0 in
-    let e = sym (c .before .before .before .before .before .before .before .before .before .next .ensures) ∙ f .1 in (
+    let e = sym (c .before .before .before .before .before .before .before .before .before .next .ensures .0) ∙ f .1 in (
       λ r d g. lp .inv .0 r d (at-leaf (a .answer) (a .around) (a .levels) (lp .s .now) (lp .n) (work (lp .good) (lp .store)) (f .0 .0) e (c .before .before .if1 .left) (work (tk .result) b) (did (tk .ensures .0) (tk .ensures .1 .0)) r d g),
       (tk .ensures .1 .1, after-leaf (lp .s .now) (f .0 .0) (fits-at t (c .before .before .before .before .before .before .before)) (lp .n) _ (lp .inv .1 .1)),
     )

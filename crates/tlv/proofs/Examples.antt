@@ -1,0 +1,59 @@
+-- Worked contents of templates, by computation: what is next behind padding, and the trees of padded bytes.
+-- Assumes nothing.
+use mathlib.Core.Path.{_≡_, refl}
+use mathlib.Core.List.{List, [], _∷_, map}
+use mathlib.Core.Option.{Option, some, none}
+use Prim.Native.Nat.{ℕ}
+use Rattle.basics.specs.Choice.{if}
+use Rattle.basics.specs.Number.{numberFrom}
+use Rattle.basics.specs.Recursion.{recurse, recurseBy}
+use Rattle.tlv.specs.declared.Front.{Front}
+use Rattle.tlv.specs.declared.Following.{Following}
+use Rattle.tlv.specs.declared.Following.the-variants.{End, Inner, Malformed}
+use Rattle.tlv.specs.Tag.{tagSize, secondByte, thirdByte, tagAt, firstByte, isTemplate, isPrivate}
+use Rattle.tlv.specs.Length.{lengthAt}
+use Rattle.tlv.specs.Object.{header, headerOf}
+use Rattle.tlv.specs.Tree.{Forest, end, leaf, node, nextOf, withLeaf, withNode, parse}
+
+-- no bytes; padding alone; an object, at once and behind two bytes of padding, which its value's start counts; FF, and FF behind 00
+next : map nextOf
+    ([]
+    ∷ (0x00 ∷ 0x00 ∷ [])
+    ∷ (0x9F ∷ 0x08 ∷ 0x01 ∷ 0x02 ∷ 0x00 ∷ [])
+    ∷ (0x00 ∷ 0x00 ∷ 0x9F ∷ 0x08 ∷ 0x01 ∷ 0x02 ∷ 0x00 ∷ [])
+    ∷ (0xFF ∷ 0x95 ∷ 0x00 ∷ [])
+    ∷ (0x00 ∷ 0xFF ∷ 0x00 ∷ [])
+    ∷ [])
+    ≡ End ∷ End ∷ Inner (header 0x9F08 3 1) ∷ Inner (header 0x9F08 5 1) ∷ Malformed ∷ Malformed ∷ []
+unfolding nextOf headerOf tagAt tagSize secondByte thirdByte lengthAt firstByte isTemplate isPrivate numberFrom if
+next = refl
+
+-- the object at the front of bytes is none behind padding
+front : headerOf (0x00 ∷ 0x95 ∷ 0x00 ∷ []) ≡ Front.Broken
+unfolding headerOf tagAt tagSize if
+front = refl
+
+abbrev one : Forest
+one = leaf 0x95 (0x00 ∷ []) end
+
+-- padding in front, behind and between, and within a template; a value of 00 and a length of 00 are no padding
+trees : map (parse 1)
+    ((0x00 ∷ 0x95 ∷ 0x01 ∷ 0x00 ∷ [])
+    ∷ (0x95 ∷ 0x01 ∷ 0x00 ∷ 0x00 ∷ 0x00 ∷ [])
+    ∷ (0x9C ∷ 0x00 ∷ 0x00 ∷ 0x95 ∷ 0x01 ∷ 0x00 ∷ [])
+    ∷ (0xE1 ∷ 0x02 ∷ 0x00 ∷ 0x00 ∷ 0x00 ∷ [])
+    ∷ (0xE1 ∷ 0x06 ∷ 0x00 ∷ 0x95 ∷ 0x01 ∷ 0x00 ∷ 0x00 ∷ 0x00 ∷ 0x00 ∷ 0x95 ∷ 0x01 ∷ 0x00 ∷ [])
+    ∷ [])
+    ≡ some one ∷ some one ∷ some (leaf 0x9C [] one) ∷ some (node 0xE1 end end) ∷ some (node 0xE1 one one) ∷ []
+unfolding parse recurse recurseBy nextOf withLeaf withNode headerOf tagAt tagSize lengthAt firstByte isTemplate isPrivate numberFrom if
+trees = refl
+
+-- inside a tag, between tag and length, and in place of the value's end: read as they stand
+inside : map (parse 1)
+    ((0x9F ∷ 0x00 ∷ 0x08 ∷ 0x02 ∷ 0x00 ∷ 0x02 ∷ [])
+    ∷ (0x95 ∷ 0x00 ∷ 0x01 ∷ 0x00 ∷ [])
+    ∷ (0x95 ∷ 0x02 ∷ 0x00 ∷ [])
+    ∷ [])
+    ≡ none ∷ some (leaf 0x95 [] (leaf 0x01 [] end)) ∷ none ∷ []
+unfolding parse recurse recurseBy nextOf withLeaf withNode headerOf tagAt tagSize secondByte lengthAt firstByte isTemplate isPrivate numberFrom if
+inside = refl

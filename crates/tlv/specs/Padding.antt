@@ -1,0 +1,37 @@
+-- Padding within a template (document 02, Item 6): bytes of 00 before, between and behind the objects, at every level.
+-- `nextOf` (specs/Tree) passes over them; here is what that comes to.
+-- Assumes nothing.
+use mathlib.Core.Path.{_≡_}
+use mathlib.Core.List.{List, [], _∷_, _++_}
+use mathlib.Core.Option.{some}
+use Prim.Native.Nat.{ℕ, _*_, _≤_, _<_}
+use lib.ListN.{length, replicate}
+use Rattle.tlv.specs.Tree.{Forest, end, leaf, node, count, parse}
+use Rattle.tlv.specs.Encoding.{objectBytes, Encodable}
+
+-- so many bytes of padding
+abbrev pub zeros : ℕ → List ℕ
+zeros n = replicate n 0
+
+-- bytes that encode a tree, padded: a 00 may stand in front of every object and behind the last of each template;
+-- a template's length counts the padding in it
+pub data Padded : Forest → List ℕ → Type 0 where
+  nothing : Padded end []
+  padding : {f : Forest} {s : List ℕ} → Padded f s → Padded f (0 ∷ s)
+  primitive : (t : ℕ) (v : List ℕ) {r : Forest} {s : List ℕ} → Padded r s → Padded (leaf t v r) (objectBytes t v ++ s)
+  template : (t : ℕ) {f r : Forest} {v s : List ℕ} → length v < 0x10000 → Padded f v → Padded r s
+    → Padded (node t f r) (objectBytes t v ++ s)
+
+-- how bytes s are read as a template's contents
+pub record PassesOver (s : List ℕ) : Type 0 where
+  -- padding in front changes nothing, whether s is whole or malformed
+  pub in-front : (n levels : ℕ) → parse levels (zeros n ++ s) ≡ parse levels s
+  -- padding behind a whole run changes nothing
+  pub behind : (n levels : ℕ) (f : Forest) → parse levels s ≡ some f → parse levels (s ++ zeros n) ≡ some f
+  -- a padded encoding of a tree that can be encoded is read as that tree
+  pub encoded : (f : Forest) (levels : ℕ) → Encodable f levels → Padded f s → parse levels s ≡ some f
+  -- padding is no object: there are at most half as many as bytes
+  pub half : (levels : ℕ) (f : Forest) → parse levels s ≡ some f → 2 * count f ≤ length s
+
+-- ---- what holds of it, promised by `next`, proved in proofs/Tree and proofs/Encoding for all lists
+--   passes-over    PassesOver s
