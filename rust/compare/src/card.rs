@@ -25,8 +25,8 @@ pub fn answer(rng: &mut Rng, session: &[u8], faults: bool) -> Vec<u8> {
         .get(model::HEAD_SIZE..)
         .and_then(<[u8]>::first_chunk)
         .unwrap_or(&empty);
-    let fault = faults.then(|| rng.below(20));
-    let in_objects = fault.filter(|&fault| fault < 9);
+    let fault = faults.then(|| rng.below(22));
+    let in_objects = fault.filter(|&fault| fault < 10);
     let mut body = match phase {
         1 => options(rng, store, in_objects),
         2 => record(rng, store, u32::from(detail), in_objects),
@@ -34,8 +34,8 @@ pub fn answer(rng: &mut Rng, session: &[u8], faults: bool) -> Vec<u8> {
     };
     let mut status = [0x90, 0x00];
     match fault {
-        Some(9..=12) => damage::bytes(rng, &mut body),
-        Some(13) => {
+        Some(10..=13) => damage::bytes(rng, &mut body),
+        Some(14) => {
             status = rng.pick(&[
                 [0x69, 0x85],
                 [0x6A, 0x83],
@@ -46,36 +46,37 @@ pub fn answer(rng: &mut Rng, session: &[u8], faults: bool) -> Vec<u8> {
                 [0x80, 0x00],
             ]);
         }
-        Some(14) => {
+        Some(15) => {
             // Any length.
             let length = rng.within(0..=300);
             body.resize(length, 0x00);
         }
-        Some(15) => {
+        Some(16) => {
             let length = rng.below(12);
             body = rng.bytes(length);
         }
-        Some(16) => {
+        Some(17) => {
             // Near the longest answer.
             let length = rng.pick(&[254, 255, 256, 257, 258]);
             body = long_record(rng, length);
         }
-        Some(17) if rng.one_in(2) => body.extend(objects::broken(rng)),
-        Some(17) => {
+        Some(18) if rng.one_in(2) => body.extend(objects::broken(rng)),
+        Some(18) => {
             body.clear();
             let tag = rng.pick(&[0x70, 0x77, 0x80]);
             objects::put_refused_length(rng, &mut body, tag);
         }
-        Some(18) => {
+        Some(19) => {
             // Another outer tag.
             if let Some(first) = body.first_mut() {
                 *first = rng.pick(&[0x70, 0x77, 0x80, 0x81, 0x61, 0xA5, 0x57, 0xF7]);
             }
         }
+        Some(20) => body = padded_outside(rng, body),
         _ => {}
     }
     body.extend(status);
-    if fault == Some(19) {
+    if fault == Some(21) {
         match rng.below(4) {
             0 => body.truncate(rng.within(0..=3)),
             1 => {
@@ -85,6 +86,17 @@ pub fn answer(rng: &mut Rng, session: &[u8], faults: bool) -> Vec<u8> {
         }
     }
     body
+}
+
+/// A body with 00 before or behind its one object, or nothing but that.
+fn padded_outside(rng: &mut Rng, body: Vec<u8>) -> Vec<u8> {
+    let run = vec![0x00; rng.within(1..=3)];
+    match rng.below(4) {
+        0 => [run, body].concat(),
+        1 => [body, run].concat(),
+        2 => [run.clone(), body, run].concat(),
+        _ => run,
+    }
 }
 
 /// A record of this length: template 70 with one unknown object.
@@ -102,8 +114,13 @@ fn options(rng: &mut Rng, store: &Store, fault: Option<usize>) -> Vec<u8> {
     let mut locator = objects::good_value(rng, Object::FileLocator);
     if fault.is_none() && rng.one_in(2) || fault == Some(0) {
         if fault == Some(0) {
-            let length = rng.pick(&[0, 1, 2, 3, 5, 7, 244, 248, 250, 252]);
-            locator.resize(length, 0x08);
+            if rng.one_in(3) {
+                // What would be padding in a template.
+                locator.push(0x00);
+            } else {
+                let length = rng.pick(&[0, 1, 2, 3, 5, 7, 244, 248, 250, 252]);
+                locator.resize(length, 0x08);
+            }
         }
         let value = [profile, locator].concat();
         return objects::object(rng, 0x80, &value);
@@ -119,7 +136,7 @@ fn options(rng: &mut Rng, store: &Store, fault: Option<usize>) -> Vec<u8> {
     if rng.one_in(20) {
         // In a template 77 of its own.
         let inner = list.remove(0);
-        let wrapped = objects::object(rng, 0x77, &inner);
+        let wrapped = objects::template(rng, 0x77, &[inner]);
         list.push(wrapped);
     }
     if fault == Some(1) {
@@ -127,7 +144,7 @@ fn options(rng: &mut Rng, store: &Store, fault: Option<usize>) -> Vec<u8> {
     } else if let Some(fault) = fault {
         fault_in_objects(rng, store, &mut list, 0x77, fault);
     }
-    objects::object(rng, 0x77, &list.concat())
+    objects::template(rng, 0x77, &list)
 }
 
 /// The answer to READ RECORD for the k-th record.
@@ -189,13 +206,13 @@ fn record(rng: &mut Rng, store: &Store, k: u32, fault: Option<usize>) -> Vec<u8>
     if rng.one_in(25) && !list.is_empty() {
         // In a template 70 of its own.
         let inner = list.remove(0);
-        let wrapped = objects::object(rng, 0x70, &inner);
+        let wrapped = objects::template(rng, 0x70, &[inner]);
         list.push(wrapped);
     }
     if let Some(fault) = fault {
         fault_in_objects(rng, store, &mut list, 0x70, fault);
     }
-    objects::object(rng, 0x70, &list.concat())
+    objects::template(rng, 0x70, &list)
 }
 
 /// The answer to GENERATE AC.
@@ -242,7 +259,7 @@ fn cryptogram(rng: &mut Rng, store: &Store, asked: u8, fault: Option<usize>) -> 
     } else if let Some(fault) = fault {
         fault_in_objects(rng, store, &mut list, 0x77, fault);
     }
-    objects::object(rng, 0x77, &list.concat())
+    objects::template(rng, 0x77, &list)
 }
 
 /// The value of an object in a store whose length bytes may be wrong.
@@ -281,7 +298,11 @@ fn unknown(rng: &mut Rng) -> Vec<u8> {
     } else {
         rng.below(6)
     };
-    let value = rng.bytes(length);
+    let value = if rng.one_in(5) {
+        vec![0x00; length]
+    } else {
+        rng.bytes(length)
+    };
     let tag = rng.pick(&UNKNOWN);
     objects::object(rng, tag, &value)
 }
@@ -302,15 +323,15 @@ fn nested(rng: &mut Rng, store: &Store, levels: usize) -> Vec<u8> {
     } else {
         rng.pick(&TEMPLATES)
     };
-    let mut content = Vec::new();
+    let mut list = Vec::new();
     if levels > 1 && rng.percent(60) {
-        content.extend(nested(rng, store, levels - 1));
+        list.push(nested(rng, store, levels - 1));
     }
     if rng.one_in(2) {
-        content.extend(unknown(rng));
+        list.push(unknown(rng));
     }
     if rng.one_in(4) {
-        content.extend(private(rng));
+        list.push(private(rng));
     }
     if tag == 0x70 && rng.one_in(3) {
         let object = rng.pick(&[
@@ -320,10 +341,10 @@ fn nested(rng: &mut Rng, store: &Store, levels: usize) -> Vec<u8> {
         ]);
         if !store::has_value(store, object) {
             let value = objects::good_value(rng, object);
-            objects::put_object(rng, &mut content, object.row().tag, &value);
+            list.push(objects::object(rng, object.row().tag, &value));
         }
     }
-    objects::object(rng, tag, &content)
+    objects::template(rng, tag, &list)
 }
 
 /// Puts a fault among the objects of an answer in the template `outer`.
@@ -378,7 +399,7 @@ fn fault_in_objects(
             };
             for _ in 0..rng.within(3..=4) {
                 let tag = rng.pick(&TEMPLATES);
-                inner = objects::object(rng, tag, &inner);
+                inner = objects::template(rng, tag, &[inner]);
             }
             inner
         }
@@ -398,6 +419,12 @@ fn fault_in_objects(
             } else {
                 inner
             }
+        }
+        8 => {
+            // A byte that is no padding in the place of one that is.
+            let other = rng.pick(&[0xFF, 0xFF, 0xFF, 0x01, 0x80]);
+            rng.pick(&[&[other][..], &[other, 0x00], &[0x00, other]])
+                .to_vec()
         }
         _ => nested(rng, store, 5),
     };

@@ -104,6 +104,38 @@ pub fn object(rng: &mut Rng, tag: u32, value: &[u8]) -> Vec<u8> {
     out
 }
 
+/// Objects one behind the other, with runs of 00 before, between and behind some of them, as far as 250 bytes have room.
+pub fn padded(rng: &mut Rng, list: &[Vec<u8>]) -> Vec<u8> {
+    let mut room = 250usize.saturating_sub(list.iter().map(Vec::len).sum());
+    let mut run = |rng: &mut Rng| {
+        let some = rng.within(4..=60);
+        let length = rng.pick(&[0, 0, 0, 0, 1, 1, 1, 2, 3, some]).min(room);
+        room -= length;
+        vec![0x00; length]
+    };
+    let mut out = run(rng);
+    for object in list {
+        out.extend(object);
+        out.extend(run(rng));
+    }
+    out
+}
+
+/// The contents of a template with these objects, padded in one of three.
+pub fn contents(rng: &mut Rng, list: &[Vec<u8>]) -> Vec<u8> {
+    if rng.one_in(3) {
+        padded(rng, list)
+    } else {
+        list.concat()
+    }
+}
+
+/// A template with these objects.
+pub fn template(rng: &mut Rng, tag: u32, list: &[Vec<u8>]) -> Vec<u8> {
+    let contents = contents(rng, list);
+    object(rng, tag, &contents)
+}
+
 /// Amounts near each other, and over 32 bits with the same low half.
 const AMOUNTS: [u64; 10] = [
     0,
@@ -410,11 +442,16 @@ pub fn data_list(rng: &mut Rng, room: usize, limit: usize) -> Vec<u8> {
         }
     }
     if rng.one_in(40) {
-        match rng.below(3) {
+        match rng.below(4) {
             0 => list.truncate(rng.within(0..=list.len())),
             1 => {
                 let bytes = broken(rng);
                 list.extend(bytes);
+            }
+            2 => {
+                // What would be padding in a template.
+                let at = rng.pick(&[0, list.len()]);
+                list.insert(at, 0x00);
             }
             _ => {
                 let at = rng.within(0..=list.len());

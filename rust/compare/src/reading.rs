@@ -3,6 +3,7 @@
 //! The count is compared with the tree's as well, which is counted apart from any reading.
 
 use crate::objects::{self, TEMPLATES, UNKNOWN};
+use crate::padding::InReadings;
 use crate::rng::Rng;
 use crate::step::Hex;
 use crate::{card, damage, never};
@@ -57,6 +58,8 @@ pub struct Reached {
     pub lengths: [u64; 2],
     /// The greatest count.
     pub greatest: u32,
+    /// Where padding stood.
+    pub padding: InReadings,
 }
 
 impl Reached {
@@ -80,6 +83,9 @@ impl Reached {
         need(&[self.unread], "a file above 10");
         need(&self.lengths, "length out of range");
         need(&[u64::from(self.greatest >= 120)], "a count of 120");
+        for (what, counts) in self.padding.counts() {
+            need(counts, what);
+        }
         missing
     }
 
@@ -99,6 +105,7 @@ impl Reached {
             self.unread += 1;
             return;
         }
+        self.padding.count(answer, &reading.card, reason, count);
         let Some((tag, _, [])) = tlv::split_object(body) else {
             return;
         };
@@ -254,33 +261,29 @@ fn answer_of(rng: &mut Rng, mut body: Vec<u8>) -> Vec<u8> {
 }
 
 /// An outer template of up to five levels, with objects before and behind each inner one.
-fn any_tree(rng: &mut Rng) -> Vec<u8> {
+pub(crate) fn any_tree(rng: &mut Rng) -> Vec<u8> {
     let levels = rng.within(1..=5);
-    let mut inner = some_objects(rng);
-    for level in 1..=levels {
-        let outer = rng.pick(&[0x70, 0x77]);
-        let tag = if level == levels && rng.percent(80) {
-            outer
-        } else {
-            rng.pick(&TEMPLATES)
-        };
-        inner = objects::object(rng, tag, &inner);
-        if level < levels && inner.len() < 180 {
-            let mut with = if rng.one_in(2) {
-                some_objects(rng)
-            } else {
-                Vec::new()
-            };
-            with.extend(inner);
-            with.extend(some_objects(rng));
-            inner = with;
+    let mut list = some_objects(rng);
+    for _ in 1..levels {
+        let tag = rng.pick(&TEMPLATES);
+        let inner = objects::template(rng, tag, &list);
+        let (mut before, mut behind) = (Vec::new(), Vec::new());
+        if inner.len() < 180 {
+            if rng.one_in(2) {
+                before = some_objects(rng);
+            }
+            behind = some_objects(rng);
         }
+        list = [before, vec![inner], behind].concat();
     }
-    inner
+    let outer = rng.pick(&[0x70, 0x77]);
+    let other = rng.pick(&TEMPLATES);
+    let tag = if rng.percent(80) { outer } else { other };
+    objects::template(rng, tag, &list)
 }
 
 /// A few objects: unknown ones, private ones of the terminal, known ones that may stand or not.
-fn some_objects(rng: &mut Rng) -> Vec<u8> {
+fn some_objects(rng: &mut Rng) -> Vec<Vec<u8>> {
     let mut list = Vec::new();
     for _ in 0..rng.below(3) {
         let (tag, value) = match rng.below(4) {
@@ -292,7 +295,7 @@ fn some_objects(rng: &mut Rng) -> Vec<u8> {
             _ => (rng.pick(&UNKNOWN), vec![0; rng.below(4)]),
         };
         if value.len() < 24 {
-            objects::put_object(rng, &mut list, tag, &value);
+            list.push(objects::object(rng, tag, &value));
         }
     }
     list

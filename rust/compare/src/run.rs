@@ -1,5 +1,6 @@
 //! Makes every call on both sides and compares all that comes back.
 
+use crate::padding;
 use crate::play::Play;
 use crate::side::Side;
 use crate::step::{Hex, Step};
@@ -40,6 +41,10 @@ pub struct Coverage {
     pub longest: u64,
     /// What the choices of a method reached.
     pub verification: Reached,
+    /// Padded answers that were taken with reason 0, 3 or a later one, or gave a command: to processing options, a record, GENERATE AC.
+    pub padded_answers: [u64; 3],
+    /// Refusals 20 because of 00 between start objects; reasons 7 because of 00 in 9F38, and in 8C.
+    pub padding_refused: [u64; 3],
 }
 
 /// The bits of 95 that can be set: byte, counted from 0, and bit.
@@ -72,6 +77,8 @@ impl Default for Coverage {
             held: [0; ROWS.len()],
             longest: 0,
             verification: Reached::default(),
+            padded_answers: [0; 3],
+            padding_refused: [0; 3],
         }
     }
 }
@@ -97,6 +104,8 @@ impl Coverage {
         all(&mut self.result_bits, &other.result_bits);
         all(self.types.as_flattened_mut(), other.types.as_flattened());
         all(&mut self.held, &other.held);
+        all(&mut self.padded_answers, &other.padded_answers);
+        all(&mut self.padding_refused, &other.padding_refused);
         self.verification.add(&other.verification);
     }
 
@@ -137,6 +146,15 @@ impl Coverage {
             need(count, format!("object {:X} held", row.tag));
         }
         need(self.longest, "a session of 130 commands".into());
+        for (what, &count) in AWAITED.iter().zip(&self.padded_answers) {
+            need(count, format!("padding in the answer to {what}"));
+        }
+        for (what, &count) in ["start bytes", "9F38", "8C"]
+            .iter()
+            .zip(&self.padding_refused)
+        {
+            need(count, format!("00 between the parts of {what}"));
+        }
         missing.extend(self.verification.missing());
         missing
     }
@@ -169,8 +187,35 @@ impl Coverage {
             .map(|(row, count)| format!("{:X} {count}", row.tag))
             .collect();
         let _ = writeln!(out, "objects held at the end: {}", held.join(", "));
+        let _ = writeln!(
+            out,
+            "padded answers: {:?}  00 in start bytes, 9F38, 8C: {:?}",
+            self.padded_answers, self.padding_refused
+        );
         out += &self.verification.report();
         out
+    }
+
+    /// Counts the padding that a call met. `phase` is that of the session before it.
+    fn count_padding(&mut self, step: &Step, phase: u8, word: u32, session: &[u8]) {
+        let (kind, number) = (kind_of(word), word & 0xFF);
+        match step {
+            Step::Start { terminal, .. } if (kind, number) == (2, 20) => {
+                self.padding_refused[0] += u64::from(padding::breaks_start(terminal));
+            }
+            Step::Answer { card, .. } if kind == 0 || kind == 1 && !matches!(number, 1 | 2) => {
+                let padded = padding::is_padded(card);
+                self.padded_answers[usize::from(phase) - 1] += u64::from(padded);
+            }
+            _ => {}
+        }
+        if (kind, number) == (1, 7) {
+            let store = session[HEAD_SIZE..].first_chunk().expect("a whole record");
+            let pdol = padding::breaks_list(store, Object::Pdol);
+            let cdol1 = padding::breaks_list(store, Object::Cdol1);
+            self.padding_refused[1] += u64::from(phase == 0 && pdol);
+            self.padding_refused[2] += u64::from(phase == 2 && cdol1);
+        }
     }
 
     /// Counts what a call did. `asked` is P1 of the session that got an answer on GENERATE AC.
@@ -205,6 +250,9 @@ impl Coverage {
         }
     }
 }
+
+/// The commands whose answers are awaited, by phase from 1 on.
+const AWAITED: [&str; 3] = ["processing options", "a record", "GENERATE AC"];
 
 /// The calls that hand back a reply.
 const CALLS: [&str; 4] = ["start", "answer", "link_failed", "stop"];
@@ -272,6 +320,8 @@ impl<A: Side, B: Side> Pair<'_, A, B> {
             _ => None,
         };
         coverage.count(call, word, &self.session, &self.buffer, asked);
+        let phase = self.before.get(1).copied().unwrap_or_default();
+        coverage.count_padding(step, phase, word, &self.session);
         if self.method_was_chosen(call, word) {
             let store = self.session[HEAD_SIZE..].first_chunk();
             coverage

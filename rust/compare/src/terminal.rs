@@ -15,20 +15,24 @@ pub fn start(rng: &mut Rng, faults: bool) -> Vec<u8> {
     };
     let mut later = Vec::new();
     for _ in 0..faults {
-        let fault = rng.below(14);
+        let fault = rng.below(15);
         if !fault_in_objects(rng, &mut list, fault) {
             later.push(fault);
         }
     }
-    let mut bytes = Vec::new();
-    let broken_at = rng.below(list.len() + 1);
-    let broken_between = later.contains(&8) && rng.one_in(2);
-    for (i, (tag, value)) in list.iter().enumerate() {
-        if broken_between && i == broken_at {
-            bytes.extend(objects::broken(rng));
-        }
-        objects::put_object(rng, &mut bytes, *tag, value);
+    let mut encoded: Vec<Vec<u8>> = list
+        .iter()
+        .map(|(tag, value)| objects::object(rng, *tag, value))
+        .collect();
+    if later.contains(&8) && rng.one_in(2) {
+        let at = rng.within(0..=encoded.len());
+        encoded.insert(at, objects::broken(rng).to_vec());
     }
+    let mut bytes = if later.contains(&14) {
+        objects::padded(rng, &encoded)
+    } else {
+        encoded.concat()
+    };
     for fault in later {
         fault_in_bytes(rng, &mut bytes, fault);
     }
@@ -167,6 +171,8 @@ fn fault_in_bytes(rng: &mut Rng, bytes: &mut Vec<u8>, fault: usize) {
                 }
             }
         }
+        // Padding is put between the objects.
+        14 => {}
         _ => damage::bytes(rng, bytes),
     }
 }

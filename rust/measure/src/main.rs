@@ -95,32 +95,47 @@ fn purchase() -> Vec<Vec<u8>> {
     ]
 }
 
-/// A full record: twelve objects of template 70, then twelve unknown ones.
-fn full_record() -> Vec<u8> {
-    let mut content = hex(
-        "57 13 4761739001010010D49122010000001F000000  5A 0A 4761739001010010FFFF  5F24 03 491231
-         5F25 03 200101  5F28 02 0056  5F34 01 01  9F07 02 FFC0  9F08 02 0002
-         9F0D 05 0000000000  9F0E 05 0000000000  9F0F 05 0000000000
-         8C 24 9F0206 9F0306 9F1A02 9505 5F2A02 9A03 9C01 9F3704 9F3501 9F4502 9F4C08 9F3403 9F2103",
-    );
+/// The objects of a full record: twelve of template 70, then twelve unknown ones with so many bytes each, the first one with one more.
+fn full_record(unknown: u8) -> Vec<Vec<u8>> {
+    let mut objects: Vec<Vec<u8>> = [
+        "57 13 4761739001010010D49122010000001F000000",
+        "5A 0A 4761739001010010FFFF",
+        "5F24 03 491231",
+        "5F25 03 200101",
+        "5F28 02 0056",
+        "5F34 01 01",
+        "9F07 02 FFC0",
+        "9F08 02 0002",
+        "9F0D 05 0000000000",
+        "9F0E 05 0000000000",
+        "9F0F 05 0000000000",
+        "8C 24 9F0206 9F0306 9F1A02 9505 5F2A02 9A03 9C01 9F3704 9F3501 9F4502 9F4C08 9F3403 9F2103",
+    ]
+    .map(hex)
+    .into();
     for i in 0..12 {
-        let length = if i == 0 { 8 } else { 7 };
-        content.extend([0x9F, 0x50 + i, length]);
-        content.extend((0..length).map(|n| n * 17));
+        let length = if i == 0 { unknown + 1 } else { unknown };
+        let mut object = vec![0x9F, 0x50 + i, length];
+        object.extend((0..length).map(|n| n * 17));
+        objects.push(object);
     }
-    content
+    objects
 }
 
 fn cases() -> Vec<Case> {
     let short = record(&hex("9F08 02 0002 5F24 03 491231"));
-    let full = record(&full_record());
+    let full = record(&full_record(7).concat());
+    // A 00 behind each object; the unknown ones are shorter, so that the record is as long as the full one.
+    let mut padded = full_record(5);
+    padded.iter_mut().for_each(|object| object.push(0x00));
+    let padded = record(&padded.concat());
     let mut unknown = Vec::new();
     for i in 0..20 {
         unknown.extend([0x9F, 0x50 + i, 0x04, i, i, i, i]);
     }
     let unknown = record(&unknown);
     // The last object is cut by one byte.
-    let mut content = full_record();
+    let mut content = full_record(7).concat();
     content.pop();
     let broken = record(&content);
     let name = |what: &str, answer: &[u8], objects: u32| {
@@ -143,6 +158,10 @@ fn cases() -> Vec<Case> {
             work: Work::Answer(full),
         },
         Case {
+            name: name("padded record", &padded, 25),
+            work: Work::Answer(padded),
+        },
+        Case {
             name: name("record of 20 unknown tags", &unknown, 21),
             work: Work::Answer(unknown),
         },
@@ -154,7 +173,10 @@ fn cases() -> Vec<Case> {
             work: Work::Answer(broken),
         },
         Case {
-            name: "start, all that it must bring and a list".into(),
+            name: format!(
+                "start, {} objects",
+                model::tlv::count_objects(&terminal(), 0).expect("a run of objects")
+            ),
             work: Work::Start,
         },
         Case {

@@ -1,12 +1,13 @@
 //! A plain Rust model of one contactless session in EMV mode, written from document 01.
 //!
-//! The seven calls take lent bytes and give the result words of docs/HOST.md, so that a reply, a
+//! The calls take lent bytes and give the result words of docs/HOST.md, so that a reply, a
 //! command buffer, a count and the session's bytes can be compared byte for byte with the library.
 //!
-//! - `tlv`: one object at the front of some bytes
+//! - `tlv`: one object at the front of some bytes, and the padding between objects
 //! - `dictionary`, `store`: the known tags, and one fixed place for each
 //! - `reason`: why a session ends early, and with which outcome
 //! - `reading`: a card's answer into a store, whole or not at all
+//! - `find`: the first object of a tag in a card's bytes
 //! - `data_list`, `locator`, `analysis`: data object lists, the file locator, result bits and choice
 //! - `verification`: the method of cardholder verification by the card's list
 //! - `session`: the session record, its ranges and its steps
@@ -21,6 +22,7 @@ extern crate alloc;
 pub mod analysis;
 pub mod data_list;
 pub mod dictionary;
+pub mod find;
 pub mod journal;
 pub mod locator;
 pub mod personalise;
@@ -91,6 +93,11 @@ pub fn stop(session: &mut [u8], command: &mut [u8]) -> u32 {
 /// The count of commands handed out, or `NO_COUNT` where the bytes hold no record.
 pub fn count(session: &[u8]) -> u32 {
     session::count(session).map_or(NO_COUNT, u32::from)
+}
+
+/// The first object of a tag in a card's bytes: place and length of its value, or a word that says why there is none.
+pub fn find(bytes: &[u8], tag: u32) -> u64 {
+    find::word(find::find(bytes, tag))
 }
 
 /// Reads one answer, status bytes included, into a store of any bytes. `file` is the record's, and counts for a record alone.

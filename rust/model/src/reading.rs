@@ -1,4 +1,4 @@
-//! Reading a card's answer into a store, whole or not at all (document 01, "Reading an answer").
+//! Reading a card's answer into a store, whole or not at all (document 01, "Reading an answer"; document 02, Item 6).
 
 use crate::dictionary::{Object, Setter};
 use crate::reason::Reason;
@@ -127,11 +127,12 @@ struct Walk {
 }
 
 impl Walk {
-    /// Takes the objects of a template in order; none if the bytes are malformed.
+    /// Takes the objects of a template in order, past the padding around them; none if the bytes are malformed.
     ///
     /// `levels` is how many more templates may nest inside this one.
     /// A not allowed object does not stop the walk: a malformed one behind it decides.
-    fn contents(&mut self, around: Tag, mut bytes: &[u8], levels: u32) -> Option<()> {
+    fn contents(&mut self, around: Tag, bytes: &[u8], levels: u32) -> Option<()> {
+        let mut bytes = tlv::skip_padding(bytes);
         while !bytes.is_empty() {
             let (tag, value, rest) = tlv::split_object(bytes)?;
             self.count += 1;
@@ -140,7 +141,7 @@ impl Walk {
             } else if self.allowed {
                 self.allowed = self.primitive(around, tag, value);
             }
-            bytes = rest;
+            bytes = tlv::skip_padding(rest);
         }
         Some(())
     }

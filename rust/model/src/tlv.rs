@@ -1,4 +1,4 @@
-//! One object at the front of some bytes (document 01, "Reading an answer").
+//! One object at the front of some bytes, and the padding between objects (document 01, "Reading an answer"; document 02, Item 6).
 
 /// A tag: its bytes as a number, and whether it marks a template.
 #[derive(Clone, Copy, Debug, PartialEq, Eq)]
@@ -66,14 +66,23 @@ pub fn split_object(bytes: &[u8]) -> Option<(Tag, &[u8], &[u8])> {
     Some((tag, value, rest))
 }
 
-/// How many objects the tree of some bytes has, templates and what is in them; none if it is no tree of at most so many levels.
+/// The contents of a template from the next tag on: a run of 00 where that would start is passed over.
+pub fn skip_padding(contents: &[u8]) -> &[u8] {
+    let padding = contents.iter().take_while(|&&byte| byte == 0x00).count();
+    &contents[padding..]
+}
+
+/// How many objects the tree of a template's contents has, templates and what is in them; none if it is no tree of at most so many
+/// levels.
 ///
-/// Each object is one, and a template is one and its contents.
-pub fn count_objects(bytes: &[u8], levels: u32) -> Option<u32> {
-    if bytes.is_empty() {
-        return Some(0);
+/// Each object is one, a template is one and its contents, and padding is none.
+pub fn count_objects(contents: &[u8], levels: u32) -> Option<u32> {
+    match contents {
+        [] => return Some(0),
+        [0x00, behind @ ..] => return count_objects(behind, levels),
+        _ => {}
     }
-    let (tag, value, rest) = split_object(bytes)?;
+    let (tag, value, rest) = split_object(contents)?;
     let inside = if tag.is_template() {
         count_objects(value, levels.checked_sub(1)?)?
     } else {

@@ -224,6 +224,10 @@ fn found_in_card_bytes() {
     assert_eq!(find(&five[2..], 0xE2), Found::Absent);
     assert_eq!(find(&five, 0xE1), Found::Malformed);
     assert_eq!(find(&[0x50; 65_536], 0x50), Found::Malformed);
+    let padded = [0x6F, 0x07, 0x00, 0x84, 0x01, 0x41, 0x00, 0x50, 0x00];
+    assert_eq!(find(&padded, 0x84), Found::Value(&[0x41]));
+    assert_eq!(find(&padded, 0x50), Found::Value(&[]));
+    assert_eq!(find(&[0x6F, 0x01, 0xFF], 0x6F), Found::Malformed);
 }
 
 #[test]
