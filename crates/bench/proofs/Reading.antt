@@ -1,20 +1,20 @@
 -- The rows of single answers, computed. Assumes nothing.
 use mathlib.Core.Path.{_≡_, refl}
 use mathlib.Core.List.{[], _∷_}
-use Rattle.basics.specs.Choice.{if, both, every}
+use Rattle.basics.specs.Choice.{if, both}
 use Rattle.basics.specs.Recursion.{recurseBy, recurse}
-use Rattle.basics.specs.Number.{numberFrom, nibbles}
+use Rattle.basics.specs.Number.{numberFrom}
 use Rattle.tlv.specs.Tag.{tagSize, secondByte, thirdByte, tagAt, firstByte, isTemplate, isPrivate}
-use Rattle.tlv.specs.Length.{lengthAt, oneByte}
+use Rattle.tlv.specs.Length.{lengthAt}
 use Rattle.tlv.specs.Object.{headerOf}
 use Rattle.tlv.specs.Tree.{count, nextOf, withLeaf, withNode, parse}
 use Rattle.dictionary.specs.Rows.{rows, past, find}
 use Rattle.dictionary.specs.Named.{placeOf}
-use Rattle.dictionary.specs.Form.{numeric, digitsThenFs, compressed, digitsFit, fitting}
+use Rattle.dictionary.specs.Form.{digitsFit, fitting}
 use Rattle.store.specs.Place.{offsetIn, placeAt, held, valueAt, putAt, valueIn}
 use Rattle.reading.specs.Taking.{items, mayStand, mayCome, allowed, takeItem, takeNext, takeAll}
 use Rattle.reading.specs.Answer.{outcome, bodyOf, templateParts, readBody}
-use Rattle.bench.specs.BenchTable.{nothing, recordBody, Stored, eachWith, fullBody, Padded}
+use Rattle.bench.specs.BenchTable.{nothing, recordBody, Stored}
 
 pub empty : recordBody (0x70 ∷ 0x00 ∷ []) ≡ outcome 0 1 nothing
 unfolding readBody bodyOf headerOf tagAt tagSize lengthAt firstByte isTemplate isPrivate numberFrom if both parse recurse recurseBy nextOf count templateParts items takeAll
@@ -39,7 +39,3 @@ results-sent = refl
 pub version : Stored (recordBody (0x70 ∷ 0x05 ∷ 0x9F ∷ 0x08 ∷ 0x02 ∷ 0x00 ∷ 0x02 ∷ []))
 unfolding readBody bodyOf headerOf tagAt tagSize secondByte lengthAt firstByte isTemplate isPrivate numberFrom if both parse recurse recurseBy nextOf withLeaf count templateParts items takeAll takeNext takeItem rows past find placeOf allowed mayCome mayStand fitting digitsFit offsetIn placeAt held valueAt putAt valueIn
 version = record { whole = refl; version = refl }
-
-pub padded : Padded (recordBody (fullBody (0x00 ∷ []))) (recordBody (fullBody []))
-unfolding eachWith readBody bodyOf headerOf tagAt tagSize secondByte lengthAt oneByte firstByte isTemplate isPrivate numberFrom if both every parse recurse recurseBy nextOf withLeaf count templateParts items takeAll takeNext takeItem rows past find allowed mayCome mayStand fitting digitsFit numeric compressed digitsThenFs nibbles offsetIn placeAt held valueAt putAt valueIn
-padded = record { same = refl; reason = refl; objects = refl }

@@ -1,6 +1,6 @@
 -- The table, row by row. Assumes nothing.
 use Rattle.bench.specs.BenchTable.{BenchTable}
-use Rattle.bench.proofs.Reading.{empty, version, results-sent, private, four-levels, five-levels, padded}
+use Rattle.bench.proofs.Reading.{empty, version, results-sent, private, four-levels, five-levels}
 use Rattle.bench.proofs.Beginning.{begins}
 use Rattle.bench.proofs.Filling.{fills}
 use Rattle.bench.proofs.Choosing.{chooses}
@@ -13,7 +13,6 @@ table = record {
   private = private;
   four-levels = four-levels;
   five-levels = five-levels;
-  padded = padded;
   begins = begins;
   fills = fills;
   chooses = chooses

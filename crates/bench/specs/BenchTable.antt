@@ -1,8 +1,8 @@
 -- The bench table's marked rows (document 01, "Bench table"), a field for each, over the definitions that the calls'
--- promises cite; and a full record with padding (document 02, Item 6).
+-- promises cite.
 -- Assumes nothing.
 use mathlib.Core.Path.{_≡_}
-use mathlib.Core.List.{List, [], _∷_, _++_, map}
+use mathlib.Core.List.{List, [], _∷_, _++_}
 use mathlib.Core.Option.{some}
 use Prim.Native.Nat.{ℕ, _≤_}
 use lib.ListN.{length}
@@ -43,54 +43,6 @@ versionAlone = putAt rows nothing (placeOf 0x9F08) cardVersion
 pub record Stored (o : Outcome) : Type 0 where
   pub whole : o ≡ outcome 0 2 versionAlone
   pub version : valueOf (o .store) 0x9F08 ≡ present cardVersion
-
--- objects one behind the other, with these bytes behind each
-unfoldable pub eachWith : List ℕ → List (List ℕ) → List ℕ
-eachWith p [] = []
-eachWith p (o ∷ os) = o ++ (p ++ eachWith p os)
-
--- a record of more than 127 bytes of content
-abbrev pub longRecord : List ℕ → List ℕ
-longRecord v = 0x70 ∷ 0x81 ∷ length v ∷ v
-
--- the value of an unknown object
-abbrev pub fiveBytes : List ℕ
-fiveBytes = 0x00 ∷ 0x11 ∷ 0x22 ∷ 0x33 ∷ 0x44 ∷ []
-
--- the second bytes of eleven unknown tags
-abbrev pub unknownTags : List ℕ
-unknownTags = 0x51 ∷ 0x52 ∷ 0x53 ∷ 0x54 ∷ 0x55 ∷ 0x56 ∷ 0x57 ∷ 0x58 ∷ 0x59 ∷ 0x5A ∷ 0x5B ∷ []
-
--- twelve objects of template 70, then twelve unknown ones
-abbrev pub fullContent : List (List ℕ)
-fullContent =
-    (0x57 ∷ 0x13 ∷ 0x47 ∷ 0x61 ∷ 0x73 ∷ 0x90 ∷ 0x01 ∷ 0x01 ∷ 0x00 ∷ 0x10 ∷ 0xD4 ∷ 0x91 ∷ 0x22 ∷ 0x01 ∷ 0x00 ∷ 0x00 ∷ 0x00 ∷
-      0x1F ∷ 0x00 ∷ 0x00 ∷ 0x00 ∷ []) ∷
-    (0x5A ∷ 0x0A ∷ 0x47 ∷ 0x61 ∷ 0x73 ∷ 0x90 ∷ 0x01 ∷ 0x01 ∷ 0x00 ∷ 0x10 ∷ 0xFF ∷ 0xFF ∷ []) ∷
-    (0x5F ∷ 0x24 ∷ 0x03 ∷ 0x49 ∷ 0x12 ∷ 0x31 ∷ []) ∷
-    (0x5F ∷ 0x25 ∷ 0x03 ∷ 0x20 ∷ 0x01 ∷ 0x01 ∷ []) ∷
-    (0x5F ∷ 0x28 ∷ 0x02 ∷ 0x00 ∷ 0x56 ∷ []) ∷
-    (0x5F ∷ 0x34 ∷ 0x01 ∷ 0x01 ∷ []) ∷
-    (0x9F ∷ 0x07 ∷ 0x02 ∷ 0xFF ∷ 0xC0 ∷ []) ∷
-    (0x9F ∷ 0x08 ∷ 0x02 ∷ 0x00 ∷ 0x02 ∷ []) ∷
-    (0x9F ∷ 0x0D ∷ 0x05 ∷ 0x00 ∷ 0x00 ∷ 0x00 ∷ 0x00 ∷ 0x00 ∷ []) ∷
-    (0x9F ∷ 0x0E ∷ 0x05 ∷ 0x00 ∷ 0x00 ∷ 0x00 ∷ 0x00 ∷ 0x00 ∷ []) ∷
-    (0x9F ∷ 0x0F ∷ 0x05 ∷ 0x00 ∷ 0x00 ∷ 0x00 ∷ 0x00 ∷ 0x00 ∷ []) ∷
-    (0x8C ∷ 0x24 ∷ 0x9F ∷ 0x02 ∷ 0x06 ∷ 0x9F ∷ 0x03 ∷ 0x06 ∷ 0x9F ∷ 0x1A ∷ 0x02 ∷ 0x95 ∷ 0x05 ∷ 0x5F ∷ 0x2A ∷ 0x02 ∷ 0x9A ∷
-      0x03 ∷ 0x9C ∷ 0x01 ∷ 0x9F ∷ 0x37 ∷ 0x04 ∷ 0x9F ∷ 0x35 ∷ 0x01 ∷ 0x9F ∷ 0x45 ∷ 0x02 ∷ 0x9F ∷ 0x4C ∷ 0x08 ∷ 0x9F ∷ 0x34 ∷
-      0x03 ∷ 0x9F ∷ 0x21 ∷ 0x03 ∷ []) ∷
-    (0x9F ∷ 0x50 ∷ 0x06 ∷ fiveBytes ++ (0x55 ∷ [])) ∷
-    map (λ n. 0x9F ∷ n ∷ 0x05 ∷ fiveBytes) unknownTags
-
--- the full record, with nothing and with a 00 behind each inner object
-abbrev pub fullBody : List ℕ → List ℕ
-fullBody p = longRecord (eachWith p fullContent)
-
--- 25 objects; what is said and stored is the same with the padding as without it
-pub record Padded (o plain : Outcome) : Type 0 where
-  pub same : o ≡ plain
-  pub reason : o .reason ≡ 0
-  pub objects : o .objects ≡ 25
 
 -- a step hands out a command: its length, and its bytes at the front of the buffer
 pub record HandsOut (command buffer : List ℕ) (s : Step) : Type 0 where
@@ -173,7 +125,7 @@ pub record Chooses (store : List ℕ) : Type 0 where
 
 -- how many they are
 abbrev pub markedRows : ℕ
-markedRows = 10
+markedRows = 9
 
 -- all marked rows
 pub record BenchTable : Type 0 where
@@ -190,8 +142,6 @@ pub record BenchTable : Type 0 where
   -- reason 2: a fifth level
   pub five-levels : recordBody (0x70 ∷ 0x08 ∷ 0xE1 ∷ 0x06 ∷ 0xE1 ∷ 0x04 ∷ 0xE1 ∷ 0x02 ∷ 0xE1 ∷ 0x00 ∷ [])
     ≡ outcome 2 0 nothing
-  -- a full record of 250 bytes, a 00 behind each inner object
-  pub padded : Padded (recordBody (fullBody (0x00 ∷ []))) (recordBody (fullBody []))
   -- no 9F38, and the first record
   pub begins : (first second : List ℕ) → leastBuffer ≤ length first → leastBuffer ≤ length second → Begins first second
   -- filling

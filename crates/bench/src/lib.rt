@@ -3,7 +3,7 @@ ghost use mathlib.Core.Path.{_≡_};
 ghost use Rattle.bench.specs.BenchTable.{BenchTable, markedRows};
 
 // How many rows are proved.
-pub const ROWS: usize = 10;
+pub const ROWS: usize = 9;
 
 // How many rows are proved; that they hold is in the promise.
 pub fn rows() -> usize
