@@ -49,9 +49,9 @@ pub no-length : listEntries (0x9F ∷ 0x02 ∷ []) ≡ none
 unfolding listEntries recurse recurseBy along entryAt withLength withEntry tagAt tagSize secondByte thirdByte numberFrom if
 no-length = refl
 
--- padding in front of the first tag and behind the last length
-pub padding-around : map listEntries ((0 ∷ 0x9F ∷ 0x02 ∷ 6 ∷ []) ∷ (0x9F ∷ 0x02 ∷ 6 ∷ 0 ∷ []) ∷ (0 ∷ 0x95 ∷ 5 ∷ []) ∷ (0x95 ∷ 5 ∷ 0 ∷ []) ∷ [])
-    ≡ none ∷ none ∷ none ∷ none ∷ []
+-- padding in front of the first tag, behind the last length and between two entries
+pub padding-around : map listEntries ((0 ∷ 0x9F ∷ 0x02 ∷ 6 ∷ []) ∷ (0x9F ∷ 0x02 ∷ 6 ∷ 0 ∷ []) ∷ (0 ∷ 0x95 ∷ 5 ∷ []) ∷ (0x95 ∷ 5 ∷ 0 ∷ []) ∷ (0x9F ∷ 0x02 ∷ 6 ∷ 0 ∷ 0x95 ∷ 5 ∷ []) ∷ [])
+    ≡ none ∷ none ∷ none ∷ none ∷ none ∷ []
 unfolding listEntries recurse recurseBy along entryAt withLength withEntry tagAt tagSize secondByte thirdByte numberFrom if
 padding-around = refl
 

@@ -95,7 +95,7 @@ others = refl
 -- ---- padding (document 02, Item 6)
 
 -- in a record: alone; two bytes in front of 9F08, and one in front and three behind; between 9F08 and 5F25; in E1 alone and around 9F08;
--- at each of four levels
+-- at three of four levels, and at each of them
 padded : map (body (file 1))
     ((0x70 ∷ 0x01 ∷ 0x00 ∷ [])
     ∷ (0x70 ∷ 0x07 ∷ 0x00 ∷ 0x00 ∷ 0x9F ∷ 0x08 ∷ 0x02 ∷ 0x00 ∷ 0x02 ∷ [])
@@ -103,8 +103,9 @@ padded : map (body (file 1))
     ∷ (0x70 ∷ 0x0D ∷ 0x00 ∷ 0x9F ∷ 0x08 ∷ 0x02 ∷ 0x00 ∷ 0x02 ∷ 0x00 ∷ 0x5F ∷ 0x25 ∷ 0x03 ∷ 0x24 ∷ 0x01 ∷ 0x01 ∷ [])
     ∷ (0x70 ∷ 0x0B ∷ 0xE1 ∷ 0x02 ∷ 0x00 ∷ 0x00 ∷ 0x00 ∷ 0x9F ∷ 0x08 ∷ 0x02 ∷ 0x00 ∷ 0x02 ∷ 0x00 ∷ [])
     ∷ (0x70 ∷ 0x09 ∷ 0x00 ∷ 0xE1 ∷ 0x06 ∷ 0x00 ∷ 0xE1 ∷ 0x03 ∷ 0xE1 ∷ 0x01 ∷ 0x00 ∷ [])
+    ∷ (0x70 ∷ 0x0A ∷ 0x00 ∷ 0xE1 ∷ 0x07 ∷ 0x00 ∷ 0xE1 ∷ 0x04 ∷ 0x00 ∷ 0xE1 ∷ 0x01 ∷ 0x00 ∷ [])
     ∷ [])
-    ≡ (0 ∷ 1 ∷ []) ∷ (0 ∷ 2 ∷ []) ∷ (0 ∷ 2 ∷ []) ∷ (0 ∷ 3 ∷ []) ∷ (0 ∷ 3 ∷ []) ∷ (0 ∷ 4 ∷ []) ∷ []
+    ≡ (0 ∷ 1 ∷ []) ∷ (0 ∷ 2 ∷ []) ∷ (0 ∷ 2 ∷ []) ∷ (0 ∷ 3 ∷ []) ∷ (0 ∷ 3 ∷ []) ∷ (0 ∷ 4 ∷ []) ∷ (0 ∷ 4 ∷ []) ∷ []
 unfolding readBody bodyOf headerOf tagAt tagSize secondByte lengthAt firstByte isTemplate isPrivate numberFrom if both parse recurse recurseBy nextOf withLeaf withNode count templateParts items takeAll takeNext takeItem rows past find allowed mayCome mayStand fitting digitsFit numeric nibbles every offsetIn placeAt held valueAt putAt valueIn
 padded = refl
 
@@ -115,8 +116,8 @@ same-store : readBody (file 1) (replicate storeSize 0)
 unfolding readBody bodyOf headerOf tagAt tagSize secondByte lengthAt firstByte isTemplate isPrivate numberFrom if both parse recurse recurseBy nextOf withLeaf withNode count templateParts items takeAll takeNext takeItem rows past find allowed mayCome mayStand fitting digitsFit numeric nibbles every offsetIn placeAt held valueAt putAt valueIn
 same-store = refl
 
--- malformed: a fifth level over padding; 00 in front of 70 and behind it, behind a full 70, inside a tag, behind FF, with a length of 80;
--- a body of padding alone
+-- malformed: a fifth level over padding; 00 in front of 70 and behind it, behind a full 70, as the second byte of a tag, behind FF, with a
+-- length of 80; a body of padding alone; a cut object behind padding
 unpadded : map (body (file 1))
     ((0x70 ∷ 0x0A ∷ 0xE1 ∷ 0x08 ∷ 0xE1 ∷ 0x06 ∷ 0xE1 ∷ 0x04 ∷ 0xE1 ∷ 0x02 ∷ 0x00 ∷ 0x00 ∷ [])
     ∷ (0x00 ∷ 0x70 ∷ 0x00 ∷ [])
@@ -126,8 +127,9 @@ unpadded : map (body (file 1))
     ∷ (0x70 ∷ 0x02 ∷ 0xFF ∷ 0x00 ∷ [])
     ∷ (0x70 ∷ 0x80 ∷ 0x00 ∷ 0x00 ∷ [])
     ∷ (0x00 ∷ 0x00 ∷ [])
+    ∷ (0x70 ∷ 0x03 ∷ 0x00 ∷ 0x95 ∷ 0x01 ∷ [])
     ∷ [])
-    ≡ replicate 8 (2 ∷ 0 ∷ [])
+    ≡ replicate 9 (2 ∷ 0 ∷ [])
 unfolding readBody bodyOf headerOf tagAt tagSize secondByte lengthAt firstByte isTemplate isPrivate numberFrom if both parse recurse recurseBy nextOf withLeaf withNode
 unpadded = refl
 
@@ -137,11 +139,12 @@ padded-counts : map (body (file 1)) ((0x61 ∷ 0x02 ∷ 0x00 ∷ 0x00 ∷ []) �
 unfolding readBody bodyOf headerOf tagAt tagSize lengthAt firstByte isTemplate isPrivate numberFrom if both parse recurse recurseBy nextOf withLeaf withNode count templateParts items takeAll takeNext takeItem rows past find allowed mayCome
 padded-counts = refl
 
--- 77 with padding for both other answers; none in the value of an 80
+-- 77 with padding for both other answers; none in the value of an 80, whose 00 in front and behind are its own
 padded-others : body Options (0x77 ∷ 0x0F ∷ 0x00 ∷ 0x82 ∷ 0x02 ∷ 0x00 ∷ 0x80 ∷ 0x00 ∷ 0x00 ∷ 0x94 ∷ 0x04 ∷ 0x08 ∷ 0x01 ∷ 0x01 ∷ 0x00 ∷ 0x00 ∷ 0x00 ∷ [])
     ∷ body Options (0x80 ∷ 0x07 ∷ 0x00 ∷ 0x80 ∷ 0x08 ∷ 0x01 ∷ 0x01 ∷ 0x00 ∷ 0x00 ∷ [])
+    ∷ body Options (0x80 ∷ 0x06 ∷ 0x00 ∷ 0x80 ∷ 0x08 ∷ 0x01 ∷ 0x01 ∷ 0x00 ∷ [])
     ∷ body Cryptogram (0x77 ∷ 0x18 ∷ 0x00 ∷ 0x9F ∷ 0x27 ∷ 0x01 ∷ 0x40 ∷ 0x00 ∷ 0x9F ∷ 0x36 ∷ 0x02 ∷ 0x00 ∷ 0x01 ∷ 0x00 ∷ 0x9F ∷ 0x26 ∷ 0x08 ∷ 0x01 ∷ 0x02 ∷ 0x03 ∷ 0x04 ∷ 0x05 ∷ 0x06 ∷ 0x07 ∷ 0x08 ∷ 0x00 ∷ [])
     ∷ []
-    ≡ (0 ∷ 3 ∷ []) ∷ (2 ∷ 1 ∷ []) ∷ (0 ∷ 4 ∷ []) ∷ []
+    ≡ (0 ∷ 3 ∷ []) ∷ (2 ∷ 1 ∷ []) ∷ (0 ∷ 1 ∷ []) ∷ (0 ∷ 4 ∷ []) ∷ []
 unfolding readBody bodyOf headerOf tagAt tagSize secondByte lengthAt firstByte isTemplate isPrivate numberFrom if both parse recurse recurseBy nextOf withLeaf withNode count primitiveParts optionsParts templateParts items takeAll takeNext takeItem rows past find allowed mayCome mayStand fitting digitsFit offsetIn placeAt held valueAt putAt valueIn
 padded-others = refl
