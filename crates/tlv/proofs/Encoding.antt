@@ -25,7 +25,7 @@ use Rattle.tlv.specs.Padding.{Padded, nothing, padding, primitive, templ
 use Rattle.tlv.proofs.Laws.{tag-some, tail-is, header-with, with-whole}
 use Rattle.tlv.proofs.Prefix.{tag-kept}
 use Rattle.tlv.proofs.NextObject.{next-empty, next-object}
-use Rattle.tlv.proofs.Tree.{parse-end, parse-leaf, parse-node, parse-count, with-leaf, with-node, zeros-in-front, zeros-behind}
+use Rattle.tlv.proofs.Tree.{parse-end, parse-leaf, parse-node, parse-count, with-leaf, with-node, zeros-in-front, zeros-behind, zeros-between}
 
 -- ---- a tag's bytes
 
@@ -126,6 +126,7 @@ pub passes-over : (s : List ℕ) → PassesOver s
 passes-over s = record {
   in-front = λ n l. zeros-in-front n l s;
   behind = λ n l f. zeros-behind n l s f;
+  between = λ t n l f g e d. zeros-between n l s t f g e d;
   encoded = λ f l u p. parse-padded p l u;
   half = λ l f. parse-count l s f;
 }

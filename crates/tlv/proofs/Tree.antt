@@ -238,5 +238,8 @@ join-end end = refl
 join-end (leaf t v r) = ap (leaf t v) (join-end r)
 join-end (node t f r) = ap (node t f) (join-end r)
 
+pub zeros-between : (n l : ℕ) (s t : List ℕ) (f g : Forest) → parse l s ≡ some f → parse l t ≡ some g → parse l (s ++ (zeros n ++ t)) ≡ parse l (s ++ t)
+zeros-between n l s t f g e d = parse-join l s (zeros n ++ t) f g e (zeros-in-front n l t ∙ d) ∙ sym (parse-join l s t f g e d)
+
 pub zeros-behind : (n l : ℕ) (s : List ℕ) (f : Forest) → parse l s ≡ some f → parse l (s ++ zeros n) ≡ some f
 zeros-behind n l s f e = parse-join l s (zeros n) f end e (parse-end l (zeros n) (next-zeros n)) ∙ ap some (join-end f)

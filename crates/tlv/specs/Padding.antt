@@ -28,6 +28,9 @@ pub record PassesOver (s : List ℕ) : Type 0 where
   pub in-front : (n levels : ℕ) → parse levels (zeros n ++ s) ≡ parse levels s
   -- padding behind a whole run changes nothing
   pub behind : (n levels : ℕ) (f : Forest) → parse levels s ≡ some f → parse levels (s ++ zeros n) ≡ some f
+  -- padding between two whole runs changes nothing
+  pub between : (t : List ℕ) (n levels : ℕ) (f g : Forest) → parse levels s ≡ some f → parse levels t ≡ some g
+    → parse levels (s ++ (zeros n ++ t)) ≡ parse levels (s ++ t)
   -- a padded encoding of a tree that can be encoded is read as that tree
   pub encoded : (f : Forest) (levels : ℕ) → Encodable f levels → Padded f s → parse levels s ≡ some f
   -- padding is no object: there are at most half as many as bytes

@@ -89,5 +89,6 @@ parse levels s = recurse (λ l. none) parseNext s levels
 --   parse-join      the parse of two lists, one behind the other, is the one run behind the other
 --   parse-count     2 * count f ≤ length s, where s parses to f
 --   parse-deeper    what parses at some levels parses to the same tree at more
---   zeros-in-front, zeros-behind    padding in front, and behind a whole run, changes nothing (specs/Padding)
+--   zeros-in-front, zeros-behind, zeros-between    padding in front, behind a whole run, and between two whole runs
+--                   changes nothing (specs/Padding)
 --   parse-padded    an encodable tree's padded encodings parse to that tree, its shortest one too (parse-encode)
