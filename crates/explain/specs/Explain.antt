@@ -57,12 +57,17 @@ stageBy Capability.Unlisted      false = Deciding.Nothing
 unfoldable pub stageIn : List ℕ → Deciding
 stageIn b = stageBy (capabilityOf (terminalType b)) (heldAt (resultIn b) (codesOf b) denial)
 
--- what is needed of a store where a stage decided: denial is consulted before every other; a card's code may be absent
+-- the terminal's code of a stage behind denial
+abbrev pub ownCode : Stage → List ℕ
+ownCode Stage.Denial     = []
+ownCode Stage.OnlineOnly = []
+ownCode Stage.Default    = 0xDF8120 ∷ []
+ownCode Stage.Online     = 0xDF8122 ∷ []
+
+-- what is needed where a stage decided: 95, and the terminal's codes of the stages that were consulted, denial before
+-- every other; a card's code may be absent
 abbrev pub neededAt : Stage → List ℕ
-neededAt Stage.Denial     = 0x95 ∷ 0xDF8121 ∷ []
-neededAt Stage.OnlineOnly = 0x95 ∷ 0xDF8121 ∷ []
-neededAt Stage.Default    = 0x95 ∷ 0xDF8121 ∷ 0xDF8120 ∷ []
-neededAt Stage.Online     = 0x95 ∷ 0xDF8121 ∷ 0xDF8122 ∷ []
+neededAt stage = 0x95 ∷ 0xDF8121 ∷ ownCode stage
 
 -- the stage, if all of it is there
 abbrev pub completed : List ℕ → Deciding → Deciding
@@ -113,7 +118,7 @@ waitingAt a b (Deciding.At stage) =
 
 -- ---- ended
 
--- the rank of a cryptogram's type, two bits: AAC (00), then ARQC (10), then TC (01); P1 asks for a type by the same bits
+-- the rank of a cryptogram's type, two bits: AAC (00), then ARQC (10), then TC (01); P1 asks for one by the same bits
 unfoldable pub rankOf : ℕ → ℕ
 rankOf kind =
     if kind =? 1 then 2

@@ -13,6 +13,7 @@ use Rattle.analysis.specs.Choice.{holdsBit}
 use Rattle.analysis.specs.declared.choice.Choice.{Choice}
 use Rattle.record.specs.declared.Asked.{Asked}
 use Rattle.record.specs.declared.End.{End}
+use Rattle.record.specs.declared.Outcome.{Outcome}
 use Rattle.record.specs.declared.Phase.{Phase}
 use Rattle.record.specs.declared.Session.{Session}
 use Rattle.record.specs.Session.{stored}
@@ -55,14 +56,22 @@ pub record Unnamed (b : List ℕ) (stage : Stage) : Type 0 where
   pub none : (i : ℕ) → i < 40 → holdsBit (resultIn b) (pairAt b stage) i ≡ false
   pub choice : choiceIn b ≡ unforcedBy stage
 
--- what is promised of the explanation r of a session
+-- a lower cryptogram: its type ranks below the one that the choice asks for
+abbrev pub Lower : List ℕ → Type 0
+Lower b = rankOf (typeIn b) < rankOf (typeAsked (choiceIn b))
+
+-- the decision on the stored cryptogram, by the choice, is the outcome
+abbrev pub Decides : List ℕ → Outcome → Type 0
+Decides b o = decision (choiceIn b) (typeIn b) ≡ some o
+
+-- what is promised of the explanation r of a session; one that is not refused holds the choice that the rest of the
+-- record gives, or the outcome that its cryptogram gives
 pub record Told (s : Session) (r : Explanation) : Type 0 where
   pub answer : r ≡ explained s
   pub named : (c : Cause) → r ≡ Explanation.Forced c → Named (stored s) c
   pub unnamed : (stage : Stage) → r ≡ Explanation.Unforced stage → Unnamed (stored s) stage
-  -- a lower cryptogram is named only where one came
-  pub lower : r ≡ Explanation.LowerCryptogram → rankOf (typeIn (stored s)) < rankOf (typeAsked (choiceIn (stored s)))
-  -- what is not refused holds the choice that the rest of it gives, or the outcome that its cryptogram gives
-  pub held : (a : Asked) → s .phase ≡ Phase.Cryptogram a → (r ≡ Explanation.Refused → ⊥) → a .choice ≡ choiceIn (stored s)
+  pub lower : r ≡ Explanation.LowerCryptogram → Lower (stored s)
+  pub held : (a : Asked) → s .phase ≡ Phase.Cryptogram a → (r ≡ Explanation.Refused → ⊥)
+      → a .choice ≡ choiceIn (stored s)
   pub decided : (e : End) → s .phase ≡ Phase.Ended e → e .reason ≡ reasonNone → (r ≡ Explanation.Refused → ⊥)
-      → decision (choiceIn (stored s)) (typeIn (stored s)) ≡ some (e .outcome)
+      → Decides (stored s) (e .outcome)
