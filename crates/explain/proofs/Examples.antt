@@ -34,6 +34,13 @@ use Rattle.explain.specs.declared.Explanation.{Explanation}
 use Rattle.explain.specs.Explain.{stageIn, decidingIn, holderOf, pairAt, reasonAt, rankOf, endedIn, explained}
 use Rattle.explain.specs.Word.{noBit, choiceWord, wordOf}
 
+-- ---- numbers
+
+words : map wordOf (Explanation.Refused ∷ Explanation.Reason 6 ∷ Explanation.NoChoice ∷ Explanation.LowerCryptogram ∷ Explanation.Unforced Stage.OnlineOnly ∷ [])
+    ++ (choiceWord Stage.Denial Holder.Terminal 9 ∷ choiceWord Stage.Default Holder.Both 39 ∷ choiceWord Stage.Online Holder.Card 0 ∷ [])
+    ≡ 0x20019 ∷ 0x30006 ∷ 0x40000 ∷ 0x50000 ∷ 0x610FF ∷ 0x60209 ∷ 0x62327 ∷ 0x63100 ∷ []
+words = refl
+
 -- ---- records
 
 abbrev Object : Type 0
