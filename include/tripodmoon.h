@@ -47,6 +47,30 @@ extern "C" {
 #define EMV_IS_NEEDED(word) ((((word) >> 16) & 0xFFu) == 5u)
 #define EMV_LENGTH(word) ((word) & 0xFFFFu)
 
+/* The words of emv_explain beside a refusal, told by the same bits: a reason other than 0, no choice, a cryptogram lower than
+ * the one asked for, and a choice with its stage, its holder and its bit, EMV_EXPLAIN_NO_BIT where none forced it. */
+#define EMV_EXPLAIN_REASONS 0x00030000u
+#define EMV_EXPLAIN_NO_CHOICE 0x00040000u
+#define EMV_EXPLAIN_LOWER_CRYPTOGRAM 0x00050000u
+#define EMV_EXPLAIN_CHOICES 0x00060000u
+#define EMV_EXPLAIN_IS_REASON(word) ((((word) >> 16) & 0xFFu) == 3u)
+#define EMV_EXPLAIN_IS_CHOICE(word) ((((word) >> 16) & 0xFFu) == 6u)
+#define EMV_EXPLAIN_REASON(word) ((word) & 0xFFu)
+#define EMV_EXPLAIN_STAGE(word) (((word) >> 12) & 0xFu)
+#define EMV_EXPLAIN_HOLDER(word) (((word) >> 8) & 0xFu)
+#define EMV_EXPLAIN_BIT(word) ((word) & 0xFFu)
+#define EMV_EXPLAIN_NO_BIT 255u
+
+/* The stages of a choice, and whose code holds a bit. */
+#define EMV_STAGE_DENIAL 0u
+#define EMV_STAGE_ONLINE_ONLY 1u /* the terminal's type, which has no codes */
+#define EMV_STAGE_DEFAULT 2u
+#define EMV_STAGE_ONLINE 3u
+#define EMV_HOLDER_NOBODY 0u
+#define EMV_HOLDER_CARD 1u
+#define EMV_HOLDER_TERMINAL 2u
+#define EMV_HOLDER_BOTH 3u
+
 /* The most bytes that a value has. */
 #define EMV_MOST_VALUE 254u
 
@@ -134,6 +158,13 @@ uint32_t emv_stop(uint8_t *session, size_t session_len, uint8_t *command, size_t
 /* How many commands the session has handed out, 0 to 255; EMV_NO_COUNT where the bytes hold no record.
  * The record's ranges are not tested: a count of a record in its ranges is at most 130. */
 uint32_t emv_count(const uint8_t *session, size_t session_len);
+
+/* Why the session is where it is. Ended with a reason other than 0: EMV_EXPLAIN_REASONS + the reason. Before the cryptogram is asked
+ * for: EMV_EXPLAIN_NO_CHOICE. A cryptogram of lower rank (AAC, ARQC, TC) than asked for: EMV_EXPLAIN_LOWER_CRYPTOGRAM. Else the
+ * choice, EMV_EXPLAIN_CHOICES + stage * 4096 + holder * 256 + bit: the stage that decided, the lowest bit of 95 that forced it, 0
+ * (byte 1 b8) to 39 (byte 5 b1), and whose code holds that bit. Refusal: 25, bytes that hold no record within its ranges, and one
+ * that lacks what the answer needs, or whose choice or outcome the rest of it does not give. */
+uint32_t emv_explain(const uint8_t *session, size_t session_len);
 
 /* Reads an object of the session back by its tag, as 0x9F26: the length of its value, 0 to 254, with the value in
  * front of the lent bytes and the rest as it was. Otherwise all lent bytes stay, and the word is the first of

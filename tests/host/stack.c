@@ -53,6 +53,7 @@ static void call_link_failed(void) { word = emv_link_failed(session, sizeof sess
 static void call_stop(void) { word = emv_stop(session, sizeof session, command, sizeof command); }
 static void call_count(void) { word = emv_count(session, sizeof session); }
 static void call_object(void) { word = emv_object(session, sizeof session, 0x9F26, value, sizeof value); }
+static void call_explain(void) { word = emv_explain(session, sizeof session); }
 static void call_find(void) { word = (uint32_t)emv_find(lent, lent_len, 0x9F7F); }
 static void call_wipe(void) { word = emv_wipe(session, sizeof session); }
 
@@ -97,6 +98,7 @@ int main(void)
     measure("answer, the last record", call_answer, BYTES(RECORD), 11);
     measure("answer, the cryptogram", call_answer, BYTES(CRYPTOGRAM), (EMV_METHOD_SIGNATURE << 24) + EMV_OUTCOMES + EMV_ONLINE_REQUEST * 256u);
     measure("object", call_object, BYTES(""), 8);
+    measure("explain", call_explain, BYTES(""), EMV_EXPLAIN_CHOICES + EMV_STAGE_ONLINE * 4096u + EMV_HOLDER_CARD * 256u);
     measure("answer, refused", call_answer, BYTES(CRYPTOGRAM), EMV_REFUSALS + EMV_REFUSED_PHASE);
     measure("open", call_open, BYTES(""), 0);
     measure("start", call_start, BYTES(TERMINAL), 8);

@@ -1,5 +1,5 @@
-/* Runs the C calls: whole purchases with every command byte, each refusal, objects read back and found, and that lent bytes
- * stay.
+/* Runs the C calls: whole purchases with every command byte, each refusal, objects read back and found, explanations, and that
+ * lent bytes stay.
  * Prints `ok`, or the first line that fails. */
 #include <stdio.h>
 #include <stdlib.h>
@@ -344,6 +344,174 @@ static void objects(void)
     CHECK(object_in(0x9F26, sizeof value) == REFUSED(EMV_REFUSED_RANGES));
 }
 
+/* ---- explaining */
+
+#define CHOSE(stage, holder, bit) (EMV_EXPLAIN_CHOICES + (stage) * 4096u + (holder) * 256u + (bit))
+#define UNFORCED(stage) CHOSE(stage, EMV_HOLDER_NOBODY, EMV_EXPLAIN_NO_BIT)
+#define REASONED(reason) (EMV_EXPLAIN_REASONS + (reason))
+#define ZEROS "\x00\x00\x00\x00\x00"
+
+/* Where the length byte of a tag stands whose value has n bytes: the one place of an ended record at which n + 1 makes it there. */
+static size_t place_of(uint32_t tag, size_t n)
+{
+    static uint8_t scratch[EMV_SESSION_SIZE];
+    size_t at;
+    CHECK(emv_open(scratch, sizeof scratch) == 0);
+    scratch[1] = 4;
+    scratch[2] = EMV_ENDED;
+    scratch[3] = EMV_REASON_LINK;
+    for (at = 4; at < sizeof scratch; at++) {
+        uint8_t was = scratch[at];
+        scratch[at] = (uint8_t)(n + 1);
+        if (emv_object(scratch, sizeof scratch, tag, value, sizeof value) == n)
+            return at;
+        scratch[at] = was;
+    }
+    CHECK(!"a tag of the dictionary");
+    return 0;
+}
+
+static void put(uint32_t tag, const uint8_t *bytes, size_t n)
+{
+    size_t at = place_of(tag, n);
+    session[at] = (uint8_t)(n + 1);
+    memcpy(session + at + 1, bytes, n);
+}
+
+static void take_out(uint32_t tag, size_t n)
+{
+    session[place_of(tag, n)] = 0;
+}
+
+/* The session is only looked at. */
+static uint32_t explained(void)
+{
+    uint32_t word;
+    remember();
+    word = emv_explain(session, sizeof session);
+    CHECK(all_stays());
+    return word;
+}
+
+/* Waiting on the cryptogram behind two records, with no action code of the card: as the calls leave it, but with this P1, type and 95. */
+static void wait_with(uint8_t p1, uint8_t type, const uint8_t *results, size_t n)
+{
+    reopen();
+    terminal[TYPE_AT] = 0x22;
+    (void)start(terminal, sizeof terminal);
+    (void)answer(BYTES("\x80\x06\x00\x80\x08\x01\x02\x00\x90\x00"));
+    (void)answer(BYTES("\x70\x00\x90\x00"));
+    CHECK(commands(answer(BYTES(RECORD_ONLINE)), BYTES("\x80\xAE\x80\x00\x05\x80\x00\x00\x00\x00\x00")) && count() == 4);
+    session[2] = p1;
+    put(0x9F35, &type, 1);
+    put(0x95, results, n);
+}
+
+static void explain_waiting(void)
+{
+    wait_with(0x80, 0x22, BYTES("\x80\x00\x00\x00\x00"));
+    CHECK(explained() == CHOSE(EMV_STAGE_ONLINE, EMV_HOLDER_CARD, 0u) && explained() == 0x00063100u);
+    session[2] = 0x40; /* the other choice than the one that an absent code, all ones, gives */
+    CHECK(explained() == REFUSED(EMV_REFUSED_RANGES));
+    put(0x9F0F, BYTES(ZEROS));
+    CHECK(explained() == UNFORCED(EMV_STAGE_ONLINE));
+    wait_with(0x80, 0x22, BYTES("\x80\x40\x00\x00\x00"));
+    put(0x9F0F, BYTES(ZEROS));
+    put(0xDF8122, BYTES("\x00\x40\x00\x00\x00"));
+    CHECK(explained() == CHOSE(EMV_STAGE_ONLINE, EMV_HOLDER_TERMINAL, 9u));
+    wait_with(0x00, 0x22, BYTES("\x80\x40\x00\x80\x00"));
+    put(0x9F0E, BYTES("\x00\x00\x00\x80\x00"));
+    put(0xDF8121, BYTES("\x00\x40\x00\x80\x00"));
+    CHECK(explained() == CHOSE(EMV_STAGE_DENIAL, EMV_HOLDER_TERMINAL, 9u));
+    put(0x95, BYTES("\x80\x00\x00\x80\x00"));
+    CHECK(explained() == CHOSE(EMV_STAGE_DENIAL, EMV_HOLDER_BOTH, 24u));
+    put(0x9F35, BYTES("\x21")); /* denial comes before the type */
+    CHECK(explained() == CHOSE(EMV_STAGE_DENIAL, EMV_HOLDER_BOTH, 24u));
+    wait_with(0x80, 0x21, BYTES("\x80\x00\x00\x00\x00"));
+    CHECK(explained() == UNFORCED(EMV_STAGE_ONLINE_ONLY) && explained() == 0x000610FFu);
+    wait_with(0x00, 0x23, BYTES("\x80\x00\x00\x00\x00"));
+    CHECK(explained() == CHOSE(EMV_STAGE_DEFAULT, EMV_HOLDER_CARD, 0u));
+    wait_with(0x00, 0x26, BYTES("\x80\x00\x00\x00\x01"));
+    put(0x9F0D, BYTES("\x00\x00\x00\x00\x01"));
+    put(0xDF8120, BYTES("\x00\x00\x00\x00\x01"));
+    CHECK(explained() == CHOSE(EMV_STAGE_DEFAULT, EMV_HOLDER_BOTH, 39u));
+    wait_with(0x40, 0x36, BYTES("\x80\x00\x00\x00\x00"));
+    put(0x9F0D, BYTES("\x7F\xFF\xFF\xFF\xFF"));
+    CHECK(explained() == UNFORCED(EMV_STAGE_DEFAULT));
+}
+
+/* The same record, ended with an outcome and reason 0, with counter, cryptogram and this 9F27. */
+static void end_with(uint8_t outcome, uint8_t information)
+{
+    wait_with(0x80, 0x22, BYTES("\x80\x00\x00\x00\x00"));
+    session[1] = 4;
+    session[2] = outcome;
+    put(0x9F36, BYTES("\x00\x01"));
+    put(0x9F26, BYTES("\x01\x02\x03\x04\x05\x06\x07\x08"));
+    put(0x9F27, &information, 1);
+}
+
+static void explain_ended(void)
+{
+    end_with(EMV_ONLINE_REQUEST, 0x80);
+    CHECK(explained() == CHOSE(EMV_STAGE_ONLINE, EMV_HOLDER_CARD, 0u));
+    put(0x9F0F, BYTES(ZEROS));
+    CHECK(explained() == EMV_EXPLAIN_LOWER_CRYPTOGRAM);
+    end_with(EMV_DECLINED, 0x00);
+    CHECK(explained() == EMV_EXPLAIN_LOWER_CRYPTOGRAM);
+    end_with(EMV_APPROVED, 0x40);
+    CHECK(explained() == REFUSED(EMV_REFUSED_RANGES));
+    put(0x9F0F, BYTES(ZEROS));
+    CHECK(explained() == UNFORCED(EMV_STAGE_ONLINE));
+    end_with(EMV_DECLINED, 0x80);
+    CHECK(explained() == REFUSED(EMV_REFUSED_RANGES));
+    end_with(EMV_ONLINE_REQUEST, 0x80);
+    take_out(0x9F27, 1);
+    CHECK(explained() == REFUSED(EMV_REFUSED_RANGES));
+    end_with(EMV_ONLINE_REQUEST, 0x80);
+    take_out(0xDF8122, 5);
+    CHECK(explained() == REFUSED(EMV_REFUSED_RANGES));
+    end_with(EMV_ONLINE_REQUEST, 0x80);
+    take_out(0x95, 5);
+    CHECK(explained() == REFUSED(EMV_REFUSED_RANGES));
+    end_with(EMV_ONLINE_REQUEST, 0x80); /* what no stage consulted needs may be absent */
+    take_out(0xDF8120, 5);
+    CHECK(explained() == CHOSE(EMV_STAGE_ONLINE, EMV_HOLDER_CARD, 0u));
+}
+
+/* As calls leave them, and bytes that hold no record. */
+static void explain_others(void)
+{
+    size_t n;
+    reopen();
+    CHECK(explained() == EMV_EXPLAIN_NO_CHOICE);
+    begin(0x22);
+    CHECK(explained() == EMV_EXPLAIN_NO_CHOICE);
+    CHECK(link_failed() == ENDED_EARLY(EMV_REASON_LINK) && explained() == REASONED(EMV_REASON_LINK));
+    CHECK(EMV_EXPLAIN_IS_REASON(explained()) && EMV_EXPLAIN_REASON(explained()) == EMV_REASON_LINK);
+    session[3] = EMV_REASON_ABOVE_LIMIT; /* which goes with select next alone */
+    CHECK(explained() == REFUSED(EMV_REFUSED_RANGES));
+    session[2] = EMV_SELECT_NEXT;
+    CHECK(explained() == REASONED(EMV_REASON_ABOVE_LIMIT));
+    begin(0x22);
+    (void)answer(BYTES(RECORD_ONLINE));
+    CHECK(EMV_EXPLAIN_IS_CHOICE(explained()) && EMV_EXPLAIN_STAGE(explained()) == EMV_STAGE_ONLINE);
+    CHECK(EMV_EXPLAIN_HOLDER(explained()) == EMV_HOLDER_CARD && EMV_EXPLAIN_BIT(explained()) == 0u);
+    (void)answer(BYTES(CRYPTOGRAM("\x40")));
+    CHECK(explained() == REASONED(EMV_REASON_CRYPTOGRAM));
+
+    begin(0x22); /* the last answer brings a denial code that was absent, so the final store does not give the outcome */
+    (void)answer(BYTES(RECORD_OFFLINE));
+    CHECK(answer(BYTES("\x77\x1E\x9F\x27\x01\x40\x9F\x36\x02\x00\x01\x9F\x26\x08\x01\x02\x03\x04\x05\x06\x07\x08\x70\x08\x9F\x0E\x05"
+                       "\x80\x00\x00\x00\x00\x90\x00")) == OUTCOME_OF(EMV_METHOD_NO_CVM, EMV_APPROVED, EMV_REASON_NONE));
+    CHECK(explained() == REFUSED(EMV_REFUSED_RANGES));
+
+    for (n = 0; n < EMV_SESSION_SIZE; n++)
+        CHECK(emv_explain(session, n) == REFUSED(EMV_REFUSED_RANGES));
+    session[0] = 0; /* no version */
+    CHECK(explained() == REFUSED(EMV_REFUSED_RANGES));
+}
+
 static void wiping(void)
 {
     size_t i, n;
@@ -402,6 +570,9 @@ int main(void)
     refusals();
     lent_bytes();
     objects();
+    explain_waiting();
+    explain_ended();
+    explain_others();
     wiping();
     finding();
     printf("ok\n");

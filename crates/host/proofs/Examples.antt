@@ -1,12 +1,16 @@
--- The words of an object read back and of the version, computed: a wrong number is refused even where definition and code agree on it.
+-- The words of an object read back, of an explanation and of the version, computed: a wrong number is refused even where definition and code agree on it.
 -- Assumes nothing.
 use mathlib.Core.Path.{_≡_, refl}
 use mathlib.Core.List.{List, [], _∷_}
-use mathlib.Core.Option.{none}
+use mathlib.Core.Option.{some, none}
 use Prim.Native.Nat.{ℕ}
 use Rattle.basics.specs.Choice.{if}
 use Rattle.dictionary.specs.Rows.{rows, past, find}
 use Rattle.store.specs.Place.{offsetIn, placeAt, held, valueAt, valueIn}
+use Rattle.record.specs.Session.{freshSession}
+use Rattle.record.proofs.Phases.{fresh-keeps}
+use Rattle.explain.specs.Explain.{explained}
+use Rattle.host.specs.Explain.{explainWord}
 use Rattle.host.specs.Object.{says, objectIn, objectOf}
 use Rattle.host.specs.Version.{versionWord}
 
@@ -35,6 +39,14 @@ value = refl
 empty : objectIn (1 ∷ 0xA1 ∷ []) 0x57 [] ≡ record { word = 0; lent = [] }
 unfolding objectIn if rows find past valueIn valueAt placeAt held offsetIn
 empty = refl
+
+-- bytes that hold no record are not explained, and a fresh session has no choice
+unexplained : explainWord none ≡ 0x20019
+unexplained = refl
+
+fresh : explainWord (some freshSession) ≡ 0x40000
+unfolding explained if
+fresh = rw fresh-keeps
 
 -- 0.1.0, and version 2 of the layout
 version : versionWord ≡ 0x00010002

@@ -86,25 +86,25 @@ module _ (b : List ℕ) (t : ℕ) (l : List ℕ) where
 
 -- ---- an object of the session that bytes hold
 
+-- the session of a record's head and the store behind it
+pub session-is : (s : List ℕ) (h : Head) → heldOf (decoded s) ≡ Held.Record h → decoded s ≡ some (sessionOf (h .phase) (h .count) (take storeSize (drop headSize s)))
+session-is s h e = was-record (decoded s) h [] _ e (sym (ap (λ (x : Option Session). storeOf x []) (held-some s h e .1)))
+
 module _ (t : ℕ) (l : List ℕ) where
   pub object-no-record : (x : Option Session) → heldOf x ≡ Held.Nothing → (w : ℕ) → w ≡ refusalWord refusedRanges → DidCopy w l (objectOf x t l)
   unfolding objectOf
   object-no-record x e w f = subst⁻¹ (λ (y : Option Session). DidCopy w l (objectOf y t l)) (held-none x e) (record { word = f; lent = refl })
 
   module _ (s : List ℕ) (h : Head) (e : heldOf (decoded s) ≡ Held.Record h) where
-    -- the session of a record's head and the store behind it
-    held-is : decoded s ≡ some (sessionOf (h .phase) (h .count) (take storeSize (drop headSize s)))
-    held-is = was-record (decoded s) h [] _ e (sym (ap (λ (x : Option Session). storeOf x []) (held-some s h e .1)))
-
     pub object-ranges : inRanges (sessionOf (h .phase) (h .count) (take storeSize (drop headSize s))) ≡ false
         → (w : ℕ) → w ≡ refusalWord refusedRanges → DidCopy w l (objectOf (decoded s) t l)
     unfolding objectOf
-    object-ranges f w g = subst⁻¹ (DidCopy w l) (ap (λ (x : Option Session). objectOf x t l) held-is ∙ if-no _ _ f) (record { word = g; lent = refl })
+    object-ranges f w g = subst⁻¹ (DidCopy w l) (ap (λ (x : Option Session). objectOf x t l) (session-is s h e) ∙ if-no _ _ f) (record { word = g; lent = refl })
 
     pub object-session : inRanges (sessionOf (h .phase) (h .count) (take storeSize (drop headSize s))) ≡ true
         → (w : ℕ) (m : List ℕ) → DidCopy w m (objectIn (take storeSize (drop headSize s)) t l) → DidCopy w m (objectOf (decoded s) t l)
     unfolding objectOf
-    object-session f w m d = subst⁻¹ (DidCopy w m) (ap (λ (x : Option Session). objectOf x t l) held-is ∙ if-yes _ _ f) d
+    object-session f w m d = subst⁻¹ (DidCopy w m) (ap (λ (x : Option Session). objectOf x t l) (session-is s h e) ∙ if-yes _ _ f) d
 
 -- ---- what a word tells
 

@@ -4,8 +4,8 @@
 // the store in its place, and nothing is kept between calls. A call gives one word: a command's length, an outcome with its reason, or a
 // refusal, which leaves all lent bytes as they were. docs/HOST.md has the layout and the words.
 //
-// Beside these `emv_object` reads an object of the session back, `emv_find` finds one in other bytes of the card, and
-// `emv_wipe` forgets.
+// Beside these `emv_explain` tells why, `emv_object` reads an object of the session back, `emv_find` finds one in other
+// bytes of the card, and `emv_wipe` forgets.
 use dictionary::Found;
 use layout::{Head, Held, HEAD, RECORD_SIZE};
 use record::{Phase, Turn};
@@ -18,6 +18,7 @@ ghost use Rattle.find.specs.Word.{findWord};
 ghost use Rattle.session.specs.Steps.{linkStep, stopStep};
 ghost use Rattle.host.specs.Hosted.{DidOver, Opened, hosted, startOver, answerOver, countWord};
 ghost use Rattle.host.specs.Inner.{admissionOf};
+ghost use Rattle.host.specs.Explain.{explainWord};
 ghost use Rattle.host.specs.Object.{DidCopy, objectIn, objectOf};
 ghost use Rattle.host.specs.Wipe.{Wiped};
 ghost use Rattle.host.specs.Version.{versionWord};
@@ -140,6 +141,19 @@ pub extern "C" fn emv_count(session: &[u8]) -> u32
         return NO_COUNT;
     };
     basics::wide32(head.count)
+}
+
+// Why the session is where it is: the stage that decided, the lowest bit that forced its choice and who holds it.
+#[no_mangle]
+pub extern "C" fn emv_explain(session: &[u8]) -> u32
+    ensures { λ r. ⌜ r ≡ explainWord (decoded (now (session .entry))) ⌝ }
+{
+    let held = layout::head_in(session);
+    let Held::Record(head) = held else {
+        return layout::refusal_word(basics::REFUSED_RANGES);
+    };
+    let phase = head.phase;
+    explain::word(explain::explain_in(phase, head.count, &session[HEAD..RECORD_SIZE]))
 }
 
 // Reads an object of the session back: its length, with the value in front of the lent bytes, or a word that says

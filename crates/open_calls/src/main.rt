@@ -21,6 +21,7 @@ fn main() {
 fn statements() {
     line(b"bench::rows", bench::rows());
     line(b"trace::most_commands", trace::most_commands());
+    word(b"explain_calls::refusal_word", explain_calls::refusal_word());
     let rows = dictionary::used_rows();
     line(b"dictionary::used_rows, the last", rows[35]);
 }
@@ -65,6 +66,7 @@ fn calls() {
     word(b"emv_link_failed", link_failed(&mut session, &mut command));
     word(b"emv_stop", stop(&mut session, &mut command));
     word(b"emv_count", count(&session));
+    word(b"emv_explain", explain(&session));
     let mut value = [0u8; 254];
     word(b"emv_object", object(&session, 0x9F02, &mut value));
     word(b"emv_wipe", wipe(&mut session));
@@ -97,6 +99,10 @@ fn stop(session: &mut [u8], command: &mut [u8]) -> u32 {
 
 fn count(session: &[u8]) -> u32 {
     host::emv_count(session)
+}
+
+fn explain(session: &[u8]) -> u32 {
+    host::emv_explain(session)
 }
 
 fn object(session: &[u8], tag: u32, value: &mut [u8]) -> u32 {

@@ -1,11 +1,12 @@
 // Plays a text file of calls on a fresh session: the file named by the argument, or standard input where
 // there is none. Each call's reply is a line, with lines below it that say more; behind the last stand the objects
-// that the session holds. A line that is wrong is reported by its number, and nothing behind it is played.
+// that the session holds, and one line that says why it is where it is. A line that is wrong is reported by its number, and nothing behind it is played.
 //
 // The file is read in parts of 4,096 bytes. What a line means is the library `line`'s matter. What is wrong goes to
 // standard error. With --journal the session's journal goes to a file. With --tell the exit status that is due goes to
 // descriptor 3: 0 where all was played, 2 where a journal could not be written, else 1.
 mod arguments;
+mod explained;
 mod recorded;
 mod why;
 
@@ -420,7 +421,7 @@ fn renewed(state: Progress) -> Progress {
     out
 }
 
-// Shows the objects held, unless a line was wrong, and plays no more.
+// Shows the objects held and why, unless a line was wrong, and plays no more.
 fn finish(state: Progress) -> Progress {
     if state.going {
         holding(state);
@@ -435,6 +436,7 @@ fn holding(state: Progress) {
     let view = state.view;
     show::text(b"objects held:\n");
     show::held(&bytes, view.bits);
+    explained::line(session);
 }
 
 // ---- what is wrong

@@ -389,7 +389,7 @@ fn decide(asked: Asked, count: u8, bytes: &[u8]) -> Turn
 }
 
 // What a type of cryptogram decides, by what was asked for.
-fn decision_for(choice: Choice, kind: u8) -> Decided
+pub fn decision_for(choice: Choice, kind: u8) -> Decided
     ensures { λ r. ⌜ decidedEnd r ≡ endFor (decision choice kind) ⌝ }
 {
     if kind == 0 {

@@ -85,7 +85,12 @@ fn profile_2(bit: usize) {
     }
 }
 
-// Terminal Verification Results.
+// The name of a bit of the Terminal Verification Results, by its number: 0 is byte 1 b8, 39 is byte 5 b1.
+pub fn result_name(bit: usize) {
+    result(bit / 8 + 1, 8 - bit % 8);
+}
+
+// Terminal Verification Results, by the Book's names.
 fn result(byte: usize, bit: usize) {
     match byte {
         1 => result_1(bit),
@@ -99,10 +104,10 @@ fn result(byte: usize, bit: usize) {
 
 fn result_1(bit: usize) {
     match bit {
-        8 => text(b"offline data authentication not performed"),
+        8 => text(b"offline data authentication was not performed"),
         7 => text(b"SDA failed"),
         6 => text(b"ICC data missing"),
-        5 => text(b"card on the terminal exception file"),
+        5 => text(b"card appears on terminal exception file"),
         4 => text(b"DDA failed"),
         3 => text(b"CDA failed"),
         _ => text(b"RFU"),
@@ -111,10 +116,10 @@ fn result_1(bit: usize) {
 
 fn result_2(bit: usize) {
     match bit {
-        8 => text(b"different application versions in card and terminal"),
-        7 => text(b"application expired"),
+        8 => text(b"ICC and terminal have different application versions"),
+        7 => text(b"expired application"),
         6 => text(b"application not yet effective"),
-        5 => text(b"service not allowed for the card product"),
+        5 => text(b"requested service not allowed for card product"),
         4 => text(b"new card"),
         _ => text(b"RFU"),
     }
@@ -122,11 +127,11 @@ fn result_2(bit: usize) {
 
 fn result_3(bit: usize) {
     match bit {
-        8 => text(b"cardholder verification not successful"),
+        8 => text(b"cardholder verification was not successful"),
         7 => text(b"unrecognised CVM"),
-        6 => text(b"PIN try limit exceeded"),
-        5 => text(b"PIN required and no working PIN pad"),
-        4 => text(b"PIN required and not entered on the PIN pad"),
+        6 => text(b"PIN Try Limit exceeded"),
+        5 => text(b"PIN entry required and PIN pad not present or not working"),
+        4 => text(b"PIN entry required, PIN pad present, but PIN was not entered"),
         3 => text(b"online PIN entered"),
         _ => text(b"RFU"),
     }
@@ -134,11 +139,11 @@ fn result_3(bit: usize) {
 
 fn result_4(bit: usize) {
     match bit {
-        8 => text(b"floor limit exceeded"),
+        8 => text(b"transaction exceeds floor limit"),
         7 => text(b"lower consecutive offline limit exceeded"),
         6 => text(b"upper consecutive offline limit exceeded"),
-        5 => text(b"selected at random for online processing"),
-        4 => text(b"forced online by the merchant"),
+        5 => text(b"transaction selected randomly for online processing"),
+        4 => text(b"merchant forced transaction online"),
         _ => text(b"RFU"),
     }
 }
@@ -147,8 +152,8 @@ fn result_5(bit: usize) {
     match bit {
         8 => text(b"default TDOL used"),
         7 => text(b"issuer authentication failed"),
-        6 => text(b"script processing failed before the final GENERATE AC"),
-        5 => text(b"script processing failed after the final GENERATE AC"),
+        6 => text(b"script processing failed before final GENERATE AC"),
+        5 => text(b"script processing failed after final GENERATE AC"),
         4 => text(b"relay resistance threshold exceeded"),
         3 => text(b"relay resistance time limits exceeded"),
         2 => text(b"relay resistance protocol performed"),

@@ -193,7 +193,8 @@ fn outcome_words(outcome: Outcome) {
     }
 }
 
-fn reason_words(reason: u8) {
+// A reason in words.
+pub fn reason_words(reason: u8) {
     match reason {
         0 => text(b"none"),
         1 => text(b"status of the card is not 90 00"),

@@ -156,7 +156,7 @@ module _ (m : Made) (tk : List Made) where
 
 -- ---- the last call taken, or what the session was before
 
-abbrev by : Bool → (Made → Bool) → Option Made → Bool
+abbrev pub by : Bool → (Made → Bool) → Option Made → Bool
 by d g none = d
 by d g (some m) = g m
 
@@ -165,7 +165,7 @@ unfolding lastOf
 by-last d e g m [] = refl
 by-last d e g m (x ∷ tk) = by-last d e g x tk
 
-by-front : (d e : Bool) (g : Made → Bool) (m : Made) (tk : List Made) → e ≡ g m → by e g (lastOf tk) ≡ by d g (lastOf (m ∷ tk))
+pub by-front : (d e : Bool) (g : Made → Bool) (m : Made) (tk : List Made) → e ≡ g m → by e g (lastOf tk) ≡ by d g (lastOf (m ∷ tk))
 unfolding lastOf
 by-front d e g m [] q = q
 by-front d e g m (x ∷ tk) q = by-last e d g x tk
@@ -401,7 +401,7 @@ call-goes s (answer card buf) = answer-goes s card buf
 call-goes s (link-failed buf) = broken-goes s (link-failed buf) reasonLink buf
 call-goes s (stop buf) = broken-goes s (stop buf) reasonStopped buf
 
-call-keeps : (s : Session) (c : Call) → inRanges s ≡ true → inRanges (step s c .reply .session) ≡ true
+pub call-keeps : (s : Session) (c : Call) → inRanges s ≡ true → inRanges (step s c .reply .session) ≡ true
 call-keeps s (start bytes buf) i = start-keeps s bytes buf i
 call-keeps s (answer card buf) i = answer-keeps s card buf i
 call-keeps s (link-failed buf) i = link-keeps s buf i

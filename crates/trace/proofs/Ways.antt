@@ -84,7 +84,7 @@ reading-ind P o going failed f g = if-ind P _ _ _ (λ e. g (eqb-true (o .reason)
 few-reasons : (a : Awaited) (b s : List ℕ) → reading.readAnswer a b s .reason ≤ 3
 few-reasons a b s = read-ind (λ (o : reading.Outcome). o .reason ≤ 3) b (λ r n h. h) (λ n c. omega arith) a s
 
-unread-reason : (a : Awaited) (b s : List ℕ) → (reading.readAnswer a b s .reason ≡ 0 → ⊥) → Reason (reading.readAnswer a b s .reason)
+pub unread-reason : (a : Awaited) (b s : List ℕ) → (reading.readAnswer a b s .reason ≡ 0 → ⊥) → Reason (reading.readAnswer a b s .reason)
 unread-reason a b s z = let f = few-reasons a b s in reason _ (omega arith) (omega arith)
 
 not-list : (a : Awaited) (b s : List ℕ) → reading.readAnswer a b s .reason ≡ reasonDataList → ⊥

@@ -112,7 +112,7 @@ fn line_in_numbers(line: &str) -> Option<String> {
         let (_, behind) = line.split_once(&format!("{word} "))?;
         behind.split([' ', ',']).next()
     };
-    if line == "objects held:" || line == "session: fresh" {
+    if line == "objects held:" || line == "session: fresh" || line.starts_with("explanation: ") {
         return None;
     }
     let Some(count) = number(", count") else {

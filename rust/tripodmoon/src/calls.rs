@@ -35,6 +35,7 @@ extern "C" {
     ) -> u32;
     fn emv_stop(session: *mut u8, session_len: usize, command: *mut u8, command_len: usize) -> u32;
     fn emv_count(session: *const u8, session_len: usize) -> u32;
+    fn emv_explain(session: *const u8, session_len: usize) -> u32;
     fn emv_object(
         session: *const u8,
         session_len: usize,
@@ -119,6 +120,12 @@ pub fn stop(session: &mut [u8], command: &mut [u8]) -> u32 {
 pub fn count(session: &[u8]) -> u32 {
     // SAFETY: pointer and length are those of one slice, which the call only reads.
     unsafe { emv_count(session.as_ptr(), session.len()) }
+}
+
+/// Why the session is where it is.
+pub fn explain(session: &[u8]) -> u32 {
+    // SAFETY: pointer and length are those of one slice, which the call only reads.
+    unsafe { emv_explain(session.as_ptr(), session.len()) }
 }
 
 /// Reads an object back: the length of its value, which stands in front of the lent bytes then, or a

@@ -21,8 +21,8 @@
 //! keep a session across power loss. Bytes that hold no record, or one outside its ranges, are
 //! refused with number 25 at the next call.
 //!
-//! After an online request [`Session::object`] reads back what is sent to the acquirer;
-//! [`Session::wipe`] forgets the session. [`find`] looks through other bytes of the card, as the
+//! [`Session::explain`] tells the cashier why. After an online request [`Session::object`] reads back
+//! what is sent to the acquirer; [`Session::wipe`] forgets the session. [`find`] looks through other bytes of the card, as the
 //! answer to SELECT:
 //!
 //! ```
@@ -170,6 +170,80 @@ pub enum Object<'b> {
     /// Its value has so many bytes, and fewer were lent.
     Needed(usize),
     /// The call was refused with 25: the bytes hold no record within its ranges.
+    Refused(u8),
+}
+
+/// The stage that decided a choice.
+#[derive(Clone, Copy, Debug, PartialEq, Eq)]
+pub enum Stage {
+    /// The denial codes, 9F0E and DF8121.
+    Denial,
+    /// The type of a terminal that is online only; it has no codes.
+    OnlineOnly,
+    /// The default codes, 9F0D and DF8120.
+    Default,
+    /// The online codes, 9F0F and DF8122.
+    Online,
+}
+
+impl Stage {
+    /// The stage of its number in a result word.
+    fn of_number(number: u8) -> Option<Stage> {
+        Some(match number {
+            0 => Stage::Denial,
+            1 => Stage::OnlineOnly,
+            2 => Stage::Default,
+            3 => Stage::Online,
+            _ => return None,
+        })
+    }
+}
+
+/// Whose action code holds a bit.
+#[derive(Clone, Copy, Debug, PartialEq, Eq)]
+pub enum Holder {
+    /// The card's code alone; an absent one counts as document 01 says.
+    Card,
+    /// The terminal's code alone.
+    Terminal,
+    /// Both codes.
+    Both,
+}
+
+impl Holder {
+    /// The holder of its number in a result word.
+    fn of_number(number: u8) -> Option<Holder> {
+        Some(match number {
+            1 => Holder::Card,
+            2 => Holder::Terminal,
+            3 => Holder::Both,
+            _ => return None,
+        })
+    }
+}
+
+/// Why a session is where it is.
+#[derive(Clone, Copy, Debug, PartialEq, Eq)]
+pub enum Explanation {
+    /// A bit of 95 forced the choice.
+    Forced {
+        /// The stage that decided.
+        stage: Stage,
+        /// The lowest bit that is set and held there: 0 is byte 1 b8, 39 is byte 5 b1.
+        bit: u8,
+        /// Whose code holds it.
+        holder: Holder,
+    },
+    /// No bit forced the choice; this stage was consulted last.
+    Unforced(Stage),
+    /// The card gave a lower cryptogram than the one asked for.
+    LowerCryptogram,
+    /// No choice was made yet.
+    NoChoice,
+    /// The session ended with a reason other than 0 (see [`reason_text`]).
+    Reason(u8),
+    /// The call was refused with 25: the bytes hold no record within its ranges, or one that lacks what
+    /// the answer needs, or whose choice or outcome the rest of it does not give.
     Refused(u8),
 }
 
@@ -326,6 +400,37 @@ impl Session {
             3 => Object::Absent,
             4 => Object::Unknown,
             5 => Object::Needed(length),
+            _ => panic!("libhost.a gave an unknown result word"),
+        }
+    }
+
+    /// Why the session is where it is: the stage that decided its choice, the lowest bit that forced it and
+    /// whose code holds that bit.
+    ///
+    /// ```
+    /// use tripodmoon::{Explanation, Session};
+    ///
+    /// assert_eq!(Session::new().explain(), Explanation::NoChoice);
+    /// ```
+    pub fn explain(&self) -> Explanation {
+        let word = calls::explain(&self.bytes);
+        let [_, kind, high, low] = word.to_be_bytes();
+        match kind {
+            2 => Explanation::Refused(low),
+            3 => Explanation::Reason(low),
+            4 => Explanation::NoChoice,
+            5 => Explanation::LowerCryptogram,
+            6 => {
+                let stage = Stage::of_number(high / 16).expect("libhost.a gave an unknown stage");
+                match low {
+                    255 => Explanation::Unforced(stage),
+                    bit => Explanation::Forced {
+                        stage,
+                        bit,
+                        holder: Holder::of_number(high % 16).expect("libhost.a gave an unknown holder"),
+                    },
+                }
+            }
             _ => panic!("libhost.a gave an unknown result word"),
         }
     }

@@ -1,8 +1,8 @@
 //! The wrapper's types over the linked library.
 
 use tripodmoon::{
-    calls, find, version, Found, Method, Object, Outcome, Reply, Session, Version, COMMAND_SIZE,
-    MOST_VALUE, SESSION_SIZE,
+    calls, find, version, Explanation, Found, Holder, Method, Object, Outcome, Reply, Session, Stage,
+    Version, COMMAND_SIZE, MOST_VALUE, SESSION_SIZE,
 };
 
 /// The objects that a start must bring.
@@ -241,4 +241,70 @@ fn version_of_the_layout() {
         layout: 2,
     };
     assert_eq!(version, expected);
+}
+
+/// A session on GENERATE AC at a terminal of this type with these denial and online codes, of a card with
+/// more objects behind expiry date, PAN and CDOL1.
+fn on_choice(kind: u8, denial: u8, online: u8, more: &[u8]) -> Session {
+    let mut terminal = TERMINAL;
+    for (tag, value) in [
+        (&[0x9F, 0x35, 0x01][..], kind),
+        (&[0xDF, 0x81, 0x21, 0x05], denial),
+        (&[0xDF, 0x81, 0x22, 0x05], online),
+    ] {
+        let at = terminal.windows(tag.len()).position(|part| part == tag);
+        terminal[at.unwrap() + tag.len()] = value;
+    }
+    let mut session = Session::new();
+    let mut buffer = [0; COMMAND_SIZE];
+    session.start(&terminal, &mut buffer);
+    let options = [0x80, 0x06, 0x00, 0x80, 0x08, 0x01, 0x01, 0x00, 0x90, 0x00];
+    session.answer(&options, &mut buffer);
+    let mut record = vec![0x70, 0x0E + more.len() as u8];
+    record.extend([0x5F, 0x24, 0x03, 0x30, 0x12, 0x31, 0x5A, 0x02, 0x12, 0x34]);
+    record.extend([0x8C, 0x02, 0x95, 0x05]);
+    record.extend(more);
+    record.extend([0x90, 0x00]);
+    assert!(matches!(
+        session.answer(&record, &mut buffer),
+        Reply::Command([0x80, 0xAE, ..])
+    ));
+    session
+}
+
+#[test]
+fn explanations() {
+    let online_code = [0x9F, 0x0F, 0x05, 0, 0, 0, 0, 0];
+    let denial_code = [0x9F, 0x0E, 0x05, 0x80, 0, 0, 0, 0];
+    let forced = |stage, holder| Explanation::Forced {
+        stage,
+        bit: 0,
+        holder,
+    };
+    for (session, explanation) in [
+        (on_choice(0x22, 0, 0, &[]), forced(Stage::Online, Holder::Card)),
+        (on_choice(0x22, 0, 0x80, &[]), forced(Stage::Online, Holder::Both)),
+        (on_choice(0x22, 0, 0x80, &online_code), forced(Stage::Online, Holder::Terminal)),
+        (on_choice(0x22, 0, 0, &online_code), Explanation::Unforced(Stage::Online)),
+        (on_choice(0x21, 0, 0, &[]), Explanation::Unforced(Stage::OnlineOnly)),
+        (on_choice(0x23, 0, 0, &[]), forced(Stage::Default, Holder::Card)),
+        (on_choice(0x21, 0, 0, &denial_code), forced(Stage::Denial, Holder::Card)),
+        (on_choice(0x22, 0x80, 0, &denial_code), forced(Stage::Denial, Holder::Both)),
+    ] {
+        assert_eq!(session.explain(), explanation);
+    }
+
+    let mut buffer = [0; COMMAND_SIZE];
+    let mut session = on_choice(0x22, 0, 0, &online_code);
+    let cryptogram = [
+        0x80, 0x0B, 0x80, 0x00, 0x01, 1, 2, 3, 4, 5, 6, 7, 8, 0x90, 0x00,
+    ];
+    session.answer(&cryptogram, &mut buffer);
+    assert_eq!(session.explain(), Explanation::LowerCryptogram);
+    let mut session = on_choice(0x22, 0, 0, &[]);
+    session.stop(&mut buffer);
+    assert_eq!(session.explain(), Explanation::Reason(10));
+    session.wipe();
+    assert_eq!(session.explain(), Explanation::Refused(25));
+    assert_eq!(calls::explain(&[]), 0x0002_0000 + 25);
 }

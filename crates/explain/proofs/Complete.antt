@@ -1,0 +1,171 @@
+-- What is never refused: a record in its ranges that has what every stage needs, with the choice or the outcome that the rest of it gives.
+-- A running session has it all, since a listed terminal type ends in 1 to 6.
+-- Assumes nothing.
+use mathlib.Core.Path.{_≡_, refl, sym, ap, _∙_}
+use mathlib.Core.Bool.{Bool, true, false, not}
+use mathlib.Core.Logic.{_⊎_, inl, inr}
+use mathlib.Core.List.{List, []}
+use mathlib.Core.Option.{Option, some}
+use Prim.Native.Nat.{ℕ, zero, suc, _%_, _≤_}
+use native.Mathlib.Omega.{arith}
+use lib.ListN.{getD}
+use borrow.Author.Tests.{eq-eqb, ne-eqb, leb-true}
+use Rattle.basics.specs.Choice.{if, both, either, every}
+use Rattle.basics.specs.Number.{between}
+use Rattle.basics.specs.Reason.{reasonNone}
+use Rattle.basics.proofs.Laws.{bool-cases, if-ind, if-yes, if-no, both-yes, both-left, both-right, either-false}
+use Rattle.dictionary.specs.Named.{rowDF8120, rowDF8121, rowDF8122}
+use Rattle.dictionary.specs.Rows.{rows}
+use Rattle.dictionary.specs.TerminalType.{listed}
+use Rattle.dictionary.proofs.Named.{at-DF8120, at-DF8121, at-DF8122}
+use Rattle.store.specs.Held.{holds, byteIn}
+use Rattle.analysis.specs.Choice.{lowestBit, capabilityAt, capabilityOf, heldAt, denial, p1Of}
+use Rattle.analysis.specs.Action.{terminalType, codesOf}
+use Rattle.analysis.specs.declared.choice.Capability.{Capability}
+use Rattle.analysis.specs.declared.choice.Lowest.{Lowest}
+use Rattle.record.specs.declared.Asked.{Asked}
+use Rattle.record.specs.declared.End.{End}
+use Rattle.record.specs.declared.Outcome.{Outcome}
+use Rattle.record.specs.declared.Phase.{Phase}
+use Rattle.record.specs.declared.Session.{Session}
+use Rattle.record.specs.Numbers.{outcomeNumber}
+use Rattle.record.specs.Session.{stored}
+use Rattle.record.specs.Ranges.{inRanges}
+use Rattle.record.specs.Clauses.{Running}
+use Rattle.record.proofs.Values.{brought-there}
+use Rattle.session.specs.Answer.{decision}
+use Rattle.explain.specs.declared.Stage.{Stage}
+use Rattle.explain.specs.declared.Deciding.{Deciding}
+use Rattle.explain.specs.declared.Explanation.{Explanation}
+use Rattle.explain.specs.Explain.{resultIn, choiceIn, stageBy, stageIn, neededAt, completed, decidingIn, pairAt, byBit, reasonAt, waitingAt, typeIn, gives, decidedAt, endedIn, inPhase, explained}
+use Rattle.explain.specs.Told.{Decides}
+use Rattle.explain.proofs.Laws.{ended-reason}
+
+-- ---- a store with all that the stages need
+
+pub record Complete (b : List ℕ) : Type 0 where
+  pub results : holds b 0x95 ≡ true
+  pub denial-code : holds b 0xDF8121 ≡ true
+  pub default-code : holds b 0xDF8120 ≡ true
+  pub online-code : holds b 0xDF8122 ≡ true
+  pub terminal : listed (byteIn b 0x9F35 1) ≡ true
+
+-- so every running session has it
+pub running-complete : (b : List ℕ) → Running b → Complete b
+unfolding rows
+running-complete b r =
+    record {
+      results = r .results;
+      denial-code = brought-there b r 0xDF8121 rowDF8121 at-DF8121 refl;
+      default-code = brought-there b r 0xDF8120 rowDF8120 at-DF8120 refl;
+      online-code = brought-there b r 0xDF8122 rowDF8122 at-DF8122 refl;
+      terminal = r .terminal;
+    }
+
+-- ---- a listed type ends in 1 to 6
+
+digit : (t : ℕ) → listed t ≡ true → (1 ≤ t % 16) × (t % 16 ≤ 6)
+unfolding listed
+digit t e = go (bool-cases (between 0x11 t 0x16)) (bool-cases (between 0x21 t 0x26))
+  where
+    low : (a z : ℕ) → between a t z ≡ true → (a ≤ t) × (t ≤ z)
+    low a z h = (leb-true a t (both-left _ _ h), leb-true t z (both-right _ _ h))
+
+    go : (between 0x11 t 0x16 ≡ true) ⊎ (between 0x11 t 0x16 ≡ false) → (between 0x21 t 0x26 ≡ true) ⊎ (between 0x21 t 0x26 ≡ false) → (1 ≤ t % 16) × (t % 16 ≤ 6)
+    go (inl y) w = let h = low 0x11 0x16 y in (omega arith, omega arith)
+    go (inr n) (inl y) = let h = low 0x21 0x26 y in (omega arith, omega arith)
+    go (inr n) (inr m) = let h = low 0x34 0x36 (sym (either-false _ n ∙ either-false _ m) ∙ e) in (omega arith, omega arith)
+
+capable : (x : ℕ) → 1 ≤ x → x ≤ 6 → capabilityAt x ≡ Capability.Unlisted → ⊥
+unfolding capabilityAt if either
+capable zero l h e = omega arith
+capable (suc zero) l h e = let z : _≡_ {A = ℕ} 0 1 = cc in omega arith
+capable (suc (suc zero)) l h e = let z : _≡_ {A = ℕ} 0 1 = cc in omega arith
+capable (suc (suc (suc zero))) l h e = let z : _≡_ {A = ℕ} 0 1 = cc in omega arith
+capable (suc (suc (suc (suc zero)))) l h e = let z : _≡_ {A = ℕ} 0 1 = cc in omega arith
+capable (suc (suc (suc (suc (suc zero))))) l h e = let z : _≡_ {A = ℕ} 0 1 = cc in omega arith
+capable (suc (suc (suc (suc (suc (suc zero)))))) l h e = let z : _≡_ {A = ℕ} 0 1 = cc in omega arith
+capable (suc (suc (suc (suc (suc (suc (suc x))))))) l h e = absurd (omega arith)
+
+pub listed-capable : (t : ℕ) → listed t ≡ true → capabilityOf t ≡ Capability.Unlisted → ⊥
+listed-capable t e = let d = digit t e in capable (t % 16) (d .0) (d .1)
+
+-- ---- a stage decided
+
+module _ (b : List ℕ) (w : Complete b) where
+  all-there : (stage : Stage) → every (holds b) (neededAt stage) ≡ true
+  unfolding every
+  all-there Stage.Denial = both-yes _ _ (w .results) (both-yes _ _ (w .denial-code) refl)
+  all-there Stage.OnlineOnly = both-yes _ _ (w .results) (both-yes _ _ (w .denial-code) refl)
+  all-there Stage.Default = both-yes _ _ (w .results) (both-yes _ _ (w .denial-code) (both-yes _ _ (w .default-code) refl))
+  all-there Stage.Online = both-yes _ _ (w .results) (both-yes _ _ (w .denial-code) (both-yes _ _ (w .online-code) refl))
+
+  some-stage : stageIn b ≡ Deciding.Nothing → ⊥
+  unfolding stageIn
+  some-stage = go (capabilityOf (terminalType b)) (heldAt (resultIn b) (codesOf b) denial) (listed-capable (terminalType b) (w .terminal))
+    where
+      go : (r : Capability) (h : Bool) → (r ≡ Capability.Unlisted → ⊥) → stageBy r h ≡ Deciding.Nothing → ⊥
+      go r true n e = let z : _≡_ {A = ℕ} 0 1 = cc in omega arith
+      go Capability.OnlineOnly false n e = let z : _≡_ {A = ℕ} 0 1 = cc in omega arith
+      go Capability.OnlineCapable false n e = let z : _≡_ {A = ℕ} 0 1 = cc in omega arith
+      go Capability.OfflineOnly false n e = let z : _≡_ {A = ℕ} 0 1 = cc in omega arith
+      go Capability.Unlisted false n e = n refl
+
+  decides : decidingIn b ≡ Deciding.Nothing → ⊥
+  unfolding decidingIn
+  decides = go (stageIn b) some-stage
+    where
+      go : (d : Deciding) → (d ≡ Deciding.Nothing → ⊥) → completed b d ≡ Deciding.Nothing → ⊥
+      go Deciding.Nothing n e = n refl
+      go (Deciding.At stage) n e = let z : Deciding.At stage ≡ Deciding.Nothing = sym (if-yes _ _ (all-there stage)) ∙ e in n z
+
+-- what a stage says is no refusal
+says : (b : List ℕ) (stage : Stage) → reasonAt b stage ≡ Explanation.Refused → ⊥
+unfolding reasonAt
+says b stage = go (lowestBit (resultIn b) (pairAt b stage))
+  where
+    go : (l : Lowest) → byBit stage (pairAt b stage) l ≡ Explanation.Refused → ⊥
+    go (Lowest.Bit i) e = let z : _≡_ {A = ℕ} 0 1 = cc in omega arith
+    go Lowest.NoBit e = let z : _≡_ {A = ℕ} 0 1 = cc in omega arith
+
+-- ---- by phase
+
+module _ (b : List ℕ) (w : Complete b) where
+  -- waiting on the cryptogram with the choice of the store
+  pub waiting-answers : (a : Asked) → a .choice ≡ choiceIn b → waitingAt a b (decidingIn b) ≡ Explanation.Refused → ⊥
+  waiting-answers a c = go (decidingIn b) (decides b w)
+    where
+      go : (d : Deciding) → (d ≡ Deciding.Nothing → ⊥) → waitingAt a b d ≡ Explanation.Refused → ⊥
+      go Deciding.Nothing n e = n refl
+      go (Deciding.At stage) n e = says b stage (sym (if-yes _ _ (eq-eqb _ _ (ap p1Of c))) ∙ e)
+
+  -- ended with the outcome that the cryptogram gives on it
+  pub decided-answers : (x : End) → holds b 0x9F27 ≡ true → Decides b (x .outcome) → decidedAt x b (decidingIn b) ≡ Explanation.Refused → ⊥
+  decided-answers x h g = go (decidingIn b) (decides b w)
+    where
+      given : gives (decision (choiceIn b) (typeIn b)) (x .outcome) ≡ true
+      given = ap (λ (d : Option Outcome). gives d (x .outcome)) g ∙ eq-eqb (outcomeNumber (x .outcome)) (outcomeNumber (x .outcome)) refl
+
+      P : Explanation → Type 0
+      P r = r ≡ Explanation.Refused → ⊥
+
+      go : (d : Deciding) → (d ≡ Deciding.Nothing → ⊥) → decidedAt x b d ≡ Explanation.Refused → ⊥
+      go Deciding.Nothing n = λ e. n refl
+      go (Deciding.At stage) n =
+          if-ind P _ _ _ (λ t e. (let z : _≡_ {A = Bool} false true = sym (ap not h) ∙ t in let y : _≡_ {A = ℕ} 0 1 = cc in omega arith))
+          (λ t. if-ind P _ _ _ (λ u e. (let z : _≡_ {A = Bool} false true = sym (ap not given) ∙ u in let y : _≡_ {A = ℕ} 0 1 = cc in omega arith))
+          (λ u. if-ind P _ _ _ (λ v e. (let z : _≡_ {A = ℕ} 0 1 = cc in omega arith)) (λ v e. says b stage e)))
+
+  pub ended-answers : (x : End) → x .reason ≡ reasonNone → holds b 0x9F27 ≡ true → Decides b (x .outcome) → endedIn x b ≡ Explanation.Refused → ⊥
+  unfolding endedIn
+  ended-answers x z h g e = decided-answers x h g (sym (if-yes _ _ (eq-eqb _ _ z)) ∙ e)
+
+-- ended with a reason
+pub reason-answers : (x : End) (b : List ℕ) → (x .reason ≡ reasonNone → ⊥) → endedIn x b ≡ Explanation.Refused → ⊥
+reason-answers x b n e = let w = ended-reason x b n in let z : _≡_ {A = ℕ} 0 1 = cc in omega arith
+
+-- ---- a session in its ranges is what its phase says
+
+pub phase-answers : (s : Session) (p : Phase) → inRanges s ≡ true → s .phase ≡ p → (inPhase p (stored s) ≡ Explanation.Refused → ⊥) → explained s ≡ Explanation.Refused → ⊥
+unfolding explained
+phase-answers s p i q n e = n (sym (if-yes _ _ i ∙ ap (λ (x : Phase). inPhase x (stored s)) q) ∙ e)

@@ -1,0 +1,174 @@
+-- Worked explanations, by computation: a record's word, with the objects that the row names put over one record that waits on the
+-- cryptogram or has ended.
+-- Assumes nothing.
+use mathlib.Core.Path.{_≡_, refl}
+use mathlib.Core.List.{List, [], _∷_, _++_, map}
+use Prim.Native.Nat.{ℕ}
+use lib.Dec.{eqb}
+use lib.ListN.{replicate}
+use Rattle.basics.specs.Choice.{if, both, either, every}
+use Rattle.basics.specs.Number.{nibbles}
+use Rattle.dictionary.specs.Named.{placeOf}
+use Rattle.dictionary.specs.Rows.{rows, past, find, storeSize}
+use Rattle.dictionary.specs.Form.{numeric, digitsThenFs, compressed, digitsFit, fitting}
+use Rattle.dictionary.specs.TerminalType.{listed}
+use Rattle.store.specs.Place.{offsetIn, placeAt, held, valueAt, lengthByte, putAt, valueIn}
+use Rattle.store.specs.Held.{lengthIn}
+use Rattle.locator.specs.Entry.{keeps}
+use Rattle.locator.specs.Records.{entries, wholeEntries, sumOf, accepts}
+use Rattle.analysis.specs.Bits.{bit}
+use Rattle.analysis.specs.Value.{front}
+use Rattle.analysis.specs.Choice.{holdsBit, lowestFrom, lowestBit, cardCode, heldAt, capabilityAt, choiceOf}
+use Rattle.analysis.specs.Action.{codesOf, chosen}
+use Rattle.analysis.specs.declared.choice.Choice.{Choice}
+use Rattle.analysis.specs.declared.verification.Method.{Method}
+use Rattle.record.specs.declared.Outcome.{Outcome}
+use Rattle.record.specs.declared.Phase.{Phase}
+use Rattle.record.specs.Numbers.{goesWith}
+use Rattle.record.specs.Session.{sessionOf, endOf}
+use Rattle.record.specs.Ranges.{objectFits, allFit, isBrought, brought, cryptogramAbsent, running, completed, freshRanges, optionsRanges, recordRanges, cryptogramRanges, endedRanges, inRanges}
+use Rattle.session.specs.Answer.{decision}
+use Rattle.explain.specs.declared.Stage.{Stage}
+use Rattle.explain.specs.declared.Holder.{Holder}
+use Rattle.explain.specs.declared.Explanation.{Explanation}
+use Rattle.explain.specs.Explain.{stageIn, decidingIn, holderOf, pairAt, reasonAt, rankOf, endedIn, explained}
+use Rattle.explain.specs.Word.{noBit, choiceWord, wordOf}
+
+-- ---- numbers
+
+words : map wordOf (Explanation.Refused ∷ Explanation.Reason 6 ∷ Explanation.NoChoice ∷ Explanation.LowerCryptogram ∷ Explanation.Unforced Stage.OnlineOnly ∷ [])
+    ++ (choiceWord Stage.Denial Holder.Terminal 9 ∷ choiceWord Stage.Default Holder.Both 39 ∷ choiceWord Stage.Online Holder.Card 0 ∷ [])
+    ≡ 0x20019 ∷ 0x30006 ∷ 0x40000 ∷ 0x50000 ∷ 0x610FF ∷ 0x60209 ∷ 0x62327 ∷ 0x63100 ∷ []
+words = refl
+
+-- ---- records
+
+abbrev Object : Type 0
+Object = ℕ × List ℕ
+
+-- objects put one by one into the empty store, without those of a tag
+abbrev without : ℕ → List Object → List ℕ
+without x [] = replicate storeSize 0
+without x ((t, v) ∷ more) = if (eqb t x) (without x more) (putAt rows (without x more) (placeOf t) v)
+
+-- what a start brings, and 95
+abbrev started : ℕ → List ℕ → List Object
+started type results =
+    (0x9A, 0x25 ∷ 0x11 ∷ 0x16 ∷ []) ∷ (0x9C, 0x00 ∷ []) ∷ (0x9F02, 0 ∷ 0 ∷ 0 ∷ 0 ∷ 0x12 ∷ 0x34 ∷ []) ∷ (0x9F09, 0 ∷ 2 ∷ []) ∷ (0x9F1A, 0x00 ∷ 0x56 ∷ [])
+    ∷ (0x9F33, 0xE0 ∷ 0xF8 ∷ 0xC8 ∷ []) ∷ (0x9F35, type ∷ []) ∷ (0x9F37, 1 ∷ 2 ∷ 3 ∷ 4 ∷ []) ∷ (0xDF8120, replicate 5 0) ∷ (0xDF8121, replicate 5 0) ∷ (0xDF8122, replicate 5 0)
+    ∷ (0xDF8123, 0 ∷ 0 ∷ 0 ∷ 0 ∷ 0x50 ∷ 0x00 ∷ []) ∷ (0xDF8124, 0 ∷ 0 ∷ 0 ∷ 1 ∷ 0 ∷ 0 ∷ []) ∷ (0xDF8126, 0 ∷ 0 ∷ 0 ∷ 0 ∷ 0x25 ∷ 0x00 ∷ []) ∷ (0x95, results) ∷ []
+
+-- EMV mode and a locator of two records
+abbrev opened : ℕ → List ℕ → List Object
+opened type results = (0x82, 0x00 ∷ 0x80 ∷ []) ∷ (0x94, 0x08 ∷ 1 ∷ 2 ∷ 0 ∷ []) ∷ started type results
+
+-- expiry date, PAN, CDOL1 and the results of the verification; no action code of the card
+abbrev complete : ℕ → List ℕ → List Object
+complete type results =
+    (0x5F24, 0x30 ∷ 0x12 ∷ 0x31 ∷ []) ∷ (0x5A, 0x47 ∷ 0x61 ∷ 0x73 ∷ 0x90 ∷ 0x01 ∷ 0x01 ∷ 0x00 ∷ 0x10 ∷ []) ∷ (0x8C, 0x95 ∷ 0x05 ∷ [])
+    ∷ (0x9F34, 0x3F ∷ 0x00 ∷ 0x00 ∷ []) ∷ opened type results
+
+-- counter and cryptogram, and the type of the cryptogram
+abbrev answered : ℕ → List Object
+answered information =
+    (0x9F27, information ∷ []) ∷ (0x9F36, 0x00 ∷ 0x01 ∷ []) ∷ (0x9F26, 1 ∷ 2 ∷ 3 ∷ 4 ∷ 5 ∷ 6 ∷ 7 ∷ 8 ∷ []) ∷ []
+
+-- five bytes
+abbrev five : ℕ → ℕ → ℕ → ℕ → ℕ → List ℕ
+five a b c d e = a ∷ b ∷ c ∷ d ∷ e ∷ []
+
+-- byte 1 b8 alone, and no bit
+abbrev usual : List ℕ
+usual = five 0x80 0 0 0 0
+
+abbrev zero5 : List ℕ
+zero5 = five 0 0 0 0 0
+
+-- the word of a record that waits on the cryptogram with a choice
+abbrev waiting : Choice → ℕ → List ℕ → List Object → ℕ
+waiting c type results more =
+    wordOf (explained (sessionOf (Phase.Cryptogram (record { choice = c; method = Method.NoCvm })) 4 (without 0 (more ++ complete type results))))
+
+-- the word of one that ended with an outcome and reason 0, without an object
+abbrev ended : ℕ → Outcome → ℕ → List Object → ℕ
+ended lacking o information more =
+    wordOf (explained (sessionOf (Phase.Ended (endOf o 0)) 4 (without lacking (more ++ answered information ++ complete 0x22 usual))))
+
+-- the word of a refusal, of no choice and of a lower cryptogram
+abbrev refused : ℕ
+refused = wordOf Explanation.Refused
+
+abbrev noChoice : ℕ
+noChoice = wordOf Explanation.NoChoice
+
+abbrev lower : ℕ
+lower = wordOf Explanation.LowerCryptogram
+
+-- ---- waiting on the cryptogram
+
+-- an absent online code is ones: the card asks for bit 0; with a code of zeros no bit forces anything, and a choice that does not fit
+-- is refused
+waiting-online : waiting Choice.Online 0x22 usual [] ∷ waiting Choice.Offline 0x22 usual ((0x9F0F, zero5) ∷ []) ∷ waiting Choice.Offline 0x22 usual []
+    ∷ waiting Choice.Online 0x22 (five 0x80 0x40 0 0 0) ((0x9F0F, zero5) ∷ (0xDF8122, five 0 0x40 0 0 0) ∷ []) ∷ []
+    ≡ choiceWord Stage.Online Holder.Card 0 ∷ choiceWord Stage.Online Holder.Nobody noBit ∷ refused ∷ choiceWord Stage.Online Holder.Terminal 9 ∷ []
+unfolding explained stageIn decidingIn holderOf pairAt reasonAt bit front holdsBit lowestFrom lowestBit cardCode heldAt capabilityAt choiceOf codesOf chosen
+    inRanges allFit objectFits lengthIn lengthByte fitting digitsFit numeric compressed digitsThenFs nibbles putAt placeOf valueIn valueAt placeAt held offsetIn find past rows
+    cryptogramRanges running brought isBrought cryptogramAbsent completed listed accepts wholeEntries entries keeps sumOf every both either if
+waiting-online = refl
+
+-- the lowest bit of the denial codes alone, by the terminal, and by both where the lower one is not set
+waiting-denial : waiting Choice.Decline 0x22 (five 0x80 0x40 0 0x80 0) ((0x9F0E, five 0 0 0 0x80 0) ∷ (0xDF8121, five 0 0x40 0 0x80 0) ∷ [])
+    ∷ waiting Choice.Decline 0x22 (five 0x80 0 0 0x80 0) ((0x9F0E, five 0 0 0 0x80 0) ∷ (0xDF8121, five 0 0x40 0 0x80 0) ∷ []) ∷ []
+    ≡ choiceWord Stage.Denial Holder.Terminal 9 ∷ choiceWord Stage.Denial Holder.Both 24 ∷ []
+unfolding explained stageIn decidingIn holderOf pairAt reasonAt bit front holdsBit lowestFrom lowestBit cardCode heldAt capabilityAt choiceOf codesOf chosen
+    inRanges allFit objectFits lengthIn lengthByte fitting digitsFit numeric compressed digitsThenFs nibbles putAt placeOf valueIn valueAt placeAt held offsetIn find past rows
+    cryptogramRanges running brought isBrought cryptogramAbsent completed listed accepts wholeEntries entries keeps sumOf every both either if
+waiting-denial = refl
+
+-- the online-only type; the default stage with an absent code, with its last bit, and with none
+waiting-types : waiting Choice.Online 0x21 usual [] ∷ waiting Choice.Decline 0x23 usual []
+    ∷ waiting Choice.Decline 0x26 (five 0x80 0 0 0 1) ((0x9F0D, five 0 0 0 0 1) ∷ (0xDF8120, five 0 0 0 0 1) ∷ [])
+    ∷ waiting Choice.Offline 0x36 usual ((0x9F0D, five 0x7F 0xFF 0xFF 0xFF 0xFF) ∷ []) ∷ []
+    ≡ choiceWord Stage.OnlineOnly Holder.Nobody noBit ∷ choiceWord Stage.Default Holder.Card 0 ∷ choiceWord Stage.Default Holder.Both 39
+    ∷ choiceWord Stage.Default Holder.Nobody noBit ∷ []
+unfolding explained stageIn decidingIn holderOf pairAt reasonAt bit front holdsBit lowestFrom lowestBit cardCode heldAt capabilityAt choiceOf codesOf chosen
+    inRanges allFit objectFits lengthIn lengthByte fitting digitsFit numeric compressed digitsThenFs nibbles putAt placeOf valueIn valueAt placeAt held offsetIn find past rows
+    cryptogramRanges running brought isBrought cryptogramAbsent completed listed accepts wholeEntries entries keeps sumOf every both either if
+waiting-types = refl
+
+-- ---- ended with reason 0
+
+-- the cryptogram that was asked for, and a lower one
+ended-given : ended 0 Outcome.OnlineRequest 0x80 [] ∷ ended 0 Outcome.Declined 0x00 [] ∷ ended 0 Outcome.OnlineRequest 0x80 ((0x9F0F, zero5) ∷ [])
+    ∷ ended 0 Outcome.Approved 0x40 ((0x9F0F, zero5) ∷ []) ∷ []
+    ≡ choiceWord Stage.Online Holder.Card 0 ∷ lower ∷ lower ∷ choiceWord Stage.Online Holder.Nobody noBit ∷ []
+unfolding explained endedIn rankOf decision stageIn decidingIn holderOf pairAt reasonAt bit front holdsBit lowestFrom lowestBit cardCode heldAt capabilityAt choiceOf codesOf chosen
+    inRanges allFit objectFits lengthIn lengthByte fitting digitsFit numeric compressed digitsThenFs nibbles putAt placeOf valueIn valueAt placeAt held offsetIn find past rows
+    endedRanges goesWith every both either if
+ended-given = refl
+
+-- an approval of an online choice; a decline with an ARQC; no 9F27, DF8122 or 95
+ended-refused : ended 0 Outcome.Approved 0x40 [] ∷ ended 0 Outcome.Declined 0x80 [] ∷ map (λ t. ended t Outcome.OnlineRequest 0x80 []) (0x9F27 ∷ 0xDF8122 ∷ 0x95 ∷ [])
+    ≡ replicate 5 refused
+unfolding explained endedIn rankOf decision stageIn decidingIn holderOf pairAt reasonAt bit front holdsBit lowestFrom lowestBit cardCode heldAt capabilityAt choiceOf codesOf chosen
+    inRanges allFit objectFits lengthIn lengthByte fitting digitsFit numeric compressed digitsThenFs nibbles putAt placeOf valueIn valueAt placeAt held offsetIn find past rows
+    endedRanges goesWith every both either if
+ended-refused = refl
+
+-- ---- no choice, a reason
+
+abbrev inPhase : Phase → ℕ → List Object → ℕ
+inPhase p n objects = wordOf (explained (sessionOf p n (without 0 objects)))
+
+before-choice : inPhase Phase.Fresh 0 [] ∷ inPhase Phase.Options 1 (started 0x22 zero5)
+    ∷ inPhase (Phase.Record (record { number = 1 })) 2 (opened 0x22 zero5) ∷ [] ≡ replicate 3 noChoice
+unfolding explained inRanges allFit objectFits lengthIn lengthByte fitting digitsFit numeric nibbles putAt placeOf valueIn valueAt placeAt held offsetIn find past rows
+    freshRanges optionsRanges recordRanges running brought isBrought cryptogramAbsent listed accepts wholeEntries entries keeps sumOf every both either if
+before-choice = refl
+
+-- 6 goes with select next alone
+with-reason : inPhase (Phase.Ended (endOf Outcome.SelectNext 6)) 3 [] ∷ inPhase (Phase.Ended (endOf Outcome.Ended 8)) 4 []
+    ∷ inPhase (Phase.Ended (endOf Outcome.Ended 9)) 1 [] ∷ inPhase (Phase.Ended (endOf Outcome.Ended 6)) 3 [] ∷ []
+    ≡ map (λ n. wordOf (Explanation.Reason n)) (6 ∷ 8 ∷ 9 ∷ []) ++ (refused ∷ [])
+unfolding explained endedIn inRanges allFit objectFits lengthIn lengthByte valueIn valueAt placeAt held offsetIn find past rows endedRanges goesWith every both either if
+with-reason = refl

@@ -1,0 +1,359 @@
+-- What the stages say, law by law: a stage that decided holds a bit exactly where the choice is the one that a bit there forces, so the
+-- lowest bit that is named explains the choice; and from that every clause of what an explanation promises.
+-- Assumes nothing.
+use mathlib.Core.Path.{_≡_, refl, sym, ap, ap₂, subst, subst⁻¹, _∙_}
+use mathlib.Core.Bool.{Bool, true, false, not}
+use mathlib.Core.Logic.{inl, inr}
+use mathlib.Core.List.{List, [], _∷_}
+use mathlib.Core.Option.{Option, some, none}
+use Prim.Native.Nat.{ℕ, zero, suc, _≤_, _<_}
+use native.Mathlib.Nat.{zero-div}
+use native.Mathlib.Omega.{arith}
+use lib.ListN.{getD}
+use lib.Dec.{eqb}
+use borrow.Author.Tests.{eq-eqb, ne-eqb, eqb-true, ltb-true, lt-ltb, le-ltb, not-false}
+use Rattle.basics.specs.Choice.{if, both, either, every}
+use Rattle.basics.specs.Reason.{reasonNone}
+use Rattle.basics.proofs.Laws.{bool-cases, if-ind, if-yes, if-no, both-left, both-right, both-no-right, either-no}
+use Rattle.store.specs.Held.{holds, lacks}
+use Rattle.analysis.specs.Bits.{bit}
+use Rattle.analysis.specs.Choice.{noBits, holdsBit, lowestBit, someBit, heldAt, denial, online, default, capabilityOf, choiceBy, choiceOf, p1Of}
+use Rattle.analysis.specs.Action.{terminalType, codesOf, chosen}
+use Rattle.analysis.specs.declared.choice.Capability.{Capability}
+use Rattle.analysis.specs.declared.choice.Choice.{Choice}
+use Rattle.analysis.specs.declared.choice.Lowest.{Lowest}
+use Rattle.analysis.specs.declared.choice.Pair.{Pair}
+use Rattle.analysis.proofs.Lowest.{Found}
+use Rattle.analysis.proofs.Stages.{lowest-held, none-held, all-clear}
+use Rattle.record.specs.declared.Asked.{Asked}
+use Rattle.record.specs.declared.End.{End}
+use Rattle.record.specs.declared.Outcome.{Outcome}
+use Rattle.record.specs.declared.Phase.{Phase}
+use Rattle.record.specs.declared.Session.{Session}
+use Rattle.record.specs.Numbers.{outcomeNumber}
+use Rattle.record.specs.Session.{stored}
+use Rattle.record.specs.Ranges.{inRanges}
+use Rattle.session.specs.Answer.{decision}
+use Rattle.explain.specs.declared.Stage.{Stage}
+use Rattle.explain.specs.declared.Deciding.{Deciding}
+use Rattle.explain.specs.declared.Cause.{Cause}
+use Rattle.explain.specs.declared.Explanation.{Explanation}
+use Rattle.explain.specs.Explain.{resultIn, choiceIn, stageBy, stageIn, neededAt, completed, decidingIn, holderOf, pairAt, byBit, reasonAt, waitingAt, rankOf, typeIn, typeAsked, gives, decidedAt, endedIn, inPhase, explained}
+use Rattle.explain.specs.Told.{forcedBy, unforcedBy, Named, Unnamed, Lower, Decides, Told}
+
+-- ---- the stage that decided
+
+module _ (b : List ℕ) where
+  pub deciding-nothing : stageIn b ≡ Deciding.Nothing → decidingIn b ≡ Deciding.Nothing
+  unfolding decidingIn
+  deciding-nothing e = ap (completed b) e
+
+  module _ (stage : Stage) (e : stageIn b ≡ Deciding.At stage) where
+    pub deciding-lacks : every (holds b) (neededAt stage) ≡ false → decidingIn b ≡ Deciding.Nothing
+    unfolding decidingIn
+    deciding-lacks n = ap (completed b) e ∙ if-no _ _ n
+
+    pub deciding-at : every (holds b) (neededAt stage) ≡ true → decidingIn b ≡ Deciding.At stage
+    unfolding decidingIn
+    deciding-at n = ap (completed b) e ∙ if-yes _ _ n
+
+  -- a stage that decided is the one that the type and the denial codes tell
+  pub deciding-stage : (stage : Stage) → decidingIn b ≡ Deciding.At stage → stageIn b ≡ Deciding.At stage
+  unfolding decidingIn
+  deciding-stage stage e = go (stageIn b) e
+    where
+      go : (d : Deciding) → completed b d ≡ Deciding.At stage → d ≡ Deciding.At stage
+      go Deciding.Nothing = λ e. e
+      go (Deciding.At g) = if-ind (λ (d : Deciding). d ≡ Deciding.At stage → Deciding.At g ≡ Deciding.At stage) _ _ _ (λ t e. e) (λ t e. cc)
+
+-- the code asks the denial codes first, and then the type
+module _ (b : List ℕ) {l : Lowest} {result : List ℕ} {pair : Pair} (f : l ≡ lowestBit result pair) (r : result ≡ resultIn b) where
+  -- the lowest bit that was found is the stage's
+  pub found-at : (stage : Stage) {m : Lowest} → pair ≡ pairAt b stage → l ≡ m → lowestBit (resultIn b) (pairAt b stage) ≡ m
+  found-at stage p e = ap₂ lowestBit (sym r) (sym p) ∙ sym f ∙ e
+
+  module _ (p : pair ≡ pairAt b Stage.Denial) where
+    pub stage-denial : {i : ℕ} → l ≡ Lowest.Bit i → stageIn b ≡ Deciding.At Stage.Denial
+    unfolding stageIn heldAt pairAt
+    stage-denial e = ap (λ (m : Lowest). stageBy (capabilityOf (terminalType b)) (someBit m)) (found-at Stage.Denial p e)
+
+    pub stage-type : {x : Capability} → l ≡ Lowest.NoBit → capabilityOf (terminalType b) ≡ x → stageIn b ≡ stageBy x false
+    unfolding stageIn heldAt pairAt
+    stage-type e c = ap₂ (λ (m : Lowest) (x : Capability). stageBy x (someBit m)) (found-at Stage.Denial p e) c
+
+pub bit-within : (result : List ℕ) (pair : Pair) {l : Lowest} {i : ℕ} → l ≡ lowestBit result pair → l ≡ Lowest.Bit i → i < 40
+bit-within result pair {l} {i} f e = omega (arith, lowest-held result pair i (sym f ∙ e) .within)
+
+-- one object
+pub every-one : (f : ℕ → Bool) (x : ℕ) → every f (x ∷ []) ≡ f x
+unfolding every both
+every-one f x = elim (bool-cases (f x)) [ inl e ↦ rw e | inr e ↦ rw e ]
+
+-- ---- whether it holds a bit
+
+-- by whether denial, online and default hold one
+abbrev heldHere : Stage → Bool → Bool → Bool → Bool
+heldHere Stage.Denial     h o d = h
+heldHere Stage.OnlineOnly h o d = false
+heldHere Stage.Default    h o d = d
+heldHere Stage.Online     h o d = o
+
+-- the choice is the one that a bit of the stage forces, or the one that is left without
+abbrev choiceAt : Stage → Bool → Choice
+choiceAt stage true  = forcedBy stage
+choiceAt stage false = unforcedBy stage
+
+by-stage : (r : Capability) (h o d : Bool) (stage : Stage) → stageBy r h ≡ Deciding.At stage → choiceBy r h o d ≡ choiceAt stage (heldHere stage h o d)
+by-stage r true o d stage e = let z : Stage.Denial ≡ stage = cc in ap (λ (g : Stage). choiceAt g (heldHere g true o d)) z
+by-stage Capability.OnlineOnly false o d stage e = let z : Stage.OnlineOnly ≡ stage = cc in ap (λ (g : Stage). choiceAt g (heldHere g false o d)) z
+by-stage Capability.OnlineCapable false true d stage e = let z : Stage.Online ≡ stage = cc in ap (λ (g : Stage). choiceAt g (heldHere g false true d)) z
+by-stage Capability.OnlineCapable false false d stage e = let z : Stage.Online ≡ stage = cc in ap (λ (g : Stage). choiceAt g (heldHere g false false d)) z
+by-stage Capability.OfflineOnly false o true stage e = let z : Stage.Default ≡ stage = cc in ap (λ (g : Stage). choiceAt g (heldHere g false o true)) z
+by-stage Capability.OfflineOnly false o false stage e = let z : Stage.Default ≡ stage = cc in ap (λ (g : Stage). choiceAt g (heldHere g false o false)) z
+by-stage Capability.Unlisted false o d stage e = let z : _≡_ {A = ℕ} 0 1 = cc in absurd (omega arith)
+
+-- codes of zeros hold no bit
+zero-at : (i : ℕ) → getD noBits i 0 ≡ 0
+zero-at zero = refl
+zero-at (suc zero) = refl
+zero-at (suc (suc zero)) = refl
+zero-at (suc (suc (suc zero))) = refl
+zero-at (suc (suc (suc (suc zero)))) = refl
+zero-at (suc (suc (suc (suc (suc i))))) = refl
+
+zero-bit : (i : ℕ) → bit noBits i ≡ false
+unfolding bit
+zero-bit i = simp (zero-at, zero-div)
+
+zeros-clear : (result : List ℕ) (i : ℕ) → holdsBit result (record { card = noBits; terminal = noBits }) i ≡ false
+unfolding holdsBit
+zeros-clear result i = both-no-right _ _ (either-no _ _ (zero-bit i) (zero-bit i))
+
+module _ (b : List ℕ) where
+  -- the stage's codes hold a bit
+  heldIn : Stage → Bool
+  heldIn stage = someBit (lowestBit (resultIn b) (pairAt b stage))
+
+  held-here : (stage : Stage) → heldHere stage (heldAt (resultIn b) (codesOf b) denial) (heldAt (resultIn b) (codesOf b) online) (heldAt (resultIn b) (codesOf b) default)
+      ≡ heldIn stage
+  unfolding heldAt pairAt heldIn
+  held-here Stage.Denial = refl
+  held-here Stage.OnlineOnly = sym (ap someBit (all-clear (resultIn b) _ (λ m h. zeros-clear (resultIn b) m)))
+  held-here Stage.Default = refl
+  held-here Stage.Online = refl
+
+  -- so a stage with a bit gives exactly its choice
+  stage-choice : (stage : Stage) → decidingIn b ≡ Deciding.At stage → choiceIn b ≡ choiceAt stage (heldIn stage)
+  unfolding chosen choiceOf stageIn
+  stage-choice stage e = by-stage _ _ _ _ stage (deciding-stage b stage e) ∙ ap (choiceAt stage) (held-here stage)
+
+-- ---- what a stage says
+
+-- what is promised of every explanation of a store
+pub record Right (b : List ℕ) (r : Explanation) : Type 0 where
+  pub named : (c : Cause) → r ≡ Explanation.Forced c → Named b c
+  pub unnamed : (stage : Stage) → r ≡ Explanation.Unforced stage → Unnamed b stage
+  pub lower : r ≡ Explanation.LowerCryptogram → Lower b
+
+-- one that names nothing
+abbrev Plain : Explanation → Type 0
+Plain Explanation.Refused = Unit {0}
+Plain (Explanation.Reason n) = Unit {0}
+Plain Explanation.NoChoice = Unit {0}
+Plain Explanation.LowerCryptogram = ⊥
+Plain (Explanation.Forced c) = ⊥
+Plain (Explanation.Unforced g) = ⊥
+
+plain : (b : List ℕ) (r : Explanation) → Plain r → Right b r
+plain b r p =
+    record {
+      named = λ c e. absurd (subst Plain e p);
+      unnamed = λ g e. absurd (subst Plain e p);
+      lower = λ e. absurd (subst Plain e p);
+    }
+
+-- the lowest bit that the stage that decided holds, or that it holds none
+module _ (b : List ℕ) (stage : Stage) (e : decidingIn b ≡ Deciding.At stage) where
+  found-right : (i : ℕ) → lowestBit (resultIn b) (pairAt b stage) ≡ Lowest.Bit i
+      → Named b (record { stage = stage; bit = i; holder = holderOf (pairAt b stage) i })
+  unfolding holdsBit heldIn
+  found-right i f =
+      let k = lowest-held (resultIn b) (pairAt b stage) i f in
+      record {
+        decides = e;
+        within = omega (arith, k .within);
+        set = both-left _ _ (k .passes);
+        held = both-right _ _ (k .passes);
+        lowest = λ m h. k .below m (omega arith) h;
+        holder = refl;
+        choice = stage-choice b stage e ∙ ap (λ (l : Lowest). choiceAt stage (someBit l)) f;
+      }
+
+  none-right : lowestBit (resultIn b) (pairAt b stage) ≡ Lowest.NoBit → Unnamed b stage
+  unfolding heldIn
+  none-right f =
+      record {
+        decides = e;
+        none = none-held (resultIn b) (pairAt b stage) f;
+        choice = stage-choice b stage e ∙ ap (λ (l : Lowest). choiceAt stage (someBit l)) f;
+      }
+
+  reason-right : Right b (reasonAt b stage)
+  unfolding reasonAt
+  reason-right = go (lowestBit (resultIn b) (pairAt b stage)) refl
+    where
+      go : (l : Lowest) → lowestBit (resultIn b) (pairAt b stage) ≡ l → Right b (byBit stage (pairAt b stage) l)
+      go (Lowest.Bit i) f =
+          record {
+            named = λ c h. (let z : record { stage = stage; bit = i; holder = holderOf (pairAt b stage) i } ≡ c = cc in subst (Named b) z (found-right i f));
+            unnamed = λ g h. (let z : _≡_ {A = ℕ} 0 1 = cc in absurd (omega arith));
+            lower = λ h. (let z : _≡_ {A = ℕ} 0 1 = cc in absurd (omega arith));
+          }
+      go Lowest.NoBit f =
+          record {
+            named = λ c h. (let z : _≡_ {A = ℕ} 0 1 = cc in absurd (omega arith));
+            unnamed = λ g h. (let z : stage ≡ g = cc in subst (Unnamed b) z (none-right f));
+            lower = λ h. (let z : _≡_ {A = ℕ} 0 1 = cc in absurd (omega arith));
+          }
+
+-- ---- by phase
+
+module _ (b : List ℕ) where
+  lower-right : Lower b → Right b Explanation.LowerCryptogram
+  lower-right h =
+      record {
+        named = λ c e. (let z : _≡_ {A = ℕ} 0 1 = cc in absurd (omega arith));
+        unnamed = λ g e. (let z : _≡_ {A = ℕ} 0 1 = cc in absurd (omega arith));
+        lower = λ e. h;
+      }
+
+  waiting-right : (a : Asked) (d : Deciding) → decidingIn b ≡ d → Right b (waitingAt a b d)
+  waiting-right a Deciding.Nothing e = plain b _ tt
+  waiting-right a (Deciding.At g) e = if-ind (Right b) _ _ _ (λ t. reason-right b g e) (λ t. plain b _ tt)
+
+  decided-right : (x : End) (d : Deciding) → decidingIn b ≡ d → Right b (decidedAt x b d)
+  decided-right x Deciding.Nothing e = plain b _ tt
+  decided-right x (Deciding.At g) e =
+      if-ind (Right b) _ _ _ (λ t. plain b _ tt)
+      (λ t. if-ind (Right b) _ _ _ (λ u. plain b _ tt)
+      (λ u. if-ind (Right b) _ _ _ (λ v. lower-right (ltb-true _ _ v)) (λ v. reason-right b g e)))
+
+  phase-right : (p : Phase) → Right b (inPhase p b)
+  unfolding endedIn
+  phase-right Phase.Fresh = plain b _ tt
+  phase-right Phase.Options = plain b _ tt
+  phase-right (Phase.Record p) = plain b _ tt
+  phase-right (Phase.Cryptogram a) = waiting-right a (decidingIn b) refl
+  phase-right (Phase.Ended x) = if-ind (Right b) _ _ _ (λ t. decided-right x (decidingIn b) refl) (λ t. plain b _ tt)
+
+-- ---- ended, as the code comes to it
+
+module _ (x : End) (b : List ℕ) where
+  pub ended-reason : (x .reason ≡ reasonNone → ⊥) → endedIn x b ≡ Explanation.Reason (x .reason)
+  unfolding endedIn
+  ended-reason n = if-no _ _ (ne-eqb _ _ n)
+
+  module _ (z : x .reason ≡ reasonNone) where
+    decided : {d : Deciding} → decidingIn b ≡ d → endedIn x b ≡ decidedAt x b d
+    unfolding endedIn
+    decided e = if-yes _ _ (eq-eqb _ _ z) ∙ ap (decidedAt x b) e
+
+    pub ended-nothing : decidingIn b ≡ Deciding.Nothing → endedIn x b ≡ Explanation.Refused
+    ended-nothing e = decided e
+
+    module _ (stage : Stage) (e : decidingIn b ≡ Deciding.At stage) where
+      pub ended-lacks : holds b 0x9F27 ≡ false → endedIn x b ≡ Explanation.Refused
+      ended-lacks h = decided e ∙ if-yes _ _ (ap not h)
+
+      module _ (h : holds b 0x9F27 ≡ true) where
+        pub ended-other : gives (decision (choiceIn b) (typeIn b)) (x .outcome) ≡ false → endedIn x b ≡ Explanation.Refused
+        ended-other g = decided e ∙ if-no _ _ (ap not h) ∙ if-yes _ _ (ap not g)
+
+        module _ (g : gives (decision (choiceIn b) (typeIn b)) (x .outcome) ≡ true) where
+          pub ended-lower : Lower b → endedIn x b ≡ Explanation.LowerCryptogram
+          ended-lower k = decided e ∙ if-no _ _ (ap not h) ∙ if-no _ _ (ap not g) ∙ if-yes _ _ (lt-ltb _ _ k)
+
+          pub ended-stage : rankOf (typeAsked (choiceIn b)) ≤ rankOf (typeIn b) → endedIn x b ≡ reasonAt b stage
+          ended-stage k = decided e ∙ if-no _ _ (ap not h) ∙ if-no _ _ (ap not g) ∙ if-no _ _ (le-ltb _ _ k)
+
+-- ---- the choice that is held, and the outcome
+
+same-p1 : (c d : Choice) → p1Of c ≡ p1Of d → c ≡ d
+same-p1 Choice.Decline Choice.Decline e = refl
+same-p1 Choice.Decline Choice.Online e = absurd (omega arith)
+same-p1 Choice.Decline Choice.Offline e = absurd (omega arith)
+same-p1 Choice.Online Choice.Decline e = absurd (omega arith)
+same-p1 Choice.Online Choice.Online e = refl
+same-p1 Choice.Online Choice.Offline e = absurd (omega arith)
+same-p1 Choice.Offline Choice.Decline e = absurd (omega arith)
+same-p1 Choice.Offline Choice.Online e = absurd (omega arith)
+same-p1 Choice.Offline Choice.Offline e = refl
+
+-- a number is one outcome's
+abbrev outcomeOf : ℕ → Outcome
+outcomeOf zero = Outcome.Approved
+outcomeOf (suc zero) = Outcome.OnlineRequest
+outcomeOf (suc (suc zero)) = Outcome.Declined
+outcomeOf (suc (suc (suc zero))) = Outcome.Ended
+outcomeOf (suc (suc (suc (suc n)))) = Outcome.SelectNext
+
+outcome-back : (o : Outcome) → outcomeOf (outcomeNumber o) ≡ o
+outcome-back Outcome.Approved = refl
+outcome-back Outcome.OnlineRequest = refl
+outcome-back Outcome.Declined = refl
+outcome-back Outcome.Ended = refl
+outcome-back Outcome.SelectNext = refl
+
+pub gives-it : (d : Option Outcome) (o : Outcome) → gives d o ≡ true → d ≡ some o
+gives-it none o e = cc
+gives-it (some x) o e = ap some (sym (outcome-back x) ∙ ap outcomeOf (eqb-true (outcomeNumber x) (outcomeNumber o) e) ∙ outcome-back o)
+
+module _ (b : List ℕ) where
+  waiting-held : (a : Asked) (d : Deciding) → (waitingAt a b d ≡ Explanation.Refused → ⊥) → a .choice ≡ choiceIn b
+  waiting-held a Deciding.Nothing = λ n. absurd (n refl)
+  waiting-held a (Deciding.At g) =
+      if-ind (λ (r : Explanation). (r ≡ Explanation.Refused → ⊥) → a .choice ≡ choiceIn b) _ _ _
+      (λ t n. same-p1 _ _ (eqb-true _ _ t)) (λ t n. absurd (n refl))
+
+  decided-given : (x : End) (d : Deciding) → (decidedAt x b d ≡ Explanation.Refused → ⊥) → Decides b (x .outcome)
+  decided-given x Deciding.Nothing = λ n. absurd (n refl)
+  decided-given x (Deciding.At g) =
+      if-ind P _ _ _ (λ t n. absurd (n refl))
+      (λ t. if-ind P _ _ _ (λ u n. absurd (n refl)) (λ u n. gives-it _ _ (not-false _ u)))
+    where
+      P : Explanation → Type 0
+      P r = (r ≡ Explanation.Refused → ⊥) → Decides b (x .outcome)
+
+  ended-given : (x : End) → x .reason ≡ reasonNone → (endedIn x b ≡ Explanation.Refused → ⊥) → Decides b (x .outcome)
+  unfolding endedIn
+  ended-given x e n = decided-given x (decidingIn b) (λ z. n (if-yes _ _ (eq-eqb _ _ e) ∙ z))
+
+-- ---- the promise
+
+module _ (s : Session) where
+  explained-right : Right (stored s) (explained s)
+  unfolding explained
+  explained-right = if-ind (Right (stored s)) _ _ _ (λ t. phase-right (stored s) (s .phase)) (λ t. plain (stored s) _ tt)
+
+  -- what is not refused is what the phase says
+  by-phase : (explained s ≡ Explanation.Refused → ⊥) → (p : Phase) → s .phase ≡ p → inPhase p (stored s) ≡ Explanation.Refused → ⊥
+  unfolding explained
+  by-phase = if-ind P _ _ _ (λ t n p q z. n (ap (λ (x : Phase). inPhase x (stored s)) q ∙ z)) (λ t n p q z. n refl)
+    where
+      P : Explanation → Type 0
+      P r = (r ≡ Explanation.Refused → ⊥) → (p : Phase) → s .phase ≡ p → inPhase p (stored s) ≡ Explanation.Refused → ⊥
+
+  explained-told : Told s (explained s)
+  explained-told =
+      record {
+        answer = refl;
+        named = explained-right .named;
+        unnamed = explained-right .unnamed;
+        lower = explained-right .lower;
+        held = λ a q n. waiting-held (stored s) a (decidingIn (stored s)) (by-phase n (Phase.Cryptogram a) q);
+        decided = λ x q z n. ended-given (stored s) x z (by-phase n (Phase.Ended x) q);
+      }
+
+  -- an answer that is the definition's keeps every clause
+  pub told : {r : Explanation} → r ≡ explained s → Told s r
+  told e = subst⁻¹ (Told s) e explained-told

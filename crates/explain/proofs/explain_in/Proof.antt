@@ -1,0 +1,58 @@
+-- `explain::explain_in` meets its contract: by the ranges and the phase it is the definition's answer, and the promise follows (`told`).
+-- Assumes nothing.
+use borrow.Author.Needs.{needs}
+use borrow.Author.Tests.{not-true, not-false}
+use mathlib.Core.Path.{_≡_, sym, ap, _∙_}
+use Rattle.basics.proofs.Laws.{if-yes, if-no}
+use Rattle.record.specs.declared.Phase.{Phase}
+use Rattle.record.specs.Session.{sessionOf}
+use Rattle.explain.specs.Explain.{inPhase, explained}
+use Rattle.explain.proofs.Laws.{told}
+use Rattle.explain.proofs.explain_in.Statement.{statement}
+use Rattle.explain.proofs.explain_in.Tie as tie
+
+-- where the ranges are kept, the phase decides
+by-phase : (c : tie.Else1) (p : Phase) → let a = c .before .before .before .args in
+    a .phase ≡ p → inPhase p (a .bytes .now) ≡ explained (sessionOf (a .phase) (a .count) (a .bytes .now))
+unfolding explained
+by-phase c p e =
+    let a = c .before .before .before .args in
+    sym (if-yes _ _ (sym (c .before .keeps .ensures .test) ∙ not-false _ (c .if1 .left)) ∙ ap (λ (q : Phase). inPhase q (a .bytes .now)) e)
+
+returns : tie.Need-returns
+unfolding explained
+returns c = told _ (sym (if-no _ _ (sym (c .before .keeps .ensures .test) ∙ not-true _ (c .if1 .taken))))
+
+returns-2 : tie.Need-returns-2
+returns-2 c = told _ (by-phase (c .before .before) _ (c .enum-told .given .1))
+
+returns-3 : tie.Need-returns-3
+returns-3 c = told _ (by-phase (c .before .before) _ (c .enum-told2 .given .1))
+
+returns-4 : tie.Need-returns-4
+returns-4 c = told _ (by-phase (c .before .before) _ (c .enum-told3 .given .1))
+
+returns-5 : tie.Need-returns-5
+returns-5 c = told _ (c .waiting .ensures ∙ by-phase (c .before .before .before .before) _ (c .before .before .phase .given .1))
+
+returns-6 : tie.Need-returns-6
+returns-6 c = told _ (c .ended .ensures ∙ by-phase (c .before .before .before .before) _ (c .before .before .phase2 .given .1))
+
+pub explain-in-spec : {M : Type 1} → statement M
+explain-in-spec =
+    tie.close
+    (tie.spec
+    (λ c κs. search needs)
+    returns
+    (λ c. search needs)
+    (λ c. search needs)
+    (λ c. search needs)
+    (λ c. search needs)
+    (λ c κs. search needs)
+    (λ c. search needs)
+    (λ c κs. search needs)
+    returns-2
+    returns-3
+    returns-4
+    returns-5
+    returns-6)

@@ -1,0 +1,39 @@
+-- An explanation as one number of 32 bits (docs/HOST.md): the number that stands for each of its cases. Bits 16 to 23
+-- tell which it is; a refusal is that of every call.
+-- Assumes nothing.
+use Prim.Native.Nat.{ℕ, _+_, _*_}
+use Rattle.basics.specs.Reason.{refusedRanges}
+use Rattle.explain.specs.declared.Stage.{Stage}
+use Rattle.explain.specs.declared.Holder.{Holder}
+use Rattle.explain.specs.declared.Explanation.{Explanation}
+
+-- the number of a stage
+abbrev pub stageNumber : Stage → ℕ
+stageNumber Stage.Denial     = 0
+stageNumber Stage.OnlineOnly = 1
+stageNumber Stage.Default    = 2
+stageNumber Stage.Online     = 3
+
+-- the number of who holds a bit
+abbrev pub holderNumber : Holder → ℕ
+holderNumber Holder.Nobody   = 0
+holderNumber Holder.Card     = 1
+holderNumber Holder.Terminal = 2
+holderNumber Holder.Both     = 3
+
+-- the bit where none forced the choice
+abbrev pub noBit : ℕ
+noBit = 255
+
+-- a choice by its stage, its holder and its bit
+abbrev pub choiceWord : Stage → Holder → ℕ → ℕ
+choiceWord stage holder bit = 0x60000 + stageNumber stage * 4096 + holderNumber holder * 256 + bit
+
+-- an explanation
+abbrev pub wordOf : Explanation → ℕ
+wordOf Explanation.Refused          = 0x20000 + refusedRanges
+wordOf (Explanation.Reason n)       = 0x30000 + n
+wordOf Explanation.NoChoice         = 0x40000
+wordOf Explanation.LowerCryptogram  = 0x50000
+wordOf (Explanation.Forced c)       = choiceWord (c .stage) (c .holder) (c .bit)
+wordOf (Explanation.Unforced stage) = choiceWord stage Holder.Nobody noBit

@@ -1,0 +1,324 @@
+// Tells the cashier why: the stage that decided a session's choice, the lowest bit that forced it, and whether the card's code, the
+// terminal's or both hold that bit. The choice is worked out again from the stored result bits, terminal type and action codes; the
+// session is only looked at.
+//
+// `explain` takes a session by value, `explain_in` its parts with the store shared. `word` is the number of an explanation.
+use analysis::choice::{Capability, Choice, Lowest, Pair, DEFAULT, DENIAL, ONLINE};
+use dictionary::{ROW_95, ROW_9F27, ROW_DF8120, ROW_DF8121, ROW_DF8122};
+use record::{Asked, End, Outcome, Phase, Session};
+use session::Decided;
+ghost use mathlib.Core.Path.{_≡_};
+ghost use Prim.Native.Nat.{_<_};
+ghost use Rattle.basics.specs.Choice.{every};
+ghost use Rattle.store.specs.Held.{holds};
+ghost use Rattle.analysis.specs.Bits.{bit as bitOf};
+ghost use Rattle.record.specs.Session.{sessionOf};
+ghost use Rattle.session.specs.Answer.{decision};
+ghost use Rattle.explain.specs.Explain.{resultIn, choiceIn, stageBy, stageIn, neededAt, decidingIn, holderBy, holderOf, pairAt, reasonAt};
+ghost use Rattle.explain.specs.Explain.{waitingAt, rankOf, gives, endedIn};
+ghost use Rattle.explain.specs.Told.{Told};
+ghost use Rattle.explain.specs.Word.{stageNumber, holderNumber, choiceWord, wordOf};
+
+// The stage that decided a choice: denial, the type of a terminal that is online only, default, online.
+pub enum Stage {
+    Denial,
+    OnlineOnly,
+    Default,
+    Online,
+}
+
+// The stage that decided, or nothing where a store lacks what tells it.
+pub enum Deciding {
+    At(Stage),
+    Nothing,
+}
+
+// Whose code holds a bit.
+pub enum Holder {
+    Nobody,
+    Card,
+    Terminal,
+    Both,
+}
+
+// A bit that forced a choice: 0 is byte 1 b8 of the result, 39 is byte 5 b1.
+pub struct Cause {
+    pub stage: Stage,
+    pub bit: u8,
+    pub holder: Holder,
+}
+
+// Why a session is where it is: refused with 25; ended with a reason other than 0; no choice yet; a cryptogram lower than the one that
+// was asked for; a bit that forced the choice; or the stage consulted last, where no bit did.
+pub enum Explanation {
+    Refused,
+    Reason(u8),
+    NoChoice,
+    LowerCryptogram,
+    Forced(Cause),
+    Unforced(Stage),
+}
+
+// What each kind of explanation has in its number, and the bit where none forced the choice.
+const REFUSED: u32 = 0x20000;
+const REASON: u32 = 0x30000;
+const NO_CHOICE: u32 = 0x40000;
+const LOWER_CRYPTOGRAM: u32 = 0x50000;
+const CHOICE: u32 = 0x60000;
+const NO_BIT: u8 = 255;
+
+// Why a session is where it is.
+pub fn explain(session: Session) -> Explanation
+    ensures { λ r. ⌜ Told session r ⌝ }
+{
+    let phase = session.phase;
+    let store = session.store;
+    explain_in(phase, session.count, &store.bytes)
+}
+
+// The same of a session's parts, with the store's bytes shared.
+pub fn explain_in(phase: Phase, count: u8, bytes: &[u8]) -> Explanation
+    ensures { λ r. ⌜ Told (sessionOf phase count (now (bytes .entry))) r ⌝ }
+{
+    if !record::keeps(phase, count, bytes) {
+        return Explanation::Refused;
+    }
+    match phase {
+        Phase::Fresh => Explanation::NoChoice,
+        Phase::Options => Explanation::NoChoice,
+        Phase::Record(_) => Explanation::NoChoice,
+        Phase::Cryptogram(asked) => waiting(asked, bytes),
+        Phase::Ended(end) => ended(end, bytes),
+    }
+}
+
+// Waiting on the cryptogram: the choice held must be the one that the store gives.
+fn waiting(asked: Asked, bytes: &[u8]) -> Explanation
+    ensures { λ r. ⌜ r ≡ waitingAt asked (now (bytes .entry)) (decidingIn (now (bytes .entry))) ⌝ }
+{
+    let Deciding::At(stage) = deciding_in(bytes) else {
+        return Explanation::Refused;
+    };
+    let choice = asked.choice;
+    if analysis::choice::p1(choice) != analysis::choice::p1(choice_in(bytes)) {
+        return Explanation::Refused;
+    }
+    reason_at(stage, bytes)
+}
+
+// Ended: the reason, or why it was decided so.
+fn ended(end: End, bytes: &[u8]) -> Explanation
+    ensures { λ r. ⌜ r ≡ endedIn end (now (bytes .entry)) ⌝ }
+{
+    if end.reason != basics::REASON_NONE {
+        return Explanation::Reason(end.reason);
+    }
+    let Deciding::At(stage) = deciding_in(bytes) else {
+        return Explanation::Refused;
+    };
+    if !store::is_there(bytes, ROW_9F27) {
+        return Explanation::Refused;
+    }
+    let kind = basics::byte_at(store::value(bytes, ROW_9F27), 0) / 64;
+    let choice = choice_in(bytes);
+    let outcome = end.outcome;
+    if !decides(choice, kind, outcome) {
+        return Explanation::Refused;
+    }
+    if rank(kind) < rank(analysis::choice::p1(choice) / 64) {
+        return Explanation::LowerCryptogram;
+    }
+    reason_at(stage, bytes)
+}
+
+// Whether a type of cryptogram decides on an outcome, by what was asked for.
+fn decides(choice: Choice, kind: u8, outcome: Outcome) -> bool
+    ensures { λ r. ⌜ r ≡ gives (decision choice kind) outcome ⌝ }
+{
+    let Decided::On(d) = session::decision_for(choice, kind) else {
+        return false;
+    };
+    let given = d.outcome;
+    record::outcome_number(given) == record::outcome_number(outcome)
+}
+
+// The rank of a cryptogram's type, the top two bits of 9F27 and of P1: AAC, then ARQC, then TC.
+fn rank(kind: u8) -> u8
+    ensures { λ r. ⌜ r ≡ rankOf kind ⌝ }
+{
+    match kind {
+        1 => 2,
+        2 => 1,
+        _ => 0,
+    }
+}
+
+// The stored result bits.
+fn result_in(bytes: &[u8]) -> [u8; 5]
+    ensures { λ r. ⌜ r ≡ resultIn (now (bytes .entry)) ⌝ }
+{
+    analysis::byte::five(store::value(bytes, ROW_95))
+}
+
+// The choice that the store gives.
+fn choice_in(bytes: &[u8]) -> Choice
+    ensures { λ r. ⌜ r ≡ choiceIn (now (bytes .entry)) ⌝ }
+{
+    analysis::action::choice_for(bytes, result_in(bytes))
+}
+
+// The stage that decided, if what the stages consulted need is there.
+fn deciding_in(bytes: &[u8]) -> Deciding
+    ensures { λ r. ⌜ r ≡ decidingIn (now (bytes .entry)) ⌝ }
+{
+    let deciding = stage_in(bytes);
+    let Deciding::At(stage) = deciding else {
+        return deciding;
+    };
+    if !is_complete(stage, bytes) {
+        return Deciding::Nothing;
+    }
+    deciding
+}
+
+// The stage that decided: denial where it holds a bit, else by the terminal's type.
+fn stage_in(bytes: &[u8]) -> Deciding
+    ensures { λ r. ⌜ r ≡ stageIn (now (bytes .entry)) ⌝ }
+{
+    let pair = pair_at(Stage::Denial, bytes);
+    if let Lowest::Bit(_) = analysis::choice::stage_bit(result_in(bytes), pair) {
+        return Deciding::At(Stage::Denial);
+    }
+    let capability = analysis::choice::capability_of(analysis::action::terminal_type(bytes));
+    match capability {
+        Capability::OnlineOnly => Deciding::At(Stage::OnlineOnly),
+        Capability::OfflineOnly => Deciding::At(Stage::Default),
+        Capability::OnlineCapable => Deciding::At(Stage::Online),
+        Capability::Unlisted => Deciding::Nothing,
+    }
+}
+
+// What is needed where a stage decided: 95, the terminal's denial code and its code of that stage.
+fn is_complete(stage: Stage, bytes: &[u8]) -> bool
+    ensures { λ r. ⌜ r ≡ every (holds (now (bytes .entry))) (neededAt stage) ⌝ }
+{
+    if !store::is_there(bytes, ROW_95) {
+        return false;
+    }
+    if !store::is_there(bytes, ROW_DF8121) {
+        return false;
+    }
+    match stage {
+        Stage::Denial => true,
+        Stage::OnlineOnly => true,
+        Stage::Default => store::is_there(bytes, ROW_DF8120),
+        Stage::Online => store::is_there(bytes, ROW_DF8122),
+    }
+}
+
+// The codes of a stage; those of the online-only type hold no bit.
+fn pair_at(stage: Stage, bytes: &[u8]) -> Pair
+    ensures { λ r. ⌜ r ≡ pairAt (now (bytes .entry)) stage ⌝ }
+{
+    let pairs = analysis::action::codes_of(bytes);
+    match stage {
+        Stage::Denial => pairs[DENIAL],
+        Stage::OnlineOnly => Pair { card: [0; 5], terminal: [0; 5] },
+        Stage::Default => pairs[DEFAULT],
+        Stage::Online => pairs[ONLINE],
+    }
+}
+
+// What the stage that decided says: its lowest bit and who holds it, or that it holds none.
+fn reason_at(stage: Stage, bytes: &[u8]) -> Explanation
+    ensures { λ r. ⌜ r ≡ reasonAt (now (bytes .entry)) stage ⌝ }
+{
+    let pair = pair_at(stage, bytes);
+    let Lowest::Bit(i) = analysis::choice::stage_bit(result_in(bytes), pair) else {
+        return Explanation::Unforced(stage);
+    };
+    let holder = holder_of(pair, i);
+    let bit = i as u8;
+    Explanation::Forced(Cause { stage, bit, holder })
+}
+
+// Whose code holds bit i.
+fn holder_of(pair: Pair, i: usize) -> Holder
+    ensures { λ r. ⌜ r ≡ holderOf pair i ⌝ }
+{
+    let card = pair.card;
+    let terminal = pair.terminal;
+    holder_by(has_bit(card, i), has_bit(terminal, i))
+}
+
+// Bit i of a code, counted from byte 1 b8.
+fn has_bit(code: [u8; 5], i: usize) -> bool
+    ensures { λ r. ⌜ r ≡ bitOf code i ⌝ }
+{
+    analysis::byte::has(&code, i / 8 + 1, 8 - i % 8)
+}
+
+// The holder, by the two codes.
+fn holder_by(card: bool, terminal: bool) -> Holder
+    ensures { λ r. ⌜ r ≡ holderBy card terminal ⌝ }
+{
+    if card {
+        if terminal {
+            return Holder::Both;
+        }
+        return Holder::Card;
+    }
+    if terminal {
+        return Holder::Terminal;
+    }
+    Holder::Nobody
+}
+
+// ---- numbers
+
+// The number of an explanation.
+pub fn word(explanation: Explanation) -> u32
+    ensures { λ r. ⌜ r ≡ wordOf explanation ⌝ }
+{
+    match explanation {
+        Explanation::Refused => REFUSED + basics::wide32(basics::REFUSED_RANGES),
+        Explanation::Reason(number) => REASON + basics::wide32(number),
+        Explanation::NoChoice => NO_CHOICE,
+        Explanation::LowerCryptogram => LOWER_CRYPTOGRAM,
+        Explanation::Forced(cause) => {
+            let stage = cause.stage;
+            let holder = cause.holder;
+            choice_word(stage, holder, cause.bit)
+        }
+        Explanation::Unforced(stage) => choice_word(stage, Holder::Nobody, NO_BIT),
+    }
+}
+
+// A choice by its stage, its holder and its bit.
+fn choice_word(stage: Stage, holder: Holder, bit: u8) -> u32
+    ensures { λ r. ⌜ r ≡ choiceWord stage holder bit ⌝ }
+{
+    CHOICE + stage_number(stage) * 4096 + holder_number(holder) * 256 + basics::wide32(bit)
+}
+
+fn stage_number(stage: Stage) -> u32
+    ensures { λ r. ⌜ (r ≡ stageNumber stage) × (r < 4) ⌝ }
+{
+    match stage {
+        Stage::Denial => 0,
+        Stage::OnlineOnly => 1,
+        Stage::Default => 2,
+        Stage::Online => 3,
+    }
+}
+
+fn holder_number(holder: Holder) -> u32
+    ensures { λ r. ⌜ (r ≡ holderNumber holder) × (r < 4) ⌝ }
+{
+    match holder {
+        Holder::Nobody => 0,
+        Holder::Card => 1,
+        Holder::Terminal => 2,
+        Holder::Both => 3,
+    }
+}

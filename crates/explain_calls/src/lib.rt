@@ -1,0 +1,21 @@
+// No list of calls leads to a session that cannot be explained, but where the last answer brought an action code of the card. The
+// statement is in specs/Explained, the proof in proofs/.
+use explain::Explanation;
+ghost use mathlib.Core.Path.{_≡_};
+ghost use mathlib.Core.Bool.{true};
+ghost use mathlib.Core.List.{List};
+ghost use Rattle.record.specs.declared.Session.{Session};
+ghost use Rattle.record.specs.declared.Phase.{Phase};
+ghost use Rattle.record.specs.Ranges.{inRanges};
+ghost use Rattle.trace.specs.Calls.{Call, play, final};
+ghost use Rattle.explain.specs.declared.Explanation.{Explanation as Why};
+ghost use Rattle.explain.specs.Word.{wordOf};
+ghost use Rattle.explain_calls.specs.Explained.{Explained};
+
+// The word of a refusal, which no list of calls leads to.
+pub fn refusal_word() -> u32
+    ensures word { λ r. ⌜ r ≡ wordOf Why.Refused ⌝ }
+    ensures claim { λ _. ⌜ ((s : Session) (cs : List Call) → s .phase ≡ Phase.Fresh → inRanges s ≡ true → Explained (play s cs) (final s cs)) ⌝ }
+{
+    explain::word(Explanation::Refused)
+}

@@ -1,0 +1,14 @@
+-- Why a session is where it is, over the bytes that hold it (document 02, Item 7; docs/HOST.md).
+-- Assumes nothing.
+use mathlib.Core.Option.{Option, some, none}
+use Prim.Native.Nat.{ℕ}
+use Rattle.basics.specs.Reason.{refusedRanges}
+use Rattle.record.specs.declared.Session.{Session}
+use Rattle.layout.specs.Word.{refusalWord}
+use Rattle.explain.specs.Explain.{explained}
+use Rattle.explain.specs.Word.{wordOf}
+
+-- the word of an explanation; bytes that hold no record are refused as a record that breaks its ranges
+abbrev pub explainWord : Option Session → ℕ
+explainWord none     = refusalWord refusedRanges
+explainWord (some s) = wordOf (explained s)
