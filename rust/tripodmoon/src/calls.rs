@@ -42,6 +42,7 @@ extern "C" {
         value: *mut u8,
         value_len: usize,
     ) -> u32;
+    fn emv_explain(session: *const u8, session_len: usize) -> u32;
     fn emv_find(bytes: *const u8, len: usize, tag: u32) -> u64;
     fn emv_wipe(session: *mut u8, session_len: usize) -> u32;
     fn emv_version() -> u32;
@@ -134,6 +135,13 @@ pub fn object(session: &[u8], tag: u32, value: &mut [u8]) -> u32 {
             value.len(),
         )
     }
+}
+
+/// Why the session made its choice: the stage that decided, the bit that forced it and who holds it, or
+/// a word that says what there is instead.
+pub fn explain(session: &[u8]) -> u32 {
+    // SAFETY: pointer and length are those of one slice, which the call only reads.
+    unsafe { emv_explain(session.as_ptr(), session.len()) }
 }
 
 /// The first object of a tag in a card's bytes: place and length of its value, or a word that says
