@@ -22,7 +22,7 @@
 //! refused with number 25 at the next call.
 //!
 //! After an online request [`Session::object`] reads back what is sent to the acquirer;
-//! [`Session::wipe`] forgets the session. [`find`] looks through other bytes of the card, as the
+//! [`Session::explain`] tells the cashier why, and [`Session::wipe`] forgets the session. [`find`] looks through other bytes of the card, as the
 //! answer to SELECT:
 //!
 //! ```
@@ -171,6 +171,60 @@ pub enum Object<'b> {
     Needed(usize),
     /// The call was refused with 25: the bytes hold no record within its ranges.
     Refused(u8),
+}
+
+/// Why a session made its choice.
+#[derive(Clone, Copy, Debug, PartialEq, Eq)]
+pub enum Explanation {
+    /// The stage that decided, and the bit of 95 that forced the choice if one did.
+    Decided {
+        /// The stage.
+        stage: Stage,
+        /// The bit. None forced an offline choice, or the one of an online-only terminal.
+        bit: Option<Bit>,
+    },
+    /// The card gave a lower cryptogram than was asked for.
+    LowerCryptogram,
+    /// The session has made no choice yet.
+    NoChoice,
+    /// The session ended with this reason, 1 to 11 (see [`reason_text`]).
+    Ended(u8),
+    /// The call was refused with 25: the bytes hold no record within its ranges, or one that lacks what an
+    /// explanation needs or does not give its own choice or outcome.
+    Refused(u8),
+}
+
+/// A stage of the action analysis.
+#[derive(Clone, Copy, Debug, PartialEq, Eq)]
+pub enum Stage {
+    /// The denial codes, 9F0E and DF8121.
+    Denial,
+    /// The terminal is online only.
+    OnlineOnlyType,
+    /// The default codes, 9F0D and DF8120, of a terminal that is offline only.
+    Default,
+    /// The online codes, 9F0F and DF8122.
+    Online,
+}
+
+/// A bit of 95 that forced a choice: the lowest-numbered one that is set and held by an action code of the stage.
+#[derive(Clone, Copy, Debug, PartialEq, Eq)]
+pub struct Bit {
+    /// 0 is byte 1 b8, 39 is byte 5 b1.
+    pub number: u8,
+    /// Whose action code holds it.
+    pub holder: Holder,
+}
+
+/// Whose action code holds a bit. An absent code of the card holds every default and every online bit.
+#[derive(Clone, Copy, Debug, PartialEq, Eq)]
+pub enum Holder {
+    /// The card's.
+    Card,
+    /// The terminal's.
+    Terminal,
+    /// Both.
+    Both,
 }
 
 /// What a search of a card's bytes finds.
@@ -330,6 +384,20 @@ impl Session {
         }
     }
 
+    /// Why the session made its choice.
+    pub fn explain(&self) -> Explanation {
+        let word = calls::explain(&self.bytes);
+        let [_, kind, high, low] = word.to_be_bytes();
+        match kind {
+            2 => Explanation::Refused(low),
+            3 => Explanation::Ended(low),
+            4 => Explanation::NoChoice,
+            5 => Explanation::LowerCryptogram,
+            6 => decided(high >> 4, high & 0x0F, low),
+            _ => panic!("libhost.a gave an unknown result word"),
+        }
+    }
+
     /// Writes 0 over the record, which is none then: every later call is refused with 25.
     pub fn wipe(&mut self) {
         calls::wipe(&mut self.bytes);
@@ -355,6 +423,26 @@ impl fmt::Debug for Session {
             .field("count", &self.bytes[4])
             .finish_non_exhaustive()
     }
+}
+
+/// An explanation by the numbers of its stage, holder and bit.
+fn decided(stage: u8, holder: u8, number: u8) -> Explanation {
+    let stage = match stage {
+        0 => Stage::Denial,
+        1 => Stage::OnlineOnlyType,
+        2 => Stage::Default,
+        3 => Stage::Online,
+        _ => panic!("libhost.a gave an unknown stage"),
+    };
+    let holder = match holder {
+        0 => None,
+        1 => Some(Holder::Card),
+        2 => Some(Holder::Terminal),
+        3 => Some(Holder::Both),
+        _ => panic!("libhost.a gave an unknown holder"),
+    };
+    let bit = holder.map(|holder| Bit { number, holder });
+    Explanation::Decided { stage, bit }
 }
 
 /// Takes a result word apart (docs/HOST.md).

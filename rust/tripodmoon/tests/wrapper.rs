@@ -1,8 +1,8 @@
 //! The wrapper's types over the linked library.
 
 use tripodmoon::{
-    calls, find, version, Found, Method, Object, Outcome, Reply, Session, Version, COMMAND_SIZE,
-    MOST_VALUE, SESSION_SIZE,
+    calls, find, version, Bit, Explanation, Found, Holder, Method, Object, Outcome, Reply, Session,
+    Stage, Version, COMMAND_SIZE, MOST_VALUE, SESSION_SIZE,
 };
 
 /// The objects that a start must bring.
@@ -207,6 +207,37 @@ fn methods() {
         assert_eq!(method.to_string(), text);
     }
     assert_eq!(Method::NotApplicable.to_string(), "not applicable");
+}
+
+#[test]
+fn explanations() {
+    let mut buffer = [0; COMMAND_SIZE];
+    assert_eq!(Session::new().explain(), Explanation::NoChoice);
+    let wiped = Session::from_bytes([0; SESSION_SIZE]);
+    assert_eq!(wiped.explain(), Explanation::Refused(25));
+    // Byte 1 b8 is always set, and an absent online code of the card holds it.
+    let by_card = Explanation::Decided {
+        stage: Stage::Online,
+        bit: Some(Bit {
+            number: 0,
+            holder: Holder::Card,
+        }),
+    };
+    let session = on_cryptogram(0x1F);
+    assert_eq!(session.explain(), by_card);
+    for (information, expected) in [
+        (0x80, by_card),
+        (0x00, Explanation::LowerCryptogram),
+        (0x40, Explanation::Ended(8)),
+    ] {
+        let mut session = session.clone();
+        let mut answer = [
+            0x80, 0x0B, 0x00, 0x00, 0x01, 1, 2, 3, 4, 5, 6, 7, 8, 0x90, 0x00,
+        ];
+        answer[2] = information;
+        session.answer(&answer, &mut buffer);
+        assert_eq!(session.explain(), expected);
+    }
 }
 
 #[test]
