@@ -245,6 +245,9 @@ fn cryptogram(rng: &mut Rng, store: &Store, asked: u8, fault: Option<usize>) -> 
         objects::object(rng, 0x9F26, &cryptogram),
     ];
     noise(rng, store, &mut list);
+    if rng.one_in(8) {
+        list.extend(late_code(rng, store));
+    }
     shuffle(rng, &mut list);
     if rng.one_in(2) {
         if rng.one_in(6) {
@@ -260,6 +263,21 @@ fn cryptogram(rng: &mut Rng, store: &Store, asked: u8, fault: Option<usize>) -> 
         fault_in_objects(rng, store, &mut list, 0x77, fault);
     }
     objects::template(rng, 0x77, &list)
+}
+
+/// An action code that the store does not hold, in a template 70, which may stand in the answer to GENERATE AC too.
+fn late_code(rng: &mut Rng, store: &Store) -> Option<Vec<u8>> {
+    let code = rng.pick(&[
+        Object::IssuerActionDefault,
+        Object::IssuerActionDenial,
+        Object::IssuerActionOnline,
+    ]);
+    if store::has_value(store, code) {
+        return None;
+    }
+    let value = objects::good_value(rng, code);
+    let inner = objects::object(rng, code.row().tag, &value);
+    Some(objects::template(rng, 0x70, &[inner]))
 }
 
 /// The value of an object in a store whose length bytes may be wrong.

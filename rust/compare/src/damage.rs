@@ -45,12 +45,12 @@ fn method(rng: &mut Rng, phase: u8) -> u8 {
 }
 
 /// Offset of an object's place in a session record.
-fn place(object: Object) -> usize {
+pub fn place(object: Object) -> usize {
     HEAD_SIZE + object.row().place
 }
 
 /// Puts a value at its place in a session record.
-fn put(record: &mut [u8], object: Object, value: &[u8]) {
+pub fn put(record: &mut [u8], object: Object, value: &[u8]) {
     let place = place(object);
     let length = value.len().min(usize::from(object.row().most));
     record[place] = length as u8 + 1;
@@ -202,11 +202,25 @@ fn other_phase(rng: &mut Rng, record: &mut [u8]) {
     }
 }
 
-/// A session record built from nothing, mostly within its ranges.
+/// Outcome, reason and count of an ended session.
+fn ended_head(rng: &mut Rng) -> (u8, u8, u8) {
+    let count = rng.pick(&[0, 1, 2, 3, 5, 130]);
+    match rng.below(22) as u8 {
+        reason @ 1..=11 => (if reason == 6 { 4 } else { 3 }, reason, count),
+        _ => (rng.below(3) as u8, 0, count),
+    }
+}
+
+/// A session record of any phase built from nothing, mostly within its ranges.
 pub fn built_record(rng: &mut Rng) -> Vec<u8> {
+    let phase = rng.below(5);
+    record_of_phase(rng, phase)
+}
+
+/// A session record of this phase built from nothing, mostly within its ranges.
+pub fn record_of_phase(rng: &mut Rng, phase: usize) -> Vec<u8> {
     let mut bytes = vec![0; SESSION_SIZE];
     model::open(&mut bytes);
-    let phase = rng.below(5);
     if phase == 0 {
         return bytes;
     }
@@ -250,15 +264,7 @@ pub fn built_record(rng: &mut Rng) -> Vec<u8> {
             (k, 0, k + 1)
         }
         3 => (rng.pick(&[0x00, 0x40, 0x80]), 0, records as u8 + 2),
-        _ => rng.pick(&[
-            (0, 0, 3),
-            (1, 0, 130),
-            (2, 0, 5),
-            (3, 1, 1),
-            (3, 11, 1),
-            (4, 6, 2),
-            (3, 7, 0),
-        ]),
+        _ => ended_head(rng),
     };
     bytes[1..5].copy_from_slice(&[phase as u8, detail, reason, count]);
     bytes[5] = method(rng, phase as u8);

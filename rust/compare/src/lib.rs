@@ -1,16 +1,17 @@
 //! Differential test: sessions drawn from a seed, each call made on the model and on the static library.
 //!
-//! After each call the reply word, the whole command buffer, the count and the whole session slice
+//! After each call the reply word, the whole command buffer, the count, the explanation and the whole session slice
 //! must be equal. `rng`, `objects`, `terminal`, `card`, `damage` and `play` draw the sessions; `run`
 //! makes the calls and counts what occurred, `verification` what the choices of a method reached and
 //! `padding` where runs of 00 stood. `reading` compares single readings, with the object count that no call hands out,
-//! and `find` the search for a tag in a card's bytes.
+//! `find` the search for a tag in a card's bytes, and `explain` the explanations of records that no call may have left.
 //! `layout` draws lists of objects and layouts of the card's side, and `personalise` compares what is written for them.
 
 #![forbid(unsafe_code)]
 
 pub mod card;
 pub mod damage;
+pub mod explain;
 pub mod find;
 pub mod journal;
 pub mod layout;

@@ -45,6 +45,10 @@ pub struct Coverage {
     pub padded_answers: [u64; 3],
     /// Refusals 20 because of 00 between start objects; reasons 7 because of 00 in 9F38, and in 8C.
     pub padding_refused: [u64; 3],
+    /// Explanations of sessions that calls made, by the kinds of `EXPLANATIONS`.
+    pub explanations: [u64; 5],
+    /// Sessions that ended with reason 0 and an action code that came with the answer to GENERATE AC: explained, and not.
+    pub late_codes: [u64; 2],
 }
 
 /// The bits of 95 that can be set: byte, counted from 0, and bit.
@@ -79,6 +83,8 @@ impl Default for Coverage {
             verification: Reached::default(),
             padded_answers: [0; 3],
             padding_refused: [0; 3],
+            explanations: [0; 5],
+            late_codes: [0; 2],
         }
     }
 }
@@ -106,6 +112,8 @@ impl Coverage {
         all(&mut self.held, &other.held);
         all(&mut self.padded_answers, &other.padded_answers);
         all(&mut self.padding_refused, &other.padding_refused);
+        all(&mut self.explanations, &other.explanations);
+        all(&mut self.late_codes, &other.late_codes);
         self.verification.add(&other.verification);
     }
 
@@ -155,6 +163,11 @@ impl Coverage {
         {
             need(count, format!("00 between the parts of {what}"));
         }
+        for (what, &count) in EXPLANATIONS.iter().zip(&self.explanations) {
+            need(count, format!("explanation: {what}"));
+        }
+        need(self.late_codes[0], "explained with a late code".into());
+        need(self.late_codes[1], "unexplained for a late code".into());
         missing.extend(self.verification.missing());
         missing
     }
@@ -191,6 +204,14 @@ impl Coverage {
             out,
             "padded answers: {:?}  00 in start bytes, 9F38, 8C: {:?}",
             self.padded_answers, self.padding_refused
+        );
+        for (what, count) in EXPLANATIONS.iter().zip(&self.explanations) {
+            let _ = writeln!(out, "explanation {what}: {count}");
+        }
+        let _ = writeln!(
+            out,
+            "late action codes explained, not: {:?}",
+            self.late_codes
         );
         out += &self.verification.report();
         out
@@ -254,6 +275,9 @@ impl Coverage {
 /// The commands whose answers are awaited, by phase from 1 on.
 const AWAITED: [&str; 3] = ["processing options", "a record", "GENERATE AC"];
 
+/// The kinds of explanations, from 2 on.
+const EXPLANATIONS: [&str; 5] = ["none", "reason", "no choice", "lower cryptogram", "stage"];
+
 /// The calls that hand back a reply.
 const CALLS: [&str; 4] = ["start", "answer", "link_failed", "stop"];
 
@@ -275,6 +299,10 @@ struct Pair<'a, A: Side, B: Side> {
     before: Vec<u8>,
     buffer: Vec<u8>,
     buffer_other: Vec<u8>,
+    /// Whether calls alone made the session, from an open on.
+    by_calls: bool,
+    /// Whether the answer to GENERATE AC brought an action code.
+    late_code: bool,
     verbose: bool,
 }
 
@@ -285,7 +313,8 @@ impl<A: Side, B: Side> Pair<'_, A, B> {
             Step::Set(bytes) => {
                 self.session.clone_from(bytes);
                 self.session_other.clone_from(bytes);
-                return self.same_count();
+                self.by_calls = false;
+                return self.same_looks(coverage);
             }
             Step::Open => return self.open(coverage),
             Step::Start { buffer, .. } => (0, buffer),
@@ -313,7 +342,8 @@ impl<A: Side, B: Side> Pair<'_, A, B> {
         }
         same("command buffer", &self.buffer, &self.buffer_other)?;
         same("session bytes", &self.session, &self.session_other)?;
-        self.same_count()?;
+        self.late_code |= self.brought_code();
+        self.same_looks(coverage)?;
         self.kept(word, buffer)?;
         let asked = match *self.before.as_slice() {
             [_, 3, p1, ..] if call == 1 => Some(p1),
@@ -351,17 +381,56 @@ impl<A: Side, B: Side> Pair<'_, A, B> {
         same("session bytes", &self.session, &self.session_other)?;
         coverage.calls += 1;
         coverage.refused_open += u64::from(word != 0);
-        self.same_count()
+        self.by_calls = word == 0;
+        self.late_code = false;
+        self.same_looks(coverage)
     }
 
-    /// The count that both sides report.
-    fn same_count(&self) -> Result<(), String> {
+    /// What both sides report of the session: the count and the explanation.
+    fn same_looks(&self, coverage: &mut Coverage) -> Result<(), String> {
         let count = self.model.count(&self.session);
         let count_other = self.other.count(&self.session_other);
         if count != count_other {
             return Err(format!("count: model {count:X}, other {count_other:X}"));
         }
+        let why = self.model.explain(&self.session);
+        let why_other = self.other.explain(&self.session_other);
+        if why != why_other {
+            return Err(format!("explanation: model {why:X}, other {why_other:X}"));
+        }
+        if self.by_calls {
+            self.explained(why, coverage)?;
+        }
         Ok(())
+    }
+
+    /// What calls alone make is explained, unless the last answer brought an action code and gave a decision.
+    fn explained(&self, why: u32, coverage: &mut Coverage) -> Result<(), String> {
+        let kind = kind_of(why);
+        coverage.explanations[kind as usize - 2] += 1;
+        let decided = matches!(*self.session.as_slice(), [_, 4, _, 0, ..]);
+        if self.late_code && decided {
+            coverage.late_codes[usize::from(kind == 2)] += 1;
+        } else if kind == 2 {
+            return Err("calls made a session that is not explained".into());
+        }
+        Ok(())
+    }
+
+    /// Whether the last call was the answer to GENERATE AC and brought an action code, in a session that calls made.
+    fn brought_code(&self) -> bool {
+        self.by_calls
+            && self.before[1] == 3
+            && [
+                Object::IssuerActionDefault,
+                Object::IssuerActionDenial,
+                Object::IssuerActionOnline,
+            ]
+            .into_iter()
+            .any(|code| {
+                let place = HEAD_SIZE + code.row().place;
+                self.before[place] == 0 && self.session[place] != 0
+            })
     }
 
     /// What holds of every call, whatever the model says: which bytes stay.
@@ -469,6 +538,8 @@ fn run(
         before: Vec::new(),
         buffer: Vec::new(),
         buffer_other: Vec::new(),
+        by_calls: false,
+        late_code: false,
         verbose,
     };
     let mut steps = Vec::new();

@@ -1,6 +1,6 @@
-//! The two sides of the comparison: both have the seven calls of docs/HOST.md.
+//! The two sides of the comparison: both have the calls of docs/HOST.md on a session's bytes.
 
-/// The seven calls over lent bytes, with their result words.
+/// The calls over lent bytes, with their result words.
 pub trait Side: Sync {
     /// Bytes that a session record needs.
     fn session_size(&self) -> usize;
@@ -16,6 +16,8 @@ pub trait Side: Sync {
     fn stop(&self, session: &mut [u8], command: &mut [u8]) -> u32;
     /// The count of commands handed out.
     fn count(&self, session: &[u8]) -> u32;
+    /// Why the session made its choice.
+    fn explain(&self, session: &[u8]) -> u32;
 }
 
 macro_rules! side {
@@ -48,6 +50,10 @@ macro_rules! side {
             fn count(&self, session: &[u8]) -> u32 {
                 use $calls as calls;
                 calls::count(session)
+            }
+            fn explain(&self, session: &[u8]) -> u32 {
+                use $calls as calls;
+                calls::explain(session)
             }
         }
     };

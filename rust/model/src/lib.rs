@@ -11,6 +11,7 @@
 //! - `data_list`, `locator`, `analysis`: data object lists, the file locator, result bits and choice
 //! - `verification`: the method of cardholder verification by the card's list
 //! - `session`: the session record, its ranges and its steps
+//! - `explain`: why a session made its choice
 //! - `journal`: the journal of a session, written from its calls and checked
 //! - `personalise`: the card's side, records and locator written from a list of objects
 
@@ -22,6 +23,7 @@ extern crate alloc;
 pub mod analysis;
 pub mod data_list;
 pub mod dictionary;
+pub mod explain;
 pub mod find;
 pub mod journal;
 pub mod locator;
@@ -93,6 +95,11 @@ pub fn stop(session: &mut [u8], command: &mut [u8]) -> u32 {
 /// The count of commands handed out, or `NO_COUNT` where the bytes hold no record.
 pub fn count(session: &[u8]) -> u32 {
     session::count(session).map_or(NO_COUNT, u32::from)
+}
+
+/// Why the session made its choice: the stage, the bit that forced it and who holds it, or a word that says what there is instead.
+pub fn explain(session: &[u8]) -> u32 {
+    explain::word(explain::explain(session))
 }
 
 /// The first object of a tag in a card's bytes: place and length of its value, or a word that says why there is none.

@@ -59,7 +59,7 @@ enum Next {
 
 /// Where a session stands.
 #[derive(Clone, Copy, Debug, PartialEq, Eq)]
-enum Phase {
+pub(crate) enum Phase {
     Fresh,
     /// Waiting on the answer to GET PROCESSING OPTIONS.
     Options,
@@ -114,6 +114,47 @@ pub fn count(bytes: &[u8]) -> Option<u8> {
     decode(record.first_chunk()?).map(|(_, count)| count)
 }
 
+/// Phase and store of the record in `bytes`, or none if they hold no record within its ranges.
+pub(crate) fn look(bytes: &[u8]) -> Option<(Phase, &Store)> {
+    let (head, rest) = bytes.split_first_chunk()?;
+    let store = rest.first_chunk()?;
+    let (phase, count) = decode(head)?;
+    in_range(phase, count, store).then_some((phase, store))
+}
+
+/// The ranges of a session record (document 01, "Session ranges"; document 02, Item 5).
+fn in_range(phase: Phase, count: u8, store: &Store) -> bool {
+    match phase {
+        Phase::Fresh => count == 0 && *store == [0; STORE_SIZE],
+        Phase::Ended { outcome, reason } => {
+            count <= 130 && reason::go_together(outcome, reason) && store::fits(store)
+        }
+        Phase::Options => {
+            count == 1
+                && store::fits(store)
+                && running(store)
+                && results_zero(store)
+                && !store::has(store, Object::InterchangeProfile)
+                && !store::has(store, Object::FileLocator)
+        }
+        Phase::Record(k) => {
+            store::fits(store)
+                && running(store)
+                && results_zero(store)
+                && records_of_emv_card(store).is_some_and(|records| {
+                    (1..=records).contains(&u32::from(k)) && u32::from(count) == 1 + u32::from(k)
+                })
+        }
+        Phase::Cryptogram(..) => {
+            store::fits(store)
+                && running(store)
+                && records_of_emv_card(store).is_some_and(|records| u32::from(count) == 2 + records)
+                && holds_record_data(store)
+                && store::has(store, Object::CvmResults)
+        }
+    }
+}
+
 impl<'a> Session<'a> {
     /// The session in `bytes`, once the refusals that all calls share are ruled out.
     ///
@@ -124,59 +165,20 @@ impl<'a> Session<'a> {
         }
         let (head, rest) = bytes.split_first_chunk_mut().ok_or(Refusal::Record)?;
         let store = rest.first_chunk_mut().ok_or(Refusal::Record)?;
-        let (phase, count) = decode(head).ok_or(Refusal::Record)?;
+        let (phase, count) = decode(head)
+            .filter(|&(phase, count)| in_range(phase, count, store))
+            .ok_or(Refusal::Record)?;
         let method = match phase {
             Phase::Cryptogram(_, method) => Some(method),
             _ => None,
         };
-        let session = Session {
+        Ok(Session {
             head,
             store,
             phase,
             count,
             method,
-        };
-        if session.in_range() {
-            Ok(session)
-        } else {
-            Err(Refusal::Record)
-        }
-    }
-
-    /// The ranges of a session record (document 01, "Session ranges"; document 02, Item 5).
-    fn in_range(&self) -> bool {
-        let store = &*self.store;
-        match self.phase {
-            Phase::Fresh => self.count == 0 && *store == [0; STORE_SIZE],
-            Phase::Ended { outcome, reason } => {
-                self.count <= 130 && reason::go_together(outcome, reason) && store::fits(store)
-            }
-            Phase::Options => {
-                self.count == 1
-                    && store::fits(store)
-                    && running(store)
-                    && results_zero(store)
-                    && !store::has(store, Object::InterchangeProfile)
-                    && !store::has(store, Object::FileLocator)
-            }
-            Phase::Record(k) => {
-                store::fits(store)
-                    && running(store)
-                    && results_zero(store)
-                    && records_of_emv_card(store).is_some_and(|records| {
-                        (1..=records).contains(&u32::from(k))
-                            && u32::from(self.count) == 1 + u32::from(k)
-                    })
-            }
-            Phase::Cryptogram(..) => {
-                store::fits(store)
-                    && running(store)
-                    && records_of_emv_card(store)
-                        .is_some_and(|records| u32::from(self.count) == 2 + records)
-                    && holds_record_data(store)
-                    && store::has(store, Object::CvmResults)
-            }
-        }
+        })
     }
 
     /// Start: takes the terminal's objects and asks for the processing options.
@@ -344,13 +346,18 @@ impl<'a> Session<'a> {
         {
             return Err(Reason::Missing);
         }
-        let outcome = match (information >> 6, asked) {
-            (0b00, _) => Outcome::Declined,
-            (0b10, Choice::Offline | Choice::Online) => Outcome::OnlineRequest,
-            (0b01, Choice::Offline) => Outcome::Approved,
-            _ => return Err(Reason::CryptogramType),
-        };
+        let outcome = decision(information, asked).ok_or(Reason::CryptogramType)?;
         Ok(Next::Decision(outcome))
+    }
+}
+
+/// The outcome that 9F27, by its top two bits, gives on the choice asked for, or none.
+pub(crate) fn decision(information: u8, asked: Choice) -> Option<Outcome> {
+    match (information >> 6, asked) {
+        (0b00, _) => Some(Outcome::Declined),
+        (0b10, Choice::Offline | Choice::Online) => Some(Outcome::OnlineRequest),
+        (0b01, Choice::Offline) => Some(Outcome::Approved),
+        _ => None,
     }
 }
 

@@ -112,11 +112,10 @@ fn line_in_numbers(line: &str) -> Option<String> {
         let (_, behind) = line.split_once(&format!("{word} "))?;
         behind.split([' ', ',']).next()
     };
-    if line == "objects held:" || line == "session: fresh" || line.starts_with("explanation: ") {
-        return None;
-    }
     let Some(count) = number(", count") else {
+        // An object, or a line of words alone.
         let (tag, rest) = line.split_once(' ')?;
+        Object::of_tag(u32::from_str_radix(tag, 16).ok()?)?;
         let value = rest.rsplit(": ").next()?;
         let value = if value == "empty" { "" } else { value };
         return Some(format!("{tag}: {value}"));

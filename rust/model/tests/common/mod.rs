@@ -207,6 +207,13 @@ impl Host {
             .expect("a whole store")
     }
 
+    /// The store, to change what no call would.
+    pub fn store_mut(&mut self) -> &mut Store {
+        self.session[HEAD_SIZE..]
+            .first_chunk_mut()
+            .expect("a whole store")
+    }
+
     pub fn get(&self, object: Object) -> Option<&[u8]> {
         store::get(self.store(), object)
     }
