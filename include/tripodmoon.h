@@ -177,8 +177,9 @@ uint32_t emv_wipe(uint8_t *session, size_t session_len);
 
 /* The first object of a tag in a card's bytes, as in the answer to SELECT without its status bytes: the place where
  * its value starts, counted from 0, in bits 32 to 63, and the value's length in bits 0 to 31. Templates are objects
- * too, and come before what they hold; they nest four levels. EMV_FIND_NONE where no object has the tag;
- * EMV_FIND_MALFORMED where the bytes are malformed anywhere, or over 65,535. */
+ * too, and come before what they hold; they nest four levels. Bytes of 00 between objects are passed over; places
+ * count them. EMV_FIND_NONE where no object has the tag; EMV_FIND_MALFORMED where the bytes are malformed anywhere,
+ * or over 65,535. */
 uint64_t emv_find(const uint8_t *bytes, size_t len, uint32_t tag);
 
 /* The library's version in bits 24 to 31, 16 to 23 and 8 to 15, and the record layout's in bits 0 to 7. */

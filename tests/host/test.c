@@ -543,6 +543,7 @@ static void finding(void)
     CHECK(emv_find(BYTES("\x6F\x02\x84\x00\x50"), 0x84) == EMV_FIND_MALFORMED); /* behind the object */
     CHECK(finds(BYTES("\xE1\x06\xE1\x04\xE1\x02\xE1\x00"), 0xE1, 2, 6));
     CHECK(emv_find(BYTES("\xE1\x08\xE1\x06\xE1\x04\xE1\x02\xE1\x00"), 0xE1) == EMV_FIND_MALFORMED);
+    CHECK(finds(BYTES("\x00\x6F\x07\x00\x84\x01\x41\x00\x50\x00\x00"), 0x84, 6, 1)); /* padding counts in a place */
     many[0] = 0x50;
     many[1] = 0x82;
     many[2] = 0xFF;
