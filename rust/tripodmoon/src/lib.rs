@@ -427,7 +427,8 @@ impl Session {
                     bit => Explanation::Forced {
                         stage,
                         bit,
-                        holder: Holder::of_number(high % 16).expect("libhost.a gave an unknown holder"),
+                        holder: Holder::of_number(high % 16)
+                            .expect("libhost.a gave an unknown holder"),
                     },
                 }
             }

@@ -1,8 +1,8 @@
 //! The wrapper's types over the linked library.
 
 use tripodmoon::{
-    calls, find, version, Explanation, Found, Holder, Method, Object, Outcome, Reply, Session, Stage,
-    Version, COMMAND_SIZE, MOST_VALUE, SESSION_SIZE,
+    calls, find, version, Explanation, Found, Holder, Method, Object, Outcome, Reply, Session,
+    Stage, Version, COMMAND_SIZE, MOST_VALUE, SESSION_SIZE,
 };
 
 /// The objects that a start must bring.
@@ -281,16 +281,41 @@ fn explanations() {
         bit: 0,
         holder,
     };
-    for (session, explanation) in [
-        (on_choice(0x22, 0, 0, &[]), forced(Stage::Online, Holder::Card)),
-        (on_choice(0x22, 0, 0x80, &[]), forced(Stage::Online, Holder::Both)),
-        (on_choice(0x22, 0, 0x80, &online_code), forced(Stage::Online, Holder::Terminal)),
-        (on_choice(0x22, 0, 0, &online_code), Explanation::Unforced(Stage::Online)),
-        (on_choice(0x21, 0, 0, &[]), Explanation::Unforced(Stage::OnlineOnly)),
-        (on_choice(0x23, 0, 0, &[]), forced(Stage::Default, Holder::Card)),
-        (on_choice(0x21, 0, 0, &denial_code), forced(Stage::Denial, Holder::Card)),
-        (on_choice(0x22, 0x80, 0, &denial_code), forced(Stage::Denial, Holder::Both)),
+    for (kind, denial, online, more, explanation) in [
+        (0x22, 0, 0, &[][..], forced(Stage::Online, Holder::Card)),
+        (0x22, 0, 0x80, &[], forced(Stage::Online, Holder::Both)),
+        (
+            0x22,
+            0,
+            0x80,
+            &online_code,
+            forced(Stage::Online, Holder::Terminal),
+        ),
+        (
+            0x22,
+            0,
+            0,
+            &online_code,
+            Explanation::Unforced(Stage::Online),
+        ),
+        (0x21, 0, 0, &[], Explanation::Unforced(Stage::OnlineOnly)),
+        (0x23, 0, 0, &[], forced(Stage::Default, Holder::Card)),
+        (
+            0x21,
+            0,
+            0,
+            &denial_code,
+            forced(Stage::Denial, Holder::Card),
+        ),
+        (
+            0x22,
+            0x80,
+            0,
+            &denial_code,
+            forced(Stage::Denial, Holder::Both),
+        ),
     ] {
+        let session = on_choice(kind, denial, online, more);
         assert_eq!(session.explain(), explanation);
     }
 
