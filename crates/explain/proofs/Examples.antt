@@ -116,10 +116,11 @@ unfolding explained stageIn decidingIn holderOf pairAt reasonAt bit front holdsB
     cryptogramRanges running brought isBrought cryptogramAbsent completed listed accepts wholeEntries entries keeps sumOf every both either if
 waiting-online = refl
 
--- the lowest bit of the denial codes alone, by the terminal, and by both where the lower one is not set
+-- the lowest bit of the denial codes alone, by the terminal, and by both where the lower one is not set; at type 21 too
 waiting-denial : waiting Choice.Decline 0x22 (five 0x80 0x40 0 0x80 0) ((0x9F0E, five 0 0 0 0x80 0) ∷ (0xDF8121, five 0 0x40 0 0x80 0) ∷ [])
-    ∷ waiting Choice.Decline 0x22 (five 0x80 0 0 0x80 0) ((0x9F0E, five 0 0 0 0x80 0) ∷ (0xDF8121, five 0 0x40 0 0x80 0) ∷ []) ∷ []
-    ≡ choiceWord Stage.Denial Holder.Terminal 9 ∷ choiceWord Stage.Denial Holder.Both 24 ∷ []
+    ∷ waiting Choice.Decline 0x22 (five 0x80 0 0 0x80 0) ((0x9F0E, five 0 0 0 0x80 0) ∷ (0xDF8121, five 0 0x40 0 0x80 0) ∷ [])
+    ∷ waiting Choice.Decline 0x21 (five 0x80 0 0 0x80 0) ((0x9F0E, five 0 0 0 0x80 0) ∷ []) ∷ []
+    ≡ choiceWord Stage.Denial Holder.Terminal 9 ∷ choiceWord Stage.Denial Holder.Both 24 ∷ choiceWord Stage.Denial Holder.Card 24 ∷ []
 unfolding explained stageIn decidingIn holderOf pairAt reasonAt bit front holdsBit lowestFrom lowestBit cardCode heldAt capabilityAt choiceOf codesOf chosen
     inRanges allFit objectFits lengthIn lengthByte fitting digitsFit numeric compressed digitsThenFs nibbles putAt placeOf valueIn valueAt placeAt held offsetIn find past rows
     cryptogramRanges running brought isBrought cryptogramAbsent completed listed accepts wholeEntries entries keeps sumOf every both either if
@@ -154,6 +155,16 @@ unfolding explained endedIn rankOf decision stageIn decidingIn holderOf pairAt r
     inRanges allFit objectFits lengthIn lengthByte fitting digitsFit numeric compressed digitsThenFs nibbles putAt placeOf valueIn valueAt placeAt held offsetIn find past rows
     endedRanges goesWith every both either if
 ended-refused = refl
+
+-- the terminal's denial code and its type are needed; a code of a stage that is not consulted is not, and where denial decides the
+-- type is not
+ended-needs : map (λ t. ended t Outcome.OnlineRequest 0x80 []) (0xDF8121 ∷ 0x9F35 ∷ 0xDF8120 ∷ [])
+    ++ (ended 0x9F35 Outcome.Declined 0x00 ((0x9F0E, usual) ∷ []) ∷ [])
+    ≡ refused ∷ refused ∷ choiceWord Stage.Online Holder.Card 0 ∷ choiceWord Stage.Denial Holder.Card 0 ∷ []
+unfolding explained endedIn rankOf decision stageIn decidingIn holderOf pairAt reasonAt bit front holdsBit lowestFrom lowestBit cardCode heldAt capabilityAt choiceOf codesOf chosen
+    inRanges allFit objectFits lengthIn lengthByte fitting digitsFit numeric compressed digitsThenFs nibbles putAt placeOf valueIn valueAt placeAt held offsetIn find past rows
+    endedRanges goesWith every both either if
+ended-needs = refl
 
 -- ---- no choice, a reason
 
