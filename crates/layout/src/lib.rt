@@ -1,7 +1,7 @@
 // The session record as bytes that a host lends, and a call's answer as one number.
 //
 // The record is a head and the store: a byte for the layout's version, the code of the phase with the count
-// of commands handed out before its last byte, and then the store's bytes as they stand. `encode` writes it in front of the
+// of commands handed out among its bytes and the limit in force at its end, and then the store's bytes as they stand. `encode` writes it in front of the
 // lent bytes, `decode` takes it apart again: only bytes that some record is encoded as are a record. Both
 // lend the store, which is the largest part; `head_in` and `put_head` read and write the head alone, for a
 // caller that works on the store in its place.
@@ -10,19 +10,23 @@ use analysis::verification::Method;
 use dictionary::SIZE;
 use record::{Answer, Asked, End, Issued, Outcome, OutcomeParameters, Phase, Place};
 ghost use mathlib.Core.Path.{_≡_};
-ghost use Prim.Native.Nat.{_≤_};
+ghost use Prim.Native.Nat.{_+_, _*_, _≤_, _<_};
 ghost use lib.ListN.{length};
+ghost use Rattle.basics.specs.Number.{number as numberOf};
 ghost use Rattle.dictionary.specs.Rows.{storeSize};
 ghost use Rattle.record.specs.Session.{sessionOf};
-ghost use Rattle.layout.specs.Layout.{recordSize, choiceFrom, methodFrom, outcomeFrom, codeOf, phaseOf, codeIn, sameCode, withHead, decoded, heldOf, Wrote, Decodes};
+ghost use Rattle.layout.specs.Layout.{recordSize, limitBytes, choiceFrom, methodFrom, outcomeFrom, askedFrom, codeOf, phaseOf, codeIn, sameCode, withHead, decoded, heldOf, Wrote, Decodes};
 ghost use Rattle.layout.specs.Layout.{version as layoutVersion};
 ghost use Rattle.layout.specs.Word.{commandWord, outcomeWord, refusalWord, wordOf};
 
 // The layout's version, the first byte of every record.
-const VERSION: u8 = 2;
+const VERSION: u8 = 3;
 
 // How many bytes stand in front of the store.
-pub const HEAD: usize = 6;
+pub const HEAD: usize = 14;
+
+// Where the limit in force stands in the head, eight bytes.
+const LIMIT: usize = 6;
 
 // How many bytes a record takes.
 pub const RECORD_SIZE: usize = HEAD + SIZE;
@@ -40,6 +44,7 @@ pub struct Code {
     pub datum: u8,
     pub reason: u8,
     pub method: u8,
+    pub limit: [u8; 8],
 }
 
 // The phase and the count that a record's head has.
@@ -103,6 +108,8 @@ pub fn put_head(phase: Phase, count: u8, bytes: &mut [u8])
     bytes[3] = code.reason;
     bytes[4] = count;
     bytes[5] = code.method;
+    let limit = code.limit;
+    bytes::copy(&limit, &mut bytes[LIMIT..HEAD]);
 }
 
 // Takes apart the record in front of the bytes: its store goes into the one that is lent.
@@ -177,16 +184,19 @@ fn outcome_word(end: OutcomeParameters) -> u32
         + basics::wide32(end.reason)
 }
 
-// The four bytes that enough bytes have for the code.
+// What enough bytes have for the code.
 fn code_in(bytes: &[u8]) -> Code
     requires { ⌜ recordSize ≤ length (now bytes) ⌝ }
     ensures { λ r. ⌜ r ≡ codeIn (now (bytes .entry)) ⌝ }
 {
+    let mut limit = [0u8; 8];
+    bytes::copy(&bytes[LIMIT..HEAD], &mut limit);
     Code {
         number: bytes[1],
         datum: bytes[2],
         reason: bytes[3],
         method: bytes[5],
+        limit,
     }
 }
 
@@ -194,25 +204,14 @@ fn code_in(bytes: &[u8]) -> Code
 fn code_of(phase: Phase) -> Code
     ensures { λ r. ⌜ r ≡ codeOf phase ⌝ }
 {
+    let none = [0u8; 8];
     match phase {
-        Phase::Fresh => Code {
-            number: ON_FRESH,
-            datum: 0,
-            reason: 0,
-            method: 0,
-        },
-        Phase::Options => Code {
-            number: ON_OPTIONS,
-            datum: 0,
-            reason: 0,
-            method: 0,
-        },
-        Phase::Record(place) => Code {
-            number: ON_RECORD,
-            datum: place.number,
-            reason: 0,
-            method: 0,
-        },
+        Phase::Fresh => Code { number: ON_FRESH, datum: 0, reason: 0, method: 0, limit: none },
+        Phase::Options => Code { number: ON_OPTIONS, datum: 0, reason: 0, method: 0, limit: none },
+        Phase::Record(place) => {
+            let limit = limit_bytes(place.limit);
+            Code { number: ON_RECORD, datum: place.number, reason: 0, method: 0, limit }
+        }
         Phase::Cryptogram(asked) => {
             let choice = asked.choice;
             let method = asked.method;
@@ -221,16 +220,13 @@ fn code_of(phase: Phase) -> Code
                 datum: analysis::choice::p1(choice),
                 reason: 0,
                 method: analysis::verification::method_number(method),
+                limit: limit_bytes(asked.limit),
             }
         }
         Phase::Ended(end) => {
             let outcome = end.outcome;
-            Code {
-                number: ON_ENDED,
-                datum: record::outcome_number(outcome),
-                reason: end.reason,
-                method: 0,
-            }
+            let datum = record::outcome_number(outcome);
+            Code { number: ON_ENDED, datum, reason: end.reason, method: 0, limit: none }
         }
     }
 }
@@ -247,12 +243,56 @@ fn phase_of(code: Code) -> Phase
         return Phase::Options;
     }
     if number == ON_RECORD {
-        return Phase::Record(Place { number: code.datum });
+        let limit = limit_from(code.limit);
+        return Phase::Record(Place { number: code.datum, limit });
     }
     if number == ON_CRYPTOGRAM {
-        return Phase::Cryptogram(Asked { choice: choice_from(code.datum), method: method_from(code.method) });
+        return Phase::Cryptogram(asked_from(code));
     }
     Phase::Ended(End { outcome: outcome_from(code.datum), reason: code.reason })
+}
+
+// What a code says of the cryptogram that is awaited.
+fn asked_from(code: Code) -> Asked
+    ensures { λ r. ⌜ r ≡ askedFrom code ⌝ }
+{
+    let choice = choice_from(code.datum);
+    let method = method_from(code.method);
+    let limit = limit_from(code.limit);
+    Asked { choice, method, limit }
+}
+
+// A limit as eight bytes, high byte first.
+fn limit_bytes(limit: u64) -> [u8; 8]
+    ensures { λ r. ⌜ r ≡ limitBytes limit ⌝ }
+{
+    [
+        (limit / 0x100000000000000) as u8,
+        (limit / 0x1000000000000 % 256) as u8,
+        (limit / 0x10000000000 % 256) as u8,
+        (limit / 0x100000000 % 256) as u8,
+        (limit / 0x1000000 % 256) as u8,
+        (limit / 0x10000 % 256) as u8,
+        (limit / 0x100 % 256) as u8,
+        (limit % 256) as u8,
+    ]
+}
+
+// The limit of eight bytes, high byte first.
+fn limit_from(bytes: [u8; 8]) -> u64
+    ensures { λ r. ⌜ r ≡ numberOf bytes ⌝ }
+{
+    let high = four(bytes[0], bytes[1], bytes[2], bytes[3]);
+    let low = four(bytes[4], bytes[5], bytes[6], bytes[7]);
+    high * 0x100000000 + low
+}
+
+// Four bytes as a number, high byte first.
+fn four(a: u8, b: u8, c: u8, d: u8) -> u64
+    ensures { λ r. ⌜ (r ≡ ((a * 256 + b) * 256 + c) * 256 + d) × (r < 0x100000000) ⌝ }
+{
+    let n = basics::wide32(a) * 0x1000000 + basics::wide32(b) * 0x10000 + basics::wide32(c) * 0x100 + basics::wide32(d);
+    n as u64
 }
 
 // Whether two codes are the same.
@@ -268,7 +308,12 @@ fn is_same(a: Code, b: Code) -> bool
     if a.reason != b.reason {
         return false;
     }
-    a.method == b.method
+    if a.method != b.method {
+        return false;
+    }
+    let limit = a.limit;
+    let other = b.limit;
+    basics::same(&limit, &other)
 }
 
 // The choice that P1 of the command asks for; a decline where no choice has that P1.
@@ -292,6 +337,7 @@ fn method_from(number: u8) -> Method
         0 => Method::NoCvm,
         1 => Method::Signature,
         2 => Method::OnlinePin,
+        3 => Method::ConfirmationCode,
         _ => Method::OfflinePin,
     }
 }
