@@ -1,8 +1,8 @@
 // The session record as bytes that a host lends, and a call's answer as one number.
 //
 // The record is a head and the store: a byte for the layout's version, the code of the phase with the count
-// of commands handed out among its bytes and the limit in force at its end, and then the store's bytes as they stand. `encode` writes it in front of the
-// lent bytes, `decode` takes it apart again: only bytes that some record is encoded as are a record. Both
+// of commands handed out before its last byte, the limit in force, and then the store's bytes as they stand. `encode` writes
+// it in front of the lent bytes, `decode` takes it apart again: only bytes that some record is encoded as are a record. Both
 // lend the store, which is the largest part; `head_in` and `put_head` read and write the head alone, for a
 // caller that works on the store in its place.
 use analysis::choice::Choice;
@@ -15,7 +15,7 @@ ghost use lib.ListN.{length};
 ghost use Rattle.basics.specs.Number.{number as numberOf};
 ghost use Rattle.dictionary.specs.Rows.{storeSize};
 ghost use Rattle.record.specs.Session.{sessionOf};
-ghost use Rattle.layout.specs.Layout.{recordSize, limitBytes, choiceFrom, methodFrom, outcomeFrom, askedFrom, codeOf, phaseOf, codeIn, sameCode, withHead, decoded, heldOf, Wrote, Decodes};
+ghost use Rattle.layout.specs.Layout.{recordSize, choiceFrom, methodFrom, outcomeFrom, codeOf, heldLimit, limitBytes, phaseOf, codeIn, limitIn, sameCode, withHead, decoded, heldOf, Wrote, Decodes};
 ghost use Rattle.layout.specs.Layout.{version as layoutVersion};
 ghost use Rattle.layout.specs.Word.{commandWord, outcomeWord, refusalWord, wordOf};
 
@@ -44,7 +44,6 @@ pub struct Code {
     pub datum: u8,
     pub reason: u8,
     pub method: u8,
-    pub limit: [u8; 8],
 }
 
 // The phase and the count that a record's head has.
@@ -108,7 +107,7 @@ pub fn put_head(phase: Phase, count: u8, bytes: &mut [u8])
     bytes[3] = code.reason;
     bytes[4] = count;
     bytes[5] = code.method;
-    let limit = code.limit;
+    let limit = limit_bytes(held_limit(phase));
     bytes::copy(&limit, &mut bytes[LIMIT..HEAD]);
 }
 
@@ -137,8 +136,13 @@ pub fn head_in(bytes: &[u8]) -> Held
         return Held::Nothing;
     }
     let code = code_in(bytes);
-    let phase = phase_of(code);
+    let limit = limit_in(bytes);
+    let phase = phase_of(code, limit_from(limit));
     if !is_same(code_of(phase), code) {
+        return Held::Nothing;
+    }
+    let own = limit_bytes(held_limit(phase));
+    if !basics::same(&own, &limit) {
         return Held::Nothing;
     }
     Held::Record(Head { phase, count: bytes[4] })
@@ -184,19 +188,16 @@ fn outcome_word(end: OutcomeParameters) -> u32
         + basics::wide32(end.reason)
 }
 
-// What enough bytes have for the code.
+// The four bytes that enough bytes have for the code.
 fn code_in(bytes: &[u8]) -> Code
     requires { ⌜ recordSize ≤ length (now bytes) ⌝ }
     ensures { λ r. ⌜ r ≡ codeIn (now (bytes .entry)) ⌝ }
 {
-    let mut limit = [0u8; 8];
-    bytes::copy(&bytes[LIMIT..HEAD], &mut limit);
     Code {
         number: bytes[1],
         datum: bytes[2],
         reason: bytes[3],
         method: bytes[5],
-        limit,
     }
 }
 
@@ -204,14 +205,25 @@ fn code_in(bytes: &[u8]) -> Code
 fn code_of(phase: Phase) -> Code
     ensures { λ r. ⌜ r ≡ codeOf phase ⌝ }
 {
-    let none = [0u8; 8];
     match phase {
-        Phase::Fresh => Code { number: ON_FRESH, datum: 0, reason: 0, method: 0, limit: none },
-        Phase::Options => Code { number: ON_OPTIONS, datum: 0, reason: 0, method: 0, limit: none },
-        Phase::Record(place) => {
-            let limit = limit_bytes(place.limit);
-            Code { number: ON_RECORD, datum: place.number, reason: 0, method: 0, limit }
-        }
+        Phase::Fresh => Code {
+            number: ON_FRESH,
+            datum: 0,
+            reason: 0,
+            method: 0,
+        },
+        Phase::Options => Code {
+            number: ON_OPTIONS,
+            datum: 0,
+            reason: 0,
+            method: 0,
+        },
+        Phase::Record(place) => Code {
+            number: ON_RECORD,
+            datum: place.number,
+            reason: 0,
+            method: 0,
+        },
         Phase::Cryptogram(asked) => {
             let choice = asked.choice;
             let method = asked.method;
@@ -220,46 +232,31 @@ fn code_of(phase: Phase) -> Code
                 datum: analysis::choice::p1(choice),
                 reason: 0,
                 method: analysis::verification::method_number(method),
-                limit: limit_bytes(asked.limit),
             }
         }
         Phase::Ended(end) => {
             let outcome = end.outcome;
-            let datum = record::outcome_number(outcome);
-            Code { number: ON_ENDED, datum, reason: end.reason, method: 0, limit: none }
+            Code {
+                number: ON_ENDED,
+                datum: record::outcome_number(outcome),
+                reason: end.reason,
+                method: 0,
+            }
         }
     }
 }
 
-// The phase that a code says, the nearest one where no phase has that code.
-fn phase_of(code: Code) -> Phase
-    ensures { λ r. ⌜ r ≡ phaseOf code ⌝ }
+// The limit in force that a phase holds, 0 where it holds none.
+fn held_limit(phase: Phase) -> u64
+    ensures { λ r. ⌜ r ≡ heldLimit phase ⌝ }
 {
-    let number = code.number;
-    if number == ON_FRESH {
-        return Phase::Fresh;
+    match phase {
+        Phase::Fresh => 0,
+        Phase::Options => 0,
+        Phase::Record(place) => place.limit,
+        Phase::Cryptogram(asked) => asked.limit,
+        Phase::Ended(_) => 0,
     }
-    if number == ON_OPTIONS {
-        return Phase::Options;
-    }
-    if number == ON_RECORD {
-        let limit = limit_from(code.limit);
-        return Phase::Record(Place { number: code.datum, limit });
-    }
-    if number == ON_CRYPTOGRAM {
-        return Phase::Cryptogram(asked_from(code));
-    }
-    Phase::Ended(End { outcome: outcome_from(code.datum), reason: code.reason })
-}
-
-// What a code says of the cryptogram that is awaited.
-fn asked_from(code: Code) -> Asked
-    ensures { λ r. ⌜ r ≡ askedFrom code ⌝ }
-{
-    let choice = choice_from(code.datum);
-    let method = method_from(code.method);
-    let limit = limit_from(code.limit);
-    Asked { choice, method, limit }
 }
 
 // A limit as eight bytes, high byte first.
@@ -276,6 +273,16 @@ fn limit_bytes(limit: u64) -> [u8; 8]
         (limit / 0x100 % 256) as u8,
         (limit % 256) as u8,
     ]
+}
+
+// The eight bytes that enough bytes have for the limit.
+fn limit_in(bytes: &[u8]) -> [u8; 8]
+    requires { ⌜ recordSize ≤ length (now bytes) ⌝ }
+    ensures { λ r. ⌜ r ≡ limitIn (now (bytes .entry)) ⌝ }
+{
+    let mut limit = [0u8; 8];
+    bytes::copy(&bytes[LIMIT..HEAD], &mut limit);
+    limit
 }
 
 // The limit of eight bytes, high byte first.
@@ -295,6 +302,28 @@ fn four(a: u8, b: u8, c: u8, d: u8) -> u64
     n as u64
 }
 
+// The phase that a code and a limit say, the nearest one where no phase has that code.
+fn phase_of(code: Code, limit: u64) -> Phase
+    ensures { λ r. ⌜ r ≡ phaseOf code limit ⌝ }
+{
+    let number = code.number;
+    if number == ON_FRESH {
+        return Phase::Fresh;
+    }
+    if number == ON_OPTIONS {
+        return Phase::Options;
+    }
+    if number == ON_RECORD {
+        return Phase::Record(Place { number: code.datum, limit });
+    }
+    if number == ON_CRYPTOGRAM {
+        let choice = choice_from(code.datum);
+        let method = method_from(code.method);
+        return Phase::Cryptogram(Asked { choice, method, limit });
+    }
+    Phase::Ended(End { outcome: outcome_from(code.datum), reason: code.reason })
+}
+
 // Whether two codes are the same.
 fn is_same(a: Code, b: Code) -> bool
     ensures { λ r. ⌜ r ≡ sameCode a b ⌝ }
@@ -308,12 +337,7 @@ fn is_same(a: Code, b: Code) -> bool
     if a.reason != b.reason {
         return false;
     }
-    if a.method != b.method {
-        return false;
-    }
-    let limit = a.limit;
-    let other = b.limit;
-    basics::same(&limit, &other)
+    a.method == b.method
 }
 
 // The choice that P1 of the command asks for; a decline where no choice has that P1.
