@@ -26,7 +26,7 @@ returns c =
     let put = put2 .before .before .before .before .before in
     let f = put .before .before .before .before .before .before .before in
     let a = f .before .before .before .before .args in
-    did-as (analysed-as (a .count) (a .store .now) _ (f .findings-of .ensures) (put .before .before .before .choice-for .ensures .0) (put .put .ensures .0) (put2 .put2 .ensures .0))
+    did-as (analysed-as (a .count) (a .store .now) _ (a .limit) (f .findings-of .ensures) (put .before .before .before .choice-for .ensures .0) (put .put .ensures .0) (put2 .put2 .ensures .0))
     (c .before .before .ask-cryptogram .ensures)
 
 pub analyse-spec : {M : Type 1} → statement M
