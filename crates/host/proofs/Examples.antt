@@ -36,6 +36,6 @@ empty : objectIn (1 ∷ 0xA1 ∷ []) 0x57 [] ≡ record { word = 0; lent = [] }
 unfolding objectIn if rows find past valueIn valueAt placeAt held offsetIn
 empty = refl
 
--- 0.1.0, and version 2 of the layout
-version : versionWord ≡ 0x00010002
+-- 0.1.0, and version 3 of the layout
+version : versionWord ≡ 0x00010003
 version = refl
