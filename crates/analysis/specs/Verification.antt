@@ -21,7 +21,7 @@ use Rattle.analysis.specs.declared.verification.Verified.{Verified}
 -- ---- the methods
 
 -- their numbers (Book C-2 A.1.117): 0 no CVM, 1 signature, 2 online PIN, 3 confirmation code verified. An offline PIN
--- has a proprietary value there; ours is 4, and its result is unknown, since nobody has verified anything.
+-- has a proprietary value (CVM.18); ours is 4, and its result is unknown, since nobody has verified anything.
 abbrev pub methodNumber : Method → ℕ
 methodNumber NoCvm = 0
 methodNumber Signature = 1

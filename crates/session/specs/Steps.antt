@@ -117,7 +117,3 @@ linkStep s buf = brokenOff s reasonLink buf
 -- the call stop: reason 10
 abbrev pub stopStep : Session → List ℕ → Step
 stopStep s buf = brokenOff s reasonStopped buf
-
--- ---- what holds of every call, proved in trace's proofs/Methods
---   tells-method   an outcome's method is not applicable exactly where no choice was made or held: a choice is held while
---                  the cryptogram is awaited, and made after the last record once reasons 6 and 4 are ruled out

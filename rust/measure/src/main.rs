@@ -154,7 +154,7 @@ fn cases() -> Vec<Case> {
             work: Work::Answer(broken),
         },
         Case {
-            name: "start, 13 objects".into(),
+            name: "start, all that it must bring and a list".into(),
             work: Work::Start,
         },
         Case {
