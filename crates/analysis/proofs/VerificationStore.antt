@@ -17,7 +17,7 @@ use Rattle.analysis.specs.Value.{front}
 use Rattle.analysis.specs.Digits.{oneOf, amountOf, amountAbove}
 use Rattle.analysis.specs.Restrictions.{atAtm}
 use Rattle.analysis.specs.Verification.{amountX, amountY, verification, byPhone, bitsOf}
-use Rattle.analysis.specs.Action.{phoneIn, usageIn, restrictionsOf, resultOf, sameCurrency, termsIn, verifiedIn, fullResult, findingsOf}
+use Rattle.analysis.specs.Action.{phoneIn, usageIn, restrictionsOf, resultOf, sameCurrency, termsIn, verifiedIn, fullResult, findingsOf, AlikeBut82And8E, PhoneRules}
 use Rattle.analysis.specs.Result.{floorBits, withBits}
 use Rattle.analysis.specs.declared.action.Findings.{Findings}
 use Rattle.analysis.specs.declared.verification.Verified.{Verified}
@@ -73,12 +73,8 @@ pub phone-verified : (b : List ℕ) → phoneIn b ≡ true → verifiedIn b ≡ 
 unfolding verifiedIn
 phone-verified b p = if-yes _ _ p
 
--- two stores that differ in 82 and 8E alone
-abbrev pub ApartFromCard : List ℕ → List ℕ → Type 0
-ApartFromCard b c = (t : ℕ) → (t ≡ 0x82 → ⊥) → (t ≡ 0x8E → ⊥) → valueOf b t ≡ valueOf c t
-
--- of two phones that differ there alone 9F34, 95 and the method are the same
-module _ (b c : List ℕ) (p : phoneIn b ≡ true) (q : phoneIn c ≡ true) (a : ApartFromCard b c) where
+-- of two phones alike but for 82 and 8E, 9F34, 95 and the method are the same
+module _ (b c : List ℕ) (p : phoneIn b ≡ true) (q : phoneIn c ≡ true) (a : AlikeBut82And8E b c) where
   phone-same : verifiedIn b ≡ verifiedIn c
   phone-same =
       phone-verified b p
@@ -111,12 +107,12 @@ module _ (b c : List ℕ) (p : phoneIn b ≡ true) (q : phoneIn c ≡ true) (a :
         usage-same,
       )
 
-  pub phone-alone : findingsOf b ≡ findingsOf c
+  phone-alone : findingsOf b ≡ findingsOf c
   unfolding findingsOf fullResult
   phone-alone = simp (phone-same, result-same)
 
 -- and 95 is what restrictions and floor limit make it
-pub phone-adds-none : (b : List ℕ) → phoneIn b ≡ true → fullResult b ≡ resultOf b
+phone-adds-none : (b : List ℕ) → phoneIn b ≡ true → fullResult b ≡ resultOf b
 unfolding fullResult resultOf withBits
 phone-adds-none b p =
     let z = phone-bits (amountAbove (bytesIn b 0x9F02) (bytesIn b 0xDF8126)) in
@@ -126,3 +122,10 @@ phone-adds-none b p =
     let two : restrictionsOf b + 0 ≡ restrictionsOf b = omega arith in
     let four : floorBits (bytesIn b 0x9F02) (bytesIn b 0xDF8123) + 0 ≡ floorBits (bytesIn b 0x9F02) (bytesIn b 0xDF8123) = omega arith in
     simp (first, third, two, four)
+
+bits-are : (b : List ℕ) → findingsOf b .bits ≡ fullResult b
+unfolding findingsOf
+bits-are b = refl
+
+pub phone-rules : PhoneRules
+phone-rules = record { same = phone-alone; no-bits = λ b p. bits-are b ∙ phone-adds-none b p }

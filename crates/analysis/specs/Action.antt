@@ -6,7 +6,8 @@
 -- Here an absent value reads as no bytes, and a byte past a value's end as 0: so a missing date, amount, limit, type,
 -- capability, configuration or terminal's code is zero, and a missing version or country is unlike any that has bytes.
 -- Assumes nothing.
-use mathlib.Core.Bool.{Bool, false}
+use mathlib.Core.Path.{_≡_}
+use mathlib.Core.Bool.{Bool, true, false}
 use mathlib.Core.List.{List, [], _∷_}
 use Prim.Native.Nat.{ℕ}
 use Rattle.basics.specs.Alike.{alike}
@@ -126,7 +127,17 @@ unfoldable pub chosen : List ℕ → List ℕ → Choice
 chosen store result = choiceOf result (terminalType store) (codesOf store)
 
 -- ---- what holds of it, proved in proofs/VerificationStore
+
 --   odd-byte-stored   of two stores alike but for an 8E that is even in the one and has a byte more in the other, the
 --                     verification is the same
---   phone-alone       of two phones' stores alike but for 82 and 8E, 9F34, 95 and the method are the same
---   phone-adds-none   for a phone the verification adds no bit to 95
+
+-- two stores are alike but for 82 and 8E
+abbrev pub AlikeBut82And8E : List ℕ → List ℕ → Type 0
+AlikeBut82And8E b c = (t : ℕ) → (t ≡ 0x82 → ⊥) → (t ≡ 0x8E → ⊥) → valueOf b t ≡ valueOf c t
+
+-- on a phone the list and the other bits of the profile do not matter; `action::findings_of` promises it
+pub record PhoneRules : Type 0 where
+  -- of two phones alike but for 82 and 8E, 9F34, 95 and the method are the same
+  pub same : (b c : List ℕ) → phoneIn b ≡ true → phoneIn c ≡ true → AlikeBut82And8E b c → findingsOf b ≡ findingsOf c
+  -- the verification adds no bit to 95
+  pub no-bits : (b : List ℕ) → phoneIn b ≡ true → findingsOf b .bits ≡ resultOf b

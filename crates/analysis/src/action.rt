@@ -25,7 +25,7 @@ ghost use Rattle.analysis.specs.Digits.{oneOf, amountAbove};
 ghost use Rattle.analysis.specs.Restrictions.{otherVersion, notYetEffective, atAtm, countryOf, cashback};
 ghost use Rattle.analysis.specs.Action.{phoneIn, limitOf, aboveLimit, usageIn, restrictionsOf, resultOf, terminalType, codesOf, chosen};
 ghost use Rattle.analysis.specs.Verification.{byPhone};
-ghost use Rattle.analysis.specs.Action.{sameCurrency, termsIn, verifiedIn, fullResult, findingsOf};
+ghost use Rattle.analysis.specs.Action.{sameCurrency, termsIn, verifiedIn, fullResult, findingsOf, PhoneRules};
 
 // What the analysis finds before the choice: the three bytes of 9F34, the five of 95, and the method.
 pub struct Findings {
@@ -45,7 +45,8 @@ pub fn result_of(bytes: &[u8]) -> [u8; 5]
 
 // What the restrictions, the limit and cardholder verification give: 9F34, 95 and the method.
 pub fn findings_of(bytes: &[u8]) -> Findings
-    ensures { λ r. ⌜ r ≡ findingsOf (now (bytes .entry)) ⌝ }
+    ensures findings { λ r. ⌜ r ≡ findingsOf (now (bytes .entry)) ⌝ }
+    ensures phones { λ _. ⌜ PhoneRules ⌝ }
 {
     let verified = verified_in(bytes);
     let results = [verified.code, verified.condition, verified.result];

@@ -401,7 +401,7 @@ call-goes s (answer card buf) = answer-goes s card buf
 call-goes s (link-failed buf) = broken-goes s (link-failed buf) reasonLink buf
 call-goes s (stop buf) = broken-goes s (stop buf) reasonStopped buf
 
-call-keeps : (s : Session) (c : Call) → inRanges s ≡ true → inRanges (step s c .reply .session) ≡ true
+pub call-keeps : (s : Session) (c : Call) → inRanges s ≡ true → inRanges (step s c .reply .session) ≡ true
 call-keeps s (start bytes buf) i = start-keeps s bytes buf i
 call-keeps s (answer card buf) i = answer-keeps s card buf i
 call-keeps s (link-failed buf) i = link-keeps s buf i
