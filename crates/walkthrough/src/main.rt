@@ -15,7 +15,7 @@ fn main() {
 // ---- the steps of a session
 
 // All that a start must bring: a terminal type, and an amount of 12.34 and so many hundreds. The floor
-// limit is 100.00, the transaction limit 200.00, for a phone 500.00; from 10.00 on a check of the holder is required.
+// limit is 100.00, the transaction limit 200.00, for a phone 500.00; above 10.00 a check of the holder is required.
 fn terminal(kind: u8, hundreds: u8) -> [u8; 116] {
     [
         0x9A, 0x03, 0x25, 0x11, 0x15, 0x9C, 0x01, 0x00, 0x9F, 0x02, 0x06, 0x00, 0x00, 0x00, hundreds, 0x12, 0x34, 0x9F,
@@ -133,7 +133,7 @@ fn limited(hundreds: u8, options: &[u8], record: &[u8]) {
     let asked = next(started, options);
     let session = asked.session;
     let phase = session.phase;
-    show::text(b"held");
+    show::text(b"waiting on the record");
     show::held_limit(phase);
     show::text(b"\n");
     let read = next(asked, record);
