@@ -11,13 +11,14 @@ use Rattle.basics.specs.Number.{nibbles}
 use Rattle.dictionary.specs.Named.{placeOf}
 use Rattle.dictionary.specs.Rows.{rows, past, find, storeSize}
 use Rattle.store.specs.Place.{Value, absent, present, offsetIn, placeAt, held, valueAt, putAt, valueIn}
-use Rattle.analysis.specs.Action.{aboveLimit, limitOf, usageIn, restrictionsOf, resultOf, codesOf, chosen}
+use Rattle.analysis.specs.Action.{phoneIn, aboveLimit, limitOf, usageIn, restrictionsOf, resultOf, codesOf, chosen}
 use Rattle.analysis.specs.Bits.{bit}
 use Rattle.analysis.specs.Choice.{denial, online, default, holdsBit, lowestFrom, lowestBit, noBits, allBits, cardCode, heldAt, capabilityAt, choiceOf, p1Of, p1For}
 use Rattle.analysis.specs.Digits.{decimalFrom, yearOf, dateOf, laterThan, amountOf, amountAbove}
 use Rattle.analysis.specs.Restrictions.{otherVersion, expired, notYetEffective, atAtm, countryOf, cashback, placeMet, cashMet, goodsMet, cashbackMet, usageBroken, usageOf, restrictionBits}
 use Rattle.analysis.specs.Result.{floorBits, resultBits}
 use Rattle.analysis.specs.Value.{front}
+use Rattle.analysis.specs.Verification.{onDevice}
 use Rattle.analysis.specs.declared.choice.Choice.the-variants.{Decline, Online, Offline}
 use Rattle.analysis.specs.declared.choice.Lowest.the-variants.{Bit, NoBit}
 use Rattle.analysis.specs.declared.restrictions.Country.the-variants.{Home, Abroad, NotGiven}
@@ -313,8 +314,11 @@ unfolding usageIn usageBroken placeMet cashMet goodsMet cashbackMet atAtm countr
 usages = refl
 
 -- the transaction limit DF8124: at it, and one above it
-limits : aboveLimit purchase ∷ aboveLimit (with purchase 0xDF8124 (0 ∷ 0 ∷ 0 ∷ 0 ∷ 0x09 ∷ 0x99 ∷ [])) ∷ [] ≡ false ∷ true ∷ []
-unfolding aboveLimit limitOf amountAbove amountOf front decimalFrom nibbles if
+abbrev limited : List ℕ → Bool
+limited b = aboveLimit (limitOf b) b
+
+limits : limited purchase ∷ limited (with purchase 0xDF8124 (0 ∷ 0 ∷ 0 ∷ 0 ∷ 0x09 ∷ 0x99 ∷ [])) ∷ [] ≡ false ∷ true ∷ []
+unfolding aboveLimit limitOf phoneIn onDevice both amountAbove amountOf front decimalFrom nibbles if
     putAt placeOf valueIn valueAt placeAt held offsetIn find past rows
 limits = refl
 

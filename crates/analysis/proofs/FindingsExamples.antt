@@ -1,5 +1,5 @@
 -- What is found in a store before the choice, by computation: 9F34, the five bytes of 95 and the method's number, for the plain store and
--- changes to it. The rules one by one are in VerificationExamples.
+-- changes to it. The rules one by one are in VerificationExamples, phones in PhoneExamples.
 -- Assumes nothing.
 use mathlib.Core.Path.{_≡_, refl}
 use mathlib.Core.List.{List, [], _∷_, _++_}
@@ -15,12 +15,12 @@ use Rattle.analysis.specs.Value.{front}
 use Rattle.analysis.specs.Digits.{decimalFrom, yearOf, dateOf, laterThan, amountOf, amountAbove}
 use Rattle.analysis.specs.Restrictions.{otherVersion, notYetEffective, atAtm, countryOf, cashback, usageBroken}
 use Rattle.analysis.specs.Result.{withBits}
-use Rattle.analysis.specs.Verification.{rulesFrom, recognised, supported, amountMet, met, taken, unsuccessful, byRules, methodNumber, verification}
-use Rattle.analysis.specs.Action.{usageIn, restrictionsOf, resultOf, sameCurrency, termsIn, verifiedIn, fullResult, findingsOf}
+use Rattle.analysis.specs.Verification.{rulesFrom, recognised, supported, amountMet, met, taken, unsuccessful, byRules, methodNumber, verification, onDevice}
+use Rattle.analysis.specs.Action.{phoneIn, usageIn, restrictionsOf, resultOf, sameCurrency, termsIn, verifiedIn, fullResult, findingsOf}
 use Rattle.analysis.specs.declared.action.Findings.{Findings}
 
 -- objects put one by one into the empty store, the last one first
-storing : List (ℕ × List ℕ) → List ℕ
+unfoldable pub storing : List (ℕ × List ℕ) → List ℕ
 storing [] = replicate storeSize 0
 storing ((t, v) ∷ more) = putAt rows (storing more) (placeOf t) v
 
@@ -33,10 +33,10 @@ withoutCurrencies =
 abbrev withoutApplication : List (ℕ × List ℕ)
 withoutApplication = (0x5F2A, 0x00 ∷ 0x56 ∷ []) ∷ withoutCurrencies
 
-abbrev plain : List (ℕ × List ℕ)
+abbrev pub plain : List (ℕ × List ℕ)
 plain = (0x9F42, 0x00 ∷ 0x56 ∷ []) ∷ withoutApplication
 
-shown : Findings → List ℕ
+unfoldable pub shown : Findings → List ℕ
 shown f = f .results ++ f .bits ++ methodNumber (f .method) ∷ []
 
 abbrev found : List (ℕ × List ℕ) → List ℕ
@@ -56,7 +56,7 @@ supports :
     ∷ (0x5E ∷ 0x03 ∷ 0x00 ∷ 0x80 ∷ 0x00 ∷ 0x00 ∷ 0x00 ∷ 0x00 ∷ 1 ∷ [])
     ∷ (0x3F ∷ 0x00 ∷ 0x01 ∷ 0x80 ∷ 0x00 ∷ 0x80 ∷ 0x00 ∷ 0x00 ∷ 0 ∷ [])
     ∷ []
-unfolding shown storing findingsOf fullResult verifiedIn termsIn sameCurrency resultOf restrictionsOf usageIn withBits otherVersion notYetEffective usageBroken atAtm countryOf
+unfolding shown storing findingsOf fullResult verifiedIn phoneIn onDevice termsIn sameCurrency resultOf restrictionsOf usageIn withBits otherVersion notYetEffective usageBroken atAtm countryOf
     cashback laterThan dateOf yearOf amountAbove amountOf decimalFrom nibbles numberFrom alike verification byRules rulesFrom met amountMet supported recognised taken unsuccessful front
     putAt placeOf valueIn valueAt placeAt held offsetIn find past rows if both either
 supports = refl
@@ -71,7 +71,7 @@ amounts :
     ∷ (0x5E ∷ 0x08 ∷ 0x00 ∷ 0x80 ∷ 0x00 ∷ 0x00 ∷ 0x00 ∷ 0x00 ∷ 1 ∷ [])
     ∷ (0x1F ∷ 0x00 ∷ 0x02 ∷ 0x80 ∷ 0x00 ∷ 0x00 ∷ 0x00 ∷ 0x00 ∷ 0 ∷ [])
     ∷ []
-unfolding shown storing findingsOf fullResult verifiedIn termsIn sameCurrency resultOf restrictionsOf usageIn withBits otherVersion notYetEffective usageBroken atAtm countryOf
+unfolding shown storing findingsOf fullResult verifiedIn phoneIn onDevice termsIn sameCurrency resultOf restrictionsOf usageIn withBits otherVersion notYetEffective usageBroken atAtm countryOf
     cashback laterThan dateOf yearOf amountAbove amountOf decimalFrom nibbles numberFrom alike verification byRules rulesFrom met amountMet supported recognised taken unsuccessful front
     putAt placeOf valueIn valueAt placeAt held offsetIn find past rows if both either
 amounts = refl
@@ -86,7 +86,7 @@ unsuccessful-rules :
     ∷ (0x1F ∷ 0x00 ∷ 0x02 ∷ 0x80 ∷ 0x00 ∷ 0x00 ∷ 0x00 ∷ 0x00 ∷ 0 ∷ [])
     ∷ (0x3F ∷ 0x00 ∷ 0x01 ∷ 0x80 ∷ 0x00 ∷ 0x80 ∷ 0x00 ∷ 0x00 ∷ 0 ∷ [])
     ∷ []
-unfolding shown storing findingsOf fullResult verifiedIn termsIn sameCurrency resultOf restrictionsOf usageIn withBits otherVersion notYetEffective usageBroken atAtm countryOf
+unfolding shown storing findingsOf fullResult verifiedIn phoneIn onDevice termsIn sameCurrency resultOf restrictionsOf usageIn withBits otherVersion notYetEffective usageBroken atAtm countryOf
     cashback laterThan dateOf yearOf amountAbove amountOf decimalFrom nibbles numberFrom alike verification byRules rulesFrom met amountMet supported recognised taken unsuccessful front
     putAt placeOf valueIn valueAt placeAt held offsetIn find past rows if both either
 unsuccessful-rules = refl
@@ -103,7 +103,7 @@ types :
     ∷ (0x9F ∷ 0x00 ∷ 0x02 ∷ 0x80 ∷ 0x00 ∷ 0x00 ∷ 0x00 ∷ 0x00 ∷ 0 ∷ [])
     ∷ (0x44 ∷ 0x03 ∷ 0x00 ∷ 0x80 ∷ 0x00 ∷ 0x00 ∷ 0x00 ∷ 0x00 ∷ 4 ∷ [])
     ∷ []
-unfolding shown storing findingsOf fullResult verifiedIn termsIn sameCurrency resultOf restrictionsOf usageIn withBits otherVersion notYetEffective usageBroken atAtm countryOf
+unfolding shown storing findingsOf fullResult verifiedIn phoneIn onDevice termsIn sameCurrency resultOf restrictionsOf usageIn withBits otherVersion notYetEffective usageBroken atAtm countryOf
     cashback laterThan dateOf yearOf amountAbove amountOf decimalFrom nibbles numberFrom alike verification byRules rulesFrom met amountMet supported recognised taken unsuccessful front
     putAt placeOf valueIn valueAt placeAt held offsetIn find past rows if both either
 types = refl
@@ -120,7 +120,7 @@ currencies :
     ∷ (0x5E ∷ 0x06 ∷ 0x00 ∷ 0x80 ∷ 0x00 ∷ 0x00 ∷ 0x00 ∷ 0x00 ∷ 1 ∷ [])
     ∷ (0x5E ∷ 0x09 ∷ 0x00 ∷ 0x80 ∷ 0x00 ∷ 0x00 ∷ 0x80 ∷ 0x00 ∷ 1 ∷ [])
     ∷ []
-unfolding shown storing findingsOf fullResult verifiedIn termsIn sameCurrency resultOf restrictionsOf usageIn withBits otherVersion notYetEffective usageBroken atAtm countryOf
+unfolding shown storing findingsOf fullResult verifiedIn phoneIn onDevice termsIn sameCurrency resultOf restrictionsOf usageIn withBits otherVersion notYetEffective usageBroken atAtm countryOf
     cashback laterThan dateOf yearOf amountAbove amountOf decimalFrom nibbles numberFrom alike verification byRules rulesFrom met amountMet supported recognised taken unsuccessful front
     putAt placeOf valueIn valueAt placeAt held offsetIn find past rows if both either
 currencies = refl
@@ -137,7 +137,7 @@ places :
     ∷ (0x1E ∷ 0x04 ∷ 0x00 ∷ 0x80 ∷ 0x00 ∷ 0x00 ∷ 0x00 ∷ 0x00 ∷ 1 ∷ [])
     ∷ (0x1F ∷ 0x02 ∷ 0x02 ∷ 0x80 ∷ 0x00 ∷ 0x00 ∷ 0x00 ∷ 0x00 ∷ 0 ∷ [])
     ∷ []
-unfolding shown storing findingsOf fullResult verifiedIn termsIn sameCurrency resultOf restrictionsOf usageIn withBits otherVersion notYetEffective usageBroken atAtm countryOf
+unfolding shown storing findingsOf fullResult verifiedIn phoneIn onDevice termsIn sameCurrency resultOf restrictionsOf usageIn withBits otherVersion notYetEffective usageBroken atAtm countryOf
     cashback laterThan dateOf yearOf amountAbove amountOf decimalFrom nibbles numberFrom alike verification byRules rulesFrom met amountMet supported recognised taken unsuccessful front
     putAt placeOf valueIn valueAt placeAt held offsetIn find past rows if both either
 places = refl

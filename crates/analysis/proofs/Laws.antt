@@ -1,5 +1,5 @@
--- What the session builds on: the result has five bytes, the first always 80, and P1 is one of three, the one that the rule gives by
--- number. Each from its definition, a byte's bits being different powers of two. Assumes nothing.
+-- What the session builds on: the result has five bytes, the first always 80, P1 is one of three, the one that the rule gives by number,
+-- and the limit in force goes by four objects. Each from its definition, a byte's bits being different powers of two. Assumes nothing.
 use mathlib.Core.Bool.{Bool, true, false}
 use mathlib.Core.List.{List}
 use mathlib.Core.Logic.{_⊎_, inl, inr}
@@ -8,7 +8,8 @@ use Prim.Native.Nat.{ℕ, zero, suc, _<_, _≤_, _-_, _^_}
 use native.Mathlib.Omega.{arith}
 use lib.ListN.{length, getD}
 use Rattle.basics.specs.Choice.{if}
-use Rattle.analysis.specs.Action.{restrictionsOf, resultOf, fullResult, findingsOf}
+use Rattle.store.specs.Place.{valueOf}
+use Rattle.analysis.specs.Action.{phoneIn, limitOf, restrictionsOf, resultOf, fullResult, findingsOf}
 use Rattle.analysis.specs.Bits.{worth}
 use Rattle.analysis.specs.Choice.{lastDigit, capabilityAt, choiceBy, choiceOf, p1Of, p1For}
 use Rattle.analysis.specs.Digits.{oneOf, amountAbove}
@@ -104,3 +105,9 @@ p1-is result kind pairs = p1-by _ _ _ _ _ _ (one-ending (lastDigit kind))
 pub asks : (result : List ℕ) (kind : ℕ) (pairs : List Pair) {r : Choice} → r ≡ choiceOf result kind pairs
     → (r ≡ choiceOf result kind pairs) × (p1Of r ≡ p1For result kind pairs)
 asks result kind pairs e = (e, ap p1Of e ∙ p1-is result kind pairs)
+
+-- the limit in force goes by 82, DF811B, DF8124 and DF8125 alone
+pub limit-same : (b c : List ℕ) → valueOf b 0x82 ≡ valueOf c 0x82 → valueOf b 0xDF811B ≡ valueOf c 0xDF811B
+    → valueOf b 0xDF8124 ≡ valueOf c 0xDF8124 → valueOf b 0xDF8125 ≡ valueOf c 0xDF8125 → limitOf b ≡ limitOf c
+unfolding limitOf phoneIn
+limit-same b c p k l m = simp (p, k, l, m)

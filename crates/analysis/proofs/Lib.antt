@@ -13,3 +13,4 @@ pub mod VerificationLaws
 pub mod VerificationSteps
 pub mod VerificationStore
 pub mod FindingsExamples
+pub mod PhoneExamples

@@ -14,7 +14,7 @@ use Rattle.basics.specs.Choice.{if, both, either, every}
 use Rattle.basics.proofs.Laws.{if-yes, if-no, if-ind, bool-cases, both-left, both-right, either-false}
 use Rattle.store.specs.Place.{Value, absent, present}
 use Rattle.analysis.specs.Bits.{bitIn, worth}
-use Rattle.analysis.specs.Verification.{Rule, rule, rulesFrom, rulesOf, recognised, performed, met, thirdByte, taken, noneTaken, unsuccessful, goesOn, byRules, verified, notAsked, byList, verification}
+use Rattle.analysis.specs.Verification.{Rule, rule, rulesFrom, rulesOf, recognised, performed, met, thirdByte, taken, noneTaken, unsuccessful, goesOn, byRules, verified, notAsked, byList, verification, byPhone}
 use Rattle.analysis.specs.declared.verification.Method.{Method}
 use Rattle.analysis.specs.declared.verification.Method.the-variants.{NoCvm, Signature, OnlinePin, OfflinePin}
 use Rattle.analysis.specs.declared.verification.Terms.{Terms}
@@ -216,3 +216,9 @@ pub other-third : (profile : ℕ) (v : Value) (t : Terms)
     → clear (verification profile v t .third) (6 ∷ 5 ∷ 4 ∷ 2 ∷ 1 ∷ []) ≡ true
 other-third profile v t =
     let a = bits-added profile v t in rw (a .third-is) (clear-third (a .failed) (a .unrecognised) (a .pin))
+
+-- a phone adds none at all
+pub phone-bits : (above : Bool) → (byPhone above .first ≡ 0) × (byPhone above .third ≡ 0)
+unfolding byPhone if
+phone-bits true = (refl, refl)
+phone-bits false = (refl, refl)

@@ -1,21 +1,27 @@
--- Cardholder verification over a store: one byte behind a list of even length, and the bits that reach 95.
+-- Cardholder verification over a store: one byte behind a list of even length; and for a phone, that neither 8E nor a bit of 82 but byte 1
+-- b2 matters, and that no bit of 95 is added.
 -- Assumes nothing.
 use mathlib.Core.Path.{_≡_, refl, sym, ap, ap₂, _∙_}
 use mathlib.Core.Bool.{Bool, true}
 use mathlib.Core.List.{List, [], _∷_, _++_}
-use Prim.Native.Nat.{ℕ, zero, suc, _%_, _≤_}
+use Prim.Native.Nat.{ℕ, zero, suc, _+_, _%_, _≤_}
 use native.Mathlib.Omega.{arith}
 use lib.ListN.{length, drop, length-drop}
 use lib.Seq.{drop-append-le}
+use Rattle.basics.specs.Choice.{if}
 use Rattle.basics.specs.Number.{number}
+use Rattle.basics.proofs.Laws.{if-yes}
 use Rattle.store.specs.Place.{Value, present, bytesOf, valueOf}
 use Rattle.store.specs.Held.{bytesIn, byteIn}
 use Rattle.analysis.specs.Value.{front}
-use Rattle.analysis.specs.Digits.{oneOf, amountOf}
+use Rattle.analysis.specs.Digits.{oneOf, amountOf, amountAbove}
 use Rattle.analysis.specs.Restrictions.{atAtm}
-use Rattle.analysis.specs.Verification.{amountX, amountY, verification}
-use Rattle.analysis.specs.Action.{sameCurrency, termsIn, verifiedIn}
-use Rattle.analysis.proofs.VerificationLaws.{odd-byte}
+use Rattle.analysis.specs.Verification.{amountX, amountY, verification, byPhone, bitsOf}
+use Rattle.analysis.specs.Action.{phoneIn, usageIn, restrictionsOf, resultOf, sameCurrency, termsIn, verifiedIn, fullResult, findingsOf, AlikeBut82And8E, PhoneRules}
+use Rattle.analysis.specs.Result.{floorBits, withBits}
+use Rattle.analysis.specs.declared.action.Findings.{Findings}
+use Rattle.analysis.specs.declared.verification.Verified.{Verified}
+use Rattle.analysis.proofs.VerificationLaws.{odd-byte, phone-bits}
 
 -- bytes behind n others are not among the first n
 front-append : (n : ℕ) (s l : List ℕ) → n ≤ length s → front n (s ++ l) ≡ front n s
@@ -41,6 +47,8 @@ pub record ApartFromList (b c : List ℕ) : Type 0 where
   pub same-9F35 : valueOf b 0x9F35 ≡ valueOf c 0x9F35
   pub same-9F40 : valueOf b 0x9F40 ≡ valueOf c 0x9F40
   pub same-9F42 : valueOf b 0x9F42 ≡ valueOf c 0x9F42
+  pub same-DF811B : valueOf b 0xDF811B ≡ valueOf c 0xDF811B
+  pub same-DF8126 : valueOf b 0xDF8126 ≡ valueOf c 0xDF8126
 
 -- one byte behind an 8E of even length changes nothing
 module _ (b c s : List ℕ) (x : ℕ) (h : 8 ≤ length s) (e : length s % 2 ≡ 0) (a : ApartFromList b c) (f : valueOf b 0x8E ≡ present (s ++ x ∷ [])) (g : valueOf c 0x8E ≡ present s) where
@@ -52,6 +60,72 @@ module _ (b c s : List ℕ) (x : ℕ) (h : 8 ≤ length s) (e : length s % 2 ≡
       simp (a .same-9C, a .same-5F2A, a .same-9F02, a .same-9F33, a .same-9F35, a .same-9F40, a .same-9F42, lx, ly)
 
   pub odd-byte-stored : verifiedIn b ≡ verifiedIn c
-  unfolding verifiedIn
+  unfolding verifiedIn phoneIn
   odd-byte-stored =
-      simp (a .same-82, f, g, same-terms) (odd-byte (byteIn c 0x82 1) (termsIn c) s x (λ z. omega arith) e)
+      simp (a .same-82, a .same-DF811B, a .same-9F02, a .same-DF8126, f, g, same-terms)
+      (ap (λ (v : Verified). if (phoneIn c) (byPhone (amountAbove (bytesIn c 0x9F02) (bytesIn c 0xDF8126))) v)
+      (odd-byte (byteIn c 0x82 1) (termsIn c) s x (λ z. omega arith) e))
+
+-- ---- phones
+
+-- on a phone the method is by the amount and DF8126 alone
+pub phone-verified : (b : List ℕ) → phoneIn b ≡ true → verifiedIn b ≡ byPhone (amountAbove (bytesIn b 0x9F02) (bytesIn b 0xDF8126))
+unfolding verifiedIn
+phone-verified b p = if-yes _ _ p
+
+-- of two phones alike but for 82 and 8E, 9F34, 95 and the method are the same
+module _ (b c : List ℕ) (p : phoneIn b ≡ true) (q : phoneIn c ≡ true) (a : AlikeBut82And8E b c) where
+  phone-same : verifiedIn b ≡ verifiedIn c
+  phone-same =
+      phone-verified b p
+      ∙ (simp (a 0x9F02 (λ z. omega arith) (λ z. omega arith), a 0xDF8126 (λ z. omega arith) (λ z. omega arith)) (sym (phone-verified c q)))
+
+  usage-same : usageIn b ≡ usageIn c
+  unfolding usageIn
+  usage-same =
+      simp (
+        a 0x9F07 (λ z. omega arith) (λ z. omega arith),
+        a 0x9F35 (λ z. omega arith) (λ z. omega arith),
+        a 0x9F40 (λ z. omega arith) (λ z. omega arith),
+        a 0x5F28 (λ z. omega arith) (λ z. omega arith),
+        a 0x9F1A (λ z. omega arith) (λ z. omega arith),
+        a 0x9C (λ z. omega arith) (λ z. omega arith),
+        a 0x9F03 (λ z. omega arith) (λ z. omega arith),
+      )
+
+  result-same : resultOf b ≡ resultOf c
+  unfolding resultOf restrictionsOf
+  result-same =
+      simp (
+        a 0x9F08 (λ z. omega arith) (λ z. omega arith),
+        a 0x9F09 (λ z. omega arith) (λ z. omega arith),
+        a 0x9A (λ z. omega arith) (λ z. omega arith),
+        a 0x5F24 (λ z. omega arith) (λ z. omega arith),
+        a 0x5F25 (λ z. omega arith) (λ z. omega arith),
+        a 0x9F02 (λ z. omega arith) (λ z. omega arith),
+        a 0xDF8123 (λ z. omega arith) (λ z. omega arith),
+        usage-same,
+      )
+
+  phone-alone : findingsOf b ≡ findingsOf c
+  unfolding findingsOf fullResult
+  phone-alone = simp (phone-same, result-same)
+
+-- and 95 is what restrictions and floor limit make it
+phone-adds-none : (b : List ℕ) → phoneIn b ≡ true → fullResult b ≡ resultOf b
+unfolding fullResult resultOf withBits
+phone-adds-none b p =
+    let z = phone-bits (amountAbove (bytesIn b 0x9F02) (bytesIn b 0xDF8126)) in
+    let v = phone-verified b p in
+    let first : verifiedIn b .first ≡ 0 = ap (λ (w : Verified). w .first) v ∙ z .0 in
+    let third : verifiedIn b .third ≡ 0 = ap (λ (w : Verified). w .third) v ∙ z .1 in
+    let two : restrictionsOf b + 0 ≡ restrictionsOf b = omega arith in
+    let four : floorBits (bytesIn b 0x9F02) (bytesIn b 0xDF8123) + 0 ≡ floorBits (bytesIn b 0x9F02) (bytesIn b 0xDF8123) = omega arith in
+    simp (first, third, two, four)
+
+bits-are : (b : List ℕ) → findingsOf b .bits ≡ fullResult b
+unfolding findingsOf
+bits-are b = refl
+
+pub phone-rules : PhoneRules
+phone-rules = record { same = phone-alone; no-bits = λ b p. bits-are b ∙ phone-adds-none b p }

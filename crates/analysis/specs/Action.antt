@@ -1,23 +1,24 @@
 -- Action analysis over a session's store (document 01, "Result bits and the choice" and, for the limit, "Commands
--- and steps"; document 02, Item 5 for cardholder verification): the result bits 95, the method, the three pairs of
--- action codes, the choice and the transaction limit, from the values of the tags that the rules name. A running
--- session in its ranges holds 9A, 9C, 9F02, 9F09, 9F1A, 9F33, 9F35 and DF8120 to DF8124, each at its length, and
--- 5F24 when the bits are made. The papers leave open what comes of a store that lacks one of them. Here an absent
--- value reads as no bytes, and a byte past a value's end as 0: so a missing date, amount, type, capability or
--- terminal's code is zero, and a missing version or country is unlike any that has bytes.
+-- and steps"; document 02, Item 5 for cardholder verification and Item 8 for phones): the result bits 95, the method,
+-- the three pairs of action codes, the choice and the transaction limit, from the values of the tags that the rules
+-- name. A running session in its ranges holds 9A, 9C, 9F02, 9F09, 9F1A, 9F33, 9F35, DF811B and DF8120 to DF8126, each
+-- at its length, and 5F24 when the bits are made. The papers leave open what comes of a store that lacks one of them.
+-- Here an absent value reads as no bytes, and a byte past a value's end as 0: so a missing date, amount, limit, type,
+-- capability, configuration or terminal's code is zero, and a missing version or country is unlike any that has bytes.
 -- Assumes nothing.
-use mathlib.Core.Bool.{Bool, false}
+use mathlib.Core.Path.{_≡_}
+use mathlib.Core.Bool.{Bool, true, false}
 use mathlib.Core.List.{List, [], _∷_}
 use Prim.Native.Nat.{ℕ}
 use Rattle.basics.specs.Alike.{alike}
-use Rattle.basics.specs.Choice.{_=?_}
+use Rattle.basics.specs.Choice.{if_then_else_, _<?_, _=?_}
 use Rattle.store.specs.Place.{Value, absent, present, valueOf}
 use Rattle.store.specs.Held.{bytesIn, byteIn}
 use Rattle.analysis.specs.Choice.{denial, online, default, pairOf, choiceOf}
 use Rattle.analysis.specs.Digits.{oneOf, amountOf, amountAbove}
 use Rattle.analysis.specs.Restrictions.{otherVersion, expired, notYetEffective, atAtm, usageOf, restrictionBits}
 use Rattle.analysis.specs.Result.{floorBits, resultBits, withBits}
-use Rattle.analysis.specs.Verification.{amountX, amountY, verification, resultsOf, bitsOf}
+use Rattle.analysis.specs.Verification.{amountX, amountY, verification, onDevice, byPhone, resultsOf, bitsOf}
 use Rattle.analysis.specs.declared.action.Findings.{Findings}
 use Rattle.analysis.specs.declared.choice.Choice.{Choice}
 use Rattle.analysis.specs.declared.choice.Pair.{Pair}
@@ -34,15 +35,21 @@ terminalType store = byteIn store 0x9F35 1
 abbrev pub transactionType : List ℕ → ℕ
 transactionType store = byteIn store 0x9C 1
 
+-- a phone that checks its holder itself, by the card's profile 82 and the terminal's configuration DF811B
+unfoldable pub phoneIn : List ℕ → Bool
+phoneIn store = onDevice (byteIn store 0x82 1) (byteIn store 0xDF811B 1)
+
 -- ---- the transaction limit
 
--- the transaction limit, DF8124
-unfoldable pub limitOf : List ℕ → List ℕ
-limitOf store = bytesIn store 0xDF8124
+-- the limit in force (document 02, Item 8; Book C-2, S3.33 to S3.35): DF8125 for a phone, else DF8124
+unfoldable pub limitOf : List ℕ → ℕ
+limitOf store =
+    if phoneIn store then amountOf (bytesIn store 0xDF8125)
+    else amountOf (bytesIn store 0xDF8124)
 
--- reason 6: the amount is above it
-unfoldable pub aboveLimit : List ℕ → Bool
-aboveLimit store = amountAbove (bytesIn store 0x9F02) (limitOf store)
+-- reason 6 (Book C-2, S456.14): the amount is above a limit; an equal one is not
+unfoldable pub aboveLimit : ℕ → List ℕ → Bool
+aboveLimit limit store = limit <? amountOf (bytesIn store 0x9F02)
 
 -- ---- the result bits
 
@@ -90,9 +97,11 @@ termsIn store =
       y = amountY (bytesIn store 0x8E);
     }
 
--- the method by the card's profile 82 and its list 8E
+-- the method: on a phone by the limit DF8126 alone, else by the card's profile 82 and its list 8E
 unfoldable pub verifiedIn : List ℕ → Verified
-verifiedIn store = verification (byteIn store 0x82 1) (valueOf store 0x8E) (termsIn store)
+verifiedIn store =
+    if phoneIn store then byPhone (amountAbove (bytesIn store 0x9F02) (bytesIn store 0xDF8126))
+    else verification (byteIn store 0x82 1) (valueOf store 0x8E) (termsIn store)
 
 -- the five bytes of 95 with the bits that the verification adds
 unfoldable pub fullResult : List ℕ → List ℕ
@@ -118,5 +127,17 @@ unfoldable pub chosen : List ℕ → List ℕ → Choice
 chosen store result = choiceOf result (terminalType store) (codesOf store)
 
 -- ---- what holds of it, proved in proofs/VerificationStore
+
 --   odd-byte-stored   of two stores alike but for an 8E that is even in the one and has a byte more in the other, the
 --                     verification is the same
+
+-- two stores are alike but for 82 and 8E
+abbrev pub AlikeBut82And8E : List ℕ → List ℕ → Type 0
+AlikeBut82And8E b c = (t : ℕ) → (t ≡ 0x82 → ⊥) → (t ≡ 0x8E → ⊥) → valueOf b t ≡ valueOf c t
+
+-- on a phone the list and the other bits of the profile do not matter; `action::findings_of` promises it
+pub record PhoneRules : Type 0 where
+  -- of two phones alike but for 82 and 8E, 9F34, 95 and the method are the same
+  pub same : (b c : List ℕ) → phoneIn b ≡ true → phoneIn c ≡ true → AlikeBut82And8E b c → findingsOf b ≡ findingsOf c
+  -- the verification adds no bit to 95
+  pub no-bits : (b : List ℕ) → phoneIn b ≡ true → findingsOf b .bits ≡ resultOf b

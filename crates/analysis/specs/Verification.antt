@@ -1,5 +1,6 @@
 -- Cardholder verification (document 02, Item 5; Book C-2 7.5, steps CVM.5 to CVM.25): the method by the card's own list
--- 8E, the three bytes of 9F34, and the bits that the choice adds to 95.
+-- 8E, the three bytes of 9F34, and the bits that the choice adds to 95. On a phone that checks its holder itself
+-- (document 02, Item 8; CVM.1 to CVM.4) the method is by the amount.
 -- Assumes nothing.
 use mathlib.Core.Bool.{Bool, true, false, not}
 use mathlib.Core.List.{List, [], _∷_}
@@ -12,18 +13,20 @@ use Rattle.analysis.specs.Bits.{bitIn, worth}
 use Rattle.analysis.specs.Digits.{oneOf}
 use Rattle.analysis.specs.Value.{front}
 use Rattle.analysis.specs.declared.verification.Method.{Method}
-use Rattle.analysis.specs.declared.verification.Method.the-variants.{NoCvm, Signature, OnlinePin, OfflinePin}
+use Rattle.analysis.specs.declared.verification.Method.the-variants.{NoCvm, Signature, OnlinePin}
+use Rattle.analysis.specs.declared.verification.Method.the-variants.{ConfirmationCode, OfflinePin}
 use Rattle.analysis.specs.declared.verification.Terms.{Terms}
 use Rattle.analysis.specs.declared.verification.Verified.{Verified}
 
 -- ---- the methods
 
--- their numbers (Book C-2 A.1.117): 0 no CVM, 1 signature, 2 online PIN. An offline PIN has a proprietary value
--- (CVM.18); ours is 4, and its result is unknown, since nobody has verified anything.
+-- their numbers (Book C-2 A.1.117): 0 no CVM, 1 signature, 2 online PIN, 3 confirmation code verified. An offline PIN
+-- has a proprietary value (CVM.18); ours is 4, and its result is unknown, since nobody has verified anything.
 abbrev pub methodNumber : Method → ℕ
 methodNumber NoCvm = 0
 methodNumber Signature = 1
 methodNumber OnlinePin = 2
+methodNumber ConfirmationCode = 3
 methodNumber OfflinePin = 4
 
 -- the number where no method was chosen: not applicable
@@ -165,6 +168,19 @@ unfoldable pub verification : ℕ → Value → Terms → Verified
 verification profile list t =
     if bitIn profile 5 then byList list t
     else notAsked false
+
+-- ---- on a phone
+
+-- CVM.1: byte 1 of the card's profile 82 has b2, and the terminal's kernel configuration DF811B has b6
+unfoldable pub onDevice : ℕ → ℕ → Bool
+onDevice profile configuration = bitIn profile 2 and bitIn configuration 6
+
+-- CVM.2 to CVM.4: the phone has verified its holder where the amount is above the limit DF8126, else there is no CVM;
+-- either is successful, and adds no bit to 95
+unfoldable pub byPhone : Bool → Verified
+byPhone above =
+    if above then verified 0x01 0 2 0 ConfirmationCode
+    else verified 0x3F 0 2 0 NoCvm
 
 -- ---- where it is stored
 

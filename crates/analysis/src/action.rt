@@ -21,10 +21,11 @@ ghost use Rattle.dictionary.specs.Rows.{rows};
 ghost use Rattle.store.specs.Place.{bytesOf, valueAt, valueOf};
 ghost use Rattle.store.specs.Held.{bytesIn};
 ghost use Rattle.analysis.specs.Choice.{pairOf, p1Of, p1For};
-ghost use Rattle.analysis.specs.Digits.{oneOf};
+ghost use Rattle.analysis.specs.Digits.{oneOf, amountAbove};
 ghost use Rattle.analysis.specs.Restrictions.{otherVersion, notYetEffective, atAtm, countryOf, cashback};
-ghost use Rattle.analysis.specs.Action.{limitOf, aboveLimit, usageIn, restrictionsOf, resultOf, terminalType, codesOf, chosen};
-ghost use Rattle.analysis.specs.Action.{sameCurrency, termsIn, verifiedIn, fullResult, findingsOf};
+ghost use Rattle.analysis.specs.Action.{phoneIn, limitOf, aboveLimit, usageIn, restrictionsOf, resultOf, terminalType, codesOf, chosen};
+ghost use Rattle.analysis.specs.Verification.{byPhone};
+ghost use Rattle.analysis.specs.Action.{sameCurrency, termsIn, verifiedIn, fullResult, findingsOf, PhoneRules};
 
 // What the analysis finds before the choice: the three bytes of 9F34, the five of 95, and the method.
 pub struct Findings {
@@ -44,7 +45,8 @@ pub fn result_of(bytes: &[u8]) -> [u8; 5]
 
 // What the restrictions, the limit and cardholder verification give: 9F34, 95 and the method.
 pub fn findings_of(bytes: &[u8]) -> Findings
-    ensures { λ r. ⌜ r ≡ findingsOf (now (bytes .entry)) ⌝ }
+    ensures findings { λ r. ⌜ r ≡ findingsOf (now (bytes .entry)) ⌝ }
+    ensures phones { λ _. ⌜ PhoneRules ⌝ }
 {
     let verified = verified_in(bytes);
     let results = [verified.code, verified.condition, verified.result];
@@ -57,6 +59,9 @@ pub fn findings_of(bytes: &[u8]) -> Findings
 pub fn verified_in(bytes: &[u8]) -> Verified
     ensures { λ r. ⌜ r ≡ verifiedIn (now (bytes .entry)) ⌝ }
 {
+    if is_phone(bytes) {
+        return phone_verified(bytes);
+    }
     let profile = byte_in(bytes, dictionary::ROW_82);
     let there = store::is_there(bytes, dictionary::ROW_8E);
     let list = store::value(bytes, dictionary::ROW_8E);
@@ -82,18 +87,28 @@ pub fn choice_for(bytes: &[u8], result: [u8; 5]) -> Choice
     choice::choose(result, terminal_type(bytes), codes_of(bytes))
 }
 
-// The amount is above the transaction limit in force; an equal one is not.
-pub fn above_limit(bytes: &[u8]) -> bool
-    ensures { λ r. ⌜ r ≡ aboveLimit (now (bytes .entry)) ⌝ }
+// The amount is above a limit; an equal one is not.
+pub fn above_limit(bytes: &[u8], limit: u64) -> bool
+    ensures { λ r. ⌜ r ≡ aboveLimit limit (now (bytes .entry)) ⌝ }
 {
-    digits::above(store::value(bytes, dictionary::ROW_9F02), limit(bytes))
+    limit < digits::amount_of(store::value(bytes, dictionary::ROW_9F02))
 }
 
-// The transaction limit in force.
-pub fn limit(bytes: &[u8]) -> &[u8]
-    ensures { λ r. ⌜ now r ≡ limitOf (now (bytes .entry)) ⌝ }
+// The transaction limit in force: a phone has its own.
+pub fn limit(bytes: &[u8]) -> u64
+    ensures { λ r. ⌜ r ≡ limitOf (now (bytes .entry)) ⌝ }
 {
-    store::value(bytes, dictionary::ROW_DF8124)
+    if is_phone(bytes) {
+        return digits::amount_of(store::value(bytes, dictionary::ROW_DF8125));
+    }
+    digits::amount_of(store::value(bytes, dictionary::ROW_DF8124))
+}
+
+// A phone that checks its holder itself, by the card's profile and the terminal's configuration.
+pub fn is_phone(bytes: &[u8]) -> bool
+    ensures { λ r. ⌜ r ≡ phoneIn (now (bytes .entry)) ⌝ }
+{
+    verification::is_on_device(byte_in(bytes, dictionary::ROW_82), byte_in(bytes, dictionary::ROW_DF811B))
 }
 
 // The terminal's type, 0 where it is absent.
@@ -166,6 +181,15 @@ fn cashback_in(bytes: &[u8]) -> bool
 {
     let there = store::is_there(bytes, dictionary::ROW_9F03);
     restrictions::asks_cashback(there, store::value(bytes, dictionary::ROW_9F03))
+}
+
+// What a phone has checked: by the amount, against the limit from which a check is required.
+fn phone_verified(bytes: &[u8]) -> Verified
+    ensures { λ r. ⌜ r ≡ byPhone (amountAbove (bytesIn (now (bytes .entry)) 0x9F02) (bytesIn (now (bytes .entry)) 0xDF8126)) ⌝ }
+{
+    let amount = store::value(bytes, dictionary::ROW_9F02);
+    let required = store::value(bytes, dictionary::ROW_DF8126);
+    verification::by_phone(digits::above(amount, required))
 }
 
 // What the conditions of the card's rules are told by.

@@ -1,16 +1,19 @@
-// Cardholder verification: the method by the card's own list of rules, the bytes of 9F34, and the bits that it adds to 95.
+// Cardholder verification: the method by the card's own list of rules, or on a phone by the amount; the bytes of 9F34, and the
+// bits that it adds to 95.
 use crate::byte;
 ghost use mathlib.Core.Path.{_≡_};
 ghost use mathlib.Core.Bool.{false};
 ghost use Rattle.analysis.specs.Value.{given};
 ghost use Rattle.analysis.specs.Verification.{methodNumber, recognised as isRecognised, supported as isSupported, performed, amountMet, met as isMet};
 ghost use Rattle.analysis.specs.Verification.{rulesFrom, taken as takenBy, noneTaken, unsuccessful as unsuccessfulBy, goesOn, notAsked, byRules, verification};
+ghost use Rattle.analysis.specs.Verification.{onDevice, byPhone};
 
 // The methods that the outcome carries.
 pub enum Method {
     NoCvm,
     Signature,
     OnlinePin,
+    ConfirmationCode,
     OfflinePin,
 }
 
@@ -48,6 +51,7 @@ pub fn method_number(method: Method) -> u8
         Method::NoCvm => 0,
         Method::Signature => 1,
         Method::OnlinePin => 2,
+        Method::ConfirmationCode => 3,
         Method::OfflinePin => 4,
     }
 }
@@ -69,6 +73,23 @@ pub fn verify(profile: u8, there: bool, list: &[u8], terms: Terms) -> Verified
         return none_taken(false);
     }
     by_rules(&list[8..], terms)
+}
+
+// A phone that checks its holder itself: b2 of byte 1 of the card's profile 82, and b6 of the kernel configuration DF811B.
+pub fn is_on_device(profile: u8, configuration: u8) -> bool
+    ensures { λ r. ⌜ r ≡ onDevice profile configuration ⌝ }
+{
+    byte::bit(profile, 2) & byte::bit(configuration, 6)
+}
+
+// What a phone has checked, by whether the amount is above the limit from which a check is required.
+pub fn by_phone(above: bool) -> Verified
+    ensures { λ r. ⌜ r ≡ byPhone above ⌝ }
+{
+    if above {
+        return Verified { code: 0x01, condition: 0, result: 2, first: 0, third: 0, method: Method::ConfirmationCode };
+    }
+    Verified { code: 0x3F, condition: 0, result: 2, first: 0, third: 0, method: Method::NoCvm }
 }
 
 // Nothing is asked of the cardholder, since the card knows no verification or its list is missing.

@@ -12,7 +12,7 @@ use Rattle.dictionary.specs.declared.Searched.{Searched}
 use Rattle.dictionary.specs.Rows.{rows, rowAt, formB, formN, formCn}
 use Rattle.dictionary.specs.Search.{halve, halvingOf, lookedAt, searchOf, tagsOf}
 use Rattle.dictionary.specs.Form.{numeric, digitsThenFs, compressed, digitsFit, fitting}
-use Rattle.dictionary.specs.Named.{row5A, row8E, row9F02}
+use Rattle.dictionary.specs.Named.{row5A, row8E, row9F02, rowDF811B, rowDF8125}
 use Rattle.dictionary.specs.TerminalType.{listed}
 
 -- terminal types: 11 to 16, 21 to 26, 34 to 36
@@ -61,6 +61,16 @@ lists : map (λ n. fitting (rowAt row8E) (replicate n 0)) (0 ∷ 9 ∷ 10 ∷ 25
 unfolding rows fitting digitsFit both if
 lists = refl
 
+-- one byte of any bits for DF811B, six of digits for DF8125
+configurations : map (λ n. fitting (rowAt rowDF811B) (replicate n 0xFF)) (0 ∷ 1 ∷ 2 ∷ []) ≡ false ∷ true ∷ false ∷ []
+unfolding rows fitting digitsFit both if
+configurations = refl
+
+phone-limits : map (fitting (rowAt rowDF8125)) (replicate 5 0x99 ∷ replicate 6 0x99 ∷ replicate 7 0x99 ∷ replicate 6 0x9A ∷ [])
+    ≡ false ∷ true ∷ false ∷ false ∷ []
+unfolding rows fitting digitsFit numeric nibbles every both if
+phone-limits = refl
+
 -- ---- searches: where a tag stands, and how many are looked at
 
 abbrev said : Found → ℕ → Searched
@@ -104,7 +114,7 @@ of-eight = refl
 
 -- the dictionary: first row, two within, last; below all, between, above all
 of-rows : map (searchOf (tagsOf rows)) (0x57 ∷ 0x5F24 ∷ 0x9F09 ∷ 0xDF8126 ∷ [])
-    ≡ said (At 0) 6 ∷ said (At 9) 5 ∷ said (At 18) 4 ∷ said (At 39) 5 ∷ []
+    ≡ said (At 0) 6 ∷ said (At 9) 5 ∷ said (At 18) 5 ∷ said (At 41) 5 ∷ []
 unfolding rows searchOf halvingOf halve if
 of-rows = refl
 
@@ -114,6 +124,6 @@ unfolding rows searchOf halvingOf halve if
 of-no-row = refl
 
 -- the places looked at, in their order
-places-of-last : lookedAt (tagsOf rows) 0xDF8126 ≡ 20 ∷ 30 ∷ 35 ∷ 38 ∷ 39 ∷ []
+places-of-last : lookedAt (tagsOf rows) 0xDF8126 ≡ 21 ∷ 32 ∷ 37 ∷ 40 ∷ 41 ∷ []
 unfolding rows halvingOf halve if
 places-of-last = refl

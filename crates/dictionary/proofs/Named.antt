@@ -3,7 +3,7 @@ use mathlib.Core.Path.{_≡_, refl}
 use Rattle.basics.specs.Choice.{if}
 use Rattle.dictionary.specs.declared.Found.the-variants.{At}
 use Rattle.dictionary.specs.Rows.{rows, past, find}
-use Rattle.dictionary.specs.Named.{row5A, row82, row8C, row8E, row94, row95, row9A, row9C, row5F24, row5F25, row5F28, row5F2A, row9F02, row9F03, row9F07, row9F08, row9F09, row9F0D, row9F0E, row9F0F, row9F10, row9F1A, row9F26, row9F27, row9F33, row9F34, row9F35, row9F36, row9F38, row9F40, row9F42, rowDF8120, rowDF8121, rowDF8122, rowDF8123, rowDF8124}
+use Rattle.dictionary.specs.Named.{row5A, row82, row8C, row8E, row94, row95, row9A, row9C, row5F24, row5F25, row5F28, row5F2A, row9F02, row9F03, row9F07, row9F08, row9F09, row9F0D, row9F0E, row9F0F, row9F10, row9F1A, row9F26, row9F27, row9F33, row9F34, row9F35, row9F36, row9F38, row9F40, row9F42, rowDF811B, rowDF8120, rowDF8121, rowDF8122, rowDF8123, rowDF8124, rowDF8125, rowDF8126}
 
 pub at-5A : find rows 0x5A ≡ At row5A
 unfolding if rows past find
@@ -129,6 +129,10 @@ pub at-9F42 : find rows 0x9F42 ≡ At row9F42
 unfolding if rows past find
 at-9F42 = refl
 
+pub at-DF811B : find rows 0xDF811B ≡ At rowDF811B
+unfolding if rows past find
+at-DF811B = refl
+
 pub at-DF8120 : find rows 0xDF8120 ≡ At rowDF8120
 unfolding if rows past find
 at-DF8120 = refl
@@ -148,3 +152,11 @@ at-DF8123 = refl
 pub at-DF8124 : find rows 0xDF8124 ≡ At rowDF8124
 unfolding if rows past find
 at-DF8124 = refl
+
+pub at-DF8125 : find rows 0xDF8125 ≡ At rowDF8125
+unfolding if rows past find
+at-DF8125 = refl
+
+pub at-DF8126 : find rows 0xDF8126 ≡ At rowDF8126
+unfolding if rows past find
+at-DF8126 = refl

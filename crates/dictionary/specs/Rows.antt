@@ -131,11 +131,13 @@ rows =
     row 0x9F38     0 240 formB  start   nowhere noAnswer   optional ∷
     row 0x9F40     5   5 formB  start   nowhere noAnswer   optional ∷
     row 0x9F42     2   2 formN  card    in70    anyAnswer  optional ∷
+    row 0xDF811B   1   1 formB  start   nowhere noAnswer   required ∷
     row 0xDF8120   5   5 formB  start   nowhere noAnswer   required ∷
     row 0xDF8121   5   5 formB  start   nowhere noAnswer   required ∷
     row 0xDF8122   5   5 formB  start   nowhere noAnswer   required ∷
     row 0xDF8123   6   6 formN  start   nowhere noAnswer   required ∷
     row 0xDF8124   6   6 formN  start   nowhere noAnswer   required ∷
+    row 0xDF8125   6   6 formN  start   nowhere noAnswer   required ∷
     row 0xDF8126   6   6 formN  start   nowhere noAnswer   required ∷
     []
 
@@ -155,10 +157,10 @@ rowAt k = rowIn rows k
 -- with a length byte
 -- (`rows-length` and `rows-size` in the store's proofs compute both)
 abbrev pub rowCount : ℕ
-rowCount = 40
+rowCount = 42
 
 abbrev pub storeSize : ℕ
-storeSize = 1208
+storeSize = 1217
 
 -- ---- lookup
 

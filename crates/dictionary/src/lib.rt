@@ -19,10 +19,10 @@ ghost use Rattle.dictionary.specs.Named.{placeOf, usedTags};
 ghost use Rattle.dictionary.specs.TerminalType.{listed};
 
 // How many rows there are.
-pub const ROWS: usize = 40;
+pub const ROWS: usize = 42;
 
 // The store's size: the sum over the rows of the greatest length and one byte more.
-pub const SIZE: usize = 1208;
+pub const SIZE: usize = 1217;
 
 // Forms of a value.
 pub const FORM_B: u8 = 0;
@@ -113,15 +113,21 @@ pub const ROW_9F40: usize = 32;
 
 pub const ROW_9F42: usize = 33;
 
-pub const ROW_DF8120: usize = 34;
+pub const ROW_DF811B: usize = 34;
 
-pub const ROW_DF8121: usize = 35;
+pub const ROW_DF8120: usize = 35;
 
-pub const ROW_DF8122: usize = 36;
+pub const ROW_DF8121: usize = 36;
 
-pub const ROW_DF8123: usize = 37;
+pub const ROW_DF8122: usize = 37;
 
-pub const ROW_DF8124: usize = 38;
+pub const ROW_DF8123: usize = 38;
+
+pub const ROW_DF8124: usize = 39;
+
+pub const ROW_DF8125: usize = 40;
+
+pub const ROW_DF8126: usize = 41;
 
 // The table: the tags, and what their rows say. An array of numbers costs a few moves where it is read; one of
 // structs would be built field by field.
@@ -129,7 +135,8 @@ const TAGS: [u32; ROWS] = [
     0x57, 0x5A, 0x82, 0x8C, 0x8E, 0x94, 0x95, 0x9A, 0x9C, 0x5F24,
     0x5F25, 0x5F28, 0x5F2A, 0x5F34, 0x9F02, 0x9F03, 0x9F07, 0x9F08, 0x9F09, 0x9F0D,
     0x9F0E, 0x9F0F, 0x9F10, 0x9F1A, 0x9F26, 0x9F27, 0x9F33, 0x9F34, 0x9F35, 0x9F36,
-    0x9F37, 0x9F38, 0x9F40, 0x9F42, 0xDF8120, 0xDF8121, 0xDF8122, 0xDF8123, 0xDF8124, 0xDF8126,
+    0x9F37, 0x9F38, 0x9F40, 0x9F42, 0xDF811B, 0xDF8120, 0xDF8121, 0xDF8122, 0xDF8123, 0xDF8124,
+    0xDF8125, 0xDF8126,
 ];
 
 // What each row says beside its tag, in one number: the least length, and above it a unit for each further
@@ -192,11 +199,13 @@ const CODES: [u32; ROWS] = [
      0 + 240 * GREATEST + B  + OF_START,      // 9F38
      5 +   5 * GREATEST + B  + OF_START,      // 9F40
      2 +   2 * GREATEST + N  + OF_RECORD,     // 9F42
+     1 +   1 * GREATEST + B  + MUST_START,    // DF811B
      5 +   5 * GREATEST + B  + MUST_START,    // DF8120
      5 +   5 * GREATEST + B  + MUST_START,    // DF8121
      5 +   5 * GREATEST + B  + MUST_START,    // DF8122
      6 +   6 * GREATEST + N  + MUST_START,    // DF8123
      6 +   6 * GREATEST + N  + MUST_START,    // DF8124
+     6 +   6 * GREATEST + N  + MUST_START,    // DF8125
      6 +   6 * GREATEST + N  + MUST_START,    // DF8126
 ];
 
@@ -266,7 +275,7 @@ pub fn search(tags: &[u32], tag: u32) -> Searched
 }
 
 // The rows of the tags that code uses, in the order of their constants.
-pub fn used_rows() -> [usize; 36]
+pub fn used_rows() -> [usize; 39]
     ensures { λ r. ⌜ r ≡ map placeOf usedTags ⌝ }
 {
     [
@@ -301,11 +310,14 @@ pub fn used_rows() -> [usize; 36]
         ROW_9F38,
         ROW_9F40,
         ROW_9F42,
+        ROW_DF811B,
         ROW_DF8120,
         ROW_DF8121,
         ROW_DF8122,
         ROW_DF8123,
         ROW_DF8124,
+        ROW_DF8125,
+        ROW_DF8126,
     ]
 }
 

@@ -34,10 +34,10 @@ module _ {buf : List ℕ} where
   small-options (OptionsWay.failed n r) = r .most
   small-options (OptionsWay.first r m a e) = omega arith
 
-  small-records : {t : Session} {st : Step} → RecordsWay t buf st → SmallStep st
+  small-records : {l : ℕ} {t : Session} {st : Step} → RecordsWay l t buf st → SmallStep st
   small-records (RecordsWay.failed n r x) = r .most
   small-records RecordsWay.unlisted = omega arith
-  small-records {t} (RecordsWay.asked c f g) = cryptogram-proper (stored (analysedSession t)) c (p1Of (askedBy t .choice)) g .most
+  small-records {l} {t} (RecordsWay.asked c f g) = cryptogram-proper (stored (analysedSession t)) c (p1Of (askedBy l t .choice)) g .most
 
   small-record : (p : Place) {t : Session} {st : Step} → RecordWay p t buf st → SmallStep st
   small-record p (RecordWay.next r e) = omega arith

@@ -21,7 +21,7 @@ use Rattle.reading.specs.declared.Awaited.{Awaited}
 use Rattle.reading.specs.Answer as reading
 use Rattle.data_list.specs.Commands.{processingOptions, generateAc}
 use Rattle.analysis.specs.Choice.{p1Of}
-use Rattle.analysis.specs.Action.{findingsOf}
+use Rattle.analysis.specs.Action.{limitOf, findingsOf}
 use Rattle.analysis.specs.Verification.{methodNumber, notApplicable}
 use Rattle.record.specs.declared.End.{End}
 use Rattle.record.specs.declared.Place.{Place}
@@ -66,7 +66,7 @@ module _ (s : Session) (buf other : List ℕ) where
 
   ask-found : (n : ℕ) (b : List ℕ) (k : ℕ) (f : Found) → R (askFound n b k buf f) (askFound n b k other f)
   ask-found n b k Found.Nothing = ended notApplicable n b (endBy reasonLocator)
-  ask-found n b k (Found.At r) = sent n b (recordPhase k) (readRecord r)
+  ask-found n b k (Found.At r) = sent n b (recordPhase (limitOf b) k) (readRecord r)
 
   options-read : (n : ℕ) (b : List ℕ) → R (optionsRead n b buf) (optionsRead n b other)
   unfolding optionsRead
@@ -79,20 +79,20 @@ module _ (s : Session) (buf other : List ℕ) where
 
   -- the answer to a record
 
-  records-read : (n : ℕ) (b : List ℕ) → R (recordsRead n b buf) (recordsRead n b other)
+  records-read : (l n : ℕ) (b : List ℕ) → R (recordsRead l n b buf) (recordsRead l n b other)
   unfolding recordsRead analysed askCryptogram
-  records-read n b =
+  records-read l n b =
       if-both R _ (ended notApplicable n b (endBy reasonAboveLimit))
       (if-both R _ (ended notApplicable n b (endBy reasonMissing))
-      (hand-out (methodNumber (askedIn b .method)) n (withFindings b (findingsOf b)) (Phase.Cryptogram (askedIn b)) (generateAc (p1Of (askedIn b .choice)) (withFindings b (findingsOf b)))))
+      (hand-out (methodNumber (askedIn l b .method)) n (withFindings b (findingsOf b)) (Phase.Cryptogram (askedIn l b)) (generateAc (p1Of (askedIn l b .choice)) (withFindings b (findingsOf b)))))
 
-  next-found : (n : ℕ) (b : List ℕ) (k : ℕ) (f : Found) → R (nextFound n b k buf f) (nextFound n b k other f)
-  next-found n b k Found.Nothing = records-read n b
-  next-found n b k (Found.At r) = sent n b (recordPhase k) (readRecord r)
+  next-found : (l n : ℕ) (b : List ℕ) (k : ℕ) (f : Found) → R (nextFound l n b k buf f) (nextFound l n b k other f)
+  next-found l n b k Found.Nothing = records-read l n b
+  next-found l n b k (Found.At r) = sent n b (recordPhase l k) (readRecord r)
 
   record-read : (p : Place) (n : ℕ) (b : List ℕ) → R (recordRead p n b buf) (recordRead p n b other)
   unfolding recordRead
-  record-read p n b = next-found n b (p .number + 1) (recordAt (locatorIn b) (p .number + 1))
+  record-read p n b = next-found (p .limit) n b (p .number + 1) (recordAt (locatorIn b) (p .number + 1))
 
   record-found : (p : Place) (n : ℕ) (b card : List ℕ) (f : Found) → R (recordFound p n b card buf f) (recordFound p n b card other f)
   record-found p n b card Found.Nothing = ended notApplicable n b (endBy reasonLocator)

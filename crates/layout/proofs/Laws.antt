@@ -5,13 +5,16 @@ use mathlib.Core.Bool.{true, false}
 use mathlib.Core.List.{List, [], _∷_, _++_}
 use mathlib.Core.Logic.{inl, inr}
 use mathlib.Core.Option.{Option, some, none}
-use Prim.Native.Nat.{ℕ, _≤_, _<_}
+use Prim.Native.Nat.{ℕ, _+_, _*_, _/_, _≤_, _<_}
 use native.Mathlib.Omega.{arith}
 use lib.Dec.{eqb}
 use lib.ListN.{length, getD, take, drop, length-append, length-drop, take-append-drop}
-use lib.Seq.{take-at}
+use lib.Seq.{take-at, drop-drop}
 use borrow.Author.Tests.{eq-eqb, eqb-true, le-leb, leb-true, lt-leb}
+use Rattle.basics.specs.Alike.{alike}
 use Rattle.basics.specs.Choice.{if}
+use Rattle.basics.specs.Number.{numberFrom, number as numberOf}
+use Rattle.basics.proofs.Alike.{alike-refl, alike-eq}
 use Rattle.basics.proofs.Laws.{if-yes, if-no, if-ind, both-yes, both-left, both-right, both-no-left, both-no-right, bool-cases}
 use Rattle.dictionary.specs.Rows.{storeSize}
 use Rattle.analysis.specs.declared.choice.Choice.{Choice}
@@ -27,7 +30,7 @@ use Rattle.record.specs.Session.{stored, sessionOf}
 use Rattle.layout.specs.declared.Code.{Code}
 use Rattle.layout.specs.declared.Head.{Head}
 use Rattle.layout.specs.declared.Held.{Held}
-use Rattle.layout.specs.Layout.{version, headSize, recordSize, choiceFrom, methodFrom, outcomeFrom, codeOf, phaseOf, sameCode, encoded, withRecord, codeIn, sessionIn, holdsRecord, decoded, heldOf, storeOf}
+use Rattle.layout.specs.Layout.{version, headSize, recordSize, choiceFrom, methodFrom, outcomeFrom, codeOf, heldLimit, limitBytes, phaseOf, sameCode, encoded, withRecord, codeIn, limitIn, phaseIn, sessionIn, holdsRecord, decoded, heldOf, storeOf}
 use Rattle.layout.specs.Word.{kindOf, ofCommand, ofOutcome, ofRefusal, outcomes, commandWord, outcomeWord, refusalWord}
 
 -- ---- codes
@@ -59,6 +62,7 @@ unfolding methodFrom if
 method-back Method.NoCvm = refl
 method-back Method.Signature = refl
 method-back Method.OnlinePin = refl
+method-back Method.ConfirmationCode = refl
 method-back Method.OfflinePin = refl
 
 outcome-back : (o : Outcome) → outcomeFrom (outcomeNumber o) ≡ o
@@ -69,14 +73,28 @@ outcome-back Outcome.Declined = refl
 outcome-back Outcome.Ended = refl
 outcome-back Outcome.SelectNext = refl
 
--- a phase is read back from its code
-phase-back : (p : Phase) → phaseOf (codeOf p) ≡ p
+-- eight bytes whose front parts are p, q, .. are the last of these numbers
+parts : (a b c d e f g h p q r s t u n : ℕ)
+    → a * 256 + b ≡ p → p * 256 + c ≡ q → q * 256 + d ≡ r → r * 256 + e ≡ s → s * 256 + f ≡ t → t * 256 + g ≡ u → u * 256 + h ≡ n
+    → numberOf (a ∷ b ∷ c ∷ d ∷ e ∷ f ∷ g ∷ h ∷ []) ≡ n
+unfolding numberFrom
+parts a b c d e f g h p q r s t u n x1 x2 x3 x4 x5 x6 x7 = omega arith
+
+-- a limit is read back from its bytes: the front parts are its quotients
+limit-back : (n : ℕ) → numberOf (limitBytes n) ≡ n
+limit-back n =
+    parts _ _ _ _ _ _ _ _
+    (n / 0x1000000000000) (n / 0x10000000000) (n / 0x100000000) (n / 0x1000000) (n / 0x10000) (n / 0x100) n
+    (omega arith) (omega arith) (omega arith) (omega arith) (omega arith) (omega arith) (omega arith)
+
+-- a phase is read back from its code and its limit
+phase-back : (p : Phase) → phaseOf (codeOf p) (heldLimit p) ≡ p
 unfolding phaseOf if
 phase-back Phase.Fresh = refl
 phase-back Phase.Options = refl
 phase-back (Phase.Record p) = refl
 phase-back (Phase.Cryptogram a) =
-    ap₂ (λ (c : Choice) (m : Method). Phase.Cryptogram (record { choice = c; method = m })) (choice-back (a .choice)) (method-back (a .method))
+    ap₂ (λ (c : Choice) (m : Method). Phase.Cryptogram (record { choice = c; method = m; limit = a .limit })) (choice-back (a .choice)) (method-back (a .method))
 phase-back (Phase.Ended e) = ap (λ (o : Outcome). Phase.Ended (record { outcome = o; reason = e .reason })) (outcome-back (e .outcome))
 
 -- ---- which bytes are a record
@@ -90,14 +108,18 @@ module _ (l : List ℕ) where
   unfolding decoded holdsRecord
   decoded-version e = if-no _ _ (both-no-right _ _ (both-no-left _ _ e))
 
-  pub decoded-code : sameCode (codeOf (phaseOf (codeIn l))) (codeIn l) ≡ false → decoded l ≡ none
+  pub decoded-code : sameCode (codeOf (phaseIn l)) (codeIn l) ≡ false → decoded l ≡ none
   unfolding decoded holdsRecord
-  decoded-code e = if-no _ _ (both-no-right _ _ (both-no-right _ _ e))
+  decoded-code e = if-no _ _ (both-no-right _ _ (both-no-right _ _ (both-no-left _ _ e)))
 
-  pub decoded-some : recordSize ≤ length l → eqb (getD l 0 0) version ≡ true → sameCode (codeOf (phaseOf (codeIn l))) (codeIn l) ≡ true
-      → decoded l ≡ some (sessionIn (phaseOf (codeIn l)) l)
+  pub decoded-limit : alike (limitBytes (heldLimit (phaseIn l))) (limitIn l) ≡ false → decoded l ≡ none
   unfolding decoded holdsRecord
-  decoded-some h v e = if-yes _ _ (both-yes _ _ (le-leb recordSize (length l) h) (both-yes _ _ v e))
+  decoded-limit e = if-no _ _ (both-no-right _ _ (both-no-right _ _ (both-no-right _ _ e)))
+
+  pub decoded-some : recordSize ≤ length l → eqb (getD l 0 0) version ≡ true → sameCode (codeOf (phaseIn l)) (codeIn l) ≡ true
+      → alike (limitBytes (heldLimit (phaseIn l))) (limitIn l) ≡ true → decoded l ≡ some (sessionIn (phaseIn l) l)
+  unfolding decoded holdsRecord
+  decoded-some h v e a = if-yes _ _ (both-yes _ _ (le-leb recordSize (length l) h) (both-yes _ _ v (both-yes _ _ e a)))
 
 -- ---- the two laws
 
@@ -105,24 +127,32 @@ module _ (l : List ℕ) where
 pub decode-encode : (s : Session) (rest : List ℕ) → length (stored s) ≡ storeSize → decoded (encoded s ++ rest) ≡ some s
 unfolding encoded
 decode-encode s rest z =
-    let p = phase-back (s .phase) in
+    let p = ap (phaseOf (codeOf (s .phase))) (limit-back (heldLimit (s .phase))) ∙ phase-back (s .phase) in
     decoded-some (encoded s ++ rest) (simp length-append (omega arith)) refl
     (ap (λ (x : Phase). sameCode (codeOf x) (codeOf (s .phase))) p ∙ same-self (codeOf (s .phase)))
+    (ap (λ (x : Phase). alike (limitBytes (heldLimit x)) (limitBytes (heldLimit (s .phase)))) p ∙ alike-refl (limitBytes (heldLimit (s .phase))))
     ∙ (λ i. some (record { phase = p i; count = s .count; store = record { bytes = take-at (stored s) rest storeSize z i } }))
 
 -- what the test of a record says of bytes
 record Known (l : List ℕ) : Type 0 where
   enough : recordSize ≤ length l
   first : getD l 0 0 ≡ version
-  code : codeOf (phaseOf (codeIn l)) ≡ codeIn l
+  code : codeOf (phaseIn l) ≡ codeIn l
+  limit : limitBytes (heldLimit (phaseIn l)) ≡ limitIn l
 
 known : (l : List ℕ) → holdsRecord l ≡ true → Known l
 unfolding holdsRecord
 known l t =
     let u = both-right _ _ t in
-    record { enough = leb-true recordSize (length l) (both-left _ _ t); first = eqb-true _ version (both-left _ _ u); code = same-is _ _ (both-right _ _ u) }
+    let w = both-right _ _ u in
+    record {
+      enough = leb-true recordSize (length l) (both-left _ _ t);
+      first = eqb-true _ version (both-left _ _ u);
+      code = same-is _ _ (both-left _ _ w);
+      limit = alike-eq _ _ (both-right _ _ w);
+    }
 
-encode-known : (l : List ℕ) → Known l → encoded (sessionIn (phaseOf (codeIn l)) l) ++ drop recordSize l ≡ l
+encode-known : (l : List ℕ) → Known l → encoded (sessionIn (phaseIn l) l) ++ drop recordSize l ≡ l
 unfolding encoded
 encode-known [] k = absurd (omega (arith, k .enough))
 encode-known (_ ∷ []) k = absurd (omega (arith, k .enough))
@@ -132,7 +162,10 @@ encode-known (_ ∷ _ ∷ _ ∷ _ ∷ []) k = absurd (omega (arith, k .enough))
 encode-known (_ ∷ _ ∷ _ ∷ _ ∷ _ ∷ []) k = absurd (omega (arith, k .enough))
 encode-known (v ∷ n ∷ d ∷ r ∷ c ∷ m ∷ t) k =
     let e = k .code in
-    λ i. sym (k .first) i ∷ e i .number ∷ e i .datum ∷ e i .reason ∷ c ∷ e i .method ∷ take-append-drop storeSize t i
+    let f : limitBytes (heldLimit (phaseIn (v ∷ n ∷ d ∷ r ∷ c ∷ m ∷ t))) ++ drop 8 t ≡ t = ap (λ (x : List ℕ). x ++ drop 8 t) (k .limit) ∙ take-append-drop 8 t in
+    let g : take storeSize (drop 8 t) ++ drop (8 + storeSize) t ≡ drop 8 t = ap (λ (x : List ℕ). take storeSize (drop 8 t) ++ x) (sym (drop-drop storeSize 8 t)) ∙ take-append-drop storeSize (drop 8 t) in
+    (λ i. sym (k .first) i ∷ e i .number ∷ e i .datum ∷ e i .reason ∷ c ∷ e i .method ∷ (limitBytes (heldLimit (phaseIn (v ∷ n ∷ d ∷ r ∷ c ∷ m ∷ t))) ++ g i))
+    ∙ ap (λ (x : List ℕ). v ∷ n ∷ d ∷ r ∷ c ∷ m ∷ x) f
 
 -- ---- what is said of bytes, as callers take it apart
 
@@ -141,7 +174,7 @@ held-none none e = refl
 held-none (some s) e = let z : _≡_ {A = ℕ} 0 1 = cc in absurd (omega arith)
 
 -- bytes that hold a record are enough, and hold the session of their head and store
-pub held-some : (l : List ℕ) (h : Head) → heldOf (decoded l) ≡ Held.Record h → (recordSize ≤ length l) × (decoded l ≡ some (sessionIn (phaseOf (codeIn l)) l))
+pub held-some : (l : List ℕ) (h : Head) → heldOf (decoded l) ≡ Held.Record h → (recordSize ≤ length l) × (decoded l ≡ some (sessionIn (phaseIn l) l))
 unfolding decoded
 held-some l h e = elim (bool-cases (holdsRecord l)) [
   | inl t ↦ (known l t .enough, if-yes _ _ t)
@@ -155,8 +188,8 @@ held-some l h e = elim (bool-cases (holdsRecord l)) [
 pub held-store : (l : List ℕ) (s : Session) → decoded l ≡ some s → (recordSize ≤ length l) × (stored s ≡ take storeSize (drop headSize l))
 held-store l s e =
     let h = held-some l (record { phase = s .phase; count = s .count }) (ap heldOf e) in
-    let f : some s ≡ some (sessionIn (phaseOf (codeIn l)) l) = sym e ∙ h .1 in
-    let g : s ≡ sessionIn (phaseOf (codeIn l)) l = cc in
+    let f : some s ≡ some (sessionIn (phaseIn l) l) = sym e ∙ h .1 in
+    let g : s ≡ sessionIn (phaseIn l) l = cc in
     (h .0, ap stored g)
 
 -- the session that was read is the one of the head that is said and the store that is left
@@ -171,8 +204,8 @@ pub encode-decode : (l : List ℕ) (s : Session) → decoded l ≡ some s → en
 unfolding decoded
 encode-decode l s e = elim (bool-cases (holdsRecord l)) [
   | inl t ↦
-      let f : some (sessionIn (phaseOf (codeIn l)) l) ≡ some s = sym (if-yes _ _ t) ∙ e in
-      let g : sessionIn (phaseOf (codeIn l)) l ≡ s = cc in
+      let f : some (sessionIn (phaseIn l) l) ≡ some s = sym (if-yes _ _ t) ∙ e in
+      let g : sessionIn (phaseIn l) l ≡ s = cc in
       ap (λ (x : Session). encoded x ++ drop recordSize l) (sym g) ∙ encode-known l (known l t)
   | inr t ↦
       let f : none ≡ some s = sym (if-no _ _ t) ∙ e in

@@ -1,13 +1,15 @@
--- The lists behind `encode`, `put_head` and `decode`: six bytes set one by one, a store behind them, and a store copied out again.
+-- The lists behind `encode`, `put_head` and `decode`: six bytes set one by one, the limit's eight and a store behind them, and both copied
+-- out again.
 -- Assumes nothing.
 use mathlib.Core.Path.{_≡_, refl, sym, ap, _∙_}
 use mathlib.Core.List.{List, [], _∷_, _++_, append-nil}
-use Prim.Native.Nat.{ℕ, _≤_, _<_}
+use Prim.Native.Nat.{ℕ, _+_, _*_, _≤_, _<_}
 use native.Mathlib.Omega.{arith}
-use lib.ListN.{length, set, take, drop, length-append, length-take, length-drop, drop-of-length-le}
+use lib.ListN.{length, getD, set, take, drop, length-append, length-take, length-drop, drop-of-length-le}
 use lib.Seq.{take-all, drop-at, drop-drop, length-take-le}
 use borrow.Author.Tests.{le-leb, lt-leb, leb-true}
 use borrow.Rule.Slice.PartMut.{putMid, same-len-mid}
+use Rattle.basics.specs.Number.{numberFrom, number}
 use Rattle.basics.proofs.Laws.{if-yes, if-no, if-ind}
 use Rattle.dictionary.specs.Rows.{storeSize}
 use Rattle.record.specs.declared.Phase.{Phase}
@@ -15,8 +17,8 @@ use Rattle.record.specs.Session.{sessionOf}
 use Rattle.layout.specs.Layout.{headSize, recordSize, headOf, encoded, withRecord, withHead}
 
 -- six bytes set one by one in front of a list that has them
-pub set-head : (l : List ℕ) (v n d r k m : ℕ) → headSize ≤ length l
-    → set (set (set (set (set (set l 0 v) 1 n) 2 d) 3 r) 4 k) 5 m ≡ (v ∷ n ∷ d ∷ r ∷ k ∷ m ∷ []) ++ drop headSize l
+pub set-head : (l : List ℕ) (v n d r k m : ℕ) → 6 ≤ length l
+    → set (set (set (set (set (set l 0 v) 1 n) 2 d) 3 r) 4 k) 5 m ≡ (v ∷ n ∷ d ∷ r ∷ k ∷ m ∷ []) ++ drop 6 l
 set-head [] v n d r k m h = absurd (omega arith)
 set-head (_ ∷ []) v n d r k m h = absurd (omega arith)
 set-head (_ ∷ _ ∷ []) v n d r k m h = absurd (omega arith)
@@ -24,6 +26,11 @@ set-head (_ ∷ _ ∷ _ ∷ []) v n d r k m h = absurd (omega arith)
 set-head (_ ∷ _ ∷ _ ∷ _ ∷ []) v n d r k m h = absurd (omega arith)
 set-head (_ ∷ _ ∷ _ ∷ _ ∷ _ ∷ []) v n d r k m h = absurd (omega arith)
 set-head (_ ∷ _ ∷ _ ∷ _ ∷ _ ∷ _ ∷ l) v n d r k m h = refl
+
+-- and eight bytes in the place of those behind them
+pub set-limit : (l m : List ℕ) (v n d r k x : ℕ)
+    → putMid 6 8 ((v ∷ n ∷ d ∷ r ∷ k ∷ x ∷ []) ++ drop 6 l) m ≡ (v ∷ n ∷ d ∷ r ∷ k ∷ x ∷ m) ++ drop headSize l
+set-limit l m v n d r k x = ap (λ (t : List ℕ). (v ∷ n ∷ d ∷ r ∷ k ∷ x ∷ m) ++ t) (drop-drop 8 6 l)
 
 module _ (l : List ℕ) (p : Phase) (n : ℕ) where
   pub headed-yes : recordSize ≤ length l → withHead p n l ≡ headOf p n ++ drop headSize l
@@ -65,3 +72,20 @@ take-store l z m h n f =
     let e : storeSize ≡ length (take storeSize (drop headSize l)) = simp (length-take, length-drop) (omega arith) in
     let g : drop storeSize z ≡ [] = drop-of-length-le z {i = storeSize} (omega arith) in
     f ∙ rw (← e, g) (rw (take-all storeSize (take storeSize (drop headSize l)) (omega arith)) (append-nil _))
+
+-- eight bytes as a number, by its two halves
+pub by-halves : (s : List ℕ) {high low : ℕ} → length s ≡ 8
+    → high ≡ ((getD s 0 0 * 256 + getD s 1 0) * 256 + getD s 2 0) * 256 + getD s 3 0
+    → low ≡ ((getD s 4 0 * 256 + getD s 5 0) * 256 + getD s 6 0) * 256 + getD s 7 0
+    → high * 0x100000000 + low ≡ number s
+unfolding numberFrom
+by-halves [] z h l = absurd (omega arith)
+by-halves (_ ∷ []) z h l = absurd (omega arith)
+by-halves (_ ∷ _ ∷ []) z h l = absurd (omega arith)
+by-halves (_ ∷ _ ∷ _ ∷ []) z h l = absurd (omega arith)
+by-halves (_ ∷ _ ∷ _ ∷ _ ∷ []) z h l = absurd (omega arith)
+by-halves (_ ∷ _ ∷ _ ∷ _ ∷ _ ∷ []) z h l = absurd (omega arith)
+by-halves (_ ∷ _ ∷ _ ∷ _ ∷ _ ∷ _ ∷ []) z h l = absurd (omega arith)
+by-halves (_ ∷ _ ∷ _ ∷ _ ∷ _ ∷ _ ∷ _ ∷ []) z h l = absurd (omega arith)
+by-halves (_ ∷ _ ∷ _ ∷ _ ∷ _ ∷ _ ∷ _ ∷ _ ∷ []) z h l = omega arith
+by-halves (_ ∷ _ ∷ _ ∷ _ ∷ _ ∷ _ ∷ _ ∷ _ ∷ _ ∷ _) z h l = absurd (omega arith)

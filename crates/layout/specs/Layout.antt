@@ -1,14 +1,17 @@
 -- The session record as bytes (docs/HOST.md has the table by offset): a head of the layout's version, the code of the
--- phase with the count of commands handed out among its bytes, and behind it the store as it stands.
+-- phase with the count of commands handed out among its bytes, the limit in force (document 02, Item 8), and behind it
+-- the store as it stands.
 -- Assumes nothing.
 use mathlib.Core.Path.{_≡_}
 use mathlib.Core.Bool.{Bool}
 use mathlib.Core.List.{List, [], _∷_, _++_}
 use mathlib.Core.Option.{Option, some, none}
-use Prim.Native.Nat.{ℕ, _+_}
+use Prim.Native.Nat.{ℕ, _+_, _/_, _%_}
 use lib.ListN.{length, getD, take, drop}
+use Rattle.basics.specs.Alike.{alike}
 use Rattle.basics.specs.Choice.{if_then_else_, _and_, _≤?_, _=?_}
 use Rattle.basics.specs.Front.{inFront}
+use Rattle.basics.specs.Number.{number as numberOf}
 use Rattle.dictionary.specs.Rows.{storeSize}
 use Rattle.analysis.specs.declared.choice.Choice.{Choice}
 use Rattle.analysis.specs.Choice.{p1Of}
@@ -24,11 +27,11 @@ use Rattle.layout.specs.declared.Held.{Held}
 
 -- the layout's version, the first byte of every record
 abbrev pub version : ℕ
-version = 2
+version = 3
 
 -- the bytes in front of the store, and of the whole record
 abbrev pub headSize : ℕ
-headSize = 6
+headSize = 14
 
 abbrev pub recordSize : ℕ
 recordSize = headSize + storeSize
@@ -64,7 +67,28 @@ codeOf (Phase.Record p)     = code onRecord (p .number) 0 0
 codeOf (Phase.Cryptogram a) = code onCryptogram (p1Of (a .choice)) 0 (methodNumber (a .method))
 codeOf (Phase.Ended e)      = code onEnded (outcomeNumber (e .outcome)) (e .reason) 0
 
--- the way back: any code is read as some phase, and is that phase's code only where a phase has it.
+-- the limit in force that a phase holds, 0 where it holds none
+abbrev pub heldLimit : Phase → ℕ
+heldLimit Phase.Fresh          = 0
+heldLimit Phase.Options        = 0
+heldLimit (Phase.Record p)     = p .limit
+heldLimit (Phase.Cryptogram a) = a .limit
+heldLimit (Phase.Ended e)      = 0
+
+-- a limit as eight bytes, high byte first; it has 64 bits, so that the first is a byte
+abbrev pub limitBytes : ℕ → List ℕ
+limitBytes n =
+    n / 0x100000000000000
+    ∷ n / 0x1000000000000 % 256
+    ∷ n / 0x10000000000 % 256
+    ∷ n / 0x100000000 % 256
+    ∷ n / 0x1000000 % 256
+    ∷ n / 0x10000 % 256
+    ∷ n / 0x100 % 256
+    ∷ n % 256
+    ∷ []
+
+-- the way back: any code and limit are read as some phase, and are that phase's only where a phase has them.
 -- the choice that a P1 asks for; a decline where none has it
 unfoldable pub choiceFrom : ℕ → Choice
 choiceFrom p1 =
@@ -78,6 +102,7 @@ methodFrom n =
     if n =? 0 then Method.NoCvm
     else if n =? 1 then Method.Signature
     else if n =? 2 then Method.OnlinePin
+    else if n =? 3 then Method.ConfirmationCode
     else Method.OfflinePin
 
 -- the outcome of a number; the last one where none has it
@@ -89,14 +114,14 @@ outcomeFrom n =
     else if n =? 3 then Outcome.Ended
     else Outcome.SelectNext
 
--- the phase of a code; the last one where none has its number
-unfoldable pub phaseOf : Code → Phase
-phaseOf c =
+-- the phase of a code and a limit; the last one where none has the code's number
+unfoldable pub phaseOf : Code → ℕ → Phase
+phaseOf c l =
     if c .number =? onFresh then Phase.Fresh
     else if c .number =? onOptions then Phase.Options
-    else if c .number =? onRecord then Phase.Record (record { number = c .datum })
+    else if c .number =? onRecord then Phase.Record (record { number = c .datum; limit = l })
     else if c .number =? onCryptogram then
-        Phase.Cryptogram (record { choice = choiceFrom (c .datum); method = methodFrom (c .method) })
+        Phase.Cryptogram (record { choice = choiceFrom (c .datum); method = methodFrom (c .method); limit = l })
     else Phase.Ended (record { outcome = outcomeFrom (c .datum); reason = c .reason })
 
 -- two codes are the same
@@ -109,9 +134,10 @@ sameCode a b =
 
 -- ---- the record
 
--- the head: the version, the phase's number, what it holds, the reason, the count, the method
+-- the head: the version, the phase's number, what it holds, the reason, the count, the method, the limit
 abbrev pub headOf : Phase → ℕ → List ℕ
-headOf p n = version ∷ codeOf p .number ∷ codeOf p .datum ∷ codeOf p .reason ∷ n ∷ codeOf p .method ∷ []
+headOf p n =
+    version ∷ codeOf p .number ∷ codeOf p .datum ∷ codeOf p .reason ∷ n ∷ codeOf p .method ∷ limitBytes (heldLimit p)
 
 -- a session as bytes
 unfoldable pub encoded : Session → List ℕ
@@ -133,21 +159,29 @@ withHead p n l =
 abbrev pub codeIn : List ℕ → Code
 codeIn l = code (getD l 1 0) (getD l 2 0) (getD l 3 0) (getD l 5 0)
 
+-- the limit's bytes in a head, and the phase by both
+abbrev pub limitIn : List ℕ → List ℕ
+limitIn l = take 8 (drop 6 l)
+
+abbrev pub phaseIn : List ℕ → Phase
+phaseIn l = phaseOf (codeIn l) (numberOf (limitIn l))
+
 -- the session in a phase with the count and the store that the bytes have
 abbrev pub sessionIn : Phase → List ℕ → Session
 sessionIn p l = sessionOf p (getD l 4 0) (take storeSize (drop headSize l))
 
--- the bytes hold a record: enough of them, of this version, with the code of a phase
+-- the bytes hold a record: enough of them, of this version, with the code and the limit of a phase
 unfoldable pub holdsRecord : List ℕ → Bool
 holdsRecord l =
     recordSize ≤? length l
     and getD l 0 0 =? version
-    and sameCode (codeOf (phaseOf (codeIn l))) (codeIn l)
+    and sameCode (codeOf (phaseIn l)) (codeIn l)
+    and alike (limitBytes (heldLimit (phaseIn l))) (limitIn l)
 
 -- the session that bytes hold, none where they hold no record
 unfoldable pub decoded : List ℕ → Option Session
 decoded l =
-    if holdsRecord l then some (sessionIn (phaseOf (codeIn l)) l)
+    if holdsRecord l then some (sessionIn (phaseIn l) l)
     else none
 
 -- what holds of the two, proved in proofs/Laws:

@@ -1,8 +1,8 @@
 // The session record as bytes that a host lends, and a call's answer as one number.
 //
 // The record is a head and the store: a byte for the layout's version, the code of the phase with the count
-// of commands handed out before its last byte, and then the store's bytes as they stand. `encode` writes it in front of the
-// lent bytes, `decode` takes it apart again: only bytes that some record is encoded as are a record. Both
+// of commands handed out before its last byte, the limit in force, and then the store's bytes as they stand. `encode` writes
+// it in front of the lent bytes, `decode` takes it apart again: only bytes that some record is encoded as are a record. Both
 // lend the store, which is the largest part; `head_in` and `put_head` read and write the head alone, for a
 // caller that works on the store in its place.
 use analysis::choice::Choice;
@@ -10,19 +10,23 @@ use analysis::verification::Method;
 use dictionary::SIZE;
 use record::{Answer, Asked, End, Issued, Outcome, OutcomeParameters, Phase, Place};
 ghost use mathlib.Core.Path.{_≡_};
-ghost use Prim.Native.Nat.{_≤_};
+ghost use Prim.Native.Nat.{_+_, _*_, _≤_, _<_};
 ghost use lib.ListN.{length};
+ghost use Rattle.basics.specs.Number.{number as numberOf};
 ghost use Rattle.dictionary.specs.Rows.{storeSize};
 ghost use Rattle.record.specs.Session.{sessionOf};
-ghost use Rattle.layout.specs.Layout.{recordSize, choiceFrom, methodFrom, outcomeFrom, codeOf, phaseOf, codeIn, sameCode, withHead, decoded, heldOf, Wrote, Decodes};
+ghost use Rattle.layout.specs.Layout.{recordSize, choiceFrom, methodFrom, outcomeFrom, codeOf, heldLimit, limitBytes, phaseOf, codeIn, limitIn, sameCode, withHead, decoded, heldOf, Wrote, Decodes};
 ghost use Rattle.layout.specs.Layout.{version as layoutVersion};
 ghost use Rattle.layout.specs.Word.{commandWord, outcomeWord, refusalWord, wordOf};
 
 // The layout's version, the first byte of every record.
-const VERSION: u8 = 2;
+const VERSION: u8 = 3;
 
 // How many bytes stand in front of the store.
-pub const HEAD: usize = 6;
+pub const HEAD: usize = 14;
+
+// Where the limit in force stands in the head, eight bytes.
+const LIMIT: usize = 6;
 
 // How many bytes a record takes.
 pub const RECORD_SIZE: usize = HEAD + SIZE;
@@ -103,6 +107,8 @@ pub fn put_head(phase: Phase, count: u8, bytes: &mut [u8])
     bytes[3] = code.reason;
     bytes[4] = count;
     bytes[5] = code.method;
+    let limit = limit_bytes(held_limit(phase));
+    bytes::copy(&limit, &mut bytes[LIMIT..HEAD]);
 }
 
 // Takes apart the record in front of the bytes: its store goes into the one that is lent.
@@ -130,8 +136,13 @@ pub fn head_in(bytes: &[u8]) -> Held
         return Held::Nothing;
     }
     let code = code_in(bytes);
-    let phase = phase_of(code);
+    let limit = limit_in(bytes);
+    let phase = phase_of(code, limit_from(limit));
     if !is_same(code_of(phase), code) {
+        return Held::Nothing;
+    }
+    let own = limit_bytes(held_limit(phase));
+    if !basics::same(&own, &limit) {
         return Held::Nothing;
     }
     Held::Record(Head { phase, count: bytes[4] })
@@ -235,9 +246,65 @@ fn code_of(phase: Phase) -> Code
     }
 }
 
-// The phase that a code says, the nearest one where no phase has that code.
-fn phase_of(code: Code) -> Phase
-    ensures { λ r. ⌜ r ≡ phaseOf code ⌝ }
+// The limit in force that a phase holds, 0 where it holds none.
+fn held_limit(phase: Phase) -> u64
+    ensures { λ r. ⌜ r ≡ heldLimit phase ⌝ }
+{
+    match phase {
+        Phase::Fresh => 0,
+        Phase::Options => 0,
+        Phase::Record(place) => place.limit,
+        Phase::Cryptogram(asked) => asked.limit,
+        Phase::Ended(_) => 0,
+    }
+}
+
+// A limit as eight bytes, high byte first.
+fn limit_bytes(limit: u64) -> [u8; 8]
+    ensures { λ r. ⌜ r ≡ limitBytes limit ⌝ }
+{
+    [
+        (limit / 0x100000000000000) as u8,
+        (limit / 0x1000000000000 % 256) as u8,
+        (limit / 0x10000000000 % 256) as u8,
+        (limit / 0x100000000 % 256) as u8,
+        (limit / 0x1000000 % 256) as u8,
+        (limit / 0x10000 % 256) as u8,
+        (limit / 0x100 % 256) as u8,
+        (limit % 256) as u8,
+    ]
+}
+
+// The eight bytes that enough bytes have for the limit.
+fn limit_in(bytes: &[u8]) -> [u8; 8]
+    requires { ⌜ recordSize ≤ length (now bytes) ⌝ }
+    ensures { λ r. ⌜ r ≡ limitIn (now (bytes .entry)) ⌝ }
+{
+    let mut limit = [0u8; 8];
+    bytes::copy(&bytes[LIMIT..HEAD], &mut limit);
+    limit
+}
+
+// The limit of eight bytes, high byte first.
+fn limit_from(bytes: [u8; 8]) -> u64
+    ensures { λ r. ⌜ r ≡ numberOf bytes ⌝ }
+{
+    let high = four(bytes[0], bytes[1], bytes[2], bytes[3]);
+    let low = four(bytes[4], bytes[5], bytes[6], bytes[7]);
+    high * 0x100000000 + low
+}
+
+// Four bytes as a number, high byte first.
+fn four(a: u8, b: u8, c: u8, d: u8) -> u64
+    ensures { λ r. ⌜ (r ≡ ((a * 256 + b) * 256 + c) * 256 + d) × (r < 0x100000000) ⌝ }
+{
+    let n = basics::wide32(a) * 0x1000000 + basics::wide32(b) * 0x10000 + basics::wide32(c) * 0x100 + basics::wide32(d);
+    n as u64
+}
+
+// The phase that a code and a limit say, the nearest one where no phase has that code.
+fn phase_of(code: Code, limit: u64) -> Phase
+    ensures { λ r. ⌜ r ≡ phaseOf code limit ⌝ }
 {
     let number = code.number;
     if number == ON_FRESH {
@@ -247,10 +314,12 @@ fn phase_of(code: Code) -> Phase
         return Phase::Options;
     }
     if number == ON_RECORD {
-        return Phase::Record(Place { number: code.datum });
+        return Phase::Record(Place { number: code.datum, limit });
     }
     if number == ON_CRYPTOGRAM {
-        return Phase::Cryptogram(Asked { choice: choice_from(code.datum), method: method_from(code.method) });
+        let choice = choice_from(code.datum);
+        let method = method_from(code.method);
+        return Phase::Cryptogram(Asked { choice, method, limit });
     }
     Phase::Ended(End { outcome: outcome_from(code.datum), reason: code.reason })
 }
@@ -292,6 +361,7 @@ fn method_from(number: u8) -> Method
         0 => Method::NoCvm,
         1 => Method::Signature,
         2 => Method::OnlinePin,
+        3 => Method::ConfirmationCode,
         _ => Method::OfflinePin,
     }
 }

@@ -7,14 +7,15 @@ use native.Mathlib.Omega.{arith}
 use lib.ListN.{length}
 use Rattle.basics.specs.Choice.{both, every}
 use Rattle.dictionary.specs.Rows.{rows, rowAt, rowCount, storeSize, find}
-use Rattle.dictionary.specs.Named.{row5A, row82, row8C, row94, row95, row9F34, row5F24}
+use Rattle.dictionary.specs.Named.{row5A, row82, row8C, row94, row95, row9F34, row5F24, rowDF811B, rowDF8124, rowDF8125}
 use Rattle.dictionary.specs.declared.Found.the-variants.{At}
 use Rattle.dictionary.specs.Form.{fitting}
 use Rattle.dictionary.proofs.Fit.{fits-length}
-use Rattle.dictionary.proofs.Named.{at-5A, at-82, at-8C, at-94, at-95, at-5F24, at-9F34}
+use Rattle.dictionary.proofs.Named.{at-5A, at-82, at-8C, at-94, at-95, at-5F24, at-9F34, at-DF811B, at-DF8124, at-DF8125}
 use Rattle.store.specs.Place.{Value, bytesOf, valueOf, putAt, isThere}
 use Rattle.locator.specs.Records.{accepts, total}
 use Rattle.analysis.specs.Bits.{has}
+use Rattle.analysis.proofs.Laws.{limit-same}
 use Rattle.record.specs.declared.Outcome.{Outcome}
 use Rattle.record.specs.declared.Asked.{Asked}
 use Rattle.record.specs.declared.Phase.{Phase}
@@ -96,13 +97,13 @@ cryptogram-with-any-95 s a e q v w =
     g : length v ≤ rowAt row95 .greatest
     g = fits-length (rowAt row95) v w .1
 
-    c : OnCryptogram (s .count) b
+    c : OnCryptogram a (s .count) b
     c = on-cryptogram s e a q
 
     same : (t j : ℕ) → find rows t ≡ At j → (j ≡ row95 → ⊥) → valueOf b t ≡ valueOf (putAt rows b row95 v) t
     same t j x y = sym (put-named b row95 v l h g t j x y)
 
-    after : OnCryptogram (s .count) (putAt rows b row95 v)
+    after : OnCryptogram a (s .count) (putAt rows b row95 v)
     after = record {
       runs = put-runs b row95 v l h g results-apart (c .runs);
       mode = subst (λ (x : Value). has (bytesOf x) 2 8 ≡ true) (same 0x82 row82 at-82 (λ z. omega arith)) (c .mode);
@@ -110,6 +111,9 @@ cryptogram-with-any-95 s a e q v w =
       some-5F24 = subst (λ (x : Value). 0 < length (bytesOf x)) (same 0x5F24 row5F24 at-5F24 (λ z. omega arith)) (c .some-5F24);
       some-5A = subst (λ (x : Value). 0 < length (bytesOf x)) (same 0x5A row5A at-5A (λ z. omega arith)) (c .some-5A);
       some-8C = subst (λ (x : Value). 0 < length (bytesOf x)) (same 0x8C row8C at-8C (λ z. omega arith)) (c .some-8C);
+      limit = c .limit
+        ∙ limit-same _ _ (same 0x82 row82 at-82 (λ z. omega arith)) (same 0xDF811B rowDF811B at-DF811B (λ z. omega arith))
+        (same 0xDF8124 rowDF8124 at-DF8124 (λ z. omega arith)) (same 0xDF8125 rowDF8125 at-DF8125 (λ z. omega arith));
       verified = subst (λ (x : Value). isThere x ≡ true) (same 0x9F34 row9F34 at-9F34 (λ z. omega arith)) (c .verified);
       count = c .count ∙ ap (λ (x : Value). 2 + total (bytesOf x)) (same 0x94 row94 at-94 (λ z. omega arith));
     }

@@ -3,7 +3,7 @@
 -- Assumes nothing.
 use mathlib.Core.Path.{_≡_, refl}
 use mathlib.Core.Bool.{Bool, true, false}
-use mathlib.Core.List.{List, [], _∷_, map}
+use mathlib.Core.List.{List, [], _∷_, _++_, map}
 use Prim.Native.Nat.{ℕ}
 use lib.Dec.{eqb}
 use lib.ListN.{replicate}
@@ -17,6 +17,10 @@ use Rattle.store.specs.Place.{offsetIn, placeAt, held, valueAt, lengthByte, put
 use Rattle.store.specs.Held.{lengthIn}
 use Rattle.locator.specs.Entry.{keeps}
 use Rattle.locator.specs.Records.{entries, wholeEntries, sumOf, accepts}
+use Rattle.analysis.specs.Action.{phoneIn, limitOf}
+use Rattle.analysis.specs.Digits.{decimalFrom, amountOf}
+use Rattle.analysis.specs.Value.{front}
+use Rattle.analysis.specs.Verification.{onDevice}
 use Rattle.analysis.specs.declared.choice.Choice.{Choice}
 use Rattle.analysis.specs.declared.verification.Method.{Method}
 use Rattle.record.specs.declared.Outcome.{Outcome}
@@ -79,12 +83,13 @@ without x ((t, v) ∷ more) = if (eqb t x) (without x more) (putAt rows (without
 abbrev storing : List (ℕ × List ℕ) → List ℕ
 storing l = without 0 l
 
--- what a start must bring, and 95
+-- what a start must bring, and 95; the limits are 1.00, for a phone 2.00
 abbrev started : List (ℕ × List ℕ)
 started =
     (0x9A, 0x25 ∷ 0x12 ∷ 0x31 ∷ []) ∷ (0x9C, 0x00 ∷ []) ∷ (0x9F02, 0 ∷ 0 ∷ 0 ∷ 0 ∷ 0x10 ∷ 0x00 ∷ []) ∷ (0x9F09, 0 ∷ 2 ∷ []) ∷ (0x9F1A, 0x08 ∷ 0x40 ∷ [])
     ∷ (0x9F33, 0xE0 ∷ 0x68 ∷ 0xC8 ∷ []) ∷ (0x9F35, 0x22 ∷ []) ∷ (0x9F37, 1 ∷ 2 ∷ 3 ∷ 4 ∷ []) ∷ (0xDF8120, replicate 5 0) ∷ (0xDF8121, replicate 5 0) ∷ (0xDF8122, replicate 5 0)
-    ∷ (0xDF8123, replicate 6 0) ∷ (0xDF8124, replicate 6 0) ∷ (0xDF8126, replicate 6 0) ∷ (0x95, replicate 5 0) ∷ []
+    ∷ (0xDF8123, replicate 6 0) ∷ (0xDF8124, 0 ∷ 0 ∷ 0 ∷ 0 ∷ 0x01 ∷ 0x00 ∷ []) ∷ (0xDF8125, 0 ∷ 0 ∷ 0 ∷ 0 ∷ 0x02 ∷ 0x00 ∷ []) ∷ (0xDF8126, replicate 6 0) ∷ (0xDF811B, 0x20 ∷ [])
+    ∷ (0x95, replicate 5 0) ∷ []
 
 -- EMV mode and a locator of two records
 abbrev opened : List (ℕ × List ℕ)
@@ -115,8 +120,8 @@ options-counts = refl
 
 -- each object that a start must bring is asked for, and so is 95
 options-lacking : map (λ t. inRanges (sessionOf Phase.Options 1 (without t started)))
-    (0x9A ∷ 0x9C ∷ 0x9F02 ∷ 0x9F09 ∷ 0x9F1A ∷ 0x9F33 ∷ 0x9F35 ∷ 0x9F37 ∷ 0xDF8120 ∷ 0xDF8121 ∷ 0xDF8122 ∷ 0xDF8123 ∷ 0xDF8124 ∷ 0xDF8126 ∷ 0x95 ∷ [])
-    ≡ replicate 15 false
+    (0x9A ∷ 0x9C ∷ 0x9F02 ∷ 0x9F09 ∷ 0x9F1A ∷ 0x9F33 ∷ 0x9F35 ∷ 0x9F37 ∷ 0xDF8120 ∷ 0xDF8121 ∷ 0xDF8122 ∷ 0xDF8123 ∷ 0xDF8124 ∷ 0xDF8125 ∷ 0xDF8126 ∷ 0xDF811B ∷ 0x95 ∷ [])
+    ≡ replicate 17 false
 unfolding inRanges allFit objectFits lengthIn lengthByte fitting digitsFit numeric nibbles putAt placeOf valueIn valueAt placeAt held offsetIn find past rows
     optionsRanges running brought isBrought cryptogramAbsent listed every both either if
 options-lacking = refl
@@ -135,39 +140,62 @@ options-with = refl
 -- ---- waiting on a record: k from 1 to R, 1 + k commands
 
 abbrev onRecord : ℕ × ℕ → Bool
-onRecord (k, n) = inRanges (sessionOf (Phase.Record (record { number = k })) n (storing opened))
+onRecord (k, n) = inRanges (sessionOf (Phase.Record (record { number = k; limit = 100 })) n (storing opened))
 
 record-counts : map onRecord ((0, 1) ∷ (1, 2) ∷ (2, 3) ∷ (3, 4) ∷ (1, 1) ∷ (1, 3) ∷ []) ≡ false ∷ true ∷ true ∷ false ∷ false ∷ false ∷ []
 unfolding inRanges allFit objectFits lengthIn lengthByte fitting digitsFit numeric nibbles putAt placeOf valueIn valueAt placeAt held offsetIn find past rows
-    recordRanges running brought isBrought cryptogramAbsent listed accepts wholeEntries entries keeps sumOf every both either if
+    recordRanges limitOf phoneIn onDevice amountOf decimalFrom front running brought isBrought cryptogramAbsent listed accepts wholeEntries entries keeps sumOf every both either if
 record-counts = refl
 
 -- byte 2 b8 of 82 alone clear; a first record of 0 in the locator; a result bit
-record-with : map (λ x. inRanges (sessionOf (Phase.Record (record { number = 1 })) 2 (storing (x ∷ opened))))
+record-with : map (λ x. inRanges (sessionOf (Phase.Record (record { number = 1; limit = 100 })) 2 (storing (x ∷ opened))))
     ((0x82, 0x00 ∷ 0x80 ∷ []) ∷ (0x82, 0xFF ∷ 0x7F ∷ []) ∷ (0x94, 0x08 ∷ 0 ∷ 2 ∷ 0 ∷ []) ∷ (0x95, 0x80 ∷ 0 ∷ 0 ∷ 0 ∷ 0 ∷ []) ∷ [])
     ≡ true ∷ false ∷ false ∷ false ∷ []
 unfolding inRanges allFit objectFits lengthIn lengthByte fitting digitsFit numeric nibbles putAt placeOf valueIn valueAt placeAt held offsetIn find past rows
-    recordRanges running brought isBrought cryptogramAbsent listed accepts wholeEntries entries keeps sumOf every both either if
+    recordRanges limitOf phoneIn onDevice amountOf decimalFrom front running brought isBrought cryptogramAbsent listed accepts wholeEntries entries keeps sumOf every both either if
 record-with = refl
+
+-- a card with either limit, with none and with one more; a phone with either; and a phone where b6 of DF811B alone is clear
+abbrev withLimit : ℕ × (ℕ × ℕ) → Bool
+withLimit (profile, (configuration, limit)) =
+    inRanges (sessionOf (Phase.Record (record { number = 1; limit = limit })) 2 (storing ((0x82, profile ∷ 0x80 ∷ []) ∷ (0xDF811B, configuration ∷ []) ∷ opened)))
+
+record-limits : map withLimit
+    ((0xFD, (0xFF, 100)) ∷ (0xFD, (0xFF, 200)) ∷ (0xFD, (0xFF, 0)) ∷ (0xFD, (0xFF, 101)) ∷ (0x02, (0x20, 100)) ∷ (0x02, (0x20, 200)) ∷ (0x02, (0xDF, 100)) ∷ (0x02, (0xDF, 200)) ∷ [])
+    ≡ true ∷ false ∷ false ∷ false ∷ false ∷ true ∷ true ∷ false ∷ []
+unfolding inRanges allFit objectFits lengthIn lengthByte fitting digitsFit numeric nibbles putAt placeOf valueIn valueAt placeAt held offsetIn find past rows
+    recordRanges limitOf phoneIn onDevice amountOf decimalFrom front running brought isBrought cryptogramAbsent listed accepts wholeEntries entries keeps sumOf every both either if
+record-limits = refl
 
 -- ---- waiting on the cryptogram: 2 + R commands
 
+abbrev withAsked : ℕ → ℕ → List ℕ → Bool
+withAsked limit n b = inRanges (sessionOf (Phase.Cryptogram (record { choice = Choice.Online; method = Method.OnlinePin; limit = limit })) n b)
+
 abbrev onCryptogram : ℕ → List ℕ → Bool
-onCryptogram n b = inRanges (sessionOf (Phase.Cryptogram (record { choice = Choice.Online; method = Method.OnlinePin })) n b)
+onCryptogram n b = withAsked 100 n b
 
 cryptogram-counts : map (λ n. onCryptogram n (storing complete)) (3 ∷ 4 ∷ 5 ∷ []) ≡ false ∷ true ∷ false ∷ []
 unfolding inRanges allFit objectFits lengthIn lengthByte fitting digitsFit numeric compressed digitsThenFs nibbles putAt placeOf valueIn valueAt placeAt held offsetIn find past rows
-    cryptogramRanges running brought isBrought cryptogramAbsent completed listed accepts wholeEntries entries keeps sumOf every both either if
+    cryptogramRanges limitOf phoneIn onDevice amountOf decimalFrom front running brought isBrought cryptogramAbsent completed listed accepts wholeEntries entries keeps sumOf every both either if
 cryptogram-counts = refl
 
 -- each needed object absent, 9F34, and 82 and 94
 cryptogram-lacking : map (λ t. onCryptogram 4 (without t complete)) (0x5F24 ∷ 0x5A ∷ 0x8C ∷ 0x9F34 ∷ 0x82 ∷ 0x94 ∷ 0x95 ∷ []) ≡ replicate 7 false
 unfolding inRanges allFit objectFits lengthIn lengthByte fitting digitsFit numeric compressed digitsThenFs nibbles putAt placeOf valueIn valueAt placeAt held offsetIn find past rows
-    cryptogramRanges running brought isBrought cryptogramAbsent completed listed accepts wholeEntries entries keeps sumOf every both either if
+    cryptogramRanges limitOf phoneIn onDevice amountOf decimalFrom front running brought isBrought cryptogramAbsent completed listed accepts wholeEntries entries keeps sumOf every both either if
 cryptogram-lacking = refl
 
 -- any result bits; an empty account number; an empty list
 cryptogram-with : map (λ x. onCryptogram 4 (storing (x ∷ complete))) ((0x95, 0x80 ∷ 0 ∷ 0 ∷ 0 ∷ 0 ∷ []) ∷ (0x5A, []) ∷ (0x8C, []) ∷ []) ≡ true ∷ false ∷ false ∷ []
 unfolding inRanges allFit objectFits lengthIn lengthByte fitting digitsFit numeric compressed digitsThenFs nibbles putAt placeOf valueIn valueAt placeAt held offsetIn find past rows
-    cryptogramRanges running brought isBrought cryptogramAbsent completed listed accepts wholeEntries entries keeps sumOf every both either if
+    cryptogramRanges limitOf phoneIn onDevice amountOf decimalFrom front running brought isBrought cryptogramAbsent completed listed accepts wholeEntries entries keeps sumOf every both either if
 cryptogram-with = refl
+
+-- a card with either limit, a phone with either
+cryptogram-limits :
+    map (λ l. withAsked l 4 (storing complete)) (100 ∷ 200 ∷ []) ++ map (λ l. withAsked l 4 (storing ((0x82, 0x02 ∷ 0x80 ∷ []) ∷ complete))) (100 ∷ 200 ∷ [])
+    ≡ true ∷ false ∷ false ∷ true ∷ []
+unfolding inRanges allFit objectFits lengthIn lengthByte fitting digitsFit numeric compressed digitsThenFs nibbles putAt placeOf valueIn valueAt placeAt held offsetIn find past rows
+    cryptogramRanges limitOf phoneIn onDevice amountOf decimalFrom front running brought isBrought cryptogramAbsent completed listed accepts wholeEntries entries keeps sumOf every both either if
+cryptogram-limits = refl

@@ -13,7 +13,9 @@ use Rattle.basics.specs.Choice.{both, every}
 use Rattle.basics.proofs.Laws.{bool-cases, both-yes, both-left, both-right, either-left, either-right, either-false}
 use Rattle.basics.proofs.Table.{at}
 use Rattle.dictionary.specs.Rows.{Row, rows, blank, rowAt, optional, required, rowCount, storeSize}
+use Rattle.analysis.specs.Action.{limitOf}
 use Rattle.record.specs.declared.Place.{Place}
+use Rattle.record.specs.declared.Asked.{Asked}
 use Rattle.record.specs.declared.End.{End}
 use Rattle.record.specs.declared.Phase.{Phase}
 use Rattle.record.specs.declared.Session.{Session}
@@ -131,13 +133,15 @@ unfolding recordRanges
 record-clauses p n b f e =
     let q = both-right _ _ e in
     let u = both-right _ _ q in
-    let v = both-right _ _ u in
+    let k = both-right _ _ u in
+    let v = both-right _ _ k in
     let w = both-right _ _ v in
     let r = runs b (both-left _ _ e) in
     record {
       runs = r;
       mode = both-left _ _ q;
       zero-95 = zero-results b f (r .results) (both-left _ _ u);
+      limit = eqb-true (p .limit) (limitOf b) (both-left _ _ k);
       locator = both-left _ _ v;
       first = leb-true 1 (p .number) (both-left _ _ (both-left _ _ w));
       last = leb-true (p .number) (recordsIn b) (both-right _ _ (both-left _ _ w));
@@ -150,22 +154,25 @@ record-passes p n b c =
     both-yes _ _ (running-passes b (c .runs))
     (both-yes _ _ (c .mode)
     (both-yes _ _ (results-zero b (c .zero-95))
+    (both-yes _ _ (eq-eqb (p .limit) (limitOf b) (c .limit))
     (both-yes _ _ (c .locator)
     (both-yes _ _ (both-yes _ _ (le-leb 1 (p .number) (c .first)) (le-leb (p .number) (recordsIn b) (c .last)))
-    (eq-eqb n (1 + p .number) (c .count))))))
+    (eq-eqb n (1 + p .number) (c .count)))))))
 
-pub cryptogram-clauses : (n : ℕ) (b : List ℕ) → cryptogramRanges n b ≡ true → OnCryptogram n b
+pub cryptogram-clauses : (a : Asked) (n : ℕ) (b : List ℕ) → cryptogramRanges a n b ≡ true → OnCryptogram a n b
 unfolding cryptogramRanges completed every
-cryptogram-clauses n b e =
+cryptogram-clauses a n b e =
     let p = both-right _ _ e in
     let q = both-right _ _ p in
     let k = both-left _ _ q in
     let v = both-right _ _ q in
-    let u = both-right _ _ v in
+    let l = both-right _ _ v in
+    let u = both-right _ _ l in
     record {
       runs = runs b (both-left _ _ e);
       mode = both-left _ _ p;
       verified = both-left _ _ v;
+      limit = eqb-true (a .limit) (limitOf b) (both-left _ _ l);
       locator = both-left _ _ u;
       some-5F24 = ltb-true 0 _ (both-left _ _ k);
       some-5A = ltb-true 0 _ (both-left _ _ (both-right _ _ k));
@@ -173,15 +180,16 @@ cryptogram-clauses n b e =
       count = eqb-true n (2 + recordsIn b) (both-right _ _ u);
     }
 
-pub cryptogram-passes : (n : ℕ) (b : List ℕ) → OnCryptogram n b → cryptogramRanges n b ≡ true
+pub cryptogram-passes : (a : Asked) (n : ℕ) (b : List ℕ) → OnCryptogram a n b → cryptogramRanges a n b ≡ true
 unfolding cryptogramRanges completed every
-cryptogram-passes n b c =
+cryptogram-passes a n b c =
     both-yes _ _ (running-passes b (c .runs))
     (both-yes _ _ (c .mode)
     (both-yes _ _ (both-yes _ _ (lt-ltb 0 _ (c .some-5F24)) (both-yes _ _ (lt-ltb 0 _ (c .some-5A)) (both-yes _ _ (lt-ltb 0 _ (c .some-8C)) refl)))
     (both-yes _ _ (c .verified)
+    (both-yes _ _ (eq-eqb (a .limit) (limitOf b) (c .limit))
     (both-yes _ _ (c .locator)
-    (eq-eqb n (2 + recordsIn b) (c .count))))))
+    (eq-eqb n (2 + recordsIn b) (c .count)))))))
 
 pub ended-clauses : (x : End) (n : ℕ) → endedRanges x n ≡ true → OnEnded x n
 unfolding endedRanges
@@ -197,14 +205,14 @@ phase-clauses : (p : Phase) (s : Session) → length (stored s) ≡ storeSize �
 phase-clauses Phase.Fresh s l f e = fresh-clauses (s .count) (stored s) l e
 phase-clauses Phase.Options s l f e = options-clauses (s .count) (stored s) f e
 phase-clauses (Phase.Record p) s l f e = record-clauses p (s .count) (stored s) f e
-phase-clauses (Phase.Cryptogram a) s l f e = cryptogram-clauses (s .count) (stored s) e
+phase-clauses (Phase.Cryptogram a) s l f e = cryptogram-clauses a (s .count) (stored s) e
 phase-clauses (Phase.Ended x) s l f e = ended-clauses x (s .count) e
 
 phase-passes : (p : Phase) (s : Session) → InPhase p s → phaseRanges p s ≡ true
 phase-passes Phase.Fresh s c = fresh-passes (s .count) (stored s) c
 phase-passes Phase.Options s c = options-passes (s .count) (stored s) c
 phase-passes (Phase.Record p) s c = record-passes p (s .count) (stored s) c
-phase-passes (Phase.Cryptogram a) s c = cryptogram-passes (s .count) (stored s) c
+phase-passes (Phase.Cryptogram a) s c = cryptogram-passes a (s .count) (stored s) c
 phase-passes (Phase.Ended x) s c = ended-passes x (s .count) c
 
 -- a record that passes keeps every clause

@@ -49,7 +49,7 @@ module _ (s : Session) (e : inRanges s ≡ true) where
   pub on-record : (p : Place) → s .phase ≡ Phase.Record p → OnRecord p (s .count) (stored s)
   on-record p q = in-phase (Phase.Record p) q
 
-  pub on-cryptogram : (a : Asked) → s .phase ≡ Phase.Cryptogram a → OnCryptogram (s .count) (stored s)
+  pub on-cryptogram : (a : Asked) → s .phase ≡ Phase.Cryptogram a → OnCryptogram a (s .count) (stored s)
   on-cryptogram a q = in-phase (Phase.Cryptogram a) q
 
   pub on-ended : (x : End) → s .phase ≡ Phase.Ended x → OnEnded x (s .count)

@@ -10,7 +10,9 @@ use Rattle.dictionary.specs.Rows.{Row, rowAt, rowCount, storeSize, required}
 use Rattle.dictionary.specs.TerminalType.{listed}
 use Rattle.store.specs.Place.{absent, present, valueOf, room}
 use Rattle.locator.specs.Records.{accepts}
+use Rattle.analysis.specs.Action.{limitOf}
 use Rattle.record.specs.declared.Place.{Place}
+use Rattle.record.specs.declared.Asked.{Asked}
 use Rattle.record.specs.declared.End.{End}
 use Rattle.record.specs.declared.Phase.{Phase}
 use Rattle.record.specs.declared.Session.{Session}
@@ -61,6 +63,7 @@ pub record OnRecord (p : Place) (n : ℕ) (b : List ℕ) : Type 0 where
   pub runs : Running b
   pub mode : emvMode b ≡ true
   pub zero-95 : valueOf b 0x95 ≡ present noResults
+  pub limit : p .limit ≡ limitOf b
   pub locator : accepts (locatorIn b) ≡ true
   pub first : 1 ≤ p .number
   pub last : p .number ≤ recordsIn b
@@ -68,7 +71,7 @@ pub record OnRecord (p : Place) (n : ℕ) (b : List ℕ) : Type 0 where
 
 -- waiting on the cryptogram; that one of the three choices was asked for, and that a method was chosen, is in the
 -- record's type
-pub record OnCryptogram (n : ℕ) (b : List ℕ) : Type 0 where
+pub record OnCryptogram (a : Asked) (n : ℕ) (b : List ℕ) : Type 0 where
   pub runs : Running b
   pub mode : emvMode b ≡ true
   pub locator : accepts (locatorIn b) ≡ true
@@ -76,6 +79,7 @@ pub record OnCryptogram (n : ℕ) (b : List ℕ) : Type 0 where
   pub some-5A : 0 < length (bytesIn b 0x5A)
   pub some-8C : 0 < length (bytesIn b 0x8C)
   pub verified : holds b 0x9F34 ≡ true
+  pub limit : a .limit ≡ limitOf b
   pub count : n ≡ 2 + recordsIn b
 
 -- ended
@@ -88,7 +92,7 @@ abbrev pub InPhase : Phase → Session → Type 0
 InPhase Phase.Fresh          s = OnFresh (s .count) (stored s)
 InPhase Phase.Options        s = OnOptions (s .count) (stored s)
 InPhase (Phase.Record p)     s = OnRecord p (s .count) (stored s)
-InPhase (Phase.Cryptogram a) s = OnCryptogram (s .count) (stored s)
+InPhase (Phase.Cryptogram a) s = OnCryptogram a (s .count) (stored s)
 InPhase (Phase.Ended e)      s = OnEnded e (s .count)
 
 -- every clause; the store's size is that of its type

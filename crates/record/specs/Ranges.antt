@@ -14,7 +14,9 @@ use Rattle.store.specs.Place.{Value, absent, present, valueOf, room}
 use Rattle.store.specs.Held.{holds, lacks, bytesIn, notEmpty, byteIn, isZero, zeroed, lengthIn}
 use Rattle.locator.specs.Records.{accepts, total}
 use Rattle.analysis.specs.Bits.{has}
+use Rattle.analysis.specs.Action.{limitOf}
 use Rattle.record.specs.declared.Place.{Place}
+use Rattle.record.specs.declared.Asked.{Asked}
 use Rattle.record.specs.declared.End.{End}
 use Rattle.record.specs.declared.Phase.{Phase}
 use Rattle.record.specs.declared.Session.{Session}
@@ -102,24 +104,27 @@ optionsRanges n b =
     and zeroed b 0x95
     and n =? 1
 
--- on the k-th record: EMV mode, 95 is zero, an accepted locator, k is 1 to R, 1 + k commands
+-- on the k-th record: EMV mode, 95 is zero, the limit in force (document 02, Item 8), an accepted locator, k is 1 to R,
+-- 1 + k commands
 unfoldable pub recordRanges : Place → ℕ → List ℕ → Bool
 recordRanges p n b =
     running b
     and emvMode b
     and zeroed b 0x95
+    and p .limit =? limitOf b
     and accepts (locatorIn b)
     and between 1 (p .number) (recordsIn b)
     and n =? 1 + p .number
 
--- on the cryptogram: EMV mode, what it needs is there, the verification's results 9F34, an accepted locator, 2 + R
--- commands; that it holds one of the three choices and a method is the phase's type
-unfoldable pub cryptogramRanges : ℕ → List ℕ → Bool
-cryptogramRanges n b =
+-- on the cryptogram: EMV mode, what it needs is there, the verification's results 9F34, the limit in force, an accepted
+-- locator, 2 + R commands; that it holds one of the three choices and a method is the phase's type
+unfoldable pub cryptogramRanges : Asked → ℕ → List ℕ → Bool
+cryptogramRanges a n b =
     running b
     and emvMode b
     and completed b
     and holds b 0x9F34
+    and a .limit =? limitOf b
     and accepts (locatorIn b)
     and n =? 2 + recordsIn b
 
@@ -140,7 +145,7 @@ abbrev pub phaseRanges : Phase → Session → Bool
 phaseRanges Phase.Fresh          s = freshRanges (s .count) (stored s)
 phaseRanges Phase.Options        s = optionsRanges (s .count) (stored s)
 phaseRanges (Phase.Record p)     s = recordRanges p (s .count) (stored s)
-phaseRanges (Phase.Cryptogram a) s = cryptogramRanges (s .count) (stored s)
+phaseRanges (Phase.Cryptogram a) s = cryptogramRanges a (s .count) (stored s)
 phaseRanges (Phase.Ended e)      s = endedRanges e (s .count)
 
 -- a session record keeps its ranges; the store's size is that of its type

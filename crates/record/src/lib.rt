@@ -41,15 +41,17 @@ pub struct End {
     pub reason: u8,
 }
 
-// The record of the card that is awaited: its number in the locator's order, from 1.
+// The record of the card that is awaited: its number in the locator's order, from 1; and the transaction limit in force.
 pub struct Place {
     pub number: u8,
+    pub limit: u64,
 }
 
-// The cryptogram that is awaited: what was asked for, and the method of cardholder verification.
+// The cryptogram that is awaited: what was asked for, the method of cardholder verification, and the limit in force.
 pub struct Asked {
     pub choice: Choice,
     pub method: Method,
+    pub limit: u64,
 }
 
 // Fresh; waiting on processing options, on a record or on the cryptogram; or ended.
@@ -236,7 +238,7 @@ pub fn keeps(phase: Phase, count: u8, bytes: &[u8]) -> bool
         Phase::Fresh => fresh_keeps(count, bytes),
         Phase::Options => options_keep(count, bytes),
         Phase::Record(place) => record_keeps(place, count, bytes),
-        Phase::Cryptogram(_) => cryptogram_keeps(count, bytes),
+        Phase::Cryptogram(asked) => cryptogram_keeps(asked, count, bytes),
         Phase::Ended(end) => ended_keeps(end, count, bytes),
     }
 }
@@ -272,7 +274,7 @@ fn options_keep(count: u8, bytes: &[u8]) -> bool
     count == 1
 }
 
-// Waiting on a record that the stored locator names.
+// Waiting on a record that the stored locator names, with the limit that the store gives.
 fn record_keeps(place: Place, count: u8, bytes: &[u8]) -> bool
     requires { ⌜ length (now bytes) ≡ storeSize ⌝ }
     ensures { λ r. ⌜ r ≡ both (allFit (now (bytes .entry))) (recordRanges place count (now (bytes .entry))) ⌝ }
@@ -285,6 +287,9 @@ fn record_keeps(place: Place, count: u8, bytes: &[u8]) -> bool
     }
     let results = store::value(bytes, ROW_95);
     if !all_zero(results) {
+        return false;
+    }
+    if place.limit != analysis::action::limit(bytes) {
         return false;
     }
     let c = locator::check(store::value(bytes, ROW_94));
@@ -301,10 +306,10 @@ fn record_keeps(place: Place, count: u8, bytes: &[u8]) -> bool
     basics::wide(count) == 1 + k
 }
 
-// Waiting on the cryptogram: every record was asked for, what the choice needs is there, and 9F34.
-fn cryptogram_keeps(count: u8, bytes: &[u8]) -> bool
+// Waiting on the cryptogram: every record was asked for, what the choice needs is there, and 9F34; the limit is the store's.
+fn cryptogram_keeps(asked: Asked, count: u8, bytes: &[u8]) -> bool
     requires { ⌜ length (now bytes) ≡ storeSize ⌝ }
-    ensures { λ r. ⌜ r ≡ both (allFit (now (bytes .entry))) (cryptogramRanges count (now (bytes .entry))) ⌝ }
+    ensures { λ r. ⌜ r ≡ both (allFit (now (bytes .entry))) (cryptogramRanges asked count (now (bytes .entry))) ⌝ }
 {
     if !runs(bytes) {
         return false;
@@ -316,6 +321,9 @@ fn cryptogram_keeps(count: u8, bytes: &[u8]) -> bool
         return false;
     }
     if !store::is_there(bytes, ROW_9F34) {
+        return false;
+    }
+    if asked.limit != analysis::action::limit(bytes) {
         return false;
     }
     let c = locator::check(store::value(bytes, ROW_94));

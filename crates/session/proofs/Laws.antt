@@ -293,27 +293,29 @@ module _ (n : ℕ) (b buf : List ℕ) where
 
   -- ---- after the last record
 
-  pub records-limit : aboveLimit b ≡ true → recordsRead n b buf ≡ fails notApplicable n b reasonAboveLimit buf
-  unfolding recordsRead
-  records-limit e = if-yes _ _ e
+  module _ (limit : ℕ) where
+    pub records-limit : aboveLimit limit b ≡ true → recordsRead limit n b buf ≡ fails notApplicable n b reasonAboveLimit buf
+    unfolding recordsRead
+    records-limit e = if-yes _ _ e
 
-  pub records-missing : aboveLimit b ≡ false → completed b ≡ false → recordsRead n b buf ≡ fails notApplicable n b reasonMissing buf
-  unfolding recordsRead
-  records-missing e f = if-no _ _ e ∙ if-yes _ _ (ap not f)
+    pub records-missing : aboveLimit limit b ≡ false → completed b ≡ false → recordsRead limit n b buf ≡ fails notApplicable n b reasonMissing buf
+    unfolding recordsRead
+    records-missing e f = if-no _ _ e ∙ if-yes _ _ (ap not f)
 
-  pub records-analysed : aboveLimit b ≡ false → completed b ≡ true → recordsRead n b buf ≡ analysed n b buf
-  unfolding recordsRead
-  records-analysed e f = if-no _ _ e ∙ if-no _ _ (ap not f)
+    pub records-analysed : aboveLimit limit b ≡ false → completed b ≡ true → recordsRead limit n b buf ≡ analysed limit n b buf
+    unfolding recordsRead
+    records-analysed e f = if-no _ _ e ∙ if-no _ _ (ap not f)
 
-  -- what is found, stored and chosen on
-  pub analysed-as : {f : Findings} {k l : List ℕ} {x : Choice} → f ≡ findingsOf b → x ≡ chosen b (f .bits)
-      → k ≡ putAt rows b row9F34 (f .results) → l ≡ putAt rows k row95 (f .bits)
-      → analysed n b buf ≡ askCryptogram n l (record { choice = x; method = f .method }) buf
-  unfolding analysed askedIn
-  analysed-as {f} e c p q =
-      ap₂ (λ (d : List ℕ) (a : Asked). askCryptogram n d a buf)
-      (ap (withFindings b) (sym e) ∙ findings-stored b f p q)
-      (ap (λ (g : Findings). record { choice = chosen b (g .bits); method = g .method }) (sym e) ∙ ap (λ (y : Choice). record { choice = y; method = f .method }) (sym c))
+    -- what is found, stored and chosen on
+    pub analysed-as : {f : Findings} {k l : List ℕ} {x : Choice} → f ≡ findingsOf b → x ≡ chosen b (f .bits)
+        → k ≡ putAt rows b row9F34 (f .results) → l ≡ putAt rows k row95 (f .bits)
+        → analysed limit n b buf ≡ askCryptogram n l (record { choice = x; method = f .method; limit = limit }) buf
+    unfolding analysed askedIn
+    analysed-as {f} e c p q =
+        ap₂ (λ (d : List ℕ) (a : Asked). askCryptogram n d a buf)
+        (ap (withFindings b) (sym e) ∙ findings-stored b f p q)
+        (ap (λ (g : Findings). record { choice = chosen b (g .bits); method = g .method; limit = limit }) (sym e)
+        ∙ ap (λ (y : Choice). record { choice = y; method = f .method; limit = limit }) (sym c))
 
 -- ---- the answer to the cryptogram
 

@@ -17,7 +17,7 @@ use Rattle.reading.specs.Answer.{readAnswer}
 use Rattle.data_list.specs.Commands.{generateAc}
 use Rattle.analysis.specs.declared.choice.Choice.{Choice}
 use Rattle.analysis.specs.Choice.{p1Of}
-use Rattle.analysis.specs.Action.{aboveLimit, findingsOf, chosen}
+use Rattle.analysis.specs.Action.{limitOf, aboveLimit, findingsOf, chosen}
 use Rattle.analysis.specs.Verification.{methodNumber, notApplicable}
 use Rattle.record.specs.declared.Outcome.{Outcome}
 use Rattle.record.specs.declared.End.{End}
@@ -33,14 +33,15 @@ use Rattle.session.specs.Steps.{admitted, handOut}
 
 -- ---- the answer to processing options
 
--- waiting on the k-th record
-abbrev pub recordPhase : ℕ → Phase
-recordPhase k = Phase.Record (record { number = k })
+-- waiting on the k-th record, with the limit l in force
+abbrev pub recordPhase : ℕ → ℕ → Phase
+recordPhase l k = Phase.Record (record { number = k; limit = l })
 
--- the command for the k-th record of the stored locator; one that was accepted has one for each k from 1 to R
+-- the command for the k-th record of the stored locator; one that was accepted has one for each k from 1 to R. Here the
+-- limit in force is fixed (document 02, Item 8): the record holds it from now on
 abbrev pub askFound : ℕ → List ℕ → ℕ → List ℕ → Found → Step
 askFound n b k buf Found.Nothing = fails notApplicable n b reasonLocator buf
-askFound n b k buf (Found.At r) = commands n b (recordPhase k) (readRecord r) buf
+askFound n b k buf (Found.At r) = commands n b (recordPhase (limitOf b) k) (readRecord r) buf
 
 -- 82 and 94 are there
 abbrev pub optionsThere : List ℕ → Bool
@@ -82,29 +83,30 @@ unfoldable pub askCryptogram : ℕ → List ℕ → Asked → List ℕ → Step
 askCryptogram n b a buf =
     handOut (methodNumber (a .method)) n b (Phase.Cryptogram a) buf (generateAc (p1Of (a .choice)) b)
 
--- what is asked for: the method by the card's list, and the choice on the result bits with those of the verification
-unfoldable pub askedIn : List ℕ → Asked
-askedIn b = record { choice = chosen b (findingsOf b .bits); method = findingsOf b .method }
+-- what is asked for: the choice on the result bits with those of the verification, the method, and the limit l that
+-- the session holds
+unfoldable pub askedIn : ℕ → List ℕ → Asked
+askedIn l b = record { choice = chosen b (findingsOf b .bits); method = findingsOf b .method; limit = l }
 
 -- 9F34 and the result bits are stored, the choice is made on the bits, and 8C is filled after
-unfoldable pub analysed : ℕ → List ℕ → List ℕ → Step
-analysed n b buf = askCryptogram n (withFindings b (findingsOf b)) (askedIn b) buf
+unfoldable pub analysed : ℕ → ℕ → List ℕ → List ℕ → Step
+analysed l n b buf = askCryptogram n (withFindings b (findingsOf b)) (askedIn l b) buf
 
--- after the last record: the amount above the limit (6), an object that is needed missing (4)
-unfoldable pub recordsRead : ℕ → List ℕ → List ℕ → Step
-recordsRead n b buf =
-    if aboveLimit b then fails notApplicable n b reasonAboveLimit buf
+-- after the last record: the amount above the limit that the session holds (6), an object that is needed missing (4)
+unfoldable pub recordsRead : ℕ → ℕ → List ℕ → List ℕ → Step
+recordsRead l n b buf =
+    if aboveLimit l b then fails notApplicable n b reasonAboveLimit buf
     else if not (completed b) then fails notApplicable n b reasonMissing buf
-    else analysed n b buf
+    else analysed l n b buf
 
--- after a record: the k-th, if the locator names so many
-abbrev pub nextFound : ℕ → List ℕ → ℕ → List ℕ → Found → Step
-nextFound n b k buf Found.Nothing = recordsRead n b buf
-nextFound n b k buf (Found.At r) = commands n b (recordPhase k) (readRecord r) buf
+-- after a record: the k-th, if the locator names so many; the limit stays
+abbrev pub nextFound : ℕ → ℕ → List ℕ → ℕ → List ℕ → Found → Step
+nextFound l n b k buf Found.Nothing = recordsRead l n b buf
+nextFound l n b k buf (Found.At r) = commands n b (recordPhase l k) (readRecord r) buf
 
 -- the record behind the one that was waited on
 unfoldable pub recordRead : Place → ℕ → List ℕ → List ℕ → Step
-recordRead p n b buf = nextFound n b (p .number + 1) buf (recordAt (locatorIn b) (p .number + 1))
+recordRead p n b buf = nextFound (p .limit) n b (p .number + 1) buf (recordAt (locatorIn b) (p .number + 1))
 
 -- the answer is read by the file of the record that was asked for; a reason that the reading gives ends the session.
 -- A record in its ranges always has the one asked for.

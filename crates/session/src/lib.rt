@@ -29,7 +29,7 @@ ghost use Rattle.record.specs.Session.{sessionOf, replyOf, commandsTurn};
 ghost use Rattle.record.specs.Ranges.{emvMode, completed};
 ghost use Rattle.session.specs.Steps.{Did, DidIn, ended, leastBuffer, brokenOff, linkStep, stopStep};
 ghost use Rattle.session.specs.Start.{askOptions, startStep, startOn, loadOn};
-ghost use Rattle.session.specs.Answer.{recordPhase, optionsThere, optionsRead, optionsStep};
+ghost use Rattle.session.specs.Answer.{optionsThere, optionsRead, optionsStep};
 ghost use Rattle.session.specs.Answer.{askCryptogram, analysed, recordsRead, recordRead, recordStep};
 ghost use Rattle.session.specs.Answer.{decision, endFor, cryptogramThere, cryptogramEnd, cryptogramReply, answerStep, answerOn};
 ghost use Rattle.session.specs.Inner.{refusalNumber, neededNumber, modeNumber, limitNumber, decidedEnd};
@@ -233,7 +233,7 @@ fn take_options(count: u8, store: &mut [u8], card: &[u8], command: &mut [u8]) ->
     after_options(count, &store[..], command)
 }
 
-// After the processing options: the first record is asked for.
+// After the processing options: the limit in force is fixed, and the first record is asked for.
 fn after_options(count: u8, bytes: &[u8], command: &mut [u8]) -> Turn
     requires { ⌜ (leastBuffer ≤ length (now command)) × (count < 255) ⌝ }
     ensures { λ r. ⌜ DidIn r (now (bytes .entry)) (now (command .exit))
@@ -252,18 +252,19 @@ fn after_options(count: u8, bytes: &[u8], command: &mut [u8]) -> Turn
     let Found::At(wanted) = locator::record_at(entries, 1) else {
         return record::fails(count, basics::REASON_LOCATOR, NOT_APPLICABLE);
     };
-    ask_record(count, wanted, 1, command)
+    let limit = analysis::action::limit(bytes);
+    ask_record(count, wanted, Place { number: 1, limit }, command)
 }
 
-// The command for a record, the k-th that the locator names.
-fn ask_record(count: u8, wanted: locator::CardRecord, k: u8, command: &mut [u8]) -> Turn
+// The command for a record, at a place in the locator's order.
+fn ask_record(count: u8, wanted: locator::CardRecord, place: Place, command: &mut [u8]) -> Turn
     requires { ⌜ (leastBuffer ≤ length (now command)) × (count < 255) ⌝ }
     requires { ⌜ wanted .file < 32 ⌝ }
-    ensures turn { λ r. ⌜ r ≡ commandsTurn (recordPhase k) (count + 1) (length (readRecord wanted)) ⌝ }
+    ensures turn { λ r. ⌜ r ≡ commandsTurn (Phase.Record place) (count + 1) (length (readRecord wanted)) ⌝ }
     ensures buffer { λ _. ⌜ now (command .exit) ≡ inFront (readRecord wanted) (now (command .entry)) ⌝ }
 {
     let size = locator::read_record(wanted, command);
-    record::commands(Phase::Record(Place { number: k }), count + 1, size)
+    record::commands(Phase::Record(place), count + 1, size)
 }
 
 // The answer to a record.
@@ -297,34 +298,35 @@ fn after_record(place: Place, count: u8, store: &mut [u8], command: &mut [u8]) -
     let number = place.number;
     let k = basics::wide(number) + 1;
     let found = locator::record_at(store::value(&store[..], ROW_94), k);
+    let limit = place.limit;
     let Found::At(wanted) = found else {
-        return after_records(count, store, command);
+        return after_records(limit, count, store, command);
     };
-    ask_record(count, wanted, number + 1, command)
+    ask_record(count, wanted, Place { number: number + 1, limit }, command)
 }
 
-// After the last record: the limit, what is needed, and then the cryptogram.
-fn after_records(count: u8, store: &mut [u8], command: &mut [u8]) -> Turn
+// After the last record: the limit that the session holds, what is needed, and then the cryptogram.
+fn after_records(limit: u64, count: u8, store: &mut [u8], command: &mut [u8]) -> Turn
     requires { ⌜ (leastBuffer ≤ length (now command)) × (count < 255) ⌝ }
     requires { ⌜ length (now store) ≡ storeSize ⌝ }
     ensures { λ r. ⌜ DidIn r (now (store .exit)) (now (command .exit))
-        (recordsRead count (now (store .entry)) (now (command .entry))) ⌝ }
+        (recordsRead limit count (now (store .entry)) (now (command .entry))) ⌝ }
 {
-    let Limit::Within = limit_in(&store[..]) else {
+    let Limit::Within = limit_in(limit, &store[..]) else {
         return record::fails(count, basics::REASON_ABOVE_LIMIT, NOT_APPLICABLE);
     };
     let Needed::Complete = card_complete(&store[..]) else {
         return record::fails(count, basics::REASON_MISSING, NOT_APPLICABLE);
     };
-    analyse(count, store, command)
+    analyse(limit, count, store, command)
 }
 
 // What the analysis finds is stored, and the choice is made on the result bits.
-fn analyse(count: u8, store: &mut [u8], command: &mut [u8]) -> Turn
+fn analyse(limit: u64, count: u8, store: &mut [u8], command: &mut [u8]) -> Turn
     requires { ⌜ (leastBuffer ≤ length (now command)) × (count < 255) ⌝ }
     requires { ⌜ length (now store) ≡ storeSize ⌝ }
     ensures { λ r. ⌜ DidIn r (now (store .exit)) (now (command .exit))
-        (analysed count (now (store .entry)) (now (command .entry))) ⌝ }
+        (analysed limit count (now (store .entry)) (now (command .entry))) ⌝ }
 {
     let found = analysis::action::findings_of(&store[..]);
     let results = found.results;
@@ -333,7 +335,7 @@ fn analyse(count: u8, store: &mut [u8], command: &mut [u8]) -> Turn
     let choice = analysis::action::choice_for(&store[..], bits);
     store::put(store, ROW_9F34, &results);
     store::put(store, ROW_95, &bits);
-    ask_cryptogram(Asked { choice, method }, count, &store[..], command)
+    ask_cryptogram(Asked { choice, method, limit }, count, &store[..], command)
 }
 
 // The command for the cryptogram.
@@ -434,11 +436,11 @@ fn mode_in(bytes: &[u8]) -> Mode
     Mode::Stripe
 }
 
-// The amount against the limit in force.
-fn limit_in(bytes: &[u8]) -> Limit
-    ensures { λ r. ⌜ limitNumber r ≡ unless (not (aboveLimit (now (bytes .entry)))) reasonAboveLimit ⌝ }
+// The amount against a limit.
+fn limit_in(limit: u64, bytes: &[u8]) -> Limit
+    ensures { λ r. ⌜ limitNumber r ≡ unless (not (aboveLimit limit (now (bytes .entry)))) reasonAboveLimit ⌝ }
 {
-    if analysis::action::above_limit(bytes) {
+    if analysis::action::above_limit(bytes, limit) {
         return Limit::Above;
     }
     Limit::Within

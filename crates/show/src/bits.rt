@@ -1,4 +1,4 @@
-// The bits that are set in 82, 95 and 9F07, a line each, in words (Book C-2, A.1.16, A.1.170 and A.1.23).
+// The bits that are set in 82, 95, 9F07 and DF811B, a line each, in words (Book C-2, A.1.16, A.1.170, A.1.23 and A.1.91).
 use crate::{margin, number, text};
 
 // The bits of an object that has words for them; of any other object nothing.
@@ -7,6 +7,7 @@ pub fn lines(tag: u32, value: &[u8], levels: usize) {
         0x82 => bytes_of(tag, value, levels),
         0x95 => bytes_of(tag, value, levels),
         0x9F07 => bytes_of(tag, value, levels),
+        0xDF811B => bytes_of(tag, value, levels),
         _ => text(b""),
     }
 }
@@ -51,7 +52,8 @@ fn meaning(tag: u32, byte: usize, bit: usize) {
     match tag {
         0x82 => profile(byte, bit),
         0x95 => result(byte, bit),
-        _ => usage(byte, bit),
+        0x9F07 => usage(byte, bit),
+        _ => configuration(bit),
     }
 }
 
@@ -187,6 +189,19 @@ fn usage_2(bit: usize) {
     match bit {
         8 => text(b"domestic cashback allowed"),
         7 => text(b"international cashback allowed"),
+        _ => text(b"RFU"),
+    }
+}
+
+// Kernel Configuration, of one byte.
+fn configuration(bit: usize) {
+    match bit {
+        8 => text(b"mag-stripe mode not supported"),
+        7 => text(b"EMV mode not supported"),
+        6 => text(b"on-device cardholder verification supported"),
+        5 => text(b"relay resistance protocol supported"),
+        4 => text(b"reserved for the payment system"),
+        3 => text(b"all records read even without CDA"),
         _ => text(b"RFU"),
     }
 }

@@ -4,7 +4,7 @@
 pub mod bits;
 pub mod tree;
 
-use record::{Answer, Outcome, OutcomeParameters, Reply};
+use record::{Answer, Outcome, OutcomeParameters, Phase, Reply};
 
 // Text, as it is.
 pub fn text(s: &[u8]) {
@@ -91,14 +91,30 @@ fn digit(n: u8) -> u8 {
 
 // ---- in words
 
-// A reply in words, with the count of commands handed out, and a new line.
+// A reply in words, with the count of commands handed out and the limit in force, and a new line.
 pub fn reply_in_words(reply: Reply, buffer: &[u8]) {
     let answer = reply.answer;
     answer_in_words(answer, buffer);
     let session = reply.session;
     text(b", count ");
     number(basics::wide(record::count(session)));
+    let phase = session.phase;
+    held_limit(phase);
     text(b"\n");
+}
+
+// The limit in force behind a comma, where a phase holds one: an amount's twelve digits as a number.
+pub fn held_limit(phase: Phase) {
+    match phase {
+        Phase::Record(place) => limit(place.limit),
+        Phase::Cryptogram(asked) => limit(asked.limit),
+        _ => text(b""),
+    }
+}
+
+fn limit(amount: u64) {
+    text(b", limit ");
+    io::print_decimal(1, amount);
 }
 
 // What a call hands back, in words: a command by its name with its bytes, an outcome with its reason and the method, or
@@ -218,6 +234,7 @@ fn method_words(number: u8) {
         0 => text(b"no CVM"),
         1 => text(b"signature"),
         2 => text(b"online PIN"),
+        3 => text(b"confirmation code verified"),
         4 => text(b"offline PIN"),
         15 => text(b"not applicable"),
         _ => text(b"unknown"),
@@ -380,11 +397,13 @@ fn terminal_name(tag: u32) {
 
 fn reader_name(tag: u32) {
     match tag {
+        0xDF811B => text(b"Kernel Configuration"),
         0xDF8120 => text(b"Terminal Action Code - Default"),
         0xDF8121 => text(b"Terminal Action Code - Denial"),
         0xDF8122 => text(b"Terminal Action Code - Online"),
         0xDF8123 => text(b"Reader Contactless Floor Limit"),
         0xDF8124 => text(b"Reader Contactless Transaction Limit (No On-device CVM)"),
+        0xDF8125 => text(b"Reader Contactless Transaction Limit (On-device CVM)"),
         0xDF8126 => text(b"Reader CVM Required Limit"),
         _ => text(b"unknown"),
     }

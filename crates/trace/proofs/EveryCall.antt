@@ -56,15 +56,15 @@ module _ (s : Session) (card buf : List ℕ) where
   came-options b i (OptionsWay.failed n r) = ended _ b _ n
   came-options b i (OptionsWay.first r m a e) = sent b _ (readRecord r) (omega (arith, i .room))
 
-  came-records : {st : Step} (b : List ℕ) → Admitted s (length buf) → RecordsWay (withStore s b) buf st → Came s buf st
-  came-records b i (RecordsWay.failed n r x) = ended _ b _ n
-  came-records b i RecordsWay.unlisted = ended _ _ _ _
-  came-records b i (RecordsWay.asked c f g) =
-      sent _ _ c (omega (arith, i .room, cryptogram-proper (stored (analysedSession (withStore s b))) c (p1Of (askedBy (withStore s b) .choice)) g .most))
+  came-records : {st : Step} (l : ℕ) (b : List ℕ) → Admitted s (length buf) → RecordsWay l (withStore s b) buf st → Came s buf st
+  came-records l b i (RecordsWay.failed n r x) = ended _ b _ n
+  came-records l b i RecordsWay.unlisted = ended _ _ _ _
+  came-records l b i (RecordsWay.asked c f g) =
+      sent _ _ c (omega (arith, i .room, cryptogram-proper (stored (analysedSession (withStore s b))) c (p1Of (askedBy l (withStore s b) .choice)) g .most))
 
   came-record : {st : Step} (p : Place) (b : List ℕ) → Admitted s (length buf) → RecordWay p (withStore s b) buf st → Came s buf st
   came-record p b i (RecordWay.next r e) = sent b _ (readRecord r) (omega (arith, i .room))
-  came-record p b i (RecordWay.last e w) = came-records b i w
+  came-record p b i (RecordWay.last e w) = came-records (p .limit) b i w
 
   came-cryptogram : (m : ℕ) {q : Reply} (b : List ℕ) → CryptogramWay m (withStore s b) q → Came s buf (withoutCommand q buf)
   came-cryptogram m b (CryptogramWay.failed n r) = ended m b _ n
@@ -154,18 +154,18 @@ module _ (s : Session) (card buf : List ℕ) (n : length (locatorIn (stored s)) 
   same-options i (OptionsWay.failed m r) = reads Awaited.Options i
   same-options i (OptionsWay.first r m a e) = reads Awaited.Options i
 
-  same-records : (a : Awaited) {st : Step} → Admitted s (length buf) → length (stored (taken a s card)) ≡ storeSize → RecordsWay (taken a s card) buf st → Same st
-  same-records a i l (RecordsWay.failed m r x) = reads a i
-  same-records a i l RecordsWay.unlisted =
+  same-records : (k : ℕ) (a : Awaited) {st : Step} → Admitted s (length buf) → length (stored (taken a s card)) ≡ storeSize → RecordsWay k (taken a s card) buf st → Same st
+  same-records k a i l (RecordsWay.failed m r x) = reads a i
+  same-records k a i l RecordsWay.unlisted =
       let b = stored (taken a s card) in
       found-other b (findingsOf b) l (found-length b) (bits-length b) 0x94 row94 at-94 (λ z. omega arith) (λ z. omega arith) ∙ reads a i
-  same-records a i l (RecordsWay.asked c f g) =
+  same-records k a i l (RecordsWay.asked c f g) =
       let b = stored (taken a s card) in
       found-other b (findingsOf b) l (found-length b) (bits-length b) 0x94 row94 at-94 (λ z. omega arith) (λ z. omega arith) ∙ reads a i
 
   same-record : (p : Place) (a : Awaited) {st : Step} → Admitted s (length buf) → length (stored (taken a s card)) ≡ storeSize → RecordWay p (taken a s card) buf st → Same st
   same-record p a i l (RecordWay.next r e) = reads a i
-  same-record p a i l (RecordWay.last e w) = same-records a i l w
+  same-record p a i l (RecordWay.last e w) = same-records (p .limit) a i l w
 
   same-cryptogram : (m : ℕ) {q : Reply} → Admitted s (length buf) → CryptogramWay m (taken Awaited.Cryptogram s card) q → Same (withoutCommand q buf)
   same-cryptogram k i (CryptogramWay.failed m r) = reads Awaited.Cryptogram i

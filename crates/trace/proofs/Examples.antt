@@ -46,8 +46,10 @@ use Rattle.analysis.specs.Digits.{decimalFrom, yearOf, dateOf, laterThan, amoun
 use Rattle.analysis.specs.Restrictions.{otherVersion, notYetEffective, atAtm, countryOf, cashback, usageBroken}
 use Rattle.analysis.specs.Result.{withBits}
 use Rattle.analysis.specs.Choice.{holdsBit, lowestFrom, lowestBit, cardCode, heldAt, capabilityAt, choiceOf}
-use Rattle.analysis.specs.Verification.{rulesFrom, recognised, supported, amountMet, met, taken as takenBy, unsuccessful, byRules, verification}
-use Rattle.analysis.specs.Action.{limitOf, aboveLimit, usageIn, restrictionsOf, resultOf, sameCurrency, termsIn, verifiedIn, fullResult, findingsOf, codesOf, chosen}
+use Rattle.analysis.specs.declared.choice.Choice.{Choice}
+use Rattle.analysis.specs.declared.verification.Method.{Method}
+use Rattle.analysis.specs.Verification.{rulesFrom, recognised, supported, amountMet, met, taken as takenBy, unsuccessful, byRules, verification, onDevice, byPhone}
+use Rattle.analysis.specs.Action.{phoneIn, limitOf, aboveLimit, usageIn, restrictionsOf, resultOf, sameCurrency, termsIn, verifiedIn, fullResult, findingsOf, codesOf, chosen}
 use Rattle.record.specs.declared.Outcome.{Outcome}
 use Rattle.record.specs.declared.Answer.{Answer}
 
@@ -61,7 +63,8 @@ startBytes =
     0xDF ∷ 0x81 ∷ 0x20 ∷ 0x05 ∷ 0x00 ∷ 0x00 ∷ 0x00 ∷ 0x00 ∷ 0x00 ∷ 0xDF ∷ 0x81 ∷ 0x21 ∷ 0x05 ∷ 0x00 ∷ 0x00 ∷ 0x00 ∷ 0x00 ∷ 0x00 ∷
     0xDF ∷ 0x81 ∷ 0x22 ∷ 0x05 ∷ 0x00 ∷ 0x00 ∷ 0x00 ∷ 0x00 ∷ 0x00 ∷ 0xDF ∷ 0x81 ∷ 0x23 ∷ 0x06 ∷ 0x00 ∷ 0x00 ∷ 0x00 ∷ 0x01 ∷ 0x00 ∷ 0x00 ∷
     0xDF ∷ 0x81 ∷ 0x24 ∷ 0x06 ∷ 0x00 ∷ 0x00 ∷ 0x00 ∷ 0x02 ∷ 0x00 ∷ 0x00 ∷
-    0xDF ∷ 0x81 ∷ 0x26 ∷ 0x06 ∷ 0x00 ∷ 0x00 ∷ 0x00 ∷ 0x00 ∷ 0x10 ∷ 0x00 ∷ []
+    0xDF ∷ 0x81 ∷ 0x25 ∷ 0x06 ∷ 0x00 ∷ 0x00 ∷ 0x00 ∷ 0x05 ∷ 0x00 ∷ 0x00 ∷
+    0xDF ∷ 0x81 ∷ 0x26 ∷ 0x06 ∷ 0x00 ∷ 0x00 ∷ 0x00 ∷ 0x00 ∷ 0x10 ∷ 0x00 ∷ 0xDF ∷ 0x81 ∷ 0x1B ∷ 0x01 ∷ 0x20 ∷ []
 
 abbrev locator : List ℕ
 locator = 0x08 ∷ 0x01 ∷ 0x01 ∷ 0x00 ∷ []
@@ -155,9 +158,9 @@ unfolding commands play final taken admitted endedRanges goesWith outcomeFor inR
     isRead readBody bodyOf primitiveParts optionsParts templateParts parse nextOf withLeaf withNode count items takeAll takeNext takeItem allowed mayCome mayStand withResults withFindings placeOf
     load primitives withObject primitiveOf headerOf tagAt tagSize secondByte thirdByte lengthAt firstByte isTemplate isPrivate numberFrom if both either every rows past find settable setObject
     setAll fitting digitsFit numeric nibbles digitsThenFs compressed typeListed listed offsetIn placeAt held valueAt putAt valueIn brought isBrought recordStep recordRead recordsRead analysed
-    askedIn askCryptogram limitOf aboveLimit usageIn restrictionsOf resultOf sameCurrency termsIn verifiedIn fullResult findingsOf codesOf chosen bit front decimalFrom yearOf dateOf laterThan
+    askedIn askCryptogram phoneIn limitOf aboveLimit usageIn restrictionsOf resultOf sameCurrency termsIn verifiedIn fullResult findingsOf codesOf chosen bit front decimalFrom yearOf dateOf laterThan
     amountOf amountAbove otherVersion notYetEffective atAtm countryOf cashback usageBroken withBits holdsBit lowestFrom lowestBit cardCode heldAt capabilityAt choiceOf rulesFrom recognised
-    supported amountMet met takenBy unsuccessful byRules verification alike
+    supported amountMet met takenBy unsuccessful byRules verification onDevice alike
 verified = refl
 
 verified-sent : commands (play freshSession (start startBytes lent ∷ answer verifyingAnswer lent ∷ answer ruleRecord lent ∷ []))
@@ -169,7 +172,54 @@ unfolding commands play final taken admitted endedRanges goesWith outcomeFor inR
     isRead readBody bodyOf primitiveParts optionsParts templateParts parse nextOf withLeaf withNode count items takeAll takeNext takeItem allowed mayCome mayStand withResults withFindings placeOf
     load primitives withObject primitiveOf headerOf tagAt tagSize secondByte thirdByte lengthAt firstByte isTemplate isPrivate numberFrom if both either every rows past find settable setObject
     setAll fitting digitsFit numeric nibbles digitsThenFs compressed typeListed listed offsetIn placeAt held valueAt putAt valueIn brought isBrought recordStep recordRead recordsRead analysed
-    askedIn askCryptogram limitOf aboveLimit usageIn restrictionsOf resultOf sameCurrency termsIn verifiedIn fullResult findingsOf codesOf chosen bit front decimalFrom yearOf dateOf laterThan
+    askedIn askCryptogram phoneIn limitOf aboveLimit usageIn restrictionsOf resultOf sameCurrency termsIn verifiedIn fullResult findingsOf codesOf chosen bit front decimalFrom yearOf dateOf laterThan
     amountOf amountAbove otherVersion notYetEffective atAtm countryOf cashback usageBroken withBits holdsBit lowestFrom lowestBit cardCode heldAt capabilityAt choiceOf rulesFrom recognised
-    supported amountMet met takenBy unsuccessful byRules verification alike
+    supported amountMet met takenBy unsuccessful byRules verification onDevice alike
 verified-sent = refl
+
+-- ---- a phone
+
+-- 82 of 12 80: the phone's own limit is held, the list is not looked at, and the outcome tells the confirmation code
+abbrev phoneAnswer : List ℕ
+phoneAnswer = 0x80 ∷ 0x06 ∷ 0x12 ∷ 0x80 ∷ 0x08 ∷ 0x01 ∷ 0x01 ∷ 0x00 ∷ 0x90 ∷ 0x00 ∷ []
+
+phone : map said (play freshSession (start startBytes lent ∷ answer phoneAnswer lent ∷ answer ruleRecord lent ∷ link-failed lent ∷ []))
+    ≡ Answer.Command (record { size = 8 }) ∷ Answer.Command (record { size = 5 }) ∷ Answer.Command (record { size = 14 })
+    ∷ Answer.Outcome (parametersOf Outcome.Ended 9 3) ∷ []
+unfolding commands play final taken admitted endedRanges goesWith outcomeFor inRanges allFit objectFits lengthIn lengthByte freshRanges optionsRanges recordRanges cryptogramRanges
+    completed running cryptogramAbsent askOptions processingOptions optionsOf filledBy fillingOf listEntries recurse recurseBy along lengthBytes withLength entryAt withEntry cut padding padded
+    fitted entryBytes cryptogramOf generateAc optionsStep storedReason optionsRead recordAt kth nth accepts wholeEntries entriesOf keeps sumOf recordsOf runOf readAnswer goodLength goodStatus
+    isRead readBody bodyOf primitiveParts optionsParts templateParts parse nextOf withLeaf withNode count items takeAll takeNext takeItem allowed mayCome mayStand withResults withFindings placeOf
+    load primitives withObject primitiveOf headerOf tagAt tagSize secondByte thirdByte lengthAt firstByte isTemplate isPrivate numberFrom if both either every rows past find settable setObject
+    setAll fitting digitsFit numeric nibbles digitsThenFs compressed typeListed listed offsetIn placeAt held valueAt putAt valueIn brought isBrought recordStep recordRead recordsRead analysed
+    askedIn askCryptogram phoneIn limitOf aboveLimit usageIn restrictionsOf resultOf sameCurrency termsIn verifiedIn fullResult findingsOf codesOf chosen bit front decimalFrom yearOf dateOf laterThan
+    amountOf amountAbove otherVersion notYetEffective atAtm countryOf cashback usageBroken withBits holdsBit lowestFrom lowestBit cardCode heldAt capabilityAt choiceOf rulesFrom recognised
+    supported amountMet met takenBy unsuccessful byRules verification onDevice byPhone alike
+phone = refl
+
+phone-held : final freshSession (start startBytes lent ∷ answer phoneAnswer lent ∷ answer ruleRecord lent ∷ []) .phase
+    ≡ Phase.Cryptogram (record { choice = Choice.Online; method = Method.ConfirmationCode; limit = 50000 })
+unfolding commands play final taken admitted endedRanges goesWith outcomeFor inRanges allFit objectFits lengthIn lengthByte freshRanges optionsRanges recordRanges cryptogramRanges
+    completed running cryptogramAbsent askOptions processingOptions optionsOf filledBy fillingOf listEntries recurse recurseBy along lengthBytes withLength entryAt withEntry cut padding padded
+    fitted entryBytes cryptogramOf generateAc optionsStep storedReason optionsRead recordAt kth nth accepts wholeEntries entriesOf keeps sumOf recordsOf runOf readAnswer goodLength goodStatus
+    isRead readBody bodyOf primitiveParts optionsParts templateParts parse nextOf withLeaf withNode count items takeAll takeNext takeItem allowed mayCome mayStand withResults withFindings placeOf
+    load primitives withObject primitiveOf headerOf tagAt tagSize secondByte thirdByte lengthAt firstByte isTemplate isPrivate numberFrom if both either every rows past find settable setObject
+    setAll fitting digitsFit numeric nibbles digitsThenFs compressed typeListed listed offsetIn placeAt held valueAt putAt valueIn brought isBrought recordStep recordRead recordsRead analysed
+    askedIn askCryptogram phoneIn limitOf aboveLimit usageIn restrictionsOf resultOf sameCurrency termsIn verifiedIn fullResult findingsOf codesOf chosen bit front decimalFrom yearOf dateOf laterThan
+    amountOf amountAbove otherVersion notYetEffective atAtm countryOf cashback usageBroken withBits holdsBit lowestFrom lowestBit cardCode heldAt capabilityAt choiceOf rulesFrom recognised
+    supported amountMet met takenBy unsuccessful byRules verification onDevice byPhone alike
+phone-held = refl
+
+phone-sent : commands (play freshSession (start startBytes lent ∷ answer phoneAnswer lent ∷ answer ruleRecord lent ∷ []))
+    ≡ optionsCommand ∷ recordCommand
+    ∷ (0x80 ∷ 0xAE ∷ 0x80 ∷ 0x00 ∷ 0x08 ∷ 0x80 ∷ 0x00 ∷ 0x00 ∷ 0x00 ∷ 0x00 ∷ 0x01 ∷ 0x00 ∷ 0x02 ∷ 0x00 ∷ []) ∷ []
+unfolding commands play final taken admitted endedRanges goesWith outcomeFor inRanges allFit objectFits lengthIn lengthByte freshRanges optionsRanges recordRanges cryptogramRanges
+    completed running cryptogramAbsent askOptions processingOptions optionsOf filledBy fillingOf listEntries recurse recurseBy along lengthBytes withLength entryAt withEntry cut padding padded
+    fitted entryBytes cryptogramOf generateAc optionsStep storedReason optionsRead recordAt kth nth accepts wholeEntries entriesOf keeps sumOf recordsOf runOf readAnswer goodLength goodStatus
+    isRead readBody bodyOf primitiveParts optionsParts templateParts parse nextOf withLeaf withNode count items takeAll takeNext takeItem allowed mayCome mayStand withResults withFindings placeOf
+    load primitives withObject primitiveOf headerOf tagAt tagSize secondByte thirdByte lengthAt firstByte isTemplate isPrivate numberFrom if both either every rows past find settable setObject
+    setAll fitting digitsFit numeric nibbles digitsThenFs compressed typeListed listed offsetIn placeAt held valueAt putAt valueIn brought isBrought recordStep recordRead recordsRead analysed
+    askedIn askCryptogram phoneIn limitOf aboveLimit usageIn restrictionsOf resultOf sameCurrency termsIn verifiedIn fullResult findingsOf codesOf chosen bit front decimalFrom yearOf dateOf laterThan
+    amountOf amountAbove otherVersion notYetEffective atAtm countryOf cashback usageBroken withBits holdsBit lowestFrom lowestBit cardCode heldAt capabilityAt choiceOf rulesFrom recognised
+    supported amountMet met takenBy unsuccessful byRules verification onDevice byPhone alike
+phone-sent = refl

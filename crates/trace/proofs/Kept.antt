@@ -2,7 +2,7 @@
 -- that its row allows.
 -- Assumes nothing.
 use mathlib.Core.Path.{_≡_, refl, sym, ap, subst, _∙_}
-use mathlib.Core.Bool.{true}
+use mathlib.Core.Bool.{true, false}
 use mathlib.Core.List.{List, [], _∷_}
 use Prim.Native.Nat.{ℕ, _≤_, _<_}
 use native.Mathlib.Omega.{arith}
@@ -11,12 +11,12 @@ use borrow.Author.Tests.{le-leb}
 use Rattle.basics.specs.Choice.{both, every}
 use Rattle.basics.specs.Number.{hasBit}
 use Rattle.basics.proofs.Laws.{if-no, both-yes}
-use Rattle.dictionary.specs.Named.{row82, row94, row95, row9F34}
+use Rattle.dictionary.specs.Named.{row82, row94, row95, row9F34, rowDF811B, rowDF8124, rowDF8125}
 use Rattle.dictionary.specs.declared.Found.the-variants.{At}
-use Rattle.dictionary.specs.Rows.{rows, rowAt, rowCount, storeSize, find, cryptogram}
+use Rattle.dictionary.specs.Rows.{rows, rowAt, rowCount, storeSize, find, card, cryptogram}
 use Rattle.dictionary.specs.Form.{digitsFit, fitting}
 use Rattle.dictionary.proofs.Fit.{fits-length}
-use Rattle.dictionary.proofs.Named.{at-82, at-94, at-95, at-9F34}
+use Rattle.dictionary.proofs.Named.{at-82, at-94, at-95, at-9F34, at-DF811B, at-DF8124, at-DF8125}
 use Rattle.store.specs.Place.{Value, present, bytesOf, valueOf, putAt}
 use Rattle.store.proofs.Laws.{by-row}
 use Rattle.locator.specs.Records.{accepts}
@@ -26,6 +26,8 @@ use Rattle.reading.specs.Taking.{Item}
 use Rattle.reading.specs.Answer.{answerBit, readAnswer}
 use Rattle.reading.proofs.Kept.{Put, read-holds, read-grows}
 use Rattle.analysis.specs.Bits.{has}
+use Rattle.analysis.specs.Action.{limitOf}
+use Rattle.analysis.proofs.Laws.{limit-same}
 use Rattle.analysis.specs.declared.action.Findings.{Findings}
 use Rattle.store.specs.Held.{holds, bytesIn}
 use Rattle.record.specs.Ranges.{locatorIn}
@@ -95,6 +97,30 @@ read-mode a b s l m = read-value a b s l 0x82 row82 at-82 (mode-bytes (bytesIn b
 
 pub read-locator : (a : Awaited) (b s : List ℕ) → length b ≡ storeSize → accepts (locatorIn b) ≡ true → valueOf (readAnswer a b s .store) 0x94 ≡ valueOf b 0x94
 read-locator a b s l m = read-value a b s l 0x94 row94 at-94 (λ z. omega (arith, accepted-length (locatorIn b) m .1))
+
+-- what no card sets stays, and so does the limit in force past the processing options
+pub read-start : (a : Awaited) (b s : List ℕ) → length b ≡ storeSize → (t j : ℕ) → find rows t ≡ At j → hasBit (rowAt j .setters) card ≡ false
+    → valueOf (readAnswer a b s .store) t ≡ valueOf b t
+read-start a b s l t j e n = read-holds P a step b s (l, refl) .1
+  where
+    P : List ℕ → Type 0
+    P d = valueOf d t ≡ valueOf b t
+
+    step : (d : List ℕ) (k : ℕ) (i : Item) → length d ≡ storeSize → Unit {0} → Put (answerBit a) d k i → P d → P (putAt rows d k (i .value))
+    step d k i m q p h =
+        let g = fits-length (rowAt k) (i .value) (p .fits) .1 in
+        let apart : j ≡ k → ⊥ = λ z. let w = sym n ∙ ap (λ (x : ℕ). hasBit (rowAt x .setters) card) z ∙ p .card in let y : _≡_ {A = ℕ} 0 1 = cc in omega arith in
+        put-named d k (i .value) m (p .row) g t j e apart ∙ h
+
+-- the objects of the limit are the start's
+by-start : (hasBit (rowAt rowDF811B .setters) card ≡ false) × (hasBit (rowAt rowDF8124 .setters) card ≡ false) × (hasBit (rowAt rowDF8125 .setters) card ≡ false)
+unfolding rows
+by-start = (refl, refl, refl)
+
+pub read-limit : (a : Awaited) (b s : List ℕ) → length b ≡ storeSize → has (bytesIn b 0x82) 2 8 ≡ true → limitOf (readAnswer a b s .store) ≡ limitOf b
+read-limit a b s l m =
+    limit-same _ _ (read-mode a b s l m) (read-start a b s l 0xDF811B rowDF811B at-DF811B (by-start .0))
+    (read-start a b s l 0xDF8124 rowDF8124 at-DF8124 (by-start .1)) (read-start a b s l 0xDF8125 rowDF8125 at-DF8125 (by-start .2))
 
 -- ---- the result bits
 
@@ -184,3 +210,11 @@ module _ (b : List ℕ) (f : Findings) (l : length b ≡ storeSize) (n : length 
   found-other t j e ne nf =
       ap (λ (x : List ℕ). valueOf x t) found ∙ bits-other _ (f .bits) put-sized m t j e ne
       ∙ put-named b row9F34 (f .results) l there fit t j e nf
+
+  -- and so the limit in force stays
+  pub found-limit : limitOf (withFindings b f) ≡ limitOf b
+  found-limit =
+      limit-same _ _ (found-other 0x82 row82 at-82 (λ z. omega arith) (λ z. omega arith))
+      (found-other 0xDF811B rowDF811B at-DF811B (λ z. omega arith) (λ z. omega arith))
+      (found-other 0xDF8124 rowDF8124 at-DF8124 (λ z. omega arith) (λ z. omega arith))
+      (found-other 0xDF8125 rowDF8125 at-DF8125 (λ z. omega arith) (λ z. omega arith))

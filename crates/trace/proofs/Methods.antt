@@ -30,6 +30,7 @@ is-method : (m : Method) → eqb (methodNumber m) notApplicable ≡ false
 is-method Method.NoCvm = refl
 is-method Method.Signature = refl
 is-method Method.OnlinePin = refl
+is-method Method.ConfirmationCode = refl
 is-method Method.OfflinePin = refl
 
 -- a phase that is not the cryptogram's holds none
@@ -79,10 +80,10 @@ module _ (s : Session) (card buf : List ℕ) where
   options-tells q (OptionsWay.failed n r) e p = told-in s Phase.Options q _ n notApplicable (none-held Phase.Options n refl) e p
   options-tells q (OptionsWay.first r m a f) e p = let z : _≡_ {A = ℕ} 0 1 = cc in absurd (omega arith)
 
-  records-tells : (k : Place) → s .phase ≡ Phase.Record k → {t : Session} {st : Step} → RecordsWay t buf st → TellsMethod s st
+  records-tells : (k : Place) → s .phase ≡ Phase.Record k → {t : Session} {st : Step} → RecordsWay (k .limit) t buf st → TellsMethod s st
   records-tells k q (RecordsWay.failed n r x) e p = told-in s (Phase.Record k) q _ n notApplicable (none-held (Phase.Record k) n (ne-eqb n reasonDataList x)) e p
   records-tells k q {t} RecordsWay.unlisted e p =
-      told-in s (Phase.Record k) q _ reasonDataList (methodNumber (askedBy t .method)) (on-list k (askedBy t .method)) e p
+      told-in s (Phase.Record k) q _ reasonDataList (methodNumber (askedBy (k .limit) t .method)) (on-list k (askedBy (k .limit) t .method)) e p
   records-tells k q (RecordsWay.asked c f g) e p = let z : _≡_ {A = ℕ} 0 1 = cc in absurd (omega arith)
 
   record-tells : (k : Place) → s .phase ≡ Phase.Record k → {t : Session} {st : Step} → RecordWay k t buf st → TellsMethod s st

@@ -21,7 +21,7 @@ use Rattle.locator.specs.Records.{accepts, total, recordAt}
 use Rattle.locator.proofs.Laws.{accepted-total, record-inside, record-there}
 use Rattle.reading.specs.declared.Awaited.{Awaited}
 use Rattle.analysis.specs.Bits.{has}
-use Rattle.analysis.specs.Action.{findingsOf}
+use Rattle.analysis.specs.Action.{limitOf, findingsOf}
 use Rattle.analysis.specs.declared.action.Findings.{Findings}
 use Rattle.analysis.proofs.Laws.{found-length, bits-length}
 use Rattle.record.specs.declared.Place.{Place}
@@ -42,8 +42,8 @@ use Rattle.terminal.specs.Terminal.{loaded, load}
 use Rattle.terminal.proofs.Laws.{load-brought, load-size, load-fits, load-untouched-of, load-listed}
 use Rattle.session.specs.Steps.{Step, withResults, withFindings, brokenOff, linkStep, stopStep}
 use Rattle.session.specs.Start.{startStep}
-use Rattle.session.specs.Answer.{answerStep}
-use Rattle.trace.proofs.Kept.{Waits, options-plain, record-plain, read-waits, read-fits, read-mode, read-locator, bits-size, bits-fits, bits-runs, bits-here, bits-other, bits-hold, found-size, found-fits, found-runs, found-9F34, found-other}
+use Rattle.session.specs.Answer.{recordPhase, askedIn, answerStep}
+use Rattle.trace.proofs.Kept.{Waits, options-plain, record-plain, read-waits, read-fits, read-mode, read-locator, read-limit, bits-size, bits-fits, bits-runs, bits-here, bits-other, bits-hold, found-size, found-fits, found-runs, found-9F34, found-other, found-limit}
 use Rattle.trace.proofs.Ways.{Reason, taken, OptionsWay, RecordsWay, RecordWay, CryptogramWay, AnswerWay, answer-way, loadedSession, analysedSession, StartWay, start-way, BrokenWay, broken-way}
 
 -- a session that ends for a reason
@@ -69,11 +69,12 @@ module _ (s : Session) (i : inRanges s ≡ true) (q : s .phase ≡ Phase.Options
   options-keeps : {st : Step} → OptionsWay (taken Awaited.Options s card) buf st → inRanges (st .reply .session) ≡ true
   options-keeps (OptionsWay.failed n r) = failing (taken Awaited.Options s card) n r (options-after .size) (options-after .fits) (count-most s i)
   options-keeps (OptionsWay.first r m a e) =
-      waiting-keeps (taken Awaited.Options s card) (Phase.Record (record { number = 1 })) (s .count + 1) (options-after .size) (options-after .fits)
+      waiting-keeps (taken Awaited.Options s card) (recordPhase (limitOf (stored (taken Awaited.Options s card))) 1) (s .count + 1) (options-after .size) (options-after .fits)
       (record {
         runs = options-after .runs;
         mode = m;
         zero-95 = options-after .zero-95;
+        limit = refl;
         locator = a;
         first = omega arith;
         last = accepted-total (locatorIn (stored (taken Awaited.Options s card))) a .0;
@@ -98,6 +99,9 @@ module _ (s : Session) (i : inRanges s ≡ true) (p : Place) (q : s .phase ≡ P
   mode : has (bytesIn (stored t) 0x82) 2 8 ≡ true
   mode = ap (λ (x : Value). has (bytesOf x) 2 8) (read-mode (Awaited.Record (record { number = file })) (stored s) card (record-before .size) (record-on .mode)) ∙ record-on .mode
 
+  limited : p .limit ≡ limitOf (stored t)
+  limited = record-on .limit ∙ sym (read-limit (Awaited.Record (record { number = file })) (stored s) card (record-before .size) (record-on .mode))
+
   same : locatorIn (stored t) ≡ locatorIn (stored s)
   same = ap bytesOf (read-locator (Awaited.Record (record { number = file })) (stored s) card (record-before .size) (record-on .locator))
 
@@ -116,8 +120,8 @@ module _ (s : Session) (i : inRanges s ≡ true) (p : Place) (q : s .phase ≡ P
           let w = record-there (locatorIn (stored t)) (p .number + 1) (record { file = 0; number = 0 }) located (omega arith) h in
           let z : _≡_ {A = ℕ} 0 1 = cc in omega arith
 
-  records-keeps : p .number ≡ recordsIn (stored t) → {st : Step} → RecordsWay t buf st → inRanges (st .reply .session) ≡ true
-  unfolding completed every
+  records-keeps : p .number ≡ recordsIn (stored t) → {st : Step} → RecordsWay (p .limit) t buf st → inRanges (st .reply .session) ≡ true
+  unfolding completed every askedIn
   records-keeps d (RecordsWay.failed n r x) = failing t n r (record-after .size) (record-after .fits) (count-most s i)
   records-keeps d RecordsWay.unlisted =
       failing (analysedSession t) reasonDataList list-reason (found-size b f l n m) (found-fits b f l n m (record-after .fits)) (count-most s i)
@@ -146,6 +150,7 @@ module _ (s : Session) (i : inRanges s ≡ true) (p : Place) (q : s .phase ≡ P
         some-5A = filled 0x5A row5A at-5A (λ z. omega arith) (λ z. omega arith) (ltb-true 0 _ (both-left _ _ (both-right _ _ h)));
         some-8C = filled 0x8C row8C at-8C (λ z. omega arith) (λ z. omega arith) (ltb-true 0 _ (both-left _ _ (both-right _ _ (both-right _ _ h))));
         verified = ap isThere (found-9F34 b f l n m);
+        limit = limited ∙ sym (found-limit b f l n m);
         count = omega (arith, record-on .count, d, ap total kept);
       })
     where
@@ -172,11 +177,12 @@ module _ (s : Session) (i : inRanges s ≡ true) (p : Place) (q : s .phase ≡ P
 
   record-keeps : {st : Step} → RecordWay p t buf st → inRanges (st .reply .session) ≡ true
   record-keeps (RecordWay.next r e) =
-      waiting-keeps t (Phase.Record (record { number = p .number + 1 })) (s .count + 1) (record-after .size) (record-after .fits)
+      waiting-keeps t (recordPhase (p .limit) (p .number + 1)) (s .count + 1) (record-after .size) (record-after .fits)
       (record {
         runs = record-after .runs;
         mode = mode;
         zero-95 = record-after .zero-95;
+        limit = limited;
         locator = located;
         first = omega arith;
         last = record-inside (locatorIn (stored t)) (p .number + 1) r e .1;

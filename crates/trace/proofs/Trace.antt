@@ -24,7 +24,7 @@ use Rattle.locator.proofs.Records.{records-length}
 use Rattle.reading.specs.declared.Awaited.{Awaited}
 use Rattle.reading.specs.Answer as reading
 use Rattle.data_list.proofs.Commands as list
-use Rattle.analysis.specs.Action.{findingsOf}
+use Rattle.analysis.specs.Action.{limitOf, findingsOf}
 use Rattle.analysis.specs.Choice.{p1Of}
 use Rattle.record.specs.declared.Outcome.{Outcome}
 use Rattle.record.specs.declared.Place.{Place}
@@ -306,7 +306,7 @@ module _ (s : Session) (card buf : List ℕ) where
   unfolding published
   options-goes i q z (OptionsWay.failed n r) k = goes-ended s call _ _ _ n buf (ap isEnded q)
   options-goes i q z (OptionsWay.first r v a e) k =
-      goes-sent s call b (Phase.Record (record { number = 1 })) (readRecord r) buf (ap isEnded q) refl (λ w. refl)
+      goes-sent s call b (recordPhase (limitOf b) 1) (readRecord r) buf (ap isEnded q) refl (λ w. refl)
       (λ sent tk h. subst (λ (p : Phase). Front (kindOf (readRecord r) ∷ map kindOf sent) (rest p (locatorIn (stored s)) (acceptedIn (m ∷ tk)))) (sym q)
       (subst (λ (x : Option (List ℕ)). Front (kindOf (readRecord r) ∷ map kindOf sent) (drop 1 (published cryptogram x)))
       (sym (ap locatorOf (answer-first m tk refl) ∙ if-yes _ _ (k refl) ∙ here))
@@ -320,7 +320,7 @@ module _ (s : Session) (card buf : List ℕ) where
       l = locatorIn b
 
       m : Made
-      m = made s call (steps.commands (s .count) b (recordPhase 1) (readRecord r) buf)
+      m = made s call (steps.commands (s .count) b (recordPhase (limitOf b) 1) (readRecord r) buf)
 
       here : broughtLocator card ≡ some l
       here =
@@ -338,20 +338,20 @@ module _ (s : Session) (card buf : List ℕ) where
     left xs a h =
         subst (λ (x : Phase). Front xs (rest x (locatorIn (stored s)) a)) (sym q) (subst (λ (l : List ℕ). Front xs (rest (Phase.Record p) l a)) same h)
 
-    records-goes : recordAt (locatorIn b) (p .number + 1) ≡ Found.Nothing → {st : Step} → RecordsWay (ways.taken w s card) buf st → Goes s call st
+    records-goes : recordAt (locatorIn b) (p .number + 1) ≡ Found.Nothing → {st : Step} → RecordsWay (p .limit) (ways.taken w s card) buf st → Goes s call st
     records-goes e (RecordsWay.failed n r x) = goes-ended s call _ b _ n buf (ap isEnded q)
     records-goes e RecordsWay.unlisted = goes-ended s call _ _ _ _ buf (ap isEnded q)
     records-goes e (RecordsWay.asked c f g) =
         goes-sent s call (withFindings b (findingsOf b)) _ c buf (ap isEnded q) refl (λ w. refl)
-        (λ sent tk h. left (kindOf c ∷ map kindOf sent) (acceptedIn (made s call (steps.commands (s .count) (stored (analysedSession (ways.taken w s card))) (Phase.Cryptogram (askedBy (ways.taken w s card))) c buf) ∷ tk))
+        (λ sent tk h. left (kindOf c ∷ map kindOf sent) (acceptedIn (made s call (steps.commands (s .count) (stored (analysedSession (ways.taken w s card))) (Phase.Cryptogram (askedBy (p .limit) (ways.taken w s card))) c buf) ∷ tk))
         (front-cons (kindOf c) cryptogram (map kindOf sent) (map reads (drop (p .number) (records (locatorIn b))) ++ (cryptogram ∷ [])) []
         (ap (λ (x : List CardRecord). map reads x ++ (cryptogram ∷ [])) (no-record (locatorIn b) (p .number) (ap accepts same ∙ on-record s i p q .locator) e))
-        (kind-cryptogram c (list.cryptogram-proper (stored (analysedSession (ways.taken w s card))) c (p1Of (askedBy (ways.taken w s card) .choice)) g)) h))
+        (kind-cryptogram c (list.cryptogram-proper (stored (analysedSession (ways.taken w s card))) c (p1Of (askedBy (p .limit) (ways.taken w s card) .choice)) g)) h))
 
     record-goes : {st : Step} → RecordWay p (ways.taken w s card) buf st → Goes s call st
     record-goes (RecordWay.next r e) =
-        goes-sent s call b (Phase.Record (record { number = p .number + 1 })) (readRecord r) buf (ap isEnded q) refl (λ w. refl)
-        (λ sent tk h. left (kindOf (readRecord r) ∷ map kindOf sent) (acceptedIn (made s call (steps.commands (s .count) (stored (ways.taken w s card)) (recordPhase (p .number + 1)) (readRecord r) buf) ∷ tk))
+        goes-sent s call b (recordPhase (p .limit) (p .number + 1)) (readRecord r) buf (ap isEnded q) refl (λ w. refl)
+        (λ sent tk h. left (kindOf (readRecord r) ∷ map kindOf sent) (acceptedIn (made s call (steps.commands (s .count) (stored (ways.taken w s card)) (recordPhase (p .limit) (p .number + 1)) (readRecord r) buf) ∷ tk))
         (front-cons (kindOf (readRecord r)) (reads r) (map kindOf sent) (map reads (drop (p .number) (records (locatorIn b))) ++ (cryptogram ∷ []))
         (map reads (drop (p .number + 1) (records (locatorIn b))) ++ (cryptogram ∷ []))
         (ap (λ (x : List CardRecord). map reads x ++ (cryptogram ∷ [])) (next-record (locatorIn b) (p .number) r e)) (kind-record r) h))

@@ -20,7 +20,7 @@ use Rattle.reading.specs.Answer as reading
 use Rattle.data_list.specs.Commands.{processingOptions, generateAc}
 use Rattle.analysis.specs.declared.choice.Choice.{Choice}
 use Rattle.analysis.specs.Choice.{p1Of}
-use Rattle.analysis.specs.Action.{findingsOf}
+use Rattle.analysis.specs.Action.{limitOf, findingsOf}
 use Rattle.analysis.specs.Verification.{methodNumber, notApplicable}
 use Rattle.record.specs.declared.Outcome.{Outcome}
 use Rattle.record.specs.declared.Place.{Place}
@@ -116,7 +116,7 @@ stored-some b =
 pub data OptionsWay (t : Session) (buf : List ℕ) : Step → Type 0 where
   failed : (n : ℕ) → Reason n → OptionsWay t buf (fails notApplicable (t .count) (stored t) n buf)
   first : (r : CardRecord) → emvMode (stored t) ≡ true → accepts (locatorIn (stored t)) ≡ true → recordAt (locatorIn (stored t)) 1 ≡ Found.At r
-      → OptionsWay t buf (commands (t .count) (stored t) (recordPhase 1) (readRecord r) buf)
+      → OptionsWay t buf (commands (t .count) (stored t) (recordPhase (limitOf (stored t)) 1) (readRecord r) buf)
 
 pub options-way : (t : Session) (buf : List ℕ) → OptionsWay t buf (optionsRead (t .count) (stored t) buf)
 unfolding optionsRead
@@ -135,31 +135,31 @@ options-way t buf =
 
 -- ---- after the last record
 
--- the session with 9F34 and its result bits, and what is asked for
+-- the session with 9F34 and its result bits, and what is asked for with a limit
 abbrev pub analysedSession : Session → Session
 analysedSession t = withStore t (withFindings (stored t) (findingsOf (stored t)))
 
-abbrev pub askedBy : Session → Asked
-askedBy t = askedIn (stored t)
+abbrev pub askedBy : ℕ → Session → Asked
+askedBy l t = askedIn l (stored t)
 
-pub data RecordsWay (t : Session) (buf : List ℕ) : Step → Type 0 where
-  failed : (n : ℕ) → Reason n → (n ≡ reasonDataList → ⊥) → RecordsWay t buf (fails notApplicable (t .count) (stored t) n buf)
-  unlisted : RecordsWay t buf (fails (methodNumber (askedBy t .method)) (t .count) (stored (analysedSession t)) reasonDataList buf)
-  asked : (c : List ℕ) → completed (stored t) ≡ true → generateAc (p1Of (askedBy t .choice)) (stored (analysedSession t)) ≡ some c
-      → RecordsWay t buf (commands (t .count) (stored (analysedSession t)) (Phase.Cryptogram (askedBy t)) c buf)
+pub data RecordsWay (l : ℕ) (t : Session) (buf : List ℕ) : Step → Type 0 where
+  failed : (n : ℕ) → Reason n → (n ≡ reasonDataList → ⊥) → RecordsWay l t buf (fails notApplicable (t .count) (stored t) n buf)
+  unlisted : RecordsWay l t buf (fails (methodNumber (askedBy l t .method)) (t .count) (stored (analysedSession t)) reasonDataList buf)
+  asked : (c : List ℕ) → completed (stored t) ≡ true → generateAc (p1Of (askedBy l t .choice)) (stored (analysedSession t)) ≡ some c
+      → RecordsWay l t buf (commands (t .count) (stored (analysedSession t)) (Phase.Cryptogram (askedBy l t)) c buf)
 
-pub records-way : (t : Session) (buf : List ℕ) → RecordsWay t buf (recordsRead (t .count) (stored t) buf)
+pub records-way : (l : ℕ) (t : Session) (buf : List ℕ) → RecordsWay l t buf (recordsRead l (t .count) (stored t) buf)
 unfolding recordsRead analysed askCryptogram
-records-way t buf =
+records-way l t buf =
     if-ind P _ _ _ (λ e. failed reasonAboveLimit (reason 6 (omega arith) (omega arith)) (λ z. omega arith))
     (λ e. if-ind P _ _ _ (λ f. failed reasonMissing (reason 4 (omega arith) (omega arith)) (λ z. omega arith))
-    (λ f. go (not-false _ f) (generateAc (p1Of (askedBy t .choice)) (stored (analysedSession t))) refl))
+    (λ f. go (not-false _ f) (generateAc (p1Of (askedBy l t .choice)) (stored (analysedSession t))) refl))
   where
     P : Step → Type 0
-    P = RecordsWay t buf
+    P = RecordsWay l t buf
 
-    go : completed (stored t) ≡ true → (x : Option (List ℕ)) → generateAc (p1Of (askedBy t .choice)) (stored (analysedSession t)) ≡ x
-        → P (handOut (methodNumber (askedBy t .method)) (t .count) (stored (analysedSession t)) (Phase.Cryptogram (askedBy t)) buf x)
+    go : completed (stored t) ≡ true → (x : Option (List ℕ)) → generateAc (p1Of (askedBy l t .choice)) (stored (analysedSession t)) ≡ x
+        → P (handOut (methodNumber (askedBy l t .method)) (t .count) (stored (analysedSession t)) (Phase.Cryptogram (askedBy l t)) buf x)
     go f none e = unlisted
     go f (some c) e = asked c f e
 
@@ -167,15 +167,15 @@ records-way t buf =
 
 pub data RecordWay (p : Place) (t : Session) (buf : List ℕ) : Step → Type 0 where
   next : (r : CardRecord) → recordAt (locatorIn (stored t)) (p .number + 1) ≡ Found.At r
-      → RecordWay p t buf (commands (t .count) (stored t) (recordPhase (p .number + 1)) (readRecord r) buf)
-  last : {st : Step} → recordAt (locatorIn (stored t)) (p .number + 1) ≡ Found.Nothing → RecordsWay t buf st → RecordWay p t buf st
+      → RecordWay p t buf (commands (t .count) (stored t) (recordPhase (p .limit) (p .number + 1)) (readRecord r) buf)
+  last : {st : Step} → recordAt (locatorIn (stored t)) (p .number + 1) ≡ Found.Nothing → RecordsWay (p .limit) t buf st → RecordWay p t buf st
 
 pub record-way : (p : Place) (t : Session) (buf : List ℕ) → RecordWay p t buf (recordRead p (t .count) (stored t) buf)
 unfolding recordRead
 record-way p t buf = go (recordAt (locatorIn (stored t)) (p .number + 1)) refl
   where
-    go : (x : Found) → recordAt (locatorIn (stored t)) (p .number + 1) ≡ x → RecordWay p t buf (nextFound (t .count) (stored t) (p .number + 1) buf x)
-    go Found.Nothing e = last e (records-way t buf)
+    go : (x : Found) → recordAt (locatorIn (stored t)) (p .number + 1) ≡ x → RecordWay p t buf (nextFound (p .limit) (t .count) (stored t) (p .number + 1) buf x)
+    go Found.Nothing e = last e (records-way (p .limit) t buf)
     go (Found.At r) e = next r e
 
 -- ---- after the cryptogram

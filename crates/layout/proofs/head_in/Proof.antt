@@ -3,19 +3,39 @@
 use borrow.Author.Needs.{needs}
 use borrow.Author.Tests.{eq-eqb, ne-eqb, not-true, not-false}
 use mathlib.Core.Path.{_≡_, refl, sym, ap, _∙_}
-use Rattle.layout.specs.Layout.{codeOf, phaseOf, codeIn, sameCode, heldOf}
-use Rattle.layout.proofs.Laws.{decoded-short, decoded-version, decoded-code, decoded-some}
+use mathlib.Core.List.{List}
+use Prim.Native.Nat.{ℕ}
+use Rattle.basics.specs.Alike.{alike}
+use Rattle.basics.specs.Number.{number as numberOf}
+use Rattle.layout.specs.Layout.{codeOf, heldLimit, limitBytes, phaseOf, codeIn, limitIn, phaseIn, sameCode, heldOf}
+use Rattle.layout.proofs.Laws.{decoded-short, decoded-version, decoded-code, decoded-limit, decoded-some}
 use Rattle.layout.proofs.head_in.Statement.{statement}
 use Rattle.layout.proofs.head_in.Tie as tie
 
+-- the phase is that of the bytes
+phased : (c : tie.After-phase-of) → let l = c .before .before .before .before .before .before .before .before .args .bytes .now in
+    c .phase-of .result ≡ phaseIn l
+phased c =
+    let f = c .before in
+    let i = f .before in
+    c .phase-of .ensures ∙ rw (i .before .code-in .ensures, f .limit-from .ensures, i .limit-in .ensures) refl
+
 -- the test of the code is that of the bytes
-tested : (c : tie.After-is-same) → let l = c .before .before .before .before .before .before .before .before .args .bytes .now in
-    sameCode (codeOf (phaseOf (codeIn l))) (codeIn l) ≡ c .is-same .result
+tested : (c : tie.After-is-same) → let l = c .before .before .before .before .before .before .before .before .before .before .args .bytes .now in
+    sameCode (codeOf (phaseIn l)) (codeIn l) ≡ c .is-same .result
 tested c =
     let o = c .before in
     let p = o .before in
-    let d = p .before in
-    sym (c .is-same .ensures ∙ rw (o .code-of .ensures, p .phase-of .ensures, d .code-in .ensures) refl)
+    sym (c .is-same .ensures ∙ rw (o .code-of .ensures, phased p, p .before .before .before .code-in .ensures) refl)
+
+-- and so is that of the limit
+limited : (c : tie.After-same)
+    → let l = c .before .before .before .before .before .before .before .before .before .before .before .before .before .before .before .before .args .bytes .now in
+    alike (limitBytes (heldLimit (phaseIn l))) (limitIn l) ≡ c .same .result
+limited c =
+    let b = c .before .before .before in
+    let p = b .before .before .before .before .before in
+    sym (c .same .ensures ∙ rw (b .limit-bytes .ensures, b .before .held-limit .ensures, phased p, p .before .before .limit-in .ensures) refl)
 
 returns : tie.Need-returns
 returns c = sym (ap heldOf (decoded-short _ (c .if1 .taken)))
@@ -27,13 +47,16 @@ returns-3 : tie.Need-returns-3
 returns-3 c = sym (ap heldOf (decoded-code _ (tested (c .before) ∙ not-true _ (c .if3 .taken))))
 
 returns-4 : tie.Need-returns-4
-returns-4 c =
+returns-4 c = sym (ap heldOf (decoded-limit _ (limited (c .before) ∙ not-true _ (c .if4 .taken))))
+
+returns-5 : tie.Need-returns-5
+returns-5 c =
     let e = c .before in
-    let p = e .before .before .before in
-    let d = p .before in
-    let v = d .before in
-    rw (p .phase-of .ensures, d .code-in .ensures)
-    (sym (ap heldOf (decoded-some _ (v .before .before .if1 .left) (eq-eqb _ _ (v .if2 .left)) (tested (e .before) ∙ not-false _ (e .if3 .left)))))
+    let t = e .before .before .before .before .before .before in
+    let p = t .before .before .before in
+    let v = p .before .before .before .before in
+    rw (phased p)
+    (sym (ap heldOf (decoded-some _ (v .before .before .if1 .left) (eq-eqb _ _ (v .if2 .left)) (tested (t .before) ∙ not-false _ (t .if3 .left)) (limited (e .before) ∙ not-false _ (e .if4 .left)))))
 
 pub head-in-spec : {M : Type 1} → statement M
 head-in-spec =
@@ -46,6 +69,14 @@ head-in-spec =
     (λ c κs. search needs)
     (λ c κs. search needs)
     (λ c κs. search needs)
+    (λ c κs. search needs)
+    (λ c κs. search needs)
     returns-3
+    (λ c κs. search needs)
+    (λ c κs. search needs)
     (λ c. search needs)
-    returns-4)
+    (λ c. search needs)
+    (λ c κs. search needs)
+    returns-4
+    (λ c. search needs)
+    returns-5)

@@ -21,10 +21,14 @@ unfolding methodFrom if
 returns-3 c = sym (ap methodFrom (c .match .keys3))
 
 returns-4 : tie.Need-returns-4
+unfolding methodFrom if
+returns-4 c = sym (ap methodFrom (c .match .keys4))
+
+returns-5 : tie.Need-returns-5
 unfolding methodFrom
-returns-4 c =
+returns-5 c =
     let r = c .match .rest in
-    sym (if-no _ _ (ne-eqb _ _ (r .0 .0 .1)) ∙ (if-no _ _ (ne-eqb _ _ (r .0 .1)) ∙ if-no _ _ (ne-eqb _ _ (r .1))))
+    sym (if-no _ _ (ne-eqb _ _ (r .0 .0 .0 .1)) ∙ (if-no _ _ (ne-eqb _ _ (r .0 .0 .1)) ∙ (if-no _ _ (ne-eqb _ _ (r .0 .1)) ∙ if-no _ _ (ne-eqb _ _ (r .1)))))
 
 pub method-from-spec : {M : Type 1} → statement M
-method-from-spec = tie.close (tie.spec returns returns-2 returns-3 returns-4)
+method-from-spec = tie.close (tie.spec returns returns-2 returns-3 returns-4 returns-5)

@@ -1,7 +1,7 @@
 -- `record::cryptogram_keeps` meets its contract: where a clause holds, the later ones decide; last the locator and the count.
 -- Assumes nothing.
 use borrow.Author.Needs.{needs}
-use borrow.Author.Tests.{not-true, not-false, ne-eqb}
+use borrow.Author.Tests.{not-true, not-false, eq-eqb, ne-eqb}
 use mathlib.Core.Path.{_≡_, sym, _∙_}
 use Prim.Native.Nat.{_+_}
 use native.Mathlib.Omega.{arith}
@@ -9,6 +9,7 @@ use lib.Dec.{eqb}
 use Rattle.basics.specs.Choice.{both}
 use Rattle.basics.proofs.Laws.{both-true, both-assoc, both-no-left}
 use Rattle.locator.specs.Records.{accepts}
+use Rattle.analysis.specs.Action.{limitOf}
 use Rattle.record.specs.Ranges.{allFit, emvMode, completed, locatorIn, recordsIn, cryptogramRanges}
 use Rattle.dictionary.proofs.Named.{at-9F34}
 use Rattle.store.specs.Held.{holds}
@@ -20,37 +21,43 @@ use Rattle.record.proofs.cryptogram_keeps.Tie as tie
 past-running : (c : tie.Else1)
     → let a = c .before .before .before .args in
     let b = a .bytes .now in
-    both (allFit b) (cryptogramRanges (a .count) b) ≡ both (emvMode b) (both (completed b) (both (holds b 0x9F34) (both (accepts (locatorIn b)) (eqb (a .count) (2 + recordsIn b)))))
+    both (allFit b) (cryptogramRanges (a .asked) (a .count) b) ≡ both (emvMode b) (both (completed b) (both (holds b 0x9F34) (both (eqb (a .asked .limit) (limitOf b)) (both (accepts (locatorIn b)) (eqb (a .count) (2 + recordsIn b))))))
 unfolding cryptogramRanges
 past-running c = both-assoc _ _ _ ∙ both-true _ (sym (c .before .runs .ensures) ∙ not-false _ (c .if1 .left))
 
 past-mode : (c : tie.Else2)
     → let a = c .before .before .before .before .before .args in
     let b = a .bytes .now in
-    both (allFit b) (cryptogramRanges (a .count) b) ≡ both (completed b) (both (holds b 0x9F34) (both (accepts (locatorIn b)) (eqb (a .count) (2 + recordsIn b))))
+    both (allFit b) (cryptogramRanges (a .asked) (a .count) b) ≡ both (completed b) (both (holds b 0x9F34) (both (eqb (a .asked .limit) (limitOf b)) (both (accepts (locatorIn b)) (eqb (a .count) (2 + recordsIn b)))))
 past-mode c = past-running (c .before .before) ∙ both-true _ (sym (c .before .is-emv .ensures) ∙ not-false _ (c .if2 .left))
 
 past-completed : (c : tie.Else3)
     → let a = c .before .before .before .before .before .before .before .args in
     let b = a .bytes .now in
-    both (allFit b) (cryptogramRanges (a .count) b) ≡ both (holds b 0x9F34) (both (accepts (locatorIn b)) (eqb (a .count) (2 + recordsIn b)))
+    both (allFit b) (cryptogramRanges (a .asked) (a .count) b) ≡ both (holds b 0x9F34) (both (eqb (a .asked .limit) (limitOf b)) (both (accepts (locatorIn b)) (eqb (a .count) (2 + recordsIn b))))
 past-completed c = past-mode (c .before .before) ∙ both-true _ (sym (c .before .is-complete .ensures) ∙ not-false _ (c .if3 .left))
 
 past-verified : (c : tie.Else4)
     → let a = c .before .before .before .before .before .before .before .before .before .args in
     let b = a .bytes .now in
-    both (allFit b) (cryptogramRanges (a .count) b) ≡ both (accepts (locatorIn b)) (eqb (a .count) (2 + recordsIn b))
+    both (allFit b) (cryptogramRanges (a .asked) (a .count) b) ≡ both (eqb (a .asked .limit) (limitOf b)) (both (accepts (locatorIn b)) (eqb (a .count) (2 + recordsIn b)))
 past-verified c = past-completed (c .before .before) ∙ both-true _ (held-is _ _ _ at-9F34 (c .before .is-there .ensures) (not-false _ (c .if4 .left)))
+
+past-limit : (c : tie.Else5)
+    → let a = c .before .before .before .before .before .before .before .before .before .before .before .before .args in
+    let b = a .bytes .now in
+    both (allFit b) (cryptogramRanges (a .asked) (a .count) b) ≡ both (accepts (locatorIn b)) (eqb (a .count) (2 + recordsIn b))
+past-limit c = past-verified (c .before .before .before) ∙ both-true _ (eq-eqb _ _ (c .if5 .left ∙ c .before .before .limit .ensures))
 
 -- where the locator is accepted, the count decides
 counted : (c : tie.After-known-told)
-    → let a = c .before .before .before .before .before .before .before .before .before .before .before .before .before .before .args in
-    (both (allFit (a .bytes .now)) (cryptogramRanges (a .count) (a .bytes .now)) ≡ eqb (a .count) (2 + recordsIn (a .bytes .now)))
+    → let a = c .before .before .before .before .before .before .before .before .before .before .before .before .before .before .before .before .before .args in
+    (both (allFit (a .bytes .now)) (cryptogramRanges (a .asked) (a .count) (a .bytes .now)) ≡ eqb (a .count) (2 + recordsIn (a .bytes .now)))
     × (c .before .c .given .0 .0 .records ≡ recordsIn (a .bytes .now))
 counted c =
     let k = c .before .before .before in
     let y = located-yes _ (k .before .value .ensures) (sym (k .check .ensures .0) ∙ c .before .c .given .1) in
-    (past-verified (k .before .before) ∙ both-true _ (y .0), y .1)
+    (past-limit (k .before .before) ∙ both-true _ (y .0), y .1)
 
 returns : tie.Need-returns
 unfolding cryptogramRanges
@@ -66,17 +73,20 @@ returns-4 : tie.Need-returns-4
 returns-4 c = sym (past-completed (c .before .before) ∙ both-no-left _ _ (held-is _ _ _ at-9F34 (c .before .is-there .ensures) (not-true _ (c .if4 .taken))))
 
 returns-5 : tie.Need-returns-5
-returns-5 c =
-    let k = c .before .before in
-    sym (past-verified (k .before .before) ∙ both-no-left _ _ (located-no _ (k .before .value .ensures) (sym (k .check .ensures .0) ∙ c .enum-told .given .1)))
+returns-5 c = sym (past-verified (c .before .before .before) ∙ both-no-left _ _ (ne-eqb _ _ (λ e. c .if5 .taken (e ∙ sym (c .before .before .limit .ensures)))))
 
 returns-6 : tie.Need-returns-6
 returns-6 c =
-    let a = c .before .before .before .before .before .before .before .before .before .before .before .before .before .before .before .before .args in
-    sym (counted (c .before .before) .0 ∙ ne-eqb (a .count) (2 + recordsIn (a .bytes .now)) (λ e. omega (arith, c .before .wide .ensures .0)))
+    let k = c .before .before in
+    sym (past-limit (k .before .before) ∙ both-no-left _ _ (located-no _ (k .before .value .ensures) (sym (k .check .ensures .0) ∙ c .enum-told .given .1)))
 
 returns-7 : tie.Need-returns-7
 returns-7 c =
+    let a = c .before .before .before .before .before .before .before .before .before .before .before .before .before .before .before .before .before .before .before .args in
+    sym (counted (c .before .before) .0 ∙ ne-eqb (a .count) (2 + recordsIn (a .bytes .now)) (λ e. omega (arith, c .before .wide .ensures .0)))
+
+returns-8 : tie.Need-returns-8
+returns-8 c =
     let y = counted (c .before .before .before) in
     two-less (omega arith) (c .before .before .wide .ensures .0) (y .1) ∙ sym (y .0)
 
@@ -93,10 +103,12 @@ cryptogram-keeps-spec =
     (λ c κs. search needs)
     returns-4
     (λ c κs. search needs)
-    (λ c κs. search needs)
-    (λ c. search needs)
-    (λ c. search needs)
     returns-5
     (λ c κs. search needs)
+    (λ c κs. search needs)
+    (λ c. search needs)
+    (λ c. search needs)
     returns-6
-    returns-7)
+    (λ c κs. search needs)
+    returns-7
+    returns-8)

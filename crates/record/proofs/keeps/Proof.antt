@@ -39,10 +39,10 @@ returns-4 : tie.Need-returns-4
 returns-4 c = by-phase (c .before .before .before .before) _ (c .before .before .phase .given .1) (c .record-keeps .ensures)
 
 returns-5 : tie.Need-returns-5
-returns-5 c = by-phase (c .before .before .before) _ (c .before .enum-told3 .given .1) (c .cryptogram-keeps .ensures)
+returns-5 c = by-phase (c .before .before .before .before) _ (c .before .before .phase2 .given .1) (c .cryptogram-keeps .ensures)
 
 returns-6 : tie.Need-returns-6
-returns-6 c = by-phase (c .before .before .before .before) _ (c .before .before .phase2 .given .1) (c .ended-keeps .ensures)
+returns-6 c = by-phase (c .before .before .before .before) _ (c .before .before .phase3 .given .1) (c .ended-keeps .ensures)
 
 pub keeps-spec : {M : Type 1} → statement M
 keeps-spec =

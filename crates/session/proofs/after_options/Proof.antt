@@ -1,12 +1,16 @@
--- `session::after_options` meets its contract: three tests in turn, then the first record of the locator that keeps its rules.
+-- `session::after_options` meets its contract: three tests in turn, then the first record of the locator that keeps its rules, with the limit.
 -- Assumes nothing.
 use borrow.Author.Needs.{needs}
-use mathlib.Core.Path.{_≡_, refl, sym, _∙_}
+use mathlib.Core.Path.{_≡_, refl, sym, ap, _∙_}
 use mathlib.Core.Bool.{true}
+use Prim.Native.Nat.{ℕ, _+_}
+use lib.ListN.{length}
 use Rattle.locator.specs.declared.Found.{Found}
+use Rattle.locator.specs.Command.{readRecord}
 use Rattle.record.proofs.Tags.{located-no, located-yes}
 use Rattle.record.specs.Ranges.{emvMode}
-use Rattle.session.specs.Answer.{askFound, optionsThere, optionsRead}
+use Rattle.record.specs.Session.{commandsTurn}
+use Rattle.session.specs.Answer.{recordPhase, askFound, optionsThere, optionsRead}
 use Rattle.session.proofs.Laws.{did-as, reply-as, did-without-command, is-complete, is-missing, is-emv, is-stripe, found-as, found-there, options-missing, options-mode, options-locator, options-ask}
 use Rattle.session.proofs.after_options.Statement.{statement}
 use Rattle.session.proofs.after_options.Tie as tie
@@ -44,12 +48,20 @@ returns-4 : tie.Need-returns-4
 returns-4 c = did-without-command _ (c .fails4 .ensures) (asked (c .before .before .before) Found.Nothing (c .before .enum-told7 .given .1))
 
 ask-record-requires : tie.Need-ask-record-requires
-ask-record-requires c κs = (search needs, found-there _ _ (c .before .before .before .before .record-at .ensures) (c .before .before .wanted .given .1) .0)
+ask-record-requires c κs = (search needs, found-there _ _ (c .before .before .before .before .before .record-at .ensures) (c .before .before .before .wanted .given .1) .0)
 
 returns-5 : tie.Need-returns-5
 returns-5 c =
-    let w = c .before .before .before .before .before in
-    did-as (asked (w .before .before) (Found.At (w .wanted .given .0 .0)) (w .wanted .given .1)) (record { reply = reply-as _ (c .before .before .ask-record .ensures .0); buffer = c .before .before .ask-record .ensures .1 })
+    let ask = c .before .before in
+    let limit = ask .before .before in
+    let w = limit .before .before in
+    let r = w .wanted .given .0 .0 in
+    let a = w .before .before .before .before .before .before .before .before .before .before .before .before .before .before .before .args in
+    did-as (asked (w .before .before) (Found.At r) (w .wanted .given .1))
+    (record {
+      reply = reply-as _ (ask .ask-record .ensures .0 ∙ ap (λ (l : ℕ). commandsTurn (recordPhase l 1) (a .count + 1) (length (readRecord r))) (limit .limit .ensures));
+      buffer = ask .ask-record .ensures .1;
+    })
 
 pub after-options-spec : {M : Type 1} → statement M
 after-options-spec =
@@ -76,6 +88,7 @@ after-options-spec =
     (λ c. search needs)
     (λ c κs. search needs)
     returns-4
+    (λ c κs. search needs)
     ask-record-requires
     (λ c. search needs)
     returns-5)

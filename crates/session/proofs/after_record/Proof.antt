@@ -12,18 +12,18 @@ use Rattle.session.proofs.after_record.Tie as tie
 
 -- the record behind this one decides
 next : (c : tie.After-record-at) (x : Found) → let a = c .before .before .before .before .before .before .args in c .record-at .result ≡ x
-    → recordRead (a .place) (a .count) (a .store .now) (a .command .now) ≡ nextFound (a .count) (a .store .now) (a .place .number + 1) (a .command .now) x
+    → recordRead (a .place) (a .count) (a .store .now) (a .command .now) ≡ nextFound (a .place .limit) (a .count) (a .store .now) (a .place .number + 1) (a .command .now) x
 unfolding recordRead
 next c x e =
     let a = c .before .before .before .before .before .before .args in
-    ap (nextFound (a .count) (a .store .now) (a .place .number + 1) (a .command .now))
+    ap (nextFound (a .place .limit) (a .count) (a .store .now) (a .place .number + 1) (a .command .now))
     (found-as (c .record-at .ensures) e _ _ (c .before .value .ensures) (ap (λ (n : ℕ). n + 1) (c .before .before .before .wide .ensures .0)))
 
 returns : tie.Need-returns
 returns c = did-as (next (c .before .before .before .before .before .before .before .before .before) Found.Nothing (c .before .before .before .before .before .before .before .enum-told .given .1)) (c .before .before .before .before .after-records .ensures)
 
-add-ask-record : tie.Need-add-ask-record
-add-ask-record c = omega (arith, found-there _ _ (c .before .before .before .record-at .ensures) (c .before .found .given .1) .1, c .before .before .before .before .before .before .wide .ensures .0)
+add-t18 : tie.Need-add-t18
+add-t18 c = omega (arith, found-there _ _ (c .before .before .before .record-at .ensures) (c .before .found .given .1) .1, c .before .before .before .before .before .before .wide .ensures .0)
 
 ask-record-requires : tie.Need-ask-record-requires
 ask-record-requires c κs = (search needs, found-there _ _ (c .before .before .before .before .record-at .ensures) (c .before .before .found .given .1) .0)
@@ -47,7 +47,7 @@ after-record-spec =
     (λ c. search needs)
     (λ c. search needs)
     returns
-    add-ask-record
+    add-t18
     ask-record-requires
     (λ c. search needs)
     (λ c. search needs)

@@ -9,26 +9,26 @@ use Rattle.session.proofs.after_records.Statement.{statement}
 use Rattle.session.proofs.after_records.Tie as tie
 
 -- what holds past the first test
-within : (c : tie.After-enum-told) → aboveLimit (c .before .before .before .before .before .before .args .store .now) ≡ false
+within : (c : tie.After-enum-told) → let a = c .before .before .before .before .before .before .args in aboveLimit (a .limit) (a .store .now) ≡ false
 within c = is-within _ (c .before .before .limit-in .ensures) (c .enum-told .given .1)
 
 returns : tie.Need-returns
 returns c =
     let a = c .before .before .before .before .before .before .before .args in
-    did-without-command _ (c .fails .ensures) (records-limit (a .count) (a .store .now) _ (is-above _ (c .before .before .before .limit-in .ensures) (c .before .enum-told2 .given .1)))
+    did-without-command _ (c .fails .ensures) (records-limit (a .count) (a .store .now) _ (a .limit) (is-above _ (c .before .before .before .limit-in .ensures) (c .before .enum-told2 .given .1)))
 
 returns-2 : tie.Need-returns-2
 returns-2 c =
     let k = c .before .before .before in
     let a = k .before .before .before .before .before .before .before .before .args in
     did-without-command _ (c .fails2 .ensures)
-    (records-missing (a .count) (a .store .now) _ (within (k .before .before)) (is-missing _ (k .card-complete .ensures) (c .before .enum-told4 .given .1)))
+    (records-missing (a .count) (a .store .now) _ (a .limit) (within (k .before .before)) (is-missing _ (k .card-complete .ensures) (c .before .enum-told4 .given .1)))
 
 returns-3 : tie.Need-returns-3
 returns-3 c =
     let k = c .before .before .before .before .before .before .before .before .before in
     let a = k .before .before .before .before .before .before .before .before .args in
-    did-as (records-analysed (a .count) (a .store .now) _ (within (k .before .before)) (is-complete _ (k .card-complete .ensures) (c .before .before .before .before .before .before .before .enum-told3 .given .1)))
+    did-as (records-analysed (a .count) (a .store .now) _ (a .limit) (within (k .before .before)) (is-complete _ (k .card-complete .ensures) (c .before .before .before .before .before .before .before .enum-told3 .given .1)))
     (c .before .before .before .before .analyse .ensures)
 
 pub after-records-spec : {M : Type 1} → statement M

@@ -6,10 +6,13 @@ use Prim.Native.Nat.{ℕ, _+_, _≤_}
 use native.Mathlib.Omega.{arith}
 use lib.ListN.{getD}
 use borrow.Author.Needs.{needs}
+use Rattle.basics.proofs.Laws.{if-ind}
 use Rattle.store.specs.Held.{bytesIn}
 use Rattle.analysis.specs.Action.{restrictionsOf, resultOf, verifiedIn, fullResult}
+use Rattle.analysis.specs.Digits.{amountAbove}
 use Rattle.analysis.specs.Result.{floorBits, withBits}
-use Rattle.analysis.proofs.VerificationLaws.{first-most, third-most}
+use Rattle.analysis.specs.declared.verification.Verified.{Verified}
+use Rattle.analysis.proofs.VerificationLaws.{first-most, third-most, phone-bits}
 use Rattle.analysis.proofs.action.full_result.Statement.{statement}
 use Rattle.analysis.proofs.action.full_result.Tie as tie
 
@@ -24,11 +27,13 @@ third-is b r e = ap (λ (s : List ℕ). getD s 2 0) e
 
 first-added : (b : List ℕ) → verifiedIn b .first ≤ 0x20
 unfolding verifiedIn
-first-added b = first-most _ _ _
+first-added b =
+    if-ind (λ (v : Verified). v .first ≤ 0x20) _ _ _ (λ e. let z = phone-bits (amountAbove (bytesIn b 0x9F02) (bytesIn b 0xDF8126)) in omega (arith, z .0)) (λ e. first-most _ _ _)
 
 third-added : (b : List ℕ) → verifiedIn b .third ≤ 0xC4
 unfolding verifiedIn
-third-added b = third-most _ _ _
+third-added b =
+    if-ind (λ (v : Verified). v .third ≤ 0xC4) _ _ _ (λ e. let z = phone-bits (amountAbove (bytesIn b 0x9F02) (bytesIn b 0xDF8126)) in omega (arith, z .1)) (λ e. third-most _ _ _)
 
 add-t9 : tie.Need-add-t9
 add-t9 c =

@@ -1,5 +1,7 @@
--- `action::verified_in` meets its contract: the rows are the tags' (`value-by-row`, `byte-by-row`). Assumes nothing.
-use mathlib.Core.Path.{_∙_}
+-- `action::verified_in` meets its contract: by the test for a phone; the rows are the tags' (`value-by-row`, `byte-by-row`).
+-- Assumes nothing.
+use mathlib.Core.Path.{sym, _∙_}
+use Rattle.basics.proofs.Laws.{if-yes, if-no}
 use Rattle.dictionary.proofs.Named.{at-82, at-8E}
 use Rattle.analysis.specs.Action.{verifiedIn}
 use Rattle.analysis.proofs.ByRow.{value-by-row, byte-by-row}
@@ -10,14 +12,20 @@ use Rattle.analysis.proofs.action.verified_in.Tie as tie
 returns : tie.Need-returns
 unfolding verifiedIn
 returns c =
+    let t = c .before in
+    c .phone-verified .ensures ∙ sym (if-yes _ _ (sym (t .before .is-phone .ensures) ∙ t .if1 .taken))
+
+returns-2 : tie.Need-returns-2
+unfolding verifiedIn
+returns-2 c =
     let list = c .before .before in
+    let t = list .before .before .before in
     c .verify .ensures
-    ∙ simp (
+    ∙ (simp (
       byte-by-row _ 0x82 at-82 (list .before .before .byte-in .ensures),
       value-by-row _ 0x8E at-8E (list .before .is-there .ensures) (list .value .ensures),
       c .before .terms-in .ensures,
-    )
-
+    ) (sym (if-no _ _ (sym (t .before .is-phone .ensures) ∙ t .if1 .left))))
 
 pub verified-in-spec : {M : Type 1} → statement M
 verified-in-spec =
@@ -25,7 +33,10 @@ verified-in-spec =
     (tie.spec
     (λ c κs. search needs)
     (λ c κs. search needs)
+    returns
     (λ c κs. search needs)
     (λ c κs. search needs)
     (λ c κs. search needs)
-    returns)
+    (λ c κs. search needs)
+    (λ c κs. search needs)
+    returns-2)

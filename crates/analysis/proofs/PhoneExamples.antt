@@ -1,0 +1,81 @@
+-- Phones by computation: 9F34, 95 and the method of a store, and the limit in force against the amount; on both sides of each bit and limit.
+-- Assumes nothing.
+use mathlib.Core.Path.{_≡_, refl}
+use mathlib.Core.Bool.{Bool, true, false}
+use mathlib.Core.List.{List, [], _∷_}
+use Prim.Native.Nat.{ℕ}
+use lib.ListN.{replicate}
+use Rattle.basics.specs.Choice.{if, both, either}
+use Rattle.basics.specs.Alike.{alike}
+use Rattle.basics.specs.Number.{numberFrom, nibbles}
+use Rattle.dictionary.specs.Rows.{rows, past, find}
+use Rattle.dictionary.specs.Named.{placeOf}
+use Rattle.store.specs.Place.{offsetIn, placeAt, held, valueAt, putAt, valueIn}
+use Rattle.analysis.specs.Value.{front}
+use Rattle.analysis.specs.Digits.{decimalFrom, yearOf, dateOf, laterThan, amountOf, amountAbove}
+use Rattle.analysis.specs.Restrictions.{otherVersion, notYetEffective, atAtm, countryOf, cashback, usageBroken}
+use Rattle.analysis.specs.Result.{withBits}
+use Rattle.analysis.specs.Verification.{rulesFrom, recognised, supported, amountMet, met, taken, unsuccessful, byRules, verification, onDevice, byPhone}
+use Rattle.analysis.specs.Action.{phoneIn, limitOf, aboveLimit, usageIn, restrictionsOf, resultOf, sameCurrency, termsIn, verifiedIn, fullResult, findingsOf}
+use Rattle.analysis.proofs.FindingsExamples.{storing, plain, shown}
+
+-- the plain store of a purchase of 12.34, with a configuration that takes phones
+abbrev ready : List (ℕ × List ℕ)
+ready = (0xDF811B, 0x20 ∷ []) ∷ plain
+
+abbrev found : List (ℕ × List ℕ) → List ℕ
+found l = shown (findingsOf (storing l))
+
+-- an amount in its last two bytes, and the highest one
+abbrev amount : ℕ → ℕ → List ℕ
+amount a b = 0 ∷ 0 ∷ 0 ∷ 0 ∷ a ∷ b ∷ []
+
+abbrev highest : List ℕ
+highest = replicate 6 0x99
+
+-- a list without amounts and with one rule
+abbrev onlyRule : ℕ → List ℕ
+onlyRule code = 0 ∷ 0 ∷ 0 ∷ 0 ∷ 0 ∷ 0 ∷ 0 ∷ 0 ∷ code ∷ 0 ∷ []
+
+-- a phone with a list: at the limit DF8126, and above it; without b5 of 82 and without a list: above it, and below
+phones :
+    found ((0x82, 0x12 ∷ 0x80 ∷ []) ∷ (0xDF8126, amount 0x12 0x34) ∷ (0x8E, onlyRule 0x42) ∷ ready)
+    ∷ found ((0x82, 0x12 ∷ 0x80 ∷ []) ∷ (0xDF8126, amount 0x12 0x33) ∷ (0x8E, onlyRule 0x42) ∷ ready)
+    ∷ found ((0x82, 0x02 ∷ 0x80 ∷ []) ∷ (0xDF8126, amount 0 0) ∷ ready)
+    ∷ found ((0x82, 0x12 ∷ 0x80 ∷ []) ∷ (0xDF8126, highest) ∷ ready)
+    ∷ []
+    ≡ (0x3F ∷ 0x00 ∷ 0x02 ∷ 0x80 ∷ 0x00 ∷ 0x00 ∷ 0x00 ∷ 0x00 ∷ 0 ∷ [])
+    ∷ (0x01 ∷ 0x00 ∷ 0x02 ∷ 0x80 ∷ 0x00 ∷ 0x00 ∷ 0x00 ∷ 0x00 ∷ 3 ∷ [])
+    ∷ (0x01 ∷ 0x00 ∷ 0x02 ∷ 0x80 ∷ 0x00 ∷ 0x00 ∷ 0x00 ∷ 0x00 ∷ 3 ∷ [])
+    ∷ (0x3F ∷ 0x00 ∷ 0x02 ∷ 0x80 ∷ 0x00 ∷ 0x00 ∷ 0x00 ∷ 0x00 ∷ 0 ∷ [])
+    ∷ []
+unfolding shown storing findingsOf fullResult verifiedIn phoneIn onDevice byPhone resultOf restrictionsOf usageIn withBits otherVersion notYetEffective usageBroken atAtm countryOf
+    cashback laterThan dateOf yearOf amountAbove amountOf decimalFrom nibbles alike front putAt placeOf valueIn valueAt placeAt held offsetIn find past rows if both either
+phones = refl
+
+-- no phone: every bit of DF811B but b6, and every bit of 82 byte 1 but b2; the list is obeyed
+not-phones :
+    found ((0x82, 0x12 ∷ 0x80 ∷ []) ∷ (0xDF811B, 0xDF ∷ []) ∷ (0x8E, onlyRule 0x42) ∷ ready)
+    ∷ found ((0x82, 0xFD ∷ 0x80 ∷ []) ∷ (0xDF811B, 0xFF ∷ []) ∷ (0x8E, onlyRule 0x5E) ∷ ready)
+    ∷ []
+    ≡ (0x42 ∷ 0x00 ∷ 0x00 ∷ 0x80 ∷ 0x00 ∷ 0x04 ∷ 0x00 ∷ 0x00 ∷ 2 ∷ [])
+    ∷ (0x5E ∷ 0x00 ∷ 0x00 ∷ 0x80 ∷ 0x00 ∷ 0x00 ∷ 0x00 ∷ 0x00 ∷ 1 ∷ [])
+    ∷ []
+unfolding shown storing findingsOf fullResult verifiedIn phoneIn onDevice termsIn sameCurrency resultOf restrictionsOf usageIn withBits otherVersion notYetEffective usageBroken atAtm countryOf
+    cashback laterThan dateOf yearOf amountAbove amountOf decimalFrom nibbles numberFrom alike verification byRules rulesFrom met amountMet supported recognised taken unsuccessful front
+    putAt placeOf valueIn valueAt placeAt held offsetIn find past rows if both either
+not-phones = refl
+
+-- the amount is above the limit in force: a phone by DF8125, above and at it; b2 of 82 alone clear and b6 of DF811B alone clear by DF8124
+abbrev limited : List (ℕ × List ℕ) → Bool
+limited l = aboveLimit (limitOf (storing l)) (storing l)
+
+phone-limits :
+    limited ((0x82, 0x12 ∷ 0x80 ∷ []) ∷ (0xDF8124, highest) ∷ (0xDF8125, amount 0x12 0x33) ∷ ready)
+    ∷ limited ((0x82, 0x12 ∷ 0x80 ∷ []) ∷ (0xDF8124, amount 0x12 0x33) ∷ (0xDF8125, amount 0x12 0x34) ∷ ready)
+    ∷ limited ((0x82, 0x10 ∷ 0x80 ∷ []) ∷ (0xDF8124, amount 0x12 0x33) ∷ (0xDF8125, highest) ∷ ready)
+    ∷ limited ((0x82, 0x12 ∷ 0x80 ∷ []) ∷ (0xDF811B, 0xDF ∷ []) ∷ (0xDF8124, amount 0x12 0x34) ∷ (0xDF8125, amount 0 0) ∷ ready)
+    ∷ []
+    ≡ true ∷ false ∷ true ∷ false ∷ []
+unfolding storing aboveLimit limitOf phoneIn onDevice amountOf decimalFrom nibbles front putAt placeOf valueIn valueAt placeAt held offsetIn find past rows if both
+phone-limits = refl

@@ -1,0 +1,20 @@
+-- `action::phone_verified` meets its contract: the rows are the tags' (`bytes-by-row`). Assumes nothing.
+use mathlib.Core.Path.{ap, ap₂, _∙_}
+use borrow.Author.Needs.{needs}
+use Rattle.dictionary.proofs.Named.{at-9F02, at-DF8126}
+use Rattle.analysis.specs.Digits.{amountAbove}
+use Rattle.analysis.specs.Verification.{byPhone}
+use Rattle.analysis.proofs.ByRow.{bytes-by-row}
+use Rattle.analysis.proofs.action.phone_verified.Statement.{statement}
+use Rattle.analysis.proofs.action.phone_verified.Tie as tie
+
+returns : tie.Need-returns
+returns c =
+    let required = c .before .before in
+    c .by-phone .ensures
+    ∙ ap byPhone (c .before .above .ensures
+    ∙ ap₂ amountAbove (bytes-by-row _ 0x9F02 at-9F02 (required .before .value .ensures)) (bytes-by-row _ 0xDF8126 at-DF8126 (required .value2 .ensures)))
+
+pub phone-verified-spec : {M : Type 1} → statement M
+phone-verified-spec =
+    tie.close (tie.spec (λ c κs. search needs) (λ c κs. search needs) (λ c κs. search needs) (λ c κs. search needs) returns)

@@ -1,0 +1,13 @@
+-- `verification::is_on_device` meets its contract: both bits are the definition's. Assumes nothing.
+use borrow.Author.Needs.{needs}
+use Rattle.analysis.specs.Verification.{onDevice}
+use Rattle.analysis.proofs.VerificationSteps.{and-both}
+use Rattle.analysis.proofs.verification.is_on_device.Statement.{statement}
+use Rattle.analysis.proofs.verification.is_on_device.Tie as tie
+
+returns : tie.Need-returns
+unfolding onDevice
+returns c = and-both _ _ _ _ (c .before .bit .ensures) (c .bit2 .ensures)
+
+pub is-on-device-spec : {M : Type 1} → statement M
+is-on-device-spec = tie.close (tie.spec (λ c κs. search needs) (λ c κs. search needs) returns)
