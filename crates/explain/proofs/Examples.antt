@@ -19,7 +19,9 @@ use Rattle.locator.specs.Records.{entries, wholeEntries, sumOf, accepts}
 use Rattle.analysis.specs.Bits.{bit}
 use Rattle.analysis.specs.Value.{front}
 use Rattle.analysis.specs.Choice.{holdsBit, lowestFrom, lowestBit, cardCode, heldAt, capabilityAt, choiceOf}
-use Rattle.analysis.specs.Action.{codesOf, chosen}
+use Rattle.analysis.specs.Digits.{decimalFrom, amountOf}
+use Rattle.analysis.specs.Verification.{onDevice}
+use Rattle.analysis.specs.Action.{phoneIn, limitOf, codesOf, chosen}
 use Rattle.analysis.specs.declared.choice.Choice.{Choice}
 use Rattle.analysis.specs.declared.verification.Method.{Method}
 use Rattle.record.specs.declared.Outcome.{Outcome}
@@ -56,7 +58,7 @@ abbrev started : ℕ → List ℕ → List Object
 started type results =
     (0x9A, 0x25 ∷ 0x11 ∷ 0x16 ∷ []) ∷ (0x9C, 0x00 ∷ []) ∷ (0x9F02, 0 ∷ 0 ∷ 0 ∷ 0 ∷ 0x12 ∷ 0x34 ∷ []) ∷ (0x9F09, 0 ∷ 2 ∷ []) ∷ (0x9F1A, 0x00 ∷ 0x56 ∷ [])
     ∷ (0x9F33, 0xE0 ∷ 0xF8 ∷ 0xC8 ∷ []) ∷ (0x9F35, type ∷ []) ∷ (0x9F37, 1 ∷ 2 ∷ 3 ∷ 4 ∷ []) ∷ (0xDF8120, replicate 5 0) ∷ (0xDF8121, replicate 5 0) ∷ (0xDF8122, replicate 5 0)
-    ∷ (0xDF8123, 0 ∷ 0 ∷ 0 ∷ 0 ∷ 0x50 ∷ 0x00 ∷ []) ∷ (0xDF8124, 0 ∷ 0 ∷ 0 ∷ 1 ∷ 0 ∷ 0 ∷ []) ∷ (0xDF8126, 0 ∷ 0 ∷ 0 ∷ 0 ∷ 0x25 ∷ 0x00 ∷ []) ∷ (0x95, results) ∷ []
+    ∷ (0xDF8123, 0 ∷ 0 ∷ 0 ∷ 0 ∷ 0x50 ∷ 0x00 ∷ []) ∷ (0xDF8124, 0 ∷ 0 ∷ 0 ∷ 1 ∷ 0 ∷ 0 ∷ []) ∷ (0xDF8125, 0 ∷ 0 ∷ 0 ∷ 2 ∷ 0 ∷ 0 ∷ []) ∷ (0xDF811B, 0 ∷ []) ∷ (0xDF8126, 0 ∷ 0 ∷ 0 ∷ 0 ∷ 0x25 ∷ 0x00 ∷ []) ∷ (0x95, results) ∷ []
 
 -- EMV mode and a locator of two records
 abbrev opened : ℕ → List ℕ → List Object
@@ -87,7 +89,7 @@ zero5 = five 0 0 0 0 0
 -- the word of a record that waits on the cryptogram with a choice
 abbrev waiting : Choice → ℕ → List ℕ → List Object → ℕ
 waiting c type results more =
-    wordOf (explained (sessionOf (Phase.Cryptogram (record { choice = c; method = Method.NoCvm })) 4 (without 0 (more ++ complete type results))))
+    wordOf (explained (sessionOf (Phase.Cryptogram (record { choice = c; method = Method.NoCvm; limit = 10000 })) 4 (without 0 (more ++ complete type results))))
 
 -- the word of one that ended with an outcome and reason 0, without an object
 abbrev ended : ℕ → Outcome → ℕ → List Object → ℕ
@@ -113,7 +115,7 @@ waiting-online : waiting Choice.Online 0x22 usual [] ∷ waiting Choice.Offline 
     ≡ choiceWord Stage.Online Holder.Card 0 ∷ choiceWord Stage.Online Holder.Nobody noBit ∷ refused ∷ choiceWord Stage.Online Holder.Terminal 9 ∷ []
 unfolding explained stageIn decidingIn holderOf pairAt reasonAt bit front holdsBit lowestFrom lowestBit cardCode heldAt capabilityAt choiceOf codesOf chosen
     inRanges allFit objectFits lengthIn lengthByte fitting digitsFit numeric compressed digitsThenFs nibbles putAt placeOf valueIn valueAt placeAt held offsetIn find past rows
-    cryptogramRanges running brought isBrought cryptogramAbsent completed listed accepts wholeEntries entries keeps sumOf every both either if
+    cryptogramRanges limitOf phoneIn onDevice amountOf decimalFrom running brought isBrought cryptogramAbsent completed listed accepts wholeEntries entries keeps sumOf every both either if
 waiting-online = refl
 
 -- the lowest bit of the denial codes alone, by the terminal, and by both where the lower one is not set; at type 21 too
@@ -123,7 +125,7 @@ waiting-denial : waiting Choice.Decline 0x22 (five 0x80 0x40 0 0x80 0) ((0x9F0E,
     ≡ choiceWord Stage.Denial Holder.Terminal 9 ∷ choiceWord Stage.Denial Holder.Both 24 ∷ choiceWord Stage.Denial Holder.Card 24 ∷ []
 unfolding explained stageIn decidingIn holderOf pairAt reasonAt bit front holdsBit lowestFrom lowestBit cardCode heldAt capabilityAt choiceOf codesOf chosen
     inRanges allFit objectFits lengthIn lengthByte fitting digitsFit numeric compressed digitsThenFs nibbles putAt placeOf valueIn valueAt placeAt held offsetIn find past rows
-    cryptogramRanges running brought isBrought cryptogramAbsent completed listed accepts wholeEntries entries keeps sumOf every both either if
+    cryptogramRanges limitOf phoneIn onDevice amountOf decimalFrom running brought isBrought cryptogramAbsent completed listed accepts wholeEntries entries keeps sumOf every both either if
 waiting-denial = refl
 
 -- the online-only type; the default stage with an absent code, with its last bit, and with none
@@ -134,7 +136,7 @@ waiting-types : waiting Choice.Online 0x21 usual [] ∷ waiting Choice.Decline 0
     ∷ choiceWord Stage.Default Holder.Nobody noBit ∷ []
 unfolding explained stageIn decidingIn holderOf pairAt reasonAt bit front holdsBit lowestFrom lowestBit cardCode heldAt capabilityAt choiceOf codesOf chosen
     inRanges allFit objectFits lengthIn lengthByte fitting digitsFit numeric compressed digitsThenFs nibbles putAt placeOf valueIn valueAt placeAt held offsetIn find past rows
-    cryptogramRanges running brought isBrought cryptogramAbsent completed listed accepts wholeEntries entries keeps sumOf every both either if
+    cryptogramRanges limitOf phoneIn onDevice amountOf decimalFrom running brought isBrought cryptogramAbsent completed listed accepts wholeEntries entries keeps sumOf every both either if
 waiting-types = refl
 
 -- ---- ended with reason 0
@@ -172,9 +174,9 @@ abbrev inPhase : Phase → ℕ → List Object → ℕ
 inPhase p n objects = wordOf (explained (sessionOf p n (without 0 objects)))
 
 before-choice : inPhase Phase.Fresh 0 [] ∷ inPhase Phase.Options 1 (started 0x22 zero5)
-    ∷ inPhase (Phase.Record (record { number = 1 })) 2 (opened 0x22 zero5) ∷ [] ≡ replicate 3 noChoice
+    ∷ inPhase (Phase.Record (record { number = 1; limit = 10000 })) 2 (opened 0x22 zero5) ∷ [] ≡ replicate 3 noChoice
 unfolding explained inRanges allFit objectFits lengthIn lengthByte fitting digitsFit numeric nibbles putAt placeOf valueIn valueAt placeAt held offsetIn find past rows
-    freshRanges optionsRanges recordRanges running brought isBrought cryptogramAbsent listed accepts wholeEntries entries keeps sumOf every both either if
+    freshRanges optionsRanges recordRanges limitOf phoneIn onDevice amountOf decimalFrom front bit running brought isBrought cryptogramAbsent listed accepts wholeEntries entries keeps sumOf every both either if
 before-choice = refl
 
 -- 6 goes with select next alone

@@ -35,8 +35,8 @@ use Rattle.analysis.specs.Digits.{decimalFrom, yearOf, dateOf, laterThan, amoun
 use Rattle.analysis.specs.Restrictions.{otherVersion, notYetEffective, atAtm, countryOf, cashback, usageBroken}
 use Rattle.analysis.specs.Result.{withBits}
 use Rattle.analysis.specs.Choice.{holdsBit, lowestFrom, lowestBit, cardCode, heldAt, capabilityAt, choiceOf}
-use Rattle.analysis.specs.Verification.{rulesFrom, recognised, supported, amountMet, met, taken as takenBy, unsuccessful, byRules, verification}
-use Rattle.analysis.specs.Action.{limitOf, aboveLimit, usageIn, restrictionsOf, resultOf, sameCurrency, termsIn, verifiedIn, fullResult, findingsOf, codesOf, chosen}
+use Rattle.analysis.specs.Verification.{rulesFrom, recognised, supported, amountMet, met, taken as takenBy, unsuccessful, byRules, onDevice, verification}
+use Rattle.analysis.specs.Action.{phoneIn, limitOf, aboveLimit, usageIn, restrictionsOf, resultOf, sameCurrency, termsIn, verifiedIn, fullResult, findingsOf, codesOf, chosen}
 use Rattle.record.specs.declared.Outcome.{Outcome}
 use Rattle.record.specs.declared.Phase.{Phase}
 use Rattle.record.specs.Numbers.{goesWith, outcomeFor}
@@ -103,7 +103,7 @@ unfolding play final taken lastOf codeBrought bringsCode admitted endedRanges go
     isRead readBody bodyOf primitiveParts optionsParts templateParts parse nextOf withLeaf withNode count items takeAll takeNext takeItem allowed mayCome mayStand withResults withFindings placeOf
     load primitives withObject primitiveOf headerOf tagAt tagSize secondByte thirdByte lengthAt firstByte isTemplate isPrivate numberFrom if both either every rows past find settable setObject
     setAll fitting digitsFit numeric nibbles digitsThenFs compressed typeListed listed offsetIn placeAt held valueAt putAt valueIn brought isBrought recordStep recordRead recordsRead analysed
-    askedIn askCryptogram limitOf aboveLimit usageIn restrictionsOf resultOf sameCurrency termsIn verifiedIn fullResult findingsOf codesOf chosen bit front decimalFrom yearOf dateOf laterThan
+    askedIn askCryptogram phoneIn onDevice limitOf aboveLimit usageIn restrictionsOf resultOf sameCurrency termsIn verifiedIn fullResult findingsOf codesOf chosen bit front decimalFrom yearOf dateOf laterThan
     amountOf amountAbove otherVersion notYetEffective atAtm countryOf cashback usageBroken withBits holdsBit lowestFrom lowestBit cardCode heldAt capabilityAt choiceOf rulesFrom recognised
     supported amountMet met takenBy unsuccessful byRules verification alike decision cryptogramEnd cryptogramReply
     stageIn decidingIn holderOf pairAt reasonAt rankOf endedIn explained
