@@ -329,8 +329,10 @@ fn unknown(rng: &mut Rng) -> Vec<u8> {
 fn private(rng: &mut Rng) -> Vec<u8> {
     let length = rng.below(8);
     let value = rng.bytes(length);
-    // DF8125 is not known, and skipped as well.
-    let tag = 0xDF8120 + rng.below(7) as u32;
+    // DF8127 is not known, and skipped as well.
+    let tag = rng.pick(&[
+        0xDF811B, 0xDF8120, 0xDF8121, 0xDF8122, 0xDF8123, 0xDF8124, 0xDF8125, 0xDF8126, 0xDF8127,
+    ]);
     objects::object(rng, tag, &value)
 }
 

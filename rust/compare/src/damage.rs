@@ -3,7 +3,7 @@
 use crate::objects;
 use crate::rng::Rng;
 use model::dictionary::{Object, Setter, REQUIRED_AT_START, ROWS};
-use model::{locator, HEAD_SIZE, SESSION_SIZE};
+use model::{analysis, locator, store, HEAD_SIZE, SESSION_SIZE};
 
 /// Flips, cuts, inserts, appends or replaces some bytes.
 pub fn bytes(rng: &mut Rng, bytes: &mut Vec<u8>) {
@@ -29,19 +29,64 @@ pub fn bytes(rng: &mut Rng, bytes: &mut Vec<u8>) {
     }
 }
 
-/// Values of the head's last byte: the methods' numbers, and others near them.
-const METHODS: [u8; 10] = [0, 1, 2, 4, 3, 5, 8, 15, 16, 255];
+/// Values of the method's byte: the methods' numbers, and others near them.
+const METHODS: [u8; 10] = [0, 1, 2, 3, 4, 5, 8, 15, 16, 255];
 
 /// The method's byte for a phase, mostly one that goes with it.
 fn method(rng: &mut Rng, phase: u8) -> u8 {
     if phase == 3 {
         let known = rng.percent(95);
-        rng.pick(if known { &METHODS[..4] } else { &METHODS })
+        rng.pick(if known { &METHODS[..5] } else { &METHODS })
     } else if rng.one_in(30) {
         rng.pick(&METHODS)
     } else {
         0
     }
+}
+
+/// Where the limit in force stands in a session record.
+pub const LIMIT: std::ops::Range<usize> = 6..HEAD_SIZE;
+
+/// The limit that is right by the store of a session record; 0 where an object has a wrong length.
+pub fn right_limit(record: &[u8]) -> u64 {
+    let store = record[HEAD_SIZE..].first_chunk().expect("a whole record");
+    if store::fits(store) {
+        analysis::transaction_limit(store).unwrap_or(0)
+    } else {
+        0
+    }
+}
+
+/// Puts the limit in place that goes with the phase and the store.
+fn put_right_limit(record: &mut [u8]) {
+    let limit = match record[1] {
+        2 | 3 => right_limit(record),
+        _ => 0,
+    };
+    record[LIMIT].copy_from_slice(&limit.to_be_bytes());
+}
+
+/// Puts another limit in place: the other one of the store, one near it, or any.
+fn put_other_limit(rng: &mut Rng, record: &mut [u8]) {
+    let of_place = |object: Object| {
+        let digits = &record[place(object) + 1..][..6];
+        digits.iter().fold(0, |sum, &byte| {
+            sum * 100 + u64::from(byte >> 4) * 10 + u64::from(byte & 0x0F)
+        })
+    };
+    let held = u64::from_be_bytes(record[LIMIT].try_into().expect("eight bytes"));
+    let any = rng.bits();
+    let bit = 1 << rng.below(64);
+    let limit = rng.pick(&[
+        of_place(Object::TransactionLimit),
+        of_place(Object::TransactionLimitOnDevice),
+        held.wrapping_add(1),
+        held ^ bit,
+        held.swap_bytes(),
+        0,
+        any,
+    ]);
+    record[LIMIT].copy_from_slice(&limit.to_be_bytes());
 }
 
 /// Offset of an object's place in a session record.
@@ -80,7 +125,7 @@ pub fn record(rng: &mut Rng, record: &mut [u8]) {
     let object = rng.pick(&Object::ALL);
     let at = place(object);
     let most = object.row().most;
-    match rng.below(19) {
+    match rng.below(22) {
         0 => {
             for _ in 0..rng.within(1..=3) {
                 record[rng.below(SESSION_SIZE)] ^= 1 << rng.below(8);
@@ -150,6 +195,9 @@ pub fn record(rng: &mut Rng, record: &mut [u8]) {
                 Object::CvmResults,
                 Object::TerminalCapabilities,
                 Object::CvmRequiredLimit,
+                Object::KernelConfiguration,
+                Object::TransactionLimit,
+                Object::TransactionLimitOnDevice,
             ]);
             if rng.one_in(2) {
                 record[place(object)] = rng.below(2) as u8;
@@ -163,6 +211,21 @@ pub fn record(rng: &mut Rng, record: &mut [u8]) {
                 rng.pick(&[0x10, 0x17, 0x27, 0x31, 0x33, 0x37, 0x00]);
         }
         16 => record[5] = rng.pick(&METHODS),
+        17 | 18 => put_other_limit(rng, record),
+        19 => {
+            // Another limit by the store: a phone or none, or another value.
+            let object = rng.pick(&[
+                Object::InterchangeProfile,
+                Object::KernelConfiguration,
+                Object::TransactionLimit,
+                Object::TransactionLimitOnDevice,
+            ]);
+            let value = objects::good_value(rng, object);
+            put(record, object, &value);
+            if rng.one_in(3) {
+                put_right_limit(record);
+            }
+        }
         _ => other_phase(rng, record),
     }
 }
@@ -199,6 +262,9 @@ fn other_phase(rng: &mut Rng, record: &mut [u8]) {
     record[5] = method(rng, phase);
     if rng.one_in(6) {
         record[4] = rng.byte();
+    }
+    if rng.percent(90) {
+        put_right_limit(record);
     }
 }
 
@@ -268,5 +334,9 @@ pub fn record_of_phase(rng: &mut Rng, phase: usize) -> Vec<u8> {
     };
     bytes[1..5].copy_from_slice(&[phase as u8, detail, reason, count]);
     bytes[5] = method(rng, phase as u8);
+    put_right_limit(&mut bytes);
+    if rng.one_in(30) {
+        put_other_limit(rng, &mut bytes);
+    }
     bytes
 }

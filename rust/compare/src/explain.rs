@@ -4,12 +4,13 @@
 //! objects are taken away and choice, outcome, codes and type changed.
 
 use crate::damage::{self, place, put};
+use crate::limit::within_ranges;
 use crate::rng::Rng;
 use crate::step::Hex;
 use model::analysis::{self, Choice};
 use model::dictionary::Object;
 use model::store::{self, Store};
-use model::{COMMAND_SIZE, HEAD_SIZE};
+use model::HEAD_SIZE;
 use std::fmt::Write as _;
 
 /// The side that is compared with the model: the library's word for a record.
@@ -19,9 +20,6 @@ use tripodmoon::calls::explain as other;
 /// Without the library the model is compared with itself.
 #[cfg(not(feature = "library"))]
 use model::explain as other;
-
-/// The word of refusal 25.
-const REFUSED: u32 = 0x0002_0000 + 25;
 
 /// The kinds of a word.
 const KIND_REFUSED: u32 = 2;
@@ -138,7 +136,7 @@ impl Reached {
     /// Counts the word for a record.
     fn count(&mut self, record: &[u8], word: u32) {
         self.records += 1;
-        if !within_ranges(record) {
+        if !within_ranges(&mut record.to_vec()) {
             self.out_of_ranges += 1;
             return;
         }
@@ -204,12 +202,6 @@ impl Reached {
             self.lower_bit[usize::from(!elsewhere)] += 1;
         }
     }
-}
-
-/// Whether a record keeps its ranges: then no call but for its phase is refused.
-fn within_ranges(record: &[u8]) -> bool {
-    let mut copy = record.to_vec();
-    model::stop(&mut copy, &mut [0; COMMAND_SIZE]) != REFUSED
 }
 
 /// The store of a whole record.

@@ -386,7 +386,13 @@ fn changed(
         Change::Whole => return bytes,
         Change::Unfinished => records.truncate(rng.within(0..=number)),
         Change::Cut => {
-            bytes.truncate(rng.within(0..=bytes.len()));
+            // An outcome, which is short, is cut more often.
+            let least = if rng.one_in(4) {
+                bytes.len().saturating_sub(3)
+            } else {
+                0
+            };
+            bytes.truncate(rng.within(least..=bytes.len()));
             return bytes;
         }
         Change::Bit => {

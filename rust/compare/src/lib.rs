@@ -2,8 +2,8 @@
 //!
 //! After each call the reply word, the whole command buffer, the count, the explanation and the whole session slice
 //! must be equal. `rng`, `objects`, `terminal`, `card`, `damage` and `play` draw the sessions; `run`
-//! makes the calls and counts what occurred, `verification` what the choices of a method reached and
-//! `padding` where runs of 00 stood. `reading` compares single readings, with the object count that no call hands out,
+//! makes the calls and counts what occurred, `verification` what the choices of a method reached, `limit` which limits
+//! decided and `padding` where runs of 00 stood. `reading` compares single readings, with the object count that no call hands out,
 //! `find` the search for a tag in a card's bytes, and `explain` the explanations of records that no call may have left.
 //! `layout` draws lists of objects and layouts of the card's side, and `personalise` compares what is written for them.
 
@@ -15,6 +15,7 @@ pub mod explain;
 pub mod find;
 pub mod journal;
 pub mod layout;
+pub mod limit;
 pub mod objects;
 pub mod padding;
 pub mod personalise;

@@ -6,7 +6,7 @@ use model::dictionary::{Form, Object, Setter, ROWS};
 /// Primitive tags that the dictionary does not know, private ones among them.
 pub const UNKNOWN: [u32; 20] = [
     0x50, 0x4F, 0x81, 0x83, 0x8D, 0x9B, 0x01, 0x5F20, 0x5F50, 0x9F00, 0x9F4E, 0x9F6A, 0x9F7F, 0xC1,
-    0xDF01, 0xDF8119, 0xDF8125, 0xDF8220, 0x1F05, 0x9F8102,
+    0xDF01, 0xDF8119, 0xDF8127, 0xDF8220, 0x1F05, 0x9F8102,
 ];
 
 /// Templates other than 70 and 77.
@@ -258,7 +258,13 @@ pub fn good_value(rng: &mut Rng, object: Object) -> Vec<u8> {
         Object::TransactionType if special => {
             vec![rng.pick(&[0x00, 0x00, 0x01, 0x09, 0x17, 0x20])]
         }
-        Object::AmountAuthorised | Object::FloorLimit | Object::TransactionLimit if special => {
+        Object::AmountAuthorised
+        | Object::FloorLimit
+        | Object::TransactionLimit
+        | Object::TransactionLimitOnDevice
+        | Object::CvmRequiredLimit
+            if special =>
+        {
             amount(rng.pick(&AMOUNTS))
         }
         Object::AmountOther if special => amount(rng.pick(&[0, 0, 1, 100_000_000_000])),
@@ -296,11 +302,20 @@ pub fn good_value(rng: &mut Rng, object: Object) -> Vec<u8> {
         | Object::TerminalActionDefault
         | Object::TerminalActionDenial
         | Object::TerminalActionOnline => action_code(rng),
+        Object::KernelConfiguration if special => {
+            vec![rng.pick(&[0x20, 0x20, 0xFF, 0xDF, 0x00])]
+        }
         Object::InterchangeProfile => {
-            let first = rng.byte();
+            let mut first = rng.byte();
+            // Mostly with cardholder verification, and not on the device.
+            if rng.percent(60) {
+                first |= 0x10;
+            }
+            if rng.percent(40) {
+                first &= !0x02;
+            }
             vec![
-                // Mostly with cardholder verification.
-                if rng.percent(60) { first | 0x10 } else { first },
+                first,
                 if rng.one_in(20) {
                     rng.byte()
                 } else {

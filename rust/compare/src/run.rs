@@ -1,5 +1,6 @@
 //! Makes every call on both sides and compares all that comes back.
 
+use crate::limit;
 use crate::padding;
 use crate::play::Play;
 use crate::side::Side;
@@ -41,6 +42,8 @@ pub struct Coverage {
     pub longest: u64,
     /// What the choices of a method reached.
     pub verification: Reached,
+    /// Which limits decided, and which were refused.
+    pub limit: limit::Reached,
     /// Padded answers that were taken with reason 0, 3 or a later one, or gave a command: to processing options, a record, GENERATE AC.
     pub padded_answers: [u64; 3],
     /// Refusals 20 because of 00 between start objects; reasons 7 because of 00 in 9F38, and in 8C.
@@ -81,6 +84,7 @@ impl Default for Coverage {
             held: [0; ROWS.len()],
             longest: 0,
             verification: Reached::default(),
+            limit: limit::Reached::default(),
             padded_answers: [0; 3],
             padding_refused: [0; 3],
             explanations: [0; 5],
@@ -115,6 +119,7 @@ impl Coverage {
         all(&mut self.explanations, &other.explanations);
         all(&mut self.late_codes, &other.late_codes);
         self.verification.add(&other.verification);
+        self.limit.add(&other.limit);
     }
 
     /// What should occur and never did.
@@ -169,6 +174,7 @@ impl Coverage {
         need(self.late_codes[0], "explained with a late code".into());
         need(self.late_codes[1], "unexplained for a late code".into());
         missing.extend(self.verification.missing());
+        missing.extend(self.limit.missing());
         missing
     }
 
@@ -213,6 +219,7 @@ impl Coverage {
             "late action codes explained, not: {:?}",
             self.late_codes
         );
+        out += &self.limit.report();
         out += &self.verification.report();
         out
     }
@@ -352,13 +359,25 @@ impl<A: Side, B: Side> Pair<'_, A, B> {
         coverage.count(call, word, &self.session, &self.buffer, asked);
         let phase = self.before.get(1).copied().unwrap_or_default();
         coverage.count_padding(step, phase, word, &self.session);
-        if self.method_was_chosen(call, word) {
-            let store = self.session[HEAD_SIZE..].first_chunk();
-            coverage
-                .verification
-                .count_choice(store.expect("a whole record"));
+        self.count_last_record(call, word, coverage);
+        if word == 0x0002_0000 + 25 {
+            coverage.limit.count_refused(&self.session);
         }
         Ok(())
+    }
+
+    /// Counts what the answer to the last record decided.
+    fn count_last_record(&self, call: usize, word: u32, coverage: &mut Coverage) {
+        let chosen = self.method_was_chosen(call, word);
+        let above_limit = kind_of(word) == 1 && word & 0xFF == 6;
+        if chosen || above_limit {
+            let store = self.session[HEAD_SIZE..].first_chunk();
+            let store = store.expect("a whole record");
+            coverage.limit.count_decision(store);
+            if chosen {
+                coverage.verification.count_choice(store);
+            }
+        }
     }
 
     /// Whether a call chose a method: the answer to the last record was taken, and gave GENERATE AC or reason 7.

@@ -52,7 +52,11 @@ fn good_objects(rng: &mut Rng) -> Vec<(u32, Vec<u8>)> {
         if !wanted {
             continue;
         }
-        let value = if object == Object::TransactionLimit && rng.percent(85) {
+        let is_limit = matches!(
+            object,
+            Object::TransactionLimit | Object::TransactionLimitOnDevice
+        );
+        let value = if is_limit && rng.percent(75) {
             vec![0x99; 6]
         } else {
             objects::good_value(rng, object)

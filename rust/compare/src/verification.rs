@@ -13,7 +13,7 @@ const NAMES: [u8; 8] = [0x00, 0x01, 0x02, 0x03, 0x04, 0x05, 0x1E, 0x1F];
 const CAPABILITIES: [u8; 5] = [0x80, 0x40, 0x20, 0x10, 0x08];
 
 /// The methods by number.
-const METHODS: [u8; 5] = [0, 1, 2, 4, NOT_APPLICABLE];
+const METHODS: [u8; 6] = [0, 1, 2, 3, 4, NOT_APPLICABLE];
 
 /// Reasons that an end after the choice has, and one before it.
 const LATER_REASONS: [usize; 9] = [0, 1, 2, 3, 4, 7, 8, 9, 10];
@@ -24,6 +24,12 @@ const EARLY_REASONS: [usize; 10] = [1, 2, 3, 4, 5, 6, 7, 9, 10, 11];
 pub struct Reached {
     /// Choices made.
     choices: u64,
+    /// Phones with an amount under, equal to and over the limit for verification.
+    phones: [u64; 3],
+    /// Phones without and with a list, of cards that do not support verification by a list and of those that do.
+    phone_lists: [[u64; 2]; 2],
+    /// No phones: neither bit set, that of 82 alone, that of DF811B alone.
+    no_phones: [u64; 3],
     /// The card does not support verification; there is no list; no rule applies.
     without_rule: [u64; 3],
     /// Conditions 00 to 09: not met, met.
@@ -51,7 +57,7 @@ pub struct Reached {
     /// Codes performed with b8 set.
     reserved_bit: u64,
     /// Ends by method, in the order of `METHODS`, and reason.
-    ends: [[u64; 12]; 5],
+    ends: [[u64; 12]; 6],
 }
 
 impl Reached {
@@ -62,6 +68,17 @@ impl Reached {
             names.iter().map(|name| format!("{what}: {name}")).collect()
         };
         all.push(("choices of a method".into(), &mut self.choices));
+        let names = list("phone", &["under", "equal", "over"]);
+        all.extend(names.into_iter().zip(&mut self.phones));
+        for (what, counts) in ["phone alone", "phone, 82 b5"]
+            .iter()
+            .zip(&mut self.phone_lists)
+        {
+            let names = list(what, &["no list", "a list"]);
+            all.extend(names.into_iter().zip(counts));
+        }
+        let names = list("no phone", &["neither bit", "82 alone", "DF811B alone"]);
+        all.extend(names.into_iter().zip(&mut self.no_phones));
         let names = list("no rule", &["not supported", "no list", "none applies"]);
         all.extend(names.into_iter().zip(&mut self.without_rule));
         for (condition, counts) in self.conditions.iter_mut().enumerate() {
@@ -168,14 +185,38 @@ impl Reached {
         for &branch in &branches {
             self.count_branch(branch, store);
         }
-        if !matches!(branches[0], Branch::NotSupported | Branch::NoList) {
-            self.count_list(store);
+        match branches[0] {
+            Branch::OnDevice(_) => self.count_phone(store),
+            Branch::NotSupported | Branch::NoList => self.count_no_phone(store),
+            _ => {
+                self.count_no_phone(store);
+                self.count_list(store);
+            }
         }
+    }
+
+    /// Counts a phone: its amount against the limit, and what is not looked at.
+    fn count_phone(&mut self, store: &Store) {
+        let amount = store::get(store, Object::AmountAuthorised);
+        let relation = amount.cmp(&store::get(store, Object::CvmRequiredLimit)) as i8 + 1;
+        self.phones[relation as usize] += 1;
+        let by_list = first_byte(store, Object::InterchangeProfile) & 0x10 != 0;
+        let list = store::has_value(store, Object::CvmList);
+        self.phone_lists[usize::from(by_list)][usize::from(list)] += 1;
+    }
+
+    /// Counts a card that is no phone by the bits that it would need.
+    fn count_no_phone(&mut self, store: &Store) {
+        let card = first_byte(store, Object::InterchangeProfile) & 0x02 != 0;
+        let reader = first_byte(store, Object::KernelConfiguration) & 0x20 != 0;
+        let bits = usize::from(card) + 2 * usize::from(reader);
+        self.no_phones[bits] += 1;
     }
 
     fn count_branch(&mut self, branch: Branch, store: &Store) {
         let place = |code: u8| NAMES.iter().position(|&name| name == code & 0x3F);
         match branch {
+            Branch::OnDevice(_) => {}
             Branch::NotSupported => self.without_rule[0] += 1,
             Branch::NoList => self.without_rule[1] += 1,
             Branch::NoRuleApplies => self.without_rule[2] += 1,
@@ -256,4 +297,9 @@ impl Reached {
             self.large_amounts += u64::from(amount > 0xFFFF_FFFF);
         }
     }
+}
+
+/// The first byte of an object that is there.
+fn first_byte(store: &Store, object: Object) -> u8 {
+    store::get(store, object).map_or(0, |value| value[0])
 }

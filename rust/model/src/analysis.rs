@@ -1,7 +1,8 @@
-//! Result bits, usage and the choice (document 01, "Result bits and the choice").
+//! The limit in force, result bits, usage and the choice (document 01, "Result bits and the choice"; document 02, Item 8).
 
 use crate::dictionary::Object;
 use crate::store::{self, Store};
+use crate::verification;
 
 /// The choice asked for, as P1 of GENERATE AC.
 #[derive(Clone, Copy, Debug, PartialEq, Eq)]
@@ -37,6 +38,24 @@ impl Choice {
 
 /// One pair of action codes: the card's, then the terminal's.
 type Pair = [[u8; 5]; 2];
+
+/// The number that the digits of an object are, or none if it is absent.
+pub fn amount(store: &Store, object: Object) -> Option<u64> {
+    let digits = store::get(store, object)?
+        .iter()
+        .flat_map(|&byte| [byte >> 4, byte & 0x0F]);
+    Some(digits.fold(0, |sum, digit| sum * 10 + u64::from(digit)))
+}
+
+/// The limit in force (Book C-2, S3.33 to S3.35): DF8125 for a phone that verifies its holder, else DF8124.
+pub fn transaction_limit(store: &Store) -> Option<u64> {
+    let limit = if verification::on_device(store) {
+        Object::TransactionLimitOnDevice
+    } else {
+        Object::TransactionLimit
+    };
+    amount(store, limit)
+}
 
 /// The terminal verification results after the last record, without the bits of cardholder verification.
 ///

@@ -1,7 +1,7 @@
-//! The table of known tags (document 01, "Dictionary"; document 02, Item 5).
+//! The table of known tags (document 01, "Dictionary"; document 02, Items 5 and 8).
 
 /// Bytes of the store: one place for each tag, with room for its greatest length.
-pub const STORE_SIZE: usize = 1208;
+pub const STORE_SIZE: usize = 1217;
 
 /// Form of a value.
 #[derive(Clone, Copy, Debug, PartialEq, Eq)]
@@ -149,11 +149,13 @@ dictionary! {
     Pdol                      0x9F38   0 240 Binary            Start,
     AdditionalCapabilities    0x9F40   5   5 Binary            Start,
     ApplicationCurrency       0x9F42   2   2 Numeric           Card70,
+    KernelConfiguration       0xDF811B 1   1 Binary            Start,
     TerminalActionDefault     0xDF8120 5   5 Binary            Start,
     TerminalActionDenial      0xDF8121 5   5 Binary            Start,
     TerminalActionOnline      0xDF8122 5   5 Binary            Start,
     FloorLimit                0xDF8123 6   6 Numeric           Start,
     TransactionLimit          0xDF8124 6   6 Numeric           Start,
+    TransactionLimitOnDevice  0xDF8125 6   6 Numeric           Start,
     CvmRequiredLimit          0xDF8126 6   6 Numeric           Start,
 }
 
@@ -212,7 +214,7 @@ pub fn search(tags: &[u32], tag: u32) -> Searched {
 }
 
 /// The mandatory objects of a start.
-pub const REQUIRED_AT_START: [Object; 14] = [
+pub const REQUIRED_AT_START: [Object; 16] = [
     Object::TransactionDate,
     Object::TransactionType,
     Object::AmountAuthorised,
@@ -221,11 +223,13 @@ pub const REQUIRED_AT_START: [Object; 14] = [
     Object::TerminalCapabilities,
     Object::TerminalType,
     Object::UnpredictableNumber,
+    Object::KernelConfiguration,
     Object::TerminalActionDefault,
     Object::TerminalActionDenial,
     Object::TerminalActionOnline,
     Object::FloorLimit,
     Object::TransactionLimit,
+    Object::TransactionLimitOnDevice,
     Object::CvmRequiredLimit,
 ];
 

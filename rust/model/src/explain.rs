@@ -71,8 +71,8 @@ const BITS: u8 = 40;
 pub fn explain(bytes: &[u8]) -> Result<Explanation, Refusal> {
     let (phase, store) = session::look(bytes).ok_or(Refusal::Record)?;
     let explanation = match phase {
-        Phase::Fresh | Phase::Options | Phase::Record(_) => Some(Explanation::NoChoice),
-        Phase::Cryptogram(choice, _) => explain_choice(store, choice),
+        Phase::Fresh | Phase::Options | Phase::Record { .. } => Some(Explanation::NoChoice),
+        Phase::Cryptogram { choice, .. } => explain_choice(store, choice),
         Phase::Ended { outcome, reason: 0 } => explain_outcome(store, outcome),
         Phase::Ended { reason, .. } => Some(Explanation::Ended(reason)),
     };

@@ -14,7 +14,7 @@ pub enum Reason {
     Missing = 4,
     /// An entry of 94 breaks a rule, or it names too many records.
     Locator = 5,
-    /// 9F02 is greater than DF8124.
+    /// 9F02 is greater than the limit in force.
     Limit = 6,
     /// 9F38 or 8C is broken, or fills to a length that its command cannot carry.
     DataList = 7,

@@ -10,8 +10,8 @@ use crate::store::{self, Store};
 use crate::tlv;
 use crate::verification::{self, Method};
 
-/// Bytes in front of the store: version, phase, two bytes of detail, count, method.
-pub const HEAD_SIZE: usize = 6;
+/// Bytes in front of the store: version, phase, two bytes of detail, count, method, and eight of the limit in force.
+pub const HEAD_SIZE: usize = 14;
 
 /// Bytes of a session record.
 pub const SESSION_SIZE: usize = HEAD_SIZE + STORE_SIZE;
@@ -20,7 +20,7 @@ pub const SESSION_SIZE: usize = HEAD_SIZE + STORE_SIZE;
 pub const COMMAND_SIZE: usize = 261;
 
 /// Version of the record's layout.
-const VERSION: u8 = 2;
+const VERSION: u8 = 3;
 
 /// A call that is refused changes nothing (document 01, refusals 20 to 25).
 #[derive(Clone, Copy, Debug, PartialEq, Eq)]
@@ -64,9 +64,16 @@ pub(crate) enum Phase {
     /// Waiting on the answer to GET PROCESSING OPTIONS.
     Options,
     /// Waiting on the answer for the k-th record.
-    Record(u8),
+    Record {
+        k: u8,
+        limit: u64,
+    },
     /// Waiting on the answer to GENERATE AC.
-    Cryptogram(Choice, Method),
+    Cryptogram {
+        choice: Choice,
+        method: Method,
+        limit: u64,
+    },
     Ended {
         outcome: u8,
         reason: u8,
@@ -85,19 +92,43 @@ pub struct Session<'a> {
 
 /// Decodes the head of a record, or none if the bytes hold no record (docs/HOST.md, record layout).
 fn decode(head: &[u8; HEAD_SIZE]) -> Option<(Phase, u8)> {
-    let &[version, phase, detail, reason, count, method] = head;
+    let &[version, phase, detail, reason, count, method, ref limit @ ..] = head;
     if version != VERSION {
         return None;
     }
-    let phase = match (phase, detail, reason, method) {
-        (0, 0, 0, 0) => Phase::Fresh,
-        (1, 0, 0, 0) => Phase::Options,
-        (2, k, 0, 0) => Phase::Record(k),
-        (3, p1, 0, method) => Phase::Cryptogram(Choice::of_p1(p1)?, Method::of_number(method)?),
-        (4, outcome @ 0..=4, reason, 0) => Phase::Ended { outcome, reason },
+    let limit = u64::from_be_bytes(*limit);
+    let phase = match (phase, detail, reason, method, limit) {
+        (0, 0, 0, 0, 0) => Phase::Fresh,
+        (1, 0, 0, 0, 0) => Phase::Options,
+        (2, k, 0, 0, limit) => Phase::Record { k, limit },
+        (3, p1, 0, method, limit) => Phase::Cryptogram {
+            choice: Choice::of_p1(p1)?,
+            method: Method::of_number(method)?,
+            limit,
+        },
+        (4, outcome @ 0..=4, reason, 0, 0) => Phase::Ended { outcome, reason },
         _ => return None,
     };
     Some((phase, count))
+}
+
+/// The head of a record.
+fn encode(phase: Phase, count: u8) -> [u8; HEAD_SIZE] {
+    let (phase, detail, reason, method, limit) = match phase {
+        Phase::Fresh => (0, 0, 0, 0, 0),
+        Phase::Options => (1, 0, 0, 0, 0),
+        Phase::Record { k, limit } => (2, k, 0, 0, limit),
+        Phase::Cryptogram {
+            choice,
+            method,
+            limit,
+        } => (3, choice.p1(), 0, method as u8, limit),
+        Phase::Ended { outcome, reason } => (4, outcome, reason, 0, 0),
+    };
+    let mut head = [0; HEAD_SIZE];
+    head[..6].copy_from_slice(&[VERSION, phase, detail, reason, count, method]);
+    head[6..].copy_from_slice(&limit.to_be_bytes());
+    head
 }
 
 /// Writes a fresh record over the front of `bytes`.
@@ -122,7 +153,7 @@ pub(crate) fn look(bytes: &[u8]) -> Option<(Phase, &Store)> {
     in_range(phase, count, store).then_some((phase, store))
 }
 
-/// The ranges of a session record (document 01, "Session ranges"; document 02, Item 5).
+/// The ranges of a session record (document 01, "Session ranges"; document 02, Items 5 and 8).
 fn in_range(phase: Phase, count: u8, store: &Store) -> bool {
     match phase {
         Phase::Fresh => count == 0 && *store == [0; STORE_SIZE],
@@ -137,17 +168,19 @@ fn in_range(phase: Phase, count: u8, store: &Store) -> bool {
                 && !store::has(store, Object::InterchangeProfile)
                 && !store::has(store, Object::FileLocator)
         }
-        Phase::Record(k) => {
+        Phase::Record { k, limit } => {
             store::fits(store)
                 && running(store)
                 && results_zero(store)
+                && analysis::transaction_limit(store) == Some(limit)
                 && records_of_emv_card(store).is_some_and(|records| {
                     (1..=records).contains(&u32::from(k)) && u32::from(count) == 1 + u32::from(k)
                 })
         }
-        Phase::Cryptogram(..) => {
+        Phase::Cryptogram { limit, .. } => {
             store::fits(store)
                 && running(store)
+                && analysis::transaction_limit(store) == Some(limit)
                 && records_of_emv_card(store).is_some_and(|records| u32::from(count) == 2 + records)
                 && holds_record_data(store)
                 && store::has(store, Object::CvmResults)
@@ -169,7 +202,7 @@ impl<'a> Session<'a> {
             .filter(|&(phase, count)| in_range(phase, count, store))
             .ok_or(Refusal::Record)?;
         let method = match phase {
-            Phase::Cryptogram(_, method) => Some(method),
+            Phase::Cryptogram { method, .. } => Some(method),
             _ => None,
         };
         Ok(Session {
@@ -196,8 +229,8 @@ impl<'a> Session<'a> {
         let next = match self.phase {
             Phase::Fresh | Phase::Ended { .. } => return Err(Refusal::Order),
             Phase::Options => self.take_options(answer, command),
-            Phase::Record(k) => self.take_record(u32::from(k), answer, command),
-            Phase::Cryptogram(asked, _) => self.take_cryptogram(asked, answer),
+            Phase::Record { k, limit } => self.take_record(u32::from(k), limit, answer, command),
+            Phase::Cryptogram { choice, .. } => self.take_cryptogram(choice, answer),
         };
         Ok(self.finish(next))
     }
@@ -225,14 +258,7 @@ impl<'a> Session<'a> {
         } else {
             self.count += 1;
         }
-        let (phase, detail, reason, method) = match self.phase {
-            Phase::Fresh => (0, 0, 0, 0),
-            Phase::Options => (1, 0, 0, 0),
-            Phase::Record(k) => (2, k, 0, 0),
-            Phase::Cryptogram(choice, method) => (3, choice.p1(), 0, method as u8),
-            Phase::Ended { outcome, reason } => (4, outcome, reason, 0),
-        };
-        *self.head = [VERSION, phase, detail, reason, self.count, method];
+        *self.head = encode(self.phase, self.count);
         reply
     }
 
@@ -256,7 +282,7 @@ impl<'a> Session<'a> {
         Ok(Next::Command(front + length + 1))
     }
 
-    /// The answer to GET PROCESSING OPTIONS; then the first record.
+    /// The answer to GET PROCESSING OPTIONS; then the limit in force, which stays, and the first record.
     fn take_options(&mut self, answer: &[u8], command: &mut [u8]) -> Result<Next, Reason> {
         let body = reading::body(answer)?;
         reading::read(self.store, AnswerTo::Options, body).0?;
@@ -270,14 +296,16 @@ impl<'a> Session<'a> {
             return Err(Reason::NotEmvMode);
         }
         locator::records(locator).ok_or(Reason::Locator)?;
-        self.ask_record(1, command)
+        let limit = analysis::transaction_limit(self.store).ok_or(Reason::Missing)?;
+        self.ask_record(1, limit, command)
     }
 
     /// READ RECORD for the k-th record: P1 is its number, P2 has its file as a short file identifier.
-    fn ask_record(&mut self, k: u32, command: &mut [u8]) -> Result<Next, Reason> {
+    fn ask_record(&mut self, k: u32, limit: u64, command: &mut [u8]) -> Result<Next, Reason> {
         let record = self.record(k)?;
         command[..5].copy_from_slice(&[0x00, 0xB2, record.number, record.file << 3 | 0x04, 0x00]);
-        self.phase = Phase::Record(k as u8);
+        let k = k as u8;
+        self.phase = Phase::Record { k, limit };
         Ok(Next::Command(5))
     }
 
@@ -289,24 +317,28 @@ impl<'a> Session<'a> {
     }
 
     /// The answer to READ RECORD; then the next record, or GENERATE AC after the last.
-    fn take_record(&mut self, k: u32, answer: &[u8], command: &mut [u8]) -> Result<Next, Reason> {
+    fn take_record(
+        &mut self,
+        k: u32,
+        limit: u64,
+        answer: &[u8],
+        command: &mut [u8],
+    ) -> Result<Next, Reason> {
         let body = reading::body(answer)?;
         if self.record(k)?.is_read() {
             reading::read(self.store, AnswerTo::Record, body).0?;
         }
         let locator = store::get(self.store, Object::FileLocator).unwrap_or_default();
         if locator::record(locator, k + 1).is_some() {
-            self.ask_record(k + 1, command)
+            self.ask_record(k + 1, limit, command)
         } else {
-            self.ask_cryptogram(command)
+            self.ask_cryptogram(limit, command)
         }
     }
 
     /// After the last record: limit, missing objects, restrictions, method, choice, then GENERATE AC.
-    fn ask_cryptogram(&mut self, command: &mut [u8]) -> Result<Next, Reason> {
-        if store::get(self.store, Object::AmountAuthorised)
-            > store::get(self.store, Object::TransactionLimit)
-        {
+    fn ask_cryptogram(&mut self, limit: u64, command: &mut [u8]) -> Result<Next, Reason> {
+        if analysis::amount(self.store, Object::AmountAuthorised) > Some(limit) {
             return Err(Reason::Limit);
         }
         if !holds_record_data(self.store) {
@@ -329,7 +361,11 @@ impl<'a> Session<'a> {
         command[..5].copy_from_slice(&[0x80, 0xAE, choice.p1(), 0x00, length as u8]);
         data_list::fill(self.store, list, &mut command[5..][..length]);
         command[5 + length] = 0x00;
-        self.phase = Phase::Cryptogram(choice, selection.method);
+        self.phase = Phase::Cryptogram {
+            choice,
+            method: selection.method,
+            limit,
+        };
         Ok(Next::Command(5 + length + 1))
     }
 

@@ -1,4 +1,5 @@
-//! Cardholder verification: the choice of a method by the card's list (document 02, Item 5; Book C-2, 7.5, CVM.5 to CVM.25).
+//! Cardholder verification: the choice of a method, for a phone by the amount and else by the card's list (document 02,
+//! Items 5 and 8; Book C-2, 7.5, CVM.1 to CVM.25).
 //!
 //! The list, 8E, is two amounts X and Y of four bytes each, and then rules of two bytes: a code and a condition. In a code
 //! the low six bits name the method, b7 says that the next rule applies where this one does not succeed, and b8 is reserved.
@@ -17,6 +18,8 @@ pub enum Method {
     Signature = 1,
     /// The PIN goes online to the issuer.
     OnlinePin = 2,
+    /// The cardholder's own device has verified the holder.
+    ConfirmationCodeVerified = 3,
     /// A PIN that the card checks. Book C-2 leaves the number free; nobody has checked anything yet.
     OfflinePin = 4,
 }
@@ -26,10 +29,11 @@ pub const NOT_APPLICABLE: u8 = 15;
 
 impl Method {
     /// All methods.
-    pub const ALL: [Method; 4] = [
+    pub const ALL: [Method; 5] = [
         Method::NoCvm,
         Method::Signature,
         Method::OnlinePin,
+        Method::ConfirmationCodeVerified,
         Method::OfflinePin,
     ];
 
@@ -53,6 +57,8 @@ pub struct Selection {
 /// A branch on the way of a selection, for tests that count what they reach.
 #[derive(Clone, Copy, Debug, PartialEq, Eq)]
 pub enum Branch {
+    /// The device verifies its holder, and whether the amount is above the limit for that (CVM.2).
+    OnDevice(bool),
     /// The card does not support cardholder verification (CVM.6).
     NotSupported,
     /// There is no list (CVM.8).
@@ -78,13 +84,21 @@ const NOT_SUCCESSFUL: u8 = 0x80;
 const UNRECOGNISED: u8 = 0x40;
 const ONLINE_PIN_ENTERED: u8 = 0x04;
 
-/// No method performed, as the first byte of 9F34.
+/// No method performed, and verification on the device performed, as the first byte of 9F34.
 const NONE_PERFORMED: u8 = 0x3F;
+const ON_DEVICE_PERFORMED: u8 = 0x01;
 
 /// The third byte of 9F34.
 const UNKNOWN: u8 = 0;
 const FAILED: u8 = 1;
 const SUCCESSFUL: u8 = 2;
+
+/// Whether the card is on a phone that verifies its holder, and the reader supports that: 82 byte 1 b2 and DF811B b6.
+pub fn on_device(store: &Store) -> bool {
+    let first_byte = |object| store::get(store, object).map_or(0, |value| value[0]);
+    first_byte(Object::InterchangeProfile) & 0x02 != 0
+        && first_byte(Object::KernelConfiguration) & 0x20 != 0
+}
 
 /// Selects the method. The store is that of a session after its last record.
 pub fn select(store: &Store) -> Selection {
@@ -93,21 +107,53 @@ pub fn select(store: &Store) -> Selection {
 
 /// Selects the method, and tells each branch on the way.
 pub fn walk(store: &Store, told: &mut impl FnMut(Branch)) -> Selection {
-    let selection = |results, bits, method| Selection {
-        results,
+    if on_device(store) {
+        return by_device(store, told);
+    }
+    let none = |bits| Selection {
+        results: [NONE_PERFORMED, 0, UNKNOWN],
         bits,
-        method,
+        method: Method::NoCvm,
     };
     let profile = store::get(store, Object::InterchangeProfile).map_or(0, |value| value[0]);
     if profile & 0x10 == 0 {
         told(Branch::NotSupported);
-        return selection([NONE_PERFORMED, 0, UNKNOWN], [0; 5], Method::NoCvm);
+        return none([0; 5]);
     }
-    let Some(list) = store::get(store, Object::CvmList).filter(|list| !list.is_empty()) else {
-        told(Branch::NoList);
-        return selection([NONE_PERFORMED, 0, UNKNOWN], DATA_MISSING, Method::NoCvm);
-    };
+    match store::get(store, Object::CvmList).filter(|list| !list.is_empty()) {
+        Some(list) => by_rules(store, list, told),
+        None => {
+            told(Branch::NoList);
+            none(DATA_MISSING)
+        }
+    }
+}
 
+/// Selects the method of a phone: it has verified its holder, which counts where the amount is above the limit for that. No
+/// list is looked at.
+fn by_device(store: &Store, told: &mut impl FnMut(Branch)) -> Selection {
+    let above =
+        store::get(store, Object::AmountAuthorised) > store::get(store, Object::CvmRequiredLimit);
+    told(Branch::OnDevice(above));
+    let (performed, method) = if above {
+        (ON_DEVICE_PERFORMED, Method::ConfirmationCodeVerified)
+    } else {
+        (NONE_PERFORMED, Method::NoCvm)
+    };
+    Selection {
+        results: [performed, 0, SUCCESSFUL],
+        bits: [0; 5],
+        method,
+    }
+}
+
+/// Selects the method by the rules of a list.
+fn by_rules(store: &Store, list: &[u8], told: &mut impl FnMut(Branch)) -> Selection {
+    let selection = |results, third, method| Selection {
+        results,
+        bits: [0, 0, third, 0, 0],
+        method,
+    };
     let mut third = 0;
     let mut rules = list[8..].chunks_exact(2).peekable();
     while let Some(&[code, condition]) = rules.next() {
@@ -123,16 +169,8 @@ pub fn walk(store: &Store, told: &mut impl FnMut(Branch)) -> Selection {
         }
         if supported(store, name) && name != 0x00 {
             told(Branch::Performed(code));
-            let (result, method) = match name {
-                0x02 => {
-                    third |= ONLINE_PIN_ENTERED;
-                    (UNKNOWN, Method::OnlinePin)
-                }
-                0x1E => (UNKNOWN, Method::Signature),
-                0x1F => (SUCCESSFUL, Method::NoCvm),
-                _ => (UNKNOWN, Method::OfflinePin),
-            };
-            return selection([code, condition, result], [0, 0, third, 0, 0], method);
+            let (result, method, entered) = performed(name);
+            return selection([code, condition, result], third | entered, method);
         }
         if code & 0x40 != 0 && rules.peek().is_some() {
             told(Branch::Next(code));
@@ -144,14 +182,21 @@ pub fn walk(store: &Store, told: &mut impl FnMut(Branch)) -> Selection {
         } else {
             [NONE_PERFORMED, 0, FAILED]
         };
-        return selection(results, [0, 0, third | NOT_SUCCESSFUL, 0, 0], Method::NoCvm);
+        return selection(results, third | NOT_SUCCESSFUL, Method::NoCvm);
     }
     told(Branch::NoRuleApplies);
-    selection(
-        [NONE_PERFORMED, 0, FAILED],
-        [0, 0, third | NOT_SUCCESSFUL, 0, 0],
-        Method::NoCvm,
-    )
+    let results = [NONE_PERFORMED, 0, FAILED];
+    selection(results, third | NOT_SUCCESSFUL, Method::NoCvm)
+}
+
+/// The result, the method and the bit of 95 byte 3 of a code that is performed, by its low six bits.
+fn performed(name: u8) -> (u8, Method, u8) {
+    match name {
+        0x02 => (UNKNOWN, Method::OnlinePin, ONLINE_PIN_ENTERED),
+        0x1E => (UNKNOWN, Method::Signature, 0),
+        0x1F => (SUCCESSFUL, Method::NoCvm, 0),
+        _ => (UNKNOWN, Method::OfflinePin, 0),
+    }
 }
 
 /// Whether the low six bits of a code name a method of EMV's table, or fail.
@@ -212,13 +257,8 @@ fn condition_holds(store: &Store, list: &[u8], condition: u8, code: u8) -> bool 
 fn amount_in_card_currency(store: &Store) -> Option<u64> {
     let transaction = store::get(store, Object::TransactionCurrency)?;
     let card = store::get(store, Object::ApplicationCurrency)?;
-    let amount = store::get(store, Object::AmountAuthorised)?;
-    (transaction == card).then(|| {
-        amount
-            .iter()
-            .flat_map(|&byte| [byte >> 4, byte & 0x0F])
-            .fold(0, |sum, digit| sum * 10 + u64::from(digit))
-    })
+    let amount = analysis::amount(store, Object::AmountAuthorised)?;
+    (transaction == card).then_some(amount)
 }
 
 /// The number that bytes are in binary, the first one highest.

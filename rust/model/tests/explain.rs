@@ -2,11 +2,12 @@
 
 mod common;
 
-use common::{decided, hex, is_command, outcome, refused, Draw, Host, NOT_APPLICABLE, NO_CVM};
+use common::{change, decided, hex, is_command, outcome, refused, Draw, Host};
+use common::{NOT_APPLICABLE, NO_CVM};
 use model::analysis::{self, Choice};
 use model::dictionary::Object;
 use model::explain::{Bit, Explanation, Holder, Stage};
-use model::store::{self, Store};
+use model::store;
 use model::{explain, HEAD_SIZE, STORE_SIZE};
 
 /// Start objects, those that later requests ask for included.
@@ -65,20 +66,6 @@ fn on_cryptogram() -> Host {
     assert_eq!(host.get(Object::CvmResults), Some(&hex("3F0000")[..]));
     assert_eq!(host.session[1..6], [3, ONLINE, 0, 4, 0]);
     host
-}
-
-/// Changes a store: a change is a tag and a value, or a tag alone for an object to take away.
-fn change(store: &mut Store, changes: &[&str]) {
-    for change in changes {
-        let (tag, value) = change.split_once(' ').unwrap_or((change, ""));
-        let tag = u32::from_str_radix(tag, 16).expect("a tag");
-        let object = Object::of_tag(tag).expect("a known tag");
-        if value.is_empty() {
-            store[object.row().place] = 0;
-        } else {
-            store::put(store, object, &hex(value));
-        }
-    }
 }
 
 /// What is said of a session on GENERATE AC with this choice and these changes.

@@ -35,10 +35,10 @@ fn the_dictionary() {
     finds(
         &tags(),
         &[0x57, 0x5F24, 0x9F09, 0xDF8126],
-        &[Some(0), Some(9), Some(18), Some(39)],
+        &[Some(0), Some(9), Some(18), Some(41)],
         6,
     );
-    finds(&tags(), &[0, 0x5F26, 0xDF8125, 0xFFFF_FFFF], &[None; 4], 6);
+    finds(&tags(), &[0, 0x5F26, 0xDF8127, 0xFFFF_FFFF], &[None; 4], 6);
 }
 
 /// The answers are the same for every tag of one and two bytes, and for those of three around the known ones.

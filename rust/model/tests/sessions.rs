@@ -44,7 +44,7 @@ fn purchase_of_three_records() {
     assert_eq!(host.count(), 5);
     let word = host.answer_hex("77 14 9F27 01 40 9F36 02 0007 9F26 08 1122334455667788 9000");
     assert_eq!(word, decided(0));
-    assert_eq!(host.session[..HEAD_SIZE], [2, 4, 0, 0, 5, 0]);
+    assert_eq!(host.head(), [3, 4, 0, 0, 5, 0]);
     assert_eq!(host.get(Object::TransactionCounter), Some(&[0, 7][..]));
     assert_eq!(host.stop(), refused(21));
 }
@@ -127,7 +127,10 @@ fn start_bytes() {
     for tag in ["9A", "9C", "9F02", "9F09", "9F1A", "9F33", "9F35", "9F37"] {
         assert_eq!(start(&start_without(tag)), refused(24), "{tag}");
     }
-    for tag in ["DF8120", "DF8121", "DF8122", "DF8123", "DF8124", "DF8126"] {
+    for tag in ["DF811B", "DF8120", "DF8121", "DF8122"] {
+        assert_eq!(start(&start_without(tag)), refused(24), "{tag}");
+    }
+    for tag in ["DF8123", "DF8124", "DF8125", "DF8126"] {
         assert_eq!(start(&start_without(tag)), refused(24), "{tag}");
     }
     for bad in [
@@ -146,6 +149,10 @@ fn start_bytes() {
         "9F33 02 E0F8",
         "DF8126 06 00000000250A",
         "DF8126 05 0000000025",
+        "DF8125 06 00000020000A",
+        "DF8125 05 0000002000",
+        "DF811B 00",
+        "DF811B 02 2000",
     ] {
         assert_eq!(start(&start_with(&[bad])), refused(23), "{bad}");
         // A malformed object anywhere comes first.
@@ -217,7 +224,7 @@ fn options_list() {
         let (word, host) = start(bad);
         assert_eq!(word, ended(7), "{bad}");
         assert_eq!(host.count(), 0);
-        assert_eq!(host.session[..HEAD_SIZE], [2, 4, 3, 7, 0, 0]);
+        assert_eq!(host.head(), [3, 4, 3, 7, 0, 0]);
         assert_eq!(host.get(Object::VerificationResults), Some(&[0; 5][..]));
         assert!(host.get(Object::AmountAuthorised).is_some());
     }
@@ -385,7 +392,7 @@ fn record_answers() {
 fn after_the_last_record() {
     let mut host = Host::reading(&["DF8124 06 000000001233"], "08010100");
     assert_eq!(host.record(""), outcome(NOT_APPLICABLE, 4, 6));
-    assert_eq!(host.session[..HEAD_SIZE], [2, 4, 4, 6, 2, 0]);
+    assert_eq!(host.head(), [3, 4, 4, 6, 2, 0]);
     let mut host = Host::reading(&["DF8124 06 000000001234"], "08010100");
     assert_eq!(host.record(GOOD), 11);
     for missing in [
@@ -568,7 +575,7 @@ fn link_and_stop() {
             };
             let expected = if count == 3 { ended_later } else { ended };
             assert_eq!(word, expected(reason));
-            assert_eq!(host.session[..HEAD_SIZE], [2, 4, 3, reason as u8, count, 0]);
+            assert_eq!(host.head(), [3, 4, 3, reason as u8, count, 0]);
             assert_eq!(*host.store(), store);
             assert_eq!(host.start(&start_with(&[])), refused(21));
         }
@@ -604,7 +611,7 @@ fn ranges() {
 
     // The head.
     for session in [&fresh, &started, &reading, &generating, &ended] {
-        for version in [0, 1, 3, 255] {
+        for version in [0, 1, 2, 4, 255] {
             assert!(!in_range(&with(session, &[(0, version)])));
             assert_eq!(model::count(&with(session, &[(0, version)])), NO_COUNT);
         }
@@ -626,7 +633,7 @@ fn ranges() {
         assert_eq!(in_range(&with(&generating, &[(2, p1)])), good);
     }
     for method in 0..=255 {
-        let good = [0, 1, 2, 4].contains(&method);
+        let good = [0, 1, 2, 3, 4].contains(&method);
         assert_eq!(in_range(&with(&generating, &[(5, method)])), good);
         for session in [&fresh, &started, &reading, &ended] {
             assert_eq!(in_range(&with(session, &[(5, method)])), method == 0);

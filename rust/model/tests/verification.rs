@@ -3,10 +3,11 @@
 mod common;
 
 use common::{
-    hex, outcome, start_with, Host, NOT_APPLICABLE, NO_CVM, OFFLINE_PIN, ONLINE_PIN, SIGNATURE,
+    change, hex, outcome, start_with, Host, NOT_APPLICABLE, NO_CVM, OFFLINE_PIN, ONLINE_PIN,
+    SIGNATURE,
 };
 use model::dictionary::Object;
-use model::store::{self, Store};
+use model::store::Store;
 use model::verification::{select, Selection};
 use model::{HEAD_SIZE, STORE_SIZE};
 
@@ -25,22 +26,11 @@ const PLAIN: [&str; 8] = [
 /// Eight zero bytes: X and Y of a list without amounts.
 const Z: &str = "0000000000000000";
 
-/// The plain store with some objects put in place of others, or added, and some without: a change is a tag and a value, or
-/// a tag alone.
+/// The plain store with some objects put in place of others, added or taken away.
 fn changed(changes: &[&str]) -> Store {
     let mut store = [0; STORE_SIZE];
-    for change in PLAIN.iter().chain(changes) {
-        let (tag, value) = change.split_once(' ').unwrap_or((change, ""));
-        let tag = u32::from_str_radix(tag, 16).expect("a tag");
-        let object = Object::of_tag(tag).expect("a known tag");
-        if value.is_empty() {
-            store[object.row().place] = 0;
-        } else {
-            let value = hex(value);
-            assert!(object.row().fits(&value), "{change}");
-            store::put(&mut store, object, &value);
-        }
-    }
+    change(&mut store, &PLAIN);
+    change(&mut store, changes);
     store
 }
 
@@ -326,7 +316,7 @@ fn after_the_restrictions_and_before_the_choice() {
     let host = generating(&["DF8123 06 000000001000"], &content);
     assert_eq!(host.buffer[..14], hex("80AE8000 08 420000 8040048000 00"));
     assert_eq!(host.get(Object::CvmResults), Some(&hex("420000")[..]));
-    assert_eq!(host.session[..HEAD_SIZE], [2, 3, 0x80, 0, 3, 2]);
+    assert_eq!(host.head(), [3, 3, 0x80, 0, 3, 2]);
     // The choice sees the bits of the method: each alone in a denial code, and in an online code.
     for (rules, bits) in [
         ("", "2000000000"),
@@ -375,7 +365,7 @@ fn broken_list_keeps_the_method() {
         assert_eq!(word, outcome(method, 3, 7), "{rules}");
         assert_eq!(host.get(Object::CvmResults), Some(&hex(results)[..]));
         assert_eq!(host.get(Object::VerificationResults), Some(&hex(bits)[..]));
-        assert_eq!(host.session[..HEAD_SIZE], [2, 4, 3, 7, 2, 0]);
+        assert_eq!(host.head(), [3, 4, 3, 7, 2, 0]);
     }
 }
 
@@ -400,14 +390,11 @@ fn method_in_every_end() {
         ("0100", OFFLINE_PIN),
     ] {
         let session = || generating(&[], &record(rules, "9505"));
-        assert_eq!(
-            session().session[..HEAD_SIZE],
-            [2, 3, 0x80, 0, 3, number as u8]
-        );
+        assert_eq!(session().head(), [3, 3, 0x80, 0, 3, number as u8]);
         // Decisions and reasons on GENERATE AC.
         let mut host = session();
         assert_eq!(host.answer(&good), outcome(number, 1, 0));
-        assert_eq!(host.session[..HEAD_SIZE], [2, 4, 1, 0, 3, 0]);
+        assert_eq!(host.head(), [3, 4, 1, 0, 3, 0]);
         for (answer, kind, reason) in [
             ("80 0B 00 0001 1122334455667788 9000", 2, 0),
             ("6985", 3, 1),

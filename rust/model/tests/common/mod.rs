@@ -20,7 +20,7 @@ pub fn hex(text: &str) -> Vec<u8> {
 }
 
 /// The objects of an ordinary start, each as one text.
-pub const START: [&str; 14] = [
+pub const START: [&str; 16] = [
     "9A 03 250615",
     "9C 01 00",
     "9F02 06 000000001234",
@@ -29,11 +29,13 @@ pub const START: [&str; 14] = [
     "9F33 03 E0F8C8",
     "9F35 01 22",
     "9F37 04 11223344",
+    "DF811B 01 00",
     "DF8120 05 0000000000",
     "DF8121 05 0000000000",
     "DF8122 05 0000000000",
     "DF8123 06 000000010000",
     "DF8124 06 000000100000",
+    "DF8125 06 000000200000",
     "DF8126 06 000000002500",
 ];
 
@@ -61,6 +63,22 @@ pub fn start_without(tag: &str) -> Vec<u8> {
     hex(&objects.concat())
 }
 
+/// Changes a store: a change is a tag and a value that fits, or a tag alone for an object to take away.
+pub fn change(store: &mut Store, changes: &[&str]) {
+    for change in changes {
+        let (tag, value) = change.split_once(' ').unwrap_or((change, ""));
+        let tag = u32::from_str_radix(tag, 16).expect("a tag");
+        let object = Object::of_tag(tag).expect("a known tag");
+        if value.is_empty() {
+            store[object.row().place] = 0;
+        } else {
+            let value = hex(value);
+            assert!(object.row().fits(&value), "{change}");
+            store::put(store, object, &value);
+        }
+    }
+}
+
 /// Whether a word is a command's length.
 pub fn is_command(word: u32) -> bool {
     word < 0x0001_0000
@@ -79,6 +97,7 @@ pub fn refused(number: u32) -> u32 {
 pub const NO_CVM: u32 = 0;
 pub const SIGNATURE: u32 = 1;
 pub const ONLINE_PIN: u32 = 2;
+pub const CONFIRMATION_CODE: u32 = 3;
 pub const OFFLINE_PIN: u32 = 4;
 pub const NOT_APPLICABLE: u32 = 15;
 
@@ -199,6 +218,20 @@ impl Host {
     /// The command of the length given.
     pub fn command(&self, word: u32) -> &[u8] {
         &self.buffer[..word as usize]
+    }
+
+    /// The head of the record without the limit in force: version, phase, two bytes of detail, count, method.
+    pub fn head(&self) -> [u8; 6] {
+        if !matches!(self.session[1], 2 | 3) {
+            assert_eq!(self.session[6..HEAD_SIZE], [0; 8]);
+        }
+        self.session[..6].try_into().expect("a whole record")
+    }
+
+    /// The limit in force that the record holds.
+    pub fn limit(&self) -> u64 {
+        let limit = self.session[6..HEAD_SIZE].try_into();
+        u64::from_be_bytes(limit.expect("eight bytes"))
     }
 
     pub fn store(&self) -> &Store {
