@@ -1,6 +1,6 @@
 //! Safe wrapper over the static library of the payment kernel session.
 //!
-//! A [`Session`] owns the 1,214 bytes of one session record. The host opens it, starts it with the
+//! A [`Session`] owns the 1,231 bytes of one session record. The host opens it, starts it with the
 //! terminal's objects, sends each command it is handed to the card, and brings each answer back,
 //! until an outcome comes:
 //!
@@ -49,7 +49,7 @@ pub mod personalise;
 use core::fmt;
 
 /// Bytes of a session record.
-pub const SESSION_SIZE: usize = 1214;
+pub const SESSION_SIZE: usize = 1231;
 
 /// The longest command, and so the least length of a command buffer.
 pub const COMMAND_SIZE: usize = 261;
@@ -104,6 +104,8 @@ pub enum Method {
     Signature,
     /// The PIN goes online.
     OnlinePin,
+    /// The cardholder's own device has verified the holder; there is nothing to carry out.
+    ConfirmationCodeVerified,
     /// A PIN that the card checks, which 9F33 says is supported. Nobody has checked it.
     OfflinePin,
     /// The session ended before a method was chosen.
@@ -117,6 +119,7 @@ impl Method {
             0 => Method::NoCvm,
             1 => Method::Signature,
             2 => Method::OnlinePin,
+            3 => Method::ConfirmationCodeVerified,
             4 => Method::OfflinePin,
             15 => Method::NotApplicable,
             _ => return None,
@@ -131,6 +134,7 @@ impl fmt::Display for Method {
             Method::NoCvm => "no CVM",
             Method::Signature => "signature",
             Method::OnlinePin => "online PIN",
+            Method::ConfirmationCodeVerified => "confirmation code verified",
             Method::OfflinePin => "offline PIN",
             Method::NotApplicable => "not applicable",
         })
@@ -252,7 +256,7 @@ pub fn refusal_text(number: u8) -> &'static str {
     }
 }
 
-/// One session: its record of 1,214 bytes.
+/// One session: its record of 1,231 bytes.
 #[derive(Clone, PartialEq, Eq)]
 pub struct Session {
     bytes: [u8; SESSION_SIZE],

@@ -6,7 +6,7 @@ use tripodmoon::{
 };
 
 /// The objects that a start must bring.
-const TERMINAL: [u8; 104] = [
+const TERMINAL: [u8; 119] = [
     0x9A, 0x03, 0x25, 0x06, 0x15, 0x9C, 0x01, 0x00, //
     0x9F, 0x02, 0x06, 0x00, 0x00, 0x00, 0x00, 0x12, 0x34, //
     0x9F, 0x09, 0x02, 0x00, 0x02, 0x9F, 0x1A, 0x02, 0x00, 0x56, //
@@ -16,6 +16,7 @@ const TERMINAL: [u8; 104] = [
     0xDF, 0x81, 0x23, 0x06, 0, 0, 0, 0, 0x99, 0x99, //
     0xDF, 0x81, 0x24, 0x06, 0, 0, 0, 0x99, 0x99, 0x99, //
     0x9F, 0x33, 0x03, 0xE0, 0xF8, 0xC8, 0xDF, 0x81, 0x26, 0x06, 0, 0, 0, 0, 0x25, 0, //
+    0xDF, 0x81, 0x25, 0x06, 0, 0, 0x01, 0, 0, 0, 0xDF, 0x81, 0x1B, 0x01, 0x20, //
     0x50, 0x01, 0x41,
 ];
 
@@ -210,6 +211,40 @@ fn methods() {
 }
 
 #[test]
+fn phones() {
+    let mut buffer = [0; COMMAND_SIZE];
+    // The amount is above the limit for verification, and then it is not.
+    for (amount, results, method) in [
+        (0x26, [0x01, 0x00, 0x02], Method::ConfirmationCodeVerified),
+        (0x25, [0x3F, 0x00, 0x02], Method::NoCvm),
+    ] {
+        let mut session = Session::new();
+        let mut terminal = TERMINAL;
+        terminal[15..17].copy_from_slice(&[amount, 0x00]);
+        session.start(&terminal, &mut buffer);
+        let options = [0x80, 0x06, 0x02, 0x80, 0x08, 0x01, 0x01, 0x00, 0x90, 0x00];
+        session.answer(&options, &mut buffer);
+        // 1,000,000 in binary.
+        assert_eq!(session.as_bytes()[6..14], [0, 0, 0, 0, 0, 0x0F, 0x42, 0x40]);
+        let record = [
+            0x70, 0x0E, 0x5F, 0x24, 0x03, 0x30, 0x12, 0x31, 0x5A, 0x02, 0x12, 0x34, 0x8C, 0x02,
+            0x95, 0x05, 0x90, 0x00,
+        ];
+        session.answer(&record, &mut buffer);
+        holds(&session, 0x9F34, &results);
+        let stopped = Reply::Outcome {
+            outcome: Outcome::Ended,
+            reason: 10,
+            method,
+        };
+        assert_eq!(session.stop(&mut buffer), stopped);
+        assert_eq!(session.as_bytes()[6..14], [0; 8]);
+    }
+    let method = Method::ConfirmationCodeVerified;
+    assert_eq!(method.to_string(), "confirmation code verified");
+}
+
+#[test]
 fn found_in_card_bytes() {
     let answer = [
         0x6F, 0x0B, 0x84, 0x02, 0x41, 0x42, 0xA5, 0x05, 0x50, 0x00, 0x50, 0x01, 0x43,
@@ -234,7 +269,7 @@ fn version_of_the_layout() {
         major: 0,
         minor: 1,
         patch: 0,
-        layout: 2,
+        layout: 3,
     };
     assert_eq!(version, expected);
 }
