@@ -20,8 +20,8 @@ typedef char emv_size_t_has_64_bits[sizeof(size_t) == 8 ? 1 : -1];
 extern "C" {
 #endif
 
-/* Sizes in bytes. EMV_SESSION_SIZE is what emv_session_size gives for version 2 of the layout. */
-#define EMV_SESSION_SIZE 1214u
+/* Sizes in bytes. EMV_SESSION_SIZE is what emv_session_size gives for version 3 of the layout. */
+#define EMV_SESSION_SIZE 1231u
 #define EMV_LEAST_BUFFER 261u
 #define EMV_MOST_TERMINAL 1024u
 
@@ -88,7 +88,7 @@ extern "C" {
 #define EMV_VERSION_LAYOUT(word) ((word) & 0xFFu)
 
 /* The version that this header is of, as emv_version gives it. */
-#define EMV_VERSION 0x00010002u
+#define EMV_VERSION 0x00010003u
 
 /* Outcomes. */
 #define EMV_APPROVED 0u
@@ -97,11 +97,13 @@ extern "C" {
 #define EMV_ENDED 3u
 #define EMV_SELECT_NEXT 4u
 
-/* Methods of cardholder verification. A decision always has one of the first four; an end before the choice of the method
- * has none. Nobody has verified an offline PIN: its result is unknown. */
+/* Methods of cardholder verification. A decision always has one of the first five; an end before the choice of the method
+ * has none. A confirmation code was verified by the cardholder's phone. Nobody has verified an offline PIN: its result is
+ * unknown. */
 #define EMV_METHOD_NO_CVM 0u
 #define EMV_METHOD_SIGNATURE 1u
 #define EMV_METHOD_ONLINE_PIN 2u
+#define EMV_METHOD_CONFIRMATION_CODE 3u
 #define EMV_METHOD_OFFLINE_PIN 4u
 #define EMV_METHOD_NOT_APPLICABLE 15u
 

@@ -99,7 +99,7 @@ static void reopen(void)
 }
 
 /* All that a start must bring: type 22, an amount of 12.34, floor limit 100.00, transaction limit 200.00, action codes of zeros,
- * capabilities E0 F8 C8 with every method. */
+ * capabilities E0 F8 C8 with every method; phones are taken, with a limit of 500.00. */
 #define TYPE_AT 30
 static uint8_t terminal[] = {
     0x9A, 0x03, 0x25, 0x11, 0x15, 0x9C, 0x01, 0x00, 0x9F, 0x02, 0x06, 0x00, 0x00, 0x00, 0x00, 0x12, 0x34, 0x9F,
@@ -107,7 +107,8 @@ static uint8_t terminal[] = {
     0x03, 0x04, 0xDF, 0x81, 0x20, 0x05, 0x00, 0x00, 0x00, 0x00, 0x00, 0xDF, 0x81, 0x21, 0x05, 0x00, 0x00, 0x00,
     0x00, 0x00, 0xDF, 0x81, 0x22, 0x05, 0x00, 0x00, 0x00, 0x00, 0x00, 0xDF, 0x81, 0x23, 0x06, 0x00, 0x00, 0x00,
     0x01, 0x00, 0x00, 0xDF, 0x81, 0x24, 0x06, 0x00, 0x00, 0x00, 0x02, 0x00, 0x00, 0x9F, 0x33, 0x03, 0xE0, 0xF8,
-    0xC8, 0xDF, 0x81, 0x26, 0x06, 0x00, 0x00, 0x00, 0x00, 0x25, 0x00,
+    0xC8, 0xDF, 0x81, 0x26, 0x06, 0x00, 0x00, 0x00, 0x00, 0x25, 0x00, 0xDF, 0x81, 0x25, 0x06, 0x00, 0x00, 0x00,
+    0x05, 0x00, 0x00, 0xDF, 0x81, 0x1B, 0x01, 0x20,
 };
 
 #define OPTIONS "\x80\x06\x00\x80\x08\x01\x01\x00\x90\x00"
@@ -193,14 +194,50 @@ static void methods(void)
     verify(0x04, BYTES("\x80\xAE\x80\x00\x08\x04\x00\x00\x80\x00\x00\x00\x00\x00"));
     CHECK(answer(BYTES("\x6A\x83")) == OUTCOME_OF(EMV_METHOD_OFFLINE_PIN, EMV_ENDED, EMV_REASON_STATUS));
     verify(0x00, BYTES("\x80\xAE\x80\x00\x08\x00\x00\x01\x80\x00\x80\x00\x00\x00"));
-    session[5] = 3; /* a number that no method has */
+    session[5] = 5; /* a number that no method has */
     CHECK(count() == EMV_NO_COUNT);
 }
 
-/* The head of a record of each phase, by its offsets; the method is 0 in all of them. */
-static int head(uint8_t phase, uint8_t datum, uint8_t reason, uint8_t n)
+/* The limit in force that the record holds, eight bytes, high byte first. */
+static uint64_t limit(void)
 {
-    return session[0] == 2 && session[1] == phase && session[2] == datum && session[3] == reason && session[4] == n && session[5] == 0;
+    uint64_t n = 0;
+    size_t i;
+    for (i = 6; i < 14; i++)
+        n = n * 256 + session[i];
+    return n;
+}
+
+/* A phone that checks its holder itself, and a card: each has its own limit. */
+#define PHONE "\x80\x06\x12\x80\x08\x01\x01\x00\x90\x00"
+static void phones(void)
+{
+    uint32_t word;
+    terminal[14] = 0x03; /* 312.34, above 200.00 and below 500.00 */
+    reopen();
+    terminal[TYPE_AT] = 0x22;
+    (void)start(terminal, sizeof terminal);
+    CHECK(limit() == 0);
+    CHECK(commands(answer(BYTES(PHONE)), BYTES("\x00\xB2\x01\x0C\x00")));
+    CHECK(limit() == 50000);
+    CHECK(commands(answer(BYTES(RECORD_ONLINE)), BYTES("\x80\xAE\x80\x00\x05\x80\x00\x00\x80\x00\x00")));
+    CHECK(limit() == 50000 && session[5] == EMV_METHOD_CONFIRMATION_CODE);
+    word = answer(BYTES(CRYPTOGRAM("\x80")));
+    CHECK(word == OUTCOME_OF(EMV_METHOD_CONFIRMATION_CODE, EMV_ONLINE_REQUEST, EMV_REASON_NONE));
+    CHECK(limit() == 0 && session[5] == 0);
+
+    begin(0x22);
+    CHECK(limit() == 20000);
+    word = answer(BYTES(RECORD_ONLINE));
+    CHECK(word == OUTCOME_OF(EMV_METHOD_NOT_APPLICABLE, EMV_SELECT_NEXT, EMV_REASON_ABOVE_LIMIT));
+    terminal[14] = 0x00;
+}
+
+/* The head of a record of each phase, by its offsets; the method is 0 in all of them. */
+static int head(uint8_t phase, uint8_t datum, uint8_t reason, uint8_t n, uint64_t held)
+{
+    return session[0] == 3 && session[1] == phase && session[2] == datum && session[3] == reason && session[4] == n && session[5] == 0 &&
+           limit() == held;
 }
 
 static void layout(void)
@@ -208,18 +245,18 @@ static void layout(void)
     size_t i;
     CHECK(emv_session_size() == EMV_SESSION_SIZE);
     reopen();
-    CHECK(head(0, 0, 0, 0));
-    for (i = 6; i < EMV_SESSION_SIZE; i++)
+    CHECK(head(0, 0, 0, 0, 0));
+    for (i = 14; i < EMV_SESSION_SIZE; i++)
         CHECK(session[i] == 0);
     terminal[TYPE_AT] = 0x22;
     (void)start(terminal, sizeof terminal);
-    CHECK(head(1, 0, 0, 1));
+    CHECK(head(1, 0, 0, 1, 0));
     (void)answer(BYTES(OPTIONS));
-    CHECK(head(2, 1, 0, 2));
+    CHECK(head(2, 1, 0, 2, 20000));
     (void)answer(BYTES(RECORD_OFFLINE));
-    CHECK(head(3, 0x40, 0, 3));
+    CHECK(head(3, 0x40, 0, 3, 20000));
     (void)answer(BYTES(CRYPTOGRAM("\xC0")));
-    CHECK(head(4, EMV_ENDED, EMV_REASON_CRYPTOGRAM, 3));
+    CHECK(head(4, EMV_ENDED, EMV_REASON_CRYPTOGRAM, 3, 0));
 }
 
 static void refusals(void)
@@ -269,12 +306,14 @@ static void lent_bytes(void)
     CHECK(all_stays());
     CHECK(emv_count(session, EMV_SESSION_SIZE - 1) == EMV_NO_COUNT);
     no_record(0, 0); /* no version */
-    no_record(0, 1); /* another version */
-    no_record(0, 3);
+    no_record(0, 2); /* another version */
+    no_record(0, 4);
     no_record(1, 5); /* no phase */
     no_record(2, 1); /* a fresh record with a number */
     no_record(3, 1); /* a fresh record with a reason */
     no_record(5, 1); /* a fresh record with a method */
+    no_record(6, 1); /* a fresh record with a limit */
+    no_record(13, 1);
 
     reopen(); /* a record that breaks its ranges */
     session[4] = 1;
@@ -282,6 +321,17 @@ static void lent_bytes(void)
     all_refuse(sizeof session, sizeof command, REFUSED(EMV_REFUSED_RANGES));
     reopen();
     session[EMV_SESSION_SIZE - 1] = 1;
+    all_refuse(sizeof session, sizeof command, REFUSED(EMV_REFUSED_RANGES));
+
+    begin(0x22); /* another limit than that of its store, while a record and while the cryptogram is awaited */
+    session[13] ^= 1;
+    CHECK(count() == 2);
+    all_refuse(sizeof session, sizeof command, REFUSED(EMV_REFUSED_RANGES));
+    session[13] ^= 1;
+    CHECK(commands(answer(BYTES(RECORD_ONLINE)), BYTES("\x80\xAE\x80\x00\x05\x80\x00\x00\x00\x00\x00")));
+    session[12] = 0xC3; /* the phone's */
+    session[13] = 0x50;
+    CHECK(count() == 3);
     all_refuse(sizeof session, sizeof command, REFUSED(EMV_REFUSED_RANGES));
 
     reopen(); /* exactly enough of both */
@@ -340,7 +390,7 @@ static void objects(void)
     session[4] = 131; /* a count that no session reaches */
     CHECK(object_in(0x9F26, sizeof value) == REFUSED(EMV_REFUSED_RANGES) && object_in(0x9F12, 0) == REFUSED(EMV_REFUSED_RANGES));
     session[4] = 3;
-    session[0] = 1; /* another version */
+    session[0] = 2; /* another version */
     CHECK(object_in(0x9F26, sizeof value) == REFUSED(EMV_REFUSED_RANGES));
 }
 
@@ -568,6 +618,7 @@ int main(void)
     purchases();
     reasons();
     methods();
+    phones();
     refusals();
     lent_bytes();
     objects();
