@@ -19,7 +19,7 @@ use Rattle.locator.specs.Command.{readRecord}
 use Rattle.reading.specs.declared.Awaited.{Awaited}
 use Rattle.reading.specs.Answer as reading
 use Rattle.analysis.specs.declared.choice.Choice.{Choice}
-use Rattle.analysis.specs.Action.{findingsOf}
+use Rattle.analysis.specs.Action.{limitOf, findingsOf}
 use Rattle.analysis.specs.Verification.{methodNumber}
 use Rattle.record.specs.declared.Asked.{Asked}
 use Rattle.record.specs.declared.End.{End}
@@ -184,26 +184,26 @@ module _ (s : Session) (card buf : List ℕ) (i : inRanges s ≡ true) where
 
   options-leaves : {st : Step} (b : List ℕ) → OptionsWay (ways.withStore s b) buf st → Leaves s c st
   options-leaves b (OptionsWay.failed n r) = failed s c buf _ n b r
-  options-leaves b (OptionsWay.first r m a e) = early s c buf (recordPhase 1) b (readRecord r) (λ a z. apart (ap onCryptogram z)) (λ z. no-refusal z)
+  options-leaves b (OptionsWay.first r m a e) = early s c buf (recordPhase (limitOf b) 1) b (readRecord r) (λ a z. apart (ap onCryptogram z)) (λ z. no-refusal z)
 
   -- the cryptogram is asked for: the choice is the one of the store that the analysis leaves
-  asked-leaves : (b x : List ℕ) → length b ≡ storeSize → Leaves s c (commands (s .count) (withFindings b (findingsOf b)) (Phase.Cryptogram (askedIn b)) x buf)
-  asked-leaves b x l k =
+  asked-leaves : (m : ℕ) (b x : List ℕ) → length b ≡ storeSize → Leaves s c (commands (s .count) (withFindings b (findingsOf b)) (Phase.Cryptogram (askedIn m b)) x buf)
+  asked-leaves m b x l k =
       inr (record {
         taken-on = refl;
-        held = λ a q. (let z : askedIn b ≡ a = cc in subst (λ (y : Asked). y .choice ≡ choiceIn (withFindings b (findingsOf b))) z (asked-choice b l));
-        answers = λ n. phase-answers _ (Phase.Cryptogram (askedIn b)) k refl
-            (waiting-answers (withFindings b (findingsOf b)) (running-complete _ (on-cryptogram _ k (askedIn b) refl .runs)) (askedIn b) (asked-choice b l));
+        held = λ a q. (let z : askedIn m b ≡ a = cc in subst (λ (y : Asked). y .choice ≡ choiceIn (withFindings b (findingsOf b))) z (asked-choice b l m));
+        answers = λ n. phase-answers _ (Phase.Cryptogram (askedIn m b)) k refl
+            (waiting-answers (withFindings b (findingsOf b)) (running-complete _ (on-cryptogram _ k (askedIn m b) refl .runs)) (askedIn m b) (asked-choice b l m));
       })
 
-  records-leaves : {st : Step} (b : List ℕ) → length b ≡ storeSize → RecordsWay (ways.withStore s b) buf st → Leaves s c st
-  records-leaves b l (RecordsWay.failed n r x) = failed s c buf _ n b r
-  records-leaves b l RecordsWay.unlisted = failed s c buf _ reasonDataList _ (record { least = omega arith; most = omega arith })
-  records-leaves b l (RecordsWay.asked x f g) = asked-leaves b x l
+  records-leaves : {st : Step} (m : ℕ) (b : List ℕ) → length b ≡ storeSize → RecordsWay m (ways.withStore s b) buf st → Leaves s c st
+  records-leaves m b l (RecordsWay.failed n r x) = failed s c buf _ n b r
+  records-leaves m b l RecordsWay.unlisted = failed s c buf _ reasonDataList _ (record { least = omega arith; most = omega arith })
+  records-leaves m b l (RecordsWay.asked x f g) = asked-leaves m b x l
 
   record-leaves : {st : Step} (p : Place) (b : List ℕ) → length b ≡ storeSize → RecordWay p (ways.withStore s b) buf st → Leaves s c st
-  record-leaves p b l (RecordWay.next r e) = early s c buf (recordPhase (p .number + 1)) b (readRecord r) (λ a z. apart (ap onCryptogram z)) (λ z. no-refusal z)
-  record-leaves p b l (RecordWay.last e w) = records-leaves b l w
+  record-leaves p b l (RecordWay.next r e) = early s c buf (recordPhase (p .limit) (p .number + 1)) b (readRecord r) (λ a z. apart (ap onCryptogram z)) (λ z. no-refusal z)
+  record-leaves p b l (RecordWay.last e w) = records-leaves (p .limit) b l w
 
   answer-leaves : Held s → Leaves s c (answerStep s card buf)
   answer-leaves h = go (answer-way s card buf) refl

@@ -172,6 +172,6 @@ module _ (b : List ℕ) (l : length b ≡ storeSize) where
       }
 
   -- the choice that is asked for is the one of the store that the analysis leaves
-  pub asked-choice : askedIn b .choice ≡ choiceIn analysed
+  pub asked-choice : (l : ℕ) → askedIn l b .choice ≡ choiceIn analysed
   unfolding askedIn
-  asked-choice = sym (same-chosen b analysed terminal card (front 5 (bytesIn analysed 0x95)) ∙ ap (chosen b) bits)
+  asked-choice l = sym (same-chosen b analysed terminal card (front 5 (bytesIn analysed 0x95)) ∙ ap (chosen b) bits)
