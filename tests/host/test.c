@@ -496,6 +496,7 @@ static void end_with(uint8_t outcome, uint8_t information)
     wait_with(0x80, 0x22, BYTES("\x80\x00\x00\x00\x00"));
     session[1] = 4;
     session[2] = outcome;
+    memset(session + 6, 0, 8); /* no limit is held */
     put(0x9F36, BYTES("\x00\x01"));
     put(0x9F26, BYTES("\x01\x02\x03\x04\x05\x06\x07\x08"));
     put(0x9F27, &information, 1);

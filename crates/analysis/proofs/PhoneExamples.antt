@@ -37,16 +37,18 @@ highest = replicate 6 0x99
 abbrev onlyRule : ℕ → List ℕ
 onlyRule code = 0 ∷ 0 ∷ 0 ∷ 0 ∷ 0 ∷ 0 ∷ 0 ∷ 0 ∷ code ∷ 0 ∷ []
 
--- a phone with a list: at the limit DF8126, and above it; without b5 of 82 and without a list: above it, and below
+-- a phone with a list: at the limit DF8126, and above it; without a list: above it without b5 of 82, and below it with or without b5
 phones :
     found ((0x82, 0x12 ∷ 0x80 ∷ []) ∷ (0xDF8126, amount 0x12 0x34) ∷ (0x8E, onlyRule 0x42) ∷ ready)
     ∷ found ((0x82, 0x12 ∷ 0x80 ∷ []) ∷ (0xDF8126, amount 0x12 0x33) ∷ (0x8E, onlyRule 0x42) ∷ ready)
     ∷ found ((0x82, 0x02 ∷ 0x80 ∷ []) ∷ (0xDF8126, amount 0 0) ∷ ready)
     ∷ found ((0x82, 0x12 ∷ 0x80 ∷ []) ∷ (0xDF8126, highest) ∷ ready)
+    ∷ found ((0x82, 0x02 ∷ 0x80 ∷ []) ∷ (0xDF8126, highest) ∷ ready)
     ∷ []
     ≡ (0x3F ∷ 0x00 ∷ 0x02 ∷ 0x80 ∷ 0x00 ∷ 0x00 ∷ 0x00 ∷ 0x00 ∷ 0 ∷ [])
     ∷ (0x01 ∷ 0x00 ∷ 0x02 ∷ 0x80 ∷ 0x00 ∷ 0x00 ∷ 0x00 ∷ 0x00 ∷ 3 ∷ [])
     ∷ (0x01 ∷ 0x00 ∷ 0x02 ∷ 0x80 ∷ 0x00 ∷ 0x00 ∷ 0x00 ∷ 0x00 ∷ 3 ∷ [])
+    ∷ (0x3F ∷ 0x00 ∷ 0x02 ∷ 0x80 ∷ 0x00 ∷ 0x00 ∷ 0x00 ∷ 0x00 ∷ 0 ∷ [])
     ∷ (0x3F ∷ 0x00 ∷ 0x02 ∷ 0x80 ∷ 0x00 ∷ 0x00 ∷ 0x00 ∷ 0x00 ∷ 0 ∷ [])
     ∷ []
 unfolding shown storing findingsOf fullResult verifiedIn phoneIn onDevice byPhone resultOf restrictionsOf usageIn withBits otherVersion notYetEffective usageBroken atAtm countryOf

@@ -147,9 +147,9 @@ unfolding inRanges allFit objectFits lengthIn lengthByte fitting digitsFit numer
     recordRanges limitOf phoneIn onDevice amountOf decimalFrom front running brought isBrought cryptogramAbsent listed accepts wholeEntries entries keeps sumOf every both either if
 record-counts = refl
 
--- byte 2 b8 of 82 alone clear; a first record of 0 in the locator; a result bit
+-- byte 2 b8 of 82 clear, no phone; a first record of 0 in the locator; a result bit
 record-with : map (λ x. inRanges (sessionOf (Phase.Record (record { number = 1; limit = 100 })) 2 (storing (x ∷ opened))))
-    ((0x82, 0x00 ∷ 0x80 ∷ []) ∷ (0x82, 0xFF ∷ 0x7F ∷ []) ∷ (0x94, 0x08 ∷ 0 ∷ 2 ∷ 0 ∷ []) ∷ (0x95, 0x80 ∷ 0 ∷ 0 ∷ 0 ∷ 0 ∷ []) ∷ [])
+    ((0x82, 0x00 ∷ 0x80 ∷ []) ∷ (0x82, 0xFD ∷ 0x7F ∷ []) ∷ (0x94, 0x08 ∷ 0 ∷ 2 ∷ 0 ∷ []) ∷ (0x95, 0x80 ∷ 0 ∷ 0 ∷ 0 ∷ 0 ∷ []) ∷ [])
     ≡ true ∷ false ∷ false ∷ false ∷ []
 unfolding inRanges allFit objectFits lengthIn lengthByte fitting digitsFit numeric nibbles putAt placeOf valueIn valueAt placeAt held offsetIn find past rows
     recordRanges limitOf phoneIn onDevice amountOf decimalFrom front running brought isBrought cryptogramAbsent listed accepts wholeEntries entries keeps sumOf every both either if
