@@ -214,6 +214,23 @@ pub fn next(s: &[u8]) -> Following
     ensures next { λ r. ⌜ r ≡ nextOf (now (s .entry)) ⌝ }
     ensures padding { λ _. ⌜ PassesOver (now (s .entry)) ⌝ }
 {
+    if s.len() == 0 {
+        return Following::End;
+    }
+    if s[0] == 0 {
+        return behind_padding(s);
+    }
+    let front = head(s);
+    match front {
+        Front::Object(h) => Following::Inner(h),
+        Front::Broken => Following::Malformed,
+    }
+}
+
+// The same, byte after byte, where padding may stand in front.
+fn behind_padding(s: &[u8]) -> Following
+    ensures { λ r. ⌜ r ≡ nextOf (now (s .entry)) ⌝ }
+{
     let mut at = 0;
     while at < s.len() {
         if s[at] != 0 {

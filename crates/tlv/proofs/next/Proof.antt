@@ -1,47 +1,30 @@
--- `tlv::next` meets its contract. The invariant: what is next in all bytes is what is next from `at` on, so many places further on. At a byte
--- that is no padding it is the object there; behind the last byte it is nothing. That padding changes no tree holds of all bytes.
+-- `tlv::next` meets its contract: nothing is left, a byte of padding stands in front, or the object at the front is next. That padding changes no
+-- tree holds of all bytes.
 -- Assumes nothing.
+use mathlib.Core.Path.{sym}
 use borrow.Author.Needs.{needs}
-use mathlib.Core.Path.{_≡_, sym, ap, _∙_}
-use Prim.Native.Nat.{_-_}
 use native.Mathlib.Omega.{arith}
-use lib.ListN.{length, drop}
-use Rattle.tlv.specs.Tree.{movedNext, nextOf}
-use Rattle.tlv.proofs.NextObject.{moved-zero, passed-all, pass-zero, stop-at}
+use Rattle.tlv.specs.declared.Front.the-variants.{Object, Broken}
+use Rattle.tlv.proofs.NextObject.{next-empty, next-front}
 use Rattle.tlv.proofs.Encoding.{passes-over}
 use Rattle.tlv.proofs.next.Statement.{statement}
 use Rattle.tlv.proofs.next.Tie as tie
 
-abbrev Inv-loop : tie.InvT-loop
-Inv-loop s at₀ at = nextOf s ≡ movedNext at (nextOf (drop at s))
+returns : tie.Need-returns
+returns c = (sym (next-empty _ (c .if1 .taken)), passes-over _)
 
-abbrev μ-loop : tie.MeasureT-loop
-μ-loop s at₀ at = length s - at
+returns-2 : tie.Need-returns-2
+returns-2 c = (c .behind-padding .ensures, passes-over _)
 
-returns : tie.Need-returns Inv-loop μ-loop
-returns c =
-    let lp = c .before .before .before .before .loop in
-    (c .object-at .ensures ∙ sym (lp .inv ∙ ap (movedNext (lp .at)) (stop-at _ (lp .at) (c .before .before .before .loop-test .taken) (c .before .if1 .taken))), passes-over _)
+returns-3 : tie.Need-returns-3
+returns-3 c =
+    let i = c .before .before .before .before in
+    (sym (next-front _ _ (Object (c .before .front .given .0 .0)) (i .before .before .if1 .left) (i .if2 .left) (c .before .before .before .head .ensures) (c .before .front .given .1)), passes-over _)
 
-loop-again : tie.Need-loop-again Inv-loop μ-loop
-loop-again c =
-    let lp = c .before .before .before .loop in
-    lp .inv ∙ pass-zero _ (lp .at) (c .before .before .loop-test .taken) (c .if1 .left)
-
-returns-2 : tie.Need-returns-2 Inv-loop μ-loop
-returns-2 c = (sym (c .before .loop .inv ∙ passed-all _ (c .before .loop .at) (c .loop-test .left)), passes-over _)
+returns-4 : tie.Need-returns-4
+returns-4 c =
+    let i = c .before .before .before in
+    (sym (next-front _ _ Broken (i .before .before .if1 .left) (i .if2 .left) (c .before .before .head .ensures) (c .enum-told .given .1)), passes-over _)
 
 pub next-spec : {M : Type 1} → statement M
-next-spec =
-    tie.close
-    (tie.spec
-    Inv-loop
-    μ-loop
-    (λ c. sym (moved-zero _))
-    (λ c. search needs)
-    (λ c κs. omega arith)
-    returns
-    (λ c. omega arith)
-    (λ c. omega arith)
-    loop-again
-    returns-2)
+next-spec = tie.close (tie.spec returns (λ c. omega arith) (λ c κs. search needs) returns-2 (λ c κs. search needs) (λ c. search needs) (λ c. search needs) returns-3 returns-4)
