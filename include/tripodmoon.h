@@ -1,4 +1,4 @@
-/* The EMV-mode session for a host in C: target/staticlib/libhost.a, built by `rt staticlib host`.
+/* The session in EMV mode and in the track 2 part of mag-stripe mode, for a host in C: target/staticlib/libhost.a, built by `rt staticlib host`.
  * docs/HOST.md has the record's layout, the words and how to embed it.
  *
  * The session lies in bytes that the host lends to every call. No call keeps anything between calls,
@@ -20,8 +20,8 @@ typedef char emv_size_t_has_64_bits[sizeof(size_t) == 8 ? 1 : -1];
 extern "C" {
 #endif
 
-/* Sizes in bytes. EMV_SESSION_SIZE is what emv_session_size gives for version 3 of the layout. */
-#define EMV_SESSION_SIZE 1231u
+/* Sizes in bytes. EMV_SESSION_SIZE is what emv_session_size gives for version 4 of the layout. */
+#define EMV_SESSION_SIZE 1518u
 #define EMV_LEAST_BUFFER 261u
 #define EMV_MOST_TERMINAL 1024u
 
@@ -88,7 +88,7 @@ extern "C" {
 #define EMV_VERSION_LAYOUT(word) ((word) & 0xFFu)
 
 /* The version that this header is of, as emv_version gives it. */
-#define EMV_VERSION 0x00010003u
+#define EMV_VERSION 0x00010004u
 
 /* Outcomes. */
 #define EMV_APPROVED 0u
@@ -97,8 +97,8 @@ extern "C" {
 #define EMV_ENDED 3u
 #define EMV_SELECT_NEXT 4u
 
-/* Methods of cardholder verification. A decision always has one of the first five; an end before the choice of the method
- * has none. A confirmation code was verified by the cardholder's phone. Nobody has verified an offline PIN: its result is
+/* Methods of cardholder verification. A decision in EMV mode always has one of the first five; an end before the choice of the
+ * method and every end in mag-stripe mode have none. A confirmation code was verified by the cardholder's phone. Nobody has verified an offline PIN: its result is
  * unknown. */
 #define EMV_METHOD_NO_CVM 0u
 #define EMV_METHOD_SIGNATURE 1u

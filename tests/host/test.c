@@ -108,7 +108,7 @@ static uint8_t terminal[] = {
     0x00, 0x00, 0xDF, 0x81, 0x22, 0x05, 0x00, 0x00, 0x00, 0x00, 0x00, 0xDF, 0x81, 0x23, 0x06, 0x00, 0x00, 0x00,
     0x01, 0x00, 0x00, 0xDF, 0x81, 0x24, 0x06, 0x00, 0x00, 0x00, 0x02, 0x00, 0x00, 0x9F, 0x33, 0x03, 0xE0, 0xF8,
     0xC8, 0xDF, 0x81, 0x26, 0x06, 0x00, 0x00, 0x00, 0x00, 0x25, 0x00, 0xDF, 0x81, 0x25, 0x06, 0x00, 0x00, 0x00,
-    0x05, 0x00, 0x00, 0xDF, 0x81, 0x1B, 0x01, 0x20,
+    0x05, 0x00, 0x00, 0xDF, 0x81, 0x1B, 0x01, 0x20, 0x9F, 0x6A, 0x04, 0x00, 0x00, 0x34, 0x56,
 };
 
 #define OPTIONS "\x80\x06\x00\x80\x08\x01\x01\x00\x90\x00"
@@ -236,8 +236,64 @@ static void phones(void)
 /* The head of a record of each phase, by its offsets; the method is 0 in all of them. */
 static int head(uint8_t phase, uint8_t datum, uint8_t reason, uint8_t n, uint64_t held)
 {
-    return session[0] == 3 && session[1] == phase && session[2] == datum && session[3] == reason && session[4] == n && session[5] == 0 &&
+    return session[0] == 4 && session[1] == phase && session[2] == datum && session[3] == reason && session[4] == n && session[5] == 0 &&
            limit() == held;
+}
+
+/* An old magnetic stripe card. The DF811B and the hundreds of the amount can be set; T is the track, and BITMAPS its
+ * 9F65, 9F66 and 9F67. */
+#define CONFIGURATION_AT (sizeof terminal - 8)
+#define STRIPE "\x80\x06\x00\x00\x08\x01\x01\x00\x90\x00"
+#define T "\x54\x13\x12\x34\x56\x78\x48\x00\xD2\x51\x21\x01\x00\x00\x00\x00\x00\x00\x0F"
+#define TRACK "\x9F\x6B\x13" T
+#define BITMAPS "\x9F\x65\x02\x00\x0E\x9F\x66\x02\x0F\xF0\x9F\x67\x01\x04"
+#define UNSOUND "\x9F\x65\x02\x00\x0E\x9F\x66\x02\x2F\xF0\x9F\x67\x01\x05"
+#define CHECKSUM "\x80\x2A\x8E\x80\x04\x00\x00\x34\x56\x00"
+#define BOTH "\x77\x0A\x9F\x36\x02\x00\x2A\x9F\x61\x02\x1F\x35\x90\x00"
+#define COUNTER_ALONE "\x77\x05\x9F\x36\x02\x00\x2A\x90\x00"
+#define CODE_ALONE "\x77\x05\x9F\x61\x02\x1F\x35\x90\x00"
+#define STRIPED(outcome, reason) OUTCOME_OF(EMV_METHOD_NOT_APPLICABLE, outcome, reason)
+
+/* A start with this DF811B and an amount of so many hundreds; then the answer to processing options. */
+static uint32_t stripe_options(uint8_t configuration, uint8_t hundreds, const uint8_t *options, size_t n)
+{
+    uint32_t word;
+    reopen();
+    terminal[TYPE_AT] = 0x22;
+    terminal[14] = hundreds;
+    terminal[CONFIGURATION_AT] = configuration;
+    CHECK(commands(start(terminal, sizeof terminal), BYTES("\x80\xA8\x00\x00\x02\x83\x00\x00")));
+    word = answer(options, n);
+    terminal[14] = 0x00;
+    terminal[CONFIGURATION_AT] = 0x20;
+    return word;
+}
+
+/* With these objects in its record: what is answered to it. */
+static uint32_t stripe(const uint8_t *objects, size_t n)
+{
+    uint8_t record[258];
+    CHECK(commands(stripe_options(0x20, 0x00, BYTES(STRIPE)), BYTES("\x00\xB2\x01\x0C\x00")));
+    record[0] = 0x70;
+    record[1] = 0x81;
+    record[2] = (uint8_t)n;
+    memcpy(record + 3, objects, n);
+    record[n + 3] = 0x90;
+    record[n + 4] = 0x00;
+    return answer(record, n + 5);
+}
+
+static void stripe_lists(void)
+{
+    CHECK(commands(stripe(BYTES(TRACK BITMAPS "\x9F\x69\x05\x9F\x6A\x02\x95\x05")), BYTES("\x80\x2A\x8E\x80\x07\x34\x56\x00\x00\x00\x00\x00\x00")));
+    CHECK(commands(stripe(BYTES(TRACK BITMAPS "\x9F\x69\x06\x9F\x6A\x06\x9F\x02\x02")), BYTES("\x80\x2A\x8E\x80\x08\x00\x00\x00\x00\x34\x56\x12\x34\x00")));
+    CHECK(commands(stripe(BYTES(TRACK BITMAPS "\x9F\x69\x00")), BYTES(CHECKSUM)));
+    CHECK(stripe(BYTES(TRACK BITMAPS "\x9F\x69\x03\x9F\x6A\x00")) == STRIPED(EMV_ENDED, EMV_REASON_DATA_LIST));
+    CHECK(stripe(BYTES(TRACK BITMAPS "\x9F\x69\x02\x9F\x6A")) == STRIPED(EMV_ENDED, EMV_REASON_DATA_LIST));
+    CHECK(stripe(BYTES(TRACK BITMAPS "\x9F\x69\x06\x9F\x6A\xFF\x9F\x6A\x01")) == STRIPED(EMV_ENDED, EMV_REASON_DATA_LIST));
+    CHECK(stripe(BYTES(TRACK "\x9F\x65\x02\x00\x0E\x9F\x66\x02\x0F\xF0\x9F\x69\x02\x9F\x6A")) == STRIPED(EMV_ENDED, EMV_REASON_MISSING));
+    CHECK(stripe(BYTES("\x9F\x6B\x00" BITMAPS)) == STRIPED(EMV_ENDED, EMV_REASON_MISSING));
+    CHECK(stripe(BYTES(TRACK BITMAPS "\x9F\x61\x02\x1F\x35")) == STRIPED(EMV_ENDED, EMV_REASON_NOT_ALLOWED));
 }
 
 static void layout(void)
@@ -306,9 +362,9 @@ static void lent_bytes(void)
     CHECK(all_stays());
     CHECK(emv_count(session, EMV_SESSION_SIZE - 1) == EMV_NO_COUNT);
     no_record(0, 0); /* no version */
-    no_record(0, 2); /* another version */
-    no_record(0, 4);
-    no_record(1, 5); /* no phase */
+    no_record(0, 3); /* another version */
+    no_record(0, 5);
+    no_record(1, 6); /* no phase */
     no_record(2, 1); /* a fresh record with a number */
     no_record(3, 1); /* a fresh record with a reason */
     no_record(5, 1); /* a fresh record with a method */
@@ -392,6 +448,84 @@ static void objects(void)
     session[4] = 3;
     session[0] = 2; /* another version */
     CHECK(object_in(0x9F26, sizeof value) == REFUSED(EMV_REFUSED_RANGES));
+}
+
+/* Waiting on the checksum of a track: with these bitmaps. */
+static void on_checksum(const uint8_t *objects, size_t n)
+{
+    CHECK(commands(stripe(objects, n), BYTES(CHECKSUM)) && count() == 3 && head(5, 0, 0, 3, 20000));
+}
+
+/* Nothing of an answer was kept: neither counter nor code, and the track and 95 are as they were. */
+static int nothing_kept(void)
+{
+    return object_in(0x9F36, sizeof value) == EMV_ABSENT && object_in(0x9F61, sizeof value) == EMV_ABSENT && holds(0x9F6B, BYTES(T)) && holds(0x95, BYTES("\x00\x00\x00\x00\x00"));
+}
+
+static void stripes(void)
+{
+    on_checksum(BYTES(TRACK BITMAPS));
+    CHECK(emv_explain(session, sizeof session) == EMV_EXPLAIN_NO_CHOICE);
+    CHECK(answer(BYTES(BOTH)) == STRIPED(EMV_ONLINE_REQUEST, EMV_REASON_NONE) && count() == 3);
+    CHECK(holds(0x9F6B, BYTES("\x54\x13\x12\x34\x56\x78\x48\x00\xD2\x51\x21\x01\x00\x04\x23\x45\x69\x89\x4F")));
+    CHECK(holds(0x9F36, BYTES("\x00\x2A")) && holds(0x9F61, BYTES("\x1F\x35")) && holds(0x95, BYTES("\x00\x00\x00\x00\x00")));
+    CHECK(object_in(0x9F34, sizeof value) == EMV_ABSENT);
+    CHECK(emv_explain(session, sizeof session) == EMV_EXPLAIN_NO_CHOICE);
+
+    on_checksum(BYTES(TRACK BITMAPS));
+    CHECK(answer(BYTES(COUNTER_ALONE)) == STRIPED(EMV_DECLINED, EMV_REASON_NONE) && holds(0x9F36, BYTES("\x00\x2A")) && holds(0x9F6B, BYTES(T)));
+    on_checksum(BYTES(TRACK BITMAPS));
+    CHECK(answer(BYTES(CODE_ALONE)) == STRIPED(EMV_ENDED, EMV_REASON_MISSING) && holds(0x9F61, BYTES("\x1F\x35")) && holds(0x9F6B, BYTES(T)));
+    on_checksum(BYTES(TRACK BITMAPS));
+    CHECK(answer(BYTES("\x77\x00\x90\x00")) == STRIPED(EMV_ENDED, EMV_REASON_MISSING));
+    on_checksum(BYTES(TRACK BITMAPS));
+    CHECK(answer(BYTES("\x80\x04\x00\x2A\x1F\x35\x90\x00")) == STRIPED(EMV_ENDED, EMV_REASON_MALFORMED) && nothing_kept());
+    on_checksum(BYTES(TRACK BITMAPS));
+    CHECK(answer(BYTES("\x77\x0E\x9F\x36\x02\x00\x2A\x9F\x61\x02\x1F\x35\x9F\x27\x01\x80\x90\x00")) == STRIPED(EMV_ENDED, EMV_REASON_NOT_ALLOWED) && nothing_kept());
+    on_checksum(BYTES(TRACK BITMAPS));
+    CHECK(answer(BYTES("\x69\x85")) == STRIPED(EMV_ENDED, EMV_REASON_STATUS));
+    on_checksum(BYTES(TRACK BITMAPS));
+    CHECK(link_failed() == STRIPED(EMV_ENDED, EMV_REASON_LINK));
+    on_checksum(BYTES(TRACK BITMAPS));
+    CHECK(stop() == STRIPED(EMV_ENDED, EMV_REASON_STOPPED) && start(terminal, sizeof terminal) == REFUSED(EMV_REFUSED_PHASE));
+
+    on_checksum(BYTES(TRACK UNSOUND)); /* a track that cannot take the digits */
+    CHECK(answer(BYTES(BOTH)) == STRIPED(EMV_ENDED, EMV_REASON_NOT_ALLOWED) && nothing_kept());
+    on_checksum(BYTES(TRACK UNSOUND));
+    CHECK(answer(BYTES(COUNTER_ALONE)) == STRIPED(EMV_ENDED, EMV_REASON_NOT_ALLOWED) && nothing_kept());
+    on_checksum(BYTES(TRACK UNSOUND));
+    CHECK(answer(BYTES(CODE_ALONE)) == STRIPED(EMV_ENDED, EMV_REASON_NOT_ALLOWED) && nothing_kept());
+    on_checksum(BYTES(TRACK UNSOUND));
+    CHECK(answer(BYTES("\x77\x00\x90\x00")) == STRIPED(EMV_ENDED, EMV_REASON_NOT_ALLOWED) && nothing_kept());
+    on_checksum(BYTES(TRACK UNSOUND));
+    CHECK(answer(BYTES("\x69\x85")) == STRIPED(EMV_ENDED, EMV_REASON_STATUS) && nothing_kept());
+    on_checksum(BYTES(TRACK UNSOUND));
+    CHECK(answer(BYTES("\x80\x04\x00\x2A\x1F\x35\x90\x00")) == STRIPED(EMV_ENDED, EMV_REASON_MALFORMED) && nothing_kept());
+}
+
+static void stripe_modes(void)
+{
+    CHECK(stripe_options(0x80, 0, BYTES(STRIPE)) == ENDED_EARLY(EMV_REASON_MODE));
+    CHECK(stripe_options(0x80, 0, BYTES("\x80\x06\x00\x00\x08\x00\x01\x00\x90\x00")) == ENDED_EARLY(EMV_REASON_MODE)); /* a bad locator */
+    CHECK(stripe_options(0x00, 0, BYTES("\x80\x06\x00\x00\x08\x00\x01\x00\x90\x00")) == ENDED_EARLY(EMV_REASON_LOCATOR));
+    CHECK(commands(stripe_options(0x7F, 0, BYTES(STRIPE)), BYTES("\x00\xB2\x01\x0C\x00")));
+    CHECK(commands(stripe_options(0xC0, 0, BYTES(OPTIONS)), BYTES("\x00\xB2\x01\x0C\x00"))); /* EMV mode, whatever DF811B says */
+    CHECK(commands(answer(BYTES(RECORD_ONLINE)), BYTES("\x80\xAE\x80\x00\x05\x80\x00\x00\x00\x00\x00")));
+    CHECK(stripe_options(0x20, 0, BYTES("\x77\x0F\x82\x02\x00\x00\x94\x04\x08\x01\x01\x00\x9F\x61\x02\x1F\x35\x90\x00")) == ENDED_EARLY(EMV_REASON_NOT_ALLOWED));
+    CHECK(commands(stripe_options(0x20, 2, BYTES(STRIPE)), BYTES("\x00\xB2\x01\x0C\x00"))); /* 212.34, above the limit of 200.00 */
+    CHECK(answer(BYTES("\x70\x00\x90\x00")) == STRIPED(EMV_SELECT_NEXT, EMV_REASON_ABOVE_LIMIT));
+    CHECK(commands(stripe_options(0x20, 2, BYTES("\x80\x06\x02\x00\x08\x01\x01\x00\x90\x00")), BYTES("\x00\xB2\x01\x0C\x00"))); /* a phone's is 500.00 */
+    CHECK(answer(BYTES("\x70\x00\x90\x00")) == STRIPED(EMV_ENDED, EMV_REASON_MISSING));
+
+    on_checksum(BYTES(TRACK BITMAPS)); /* a record that breaks its ranges: another limit, another count, EMV mode */
+    session[13] ^= 1;
+    all_refuse(sizeof session, sizeof command, REFUSED(EMV_REFUSED_RANGES));
+    session[13] ^= 1;
+    session[4] = 2;
+    all_refuse(sizeof session, sizeof command, REFUSED(EMV_REFUSED_RANGES));
+    session[4] = 3;
+    session[1] = 3; /* on the cryptogram */
+    all_refuse(sizeof session, sizeof command, REFUSED(EMV_REFUSED_RANGES));
 }
 
 /* ---- explaining */
@@ -620,6 +754,9 @@ int main(void)
     reasons();
     methods();
     phones();
+    stripe_lists();
+    stripes();
+    stripe_modes();
     refusals();
     lent_bytes();
     objects();

@@ -29,7 +29,7 @@ use Rattle.record.specs.declared.Phase.{Phase}
 use Rattle.record.specs.declared.Session.{Session}
 use Rattle.record.specs.Clauses.{noResults}
 use Rattle.store.specs.Held.{lengthIn}
-use Rattle.record.specs.Ranges.{isBrought, brought, cryptogramAbsent, running, optionsRanges, inRanges, allFit, objectFits, freshRanges}
+use Rattle.record.specs.Ranges.{isBrought, brought, lastAbsent, running, optionsRanges, inRanges, allFit, objectFits, freshRanges}
 use Rattle.record.specs.Session.{freshSession, sessionOf}
 use Rattle.terminal.specs.Terminal.{typeListed, settable, setObject, setAll, load, Loaded, loaded, refusal}
 use Rattle.session.specs.Steps.{Step, commands, withResults, leastBuffer}
@@ -58,7 +58,7 @@ unfolding inRanges allFit objectFits lengthIn lengthByte freshRanges rows past f
 fresh-in = refl
 
 waiting-in : inRanges waiting ≡ true
-unfolding inRanges allFit objectFits lengthIn lengthByte optionsRanges running cryptogramAbsent brought isBrought withResults placeOf load primitives withObject primitiveOf headerOf tagAt tagSize secondByte thirdByte lengthAt firstByte isTemplate isPrivate numberFrom if both either every rows past find settable setObject setAll fitting digitsFit numeric nibbles typeListed listed offsetIn placeAt held valueAt putAt valueIn recurse recurseBy
+unfolding inRanges allFit objectFits lengthIn lengthByte optionsRanges running lastAbsent brought isBrought withResults placeOf load primitives withObject primitiveOf headerOf tagAt tagSize secondByte thirdByte lengthAt firstByte isTemplate isPrivate numberFrom if both either every rows past find settable setObject setAll fitting digitsFit numeric nibbles typeListed listed offsetIn placeAt held valueAt putAt valueIn recurse recurseBy
 waiting-in = refl
 
 asks : (buf : List ℕ) → startLoaded freshSession buf (load nothing startBytes) ≡ commands 0 first-store Phase.Options optionsCommand buf

@@ -18,7 +18,7 @@ use Rattle.tlv.proofs.Laws.{Bytes}
 use Rattle.dictionary.specs.Rows.{rows}
 use Rattle.store.specs.Place.{absent, bytesOf, valueOf}
 use Rattle.data_list.specs.Filling.{filled}
-use Rattle.data_list.specs.Commands.{command, optionsHead, optionsData, optionsOf, processingOptions, cryptogramOf, generateAc}
+use Rattle.data_list.specs.Commands.{command, commandWith, optionsHead, optionsData, optionsOf, processingOptions, cryptogramOf, generateAc, checksumList, checksumOf, checksumWith, computeChecksum}
 use Rattle.data_list.proofs.Filling.{filled-nothing}
 use Rattle.data_list.proofs.Bytes.{bytes-nil, bytes-cons, bytes-append, filled-bytes}
 use Rattle.data_list.proofs.Parts.{head-short, head-long, head-length}
@@ -27,14 +27,14 @@ no-command : {P : Type 0} (c : List ℕ) → none ≡ some c → P
 no-command c p = let z : _≡_ {A = ℕ} 0 1 = cc in absurd (omega arith)
 
 -- x is the filled list, c the command that carries it as its data
-pub record Carried (ins p1 : ℕ) (body : List ℕ → List ℕ) (x : Option (List ℕ)) (c : List ℕ) : Type 0 where
+pub record Carried (ins p1 p2 : ℕ) (body : List ℕ → List ℕ) (x : Option (List ℕ)) (c : List ℕ) : Type 0 where
   pub bytes : List ℕ
   pub is : x ≡ some bytes
-  pub sent : c ≡ command ins p1 (body bytes)
+  pub sent : c ≡ commandWith ins p1 p2 (body bytes)
   pub few : length bytes ≤ 255
   pub fits : length (body bytes) ≤ 255
 
-options-carried : (x : Option (List ℕ)) (c : List ℕ) → optionsOf x ≡ some c → Carried 0xA8 0 optionsData x c
+options-carried : (x : Option (List ℕ)) (c : List ℕ) → optionsOf x ≡ some c → Carried 0xA8 0 0 optionsData x c
 unfolding optionsOf
 options-carried none c p = no-command c p
 options-carried (some v) c p = elim (bool-cases (leb (length v) 252)) [
@@ -46,7 +46,7 @@ options-carried (some v) c p = elim (bool-cases (leb (length v) 252)) [
   | inr t ↦ no-command c (sym (if-no _ _ t) ∙ p)
 ]
 
-cryptogram-carried : (p1 : ℕ) (x : Option (List ℕ)) (c : List ℕ) → cryptogramOf p1 x ≡ some c → Carried 0xAE p1 (λ v. v) x c
+cryptogram-carried : (p1 : ℕ) (x : Option (List ℕ)) (c : List ℕ) → cryptogramOf p1 x ≡ some c → Carried 0xAE p1 0 (λ v. v) x c
 unfolding cryptogramOf
 cryptogram-carried p1 none c p = no-command c p
 cryptogram-carried p1 (some v) c p = elim (bool-cases (both (leb 1 (length v)) (leb (length v) 255))) [
@@ -57,16 +57,27 @@ cryptogram-carried p1 (some v) c p = elim (bool-cases (both (leb 1 (length v)) (
   | inr t ↦ no-command c (sym (if-no _ _ t) ∙ p)
 ]
 
+checksum-carried : (x : Option (List ℕ)) (c : List ℕ) → checksumOf x ≡ some c → Carried 0x2A 0x8E 0x80 (λ v. v) x c
+unfolding checksumOf
+checksum-carried none c p = no-command c p
+checksum-carried (some v) c p = elim (bool-cases (both (leb 1 (length v)) (leb (length v) 255))) [
+  | inl t ↦
+      let h = leb-true (length v) 255 (both-right _ _ t) in
+      let i : some (commandWith 0x2A 0x8E 0x80 v) ≡ some c = sym (if-yes _ _ t) ∙ p in
+      record { bytes = v; is = refl; sent = cc; few = h; fits = h }
+  | inr t ↦ no-command c (sym (if-no _ _ t) ∙ p)
+]
+
 -- the instruction stands in its second byte, and it has 5 to 261 bytes
 pub record Proper (ins : ℕ) (c : List ℕ) : Type 0 where
   pub starts : take 2 c ≡ 0x80 ∷ ins ∷ []
   pub least : 5 ≤ length c
   pub most : length c ≤ 261
 
-carried-proper : (ins p1 : ℕ) (body : List ℕ → List ℕ) (x : Option (List ℕ)) (c : List ℕ) → Carried ins p1 body x c → Proper ins c
-carried-proper ins p1 body x c d =
+carried-proper : (ins p1 p2 : ℕ) (body : List ℕ → List ℕ) (x : Option (List ℕ)) (c : List ℕ) → Carried ins p1 p2 body x c → Proper ins c
+carried-proper ins p1 p2 body x c d =
     let f = d .fits in
-    let l : length (command ins p1 (body (d .bytes))) ≡ length (body (d .bytes)) + 6 = simp length-append (omega arith) in
+    let l : length (commandWith ins p1 p2 (body (d .bytes))) ≡ length (body (d .bytes)) + 6 = simp length-append (omega arith) in
     let e = ap length (d .sent) in
     record { starts = ap (take 2) (d .sent); least = omega arith; most = omega arith }
 
@@ -78,26 +89,30 @@ head-bytes n h =
       | inr k ↦ subst⁻¹ Bytes (head-short n k) (bytes-cons 0x83 (n ∷ []) (omega arith) one)
     ]
 
-command-bytes : (ins p1 : ℕ) (w : List ℕ) → ins < 256 → p1 < 256 → length w < 256 → Bytes w → Bytes (command ins p1 w)
-command-bytes ins p1 w h k l b zero = omega arith
-command-bytes ins p1 w h k l b (suc zero) = h
-command-bytes ins p1 w h k l b (suc (suc zero)) = k
-command-bytes ins p1 w h k l b (suc (suc (suc zero))) = omega arith
-command-bytes ins p1 w h k l b (suc (suc (suc (suc zero)))) = l
-command-bytes ins p1 w h k l b (suc (suc (suc (suc (suc i))))) = bytes-append w (0 ∷ []) b (bytes-cons 0 [] (omega arith) bytes-nil) i
+command-bytes : (ins p1 p2 : ℕ) (w : List ℕ) → ins < 256 → p1 < 256 → p2 < 256 → length w < 256 → Bytes w → Bytes (commandWith ins p1 p2 w)
+command-bytes ins p1 p2 w h k m l b zero = omega arith
+command-bytes ins p1 p2 w h k m l b (suc zero) = h
+command-bytes ins p1 p2 w h k m l b (suc (suc zero)) = k
+command-bytes ins p1 p2 w h k m l b (suc (suc (suc zero))) = m
+command-bytes ins p1 p2 w h k m l b (suc (suc (suc (suc zero)))) = l
+command-bytes ins p1 p2 w h k m l b (suc (suc (suc (suc (suc i))))) = bytes-append w (0 ∷ []) b (bytes-cons 0 [] (omega arith) bytes-nil) i
 
-carried-bytes : (ins p1 : ℕ) (body : List ℕ → List ℕ) (x : Option (List ℕ)) (c : List ℕ) (d : Carried ins p1 body x c)
-    → ins < 256 → p1 < 256 → Bytes (body (d .bytes)) → Bytes c
-carried-bytes ins p1 body x c d h k b = subst⁻¹ Bytes (d .sent) (command-bytes ins p1 (body (d .bytes)) h k (omega (arith, d .fits)) b)
+carried-bytes : (ins p1 p2 : ℕ) (body : List ℕ → List ℕ) (x : Option (List ℕ)) (c : List ℕ) (d : Carried ins p1 p2 body x c)
+    → ins < 256 → p1 < 256 → p2 < 256 → Bytes (body (d .bytes)) → Bytes c
+carried-bytes ins p1 p2 body x c d h k m b = subst⁻¹ Bytes (d .sent) (command-bytes ins p1 p2 (body (d .bytes)) h k m (omega (arith, d .fits)) b)
 
 module _ (store c : List ℕ) where
   pub options-proper : processingOptions store ≡ some c → Proper 0xA8 c
   unfolding processingOptions
-  options-proper p = carried-proper 0xA8 0 optionsData _ c (options-carried _ c p)
+  options-proper p = carried-proper 0xA8 0 0 optionsData _ c (options-carried _ c p)
 
   pub cryptogram-proper : (p1 : ℕ) → generateAc p1 store ≡ some c → Proper 0xAE c
   unfolding generateAc
-  cryptogram-proper p1 p = carried-proper 0xAE p1 (λ v. v) _ c (cryptogram-carried p1 _ c p)
+  cryptogram-proper p1 p = carried-proper 0xAE p1 0 (λ v. v) _ c (cryptogram-carried p1 _ c p)
+
+  pub checksum-proper : computeChecksum store ≡ some c → Proper 0x2A c
+  unfolding computeChecksum checksumWith
+  checksum-proper p = carried-proper 0x2A 0x8E 0x80 (λ v. v) _ c (checksum-carried _ c p)
 
   -- every byte of it is a byte
   pub options-bytes : Bytes store → processingOptions store ≡ some c → Bytes c
@@ -105,13 +120,19 @@ module _ (store c : List ℕ) where
   options-bytes b p =
       let d = options-carried _ c p in
       let h = head-bytes (length (d .bytes)) (omega (arith, d .few)) in
-      carried-bytes 0xA8 0 optionsData _ c d (omega arith) (omega arith) (bytes-append (optionsHead (length (d .bytes))) (d .bytes) h (filled-bytes rows store b _ (d .bytes) (d .is)))
+      carried-bytes 0xA8 0 0 optionsData _ c d (omega arith) (omega arith) (omega arith) (bytes-append (optionsHead (length (d .bytes))) (d .bytes) h (filled-bytes rows store b _ (d .bytes) (d .is)))
 
   pub cryptogram-bytes : Bytes store → (p1 : ℕ) → p1 < 256 → generateAc p1 store ≡ some c → Bytes c
   unfolding generateAc
   cryptogram-bytes b p1 h p =
       let d = cryptogram-carried p1 _ c p in
-      carried-bytes 0xAE p1 (λ v. v) _ c d (omega arith) h (filled-bytes rows store b _ (d .bytes) (d .is))
+      carried-bytes 0xAE p1 0 (λ v. v) _ c d (omega arith) h (omega arith) (filled-bytes rows store b _ (d .bytes) (d .is))
+
+  pub checksum-bytes : Bytes store → computeChecksum store ≡ some c → Bytes c
+  unfolding computeChecksum checksumWith
+  checksum-bytes b p =
+      let d = checksum-carried _ c p in
+      carried-bytes 0x2A 0x8E 0x80 (λ v. v) _ c d (omega arith) (omega arith) (omega arith) (filled-bytes rows store b _ (d .bytes) (d .is))
 
 -- with no list, or an empty one, processing options has the data 83 00
 pub options-empty : (store : List ℕ) → bytesOf (valueOf store 0x9F38) ≡ []

@@ -12,7 +12,7 @@ use Rattle.tlv.specs.Tag.{tagSize, secondByte, thirdByte, tagAt}
 use Rattle.dictionary.specs.Rows.{formB, formN, formCn}
 use Rattle.store.specs.Place.{absent, present}
 use Rattle.data_list.specs.Entries.{entry, withLength, entryAt, withEntry, along, listEntries}
-use Rattle.data_list.specs.Commands.{optionsOf, cryptogramOf}
+use Rattle.data_list.specs.Commands.{optionsOf, cryptogramOf, checksumList, checksumOf}
 use Rattle.data_list.specs.Filling.{cut, padding, padded, fitted, valueBytes}
 
 -- ---- lists
@@ -87,7 +87,7 @@ number-empty = refl
 pub number-absent : valueBytes formCn 3 absent ≡ 0 ∷ 0 ∷ 0 ∷ []
 number-absent = refl
 
--- ---- the limits of the two commands, each on both sides of its edge
+-- ---- the limits of the three commands, each on both sides of its edge
 
 -- a command's front bytes and its length, by the length of the filled list
 abbrev edge : Option (List ℕ) → List ℕ
@@ -120,3 +120,22 @@ cryptogram-edges : map cryptogram-edge (0 ∷ 1 ∷ 255 ∷ 256 ∷ [])
     ∷ []
 unfolding cryptogram-edge cryptogramOf both if
 cryptogram-edges = refl
+
+-- compute cryptographic checksum: the same
+checksum-edge : ℕ → List ℕ
+checksum-edge n = edge (checksumOf (some (replicate n 0xAA)))
+
+checksum-edges : map checksum-edge (0 ∷ 1 ∷ 255 ∷ 256 ∷ [])
+    ≡ []
+    ∷ (7 ∷ 0x80 ∷ 0x2A ∷ 0x8E ∷ 0x80 ∷ 1 ∷ 0xAA ∷ 0 ∷ [])
+    ∷ (261 ∷ 0x80 ∷ 0x2A ∷ 0x8E ∷ 0x80 ∷ 255 ∷ 0xAA ∷ 0xAA ∷ 0xAA ∷ [])
+    ∷ []
+    ∷ []
+unfolding checksum-edge checksumOf if both
+checksum-edges = refl
+
+-- no list and an empty one are the default; one that has bytes is itself, broken or not
+checksum-lists : map checksumList ([] ∷ (0x9F ∷ 0x6A ∷ 0x02 ∷ 0x95 ∷ 0x05 ∷ []) ∷ (0x9F ∷ 0x6A ∷ []) ∷ [])
+    ≡ (0x9F ∷ 0x6A ∷ 0x04 ∷ []) ∷ (0x9F ∷ 0x6A ∷ 0x02 ∷ 0x95 ∷ 0x05 ∷ []) ∷ (0x9F ∷ 0x6A ∷ []) ∷ []
+unfolding checksumList
+checksum-lists = refl

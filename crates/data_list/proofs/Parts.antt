@@ -15,8 +15,8 @@ use Rattle.basics.proofs.Laws.{if-yes, if-no, both-yes, both-no-left, both-no-r
 use Rattle.basics.proofs.Order.{le-or-gt}
 use Rattle.tlv.specs.Encoding.{lengthBytes}
 use Rattle.dictionary.specs.Rows.{Row, rows}
-use Rattle.dictionary.specs.Named.{row8C, row9F38}
-use Rattle.dictionary.proofs.Named.{at-8C, at-9F38}
+use Rattle.dictionary.specs.Named.{row8C, row9F38, row9F69}
+use Rattle.dictionary.proofs.Named.{at-8C, at-9F38, at-9F69}
 use Rattle.store.specs.Place.{bytesOf, valueAt}
 use Rattle.store.proofs.Laws.{by-row}
 use Rattle.data_list.specs.declared.Entry.{Entry}
@@ -24,7 +24,7 @@ use Rattle.data_list.specs.declared.Written.{Written}
 use Rattle.data_list.specs.declared.Measured.the-variants.{Total, Unfit}
 use Rattle.data_list.specs.Entries.{askedTotal}
 use Rattle.data_list.specs.Filling.{fillingOf, filledBy, filled}
-use Rattle.data_list.specs.Commands.{command, optionsHead, optionsData, optionsOf, processingOptions, cryptogramOf, generateAc, handed, writtenOf, writtenNumber, listReason, bufferWith}
+use Rattle.data_list.specs.Commands.{command, commandWith, optionsHead, optionsData, optionsOf, processingOptions, cryptogramOf, generateAc, checksumList, checksumOf, checksumWith, computeChecksum, handed, writtenOf, writtenNumber, listReason, bufferWith}
 use Rattle.data_list.specs.Inner.{measured, Room, over}
 use Rattle.data_list.proofs.Buffer.{over-there, over-cover}
 use Rattle.data_list.proofs.Entries.{whole}
@@ -96,6 +96,22 @@ pub cryptogram-some : (p1 : ℕ) (v : List ℕ) → 1 ≤ length v → length v 
 unfolding cryptogramOf
 cryptogram-some p1 v h k = if-yes _ _ (both-yes _ _ (le-leb 1 (length v) h) (le-leb (length v) 255 k))
 
+pub checksum-broken : checksumOf none ≡ none
+unfolding checksumOf
+checksum-broken = refl
+
+pub checksum-empty : (v : List ℕ) → length v ≡ 0 → checksumOf (some v) ≡ none
+unfolding checksumOf
+checksum-empty v h = if-no _ _ (both-no-left _ _ (lt-leb 1 (length v) (omega arith)))
+
+pub checksum-long : (v : List ℕ) → 255 < length v → checksumOf (some v) ≡ none
+unfolding checksumOf
+checksum-long v h = if-no _ _ (both-no-right _ _ (lt-leb (length v) 255 h))
+
+pub checksum-some : (v : List ℕ) → 1 ≤ length v → length v ≤ 255 → checksumOf (some v) ≡ some (commandWith 0x2A 0x8E 0x80 v)
+unfolding checksumOf
+checksum-some v h k = if-yes _ _ (both-yes _ _ (le-leb 1 (length v) h) (le-leb (length v) 255 k))
+
 -- the lists, by their rows
 pub options-of : (store list : List ℕ) → list ≡ bytesOf (valueAt rows store row9F38) → processingOptions store ≡ optionsOf (filled rows store list)
 unfolding processingOptions
@@ -104,6 +120,29 @@ options-of store list p = ap (λ (l : List ℕ). optionsOf (filled rows store l)
 pub cryptogram-of : (p1 : ℕ) (store list : List ℕ) → list ≡ bytesOf (valueAt rows store row8C) → generateAc p1 store ≡ cryptogramOf p1 (filled rows store list)
 unfolding generateAc
 cryptogram-of p1 store list p = ap (λ (l : List ℕ). cryptogramOf p1 (filled rows store l)) (ap bytesOf (by-row rows store 0x8C row8C at-8C) ∙ sym p)
+
+-- the stored list where it has bytes, else the default one
+list-own : (l : List ℕ) → (length l ≡ 0 → ⊥) → checksumList l ≡ l
+unfolding checksumList
+list-own [] h = absurd (h refl)
+list-own (x ∷ l) h = refl
+
+list-default : (l : List ℕ) → length l ≡ 0 → checksumList l ≡ 0x9F ∷ 0x6A ∷ 0x04 ∷ []
+unfolding checksumList
+list-default [] h = refl
+list-default (x ∷ l) h = absurd (omega arith)
+
+checksum-of : (store list l : List ℕ) → list ≡ bytesOf (valueAt rows store row9F69) → checksumList list ≡ l → computeChecksum store ≡ checksumWith l store
+unfolding computeChecksum
+checksum-of store list l p q =
+    ap (λ (x : List ℕ). checksumWith (checksumList x) store) (ap bytesOf (by-row rows store 0x9F69 row9F69 at-9F69) ∙ sym p) ∙ ap (λ (x : List ℕ). checksumWith x store) q
+
+pub checksum-own : (store list : List ℕ) → list ≡ bytesOf (valueAt rows store row9F69) → (length list ≡ 0 → ⊥) → computeChecksum store ≡ checksumWith list store
+checksum-own store list p h = checksum-of store list list p (list-own list h)
+
+pub checksum-default : (store list : List ℕ) → list ≡ bytesOf (valueAt rows store row9F69) → length list ≡ 0
+    → computeChecksum store ≡ checksumWith (0x9F ∷ 0x6A ∷ 0x04 ∷ []) store
+checksum-default store list p h = checksum-of store list _ p (list-default list h)
 
 -- ---- the parts of a command
 
@@ -122,9 +161,9 @@ head-length n h = elim (le-or-gt 128 n) [
 ]
 
 -- the header before the data, and 00 behind it
-module _ (ins p1 : ℕ) (b : List ℕ) (end : ℕ) (h : 5 ≤ end) (k : end < length b) where
+module _ (ins p1 p2 : ℕ) (b : List ℕ) (end : ℕ) (h : 5 ≤ end) (k : end < length b) where
   abbrev front : List ℕ
-  front = 0x80 ∷ ins ∷ p1 ∷ 0 ∷ (end - 5) ∷ []
+  front = 0x80 ∷ ins ∷ p1 ∷ p2 ∷ (end - 5) ∷ []
 
   abbrev body : List ℕ
   body = take (end - 5) (drop 5 b)
@@ -132,32 +171,32 @@ module _ (ins p1 : ℕ) (b : List ℕ) (end : ℕ) (h : 5 ≤ end) (k : end < le
   body-length : length body ≡ end - 5
   body-length = simp (length-take, length-drop) (omega arith)
 
-  pub closed : set (sets b 0 front) end 0 ≡ over b 0 (command ins p1 body)
+  pub closed : set (sets b 0 front) end 0 ≡ over b 0 (commandWith ins p1 p2 body)
   unfolding over
   closed =
       let f : 5 ≤ length b = omega arith in
       let l : length (front ++ body) ≡ end = simp body-length (omega arith) in
-      let m : 0 + length (command ins p1 body) ≡ suc end = simp (length-append, body-length) (omega arith) in
+      let m : 0 + length (commandWith ins p1 p2 body) ≡ suc end = simp (length-append, body-length) (omega arith) in
       let e : 5 + (end - 5) ≡ end = omega arith in
       let r : drop 5 b ≡ body ++ (getD b end 0 ∷ drop (suc end) b) = sym (take-append-drop (end - 5) (drop 5 b)) ∙ ap (λ (x : List ℕ). body ++ x) (drop-drop (end - 5) 5 b ∙ rw e (drop-cons b end 0 k)) in
       ap (λ (x : List ℕ). set x end 0) (sets-eq front b 0 f ∙ ap (λ (x : List ℕ). front ++ x) r ∙ sym (append-assoc front body _))
       ∙ set-at (front ++ body) (getD b end 0) (drop (suc end) b) 0 end l
-      ∙ sym (ap₂ (λ (n : ℕ) (x : List ℕ). 0x80 ∷ ins ∷ p1 ∷ 0 ∷ n ∷ x) body-length (rw m (append-snoc body 0 (drop (suc end) b))))
+      ∙ sym (ap₂ (λ (n : ℕ) (x : List ℕ). 0x80 ∷ ins ∷ p1 ∷ p2 ∷ n ∷ x) body-length (rw m (append-snoc body 0 (drop (suc end) b))))
 
 -- the data w from place 5 on, and then closed: the command stands at the front, and all behind it stays
-module _ (ins p1 : ℕ) (b w : List ℕ) (end : ℕ) (h : 5 + length w < length b) (e : end ≡ 5 + length w) where
-  pub command-length : handed (end + 1) ≡ writtenOf (some (command ins p1 w))
-  command-length = let l : end + 1 ≡ length (command ins p1 w) = simp length-append (omega arith) in ap handed l
+module _ (ins p1 p2 : ℕ) (b w : List ℕ) (end : ℕ) (h : 5 + length w < length b) (e : end ≡ 5 + length w) where
+  pub command-length : handed (end + 1) ≡ writtenOf (some (commandWith ins p1 p2 w))
+  command-length = let l : end + 1 ≡ length (commandWith ins p1 p2 w) = simp length-append (omega arith) in ap handed l
 
-  pub command-front : (y z : List ℕ) → y ≡ over b 5 w → z ≡ over y 0 (command ins p1 (take (end - 5) (drop 5 y))) → z ≡ bufferWith (some (command ins p1 w)) b
+  pub command-front : (y z : List ℕ) → y ≡ over b 5 w → z ≡ over y 0 (commandWith ins p1 p2 (take (end - 5) (drop 5 y))) → z ≡ bufferWith (some (commandWith ins p1 p2 w)) b
   unfolding over
   command-front y z p q =
       let f : 5 + length w ≤ length b = omega arith in
       let l : end - 5 ≡ length w = omega arith in
-      let k : 5 + length w ≤ length (command ins p1 w) = simp length-append (omega arith) in
-      let m : 0 + length (command ins p1 w) ≡ length (command ins p1 w) = omega arith in
+      let k : 5 + length w ≤ length (commandWith ins p1 p2 w) = simp length-append (omega arith) in
+      let m : 0 + length (commandWith ins p1 p2 w) ≡ length (commandWith ins p1 p2 w) = omega arith in
       let d : take (end - 5) (drop 5 y) ≡ w = rw (l, p) (over-there b 5 w f) in
-      q ∙ rw (d, p) (over-cover b 5 w f (command ins p1 w) k ∙ ap (λ (n : ℕ). command ins p1 w ++ drop n b) m)
+      q ∙ rw (d, p) (over-cover b 5 w f (commandWith ins p1 p2 w) k ∙ ap (λ (n : ℕ). commandWith ins p1 p2 w ++ drop n b) m)
 
 -- the number of what is handed back is the reason that the list gives
 pub written-number : (x : Option (List ℕ)) → writtenNumber (writtenOf x) ≡ listReason x

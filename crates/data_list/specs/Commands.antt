@@ -1,4 +1,5 @@
--- The commands that carry a filled list (document 01, "Commands and steps"): processing options and generate AC.
+-- The commands that carry a filled list: processing options and generate AC (document 01, "Commands and steps"), and
+-- compute cryptographic checksum (document 02, Item 9; Book C-2, 5.2).
 -- Assumes nothing.
 use mathlib.Core.List.{List, [], _∷_, _++_}
 use mathlib.Core.Option.{Option, some, none}
@@ -14,9 +15,13 @@ use Rattle.data_list.specs.declared.Written.{Written}
 use Rattle.data_list.specs.declared.Written.the-variants.{Command, NoCommand}
 use Rattle.data_list.specs.Filling.{filled}
 
--- a command of class 80: instruction, P1, P2 of 00, Lc, data, Le of 00
+-- a command of class 80: instruction, P1, P2, Lc, data, Le of 00
+abbrev pub commandWith : ℕ → ℕ → ℕ → List ℕ → List ℕ
+commandWith ins p1 p2 body = 0x80 ∷ ins ∷ p1 ∷ p2 ∷ length body ∷ (body ++ (0 ∷ []))
+
+-- one of P2 00
 abbrev pub command : ℕ → ℕ → List ℕ → List ℕ
-command ins p1 body = 0x80 ∷ ins ∷ p1 ∷ 0 ∷ length body ∷ (body ++ (0 ∷ []))
+command ins p1 body = commandWith ins p1 0 body
 
 -- ---- processing options
 
@@ -52,6 +57,28 @@ cryptogramOf p1 (some v) =
 unfoldable pub generateAc : ℕ → List ℕ → Option (List ℕ)
 generateAc p1 store = cryptogramOf p1 (filled rows store (bytesOf (valueOf store 0x8C)))
 
+-- ---- compute cryptographic checksum
+
+-- the list 9F69, or the default one where it is absent or empty: 9F6A in four bytes (Book C-2, Default UDOL)
+unfoldable pub checksumList : List ℕ → List ℕ
+checksumList [] = 0x9F ∷ 0x6A ∷ 0x04 ∷ []
+checksumList (x ∷ l) = x ∷ l
+
+-- P1 8E and P2 80; no command as for generate AC
+unfoldable pub checksumOf : Option (List ℕ) → Option (List ℕ)
+checksumOf none = none
+checksumOf (some v) =
+    if 1 ≤? length v and length v ≤? 255 then some (commandWith 0x2A 0x8E 0x80 v)
+    else none
+
+-- the command with a list filled from a store
+unfoldable pub checksumWith : List ℕ → List ℕ → Option (List ℕ)
+checksumWith list store = checksumOf (filled rows store list)
+
+-- the command that a store gives
+unfoldable pub computeChecksum : List ℕ → Option (List ℕ)
+computeChecksum store = checksumWith (checksumList (bytesOf (valueOf store 0x9F69))) store
+
 -- ---- handed back
 
 -- a command of n bytes
@@ -80,6 +107,7 @@ bufferWith none b = b
 bufferWith (some c) b = inFront c b
 
 -- ---- what holds of it, proved in proofs/Commands for all stores
---   options-proper, cryptogram-proper    a command has 5 to 261 bytes and begins with 80 A8, or 80 AE
+--   options-proper, cryptogram-proper    a command has 5 to 261 bytes and begins with 80 A8, or 80 AE;
+--   checksum-proper                      or 80 2A
 --   options-absent, options-empty        without 9F38, or with an empty one, it is 80 A8 00 00 02 83 00 00
---   options-bytes, cryptogram-bytes      from a store of bytes it is bytes
+--   options-bytes, cryptogram-bytes, checksum-bytes    from a store of bytes it is bytes

@@ -1,7 +1,7 @@
-// Data object lists: a list that names tags and lengths is filled from a store, and the two commands
+// Data object lists: a list that names tags and lengths is filled from a store, and the three commands
 // that carry a filled list are written into a lent buffer.
 //
-// `processing_options` and `generate_ac` measure the list first, so that a buffer is touched only
+// `processing_options`, `generate_ac` and `compute_checksum` measure the list first, so that a buffer is touched only
 // where a command is handed out. The bytes behind the command stay.
 use dictionary::Found;
 use dictionary::ROWS;
@@ -14,7 +14,7 @@ ghost use Rattle.dictionary.specs.Lent.{Lent};
 ghost use Rattle.store.specs.Place.{placesOf};
 ghost use Rattle.data_list.specs.Entries.{entryAt, listEntries};
 ghost use Rattle.data_list.specs.Filling.{cut, padding, padded, fitted, entryBytes, filled};
-ghost use Rattle.data_list.specs.Commands.{command, optionsHead, processingOptions, generateAc, handed, writtenOf, writtenNumber, listReason, bufferWith};
+ghost use Rattle.data_list.specs.Commands.{commandWith, optionsHead, processingOptions, generateAc, checksumWith, computeChecksum, handed, writtenOf, writtenNumber, listReason, bufferWith};
 ghost use Rattle.data_list.specs.Inner.{measured, Room, over, overFilled};
 
 // A command at the front of the buffer: how many bytes it has.
@@ -63,7 +63,7 @@ pub fn processing_options(store: &[u8], buffer: &mut [u8]) -> Written
     }
     let at = options_head(n, buffer);
     fill(list, store, buffer, at);
-    close(0xA8, 0, buffer, at + n)
+    close(0xA8, 0, 0, buffer, at + n)
 }
 
 // The command generate AC, with the filled list 8C that the store holds; P1 says which cryptogram.
@@ -82,7 +82,41 @@ pub fn generate_ac(store: &[u8], p1: u8, buffer: &mut [u8]) -> Written
         return Written::NoCommand;
     }
     fill(list, store, buffer, 5);
-    close(0xAE, p1, buffer, 5 + n)
+    close(0xAE, p1, 0, buffer, 5 + n)
+}
+
+// The command compute cryptographic checksum, with the filled list 9F69 that the store holds; where it is absent or
+// empty, with the default list.
+pub fn compute_checksum(store: &[u8], buffer: &mut [u8]) -> Written
+    requires { ⌜ 261 ≤ length (now buffer) ⌝ }
+    ensures said { λ r. ⌜ r ≡ writtenOf (computeChecksum (now (store .entry))) ⌝ }
+    ensures kept { λ _. ⌜ now (buffer .exit) ≡ bufferWith (computeChecksum (now (store .entry))) (now (buffer .entry)) ⌝ }
+    ensures reason { λ r. ⌜ writtenNumber r ≡ listReason (computeChecksum (now (store .entry))) ⌝ }
+{
+    let list = store::value(store, dictionary::ROW_9F69);
+    if list.len() != 0 {
+        return checksum_with(list, store, buffer);
+    }
+    let default = [0x9F, 0x6A, 0x04];
+    checksum_with(&default, store, buffer)
+}
+
+// The same with a list.
+fn checksum_with(list: &[u8], store: &[u8], buffer: &mut [u8]) -> Written
+    requires { ⌜ 261 ≤ length (now buffer) ⌝ }
+    ensures said { λ r. ⌜ r ≡ writtenOf (checksumWith (now (list .entry)) (now (store .entry))) ⌝ }
+    ensures kept { λ _. ⌜ now (buffer .exit) ≡ bufferWith (checksumWith (now (list .entry)) (now (store .entry))) (now (buffer .entry)) ⌝ }
+    ensures reason { λ r. ⌜ writtenNumber r ≡ listReason (checksumWith (now (list .entry)) (now (store .entry))) ⌝ }
+{
+    let measured = measure(list);
+    let Measured::Total(n) = measured else {
+        return Written::NoCommand;
+    };
+    if n == 0 {
+        return Written::NoCommand;
+    }
+    fill(list, store, buffer, 5);
+    close(0x2A, 0x8E, 0x80, buffer, 5 + n)
 }
 
 // Writes the tag 83 and the length of n filled bytes at place 5; the place behind them.
@@ -102,15 +136,15 @@ fn options_head(n: usize, buffer: &mut [u8]) -> usize
 }
 
 // Closes a command whose data stands from place 5 up to `end`: the header before it, and 00 behind it.
-fn close(ins: u8, p1: u8, buffer: &mut [u8], end: usize) -> Written
+fn close(ins: u8, p1: u8, p2: u8, buffer: &mut [u8], end: usize) -> Written
     requires { ⌜ (5 ≤ end) × (end ≤ 260) × (261 ≤ length (now buffer)) ⌝ }
     ensures said { λ r. ⌜ r ≡ handed (end + 1) ⌝ }
-    ensures kept { λ _. ⌜ now (buffer .exit) ≡ over (now (buffer .entry)) 0 (command ins p1 (take (end - 5) (drop 5 (now (buffer .entry))))) ⌝ }
+    ensures kept { λ _. ⌜ now (buffer .exit) ≡ over (now (buffer .entry)) 0 (commandWith ins p1 p2 (take (end - 5) (drop 5 (now (buffer .entry))))) ⌝ }
 {
     buffer[0] = 0x80;
     buffer[1] = ins;
     buffer[2] = p1;
-    buffer[3] = 0;
+    buffer[3] = p2;
     buffer[4] = (end - 5) as u8;
     buffer[end] = 0;
     Written::Command(Command { len: end + 1 })

@@ -12,7 +12,7 @@ use Rattle.dictionary.specs.declared.Searched.{Searched}
 use Rattle.dictionary.specs.Rows.{rows, rowAt, formB, formN, formCn}
 use Rattle.dictionary.specs.Search.{halve, halvingOf, lookedAt, searchOf, tagsOf}
 use Rattle.dictionary.specs.Form.{numeric, digitsThenFs, compressed, digitsFit, fitting}
-use Rattle.dictionary.specs.Named.{row5A, row8E, row9F02, rowDF811B, rowDF8125}
+use Rattle.dictionary.specs.Named.{row5A, row8E, row9F02, row9F67, row9F6A, row9F6B, rowDF811B, rowDF8125}
 use Rattle.dictionary.specs.TerminalType.{listed}
 
 -- terminal types: 11 to 16, 21 to 26, 34 to 36
@@ -71,6 +71,20 @@ phone-limits : map (fitting (rowAt rowDF8125)) (replicate 5 0x99 ∷ replicate 6
 unfolding rows fitting digitsFit numeric nibbles every both if
 phone-limits = refl
 
+-- four bytes of digits for 9F6A, one of any bits for 9F67, 0 to 19 for the track
+unpredictable-numbers : map (fitting (rowAt row9F6A)) (replicate 3 0x99 ∷ replicate 4 0x99 ∷ replicate 5 0x99 ∷ replicate 4 0x9A ∷ [])
+    ≡ false ∷ true ∷ false ∷ false ∷ []
+unfolding rows fitting digitsFit numeric nibbles every both if
+unpredictable-numbers = refl
+
+counter-lengths : map (λ n. fitting (rowAt row9F67) (replicate n 0xFF)) (0 ∷ 1 ∷ 2 ∷ []) ≡ false ∷ true ∷ false ∷ []
+unfolding rows fitting digitsFit both if
+counter-lengths = refl
+
+tracks : map (λ n. fitting (rowAt row9F6B) (replicate n 0xDF)) (0 ∷ 19 ∷ 20 ∷ []) ≡ true ∷ true ∷ false ∷ []
+unfolding rows fitting digitsFit both if
+tracks = refl
+
 -- ---- searches: where a tag stands, and how many are looked at
 
 abbrev said : Found → ℕ → Searched
@@ -114,7 +128,7 @@ of-eight = refl
 
 -- the dictionary: first row, two within, last; below all, between, above all
 of-rows : map (searchOf (tagsOf rows)) (0x57 ∷ 0x5F24 ∷ 0x9F09 ∷ 0xDF8126 ∷ [])
-    ≡ said (At 0) 6 ∷ said (At 9) 5 ∷ said (At 18) 5 ∷ said (At 41) 5 ∷ []
+    ≡ said (At 0) 6 ∷ said (At 9) 4 ∷ said (At 18) 3 ∷ said (At 48) 5 ∷ []
 unfolding rows searchOf halvingOf halve if
 of-rows = refl
 
@@ -124,6 +138,6 @@ unfolding rows searchOf halvingOf halve if
 of-no-row = refl
 
 -- the places looked at, in their order
-places-of-last : lookedAt (tagsOf rows) 0xDF8126 ≡ 21 ∷ 32 ∷ 37 ∷ 40 ∷ 41 ∷ []
+places-of-last : lookedAt (tagsOf rows) 0xDF8126 ≡ 24 ∷ 37 ∷ 43 ∷ 46 ∷ 48 ∷ []
 unfolding rows halvingOf halve if
 places-of-last = refl

@@ -3,7 +3,7 @@ use mathlib.Core.Path.{_≡_, refl}
 use Rattle.basics.specs.Choice.{if}
 use Rattle.dictionary.specs.declared.Found.the-variants.{At}
 use Rattle.dictionary.specs.Rows.{rows, past, find}
-use Rattle.dictionary.specs.Named.{row5A, row82, row8C, row8E, row94, row95, row9A, row9C, row5F24, row5F25, row5F28, row5F2A, row9F02, row9F03, row9F07, row9F08, row9F09, row9F0D, row9F0E, row9F0F, row9F10, row9F1A, row9F26, row9F27, row9F33, row9F34, row9F35, row9F36, row9F38, row9F40, row9F42, rowDF811B, rowDF8120, rowDF8121, rowDF8122, rowDF8123, rowDF8124, rowDF8125, rowDF8126}
+use Rattle.dictionary.specs.Named.{row5A, row82, row8C, row8E, row94, row95, row9A, row9C, row5F24, row5F25, row5F28, row5F2A, row9F02, row9F03, row9F07, row9F08, row9F09, row9F0D, row9F0E, row9F0F, row9F10, row9F1A, row9F26, row9F27, row9F33, row9F34, row9F35, row9F36, row9F38, row9F40, row9F42, row9F61, row9F65, row9F66, row9F67, row9F69, row9F6A, row9F6B, rowDF811B, rowDF8120, rowDF8121, rowDF8122, rowDF8123, rowDF8124, rowDF8125, rowDF8126}
 
 pub at-5A : find rows 0x5A ≡ At row5A
 unfolding if rows past find
@@ -128,6 +128,34 @@ at-9F40 = refl
 pub at-9F42 : find rows 0x9F42 ≡ At row9F42
 unfolding if rows past find
 at-9F42 = refl
+
+pub at-9F61 : find rows 0x9F61 ≡ At row9F61
+unfolding if rows past find
+at-9F61 = refl
+
+pub at-9F65 : find rows 0x9F65 ≡ At row9F65
+unfolding if rows past find
+at-9F65 = refl
+
+pub at-9F66 : find rows 0x9F66 ≡ At row9F66
+unfolding if rows past find
+at-9F66 = refl
+
+pub at-9F67 : find rows 0x9F67 ≡ At row9F67
+unfolding if rows past find
+at-9F67 = refl
+
+pub at-9F69 : find rows 0x9F69 ≡ At row9F69
+unfolding if rows past find
+at-9F69 = refl
+
+pub at-9F6A : find rows 0x9F6A ≡ At row9F6A
+unfolding if rows past find
+at-9F6A = refl
+
+pub at-9F6B : find rows 0x9F6B ≡ At row9F6B
+unfolding if rows past find
+at-9F6B = refl
 
 pub at-DF811B : find rows 0xDF811B ≡ At rowDF811B
 unfolding if rows past find

@@ -21,7 +21,8 @@ usedTags =
     0x5A ∷ 0x82 ∷ 0x8C ∷ 0x8E ∷ 0x94 ∷ 0x95 ∷ 0x9A ∷ 0x9C ∷
     0x5F24 ∷ 0x5F25 ∷ 0x5F28 ∷ 0x5F2A ∷ 0x9F02 ∷ 0x9F03 ∷ 0x9F07 ∷ 0x9F08 ∷
     0x9F09 ∷ 0x9F0D ∷ 0x9F0E ∷ 0x9F0F ∷ 0x9F10 ∷ 0x9F1A ∷ 0x9F26 ∷ 0x9F27 ∷
-    0x9F33 ∷ 0x9F34 ∷ 0x9F35 ∷ 0x9F36 ∷ 0x9F38 ∷ 0x9F40 ∷ 0x9F42 ∷ 0xDF811B ∷
+    0x9F33 ∷ 0x9F34 ∷ 0x9F35 ∷ 0x9F36 ∷ 0x9F38 ∷ 0x9F40 ∷ 0x9F42 ∷ 0x9F61 ∷
+    0x9F65 ∷ 0x9F66 ∷ 0x9F67 ∷ 0x9F69 ∷ 0x9F6A ∷ 0x9F6B ∷ 0xDF811B ∷
     0xDF8120 ∷ 0xDF8121 ∷ 0xDF8122 ∷ 0xDF8123 ∷ 0xDF8124 ∷ 0xDF8125 ∷ 0xDF8126 ∷
     []
 
@@ -120,26 +121,47 @@ row9F40 = 32
 abbrev pub row9F42 : ℕ
 row9F42 = 33
 
+abbrev pub row9F61 : ℕ
+row9F61 = 34
+
+abbrev pub row9F65 : ℕ
+row9F65 = 35
+
+abbrev pub row9F66 : ℕ
+row9F66 = 36
+
+abbrev pub row9F67 : ℕ
+row9F67 = 37
+
+abbrev pub row9F69 : ℕ
+row9F69 = 38
+
+abbrev pub row9F6A : ℕ
+row9F6A = 39
+
+abbrev pub row9F6B : ℕ
+row9F6B = 40
+
 abbrev pub rowDF811B : ℕ
-rowDF811B = 34
+rowDF811B = 41
 
 abbrev pub rowDF8120 : ℕ
-rowDF8120 = 35
+rowDF8120 = 42
 
 abbrev pub rowDF8121 : ℕ
-rowDF8121 = 36
+rowDF8121 = 43
 
 abbrev pub rowDF8122 : ℕ
-rowDF8122 = 37
+rowDF8122 = 44
 
 abbrev pub rowDF8123 : ℕ
-rowDF8123 = 38
+rowDF8123 = 45
 
 abbrev pub rowDF8124 : ℕ
-rowDF8124 = 39
+rowDF8124 = 46
 
 abbrev pub rowDF8125 : ℕ
-rowDF8125 = 40
+rowDF8125 = 47
 
 abbrev pub rowDF8126 : ℕ
-rowDF8126 = 41
+rowDF8126 = 48

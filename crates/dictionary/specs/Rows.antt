@@ -67,9 +67,8 @@ in70 = 1
 abbrev pub in77 : ℕ
 in77 = 2
 
--- bits of `answers`: the one that brings an object, by its command: GET PROCESSING OPTIONS, READ RECORD, GENERATE AC;
--- weight 8 is kept
--- for one more
+-- bits of `answers`: the one that brings an object, by its command: GET PROCESSING OPTIONS, READ RECORD, GENERATE AC,
+-- COMPUTE CRYPTOGRAPHIC CHECKSUM
 abbrev pub noAnswer : ℕ
 noAnswer = 0
 
@@ -82,8 +81,14 @@ cardRecord = 2
 abbrev pub cryptogram : ℕ
 cryptogram = 4
 
+abbrev pub checksum : ℕ
+checksum = 8
+
+abbrev pub lastAnswer : ℕ
+lastAnswer = cryptogram + checksum
+
 abbrev pub anyAnswer : ℕ
-anyAnswer = options + cardRecord + cryptogram
+anyAnswer = options + cardRecord + lastAnswer
 
 -- whether a start must bring it
 abbrev pub optional : ℕ
@@ -126,11 +131,18 @@ rows =
     row 0x9F33     3   3 formB  start   nowhere noAnswer   required ∷
     row 0x9F34     3   3 formB  session nowhere noAnswer   optional ∷
     row 0x9F35     1   1 formN  start   nowhere noAnswer   required ∷
-    row 0x9F36     2   2 formB  card    in77    cryptogram optional ∷
+    row 0x9F36     2   2 formB  card    in77    lastAnswer optional ∷
     row 0x9F37     4   4 formB  start   nowhere noAnswer   required ∷
     row 0x9F38     0 240 formB  start   nowhere noAnswer   optional ∷
     row 0x9F40     5   5 formB  start   nowhere noAnswer   optional ∷
     row 0x9F42     2   2 formN  card    in70    anyAnswer  optional ∷
+    row 0x9F61     2   2 formB  card    in77    checksum   optional ∷
+    row 0x9F65     2   2 formB  card    in70    anyAnswer  optional ∷
+    row 0x9F66     2   2 formB  card    in70    anyAnswer  optional ∷
+    row 0x9F67     1   1 formB  card    in70    anyAnswer  optional ∷
+    row 0x9F69     0 250 formB  card    in70    anyAnswer  optional ∷
+    row 0x9F6A     4   4 formN  start   nowhere noAnswer   required ∷
+    row 0x9F6B     0  19 formB  card    in70    anyAnswer  optional ∷
     row 0xDF811B   1   1 formB  start   nowhere noAnswer   required ∷
     row 0xDF8120   5   5 formB  start   nowhere noAnswer   required ∷
     row 0xDF8121   5   5 formB  start   nowhere noAnswer   required ∷
@@ -157,10 +169,10 @@ rowAt k = rowIn rows k
 -- with a length byte
 -- (`rows-length` and `rows-size` in the store's proofs compute both)
 abbrev pub rowCount : ℕ
-rowCount = 42
+rowCount = 49
 
 abbrev pub storeSize : ℕ
-storeSize = 1217
+storeSize = 1504
 
 -- ---- lookup
 

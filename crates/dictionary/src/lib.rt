@@ -19,10 +19,10 @@ ghost use Rattle.dictionary.specs.Named.{placeOf, usedTags};
 ghost use Rattle.dictionary.specs.TerminalType.{listed};
 
 // How many rows there are.
-pub const ROWS: usize = 42;
+pub const ROWS: usize = 49;
 
 // The store's size: the sum over the rows of the greatest length and one byte more.
-pub const SIZE: usize = 1217;
+pub const SIZE: usize = 1504;
 
 // Forms of a value.
 pub const FORM_B: u8 = 0;
@@ -49,6 +49,8 @@ pub const OPTIONS: u8 = 1;
 pub const CARD_RECORD: u8 = 2;
 
 pub const CRYPTOGRAM: u8 = 4;
+
+pub const CHECKSUM: u8 = 8;
 
 // The rows of the tags that code uses.
 pub const ROW_5A: usize = 1;
@@ -113,21 +115,35 @@ pub const ROW_9F40: usize = 32;
 
 pub const ROW_9F42: usize = 33;
 
-pub const ROW_DF811B: usize = 34;
+pub const ROW_9F61: usize = 34;
 
-pub const ROW_DF8120: usize = 35;
+pub const ROW_9F65: usize = 35;
 
-pub const ROW_DF8121: usize = 36;
+pub const ROW_9F66: usize = 36;
 
-pub const ROW_DF8122: usize = 37;
+pub const ROW_9F67: usize = 37;
 
-pub const ROW_DF8123: usize = 38;
+pub const ROW_9F69: usize = 38;
 
-pub const ROW_DF8124: usize = 39;
+pub const ROW_9F6A: usize = 39;
 
-pub const ROW_DF8125: usize = 40;
+pub const ROW_9F6B: usize = 40;
 
-pub const ROW_DF8126: usize = 41;
+pub const ROW_DF811B: usize = 41;
+
+pub const ROW_DF8120: usize = 42;
+
+pub const ROW_DF8121: usize = 43;
+
+pub const ROW_DF8122: usize = 44;
+
+pub const ROW_DF8123: usize = 45;
+
+pub const ROW_DF8124: usize = 46;
+
+pub const ROW_DF8125: usize = 47;
+
+pub const ROW_DF8126: usize = 48;
 
 // The table: the tags, and what their rows say. An array of numbers costs a few moves where it is read; one of
 // structs would be built field by field.
@@ -135,8 +151,8 @@ const TAGS: [u32; ROWS] = [
     0x57, 0x5A, 0x82, 0x8C, 0x8E, 0x94, 0x95, 0x9A, 0x9C, 0x5F24,
     0x5F25, 0x5F28, 0x5F2A, 0x5F34, 0x9F02, 0x9F03, 0x9F07, 0x9F08, 0x9F09, 0x9F0D,
     0x9F0E, 0x9F0F, 0x9F10, 0x9F1A, 0x9F26, 0x9F27, 0x9F33, 0x9F34, 0x9F35, 0x9F36,
-    0x9F37, 0x9F38, 0x9F40, 0x9F42, 0xDF811B, 0xDF8120, 0xDF8121, 0xDF8122, 0xDF8123, 0xDF8124,
-    0xDF8125, 0xDF8126,
+    0x9F37, 0x9F38, 0x9F40, 0x9F42, 0x9F61, 0x9F65, 0x9F66, 0x9F67, 0x9F69, 0x9F6A,
+    0x9F6B, 0xDF811B, 0xDF8120, 0xDF8121, 0xDF8122, 0xDF8123, 0xDF8124, 0xDF8125, 0xDF8126,
 ];
 
 // What each row says beside its tag, in one number: the least length, and above it a unit for each further
@@ -153,13 +169,15 @@ const B: u32 = (FORM_B as u32) * FORM;
 const N: u32 = (FORM_N as u32) * FORM;
 const CN: u32 = (FORM_CN as u32) * FORM;
 
-// The kinds of rows: the card's, in template 70, in 77, or in 77 with the cryptogram alone; the start's, and one
-// that a start must bring; the session's.
-const ANY_ANSWER: u32 = ((OPTIONS + CARD_RECORD + CRYPTOGRAM) as u32) * ANSWERS;
+// The kinds of rows: the card's, in template 70, in 77, or in 77 with the cryptogram alone, the checksum alone or
+// either; the start's, and one that a start must bring; the session's.
+const ANY_ANSWER: u32 = ((OPTIONS + CARD_RECORD + CRYPTOGRAM + CHECKSUM) as u32) * ANSWERS;
 const OF_CARD: u32 = (CARD as u32) * SETTERS;
 const OF_RECORD: u32 = OF_CARD + (IN_70 as u32) * TEMPLATES + ANY_ANSWER;
 const OF_OPTIONS: u32 = OF_CARD + (IN_77 as u32) * TEMPLATES + ANY_ANSWER;
 const OF_CRYPTOGRAM: u32 = OF_CARD + (IN_77 as u32) * TEMPLATES + (CRYPTOGRAM as u32) * ANSWERS;
+const OF_CHECKSUM: u32 = OF_CARD + (IN_77 as u32) * TEMPLATES + (CHECKSUM as u32) * ANSWERS;
+const OF_LAST: u32 = OF_CARD + (IN_77 as u32) * TEMPLATES + ((CRYPTOGRAM + CHECKSUM) as u32) * ANSWERS;
 const OF_START: u32 = (START as u32) * SETTERS;
 const MUST_START: u32 = OF_START + MUST;
 const OF_SESSION: u32 = (SESSION as u32) * SETTERS;
@@ -194,11 +212,18 @@ const CODES: [u32; ROWS] = [
      3 +   3 * GREATEST + B  + MUST_START,    // 9F33
      3 +   3 * GREATEST + B  + OF_SESSION,    // 9F34
      1 +   1 * GREATEST + N  + MUST_START,    // 9F35
-     2 +   2 * GREATEST + B  + OF_CRYPTOGRAM, // 9F36
+     2 +   2 * GREATEST + B  + OF_LAST,       // 9F36
      4 +   4 * GREATEST + B  + MUST_START,    // 9F37
      0 + 240 * GREATEST + B  + OF_START,      // 9F38
      5 +   5 * GREATEST + B  + OF_START,      // 9F40
      2 +   2 * GREATEST + N  + OF_RECORD,     // 9F42
+     2 +   2 * GREATEST + B  + OF_CHECKSUM,   // 9F61
+     2 +   2 * GREATEST + B  + OF_RECORD,     // 9F65
+     2 +   2 * GREATEST + B  + OF_RECORD,     // 9F66
+     1 +   1 * GREATEST + B  + OF_RECORD,     // 9F67
+     0 + 250 * GREATEST + B  + OF_RECORD,     // 9F69
+     4 +   4 * GREATEST + N  + MUST_START,    // 9F6A
+     0 +  19 * GREATEST + B  + OF_RECORD,     // 9F6B
      1 +   1 * GREATEST + B  + MUST_START,    // DF811B
      5 +   5 * GREATEST + B  + MUST_START,    // DF8120
      5 +   5 * GREATEST + B  + MUST_START,    // DF8121
@@ -275,7 +300,7 @@ pub fn search(tags: &[u32], tag: u32) -> Searched
 }
 
 // The rows of the tags that code uses, in the order of their constants.
-pub fn used_rows() -> [usize; 39]
+pub fn used_rows() -> [usize; 46]
     ensures { λ r. ⌜ r ≡ map placeOf usedTags ⌝ }
 {
     [
@@ -310,6 +335,13 @@ pub fn used_rows() -> [usize; 39]
         ROW_9F38,
         ROW_9F40,
         ROW_9F42,
+        ROW_9F61,
+        ROW_9F65,
+        ROW_9F66,
+        ROW_9F67,
+        ROW_9F69,
+        ROW_9F6A,
+        ROW_9F6B,
         ROW_DF811B,
         ROW_DF8120,
         ROW_DF8121,

@@ -28,12 +28,12 @@ use Rattle.record.specs.declared.Outcome.{Outcome}
 use Rattle.record.specs.declared.Phase.{Phase}
 use Rattle.record.specs.Numbers.{goesWith}
 use Rattle.record.specs.Session.{sessionOf, endOf}
-use Rattle.record.specs.Ranges.{objectFits, allFit, isBrought, brought, cryptogramAbsent, running, completed, freshRanges, optionsRanges, recordRanges, cryptogramRanges, endedRanges, inRanges}
+use Rattle.record.specs.Ranges.{objectFits, allFit, isBrought, brought, lastAbsent, running, completed, freshRanges, optionsRanges, recordRanges, cryptogramRanges, endedRanges, inRanges}
 use Rattle.session.specs.Answer.{decision}
 use Rattle.explain.specs.declared.Stage.{Stage}
 use Rattle.explain.specs.declared.Holder.{Holder}
 use Rattle.explain.specs.declared.Explanation.{Explanation}
-use Rattle.explain.specs.Explain.{stageIn, decidingIn, holderOf, pairAt, reasonAt, rankOf, endedIn, explained}
+use Rattle.explain.specs.Explain.{stageIn, decidingIn, holderOf, pairAt, reasonAt, rankOf, endedIn, endedBy, explained}
 use Rattle.explain.specs.Word.{noBit, choiceWord, wordOf}
 
 -- ---- numbers
@@ -58,7 +58,7 @@ abbrev started : ℕ → List ℕ → List Object
 started type results =
     (0x9A, 0x25 ∷ 0x11 ∷ 0x16 ∷ []) ∷ (0x9C, 0x00 ∷ []) ∷ (0x9F02, 0 ∷ 0 ∷ 0 ∷ 0 ∷ 0x12 ∷ 0x34 ∷ []) ∷ (0x9F09, 0 ∷ 2 ∷ []) ∷ (0x9F1A, 0x00 ∷ 0x56 ∷ [])
     ∷ (0x9F33, 0xE0 ∷ 0xF8 ∷ 0xC8 ∷ []) ∷ (0x9F35, type ∷ []) ∷ (0x9F37, 1 ∷ 2 ∷ 3 ∷ 4 ∷ []) ∷ (0xDF8120, replicate 5 0) ∷ (0xDF8121, replicate 5 0) ∷ (0xDF8122, replicate 5 0)
-    ∷ (0xDF8123, 0 ∷ 0 ∷ 0 ∷ 0 ∷ 0x50 ∷ 0x00 ∷ []) ∷ (0xDF8124, 0 ∷ 0 ∷ 0 ∷ 1 ∷ 0 ∷ 0 ∷ []) ∷ (0xDF8125, 0 ∷ 0 ∷ 0 ∷ 2 ∷ 0 ∷ 0 ∷ []) ∷ (0xDF811B, 0 ∷ []) ∷ (0xDF8126, 0 ∷ 0 ∷ 0 ∷ 0 ∷ 0x25 ∷ 0x00 ∷ []) ∷ (0x95, results) ∷ []
+    ∷ (0xDF8123, 0 ∷ 0 ∷ 0 ∷ 0 ∷ 0x50 ∷ 0x00 ∷ []) ∷ (0xDF8124, 0 ∷ 0 ∷ 0 ∷ 1 ∷ 0 ∷ 0 ∷ []) ∷ (0xDF8125, 0 ∷ 0 ∷ 0 ∷ 2 ∷ 0 ∷ 0 ∷ []) ∷ (0xDF811B, 0 ∷ []) ∷ (0x9F6A, replicate 4 0) ∷ (0xDF8126, 0 ∷ 0 ∷ 0 ∷ 0 ∷ 0x25 ∷ 0x00 ∷ []) ∷ (0x95, results) ∷ []
 
 -- EMV mode and a locator of two records
 abbrev opened : ℕ → List ℕ → List Object
@@ -115,7 +115,7 @@ waiting-online : waiting Choice.Online 0x22 usual [] ∷ waiting Choice.Offline 
     ≡ choiceWord Stage.Online Holder.Card 0 ∷ choiceWord Stage.Online Holder.Nobody noBit ∷ refused ∷ choiceWord Stage.Online Holder.Terminal 9 ∷ []
 unfolding explained stageIn decidingIn holderOf pairAt reasonAt bit front holdsBit lowestFrom lowestBit cardCode heldAt capabilityAt choiceOf codesOf chosen
     inRanges allFit objectFits lengthIn lengthByte fitting digitsFit numeric compressed digitsThenFs nibbles putAt placeOf valueIn valueAt placeAt held offsetIn find past rows
-    cryptogramRanges limitOf phoneIn onDevice amountOf decimalFrom running brought isBrought cryptogramAbsent completed listed accepts wholeEntries entries keeps sumOf every both either if
+    cryptogramRanges limitOf phoneIn onDevice amountOf decimalFrom running brought isBrought lastAbsent completed listed accepts wholeEntries entries keeps sumOf every both either if
 waiting-online = refl
 
 -- the lowest bit of the denial codes alone, by the terminal, and by both where the lower one is not set; at type 21 too
@@ -125,7 +125,7 @@ waiting-denial : waiting Choice.Decline 0x22 (five 0x80 0x40 0 0x80 0) ((0x9F0E,
     ≡ choiceWord Stage.Denial Holder.Terminal 9 ∷ choiceWord Stage.Denial Holder.Both 24 ∷ choiceWord Stage.Denial Holder.Card 24 ∷ []
 unfolding explained stageIn decidingIn holderOf pairAt reasonAt bit front holdsBit lowestFrom lowestBit cardCode heldAt capabilityAt choiceOf codesOf chosen
     inRanges allFit objectFits lengthIn lengthByte fitting digitsFit numeric compressed digitsThenFs nibbles putAt placeOf valueIn valueAt placeAt held offsetIn find past rows
-    cryptogramRanges limitOf phoneIn onDevice amountOf decimalFrom running brought isBrought cryptogramAbsent completed listed accepts wholeEntries entries keeps sumOf every both either if
+    cryptogramRanges limitOf phoneIn onDevice amountOf decimalFrom running brought isBrought lastAbsent completed listed accepts wholeEntries entries keeps sumOf every both either if
 waiting-denial = refl
 
 -- the online-only type; the default stage with an absent code, with its last bit, and with none
@@ -136,7 +136,7 @@ waiting-types : waiting Choice.Online 0x21 usual [] ∷ waiting Choice.Decline 0
     ∷ choiceWord Stage.Default Holder.Nobody noBit ∷ []
 unfolding explained stageIn decidingIn holderOf pairAt reasonAt bit front holdsBit lowestFrom lowestBit cardCode heldAt capabilityAt choiceOf codesOf chosen
     inRanges allFit objectFits lengthIn lengthByte fitting digitsFit numeric compressed digitsThenFs nibbles putAt placeOf valueIn valueAt placeAt held offsetIn find past rows
-    cryptogramRanges limitOf phoneIn onDevice amountOf decimalFrom running brought isBrought cryptogramAbsent completed listed accepts wholeEntries entries keeps sumOf every both either if
+    cryptogramRanges limitOf phoneIn onDevice amountOf decimalFrom running brought isBrought lastAbsent completed listed accepts wholeEntries entries keeps sumOf every both either if
 waiting-types = refl
 
 -- ---- ended with reason 0
@@ -145,7 +145,7 @@ waiting-types = refl
 ended-given : ended 0 Outcome.OnlineRequest 0x80 [] ∷ ended 0 Outcome.Declined 0x00 [] ∷ ended 0 Outcome.OnlineRequest 0x80 ((0x9F0F, zero5) ∷ [])
     ∷ ended 0 Outcome.Approved 0x40 ((0x9F0F, zero5) ∷ []) ∷ []
     ≡ choiceWord Stage.Online Holder.Card 0 ∷ lower ∷ lower ∷ choiceWord Stage.Online Holder.Nobody noBit ∷ []
-unfolding explained endedIn rankOf decision stageIn decidingIn holderOf pairAt reasonAt bit front holdsBit lowestFrom lowestBit cardCode heldAt capabilityAt choiceOf codesOf chosen
+unfolding explained endedBy endedIn rankOf decision stageIn decidingIn holderOf pairAt reasonAt bit front holdsBit lowestFrom lowestBit cardCode heldAt capabilityAt choiceOf codesOf chosen
     inRanges allFit objectFits lengthIn lengthByte fitting digitsFit numeric compressed digitsThenFs nibbles putAt placeOf valueIn valueAt placeAt held offsetIn find past rows
     endedRanges goesWith every both either if
 ended-given = refl
@@ -153,7 +153,7 @@ ended-given = refl
 -- an approval of an online choice; a decline with an ARQC; no 9F27, DF8122 or 95
 ended-refused : ended 0 Outcome.Approved 0x40 [] ∷ ended 0 Outcome.Declined 0x80 [] ∷ map (λ t. ended t Outcome.OnlineRequest 0x80 []) (0x9F27 ∷ 0xDF8122 ∷ 0x95 ∷ [])
     ≡ replicate 5 refused
-unfolding explained endedIn rankOf decision stageIn decidingIn holderOf pairAt reasonAt bit front holdsBit lowestFrom lowestBit cardCode heldAt capabilityAt choiceOf codesOf chosen
+unfolding explained endedBy endedIn rankOf decision stageIn decidingIn holderOf pairAt reasonAt bit front holdsBit lowestFrom lowestBit cardCode heldAt capabilityAt choiceOf codesOf chosen
     inRanges allFit objectFits lengthIn lengthByte fitting digitsFit numeric compressed digitsThenFs nibbles putAt placeOf valueIn valueAt placeAt held offsetIn find past rows
     endedRanges goesWith every both either if
 ended-refused = refl
@@ -163,7 +163,7 @@ ended-refused = refl
 ended-needs : map (λ t. ended t Outcome.OnlineRequest 0x80 []) (0xDF8121 ∷ 0x9F35 ∷ 0xDF8120 ∷ [])
     ++ (ended 0x9F35 Outcome.Declined 0x00 ((0x9F0E, usual) ∷ []) ∷ [])
     ≡ refused ∷ refused ∷ choiceWord Stage.Online Holder.Card 0 ∷ choiceWord Stage.Denial Holder.Card 0 ∷ []
-unfolding explained endedIn rankOf decision stageIn decidingIn holderOf pairAt reasonAt bit front holdsBit lowestFrom lowestBit cardCode heldAt capabilityAt choiceOf codesOf chosen
+unfolding explained endedBy endedIn rankOf decision stageIn decidingIn holderOf pairAt reasonAt bit front holdsBit lowestFrom lowestBit cardCode heldAt capabilityAt choiceOf codesOf chosen
     inRanges allFit objectFits lengthIn lengthByte fitting digitsFit numeric compressed digitsThenFs nibbles putAt placeOf valueIn valueAt placeAt held offsetIn find past rows
     endedRanges goesWith every both either if
 ended-needs = refl
@@ -176,12 +176,31 @@ inPhase p n objects = wordOf (explained (sessionOf p n (without 0 objects)))
 before-choice : inPhase Phase.Fresh 0 [] ∷ inPhase Phase.Options 1 (started 0x22 zero5)
     ∷ inPhase (Phase.Record (record { number = 1; limit = 10000 })) 2 (opened 0x22 zero5) ∷ [] ≡ replicate 3 noChoice
 unfolding explained inRanges allFit objectFits lengthIn lengthByte fitting digitsFit numeric nibbles putAt placeOf valueIn valueAt placeAt held offsetIn find past rows
-    freshRanges optionsRanges recordRanges limitOf phoneIn onDevice amountOf decimalFrom front bit running brought isBrought cryptogramAbsent listed accepts wholeEntries entries keeps sumOf every both either if
+    freshRanges optionsRanges recordRanges limitOf phoneIn onDevice amountOf decimalFrom front bit running brought isBrought lastAbsent listed accepts wholeEntries entries keeps sumOf every both either if
 before-choice = refl
 
 -- 6 goes with select next alone
 with-reason : inPhase (Phase.Ended (endOf Outcome.SelectNext 6)) 3 [] ∷ inPhase (Phase.Ended (endOf Outcome.Ended 8)) 4 []
     ∷ inPhase (Phase.Ended (endOf Outcome.Ended 9)) 1 [] ∷ inPhase (Phase.Ended (endOf Outcome.Ended 6)) 3 [] ∷ []
     ≡ map (λ n. wordOf (Explanation.Reason n)) (6 ∷ 8 ∷ 9 ∷ []) ++ (refused ∷ [])
-unfolding explained endedIn inRanges allFit objectFits lengthIn lengthByte valueIn valueAt placeAt held offsetIn find past rows endedRanges goesWith every both either if
+unfolding explained endedBy endedIn inRanges allFit objectFits lengthIn lengthByte valueIn valueAt placeAt held offsetIn find past rows endedRanges goesWith every both either if
 with-reason = refl
+
+-- in mag-stripe mode: every outcome of reason 0, whatever else is stored; a reason is told; without 82, and with byte 2 b8 set, it is
+-- explained by what is there
+abbrev endedWith : Outcome → ℕ → List Object → ℕ
+endedWith o n objects = inPhase (Phase.Ended (endOf o n)) 3 objects
+
+in-stripe-mode :
+    endedWith Outcome.OnlineRequest 0 ((0x82, 0x00 ∷ 0x00 ∷ []) ∷ started 0x22 zero5)
+    ∷ endedWith Outcome.Declined 0 ((0x82, 0xFF ∷ 0x7F ∷ []) ∷ (0xDF811B, 0x80 ∷ []) ∷ [])
+    ∷ endedWith Outcome.Approved 0 ((0x82, 0x00 ∷ 0x00 ∷ []) ∷ answered 0x40 ++ complete 0x22 usual)
+    ∷ endedWith Outcome.Ended 4 ((0x82, 0x00 ∷ 0x00 ∷ []) ∷ [])
+    ∷ endedWith Outcome.OnlineRequest 0 (started 0x22 zero5)
+    ∷ endedWith Outcome.OnlineRequest 0 ((0x82, 0x00 ∷ 0x80 ∷ []) ∷ started 0x22 zero5)
+    ∷ []
+    ≡ noChoice ∷ noChoice ∷ noChoice ∷ wordOf (Explanation.Reason 4) ∷ refused ∷ refused ∷ []
+unfolding explained endedBy endedIn rankOf decision stageIn decidingIn holderOf pairAt reasonAt bit front holdsBit lowestFrom lowestBit cardCode heldAt capabilityAt choiceOf codesOf chosen
+    inRanges allFit objectFits lengthIn lengthByte fitting digitsFit numeric compressed digitsThenFs nibbles putAt placeOf valueIn valueAt placeAt held offsetIn find past rows
+    endedRanges goesWith every both either if
+in-stripe-mode = refl

@@ -14,7 +14,7 @@ use lib.Dec.{eqb}
 use borrow.Author.Tests.{eq-eqb, ne-eqb, eqb-true, ltb-true, lt-ltb, le-ltb, not-false}
 use Rattle.basics.specs.Choice.{if, both, either, every}
 use Rattle.basics.specs.Reason.{reasonNone}
-use Rattle.basics.proofs.Laws.{bool-cases, if-ind, if-yes, if-no, both-left, both-right, both-no-right, either-no}
+use Rattle.basics.proofs.Laws.{bool-cases, if-ind, if-yes, if-no, both-yes, both-left, both-right, both-no-left, both-no-right, either-no}
 use Rattle.store.specs.Held.{holds, lacks}
 use Rattle.analysis.specs.Bits.{bit}
 use Rattle.analysis.specs.Choice.{noBits, holdsBit, lowestBit, someBit, heldAt, denial, online, default, capabilityOf, choiceBy, choiceOf, p1Of}
@@ -38,7 +38,7 @@ use Rattle.explain.specs.declared.Stage.{Stage}
 use Rattle.explain.specs.declared.Deciding.{Deciding}
 use Rattle.explain.specs.declared.Cause.{Cause}
 use Rattle.explain.specs.declared.Explanation.{Explanation}
-use Rattle.explain.specs.Explain.{resultIn, choiceIn, stageBy, stageIn, neededAt, completed, decidingIn, holderOf, pairAt, byBit, reasonAt, waitingAt, rankOf, typeIn, typeAsked, gives, decidedAt, endedIn, inPhase, explained}
+use Rattle.explain.specs.Explain.{resultIn, choiceIn, stageBy, stageIn, neededAt, completed, decidingIn, holderOf, pairAt, byBit, reasonAt, waitingAt, rankOf, typeIn, typeAsked, gives, decidedAt, endedIn, isStripe, endedBy, inPhase, explained}
 use Rattle.explain.specs.Told.{forcedBy, unforcedBy, Named, Unnamed, Lower, Decides, Told}
 
 -- ---- the stage that decided
@@ -239,12 +239,14 @@ module _ (b : List ℕ) where
       (λ u. if-ind (Right b) _ _ _ (λ v. lower-right (ltb-true _ _ v)) (λ v. reason-right b g e)))
 
   phase-right : (p : Phase) → Right b (inPhase p b)
-  unfolding endedIn
+  unfolding endedIn endedBy
   phase-right Phase.Fresh = plain b _ tt
   phase-right Phase.Options = plain b _ tt
   phase-right (Phase.Record p) = plain b _ tt
   phase-right (Phase.Cryptogram a) = waiting-right a (decidingIn b) refl
-  phase-right (Phase.Ended x) = if-ind (Right b) _ _ _ (λ t. decided-right x (decidingIn b) refl) (λ t. plain b _ tt)
+  phase-right (Phase.Checksum k) = plain b _ tt
+  phase-right (Phase.Ended x) =
+      if-ind (Right b) _ _ _ (λ u. plain b _ tt) (λ u. if-ind (Right b) _ _ _ (λ t. decided-right x (decidingIn b) refl) (λ t. plain b _ tt))
 
 -- ---- ended, as the code comes to it
 
@@ -275,6 +277,20 @@ module _ (x : End) (b : List ℕ) where
 
           pub ended-stage : rankOf (typeAsked (choiceIn b)) ≤ rankOf (typeIn b) → endedIn x b ≡ reasonAt b stage
           ended-stage k = decided e ∙ if-no _ _ (ap not h) ∙ if-no _ _ (ap not g) ∙ if-no _ _ (le-ltb _ _ k)
+
+-- ended, by the mode
+module _ (x : End) (b : List ℕ) where
+  pub by-reason : (x .reason ≡ reasonNone → ⊥) → endedBy x b ≡ endedIn x b
+  unfolding endedBy
+  by-reason n = if-no _ _ (both-no-left _ _ (ne-eqb _ _ n))
+
+  pub by-stripe : x .reason ≡ reasonNone → isStripe b ≡ true → endedBy x b ≡ Explanation.NoChoice
+  unfolding endedBy
+  by-stripe z e = if-yes _ _ (both-yes _ _ (eq-eqb _ _ z) e)
+
+  pub by-choice : isStripe b ≡ false → endedBy x b ≡ endedIn x b
+  unfolding endedBy
+  by-choice e = if-no _ _ (both-no-right _ _ e)
 
 -- ---- the choice that is held, and the outcome
 
@@ -328,6 +344,13 @@ module _ (b : List ℕ) where
   unfolding endedIn
   ended-given x e n = decided-given x (decidingIn b) (λ z. n (if-yes _ _ (eq-eqb _ _ e) ∙ z))
 
+  -- one that does not say that there is no choice
+  chosen-given : (x : End) → x .reason ≡ reasonNone → (endedBy x b ≡ Explanation.Refused → ⊥) → (endedBy x b ≡ Explanation.NoChoice → ⊥) → Decides b (x .outcome)
+  unfolding endedBy
+  chosen-given x e =
+      if-ind (λ (r : Explanation). (r ≡ Explanation.Refused → ⊥) → (r ≡ Explanation.NoChoice → ⊥) → Decides b (x .outcome)) _ _ _
+      (λ t n m. absurd (m refl)) (λ t n m. ended-given x e n)
+
 -- ---- the promise
 
 module _ (s : Session) where
@@ -343,6 +366,13 @@ module _ (s : Session) where
       P : Explanation → Type 0
       P r = (r ≡ Explanation.Refused → ⊥) → (p : Phase) → s .phase ≡ p → inPhase p (stored s) ≡ Explanation.Refused → ⊥
 
+  chosen-by-phase : (explained s ≡ Explanation.Refused → ⊥) → (explained s ≡ Explanation.NoChoice → ⊥) → (p : Phase) → s .phase ≡ p → inPhase p (stored s) ≡ Explanation.NoChoice → ⊥
+  unfolding explained
+  chosen-by-phase = if-ind P _ _ _ (λ t n m p q z. m (ap (λ (x : Phase). inPhase x (stored s)) q ∙ z)) (λ t n m p q z. n refl)
+    where
+      P : Explanation → Type 0
+      P r = (r ≡ Explanation.Refused → ⊥) → (r ≡ Explanation.NoChoice → ⊥) → (p : Phase) → s .phase ≡ p → inPhase p (stored s) ≡ Explanation.NoChoice → ⊥
+
   explained-told : Told s (explained s)
   explained-told =
       record {
@@ -351,7 +381,7 @@ module _ (s : Session) where
         unnamed = explained-right .unnamed;
         lower = explained-right .lower;
         held = λ a q n. waiting-held (stored s) a (decidingIn (stored s)) (by-phase n (Phase.Cryptogram a) q);
-        decided = λ x q z n. ended-given (stored s) x z (by-phase n (Phase.Ended x) q);
+        decided = λ x q z n m. chosen-given (stored s) x z (by-phase n (Phase.Ended x) q) (chosen-by-phase n m (Phase.Ended x) q);
       }
 
   -- an answer that is the definition's keeps every clause

@@ -8,7 +8,7 @@ use mathlib.Core.List.{List, [], _∷_}
 use mathlib.Core.Option.{Option, some, none}
 use Prim.Native.Nat.{ℕ, _/_}
 use lib.ListN.{getD}
-use Rattle.basics.specs.Choice.{if_then_else_, every, _<?_, _=?_}
+use Rattle.basics.specs.Choice.{if_then_else_, every, _and_, _<?_, _=?_}
 use Rattle.basics.specs.Reason.{reasonNone}
 use Rattle.store.specs.Held.{holds, lacks, bytesIn, byteIn}
 use Rattle.analysis.specs.Value.{front}
@@ -26,7 +26,7 @@ use Rattle.record.specs.declared.Phase.{Phase}
 use Rattle.record.specs.declared.Session.{Session}
 use Rattle.record.specs.Numbers.{outcomeNumber}
 use Rattle.record.specs.Session.{stored}
-use Rattle.record.specs.Ranges.{inRanges}
+use Rattle.record.specs.Ranges.{emvMode, inRanges}
 use Rattle.session.specs.Answer.{decision}
 use Rattle.explain.specs.declared.Stage.{Stage}
 use Rattle.explain.specs.declared.Deciding.{Deciding}
@@ -153,15 +153,26 @@ endedIn e b =
     if e .reason =? reasonNone then decidedAt e b (decidingIn b)
     else Explanation.Reason (e .reason)
 
+-- in mag-stripe mode no choice is made (document 02, Item 9): 82 is there with byte 2 b8 clear
+abbrev pub isStripe : List ℕ → Bool
+isStripe b = holds b 0x82 and not (emvMode b)
+
+-- ended so with reason 0, nothing else of the record is looked at
+unfoldable pub endedBy : End → List ℕ → Explanation
+endedBy e b =
+    if e .reason =? reasonNone and isStripe b then Explanation.NoChoice
+    else endedIn e b
+
 -- ---- the answer
 
--- by the phase: there is no choice before the cryptogram is asked for
+-- by the phase: there is no choice before the cryptogram is asked for, and none on the checksum
 abbrev pub inPhase : Phase → List ℕ → Explanation
 inPhase Phase.Fresh          b = Explanation.NoChoice
 inPhase Phase.Options        b = Explanation.NoChoice
 inPhase (Phase.Record p)     b = Explanation.NoChoice
 inPhase (Phase.Cryptogram a) b = waitingAt a b (decidingIn b)
-inPhase (Phase.Ended e)      b = endedIn e b
+inPhase (Phase.Checksum c)   b = Explanation.NoChoice
+inPhase (Phase.Ended e)      b = endedBy e b
 
 -- a record that breaks its ranges is refused, and so is one that lacks what the answer needs, or whose choice or
 -- outcome the rest of it does not give (25)

@@ -65,7 +65,7 @@ abbrev pub Decides : List ℕ → Outcome → Type 0
 Decides b o = decision (choiceIn b) (typeIn b) ≡ some o
 
 -- what is promised of the explanation r of a session; one that is not refused holds the choice that the rest of the
--- record gives, or the outcome that its cryptogram gives
+-- record gives, or, where it does not say that there is no choice, the outcome that its cryptogram gives
 pub record Told (s : Session) (r : Explanation) : Type 0 where
   pub answer : r ≡ explained s
   pub named : (c : Cause) → r ≡ Explanation.Forced c → Named (stored s) c
@@ -74,4 +74,4 @@ pub record Told (s : Session) (r : Explanation) : Type 0 where
   pub held : (a : Asked) → s .phase ≡ Phase.Cryptogram a → (r ≡ Explanation.Refused → ⊥)
       → a .choice ≡ choiceIn (stored s)
   pub decided : (e : End) → s .phase ≡ Phase.Ended e → e .reason ≡ reasonNone → (r ≡ Explanation.Refused → ⊥)
-      → Decides (stored s) (e .outcome)
+      → (r ≡ Explanation.NoChoice → ⊥) → Decides (stored s) (e .outcome)

@@ -4,7 +4,7 @@
 //
 // `explain` takes a session by value, `explain_in` its parts with the store shared. `word` is the number of an explanation.
 use analysis::choice::{Capability, Choice, Lowest, Pair, DEFAULT, DENIAL, ONLINE};
-use dictionary::{ROW_95, ROW_9F27, ROW_DF8120, ROW_DF8121, ROW_DF8122};
+use dictionary::{ROW_82, ROW_95, ROW_9F27, ROW_DF8120, ROW_DF8121, ROW_DF8122};
 use record::{Asked, End, Outcome, Phase, Session};
 use session::Decided;
 ghost use mathlib.Core.Path.{_≡_};
@@ -15,7 +15,7 @@ ghost use Rattle.analysis.specs.Bits.{bit as bitOf};
 ghost use Rattle.record.specs.Session.{sessionOf};
 ghost use Rattle.session.specs.Answer.{decision};
 ghost use Rattle.explain.specs.Explain.{resultIn, choiceIn, stageBy, stageIn, neededAt, decidingIn, holderBy, holderOf, pairAt, reasonAt};
-ghost use Rattle.explain.specs.Explain.{waitingAt, rankOf, gives, endedIn};
+ghost use Rattle.explain.specs.Explain.{waitingAt, rankOf, gives, endedIn, isStripe, endedBy};
 ghost use Rattle.explain.specs.Told.{Told};
 ghost use Rattle.explain.specs.Word.{stageNumber, holderNumber, choiceWord, wordOf};
 
@@ -88,7 +88,8 @@ pub fn explain_in(phase: Phase, count: u8, bytes: &[u8]) -> Explanation
         Phase::Options => Explanation::NoChoice,
         Phase::Record(_) => Explanation::NoChoice,
         Phase::Cryptogram(asked) => waiting(asked, bytes),
-        Phase::Ended(end) => ended(end, bytes),
+        Phase::Checksum(_) => Explanation::NoChoice,
+        Phase::Ended(end) => ended_by(end, bytes),
     }
 }
 
@@ -104,6 +105,29 @@ fn waiting(asked: Asked, bytes: &[u8]) -> Explanation
         return Explanation::Refused;
     }
     reason_at(stage, bytes)
+}
+
+// Ended: in mag-stripe mode no choice was made.
+fn ended_by(end: End, bytes: &[u8]) -> Explanation
+    ensures { λ r. ⌜ r ≡ endedBy end (now (bytes .entry)) ⌝ }
+{
+    if end.reason != basics::REASON_NONE {
+        return ended(end, bytes);
+    }
+    if is_stripe(bytes) {
+        return Explanation::NoChoice;
+    }
+    ended(end, bytes)
+}
+
+// 82 is there with byte 2 b8 clear.
+fn is_stripe(bytes: &[u8]) -> bool
+    ensures { λ r. ⌜ r ≡ isStripe (now (bytes .entry)) ⌝ }
+{
+    if !store::is_there(bytes, ROW_82) {
+        return false;
+    }
+    !record::is_emv(bytes)
 }
 
 // Ended: the reason, or why it was decided so.

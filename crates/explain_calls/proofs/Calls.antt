@@ -11,17 +11,21 @@ use native.Mathlib.Omega.{arith}
 use lib.ListN.{length}
 use borrow.Author.Tests.{eqb-true, eqb-false, not-false}
 use Rattle.basics.specs.Choice.{if, both}
-use Rattle.basics.specs.Reason.{reasonNone, reasonDataList, reasonLink, reasonStopped}
+use Rattle.basics.specs.Reason.{reasonNone, reasonMissing, reasonDataList, reasonLink, reasonStopped}
 use Rattle.dictionary.specs.Rows.{storeSize}
-use Rattle.basics.proofs.Laws.{if-ind, if-yes, if-no, both-left, both-true}
-use Rattle.store.specs.Place.{valueOf}
+use Rattle.dictionary.specs.Named.{row82}
+use Rattle.dictionary.proofs.Named.{at-82}
+use Rattle.basics.proofs.Laws.{if-ind, if-yes, if-no, both-yes, both-left, both-right, both-no-right, both-true, either-left, either-right}
+use Rattle.store.specs.Place.{Value, bytesOf, isThere, valueOf}
+use Rattle.analysis.specs.Bits.{has}
 use Rattle.locator.specs.Command.{readRecord}
 use Rattle.reading.specs.declared.Awaited.{Awaited}
 use Rattle.reading.specs.Answer as reading
 use Rattle.analysis.specs.declared.choice.Choice.{Choice}
 use Rattle.analysis.specs.Action.{limitOf, findingsOf}
-use Rattle.analysis.specs.Verification.{methodNumber}
+use Rattle.analysis.specs.Verification.{methodNumber, notApplicable}
 use Rattle.record.specs.declared.Asked.{Asked}
+use Rattle.record.specs.declared.Checksum.{Checksum}
 use Rattle.record.specs.declared.End.{End}
 use Rattle.record.specs.declared.Outcome.{Outcome}
 use Rattle.record.specs.declared.Phase.{Phase}
@@ -29,20 +33,21 @@ use Rattle.record.specs.declared.Place.{Place}
 use Rattle.record.specs.declared.Reply.{Reply}
 use Rattle.record.specs.declared.Session.{Session}
 use Rattle.record.specs.Session.{stored, sessionOf, endOf}
-use Rattle.record.specs.Ranges.{inRanges}
-use Rattle.record.proofs.Phases.{store-size, store-fits, on-cryptogram}
+use Rattle.record.specs.Ranges.{eitherMode, inRanges}
+use Rattle.record.proofs.Phases.{store-size, store-fits, on-cryptogram, on-checksum}
 use Rattle.session.specs.Steps.{Step, withoutCommand, ended, endBy, commands, withFindings, admitted, brokenOff}
 use Rattle.session.specs.Start.{startStep}
+use Rattle.session.specs.Stripe.{checksumPhase, withDigits}
 use Rattle.session.specs.Answer.{recordPhase, askedIn, decision, endFor, cryptogramThere, cryptogramEnd, cryptogramReply, answerIn, answerStep}
 use Rattle.trace.specs.Calls.{Call, start, answer, link-failed, stop, step, Made, made, play, final, isRefusal, taken, lastOf}
-use Rattle.trace.proofs.Kept.{read-size}
+use Rattle.trace.proofs.Kept.{read-size, read-fits, read-mode, digits-other}
 use Rattle.trace.proofs.Trace.{by, by-front, call-keeps}
 use Rattle.trace.proofs.Ways as ways
-use Rattle.trace.proofs.Ways.{Reason, unread-reason, OptionsWay, RecordsWay, RecordWay, AnswerWay, answer-way, StartWay, start-way, BrokenWay, broken-way}
+use Rattle.trace.proofs.Ways.{Reason, unread-reason, OptionsWay, RecordsWay, StripeWay, RecordWay, ChecksumWay, AnswerWay, answer-way, StartWay, start-way, BrokenWay, broken-way}
 use Rattle.explain.specs.declared.Explanation.{Explanation}
-use Rattle.explain.specs.Explain.{choiceIn, typeIn, inPhase, explained}
+use Rattle.explain.specs.Explain.{choiceIn, typeIn, isStripe, inPhase, explained}
 use Rattle.explain.specs.Told.{Decides}
-use Rattle.explain.proofs.Complete.{Complete, running-complete, waiting-answers, ended-answers, reason-answers, phase-answers}
+use Rattle.explain.proofs.Complete.{Complete, running-complete, waiting-answers, ended-answers, reason-answers, stripe-answers, phase-answers}
 use Rattle.explain_calls.specs.Explained.{onCryptogram, isDecided, bringsCode, codeBrought, codeLast, Explained}
 use Rattle.explain_calls.proofs.Kept.{SameTerminal, same-choice, same-complete, read-results, read-terminal, read-card, asked-choice}
 
@@ -133,9 +138,16 @@ module _ (s : Session) (a : Asked) (card buf : List ℕ) (i : inRanges s ≡ tru
         held = λ y z. absurd (apart (ap onCryptogram z));
         answers = λ n. phase-answers _ (Phase.Ended (endOf x reasonNone)) k refl
             (ended-answers (o .store) (same-complete (stored s) (o .store) terminal results (running-complete (stored s) (on-cryptogram s i a q .runs)))
-            (endOf x reasonNone) refl (both-left _ _ t) (ap (λ (y : Choice). decision y (typeIn (o .store))) (choice n) ∙ e));
+            (endOf x reasonNone) refl not-stripe (both-left _ _ t) (ap (λ (y : Choice). decision y (typeIn (o .store))) (choice n) ∙ e));
       })
     where
+      -- the reading leaves the mode
+      not-stripe : isStripe (o .store) ≡ false
+      not-stripe =
+          let m = on-cryptogram s i a q .mode in
+          both-no-right _ _
+          (ap not (ap (λ (y : Value). has (bytesOf y) 2 8) (read-mode Awaited.Cryptogram (stored s) card (store-size s i) (store-fits s i) (either-left _ _ m)) ∙ m))
+
       terminal : SameTerminal (stored s) (o .store)
       terminal = read-terminal Awaited.Cryptogram (stored s) card (store-size s i)
 
@@ -201,9 +213,40 @@ module _ (s : Session) (card buf : List ℕ) (i : inRanges s ≡ true) where
   records-leaves m b l RecordsWay.unlisted = failed s c buf _ reasonDataList _ (record { least = omega arith; most = omega arith })
   records-leaves m b l (RecordsWay.asked x f g) = asked-leaves m b x l
 
+  -- the checksum is asked for: no choice is made
+  stripe-leaves : {st : Step} (m : ℕ) (b : List ℕ) → StripeWay m (ways.withStore s b) buf st → Leaves s c st
+  stripe-leaves m b (StripeWay.failed n r) = failed s c buf _ n b r
+  stripe-leaves m b (StripeWay.asked x f g) = early s c buf (checksumPhase m) b x (λ a z. apart (ap onCryptogram z)) (λ z. no-refusal z)
+
   record-leaves : {st : Step} (p : Place) (b : List ℕ) → length b ≡ storeSize → RecordWay p (ways.withStore s b) buf st → Leaves s c st
   record-leaves p b l (RecordWay.next r e) = early s c buf (recordPhase (p .limit) (p .number + 1)) b (readRecord r) (λ a z. apart (ap onCryptogram z)) (λ z. no-refusal z)
-  record-leaves p b l (RecordWay.last e w) = records-leaves (p .limit) b l w
+  record-leaves p b l (RecordWay.last e m w) = records-leaves (p .limit) b l w
+  record-leaves p b l (RecordWay.striped e m w) = stripe-leaves (p .limit) b w
+
+  -- the answer to the checksum: an end with reason 0 says that no choice was made
+  module _ (k : Checksum) (q : s .phase ≡ Phase.Checksum k) where
+    ends : (x : Outcome) (d : List ℕ) → valueOf d 0x82 ≡ valueOf (stored s) 0x82 → Leaves s c (withoutCommand (ended notApplicable (s .count) d (endOf x reasonNone)) buf)
+    ends x d e j =
+        inr (record {
+          taken-on = refl;
+          held = λ y z. absurd (apart (ap onCryptogram z));
+          answers = λ n. phase-answers _ (Phase.Ended (endOf x reasonNone)) j refl (stripe-answers (endOf x reasonNone) d refl stripe);
+        })
+      where
+        stripe : isStripe d ≡ true
+        stripe =
+            let m = on-checksum s i k q .mode in
+            ap (λ (y : Value). both (isThere y) (not (has (bytesOf y) 2 8))) e ∙ both-yes _ _ (both-left _ _ m) (both-left _ _ (both-right _ _ m))
+
+    same-82 : valueOf (stored (ways.taken Awaited.Checksum s card)) 0x82 ≡ valueOf (stored s) 0x82
+    same-82 = read-mode Awaited.Checksum (stored s) card (store-size s i) (store-fits s i) (either-right _ _ (on-checksum s i k q .mode))
+
+    checksum-leaves : {y : Reply} → ChecksumWay (ways.taken Awaited.Checksum s card) y → Leaves s c (withoutCommand y buf)
+    checksum-leaves ChecksumWay.failed = failed s c buf _ reasonMissing _ (record { least = omega arith; most = omega arith })
+    checksum-leaves ChecksumWay.declined = ends Outcome.Declined _ same-82
+    checksum-leaves ChecksumWay.online =
+        let w = read-fits Awaited.Checksum (stored s) card (store-size s i) (store-fits s i) in
+        ends Outcome.OnlineRequest _ (digits-other (stored (ways.taken Awaited.Checksum s card)) (w .0) (w .1) 0x82 row82 at-82 (λ z. omega arith) ∙ same-82)
 
   answer-leaves : Held s → Leaves s c (answerStep s card buf)
   answer-leaves h = go (answer-way s card buf) refl
@@ -215,6 +258,7 @@ module _ (s : Session) (card buf : List ℕ) (i : inRanges s ≡ true) where
       go (AnswerWay.recorded p r k q f w) e =
           record-leaves p _ (read-size (Awaited.Record (record { number = r .file })) (stored s) card (store-size s i)) w
       go (AnswerWay.cryptogram a k q w) e = subst (Leaves s c) (sym e) (cryptogram-leaves s a card buf i q (h a q))
+      go (AnswerWay.checksum x k q w) e = checksum-leaves x q w
 
 -- ---- every call, and every list of calls
 

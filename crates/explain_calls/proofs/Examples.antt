@@ -40,16 +40,16 @@ use Rattle.analysis.specs.Action.{phoneIn, limitOf, aboveLimit, usageIn, restri
 use Rattle.record.specs.declared.Outcome.{Outcome}
 use Rattle.record.specs.declared.Phase.{Phase}
 use Rattle.record.specs.Numbers.{goesWith, outcomeFor}
-use Rattle.record.specs.Ranges.{isBrought, brought, cryptogramAbsent, running, optionsRanges, inRanges, allFit, objectFits, freshRanges, endedRanges, recordRanges, cryptogramRanges, completed}
+use Rattle.record.specs.Ranges.{isBrought, brought, lastAbsent, running, optionsRanges, inRanges, allFit, objectFits, freshRanges, endedRanges, recordRanges, cryptogramRanges, completed}
 use Rattle.record.specs.Session.{freshSession, endOf}
 use Rattle.terminal.specs.Terminal.{typeListed, settable, setObject, setAll, load}
 use Rattle.session.specs.Steps.{withResults, admitted, withFindings}
 use Rattle.session.specs.Start.{askOptions}
-use Rattle.session.specs.Answer.{storedReason, optionsRead, optionsStep, optionsReason, recordStep, recordRead, recordsRead, analysed, askedIn, askCryptogram, decision, cryptogramEnd, cryptogramReply}
+use Rattle.session.specs.Answer.{storedReason, optionsRead, optionsStep, optionsReason, recordStep, recordRead, lastRead, recordsRead, analysed, askedIn, askCryptogram, decision, cryptogramEnd, cryptogramReply}
 use Rattle.trace.specs.Calls.{Call, start, answer, play, final, taken, lastOf}
 use Rattle.explain.specs.declared.Stage.{Stage}
 use Rattle.explain.specs.declared.Explanation.{Explanation}
-use Rattle.explain.specs.Explain.{stageIn, decidingIn, holderOf, pairAt, reasonAt, rankOf, endedIn, explained}
+use Rattle.explain.specs.Explain.{stageIn, decidingIn, holderOf, pairAt, reasonAt, rankOf, endedIn, endedBy, explained}
 use Rattle.explain_calls.specs.Explained.{bringsCode, codeBrought, codeLast}
 
 -- the terminal's objects of a purchase at type 22; three of them no row has
@@ -98,13 +98,13 @@ pub record Worked : Type 0 where
 
 pub worked : Worked
 unfolding play final taken lastOf codeBrought bringsCode admitted endedRanges goesWith outcomeFor inRanges allFit objectFits lengthIn lengthByte freshRanges optionsRanges recordRanges cryptogramRanges
-    completed running cryptogramAbsent askOptions processingOptions optionsOf filledBy fillingOf listEntries recurse recurseBy along lengthBytes withLength entryAt withEntry cut padding padded
+    completed running lastAbsent askOptions processingOptions optionsOf filledBy fillingOf listEntries recurse recurseBy along lengthBytes withLength entryAt withEntry cut padding padded
     fitted entryBytes cryptogramOf generateAc optionsStep storedReason optionsRead recordAt kth nth accepts wholeEntries entriesOf keeps sumOf recordsOf runOf readAnswer goodLength goodStatus
     isRead readBody bodyOf primitiveParts optionsParts templateParts parse nextOf withLeaf withNode count items takeAll takeNext takeItem allowed mayCome mayStand withResults withFindings placeOf
     load primitives withObject primitiveOf headerOf tagAt tagSize secondByte thirdByte lengthAt firstByte isTemplate isPrivate numberFrom if both either every rows past find settable setObject
-    setAll fitting digitsFit numeric nibbles digitsThenFs compressed typeListed listed offsetIn placeAt held valueAt putAt valueIn brought isBrought recordStep recordRead recordsRead analysed
+    setAll fitting digitsFit numeric nibbles digitsThenFs compressed typeListed listed offsetIn placeAt held valueAt putAt valueIn brought isBrought recordStep recordRead lastRead recordsRead analysed
     askedIn askCryptogram phoneIn onDevice limitOf aboveLimit usageIn restrictionsOf resultOf sameCurrency termsIn verifiedIn fullResult findingsOf codesOf chosen bit front decimalFrom yearOf dateOf laterThan
     amountOf amountAbove otherVersion notYetEffective atAtm countryOf cashback usageBroken withBits holdsBit lowestFrom lowestBit cardCode heldAt capabilityAt choiceOf rulesFrom recognised
     supported amountMet met takenBy unsuccessful byRules verification alike decision cryptogramEnd cryptogramReply
-    stageIn decidingIn holderOf pairAt reasonAt rankOf endedIn explained
+    stageIn decidingIn holderOf pairAt reasonAt rankOf endedIn endedBy explained
 worked = record { brought-end = refl; brought = refl; last = refl; plain = refl }

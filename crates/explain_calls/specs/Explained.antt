@@ -26,6 +26,7 @@ onCryptogram Phase.Fresh          = false
 onCryptogram Phase.Options        = false
 onCryptogram (Phase.Record p)     = false
 onCryptogram (Phase.Cryptogram a) = true
+onCryptogram (Phase.Checksum c)   = false
 onCryptogram (Phase.Ended e)      = false
 
 -- a decision was reached: ended with reason 0
@@ -34,6 +35,7 @@ isDecided Phase.Fresh          = false
 isDecided Phase.Options        = false
 isDecided (Phase.Record p)     = false
 isDecided (Phase.Cryptogram a) = false
+isDecided (Phase.Checksum c)   = false
 isDecided (Phase.Ended e)      = e .reason =? reasonNone
 
 -- an object that was absent is there

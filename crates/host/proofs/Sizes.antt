@@ -4,7 +4,7 @@
 use mathlib.Core.List.{List}
 use Prim.Native.Nat.{ℕ, _≤_}
 use native.Mathlib.Omega.{arith}
-use Rattle.data_list.proofs.Commands.{options-proper, cryptogram-proper}
+use Rattle.data_list.proofs.Commands.{options-proper, cryptogram-proper, checksum-proper}
 use Rattle.analysis.specs.Choice.{p1Of}
 use Rattle.record.specs.declared.Answer.{Answer}
 use Rattle.record.specs.declared.Place.{Place}
@@ -15,7 +15,7 @@ use Rattle.record.specs.Session.{stored}
 use Rattle.session.specs.Steps.{Step, leastBuffer, linkStep, stopStep}
 use Rattle.session.specs.Start.{startStep}
 use Rattle.session.specs.Answer.{answerStep}
-use Rattle.trace.proofs.Ways.{OptionsWay, RecordsWay, RecordWay, CryptogramWay, AnswerWay, answer-way, analysedSession, askedBy, loadedSession, StartWay, start-way, BrokenWay, broken-way}
+use Rattle.trace.proofs.Ways.{OptionsWay, RecordsWay, StripeWay, RecordWay, CryptogramWay, ChecksumWay, AnswerWay, answer-way, analysedSession, askedBy, loadedSession, StartWay, start-way, BrokenWay, broken-way}
 
 abbrev pub Small : Answer → Type 0
 Small (Answer.Command c) = c .size ≤ leastBuffer
@@ -29,6 +29,11 @@ small-cryptogram : {m : ℕ} {t : Session} {q : Reply} → CryptogramWay m t q �
 small-cryptogram (CryptogramWay.failed n r) = r .most
 small-cryptogram (CryptogramWay.decides o g) = omega arith
 
+small-checksum : {t : Session} {q : Reply} → ChecksumWay t q → Small (q .answer)
+small-checksum ChecksumWay.failed = omega arith
+small-checksum ChecksumWay.declined = omega arith
+small-checksum ChecksumWay.online = omega arith
+
 module _ {buf : List ℕ} where
   small-options : {t : Session} {st : Step} → OptionsWay t buf st → SmallStep st
   small-options (OptionsWay.failed n r) = r .most
@@ -39,9 +44,14 @@ module _ {buf : List ℕ} where
   small-records RecordsWay.unlisted = omega arith
   small-records {l} {t} (RecordsWay.asked c f g) = cryptogram-proper (stored (analysedSession t)) c (p1Of (askedBy l t .choice)) g .most
 
+  small-stripe : {l : ℕ} {t : Session} {st : Step} → StripeWay l t buf st → SmallStep st
+  small-stripe (StripeWay.failed n r) = r .most
+  small-stripe {l} {t} (StripeWay.asked c f g) = checksum-proper (stored t) c g .most
+
   small-record : (p : Place) {t : Session} {st : Step} → RecordWay p t buf st → SmallStep st
   small-record p (RecordWay.next r e) = omega arith
-  small-record p (RecordWay.last e w) = small-records w
+  small-record p (RecordWay.last e m w) = small-records w
+  small-record p (RecordWay.striped e m w) = small-stripe w
 
   small-answer : {s : Session} {card : List ℕ} {st : Step} → AnswerWay s card buf st → SmallStep st
   small-answer (AnswerWay.refused n l) = l
@@ -49,6 +59,7 @@ module _ {buf : List ℕ} where
   small-answer (AnswerWay.options i q z w) = small-options w
   small-answer (AnswerWay.recorded p r i q e w) = small-record p w
   small-answer (AnswerWay.cryptogram a i q w) = small-cryptogram w
+  small-answer (AnswerWay.checksum k i q w) = small-checksum w
 
   small-start : {s : Session} {bytes : List ℕ} {st : Step} → StartWay s bytes buf st → SmallStep st
   small-start (StartWay.refused n l) = l

@@ -103,6 +103,7 @@ not-ended s c Phase.Fresh q r = refl
 not-ended s c Phase.Options q r = refl
 not-ended s c (Phase.Record k) q r = refl
 not-ended s c (Phase.Cryptogram a) q r = refl
+not-ended s c (Phase.Checksum k) q r = refl
 not-ended s c (Phase.Ended x) q r = no (sym r ∙ ended-refuses s c x q)
 
 -- ---- a record's call is made with the lent buffer

@@ -11,7 +11,7 @@ use lib.ListN.{length, drop}
 use lib.Seq.{take-append-seam}
 use borrow.Author.Tests.{lt-ltb, le-ltb}
 use Rattle.basics.specs.Choice.{if}
-use Rattle.basics.specs.Reason.{refusedBuffer, refusedRanges, refusedPhase, reasonDataList, reasonLocator, reasonMissing, reasonAboveLimit, reasonLink, reasonStopped}
+use Rattle.basics.specs.Reason.{refusedBuffer, refusedRanges, refusedPhase, reasonDataList, reasonLocator, reasonNotAllowed, reasonNone, reasonMissing, reasonAboveLimit, reasonLink, reasonStopped}
 use Rattle.basics.proofs.Laws.{if-yes, if-no, if-ind}
 use Rattle.basics.proofs.Order.{le-or-gt}
 use Rattle.locator.specs.declared.Found.{Found}
@@ -19,24 +19,26 @@ use Rattle.locator.specs.Records.{recordAt}
 use Rattle.locator.specs.Command.{readRecord}
 use Rattle.reading.specs.declared.Awaited.{Awaited}
 use Rattle.reading.specs.Answer as reading
-use Rattle.data_list.specs.Commands.{processingOptions, generateAc}
+use Rattle.data_list.specs.Commands.{processingOptions, generateAc, computeChecksum}
 use Rattle.analysis.specs.Choice.{p1Of}
 use Rattle.analysis.specs.Action.{limitOf, findingsOf}
 use Rattle.analysis.specs.Verification.{methodNumber, notApplicable}
+use Rattle.record.specs.declared.Outcome.{Outcome}
 use Rattle.record.specs.declared.End.{End}
 use Rattle.record.specs.declared.Place.{Place}
 use Rattle.record.specs.declared.Asked.{Asked}
 use Rattle.record.specs.declared.Phase.{Phase}
 use Rattle.record.specs.declared.Session.{Session}
 use Rattle.record.specs.declared.Reply.{Reply}
-use Rattle.record.specs.Session.{stored}
+use Rattle.record.specs.Session.{stored, endOf}
 use Rattle.record.specs.Ranges.{locatorIn, inRanges}
 use Rattle.record.specs.Clauses.{noResults}
 use Rattle.terminal.specs.Terminal.{Loaded, refusal, loaded, load}
 use Rattle.session.specs.Steps as steps
 use Rattle.session.specs.Steps.{Step, withoutCommand, refuses, endBy, commands, withResults, withFindings, admitted, handOut, endsIn}
 use Rattle.session.specs.Start.{askOptions, startLoaded, startIn}
-use Rattle.session.specs.Answer.{recordPhase, askFound, storedReason, optionsRead, optionsStep, askCryptogram, askedIn, analysed, recordsRead, nextFound, recordRead, recordFound, recordStep, cryptogramEnd, cryptogramReply, answerIn}
+use Rattle.session.specs.Answer.{recordPhase, askFound, storedReason, optionsRead, optionsStep, askCryptogram, askedIn, analysed, recordsRead, lastRead, nextFound, recordRead, recordFound, recordStep, cryptogramEnd, cryptogramReply, answerIn}
+use Rattle.session.specs.Stripe.{checksumPhase, askChecksum, stripeRead, withDigits, checksumRead, checksumTaken, checksumReply}
 use Rattle.trace.specs.Calls.{Call, start, answer, link-failed, stop, step, isRefusal}
 use Rattle.trace.proofs.Rules.{no}
 use Rattle.journal.specs.Record.{twoBytes, zeroPadded, mostCommand, replyRecord}
@@ -86,8 +88,18 @@ module _ (s : Session) (buf other : List ℕ) where
       (if-both R _ (ended notApplicable n b (endBy reasonMissing))
       (hand-out (methodNumber (askedIn l b .method)) n (withFindings b (findingsOf b)) (Phase.Cryptogram (askedIn l b)) (generateAc (p1Of (askedIn l b .choice)) (withFindings b (findingsOf b)))))
 
+  stripe-read : (l n : ℕ) (b : List ℕ) → R (stripeRead l n b buf) (stripeRead l n b other)
+  unfolding stripeRead askChecksum
+  stripe-read l n b =
+      if-both R _ (ended notApplicable n b (endBy reasonAboveLimit))
+      (if-both R _ (ended notApplicable n b (endBy reasonMissing)) (hand-out notApplicable n b (checksumPhase l) (computeChecksum b)))
+
+  last-read : (l n : ℕ) (b : List ℕ) → R (lastRead l n b buf) (lastRead l n b other)
+  unfolding lastRead
+  last-read l n b = if-both R _ (records-read l n b) (stripe-read l n b)
+
   next-found : (l n : ℕ) (b : List ℕ) (k : ℕ) (f : Found) → R (nextFound l n b k buf f) (nextFound l n b k other f)
-  next-found l n b k Found.Nothing = records-read l n b
+  next-found l n b k Found.Nothing = last-read l n b
   next-found l n b k (Found.At r) = sent n b (recordPhase l k) (readRecord r)
 
   record-read : (p : Place) (n : ℕ) (b : List ℕ) → R (recordRead p n b buf) (recordRead p n b other)
@@ -113,6 +125,23 @@ module _ (s : Session) (buf other : List ℕ) where
       if-ind (λ (q : Reply). R (withoutCommand q buf) (withoutCommand q other)) _ _ _ (λ e. ended (methodNumber (a .method)) n (o .store) (cryptogramEnd a (o .store)))
       (λ e. ended (methodNumber (a .method)) n b (endBy (o .reason)))
 
+  -- the answer to the checksum
+
+  abbrev Q : Reply → Type 0
+  Q q = R (withoutCommand q buf) (withoutCommand q other)
+
+  checksum-step : (n : ℕ) (b card : List ℕ) → Q (checksumReply n b card)
+  unfolding checksumReply checksumTaken checksumRead
+  checksum-step n b card =
+      let o = reading.readAnswer Awaited.Checksum b card in
+      if-ind Q _ _ _
+      (λ e. if-ind Q _ _ _
+      (λ f. if-ind Q _ _ _ (λ g. ended notApplicable n (o .store) (endBy reasonMissing))
+      (λ g. if-ind Q _ _ _ (λ h. ended notApplicable n (o .store) (endOf Outcome.Declined reasonNone))
+      (λ h. ended notApplicable n (withDigits (o .store)) (endOf Outcome.OnlineRequest reasonNone))))
+      (λ f. ended notApplicable n b (endBy reasonNotAllowed)))
+      (λ e. ended notApplicable n b (endBy (o .reason)))
+
   -- by the phase
 
   answer-in : (p : Phase) (card : List ℕ) → R (answerIn p s card buf) (answerIn p s card other)
@@ -120,6 +149,7 @@ module _ (s : Session) (buf other : List ℕ) where
   answer-in Phase.Options card = options-step (s .count) (stored s) card
   answer-in (Phase.Record p) card = record-step p (s .count) (stored s) card
   answer-in (Phase.Cryptogram a) card = cryptogram-step a (s .count) (stored s) card
+  answer-in (Phase.Checksum k) card = checksum-step (s .count) (stored s) card
   answer-in (Phase.Ended e) card = refused refusedPhase
 
   start-loaded : (x : Loaded) → R (startLoaded s buf x) (startLoaded s other x)
@@ -132,6 +162,7 @@ module _ (s : Session) (buf other : List ℕ) where
   start-in Phase.Options bytes = refused refusedPhase
   start-in (Phase.Record p) bytes = refused refusedPhase
   start-in (Phase.Cryptogram a) bytes = refused refusedPhase
+  start-in (Phase.Checksum k) bytes = refused refusedPhase
   start-in (Phase.Ended e) bytes = refused refusedPhase
 
   ends-in : (p : Phase) (reason : ℕ) → R (endsIn p s reason buf) (endsIn p s reason other)
@@ -139,6 +170,7 @@ module _ (s : Session) (buf other : List ℕ) where
   ends-in Phase.Options reason = ended _ (s .count) (stored s) (endBy reason)
   ends-in (Phase.Record p) reason = ended _ (s .count) (stored s) (endBy reason)
   ends-in (Phase.Cryptogram a) reason = ended _ (s .count) (stored s) (endBy reason)
+  ends-in (Phase.Checksum k) reason = ended _ (s .count) (stored s) (endBy reason)
   ends-in (Phase.Ended e) reason = refused refusedPhase
 
 -- ---- the refusals that every call checks first

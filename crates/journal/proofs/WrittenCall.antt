@@ -41,6 +41,7 @@ module _ (s : Session) (v buf : List ℕ) (h : 1024 < length v) where
   over-in Phase.Options = refl
   over-in (Phase.Record p) = refl
   over-in (Phase.Cryptogram a) = refl
+  over-in (Phase.Checksum k) = refl
   over-in (Phase.Ended e) = refl
 
   start-over : isRefusal (startStep s v buf .reply .answer) ≡ true

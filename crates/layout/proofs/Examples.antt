@@ -19,28 +19,32 @@ heads : headOf Phase.Fresh 0
     ∷ headOf Phase.Options 1
     ∷ headOf (Phase.Record (record { number = 3; limit = 999999999999 })) 4
     ∷ headOf (Phase.Cryptogram (record { choice = Choice.Online; method = Method.ConfirmationCode; limit = 0xFEDCBA9876543210 })) 5
+    ∷ headOf (Phase.Checksum (record { limit = 100 })) 3
     ∷ headOf (Phase.Ended (endOf Outcome.SelectNext 6)) 5
     ∷ []
-    ≡ (3 ∷ 0 ∷ 0 ∷ 0 ∷ 0 ∷ 0 ∷ 0 ∷ 0 ∷ 0 ∷ 0 ∷ 0 ∷ 0 ∷ 0 ∷ 0 ∷ [])
-    ∷ (3 ∷ 1 ∷ 0 ∷ 0 ∷ 1 ∷ 0 ∷ 0 ∷ 0 ∷ 0 ∷ 0 ∷ 0 ∷ 0 ∷ 0 ∷ 0 ∷ [])
-    ∷ (3 ∷ 2 ∷ 3 ∷ 0 ∷ 4 ∷ 0 ∷ 0 ∷ 0 ∷ 0 ∷ 0xE8 ∷ 0xD4 ∷ 0xA5 ∷ 0x0F ∷ 0xFF ∷ [])
-    ∷ (3 ∷ 3 ∷ 0x80 ∷ 0 ∷ 5 ∷ 3 ∷ 0xFE ∷ 0xDC ∷ 0xBA ∷ 0x98 ∷ 0x76 ∷ 0x54 ∷ 0x32 ∷ 0x10 ∷ [])
-    ∷ (3 ∷ 4 ∷ 4 ∷ 6 ∷ 5 ∷ 0 ∷ 0 ∷ 0 ∷ 0 ∷ 0 ∷ 0 ∷ 0 ∷ 0 ∷ 0 ∷ [])
+    ≡ (4 ∷ 0 ∷ 0 ∷ 0 ∷ 0 ∷ 0 ∷ 0 ∷ 0 ∷ 0 ∷ 0 ∷ 0 ∷ 0 ∷ 0 ∷ 0 ∷ [])
+    ∷ (4 ∷ 1 ∷ 0 ∷ 0 ∷ 1 ∷ 0 ∷ 0 ∷ 0 ∷ 0 ∷ 0 ∷ 0 ∷ 0 ∷ 0 ∷ 0 ∷ [])
+    ∷ (4 ∷ 2 ∷ 3 ∷ 0 ∷ 4 ∷ 0 ∷ 0 ∷ 0 ∷ 0 ∷ 0xE8 ∷ 0xD4 ∷ 0xA5 ∷ 0x0F ∷ 0xFF ∷ [])
+    ∷ (4 ∷ 3 ∷ 0x80 ∷ 0 ∷ 5 ∷ 3 ∷ 0xFE ∷ 0xDC ∷ 0xBA ∷ 0x98 ∷ 0x76 ∷ 0x54 ∷ 0x32 ∷ 0x10 ∷ [])
+    ∷ (4 ∷ 5 ∷ 0 ∷ 0 ∷ 3 ∷ 0 ∷ 0 ∷ 0 ∷ 0 ∷ 0 ∷ 0 ∷ 0 ∷ 0 ∷ 100 ∷ [])
+    ∷ (4 ∷ 4 ∷ 4 ∷ 6 ∷ 5 ∷ 0 ∷ 0 ∷ 0 ∷ 0 ∷ 0 ∷ 0 ∷ 0 ∷ 0 ∷ 0 ∷ [])
     ∷ []
 heads = refl
 
--- codes of a phase; then a byte behind fresh, a reason behind a record, a P1 of 20, a P1 of C0, outcome 5, phase 5; the methods 0 to
--- 4, then 5 and none, and a method behind a record and behind an end
+-- codes of a phase; then a byte behind fresh, a reason behind a record, a P1 of 20, a P1 of C0, outcome 5, phase 6; the methods 0 to
+-- 4, then 5 and none, and a method behind a record and behind an end; the checksum, and a byte and a method behind it
 codes : map (λ c. sameCode (codeOf (phaseOf c 100)) c)
-    (code 0 0 0 0 ∷ code 1 0 0 0 ∷ code 2 255 0 0 ∷ code 3 0x40 0 0 ∷ code 4 4 6 0 ∷ code 0 1 0 0 ∷ code 2 1 1 0 ∷ code 3 0x20 0 0 ∷ code 3 0xC0 0 0 ∷ code 4 5 0 0 ∷ code 5 3 1 0
-    ∷ code 3 0x80 0 0 ∷ code 3 0x80 0 1 ∷ code 3 0x80 0 2 ∷ code 3 0x80 0 3 ∷ code 3 0x80 0 4 ∷ code 3 0x80 0 5 ∷ code 3 0x80 0 15 ∷ code 2 1 0 1 ∷ code 4 0 0 15 ∷ [])
+    (code 0 0 0 0 ∷ code 1 0 0 0 ∷ code 2 255 0 0 ∷ code 3 0x40 0 0 ∷ code 4 4 6 0 ∷ code 0 1 0 0 ∷ code 2 1 1 0 ∷ code 3 0x20 0 0 ∷ code 3 0xC0 0 0 ∷ code 4 5 0 0 ∷ code 6 3 1 0
+    ∷ code 3 0x80 0 0 ∷ code 3 0x80 0 1 ∷ code 3 0x80 0 2 ∷ code 3 0x80 0 3 ∷ code 3 0x80 0 4 ∷ code 3 0x80 0 5 ∷ code 3 0x80 0 15 ∷ code 2 1 0 1 ∷ code 4 0 0 15
+    ∷ code 5 0 0 0 ∷ code 5 1 0 0 ∷ code 5 0 0 15 ∷ [])
     ≡ true ∷ true ∷ true ∷ true ∷ true ∷ false ∷ false ∷ false ∷ false ∷ false ∷ false
-    ∷ true ∷ true ∷ true ∷ true ∷ true ∷ false ∷ false ∷ false ∷ false ∷ []
+    ∷ true ∷ true ∷ true ∷ true ∷ true ∷ false ∷ false ∷ false ∷ false
+    ∷ true ∷ false ∷ false ∷ []
 unfolding sameCode phaseOf choiceFrom methodFrom outcomeFrom both if
 codes = refl
 
--- a limit of 1 is held while a record or the cryptogram is awaited, and by no other phase
-limits : map (λ c. heldLimit (phaseOf c 1)) (code 0 0 0 0 ∷ code 1 0 0 0 ∷ code 2 1 0 0 ∷ code 3 0 0 0 ∷ code 4 0 0 0 ∷ []) ≡ 0 ∷ 0 ∷ 1 ∷ 1 ∷ 0 ∷ []
+-- a limit of 1 is held while a record, the cryptogram or the checksum is awaited, and by no other phase
+limits : map (λ c. heldLimit (phaseOf c 1)) (code 0 0 0 0 ∷ code 1 0 0 0 ∷ code 2 1 0 0 ∷ code 3 0 0 0 ∷ code 4 0 0 0 ∷ code 5 0 0 0 ∷ []) ≡ 0 ∷ 0 ∷ 1 ∷ 1 ∷ 0 ∷ 1 ∷ []
 unfolding phaseOf choiceFrom methodFrom outcomeFrom if
 limits = refl
 

@@ -95,6 +95,7 @@ phase-back Phase.Options = refl
 phase-back (Phase.Record p) = refl
 phase-back (Phase.Cryptogram a) =
     ap₂ (λ (c : Choice) (m : Method). Phase.Cryptogram (record { choice = c; method = m; limit = a .limit })) (choice-back (a .choice)) (method-back (a .method))
+phase-back (Phase.Checksum k) = refl
 phase-back (Phase.Ended e) = ap (λ (o : Outcome). Phase.Ended (record { outcome = o; reason = e .reason })) (outcome-back (e .outcome))
 
 -- ---- which bytes are a record

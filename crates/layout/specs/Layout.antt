@@ -27,7 +27,7 @@ use Rattle.layout.specs.declared.Held.{Held}
 
 -- the layout's version, the first byte of every record
 abbrev pub version : ℕ
-version = 3
+version = 4
 
 -- the bytes in front of the store, and of the whole record
 abbrev pub headSize : ℕ
@@ -54,6 +54,9 @@ onCryptogram = 3
 abbrev pub onEnded : ℕ
 onEnded = 4
 
+abbrev pub onChecksum : ℕ
+onChecksum = 5
+
 -- a code of its four bytes
 abbrev pub code : ℕ → ℕ → ℕ → ℕ → Code
 code n d r m = record { number = n; datum = d; reason = r; method = m }
@@ -65,6 +68,7 @@ codeOf Phase.Fresh          = code onFresh 0 0 0
 codeOf Phase.Options        = code onOptions 0 0 0
 codeOf (Phase.Record p)     = code onRecord (p .number) 0 0
 codeOf (Phase.Cryptogram a) = code onCryptogram (p1Of (a .choice)) 0 (methodNumber (a .method))
+codeOf (Phase.Checksum c)   = code onChecksum 0 0 0
 codeOf (Phase.Ended e)      = code onEnded (outcomeNumber (e .outcome)) (e .reason) 0
 
 -- the limit in force that a phase holds, 0 where it holds none
@@ -73,6 +77,7 @@ heldLimit Phase.Fresh          = 0
 heldLimit Phase.Options        = 0
 heldLimit (Phase.Record p)     = p .limit
 heldLimit (Phase.Cryptogram a) = a .limit
+heldLimit (Phase.Checksum c)   = c .limit
 heldLimit (Phase.Ended e)      = 0
 
 -- a limit as eight bytes, high byte first; it has 64 bits, so that the first is a byte
@@ -122,6 +127,7 @@ phaseOf c l =
     else if c .number =? onRecord then Phase.Record (record { number = c .datum; limit = l })
     else if c .number =? onCryptogram then
         Phase.Cryptogram (record { choice = choiceFrom (c .datum); method = methodFrom (c .method); limit = l })
+    else if c .number =? onChecksum then Phase.Checksum (record { limit = l })
     else Phase.Ended (record { outcome = outcomeFrom (c .datum); reason = c .reason })
 
 -- two codes are the same

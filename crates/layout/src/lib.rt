@@ -8,7 +8,7 @@
 use analysis::choice::Choice;
 use analysis::verification::Method;
 use dictionary::SIZE;
-use record::{Answer, Asked, End, Issued, Outcome, OutcomeParameters, Phase, Place};
+use record::{Answer, Asked, Checksum, End, Issued, Outcome, OutcomeParameters, Phase, Place};
 ghost use mathlib.Core.Path.{_≡_};
 ghost use Prim.Native.Nat.{_+_, _*_, _≤_, _<_};
 ghost use lib.ListN.{length};
@@ -20,7 +20,7 @@ ghost use Rattle.layout.specs.Layout.{version as layoutVersion};
 ghost use Rattle.layout.specs.Word.{commandWord, outcomeWord, refusalWord, wordOf};
 
 // The layout's version, the first byte of every record.
-const VERSION: u8 = 3;
+const VERSION: u8 = 4;
 
 // How many bytes stand in front of the store.
 pub const HEAD: usize = 14;
@@ -37,6 +37,7 @@ const ON_OPTIONS: u8 = 1;
 const ON_RECORD: u8 = 2;
 const ON_CRYPTOGRAM: u8 = 3;
 const ON_ENDED: u8 = 4;
+const ON_CHECKSUM: u8 = 5;
 
 // What the head says of a phase: its number, and the bytes of what it holds, 0 where it holds nothing.
 pub struct Code {
@@ -234,6 +235,12 @@ fn code_of(phase: Phase) -> Code
                 method: analysis::verification::method_number(method),
             }
         }
+        Phase::Checksum(_) => Code {
+            number: ON_CHECKSUM,
+            datum: 0,
+            reason: 0,
+            method: 0,
+        },
         Phase::Ended(end) => {
             let outcome = end.outcome;
             Code {
@@ -255,6 +262,7 @@ fn held_limit(phase: Phase) -> u64
         Phase::Options => 0,
         Phase::Record(place) => place.limit,
         Phase::Cryptogram(asked) => asked.limit,
+        Phase::Checksum(checksum) => checksum.limit,
         Phase::Ended(_) => 0,
     }
 }
@@ -320,6 +328,9 @@ fn phase_of(code: Code, limit: u64) -> Phase
         let choice = choice_from(code.datum);
         let method = method_from(code.method);
         return Phase::Cryptogram(Asked { choice, method, limit });
+    }
+    if number == ON_CHECKSUM {
+        return Phase::Checksum(Checksum { limit });
     }
     Phase::Ended(End { outcome: outcome_from(code.datum), reason: code.reason })
 }

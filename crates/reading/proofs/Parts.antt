@@ -13,7 +13,7 @@ use Rattle.tlv.specs.Object.{headerOf, valueIn}
 use Rattle.tlv.specs.Tree.{Forest, count, parse}
 use Rattle.tlv.proofs.Laws.{tail, tail-is}
 use Rattle.reading.specs.declared.Awaited.{Awaited}
-use Rattle.reading.specs.declared.Awaited.the-variants.{Options, Record, Cryptogram}
+use Rattle.reading.specs.declared.Awaited.the-variants.{Options, Record, Cryptogram, Checksum}
 use Rattle.reading.specs.declared.Verdict.{Verdict}
 use Rattle.reading.specs.declared.Reading.{Reading}
 use Rattle.reading.specs.declared.Tally.{Tally}
@@ -87,6 +87,7 @@ module _ (t : ℕ) (v : List ℕ) where
   wrong-tag Options h = if-no _ _ (ne-eqb _ _ h)
   wrong-tag (Record f) h = refl
   wrong-tag Cryptogram h = if-no _ _ (ne-eqb _ _ h)
+  wrong-tag Checksum h = refl
 
   pub as-options : t ≡ 0x80 → primitiveParts Options t v ≡ optionsParts v
   unfolding primitiveParts
@@ -99,6 +100,10 @@ module _ (t : ℕ) (v : List ℕ) where
   pub as-record : (f : _) → primitiveParts (Record f) t v ≡ none
   unfolding primitiveParts
   as-record f = refl
+
+  pub as-checksum : primitiveParts Checksum t v ≡ none
+  unfolding primitiveParts
+  as-checksum = refl
 
 -- ---- a template
 

@@ -14,9 +14,9 @@ use Rattle.tlv.specs.declared.Front.{Front}
 use Rattle.tlv.specs.declared.Front.the-variants.{Object, Broken}
 use Rattle.tlv.specs.Object.{headerOf, valueIn}
 use Rattle.tlv.specs.Tree.{Forest, count, parse}
-use Rattle.dictionary.specs.Rows.{options, cardRecord, cryptogram}
+use Rattle.dictionary.specs.Rows.{options, cardRecord, cryptogram, checksum}
 use Rattle.reading.specs.declared.Awaited.{Awaited}
-use Rattle.reading.specs.declared.Awaited.the-variants.{Options, Record, Cryptogram}
+use Rattle.reading.specs.declared.Awaited.the-variants.{Options, Record, Cryptogram, Checksum}
 use Rattle.reading.specs.declared.Verdict.{Verdict}
 use Rattle.reading.specs.declared.Verdict.the-variants.{Accepted, BadStatus, Malformed, NotAllowed}
 use Rattle.reading.specs.declared.Reading.{Reading}
@@ -84,12 +84,14 @@ abbrev pub answerBit : Awaited → ℕ
 answerBit Options = options
 answerBit (Record f) = cardRecord
 answerBit Cryptogram = cryptogram
+answerBit Checksum = checksum
 
 -- a template: 70 for a record, 77 for the others
 abbrev pub templateTag : Awaited → ℕ
 templateTag Options = 0x77
 templateTag (Record f) = 0x70
 templateTag Cryptogram = 0x77
+templateTag Checksum = 0x77
 
 -- under 80, processing options: two bytes for 82 and the rest, a multiple of 4, for 94; both are taken as if a 77 stood
 -- directly around them
@@ -115,7 +117,8 @@ cryptogramParts v =
       issuerPart (drop 11 v))
     else none
 
--- what a primitive body brings, or none where the outer tag or body is wrong
+-- what a primitive body brings, or none where the outer tag or body is wrong; a record and the checksum (Book C-2,
+-- 5.2.3) have no form under 80
 unfoldable pub primitiveParts : Awaited → ℕ → List ℕ → Option (List Item)
 primitiveParts Options t v =
     if t =? 0x80 then optionsParts v
@@ -124,6 +127,7 @@ primitiveParts (Record f) t v = none
 primitiveParts Cryptogram t v =
     if t =? 0x80 then cryptogramParts v
     else none
+primitiveParts Checksum t v = none
 
 -- what a template brings: its primitive objects at every level, or none where the outer tag is wrong
 unfoldable pub templateParts : Awaited → ℕ → Forest → Option (List Item)
@@ -163,6 +167,7 @@ unfoldable pub isRead : Awaited → Bool
 isRead Options = true
 isRead (Record file) = file .number ≤? 10
 isRead Cryptogram = true
+isRead Checksum = true
 
 -- the two status bytes at the end are 90 00
 unfoldable pub goodStatus : List ℕ → Bool

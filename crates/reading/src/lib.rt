@@ -37,6 +37,7 @@ pub enum Awaited {
     Options,
     Record(File),
     Cryptogram,
+    Checksum,
 }
 
 // What a reading says of an answer.
@@ -88,6 +89,17 @@ pub fn read_answer(store: &mut [u8], awaited: Awaited, answer: &[u8]) -> Reading
     }
     let e = n - 2;
     read_body(store, awaited, &answer[..e])
+}
+
+// What a reading says of an answer, by the number of its verdict; the store stays.
+pub fn judge_answer(store: &[u8], awaited: Awaited, answer: &[u8]) -> u8
+    requires { ⌜ length (now store) ≡ storeSize ⌝ }
+    ensures { λ r. ⌜ r ≡ readAnswer awaited (now (store .entry)) (now (answer .entry)) .reason ⌝ }
+{
+    let mut work = [0u8; SIZE];
+    bytes::copy(store, &mut work);
+    let verdict = read_answer(&mut work, awaited, answer).verdict;
+    number(verdict)
 }
 
 // The body of an answer, read into a working copy, which is the store where all was accepted.
@@ -151,6 +163,7 @@ fn is_read(awaited: Awaited) -> bool
         Awaited::Options => true,
         Awaited::Record(f) => f.number <= 10,
         Awaited::Cryptogram => true,
+        Awaited::Checksum => true,
     }
 }
 
@@ -163,6 +176,7 @@ fn answer_bit(awaited: Awaited) -> u8
         Awaited::Options => dictionary::OPTIONS,
         Awaited::Record(_) => dictionary::CARD_RECORD,
         Awaited::Cryptogram => dictionary::CRYPTOGRAM,
+        Awaited::Checksum => dictionary::CHECKSUM,
     }
 }
 
@@ -174,6 +188,7 @@ fn template_tag(awaited: Awaited) -> u32
         Awaited::Options => 0x77,
         Awaited::Record(_) => 0x70,
         Awaited::Cryptogram => 0x77,
+        Awaited::Checksum => 0x77,
     }
 }
 
@@ -278,6 +293,7 @@ fn read_primitive(
         Awaited::Options => read_options(work, value, codes, places),
         Awaited::Record(_) => made(Verdict::Malformed, 1),
         Awaited::Cryptogram => read_cryptogram(work, value, codes, places),
+        Awaited::Checksum => made(Verdict::Malformed, 1),
     }
 }
 

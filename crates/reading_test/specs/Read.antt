@@ -33,12 +33,13 @@ readAs o = record { word = o .reason * countLimit + o .objects; store = o .store
 abbrev pub notRead : List ℕ → Read
 notRead b = record { word = 0xFFFFFFFF; store = b }
 
--- the answers by number: 0 processing options, 1 a record of this file, 2 the cryptogram
+-- the answers by number: 0 processing options, 1 a record of this file, 2 the cryptogram, 3 the checksum
 unfoldable pub wantedOf : ℕ → ℕ → Wanted
 wantedOf n file =
     if n =? 0 then Answer Awaited.Options
     else if n =? 1 then Answer (Awaited.Record (record { number = file }))
     else if n =? 2 then Answer Awaited.Cryptogram
+    else if n =? 3 then Answer Awaited.Checksum
     else Nothing
 
 -- the card's answer s to what is wanted, into the store b

@@ -21,8 +21,8 @@ const NOT_READ: u32 = 0xFFFFFFFF;
 // The reason stands above the 16 bits of the count.
 const REASON: u32 = 0x10000;
 
-// Reads an answer, status bytes included, to processing options (0), to a record of this file (1) or to the
-// cryptogram (2): the reason's number times 65,536 and the object count. A store of another size and another
+// Reads an answer, status bytes included, to processing options (0), to a record of this file (1), to the
+// cryptogram (2) or to the checksum (3): the reason's number times 65,536 and the object count. A store of another size and another
 // number are not read.
 #[no_mangle]
 pub extern "C" fn emv_test_read(store: &mut [u8], awaited: u32, file: u8, card: &[u8]) -> u32
@@ -51,6 +51,9 @@ fn wanted_of(awaited: u32, file: u8) -> Wanted
     }
     if awaited == 2 {
         return Wanted::Answer(Awaited::Cryptogram);
+    }
+    if awaited == 3 {
+        return Wanted::Answer(Awaited::Checksum);
     }
     Wanted::Nothing
 }

@@ -16,13 +16,14 @@ use Rattle.dictionary.specs.Rows.{Row, rows, blank, rowAt, optional, required, 
 use Rattle.analysis.specs.Action.{limitOf}
 use Rattle.record.specs.declared.Place.{Place}
 use Rattle.record.specs.declared.Asked.{Asked}
+use Rattle.record.specs.declared.Checksum.{Checksum}
 use Rattle.record.specs.declared.End.{End}
 use Rattle.record.specs.declared.Phase.{Phase}
 use Rattle.record.specs.declared.Session.{Session}
 use Rattle.record.specs.Session.{stored}
 use Rattle.store.specs.Held.{holds}
-use Rattle.record.specs.Ranges.{objectFits, allFit, isBrought, brought, cryptogramAbsent, running, recordsIn, completed, freshRanges, optionsRanges, recordRanges, cryptogramRanges, mostCommands, endedRanges, phaseRanges, inRanges}
-use Rattle.record.specs.Clauses.{Fits, Running, OnFresh, OnOptions, OnRecord, OnCryptogram, OnEnded, InPhase, Ranges, Tells}
+use Rattle.record.specs.Ranges.{objectFits, allFit, isBrought, brought, lastAbsent, running, recordsIn, completed, trackCompleted, freshRanges, optionsRanges, recordRanges, cryptogramRanges, checksumRanges, mostCommands, endedRanges, phaseRanges, inRanges}
+use Rattle.record.specs.Clauses.{Fits, Running, OnFresh, OnOptions, OnRecord, OnCryptogram, OnChecksum, OnEnded, InPhase, Ranges, Tells}
 use Rattle.record.proofs.Every.{every-all}
 use Rattle.store.proofs.Rows.{rows-length}
 use Rattle.record.proofs.Values.{absent-of, is-lacking, zeros-of, zeros-are, zero-results, results-zero}
@@ -65,13 +66,14 @@ brought-all b f = every-all (isBrought b) rows blank (λ k h. go k h (bool-cases
         either-right _ _ (f k (omega (arith, rows-length)) (omega arith))
 
 pub runs : (b : List ℕ) → running b ≡ true → Running b
-unfolding running cryptogramAbsent every
+unfolding running lastAbsent every
 runs b e =
     let p = both-right _ _ e in
     let q = both-right _ _ p in
     let u = both-right _ _ q in
     let v = both-right _ _ u in
     let w = both-right _ _ v in
+    let x = both-right _ _ w in
     record {
       results = both-left _ _ e;
       brought = all-brought b (both-left _ _ p);
@@ -79,11 +81,12 @@ runs b e =
       no-9F10 = absent-of _ (both-left _ _ u);
       no-9F26 = absent-of _ (both-left _ _ v);
       no-9F27 = absent-of _ (both-left _ _ w);
-      no-9F36 = absent-of _ (both-left _ _ (both-right _ _ w));
+      no-9F36 = absent-of _ (both-left _ _ x);
+      no-9F61 = absent-of _ (both-left _ _ (both-right _ _ x));
     }
 
 pub running-passes : (b : List ℕ) → Running b → running b ≡ true
-unfolding running cryptogramAbsent every
+unfolding running lastAbsent every
 running-passes b r =
     both-yes _ _ (r .results)
     (both-yes _ _ (brought-all b (r .brought))
@@ -91,7 +94,8 @@ running-passes b r =
     (both-yes _ _ (is-lacking b 0x9F10 (r .no-9F10))
     (both-yes _ _ (is-lacking b 0x9F26 (r .no-9F26))
     (both-yes _ _ (is-lacking b 0x9F27 (r .no-9F27))
-    (both-yes _ _ (is-lacking b 0x9F36 (r .no-9F36)) refl))))))
+    (both-yes _ _ (is-lacking b 0x9F36 (r .no-9F36))
+    (both-yes _ _ (is-lacking b 0x9F61 (r .no-9F61)) refl)))))))
 
 -- ---- phase by phase
 
@@ -191,6 +195,42 @@ cryptogram-passes a n b c =
     (both-yes _ _ (c .locator)
     (eq-eqb n (2 + recordsIn b) (c .count)))))))
 
+pub checksum-clauses : (x : Checksum) (n : ℕ) (b : List ℕ) → Fits b → checksumRanges x n b ≡ true → OnChecksum x n b
+unfolding checksumRanges trackCompleted every
+checksum-clauses x n b f e =
+    let p = both-right _ _ e in
+    let z = both-right _ _ p in
+    let q = both-right _ _ z in
+    let k = both-left _ _ q in
+    let k2 = both-right _ _ k in
+    let k3 = both-right _ _ k2 in
+    let l = both-right _ _ q in
+    let u = both-right _ _ l in
+    let r = runs b (both-left _ _ e) in
+    record {
+      runs = r;
+      mode = both-left _ _ p;
+      zero-95 = zero-results b f (r .results) (both-left _ _ z);
+      locator = both-left _ _ u;
+      some-9F6B = ltb-true 0 _ (both-left _ _ k);
+      some-9F65 = ltb-true 0 _ (both-left _ _ k2);
+      some-9F66 = ltb-true 0 _ (both-left _ _ k3);
+      some-9F67 = ltb-true 0 _ (both-left _ _ (both-right _ _ k3));
+      limit = eqb-true (x .limit) (limitOf b) (both-left _ _ l);
+      count = eqb-true n (2 + recordsIn b) (both-right _ _ u);
+    }
+
+pub checksum-passes : (x : Checksum) (n : ℕ) (b : List ℕ) → OnChecksum x n b → checksumRanges x n b ≡ true
+unfolding checksumRanges trackCompleted every
+checksum-passes x n b c =
+    both-yes _ _ (running-passes b (c .runs))
+    (both-yes _ _ (c .mode)
+    (both-yes _ _ (results-zero b (c .zero-95))
+    (both-yes _ _ (both-yes _ _ (lt-ltb 0 _ (c .some-9F6B)) (both-yes _ _ (lt-ltb 0 _ (c .some-9F65)) (both-yes _ _ (lt-ltb 0 _ (c .some-9F66)) (both-yes _ _ (lt-ltb 0 _ (c .some-9F67)) refl))))
+    (both-yes _ _ (eq-eqb (x .limit) (limitOf b) (c .limit))
+    (both-yes _ _ (c .locator)
+    (eq-eqb n (2 + recordsIn b) (c .count)))))))
+
 pub ended-clauses : (x : End) (n : ℕ) → endedRanges x n ≡ true → OnEnded x n
 unfolding endedRanges
 ended-clauses x n e = record { count = leb-true n mostCommands (both-left _ _ e); reason = both-right _ _ e }
@@ -206,6 +246,7 @@ phase-clauses Phase.Fresh s l f e = fresh-clauses (s .count) (stored s) l e
 phase-clauses Phase.Options s l f e = options-clauses (s .count) (stored s) f e
 phase-clauses (Phase.Record p) s l f e = record-clauses p (s .count) (stored s) f e
 phase-clauses (Phase.Cryptogram a) s l f e = cryptogram-clauses a (s .count) (stored s) e
+phase-clauses (Phase.Checksum x) s l f e = checksum-clauses x (s .count) (stored s) f e
 phase-clauses (Phase.Ended x) s l f e = ended-clauses x (s .count) e
 
 phase-passes : (p : Phase) (s : Session) → InPhase p s → phaseRanges p s ≡ true
@@ -213,6 +254,7 @@ phase-passes Phase.Fresh s c = fresh-passes (s .count) (stored s) c
 phase-passes Phase.Options s c = options-passes (s .count) (stored s) c
 phase-passes (Phase.Record p) s c = record-passes p (s .count) (stored s) c
 phase-passes (Phase.Cryptogram a) s c = cryptogram-passes a (s .count) (stored s) c
+phase-passes (Phase.Checksum x) s c = checksum-passes x (s .count) (stored s) c
 phase-passes (Phase.Ended x) s c = ended-passes x (s .count) c
 
 -- a record that passes keeps every clause

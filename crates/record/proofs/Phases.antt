@@ -1,11 +1,13 @@
 -- What a session that keeps its ranges is in each phase, and how a record built anew keeps them: from the clauses and back.
 -- Assumes nothing.
-use mathlib.Core.Path.{_≡_, refl, sym, subst}
+use mathlib.Core.Path.{_≡_, refl, sym, subst, _∙_}
+use mathlib.Core.Logic.{inl, inr}
 use mathlib.Core.Bool.{true}
 use mathlib.Core.List.{List}
 use Prim.Native.Nat.{ℕ, _≤_}
 use native.Mathlib.Omega.{arith}
 use lib.ListN.{length, replicate}
+use Rattle.basics.proofs.Laws.{bool-cases, both-left, either-false}
 use Rattle.dictionary.specs.Rows.{storeSize}
 use Rattle.store.specs.Place.{Value, absent, present, bytesOf, isThere, valueOf}
 use Rattle.locator.specs.Records.{accepts}
@@ -14,6 +16,7 @@ use Rattle.analysis.specs.Bits.{has}
 use Rattle.record.specs.declared.Outcome.{Outcome}
 use Rattle.record.specs.declared.Place.{Place}
 use Rattle.record.specs.declared.Asked.{Asked}
+use Rattle.record.specs.declared.Checksum.{Checksum}
 use Rattle.record.specs.declared.End.{End}
 use Rattle.record.specs.declared.Phase.{Phase}
 use Rattle.record.specs.declared.Session.{Session}
@@ -21,8 +24,8 @@ use Rattle.record.specs.Numbers.{goesWith, outcomeFor}
 use Rattle.basics.specs.Reason.{reasonMode}
 use Rattle.record.specs.Session.{stored, freshSession, waitingSession, endedSession, endOf}
 use Rattle.store.specs.Held.{holds}
-use Rattle.record.specs.Ranges.{emvMode, locatorIn, mostCommands, inRanges}
-use Rattle.record.specs.Clauses.{Fits, OnFresh, OnOptions, OnRecord, OnCryptogram, OnEnded, InPhase}
+use Rattle.record.specs.Ranges.{emvMode, stripeMode, eitherMode, locatorIn, mostCommands, inRanges}
+use Rattle.record.specs.Clauses.{Fits, OnFresh, OnOptions, OnRecord, OnCryptogram, OnChecksum, OnEnded, InPhase}
 use Rattle.record.proofs.Values.{bytes-there}
 use Rattle.record.proofs.Laws.{clauses, clauses-pass}
 use Rattle.record.proofs.Stored.{empty-fits}
@@ -52,6 +55,9 @@ module _ (s : Session) (e : inRanges s ≡ true) where
   pub on-cryptogram : (a : Asked) → s .phase ≡ Phase.Cryptogram a → OnCryptogram a (s .count) (stored s)
   on-cryptogram a q = in-phase (Phase.Cryptogram a) q
 
+  pub on-checksum : (k : Checksum) → s .phase ≡ Phase.Checksum k → OnChecksum k (s .count) (stored s)
+  on-checksum k q = in-phase (Phase.Checksum k) q
+
   pub on-ended : (x : End) → s .phase ≡ Phase.Ended x → OnEnded x (s .count)
   on-ended x q = in-phase (Phase.Ended x) q
 
@@ -73,12 +79,20 @@ mode-there b e = go (valueOf b 0x82) e
     go absent m = cc
     go (present v) m = refl
 
+-- in either mode 82 is there
+pub either-there : (b : List ℕ) → eitherMode b ≡ true → holds b 0x82 ≡ true
+either-there b e = elim (bool-cases (emvMode b)) [
+  | inl y ↦ mode-there b y
+  | inr n ↦ both-left _ _ (sym (either-false _ n) ∙ e)
+]
+
 -- a count is at most 130 in every phase
 phase-most : (p : Phase) (s : Session) → InPhase p s → s .count ≤ mostCommands
 phase-most Phase.Fresh s c = omega (arith, c .count)
 phase-most Phase.Options s c = omega (arith, c .count)
 phase-most (Phase.Record p) s c = omega (arith, c .count, c .last, accepted-total (locatorIn (stored s)) (c .locator))
 phase-most (Phase.Cryptogram a) s c = omega (arith, c .count, accepted-total (locatorIn (stored s)) (c .locator))
+phase-most (Phase.Checksum x) s c = omega (arith, c .count, accepted-total (locatorIn (stored s)) (c .locator))
 phase-most (Phase.Ended x) s c = c .count
 
 pub count-most : (s : Session) → inRanges s ≡ true → s .count ≤ mostCommands

@@ -5,7 +5,7 @@ use mathlib.Core.Path.{_≡_, refl, sym, ap, subst, _∙_}
 use mathlib.Core.Bool.{Bool, true, not}
 use mathlib.Core.Logic.{inl, inr}
 use mathlib.Core.List.{List, _∷_}
-use Prim.Native.Nat.{ℕ, zero, suc, _+_, _≤_, _<_}
+use Prim.Native.Nat.{ℕ, zero, suc, _+_, _%_, _≤_, _<_}
 use native.Mathlib.Omega.{arith}
 use lib.ListN.{length, getD, take, replicate}
 use lib.Seq.{length-take-le, getD-at}
@@ -16,7 +16,7 @@ use Rattle.basics.specs.Number.{hasBit}
 use Rattle.basics.proofs.Laws.{both-yes, both-right, either-false}
 use Rattle.basics.proofs.Order.{equal-or-not}
 use Rattle.basics.proofs.Table.{at}
-use Rattle.dictionary.specs.Rows.{Row, rows, blank, rowAt, rowCount, storeSize, find, start, card, cryptogram}
+use Rattle.dictionary.specs.Rows.{Row, rows, blank, rowAt, rowCount, storeSize, find, start, card}
 use Rattle.dictionary.specs.Named.{row95}
 use Rattle.dictionary.specs.declared.Found.{Found}
 use Rattle.dictionary.specs.declared.Found.the-variants.{At, Unknown}
@@ -28,7 +28,7 @@ use Rattle.store.specs.Place.{Value, absent, present, bytesOf, isThere, offsetI
 use Rattle.store.proofs.Laws.{lies, put-length, put-get, put-other, place-other, length-byte-at, by-row, unknown-absent, empty-holds-nothing}
 use Rattle.store.proofs.Rows.{rows-length, fits-row, rows-size}
 use Rattle.store.specs.Held.{holds, isZero}
-use Rattle.record.specs.Ranges.{valueFits, allFit, cryptogramTags}
+use Rattle.record.specs.Ranges.{valueFits, allFit, lastTags}
 use Rattle.record.specs.Clauses.{ObjectFits, Fits, Running}
 use Rattle.record.proofs.Tags.{row-found, value-is, length-is}
 use Rattle.record.proofs.Values.{zeros-of}
@@ -153,9 +153,9 @@ pub put-apart : (b : List ℕ) (k : ℕ) (v : List ℕ) → length b ≡ storeSi
     → (ts : List ℕ) → apartFrom ts (rowAt k) ≡ true → (i : ℕ) → i < length ts → valueOf (putAt rows b k v) (getD ts i 0) ≡ valueOf b (getD ts i 0)
 put-apart b k v l h g ts a i j = put-away b k v l h g (getD ts i 0) (apart-found ts k a i j)
 
--- what a running session's clauses speak of beyond what is there: the terminal's type and the cryptogram's answer
+-- what a running session's clauses speak of beyond what is there: the terminal's type and the last answer
 abbrev pub runningTags : List ℕ
-runningTags = 0x9F35 ∷ cryptogramTags
+runningTags = 0x9F35 ∷ lastTags
 
 -- a rule of the dictionary: where the first test passes, so does the second
 implies : (Row → Bool) → (Row → Bool) → Row → Bool
@@ -168,11 +168,11 @@ rule f g t k h e = sym (either-false _ (ap not e)) ∙ at (implies f g) rows bla
 abbrev startRow : Row → Bool
 startRow r = hasBit (r .setters) start
 
--- the card may set it, and not only in the answer to the cryptogram
+-- the card may set it, and not only in the last answer: in one to processing options or to a record, whose bits are the two lowest
 abbrev cardRow : Row → Bool
-cardRow r = both (hasBit (r .setters) card) (not (eqb (r .answers) cryptogram))
+cardRow r = both (hasBit (r .setters) card) (not (eqb (r .answers % 4) 0))
 
-start-test : every (implies startRow (apartFrom (0x82 ∷ 0x94 ∷ 0x95 ∷ cryptogramTags))) rows ≡ true
+start-test : every (implies startRow (apartFrom (0x82 ∷ 0x94 ∷ 0x95 ∷ lastTags))) rows ≡ true
 unfolding rows every both either apartFrom implies
 start-test = refl
 
@@ -181,11 +181,11 @@ unfolding rows every both either apartFrom implies
 card-test = refl
 
 -- what a start may set
-pub start-apart : (k : ℕ) → k < rowCount → hasBit (rowAt k .setters) start ≡ true → apartFrom (0x82 ∷ 0x94 ∷ 0x95 ∷ cryptogramTags) (rowAt k) ≡ true
-start-apart = rule startRow (apartFrom (0x82 ∷ 0x94 ∷ 0x95 ∷ cryptogramTags)) start-test
+pub start-apart : (k : ℕ) → k < rowCount → hasBit (rowAt k .setters) start ≡ true → apartFrom (0x82 ∷ 0x94 ∷ 0x95 ∷ lastTags) (rowAt k) ≡ true
+start-apart = rule startRow (apartFrom (0x82 ∷ 0x94 ∷ 0x95 ∷ lastTags)) start-test
 
--- what the card may set before the cryptogram
-pub card-apart : (k : ℕ) → k < rowCount → hasBit (rowAt k .setters) card ≡ true → (rowAt k .answers ≡ cryptogram → ⊥) → apartFrom (0x95 ∷ runningTags) (rowAt k) ≡ true
+-- what the card may set before the last answer
+pub card-apart : (k : ℕ) → k < rowCount → hasBit (rowAt k .setters) card ≡ true → (rowAt k .answers % 4 ≡ 0 → ⊥) → apartFrom (0x95 ∷ runningTags) (rowAt k) ≡ true
 card-apart k h e a = rule cardRow (apartFrom (0x95 ∷ runningTags)) card-test k h (both-yes _ _ e (ap not (ne-eqb _ _ a)))
 
 -- the result bits are the session's own
@@ -207,6 +207,7 @@ runs-kept b d there same r =
       no-9F26 = same 2 (omega arith) ∙ r .no-9F26;
       no-9F27 = same 3 (omega arith) ∙ r .no-9F27;
       no-9F36 = same 4 (omega arith) ∙ r .no-9F36;
+      no-9F61 = same 5 (omega arith) ∙ r .no-9F61;
     }
 
 -- a put into a row that is none of theirs

@@ -13,13 +13,15 @@ use Rattle.locator.specs.Records.{accepts}
 use Rattle.analysis.specs.Action.{limitOf}
 use Rattle.record.specs.declared.Place.{Place}
 use Rattle.record.specs.declared.Asked.{Asked}
+use Rattle.record.specs.declared.Checksum.{Checksum}
 use Rattle.record.specs.declared.End.{End}
 use Rattle.record.specs.declared.Phase.{Phase}
 use Rattle.record.specs.declared.Session.{Session}
 use Rattle.record.specs.Numbers.{goesWith}
 use Rattle.record.specs.Session.{stored}
 use Rattle.store.specs.Held.{holds, bytesIn, byteIn, lengthIn}
-use Rattle.record.specs.Ranges.{valueFits, emvMode, locatorIn, recordsIn, mostCommands, inRanges}
+use Rattle.record.specs.Ranges.{valueFits, emvMode, stripeMode, eitherMode, locatorIn, recordsIn}
+use Rattle.record.specs.Ranges.{mostCommands, inRanges}
 
 -- the object of a row fits it: its length byte, and its value
 pub record ObjectFits (b : List ℕ) (r : Row) : Type 0 where
@@ -34,8 +36,8 @@ Fits b = (k : ℕ) → k < rowCount → ObjectFits b (rowAt k)
 abbrev pub noResults : List ℕ
 noResults = 0 ∷ 0 ∷ 0 ∷ 0 ∷ 0 ∷ []
 
--- every running session: the result bits, the required start objects, a terminal type of the list, no object of the
--- cryptogram's answer
+-- every running session: the result bits, the required start objects, a terminal type of the list, no object that only
+-- the answer to the last command brings
 pub record Running (b : List ℕ) : Type 0 where
   pub results : holds b 0x95 ≡ true
   pub brought : (k : ℕ) → k < rowCount → rowAt k .must ≡ required → holds b (rowAt k .tag) ≡ true
@@ -44,6 +46,7 @@ pub record Running (b : List ℕ) : Type 0 where
   pub no-9F26 : valueOf b 0x9F26 ≡ absent
   pub no-9F27 : valueOf b 0x9F27 ≡ absent
   pub no-9F36 : valueOf b 0x9F36 ≡ absent
+  pub no-9F61 : valueOf b 0x9F61 ≡ absent
 
 -- fresh: nothing was handed out, and the store is the zero array
 pub record OnFresh (n : ℕ) (b : List ℕ) : Type 0 where
@@ -61,7 +64,7 @@ pub record OnOptions (n : ℕ) (b : List ℕ) : Type 0 where
 -- waiting on the k-th record
 pub record OnRecord (p : Place) (n : ℕ) (b : List ℕ) : Type 0 where
   pub runs : Running b
-  pub mode : emvMode b ≡ true
+  pub mode : eitherMode b ≡ true
   pub zero-95 : valueOf b 0x95 ≡ present noResults
   pub limit : p .limit ≡ limitOf b
   pub locator : accepts (locatorIn b) ≡ true
@@ -82,6 +85,19 @@ pub record OnCryptogram (a : Asked) (n : ℕ) (b : List ℕ) : Type 0 where
   pub limit : a .limit ≡ limitOf b
   pub count : n ≡ 2 + recordsIn b
 
+-- waiting on the checksum
+pub record OnChecksum (c : Checksum) (n : ℕ) (b : List ℕ) : Type 0 where
+  pub runs : Running b
+  pub mode : stripeMode b ≡ true
+  pub zero-95 : valueOf b 0x95 ≡ present noResults
+  pub locator : accepts (locatorIn b) ≡ true
+  pub some-9F6B : 0 < length (bytesIn b 0x9F6B)
+  pub some-9F65 : 0 < length (bytesIn b 0x9F65)
+  pub some-9F66 : 0 < length (bytesIn b 0x9F66)
+  pub some-9F67 : 0 < length (bytesIn b 0x9F67)
+  pub limit : c .limit ≡ limitOf b
+  pub count : n ≡ 2 + recordsIn b
+
 -- ended
 pub record OnEnded (e : End) (n : ℕ) : Type 0 where
   pub count : n ≤ mostCommands
@@ -93,6 +109,7 @@ InPhase Phase.Fresh          s = OnFresh (s .count) (stored s)
 InPhase Phase.Options        s = OnOptions (s .count) (stored s)
 InPhase (Phase.Record p)     s = OnRecord p (s .count) (stored s)
 InPhase (Phase.Cryptogram a) s = OnCryptogram a (s .count) (stored s)
+InPhase (Phase.Checksum c)   s = OnChecksum c (s .count) (stored s)
 InPhase (Phase.Ended e)      s = OnEnded e (s .count)
 
 -- every clause; the store's size is that of its type

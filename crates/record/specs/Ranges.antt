@@ -1,7 +1,7 @@
 -- Session ranges (document 01, "Calls and their numbers"): the test that a session record handed in must pass.
 -- Every clause is a fact by name in Clauses.antt; the test passes exactly when all of them hold.
 -- Assumes nothing.
-use mathlib.Core.Bool.{Bool, true}
+use mathlib.Core.Bool.{Bool, true, not}
 use mathlib.Core.List.{List, [], _∷_}
 use Prim.Native.Nat.{ℕ, _+_}
 use lib.ListN.{length}
@@ -17,6 +17,7 @@ use Rattle.analysis.specs.Bits.{has}
 use Rattle.analysis.specs.Action.{limitOf}
 use Rattle.record.specs.declared.Place.{Place}
 use Rattle.record.specs.declared.Asked.{Asked}
+use Rattle.record.specs.declared.Checksum.{Checksum}
 use Rattle.record.specs.declared.End.{End}
 use Rattle.record.specs.declared.Phase.{Phase}
 use Rattle.record.specs.declared.Session.{Session}
@@ -40,7 +41,7 @@ objectFits b r =
 unfoldable pub allFit : List ℕ → Bool
 allFit b = every (objectFits b) rows
 
--- ---- running: what a start brought is there, and nothing of the cryptogram's answer
+-- ---- running: what a start brought is there, and nothing of the last answer
 
 -- the object of a row is there if a start must bring it
 unfoldable pub isBrought : List ℕ → Row → Bool
@@ -50,27 +51,40 @@ isBrought b r = r .must =? optional or holds b (r .tag)
 unfoldable pub brought : List ℕ → Bool
 brought b = every (isBrought b) rows
 
--- issuer application data, cryptogram, cryptogram information and transaction counter
-abbrev pub cryptogramTags : List ℕ
-cryptogramTags = 0x9F10 ∷ 0x9F26 ∷ 0x9F27 ∷ 0x9F36 ∷ []
+-- what only the answer to the cryptogram or to the checksum brings: issuer application data, cryptogram, cryptogram
+-- information, transaction counter, and the code CVC3 (document 02, Item 9)
+abbrev pub lastTags : List ℕ
+lastTags = 0x9F10 ∷ 0x9F26 ∷ 0x9F27 ∷ 0x9F36 ∷ 0x9F61 ∷ []
 
 -- none of them is there
-unfoldable pub cryptogramAbsent : List ℕ → Bool
-cryptogramAbsent b = every (lacks b) cryptogramTags
+unfoldable pub lastAbsent : List ℕ → Bool
+lastAbsent b = every (lacks b) lastTags
 
--- the result bits, the objects required of a start, a terminal type on the list, nothing of the cryptogram's answer
+-- the result bits, the objects required of a start, a terminal type on the list, nothing of the last answer
 unfoldable pub running : List ℕ → Bool
 running b =
     holds b 0x95
     and brought b
     and listed (byteIn b 0x9F35 1)
-    and cryptogramAbsent b
+    and lastAbsent b
 
 -- ---- after the processing options
 
 -- 82 is there with byte 2 b8 set
 abbrev pub emvMode : List ℕ → Bool
 emvMode b = has (bytesIn b 0x82) 2 8
+
+-- mag-stripe mode (document 02, Item 9): 82 is there with byte 2 b8 clear, and the kernel configuration DF811B does not
+-- say by byte 1 b8 that this mode is off
+abbrev pub stripeMode : List ℕ → Bool
+stripeMode b =
+    holds b 0x82
+    and not (emvMode b)
+    and not (has (bytesIn b 0xDF811B) 1 8)
+
+-- one of the two modes
+abbrev pub eitherMode : List ℕ → Bool
+eitherMode b = emvMode b or stripeMode b
 
 -- the stored locator, and R
 abbrev pub locatorIn : List ℕ → List ℕ
@@ -86,6 +100,14 @@ neededTags = 0x5F24 ∷ 0x5A ∷ 0x8C ∷ []
 -- they are there, none empty
 unfoldable pub completed : List ℕ → Bool
 completed b = every (notEmpty b) neededTags
+
+-- track 2, the bitmaps of the code and of number and counter, and the counter's digits
+abbrev pub trackTags : List ℕ
+trackTags = 0x9F6B ∷ 0x9F65 ∷ 0x9F66 ∷ 0x9F67 ∷ []
+
+-- they are there, none empty
+unfoldable pub trackCompleted : List ℕ → Bool
+trackCompleted b = every (notEmpty b) trackTags
 
 -- ---- phase by phase, for a count and a store
 
@@ -104,12 +126,12 @@ optionsRanges n b =
     and zeroed b 0x95
     and n =? 1
 
--- on the k-th record: EMV mode, 95 is zero, the limit in force (document 02, Item 8), an accepted locator, k is 1 to R,
--- 1 + k commands
+-- on the k-th record: one of the modes, 95 is zero, the limit in force (document 02, Item 8), an accepted locator,
+-- k is 1 to R, 1 + k commands
 unfoldable pub recordRanges : Place → ℕ → List ℕ → Bool
 recordRanges p n b =
     running b
-    and emvMode b
+    and eitherMode b
     and zeroed b 0x95
     and p .limit =? limitOf b
     and accepts (locatorIn b)
@@ -128,7 +150,19 @@ cryptogramRanges a n b =
     and accepts (locatorIn b)
     and n =? 2 + recordsIn b
 
--- the most commands: processing options, 128 records, the cryptogram
+-- on the checksum: mag-stripe mode, 95 is zero, what its answer's digits need is there, the limit in force, an accepted
+-- locator, 2 + R commands; the track need not be one that can take the digits
+unfoldable pub checksumRanges : Checksum → ℕ → List ℕ → Bool
+checksumRanges c n b =
+    running b
+    and stripeMode b
+    and zeroed b 0x95
+    and trackCompleted b
+    and c .limit =? limitOf b
+    and accepts (locatorIn b)
+    and n =? 2 + recordsIn b
+
+-- the most commands: processing options, 128 records, the cryptogram or the checksum
 abbrev pub mostCommands : ℕ
 mostCommands = 130
 
@@ -146,6 +180,7 @@ phaseRanges Phase.Fresh          s = freshRanges (s .count) (stored s)
 phaseRanges Phase.Options        s = optionsRanges (s .count) (stored s)
 phaseRanges (Phase.Record p)     s = recordRanges p (s .count) (stored s)
 phaseRanges (Phase.Cryptogram a) s = cryptogramRanges a (s .count) (stored s)
+phaseRanges (Phase.Checksum c)   s = checksumRanges c (s .count) (stored s)
 phaseRanges (Phase.Ended e)      s = endedRanges e (s .count)
 
 -- a session record keeps its ranges; the store's size is that of its type

@@ -8,7 +8,7 @@ use analysis::choice::Choice;
 use analysis::verification::Method;
 use dictionary::{
     Attributes, ROWS, ROW_5A, ROW_5F24, ROW_82, ROW_8C, ROW_94, ROW_95, ROW_9F10, ROW_9F26, ROW_9F27, ROW_9F34, ROW_9F35, ROW_9F36,
-    SIZE,
+    ROW_9F61, ROW_9F65, ROW_9F66, ROW_9F67, ROW_9F6B, ROW_DF811B, SIZE,
 };
 use locator::Checked;
 use store::Store;
@@ -21,8 +21,8 @@ ghost use Rattle.store.specs.Place.{room};
 ghost use Rattle.record.specs.Numbers.{outcomeNumber, goesWith, outcomeFor};
 ghost use Rattle.record.specs.Session.{sessionOf, freshSession, waitingSession, replyOf, refusedTurn, endsTurn, failsTurn, commandsTurn};
 ghost use Rattle.store.specs.Held.{isZero};
-ghost use Rattle.record.specs.Ranges.{allFit, brought, cryptogramAbsent as cryptogramAbsentIn, emvMode, completed, running};
-ghost use Rattle.record.specs.Ranges.{freshRanges, optionsRanges, recordRanges, cryptogramRanges, endedRanges};
+ghost use Rattle.record.specs.Ranges.{allFit, brought, lastAbsent, emvMode, stripeMode, eitherMode, completed, trackCompleted, running};
+ghost use Rattle.record.specs.Ranges.{freshRanges, optionsRanges, recordRanges, cryptogramRanges, checksumRanges, endedRanges};
 ghost use Rattle.record.specs.Clauses.{Tells};
 ghost use Rattle.record.specs.Inner.{broughtBy, placeKeeps, allKeep};
 
@@ -54,12 +54,18 @@ pub struct Asked {
     pub limit: u64,
 }
 
-// Fresh; waiting on processing options, on a record or on the cryptogram; or ended.
+// The checksum that is awaited (mag-stripe mode): the limit in force.
+pub struct Checksum {
+    pub limit: u64,
+}
+
+// Fresh; waiting on processing options, on a record, on the cryptogram or on the checksum; or ended.
 pub enum Phase {
     Fresh,
     Options,
     Record(Place),
     Cryptogram(Asked),
+    Checksum(Checksum),
     Ended(End),
 }
 
@@ -239,6 +245,7 @@ pub fn keeps(phase: Phase, count: u8, bytes: &[u8]) -> bool
         Phase::Options => options_keep(count, bytes),
         Phase::Record(place) => record_keeps(place, count, bytes),
         Phase::Cryptogram(asked) => cryptogram_keeps(asked, count, bytes),
+        Phase::Checksum(checksum) => checksum_keeps(checksum, count, bytes),
         Phase::Ended(end) => ended_keeps(end, count, bytes),
     }
 }
@@ -282,7 +289,7 @@ fn record_keeps(place: Place, count: u8, bytes: &[u8]) -> bool
     if !runs(bytes) {
         return false;
     }
-    if !is_emv(bytes) {
+    if !is_either(bytes) {
         return false;
     }
     let results = store::value(bytes, ROW_95);
@@ -324,6 +331,37 @@ fn cryptogram_keeps(asked: Asked, count: u8, bytes: &[u8]) -> bool
         return false;
     }
     if asked.limit != analysis::action::limit(bytes) {
+        return false;
+    }
+    let c = locator::check(store::value(bytes, ROW_94));
+    let Checked::Accepted(extent) = c else {
+        return false;
+    };
+    let n = basics::wide(count);
+    if n < 2 {
+        return false;
+    }
+    n - 2 == extent.records
+}
+
+// Waiting on the checksum: every record was asked for, and what the digits need is there; the limit is the store's.
+fn checksum_keeps(checksum: Checksum, count: u8, bytes: &[u8]) -> bool
+    requires { ⌜ length (now bytes) ≡ storeSize ⌝ }
+    ensures { λ r. ⌜ r ≡ both (allFit (now (bytes .entry))) (checksumRanges checksum count (now (bytes .entry))) ⌝ }
+{
+    if !runs(bytes) {
+        return false;
+    }
+    if !is_stripe(bytes) {
+        return false;
+    }
+    if !all_zero(store::value(bytes, ROW_95)) {
+        return false;
+    }
+    if !is_track_complete(bytes) {
+        return false;
+    }
+    if checksum.limit != analysis::action::limit(bytes) {
         return false;
     }
     let c = locator::check(store::value(bytes, ROW_94));
@@ -392,12 +430,12 @@ fn runs(bytes: &[u8]) -> bool
     if !dictionary::is_listed(basics::byte_at(store::value(bytes, ROW_9F35), 0)) {
         return false;
     }
-    is_cryptogram_absent(bytes)
+    is_last_absent(bytes)
 }
 
-// Nothing of the answer to the cryptogram is there.
-fn is_cryptogram_absent(bytes: &[u8]) -> bool
-    ensures { λ r. ⌜ r ≡ cryptogramAbsentIn (now (bytes .entry)) ⌝ }
+// Nothing that only the answer to the cryptogram or to the checksum brings is there.
+fn is_last_absent(bytes: &[u8]) -> bool
+    ensures { λ r. ⌜ r ≡ lastAbsent (now (bytes .entry)) ⌝ }
 {
     if store::is_there(bytes, ROW_9F10) {
         return false;
@@ -408,7 +446,10 @@ fn is_cryptogram_absent(bytes: &[u8]) -> bool
     if store::is_there(bytes, ROW_9F27) {
         return false;
     }
-    !store::is_there(bytes, ROW_9F36)
+    if store::is_there(bytes, ROW_9F36) {
+        return false;
+    }
+    !store::is_there(bytes, ROW_9F61)
 }
 
 // The card said that it is in EMV mode.
@@ -416,6 +457,45 @@ pub fn is_emv(bytes: &[u8]) -> bool
     ensures { λ r. ⌜ r ≡ emvMode (now (bytes .entry)) ⌝ }
 {
     basics::byte_at(store::value(bytes, ROW_82), 1) / 128 % 2 == 1
+}
+
+// The card said that it is not in EMV mode, and mag-stripe mode is not off.
+pub fn is_stripe(bytes: &[u8]) -> bool
+    ensures { λ r. ⌜ r ≡ stripeMode (now (bytes .entry)) ⌝ }
+{
+    if !store::is_there(bytes, ROW_82) {
+        return false;
+    }
+    if is_emv(bytes) {
+        return false;
+    }
+    basics::byte_at(store::value(bytes, ROW_DF811B), 0) / 128 % 2 != 1
+}
+
+// One of the two modes.
+pub fn is_either(bytes: &[u8]) -> bool
+    ensures { λ r. ⌜ r ≡ eitherMode (now (bytes .entry)) ⌝ }
+{
+    if is_emv(bytes) {
+        return true;
+    }
+    is_stripe(bytes)
+}
+
+// The track, the two bitmaps and the counter's digits are there, none empty.
+pub fn is_track_complete(bytes: &[u8]) -> bool
+    ensures { λ r. ⌜ r ≡ trackCompleted (now (bytes .entry)) ⌝ }
+{
+    if store::value(bytes, ROW_9F6B).len() == 0 {
+        return false;
+    }
+    if store::value(bytes, ROW_9F65).len() == 0 {
+        return false;
+    }
+    if store::value(bytes, ROW_9F66).len() == 0 {
+        return false;
+    }
+    store::value(bytes, ROW_9F67).len() != 0
 }
 
 // The expiry date, the account number and the list of the cryptogram's data are there, none empty.

@@ -9,7 +9,7 @@ pub fn line(session: Session) {
     match explanation {
         Explanation::Refused => show::text(b"refused 25, the record does not tell why"),
         Explanation::Reason(reason) => ended(reason),
-        Explanation::NoChoice => show::text(b"no choice was made yet"),
+        Explanation::NoChoice => show::text(b"no choice was made"),
         Explanation::LowerCryptogram => show::text(b"the card gave a lower cryptogram than asked for"),
         Explanation::Forced(cause) => forced(cause),
         Explanation::Unforced(stage) => unforced(stage),

@@ -11,14 +11,15 @@ use native.Mathlib.Omega.{arith}
 use types.Run.{OneOf}
 use denote.Enum.Declared.{tagOf}
 use lib.Dec.{eqb}
-use lib.ListN.{length, take}
+use lib.ListN.{length, take, drop, length-take}
 use borrow.Author.Tests.{lt-ltb, le-ltb, eq-eqb, ne-eqb, not-true, not-false}
 use Rattle.basics.specs.Choice.{if}
 use Rattle.basics.proofs.Laws.{if-yes, if-no, if-ind}
 use Rattle.dictionary.specs.Rows.{rows, rowAt}
-use Rattle.dictionary.specs.Named.{placeFound, placeOf, row94, row95, row9F34}
-use Rattle.dictionary.proofs.Named.{at-94, at-95, at-9F34}
-use Rattle.store.specs.Place.{bytesOf, valueAt, putAt}
+use Rattle.dictionary.specs.Named.{placeFound, placeOf, row94, row95, row9F34, row9F6B}
+use Rattle.dictionary.proofs.Named.{at-94, at-95, at-9F34, at-9F6B}
+use Rattle.store.specs.Place.{Value, bytesOf, offsetIn, placeAt, held, valueAt, putAt}
+use Rattle.stripe.specs.Digits.{filled}
 use Rattle.locator.specs.declared.CardRecord.{CardRecord}
 use Rattle.locator.specs.declared.Found.{Found}
 use Rattle.locator.specs.Records.{accepts, recordAt}
@@ -46,10 +47,10 @@ use Rattle.record.specs.declared.Phase.{Phase}
 use Rattle.record.specs.declared.Session.{Session}
 use Rattle.record.specs.declared.Reply.{Reply}
 use Rattle.record.specs.declared.Turn.{Turn}
-use Rattle.basics.specs.Reason.{refusedPhase, refusedBuffer, refusedRanges, reasonNone, reasonMissing, reasonLocator, reasonAboveLimit, reasonDataList, reasonCryptogram, reasonMode, unless}
-use Rattle.record.specs.Session.{sessionOf, replyOf, failsTurn, commandsTurn}
-use Rattle.store.specs.Held.{byteIn}
-use Rattle.record.specs.Ranges.{emvMode, locatorIn, completed, inRanges}
+use Rattle.basics.specs.Reason.{refusedPhase, refusedBuffer, refusedRanges, reasonNone, reasonNotAllowed, reasonMissing, reasonLocator, reasonAboveLimit, reasonDataList, reasonCryptogram, reasonMode, unless}
+use Rattle.record.specs.Session.{sessionOf, endOf, replyOf, failsTurn, commandsTurn}
+use Rattle.store.specs.Held.{holds, byteIn}
+use Rattle.record.specs.Ranges.{emvMode, eitherMode, locatorIn, completed, trackCompleted, inRanges}
 use Rattle.record.specs.Clauses.{noResults}
 use Rattle.record.proofs.Tags.{bytes-are}
 use Rattle.record.proofs.Phase.{the-type as phase-type}
@@ -59,12 +60,14 @@ use Rattle.terminal.proofs.Laws.{was-taken, was-refused}
 use Rattle.session.specs.declared.Needed.{Needed}
 use Rattle.session.specs.declared.Mode.{Mode}
 use Rattle.session.specs.declared.Limit.{Limit}
+use Rattle.session.specs.declared.Track.{Track}
 use Rattle.session.specs.declared.Decided.{Decided}
 use Rattle.session.specs.declared.Decision.{Decision}
-use Rattle.session.specs.Steps.{Step, Did, withoutCommand, refuses, endBy, fails, withResults, withFindings, leastBuffer, admitted, handOut}
+use Rattle.session.specs.Steps.{Step, Did, withoutCommand, refuses, ended, endBy, fails, withResults, withFindings, leastBuffer, admitted, handOut}
 use Rattle.session.specs.Start.{askOptions, startLoaded, startIn}
-use Rattle.session.specs.Answer.{askFound, optionsThere, storedReason, optionsRead, askCryptogram, askedIn, analysed, recordsRead, decision, endFor, cryptogramThere, cryptogramEnd}
-use Rattle.session.specs.Inner.{refusalNumber, neededNumber, modeNumber, limitNumber, decidedEnd}
+use Rattle.session.specs.Answer.{askFound, optionsThere, storedReason, optionsRead, askCryptogram, askedIn, analysed, recordsRead, lastRead, decision, endFor, cryptogramThere, cryptogramEnd}
+use Rattle.session.specs.Stripe.{askChecksum, stripeRead, trackIn, bitmapsIn, valuesIn, soundIn, withDigits, checksumRead, checksumTaken, checksumReply}
+use Rattle.session.specs.Inner.{refusalNumber, neededNumber, modeNumber, limitNumber, trackNumber, decidedEnd}
 
 -- ---- a step by an equation
 
@@ -159,11 +162,17 @@ is-complete b e f = passed 3 b e (ap neededNumber f)
 pub is-missing : {x : Needed} (b : Bool) → neededNumber x ≡ unless b reasonMissing → x ≡ Needed.Missing → b ≡ false
 is-missing b e f = failed reasonMissing b e (λ z. omega (arith, ap neededNumber f))
 
-pub is-emv : {x : Mode} (b : Bool) → modeNumber x ≡ unless b reasonMode → x ≡ Mode.Emv → b ≡ true
-is-emv b e f = passed 10 b e (ap modeNumber f)
+pub is-carried : {x : Mode} (b : Bool) → modeNumber x ≡ unless b reasonMode → x ≡ Mode.Carried → b ≡ true
+is-carried b e f = passed 10 b e (ap modeNumber f)
 
-pub is-stripe : {x : Mode} (b : Bool) → modeNumber x ≡ unless b reasonMode → x ≡ Mode.Stripe → b ≡ false
-is-stripe b e f = failed reasonMode b e (λ z. omega (arith, ap modeNumber f))
+pub is-off : {x : Mode} (b : Bool) → modeNumber x ≡ unless b reasonMode → x ≡ Mode.Off → b ≡ false
+is-off b e f = failed reasonMode b e (λ z. omega (arith, ap modeNumber f))
+
+pub is-sound : {x : Track} (b : Bool) → trackNumber x ≡ unless b reasonNotAllowed → x ≡ Track.Sound → b ≡ true
+is-sound b e f = passed 2 b e (ap trackNumber f)
+
+pub is-unsound : {x : Track} (b : Bool) → trackNumber x ≡ unless b reasonNotAllowed → x ≡ Track.Unsound → b ≡ false
+is-unsound b e f = failed reasonNotAllowed b e (λ z. omega (arith, ap trackNumber f))
 
 pub is-above : {x : Limit} (b : Bool) → limitNumber x ≡ unless (not b) reasonAboveLimit → x ≡ Limit.Above → b ≡ true
 is-above b e f = not-false _ (failed reasonAboveLimit (not b) e (λ z. omega (arith, ap limitNumber f)))
@@ -213,15 +222,47 @@ findings-stored b f p q =
     ap (λ (n : ℕ). withResults (putAt rows b n (f .results)) (f .bits)) verification-place
     ∙ ap (λ (d : List ℕ). withResults d (f .bits)) (sym p) ∙ results-stored _ (f .bits) q
 
+-- three bytes' parts by equations
+pub three : {A : Type 0} (f : List ℕ → List ℕ → List ℕ → A) {x y z u v w : List ℕ} → x ≡ u → y ≡ v → z ≡ w → f x y z ≡ f u v w
+three f p q e = λ i. f (p i) (q i) (e i)
+
+-- a row's value is at most as long as its room
+held-short : (p : List ℕ) (m : ℕ) → length p ≤ m + 1 → length (bytesOf (held p)) ≤ m
+unfolding held
+held-short [] m h = omega arith
+held-short (n ∷ v) m h =
+    if-ind (λ (x : Value). length (bytesOf x) ≤ m) _ _ _ (λ e. omega arith) (λ e. let t = length-take (n - 1) v in omega arith)
+
+pub value-short : (b : List ℕ) (k : ℕ) → length (bytesOf (valueAt rows b k)) ≤ rowAt k .greatest
+unfolding valueAt placeAt
+value-short b k =
+    held-short (take (rowAt k .greatest + 1) (drop (offsetIn rows k) b)) (rowAt k .greatest)
+    (let t = length-take (rowAt k .greatest + 1) (drop (offsetIn rows k) b) in omega arith)
+
+-- 9F6B has room for a track
+pub track-fits : rowAt row9F6B .greatest ≡ 19
+unfolding rows
+track-fits = refl
+
+pub track-place : placeOf 0x9F6B ≡ row9F6B
+unfolding placeOf
+track-place = ap placeFound at-9F6B
+
+-- the track with the digits as it is stored
+pub digits-stored : (b v : List ℕ) {k : List ℕ} → v ≡ filled (trackIn b) (bitmapsIn b) (valuesIn b) → k ≡ putAt rows b row9F6B v → k ≡ withDigits b
+unfolding withDigits
+digits-stored b v e p = p ∙ (λ i. putAt rows b (sym track-place i) (e i))
+
 -- ---- start
 
 -- a phase other than fresh
-pub not-fresh : (p : Phase) (s : Session) (bytes buf : List ℕ) → OneOf (1 ∷ 2 ∷ 3 ∷ 4 ∷ []) (tagOf phase-type p) → startIn p s bytes buf ≡ refuses s refusedPhase buf
+pub not-fresh : (p : Phase) (s : Session) (bytes buf : List ℕ) → OneOf (1 ∷ 2 ∷ 3 ∷ 4 ∷ 5 ∷ []) (tagOf phase-type p) → startIn p s bytes buf ≡ refuses s refusedPhase buf
 not-fresh Phase.Fresh s bytes buf h =
-    absurd (⊎-elim (λ e. omega arith) (λ r. ⊎-elim (λ e. omega arith) (λ r. ⊎-elim (λ e. omega arith) (λ e. omega arith) r) r) h)
+    absurd (⊎-elim (λ e. omega arith) (λ r. ⊎-elim (λ e. omega arith) (λ r. ⊎-elim (λ e. omega arith) (λ r. ⊎-elim (λ e. omega arith) (λ e. omega arith) r) r) r) h)
 not-fresh Phase.Options s bytes buf h = refl
 not-fresh (Phase.Record p) s bytes buf h = refl
 not-fresh (Phase.Cryptogram a) s bytes buf h = refl
+not-fresh (Phase.Checksum k) s bytes buf h = refl
 not-fresh (Phase.Ended e) s bytes buf h = refl
 
 -- the loading of a fresh session said r and left the store d
@@ -277,15 +318,15 @@ module _ (n : ℕ) (b buf : List ℕ) where
   unfolding storedReason
   options-missing e = stops 3 (if-yes _ _ (ap not e))
 
-  pub options-mode : optionsThere b ≡ true → emvMode b ≡ false → optionsRead n b buf ≡ fails notApplicable n b reasonMode buf
+  pub options-mode : optionsThere b ≡ true → eitherMode b ≡ false → optionsRead n b buf ≡ fails notApplicable n b reasonMode buf
   unfolding storedReason
   options-mode e m = stops 10 (if-no _ _ (ap not e) ∙ if-yes _ _ (ap not m))
 
-  pub options-locator : optionsThere b ≡ true → emvMode b ≡ true → accepts (locatorIn b) ≡ false → optionsRead n b buf ≡ fails notApplicable n b reasonLocator buf
+  pub options-locator : optionsThere b ≡ true → eitherMode b ≡ true → accepts (locatorIn b) ≡ false → optionsRead n b buf ≡ fails notApplicable n b reasonLocator buf
   unfolding storedReason
   options-locator e m a = stops 4 (if-no _ _ (ap not e) ∙ if-no _ _ (ap not m) ∙ if-yes _ _ (ap not a))
 
-  pub options-ask : (x : Found) → optionsThere b ≡ true → emvMode b ≡ true → accepts (locatorIn b) ≡ true
+  pub options-ask : (x : Found) → optionsThere b ≡ true → eitherMode b ≡ true → accepts (locatorIn b) ≡ true
       → recordAt (locatorIn b) 1 ≡ x → optionsRead n b buf ≡ askFound n b 1 buf x
   unfolding optionsRead storedReason
   options-ask x e m a f =
@@ -305,6 +346,27 @@ module _ (n : ℕ) (b buf : List ℕ) where
     pub records-analysed : aboveLimit limit b ≡ false → completed b ≡ true → recordsRead limit n b buf ≡ analysed limit n b buf
     unfolding recordsRead
     records-analysed e f = if-no _ _ e ∙ if-no _ _ (ap not f)
+
+    -- by the mode
+    pub last-emv : emvMode b ≡ true → lastRead limit n b buf ≡ recordsRead limit n b buf
+    unfolding lastRead
+    last-emv e = if-yes _ _ e
+
+    pub last-stripe : emvMode b ≡ false → lastRead limit n b buf ≡ stripeRead limit n b buf
+    unfolding lastRead
+    last-stripe e = if-no _ _ e
+
+    pub stripe-limit : aboveLimit limit b ≡ true → stripeRead limit n b buf ≡ fails notApplicable n b reasonAboveLimit buf
+    unfolding stripeRead
+    stripe-limit e = if-yes _ _ e
+
+    pub stripe-missing : aboveLimit limit b ≡ false → trackCompleted b ≡ false → stripeRead limit n b buf ≡ fails notApplicable n b reasonMissing buf
+    unfolding stripeRead
+    stripe-missing e f = if-no _ _ e ∙ if-yes _ _ (ap not f)
+
+    pub stripe-asks : aboveLimit limit b ≡ false → trackCompleted b ≡ true → stripeRead limit n b buf ≡ askChecksum limit n b buf
+    unfolding stripeRead
+    stripe-asks e f = if-no _ _ e ∙ if-no _ _ (ap not f)
 
     -- what is found, stored and chosen on
     pub analysed-as : {f : Findings} {k l : List ℕ} {x : Choice} → f ≡ findingsOf b → x ≡ chosen b (f .bits)
@@ -327,3 +389,33 @@ module _ (a : Asked) (b : List ℕ) where
   pub cryptogram-decided : cryptogramThere b ≡ true → cryptogramEnd a b ≡ endFor (decision (a .choice) (byteIn b 0x9F27 1 / 64))
   unfolding cryptogramEnd
   cryptogram-decided e = if-no _ _ (ap not e)
+
+-- ---- the answer to the checksum
+
+module _ (n : ℕ) (b : List ℕ) where
+  pub counter-missing : holds b 0x9F36 ≡ false → checksumRead n b ≡ ended notApplicable n b (endBy reasonMissing)
+  unfolding checksumRead
+  counter-missing e = if-yes _ _ (ap not e)
+
+  pub code-missing : holds b 0x9F36 ≡ true → holds b 0x9F61 ≡ false → checksumRead n b ≡ ended notApplicable n b (endOf Outcome.Declined reasonNone)
+  unfolding checksumRead
+  code-missing e f = if-no _ _ (ap not e) ∙ if-yes _ _ (ap not f)
+
+  pub digits-go-in : {d : List ℕ} → holds b 0x9F36 ≡ true → holds b 0x9F61 ≡ true → d ≡ withDigits b
+      → checksumRead n b ≡ ended notApplicable n d (endOf Outcome.OnlineRequest reasonNone)
+  unfolding checksumRead
+  digits-go-in e f g = if-no _ _ (ap not e) ∙ if-no _ _ (ap not f) ∙ ap (λ (x : List ℕ). ended notApplicable n x (endOf Outcome.OnlineRequest reasonNone)) (sym g)
+
+  pub taken-sound : (d : List ℕ) → soundIn b ≡ true → checksumTaken n b d ≡ checksumRead n d
+  unfolding checksumTaken
+  taken-sound d e = if-yes _ _ e
+
+  -- a track that cannot take the digits: by the reading's reason r
+  module _ (card : List ℕ) {r : ℕ} (e : soundIn b ≡ false) (q : r ≡ reading.readAnswer Awaited.Checksum b card .reason) where
+    pub unsound-read : (r ≡ 0 → ⊥) → checksumReply n b card ≡ ended notApplicable n b (endBy r)
+    unfolding checksumReply
+    unsound-read z = if-no _ _ (ne-eqb _ 0 (λ (y : reading.readAnswer Awaited.Checksum b card .reason ≡ 0). z (q ∙ y))) ∙ ap (λ (x : ℕ). ended notApplicable n b (endBy x)) (sym q)
+
+    pub unsound-kept : r ≡ 0 → checksumReply n b card ≡ ended notApplicable n b (endBy reasonNotAllowed)
+    unfolding checksumReply checksumTaken
+    unsound-kept z = if-yes _ _ (eq-eqb _ 0 (sym q ∙ z)) ∙ if-no _ _ e

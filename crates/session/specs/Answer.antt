@@ -27,9 +27,10 @@ use Rattle.record.specs.declared.Phase.{Phase}
 use Rattle.record.specs.declared.Session.{Session}
 use Rattle.record.specs.declared.Reply.{Reply}
 use Rattle.record.specs.Session.{stored, sessionOf, endOf}
-use Rattle.record.specs.Ranges.{emvMode, locatorIn, completed}
+use Rattle.record.specs.Ranges.{emvMode, eitherMode, locatorIn, completed}
 use Rattle.session.specs.Steps.{Step, withoutCommand, refuses, ended, endBy, fails, commands, withFindings}
 use Rattle.session.specs.Steps.{admitted, handOut}
+use Rattle.session.specs.Stripe.{stripeRead, checksumReply}
 
 -- ---- the answer to processing options
 
@@ -48,11 +49,11 @@ abbrev pub optionsThere : List ℕ → Bool
 optionsThere b = holds b 0x82 and holds b 0x94
 
 -- the reason that the rules give to the store once the answer is read, 0 where they give none: an object missing (4),
--- not EMV mode (11), the locator (5)
+-- neither EMV mode nor mag-stripe mode (11; document 02, Item 9), the locator (5)
 unfoldable pub storedReason : List ℕ → ℕ
 storedReason b =
     if not (optionsThere b) then reasonMissing
-    else if not (emvMode b) then reasonMode
+    else if not (eitherMode b) then reasonMode
     else if not (accepts (locatorIn b)) then reasonLocator
     else reasonNone
 
@@ -92,16 +93,23 @@ askedIn l b = record { choice = chosen b (findingsOf b .bits); method = findings
 unfoldable pub analysed : ℕ → ℕ → List ℕ → List ℕ → Step
 analysed l n b buf = askCryptogram n (withFindings b (findingsOf b)) (askedIn l b) buf
 
--- after the last record: the amount above the limit that the session holds (6), an object that is needed missing (4)
+-- after the last record in EMV mode: the amount above the limit that the session holds (6), an object that is needed
+-- missing (4)
 unfoldable pub recordsRead : ℕ → ℕ → List ℕ → List ℕ → Step
 recordsRead l n b buf =
     if aboveLimit l b then fails notApplicable n b reasonAboveLimit buf
     else if not (completed b) then fails notApplicable n b reasonMissing buf
     else analysed l n b buf
 
+-- by the mode that 82 tells: EMV mode, else mag-stripe mode
+unfoldable pub lastRead : ℕ → ℕ → List ℕ → List ℕ → Step
+lastRead l n b buf =
+    if emvMode b then recordsRead l n b buf
+    else stripeRead l n b buf
+
 -- after a record: the k-th, if the locator names so many; the limit stays
 abbrev pub nextFound : ℕ → ℕ → List ℕ → ℕ → List ℕ → Found → Step
-nextFound l n b k buf Found.Nothing = recordsRead l n b buf
+nextFound l n b k buf Found.Nothing = lastRead l n b buf
 nextFound l n b k buf (Found.At r) = commands n b (recordPhase l k) (readRecord r) buf
 
 -- the record behind the one that was waited on
@@ -174,6 +182,7 @@ answerIn Phase.Fresh s card buf = refuses s refusedPhase buf
 answerIn Phase.Options s card buf = optionsStep (s .count) (stored s) card buf
 answerIn (Phase.Record p) s card buf = recordStep p (s .count) (stored s) card buf
 answerIn (Phase.Cryptogram a) s card buf = withoutCommand (cryptogramReply a (s .count) (stored s) card) buf
+answerIn (Phase.Checksum c) s card buf = withoutCommand (checksumReply (s .count) (stored s) card) buf
 answerIn (Phase.Ended e) s card buf = refuses s refusedPhase buf
 
 -- the call answer: the refusals of every call, then by the phase

@@ -32,6 +32,7 @@ startIn Phase.Fresh s bytes buf = startFresh s bytes buf
 startIn Phase.Options s bytes buf = refuses s refusedPhase buf
 startIn (Phase.Record p) s bytes buf = refuses s refusedPhase buf
 startIn (Phase.Cryptogram a) s bytes buf = refuses s refusedPhase buf
+startIn (Phase.Checksum c) s bytes buf = refuses s refusedPhase buf
 startIn (Phase.Ended e) s bytes buf = refuses s refusedPhase buf
 
 -- the call start: the refusals of every call, then by the phase

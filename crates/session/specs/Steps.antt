@@ -104,6 +104,7 @@ endsIn Phase.Fresh s reason buf = refuses s refusedPhase buf
 endsIn Phase.Options s reason buf = fails notApplicable (s .count) (stored s) reason buf
 endsIn (Phase.Record p) s reason buf = fails notApplicable (s .count) (stored s) reason buf
 endsIn (Phase.Cryptogram a) s reason buf = fails (methodNumber (a .method)) (s .count) (stored s) reason buf
+endsIn (Phase.Checksum c) s reason buf = fails notApplicable (s .count) (stored s) reason buf
 endsIn (Phase.Ended e) s reason buf = refuses s refusedPhase buf
 
 -- the refusals of every call, then the end

@@ -1,4 +1,5 @@
-// One contactless session in EMV mode: `start`, `answer`, `link_failed` and `stop`.
+// One contactless session, in EMV mode or in the track 2 part of mag-stripe mode: `start`, `answer`, `link_failed`
+// and `stop`.
 //
 // Each call takes the session by value and a lent command buffer, and hands back the session and a
 // command, an outcome or a refusal. A command stands in the front of the buffer, which is left alone
@@ -10,29 +11,33 @@ use analysis::choice::Choice;
 use analysis::verification::NOT_APPLICABLE;
 use data_list::Written;
 use dictionary::{ROW_82, ROW_94, ROW_95, ROW_9F26, ROW_9F27, ROW_9F34, ROW_9F36};
+use dictionary::{ROW_9F61, ROW_9F65, ROW_9F66, ROW_9F67, ROW_9F6A, ROW_9F6B};
 use locator::{Checked, Found};
 use reading::{Awaited, File, Verdict};
-use record::{Asked, Outcome, Phase, Place, Reply, Session, Turn};
+use record::{Asked, Checksum, Outcome, Phase, Place, Reply, Session, Turn};
 use store::Store;
+use stripe::{Bitmaps, Values};
 use terminal::Said;
 ghost use mathlib.Core.Path.{_≡_};
-ghost use mathlib.Core.Bool.{not};
+ghost use mathlib.Core.Bool.{false, not};
 ghost use Prim.Native.Nat.{_+_, _≤_, _<_};
 ghost use lib.ListN.{length};
 ghost use Rattle.basics.specs.Front.{inFront};
-ghost use Rattle.basics.specs.Reason.{reasonMissing, reasonAboveLimit, reasonMode, unless};
+ghost use Rattle.basics.specs.Reason.{reasonNotAllowed, reasonMissing, reasonAboveLimit, reasonMode, unless};
 ghost use Rattle.dictionary.specs.Rows.{storeSize};
 ghost use Rattle.locator.specs.Command.{readRecord};
 ghost use Rattle.analysis.specs.Action.{aboveLimit};
 ghost use Rattle.analysis.specs.Verification.{methodNumber};
 ghost use Rattle.record.specs.Session.{sessionOf, replyOf, commandsTurn};
-ghost use Rattle.record.specs.Ranges.{emvMode, completed};
+ghost use Rattle.record.specs.Ranges.{emvMode, eitherMode, completed, trackCompleted};
 ghost use Rattle.session.specs.Steps.{Did, DidIn, ended, leastBuffer, brokenOff, linkStep, stopStep};
 ghost use Rattle.session.specs.Start.{askOptions, startStep, startOn, loadOn};
 ghost use Rattle.session.specs.Answer.{optionsThere, optionsRead, optionsStep};
-ghost use Rattle.session.specs.Answer.{askCryptogram, analysed, recordsRead, recordRead, recordStep};
+ghost use Rattle.session.specs.Answer.{askCryptogram, analysed, recordsRead, lastRead, recordRead, recordStep};
+ghost use Rattle.session.specs.Stripe.{askChecksum, stripeRead, trackIn, bitmapsIn, valuesIn, soundIn, withDigits, checksumRead, checksumReply};
+ghost use Rattle.stripe.specs.Digits.{filled};
 ghost use Rattle.session.specs.Answer.{decision, endFor, cryptogramThere, cryptogramEnd, cryptogramReply, answerStep, answerOn};
-ghost use Rattle.session.specs.Inner.{refusalNumber, neededNumber, modeNumber, limitNumber, decidedEnd};
+ghost use Rattle.session.specs.Inner.{refusalNumber, neededNumber, modeNumber, limitNumber, trackNumber, decidedEnd};
 
 // The least command buffer.
 pub const LEAST_BUFFER: usize = 261;
@@ -43,10 +48,16 @@ pub enum Needed {
     Missing,
 }
 
-// The mode that the card's interchange profile tells.
+// Whether a session can go on in the mode that the card's interchange profile tells.
 pub enum Mode {
-    Emv,
-    Stripe,
+    Carried,
+    Off,
+}
+
+// Whether a track can take the digits.
+pub enum Track {
+    Sound,
+    Unsound,
 }
 
 // The amount against the transaction limit.
@@ -140,6 +151,7 @@ pub fn answer_in(phase: Phase, count: u8, store: &mut [u8], card: &[u8], command
         Phase::Options => take_options(count, store, card, command),
         Phase::Record(place) => take_record(place, count, store, card, command),
         Phase::Cryptogram(asked) => take_cryptogram(asked, count, store, card),
+        Phase::Checksum(_) => take_checksum(count, store, card),
         Phase::Ended(_) => record::refused(phase, count, basics::REFUSED_PHASE),
     }
 }
@@ -176,6 +188,7 @@ fn broken_off(phase: Phase, count: u8, bytes: &[u8], reason: u8, command: &mut [
         Phase::Options => record::fails(count, reason, NOT_APPLICABLE),
         Phase::Record(_) => record::fails(count, reason, NOT_APPLICABLE),
         Phase::Cryptogram(asked) => record::fails(count, reason, held_method(asked)),
+        Phase::Checksum(_) => record::fails(count, reason, NOT_APPLICABLE),
         Phase::Ended(_) => record::refused(phase, count, basics::REFUSED_PHASE),
     }
 }
@@ -242,7 +255,7 @@ fn after_options(count: u8, bytes: &[u8], command: &mut [u8]) -> Turn
     let Needed::Complete = options_there(bytes) else {
         return record::fails(count, basics::REASON_MISSING, NOT_APPLICABLE);
     };
-    let Mode::Emv = mode_in(bytes) else {
+    let Mode::Carried = mode_in(bytes) else {
         return record::fails(count, basics::REASON_MODE, NOT_APPLICABLE);
     };
     let entries = store::value(bytes, ROW_94);
@@ -288,7 +301,7 @@ fn take_record(place: Place, count: u8, store: &mut [u8], card: &[u8], command: 
     after_record(place, count, store, command)
 }
 
-// After a record: the next one that the locator names, or the cryptogram.
+// After a record: the next one that the locator names, or what follows the last.
 fn after_record(place: Place, count: u8, store: &mut [u8], command: &mut [u8]) -> Turn
     requires { ⌜ (leastBuffer ≤ length (now command)) × (count < 255) ⌝ }
     requires { ⌜ length (now store) ≡ storeSize ⌝ }
@@ -300,12 +313,25 @@ fn after_record(place: Place, count: u8, store: &mut [u8], command: &mut [u8]) -
     let found = locator::record_at(store::value(&store[..], ROW_94), k);
     let limit = place.limit;
     let Found::At(wanted) = found else {
-        return after_records(limit, count, store, command);
+        return after_last(limit, count, store, command);
     };
     ask_record(count, wanted, Place { number: number + 1, limit }, command)
 }
 
-// After the last record: the limit that the session holds, what is needed, and then the cryptogram.
+// After the last record, by the mode that 82 tells.
+fn after_last(limit: u64, count: u8, store: &mut [u8], command: &mut [u8]) -> Turn
+    requires { ⌜ (leastBuffer ≤ length (now command)) × (count < 255) ⌝ }
+    requires { ⌜ length (now store) ≡ storeSize ⌝ }
+    ensures { λ r. ⌜ DidIn r (now (store .exit)) (now (command .exit))
+        (lastRead limit count (now (store .entry)) (now (command .entry))) ⌝ }
+{
+    if record::is_emv(&store[..]) {
+        return after_records(limit, count, store, command);
+    }
+    after_stripe(limit, count, &store[..], command)
+}
+
+// After the last record in EMV mode: the limit that the session holds, what is needed, and then the cryptogram.
 fn after_records(limit: u64, count: u8, store: &mut [u8], command: &mut [u8]) -> Turn
     requires { ⌜ (leastBuffer ≤ length (now command)) × (count < 255) ⌝ }
     requires { ⌜ length (now store) ≡ storeSize ⌝ }
@@ -414,6 +440,140 @@ pub fn decision_for(choice: Choice, kind: u8) -> Decided
     Decided::Nothing
 }
 
+// After the last record in mag-stripe mode: the limit that the session holds, what is needed, and then the checksum.
+fn after_stripe(limit: u64, count: u8, bytes: &[u8], command: &mut [u8]) -> Turn
+    requires { ⌜ (leastBuffer ≤ length (now command)) × (count < 255) ⌝ }
+    ensures { λ r. ⌜ DidIn r (now (bytes .entry)) (now (command .exit))
+        (stripeRead limit count (now (bytes .entry)) (now (command .entry))) ⌝ }
+{
+    let Limit::Within = limit_in(limit, bytes) else {
+        return record::fails(count, basics::REASON_ABOVE_LIMIT, NOT_APPLICABLE);
+    };
+    let Needed::Complete = track_complete(bytes) else {
+        return record::fails(count, basics::REASON_MISSING, NOT_APPLICABLE);
+    };
+    ask_checksum(limit, count, bytes, command)
+}
+
+// The command for the checksum.
+fn ask_checksum(limit: u64, count: u8, bytes: &[u8], command: &mut [u8]) -> Turn
+    requires { ⌜ (leastBuffer ≤ length (now command)) × (count < 255) ⌝ }
+    ensures { λ r. ⌜ DidIn r (now (bytes .entry)) (now (command .exit))
+        (askChecksum limit count (now (bytes .entry)) (now (command .entry))) ⌝ }
+{
+    let Written::Command(c) = data_list::compute_checksum(bytes, command) else {
+        return record::fails(count, basics::REASON_DATA_LIST, NOT_APPLICABLE);
+    };
+    record::commands(Phase::Checksum(Checksum { limit }), count + 1, c.len)
+}
+
+// The answer to the checksum: no command follows it. Of an answer to a track that cannot take the digits nothing is
+// kept, whatever the reading says.
+fn take_checksum(count: u8, store: &mut [u8], card: &[u8]) -> Turn
+    requires { ⌜ length (now store) ≡ storeSize ⌝ }
+    ensures { λ r. ⌜ replyOf r (now (store .exit)) ≡ checksumReply count (now (store .entry)) (now (card .entry)) ⌝ }
+{
+    let Track::Sound = track_in(&store[..]) else {
+        return refuse_track(count, &store[..], card);
+    };
+    let read = reading::read_answer(store, Awaited::Checksum, card);
+    let verdict = read.verdict;
+    let Verdict::Accepted = verdict else {
+        return record::fails(count, reading::number(verdict), NOT_APPLICABLE);
+    };
+    conclude(count, store)
+}
+
+// A track that cannot take the digits: the reading's reason, else that an object is not allowed.
+fn refuse_track(count: u8, bytes: &[u8], card: &[u8]) -> Turn
+    requires { ⌜ length (now bytes) ≡ storeSize ⌝ }
+    requires { ⌜ soundIn (now bytes) ≡ false ⌝ }
+    ensures { λ r. ⌜ replyOf r (now (bytes .entry)) ≡ checksumReply count (now (bytes .entry)) (now (card .entry)) ⌝ }
+{
+    let reason = reading::judge_answer(bytes, Awaited::Checksum, card);
+    if reason != basics::REASON_NONE {
+        return record::fails(count, reason, NOT_APPLICABLE);
+    }
+    record::fails(count, basics::REASON_NOT_ALLOWED, NOT_APPLICABLE)
+}
+
+// The outcome, by what the answer brought; with counter and code the digits go into the track.
+fn conclude(count: u8, store: &mut [u8]) -> Turn
+    requires { ⌜ length (now store) ≡ storeSize ⌝ }
+    ensures { λ r. ⌜ replyOf r (now (store .exit)) ≡ checksumRead count (now (store .entry)) ⌝ }
+{
+    if !store::is_there(&store[..], ROW_9F36) {
+        return record::fails(count, basics::REASON_MISSING, NOT_APPLICABLE);
+    }
+    if !store::is_there(&store[..], ROW_9F61) {
+        return record::ends(count, Outcome::Declined, basics::REASON_NONE, NOT_APPLICABLE);
+    }
+    store_digits(store);
+    record::ends(count, Outcome::OnlineRequest, basics::REASON_NONE, NOT_APPLICABLE)
+}
+
+// Puts the digits of code, number and counter into the stored track.
+fn store_digits(store: &mut [u8])
+    requires { ⌜ length (now store) ≡ storeSize ⌝ }
+    ensures { λ _. ⌜ now (store .exit) ≡ withDigits (now (store .entry)) ⌝ }
+{
+    let n = store::value(&store[..], ROW_9F6B).len();
+    let mut track = [0u8; 19];
+    track_after(&store[..], &mut track[..n]);
+    store::put(store, ROW_9F6B, &track[..n]);
+}
+
+// The stored track with the digits in it, into one that is lent.
+fn track_after(bytes: &[u8], track: &mut [u8])
+    requires { ⌜ length (now track) ≡ length (trackIn (now bytes)) ⌝ }
+    ensures digits { λ _. ⌜ now (track .exit) ≡ filled (trackIn (now (bytes .entry))) (bitmapsIn (now (bytes .entry))) (valuesIn (now (bytes .entry))) ⌝ }
+    ensures sized { λ _. ⌜ length (now (track .exit)) ≡ length (now (track .entry)) ⌝ }
+{
+    bytes::copy(store::value(bytes, ROW_9F6B), track);
+    let bitmaps = bitmaps_in(bytes);
+    let values = values_in(bytes);
+    stripe::put_digits(track, bitmaps, values);
+}
+
+// The bitmaps that the store holds.
+fn bitmaps_in(bytes: &[u8]) -> Bitmaps
+    ensures { λ r. ⌜ r ≡ bitmapsIn (now (bytes .entry)) ⌝ }
+{
+    let pcvc3 = store::value(bytes, ROW_9F65);
+    let punatc = store::value(bytes, ROW_9F66);
+    stripe::bitmaps_of(pcvc3, punatc, store::value(bytes, ROW_9F67))
+}
+
+// The values of the digits that the store holds.
+fn values_in(bytes: &[u8]) -> Values
+    ensures { λ r. ⌜ r ≡ valuesIn (now (bytes .entry)) ⌝ }
+{
+    let code = store::value(bytes, ROW_9F61);
+    let number = store::value(bytes, ROW_9F6A);
+    stripe::values_of(code, number, store::value(bytes, ROW_9F36))
+}
+
+// The stored track against the bitmaps.
+fn track_in(bytes: &[u8]) -> Track
+    ensures { λ r. ⌜ trackNumber r ≡ unless (soundIn (now (bytes .entry))) reasonNotAllowed ⌝ }
+{
+    let bitmaps = bitmaps_in(bytes);
+    if stripe::is_sound(store::value(bytes, ROW_9F6B), bitmaps) {
+        return Track::Sound;
+    }
+    Track::Unsound
+}
+
+// 9F6B, 9F65, 9F66 and 9F67 are there, none empty.
+fn track_complete(bytes: &[u8]) -> Needed
+    ensures { λ r. ⌜ neededNumber r ≡ unless (trackCompleted (now (bytes .entry))) reasonMissing ⌝ }
+{
+    if record::is_track_complete(bytes) {
+        return Needed::Complete;
+    }
+    Needed::Missing
+}
+
 // 82 and 94 are there.
 fn options_there(bytes: &[u8]) -> Needed
     ensures { λ r. ⌜ neededNumber r ≡ unless (optionsThere (now (bytes .entry))) reasonMissing ⌝ }
@@ -426,14 +586,14 @@ fn options_there(bytes: &[u8]) -> Needed
     Needed::Missing
 }
 
-// The mode that 82 tells.
+// The mode that 82 tells, against the kernel configuration.
 fn mode_in(bytes: &[u8]) -> Mode
-    ensures { λ r. ⌜ modeNumber r ≡ unless (emvMode (now (bytes .entry))) reasonMode ⌝ }
+    ensures { λ r. ⌜ modeNumber r ≡ unless (eitherMode (now (bytes .entry))) reasonMode ⌝ }
 {
-    if record::is_emv(bytes) {
-        return Mode::Emv;
+    if record::is_either(bytes) {
+        return Mode::Carried;
     }
-    Mode::Stripe
+    Mode::Off
 }
 
 // The amount against a limit.

@@ -108,6 +108,7 @@ pub fn held_limit(phase: Phase) {
     match phase {
         Phase::Record(place) => limit(place.limit),
         Phase::Cryptogram(asked) => limit(asked.limit),
+        Phase::Checksum(checksum) => limit(checksum.limit),
         _ => text(b""),
     }
 }
@@ -152,6 +153,7 @@ fn command_name(sent: &[u8]) {
         0xA8 => text(b"GET PROCESSING OPTIONS"),
         0xB2 => record_name(basics::byte_at(sent, 2), basics::byte_at(sent, 3)),
         0xAE => cryptogram_name(basics::byte_at(sent, 2)),
+        0x2A => text(b"COMPUTE CRYPTOGRAPHIC CHECKSUM"),
         _ => text(b"unknown"),
     }
 }
@@ -219,11 +221,11 @@ pub fn reason_words(reason: u8) {
         4 => text(b"mandatory object not sent by the card"),
         5 => text(b"Application File Locator breaks a rule"),
         6 => text(b"amount over the reader's transaction limit"),
-        7 => text(b"PDOL or CDOL1 cannot be filled"),
+        7 => text(b"PDOL, CDOL1 or UDOL cannot be filled"),
         8 => text(b"cryptogram of a type not asked for"),
         9 => text(b"no link to the card"),
         10 => text(b"stopped by the terminal"),
-        11 => text(b"card without EMV mode"),
+        11 => text(b"card without EMV mode, and mag-stripe mode is off"),
         _ => text(b"unknown"),
     }
 }
@@ -327,8 +329,10 @@ fn name(tag: u32) {
         date_name(tag);
     } else if tag < 0x9F26 {
         card_name(tag);
-    } else if tag < 0x10000 {
+    } else if tag < 0x9F60 {
         terminal_name(tag);
+    } else if tag < 0x10000 {
+        stripe_name(tag);
     } else {
         reader_name(tag);
     }
@@ -391,6 +395,19 @@ fn terminal_name(tag: u32) {
         0x9F38 => text(b"PDOL"),
         0x9F40 => text(b"Additional Terminal Capabilities"),
         0x9F42 => text(b"Application Currency Code"),
+        _ => text(b"unknown"),
+    }
+}
+
+fn stripe_name(tag: u32) {
+    match tag {
+        0x9F61 => text(b"CVC3 (Track2)"),
+        0x9F65 => text(b"PCVC3(Track2)"),
+        0x9F66 => text(b"PUNATC(Track2)"),
+        0x9F67 => text(b"NATC(Track2)"),
+        0x9F69 => text(b"UDOL"),
+        0x9F6A => text(b"Unpredictable Number (Numeric)"),
+        0x9F6B => text(b"Track 2 Data"),
         _ => text(b"unknown"),
     }
 }

@@ -25,8 +25,10 @@ const PLACES: [u32; ROWS] = [
     808 * START + 2, 811 * START + 1, 813 * START + 6, 820 * START + 6, 827 * START + 2, 830 * START + 2,
     833 * START + 2, 836 * START + 5, 842 * START + 5, 848 * START + 5, 854 * START + 32, 887 * START + 2,
     890 * START + 8, 899 * START + 1, 901 * START + 3, 905 * START + 3, 909 * START + 1, 911 * START + 2,
-    914 * START + 4, 919 * START + 240, 1160 * START + 5, 1166 * START + 2, 1169 * START + 1, 1171 * START + 5,
-    1177 * START + 5, 1183 * START + 5, 1189 * START + 6, 1196 * START + 6, 1203 * START + 6, 1210 * START + 6,
+    914 * START + 4, 919 * START + 240, 1160 * START + 5, 1166 * START + 2, 1169 * START + 2, 1172 * START + 2,
+    1175 * START + 2, 1178 * START + 1, 1180 * START + 250, 1431 * START + 4, 1436 * START + 19, 1456 * START + 1,
+    1458 * START + 5, 1464 * START + 5, 1470 * START + 5, 1476 * START + 6, 1483 * START + 6, 1490 * START + 6,
+    1497 * START + 6,
 ];
 
 // A row's place: where it starts, and the greatest length of its value.

@@ -80,8 +80,8 @@ taken : map loadEmpty
 unfolding load primitives recurse recurseBy withObject primitiveOf headerOf tagAt tagSize secondByte lengthAt firstByte isTemplate isPrivate numberFrom if both either every rows past find settable setObject setAll fitting digitsFit numeric nibbles typeListed listed offsetIn placeAt held valueAt putAt valueIn brought isBrought
 taken = refl
 
--- two and four bytes of 9F33; no byte and two of DF811B, five bytes of DF8125 and a digit that is none; 82, 8E and 9F42, which are the
--- card's, and 9F34, which is the session's; type 17; 9F38 twice, empty both times
+-- two and four bytes of 9F33; no byte and two of DF811B, five bytes of DF8125 and a digit that is none; three bytes of 9F6A and a digit
+-- that is none; 82, 8E, 9F42 and 9F6B, which are the card's, and 9F34, which is the session's; type 17; 9F38 twice, empty both times
 stopped : map loadEmpty
     ((0x9F ∷ 0x33 ∷ 0x02 ∷ 0 ∷ 0 ∷ [])
     ∷ (0x9F ∷ 0x33 ∷ 0x04 ∷ 0 ∷ 0 ∷ 0 ∷ 0 ∷ [])
@@ -89,19 +89,22 @@ stopped : map loadEmpty
     ∷ (0xDF ∷ 0x81 ∷ 0x1B ∷ 0x02 ∷ 0 ∷ 0 ∷ [])
     ∷ (0xDF ∷ 0x81 ∷ 0x25 ∷ 0x05 ∷ 0 ∷ 0 ∷ 0 ∷ 0 ∷ 0 ∷ [])
     ∷ (0xDF ∷ 0x81 ∷ 0x25 ∷ 0x06 ∷ 0 ∷ 0 ∷ 0 ∷ 0 ∷ 0 ∷ 0x0A ∷ [])
+    ∷ (0x9F ∷ 0x6A ∷ 0x03 ∷ 0 ∷ 0 ∷ 0 ∷ [])
+    ∷ (0x9F ∷ 0x6A ∷ 0x04 ∷ 0 ∷ 0 ∷ 0 ∷ 0xF0 ∷ [])
     ∷ (0x82 ∷ 0x02 ∷ 0 ∷ 0 ∷ [])
     ∷ (0x8E ∷ 0x0A ∷ 0 ∷ 0 ∷ 0 ∷ 0 ∷ 0 ∷ 0 ∷ 0 ∷ 0 ∷ 0x1F ∷ 0 ∷ [])
     ∷ (0x9F ∷ 0x42 ∷ 0x02 ∷ 0x00 ∷ 0x56 ∷ [])
+    ∷ (0x9F ∷ 0x6B ∷ 0x01 ∷ 0xD0 ∷ [])
     ∷ (0x9F ∷ 0x34 ∷ 0x03 ∷ 0x3F ∷ 0 ∷ 0 ∷ [])
     ∷ (0x9F ∷ 0x35 ∷ 0x01 ∷ 0x17 ∷ [])
     ∷ (0x9F ∷ 0x38 ∷ 0x00 ∷ 0x9F ∷ 0x38 ∷ 0x00 ∷ [])
     ∷ [])
-    ≡ replicate 12 (refusal 23)
+    ≡ replicate 15 (refusal 23)
 unfolding load primitives recurse recurseBy withObject primitiveOf headerOf tagAt tagSize secondByte thirdByte lengthAt firstByte isTemplate isPrivate numberFrom if both either every rows past find settable setObject setAll fitting digitsFit numeric nibbles typeListed listed offsetIn placeAt held valueAt putAt valueIn brought isBrought
 stopped = refl
 
--- what a start must bring but the last three: 9A, 9C, 9F02, 9F09, 9F1A, 9F33, 9F35, 9F37, DF8120 to DF8124; then DF811B, DF8125 and
--- DF8126
+-- what a start must bring but the last four: 9A, 9C, 9F02, 9F09, 9F1A, 9F33, 9F35, 9F37, DF8120 to DF8124; then DF811B, DF8125,
+-- DF8126 and 9F6A
 abbrev others : List ℕ
 others =
     0x9A ∷ 0x03 ∷ 0x25 ∷ 0x12 ∷ 0x31 ∷ 0x9C ∷ 0x01 ∷ 0x00 ∷ 0x9F ∷ 0x02 ∷ 0x06 ∷ 0 ∷ 0 ∷ 0 ∷ 0 ∷ 0x10 ∷ 0 ∷
@@ -119,12 +122,17 @@ phoneLimit = 0xDF ∷ 0x81 ∷ 0x25 ∷ 0x06 ∷ 0 ∷ 0 ∷ 0 ∷ 0 ∷ 0 ∷ 0
 abbrev cvmLimit : List ℕ
 cvmLimit = 0xDF ∷ 0x81 ∷ 0x26 ∷ 0x06 ∷ 0 ∷ 0 ∷ 0 ∷ 0 ∷ 0 ∷ 0 ∷ []
 
-complete : saidOf (loadEmpty (others ++ configuration ++ phoneLimit ++ cvmLimit)) ≡ Said.Taken
+abbrev number : List ℕ
+number = 0x9F ∷ 0x6A ∷ 0x04 ∷ 0 ∷ 0 ∷ 0x34 ∷ 0x56 ∷ []
+
+complete : saidOf (loadEmpty (others ++ configuration ++ phoneLimit ++ cvmLimit ++ number)) ≡ Said.Taken
 unfolding load primitives recurse recurseBy withObject primitiveOf headerOf tagAt tagSize secondByte thirdByte lengthAt firstByte isTemplate isPrivate numberFrom if both either every rows past find settable setObject setAll fitting digitsFit numeric nibbles typeListed listed offsetIn placeAt held valueAt putAt valueIn brought isBrought
 complete = refl
 
 -- one of them is absent
-one-absent : map loadEmpty ((others ++ configuration ++ phoneLimit) ∷ (others ++ configuration ++ cvmLimit) ∷ (others ++ phoneLimit ++ cvmLimit) ∷ [])
-    ≡ replicate 3 (refusal 24)
+one-absent : map loadEmpty
+    ((others ++ configuration ++ phoneLimit ++ cvmLimit) ∷ (others ++ configuration ++ phoneLimit ++ number) ∷ (others ++ configuration ++ cvmLimit ++ number)
+    ∷ (others ++ phoneLimit ++ cvmLimit ++ number) ∷ [])
+    ≡ replicate 4 (refusal 24)
 unfolding load primitives recurse recurseBy withObject primitiveOf headerOf tagAt tagSize secondByte thirdByte lengthAt firstByte isTemplate isPrivate numberFrom if both either every rows past find settable setObject setAll fitting digitsFit numeric nibbles typeListed listed offsetIn placeAt held valueAt putAt valueIn brought isBrought
 one-absent = refl

@@ -9,7 +9,7 @@ use Prim.Native.Nat.{ℕ, _+_, _≤_}
 use native.Mathlib.Omega.{arith}
 use lib.ListN.{length, drop, length-append, length-drop}
 use lib.Seq.{drop-at}
-use Rattle.dictionary.specs.Named.{row94}
+use Rattle.dictionary.specs.Named.{row94, row9F6B}
 use Rattle.dictionary.specs.Rows.{storeSize}
 use Rattle.dictionary.proofs.Named.{at-94}
 use Rattle.store.specs.Place.{Value, bytesOf, valueOf}
@@ -17,7 +17,7 @@ use Rattle.locator.specs.Records.{accepts}
 use Rattle.locator.specs.Command.{readRecord}
 use Rattle.locator.proofs.Laws.{accepted-length}
 use Rattle.reading.specs.declared.Awaited.{Awaited}
-use Rattle.data_list.proofs.Commands.{options-proper, cryptogram-proper}
+use Rattle.data_list.proofs.Commands.{options-proper, cryptogram-proper, checksum-proper}
 use Rattle.analysis.specs.Action.{findingsOf}
 use Rattle.analysis.specs.Verification.{notApplicable}
 use Rattle.analysis.specs.Choice.{p1Of}
@@ -36,13 +36,13 @@ use Rattle.record.specs.Session.{stored, endOf, parametersOf}
 use Rattle.record.specs.Numbers.{outcomeFor}
 use Rattle.record.specs.Ranges.{locatorIn}
 use Rattle.record.proofs.Stored.{empty-lacks}
-use Rattle.record.proofs.Phases.{store-size, on-fresh}
+use Rattle.record.proofs.Phases.{store-size, store-fits, on-fresh}
 use Rattle.session.specs.Steps as steps
 use Rattle.session.specs.Steps.{Step, withoutCommand, refuses, commands, brokenOff, linkStep, stopStep}
 use Rattle.session.specs.Start.{startStep}
 use Rattle.session.specs.Answer.{answerStep}
-use Rattle.trace.proofs.Kept.{read-size, read-value, found-other}
-use Rattle.trace.proofs.Ways.{Admitted, withStore, taken, OptionsWay, RecordsWay, RecordWay, CryptogramWay, AnswerWay, answer-way, analysedSession, askedBy, loadedSession, StartWay, start-way, BrokenWay, broken-way}
+use Rattle.trace.proofs.Kept.{read-size, read-fits, read-value, found-other, digits-other}
+use Rattle.trace.proofs.Ways.{Admitted, withStore, taken, OptionsWay, RecordsWay, StripeWay, RecordWay, CryptogramWay, ChecksumWay, AnswerWay, answer-way, analysedSession, askedBy, loadedSession, StartWay, start-way, BrokenWay, broken-way}
 
 -- ---- how a call comes out: refused, ended, or with a command; another store, and nothing else of the record
 
@@ -62,13 +62,23 @@ module _ (s : Session) (card buf : List ℕ) where
   came-records l b i (RecordsWay.asked c f g) =
       sent _ _ c (omega (arith, i .room, cryptogram-proper (stored (analysedSession (withStore s b))) c (p1Of (askedBy l (withStore s b) .choice)) g .most))
 
+  came-stripe : {st : Step} (l : ℕ) (b : List ℕ) → Admitted s (length buf) → StripeWay l (withStore s b) buf st → Came s buf st
+  came-stripe l b i (StripeWay.failed n r) = ended _ b _ n
+  came-stripe l b i (StripeWay.asked c f g) = sent b _ c (omega (arith, i .room, checksum-proper b c g .most))
+
   came-record : {st : Step} (p : Place) (b : List ℕ) → Admitted s (length buf) → RecordWay p (withStore s b) buf st → Came s buf st
   came-record p b i (RecordWay.next r e) = sent b _ (readRecord r) (omega (arith, i .room))
-  came-record p b i (RecordWay.last e w) = came-records (p .limit) b i w
+  came-record p b i (RecordWay.last e m w) = came-records (p .limit) b i w
+  came-record p b i (RecordWay.striped e m w) = came-stripe (p .limit) b i w
 
   came-cryptogram : (m : ℕ) {q : Reply} (b : List ℕ) → CryptogramWay m (withStore s b) q → Came s buf (withoutCommand q buf)
   came-cryptogram m b (CryptogramWay.failed n r) = ended m b _ n
   came-cryptogram m b (CryptogramWay.decides o g) = ended m b o 0
+
+  came-checksum : {q : Reply} (b : List ℕ) → ChecksumWay (withStore s b) q → Came s buf (withoutCommand q buf)
+  came-checksum b ChecksumWay.failed = ended _ b _ _
+  came-checksum b ChecksumWay.declined = ended _ b _ 0
+  came-checksum b ChecksumWay.online = ended _ _ _ 0
 
   came-answer : {st : Step} → AnswerWay s card buf st → Came s buf st
   came-answer (AnswerWay.refused n l) = refused n
@@ -76,6 +86,7 @@ module _ (s : Session) (card buf : List ℕ) where
   came-answer (AnswerWay.options i q z w) = came-options _ i w
   came-answer (AnswerWay.recorded p r i q e w) = came-record p _ i w
   came-answer (AnswerWay.cryptogram a i q w) = came-cryptogram _ _ w
+  came-answer (AnswerWay.checksum k i q w) = came-checksum _ w
 
   pub answer-came : Came s buf (answerStep s card buf)
   answer-came = came-answer (answer-way s card buf)
@@ -163,13 +174,25 @@ module _ (s : Session) (card buf : List ℕ) (n : length (locatorIn (stored s)) 
       let b = stored (taken a s card) in
       found-other b (findingsOf b) l (found-length b) (bits-length b) 0x94 row94 at-94 (λ z. omega arith) (λ z. omega arith) ∙ reads a i
 
+  same-stripe : (k : ℕ) (a : Awaited) {st : Step} → Admitted s (length buf) → StripeWay k (taken a s card) buf st → Same st
+  same-stripe k a i (StripeWay.failed m r) = reads a i
+  same-stripe k a i (StripeWay.asked c f g) = reads a i
+
   same-record : (p : Place) (a : Awaited) {st : Step} → Admitted s (length buf) → length (stored (taken a s card)) ≡ storeSize → RecordWay p (taken a s card) buf st → Same st
   same-record p a i l (RecordWay.next r e) = reads a i
-  same-record p a i l (RecordWay.last e w) = same-records (p .limit) a i l w
+  same-record p a i l (RecordWay.last e m w) = same-records (p .limit) a i l w
+  same-record p a i l (RecordWay.striped e m w) = same-stripe (p .limit) a i w
 
   same-cryptogram : (m : ℕ) {q : Reply} → Admitted s (length buf) → CryptogramWay m (taken Awaited.Cryptogram s card) q → Same (withoutCommand q buf)
   same-cryptogram k i (CryptogramWay.failed m r) = reads Awaited.Cryptogram i
   same-cryptogram k i (CryptogramWay.decides o g) = reads Awaited.Cryptogram i
+
+  same-checksum : {q : Reply} → Admitted s (length buf) → ChecksumWay (taken Awaited.Checksum s card) q → Same (withoutCommand q buf)
+  same-checksum i ChecksumWay.failed = reads Awaited.Checksum i
+  same-checksum i ChecksumWay.declined = reads Awaited.Checksum i
+  same-checksum i ChecksumWay.online =
+      let w = read-fits Awaited.Checksum (stored s) card (store-size s (i .ranges)) (store-fits s (i .ranges)) in
+      digits-other (stored (taken Awaited.Checksum s card)) (w .0) (w .1) 0x94 row94 at-94 (λ z. omega arith) ∙ reads Awaited.Checksum i
 
   same-answer : {st : Step} → AnswerWay s card buf st → Same st
   same-answer (AnswerWay.refused m l) = refl
@@ -179,6 +202,7 @@ module _ (s : Session) (card buf : List ℕ) (n : length (locatorIn (stored s)) 
       same-record p (Awaited.Record (record { number = r .file })) i
       (read-size (Awaited.Record (record { number = r .file })) (stored s) card (store-size s (i .ranges))) w
   same-answer (AnswerWay.cryptogram a i q w) = same-cryptogram _ i w
+  same-answer (AnswerWay.checksum k i q w) = same-checksum i w
 
   pub answer-locator : Same (answerStep s card buf)
   answer-locator = same-answer (answer-way s card buf)

@@ -25,19 +25,22 @@ use Rattle.reading.specs.Taking.{mayStand, mayCome, allowed, takeItem, takeNext
 use Rattle.reading.specs.Answer.{bodyOf, optionsParts, primitiveParts, readBody, isRead, goodStatus, goodLength, readAnswer, templateParts}
 use Rattle.data_list.specs.Entries.{along, listEntries, withLength, entryAt, withEntry}
 use Rattle.data_list.specs.Filling.{fillingOf, filledBy, cut, padding, padded, fitted, entryBytes}
-use Rattle.data_list.specs.Commands.{optionsOf, processingOptions, cryptogramOf, generateAc}
+use Rattle.data_list.specs.Commands.{optionsOf, processingOptions, cryptogramOf, generateAc, checksumList, checksumOf, checksumWith, computeChecksum}
 use Rattle.record.specs.declared.Phase.{Phase}
 use Rattle.record.specs.Numbers.{goesWith, outcomeFor}
 use Rattle.basics.specs.Reason.{reasonLink, reasonMode}
 use Rattle.store.specs.Held.{lengthIn}
-use Rattle.record.specs.Ranges.{isBrought, brought, cryptogramAbsent, running, optionsRanges, inRanges, allFit, objectFits, freshRanges, endedRanges, recordRanges, cryptogramRanges, completed}
+use Rattle.record.specs.Ranges.{isBrought, brought, lastAbsent, running, optionsRanges, inRanges, allFit, objectFits, freshRanges, endedRanges, recordRanges, cryptogramRanges, checksumRanges, completed, trackCompleted}
 use Rattle.record.specs.Session.{freshSession, endOf, parametersOf}
 use Rattle.terminal.specs.Terminal.{typeListed, settable, setObject, setAll, load}
 use Rattle.session.specs.Steps.{withResults, admitted, withFindings}
 use Rattle.session.specs.Start.{askOptions}
-use Rattle.session.specs.Answer.{storedReason, optionsRead, optionsStep, optionsReason, recordStep, recordRead, recordsRead, analysed, askedIn, askCryptogram}
+use Rattle.session.specs.Stripe.{askChecksum, stripeRead, withDigits, checksumRead, checksumTaken, checksumReply}
+use Rattle.stripe.specs.Track.{before, discretionary}
+use Rattle.stripe.specs.Bitmap.{placesFrom, places, within, sound}
+use Rattle.session.specs.Answer.{storedReason, optionsRead, optionsStep, optionsReason, recordStep, recordRead, lastRead, recordsRead, analysed, askedIn, askCryptogram}
 use Rattle.trace.specs.Calls.{Call, start, answer, link-failed, stop, play, final, said, commands, taken}
-use Rattle.trace.specs.Order.{broughtLocator, firstAnswer, acceptedLocator, options, record-command, cryptogram, published}
+use Rattle.trace.specs.Order.{firstIn77, broughtLocator, broughtProfile, firstAnswer, acceptedLocator, options, record-command, cryptogram, checksum, lastFor, lastKind, published}
 use Rattle.basics.specs.Alike.{alike}
 use Rattle.tlv.specs.Tree.{count, nextOf, withLeaf, withNode, parse}
 use Rattle.analysis.specs.Bits.{bit}
@@ -55,16 +58,20 @@ use Rattle.record.specs.declared.Answer.{Answer}
 
 -- ---- lists of calls
 
--- all that a start must bring, and no 9F38
-abbrev startBytes : List ℕ
-startBytes =
+-- all that a start must bring, with this DF811B, and no 9F38
+abbrev startWith : ℕ → List ℕ
+startWith configuration =
     0x9A ∷ 0x03 ∷ 0x25 ∷ 0x11 ∷ 0x15 ∷ 0x9C ∷ 0x01 ∷ 0x00 ∷ 0x9F ∷ 0x02 ∷ 0x06 ∷ 0x00 ∷ 0x00 ∷ 0x00 ∷ 0x00 ∷ 0x12 ∷ 0x34 ∷
     0x9F ∷ 0x09 ∷ 0x02 ∷ 0x00 ∷ 0x02 ∷ 0x9F ∷ 0x1A ∷ 0x02 ∷ 0x00 ∷ 0x56 ∷ 0x9F ∷ 0x33 ∷ 0x03 ∷ 0xE0 ∷ 0x68 ∷ 0xC8 ∷ 0x9F ∷ 0x35 ∷ 0x01 ∷ 0x22 ∷ 0x9F ∷ 0x37 ∷ 0x04 ∷ 0x01 ∷ 0x02 ∷ 0x03 ∷ 0x04 ∷
     0xDF ∷ 0x81 ∷ 0x20 ∷ 0x05 ∷ 0x00 ∷ 0x00 ∷ 0x00 ∷ 0x00 ∷ 0x00 ∷ 0xDF ∷ 0x81 ∷ 0x21 ∷ 0x05 ∷ 0x00 ∷ 0x00 ∷ 0x00 ∷ 0x00 ∷ 0x00 ∷
     0xDF ∷ 0x81 ∷ 0x22 ∷ 0x05 ∷ 0x00 ∷ 0x00 ∷ 0x00 ∷ 0x00 ∷ 0x00 ∷ 0xDF ∷ 0x81 ∷ 0x23 ∷ 0x06 ∷ 0x00 ∷ 0x00 ∷ 0x00 ∷ 0x01 ∷ 0x00 ∷ 0x00 ∷
     0xDF ∷ 0x81 ∷ 0x24 ∷ 0x06 ∷ 0x00 ∷ 0x00 ∷ 0x00 ∷ 0x02 ∷ 0x00 ∷ 0x00 ∷
     0xDF ∷ 0x81 ∷ 0x25 ∷ 0x06 ∷ 0x00 ∷ 0x00 ∷ 0x00 ∷ 0x05 ∷ 0x00 ∷ 0x00 ∷
-    0xDF ∷ 0x81 ∷ 0x26 ∷ 0x06 ∷ 0x00 ∷ 0x00 ∷ 0x00 ∷ 0x00 ∷ 0x10 ∷ 0x00 ∷ 0xDF ∷ 0x81 ∷ 0x1B ∷ 0x01 ∷ 0x20 ∷ []
+    0xDF ∷ 0x81 ∷ 0x26 ∷ 0x06 ∷ 0x00 ∷ 0x00 ∷ 0x00 ∷ 0x00 ∷ 0x10 ∷ 0x00 ∷ 0xDF ∷ 0x81 ∷ 0x1B ∷ 0x01 ∷ configuration ∷
+    0x9F ∷ 0x6A ∷ 0x04 ∷ 0x00 ∷ 0x00 ∷ 0x34 ∷ 0x56 ∷ []
+
+abbrev startBytes : List ℕ
+startBytes = startWith 0x20
 
 abbrev locator : List ℕ
 locator = 0x08 ∷ 0x01 ∷ 0x01 ∷ 0x00 ∷ []
@@ -97,9 +104,9 @@ interrupted = stop lent ∷ start startBytes (0x00 ∷ []) ∷ start startBytes 
 abbrev torn : List Call
 torn = start startBytes lent ∷ link-failed lent ∷ answer optionsAnswer lent ∷ []
 
--- the answer has byte 2 b8 of 82 clear: the rules give it reason 11, and its locator is not accepted
+-- the answer has byte 2 b8 of 82 clear, and DF811B b8 is set: the rules give it reason 11, and its locator is not accepted
 abbrev notEmv : List Call
-notEmv = start startBytes lent ∷ answer stripeAnswer lent ∷ []
+notEmv = start (startWith 0xA0) lent ∷ answer stripeAnswer lent ∷ []
 
 pub record Worked : Type 0 where
   begun-sent : commands (play freshSession begun) ≡ optionsCommand ∷ recordCommand ∷ []
@@ -114,7 +121,7 @@ pub record Worked : Type 0 where
   not-emv-end : final freshSession notEmv .phase ≡ Phase.Ended (endOf (outcomeFor reasonMode) reasonMode)
 
 pub worked : Worked
-unfolding commands play final taken acceptedLocator firstAnswer broughtLocator optionsReason admitted endedRanges goesWith outcomeFor inRanges allFit objectFits lengthIn lengthByte freshRanges optionsRanges running cryptogramAbsent askOptions processingOptions optionsOf filledBy fillingOf listEntries recurse recurseBy along lengthBytes optionsStep storedReason optionsRead recordAt kth nth accepts wholeEntries entriesOf keeps sumOf recordsOf runOf readAnswer goodLength goodStatus isRead readBody bodyOf primitiveParts optionsParts takeAll takeNext takeItem allowed mayCome mayStand withResults placeOf load primitives withObject primitiveOf headerOf tagAt tagSize secondByte thirdByte lengthAt firstByte isTemplate isPrivate numberFrom if both either every rows past find settable setObject setAll fitting digitsFit numeric nibbles typeListed listed offsetIn placeAt held valueAt putAt valueIn brought isBrought
+unfolding commands play final taken acceptedLocator firstAnswer broughtLocator optionsReason admitted endedRanges goesWith outcomeFor inRanges allFit objectFits lengthIn lengthByte freshRanges optionsRanges running lastAbsent askOptions processingOptions optionsOf filledBy fillingOf listEntries recurse recurseBy along lengthBytes optionsStep storedReason optionsRead recordAt kth nth accepts wholeEntries entriesOf keeps sumOf recordsOf runOf readAnswer goodLength goodStatus isRead readBody bodyOf primitiveParts optionsParts takeAll takeNext takeItem allowed mayCome mayStand withResults placeOf load primitives withObject primitiveOf headerOf tagAt tagSize secondByte thirdByte lengthAt firstByte isTemplate isPrivate numberFrom if both either every rows past find settable setObject setAll fitting digitsFit numeric nibbles typeListed listed offsetIn placeAt held valueAt putAt valueIn brought isBrought
 worked =
     record {
       begun-sent = refl;
@@ -153,11 +160,11 @@ verified : map said (play freshSession (start startBytes lent ∷ answer verifyi
     ≡ Answer.Command (record { size = 8 }) ∷ Answer.Command (record { size = 5 }) ∷ Answer.Command (record { size = 14 })
     ∷ Answer.Outcome (parametersOf Outcome.Ended 9 2) ∷ []
 unfolding commands play final taken admitted endedRanges goesWith outcomeFor inRanges allFit objectFits lengthIn lengthByte freshRanges optionsRanges recordRanges cryptogramRanges
-    completed running cryptogramAbsent askOptions processingOptions optionsOf filledBy fillingOf listEntries recurse recurseBy along lengthBytes withLength entryAt withEntry cut padding padded
+    completed running lastAbsent askOptions processingOptions optionsOf filledBy fillingOf listEntries recurse recurseBy along lengthBytes withLength entryAt withEntry cut padding padded
     fitted entryBytes cryptogramOf generateAc optionsStep storedReason optionsRead recordAt kth nth accepts wholeEntries entriesOf keeps sumOf recordsOf runOf readAnswer goodLength goodStatus
     isRead readBody bodyOf primitiveParts optionsParts templateParts parse nextOf withLeaf withNode count items takeAll takeNext takeItem allowed mayCome mayStand withResults withFindings placeOf
     load primitives withObject primitiveOf headerOf tagAt tagSize secondByte thirdByte lengthAt firstByte isTemplate isPrivate numberFrom if both either every rows past find settable setObject
-    setAll fitting digitsFit numeric nibbles digitsThenFs compressed typeListed listed offsetIn placeAt held valueAt putAt valueIn brought isBrought recordStep recordRead recordsRead analysed
+    setAll fitting digitsFit numeric nibbles digitsThenFs compressed typeListed listed offsetIn placeAt held valueAt putAt valueIn brought isBrought recordStep recordRead lastRead recordsRead analysed
     askedIn askCryptogram phoneIn limitOf aboveLimit usageIn restrictionsOf resultOf sameCurrency termsIn verifiedIn fullResult findingsOf codesOf chosen bit front decimalFrom yearOf dateOf laterThan
     amountOf amountAbove otherVersion notYetEffective atAtm countryOf cashback usageBroken withBits holdsBit lowestFrom lowestBit cardCode heldAt capabilityAt choiceOf rulesFrom recognised
     supported amountMet met takenBy unsuccessful byRules verification onDevice alike
@@ -167,11 +174,11 @@ verified-sent : commands (play freshSession (start startBytes lent ∷ answer ve
     ≡ optionsCommand ∷ recordCommand
     ∷ (0x80 ∷ 0xAE ∷ 0x80 ∷ 0x00 ∷ 0x08 ∷ 0x80 ∷ 0x00 ∷ 0x04 ∷ 0x00 ∷ 0x00 ∷ 0x42 ∷ 0x03 ∷ 0x00 ∷ 0x00 ∷ []) ∷ []
 unfolding commands play final taken admitted endedRanges goesWith outcomeFor inRanges allFit objectFits lengthIn lengthByte freshRanges optionsRanges recordRanges cryptogramRanges
-    completed running cryptogramAbsent askOptions processingOptions optionsOf filledBy fillingOf listEntries recurse recurseBy along lengthBytes withLength entryAt withEntry cut padding padded
+    completed running lastAbsent askOptions processingOptions optionsOf filledBy fillingOf listEntries recurse recurseBy along lengthBytes withLength entryAt withEntry cut padding padded
     fitted entryBytes cryptogramOf generateAc optionsStep storedReason optionsRead recordAt kth nth accepts wholeEntries entriesOf keeps sumOf recordsOf runOf readAnswer goodLength goodStatus
     isRead readBody bodyOf primitiveParts optionsParts templateParts parse nextOf withLeaf withNode count items takeAll takeNext takeItem allowed mayCome mayStand withResults withFindings placeOf
     load primitives withObject primitiveOf headerOf tagAt tagSize secondByte thirdByte lengthAt firstByte isTemplate isPrivate numberFrom if both either every rows past find settable setObject
-    setAll fitting digitsFit numeric nibbles digitsThenFs compressed typeListed listed offsetIn placeAt held valueAt putAt valueIn brought isBrought recordStep recordRead recordsRead analysed
+    setAll fitting digitsFit numeric nibbles digitsThenFs compressed typeListed listed offsetIn placeAt held valueAt putAt valueIn brought isBrought recordStep recordRead lastRead recordsRead analysed
     askedIn askCryptogram phoneIn limitOf aboveLimit usageIn restrictionsOf resultOf sameCurrency termsIn verifiedIn fullResult findingsOf codesOf chosen bit front decimalFrom yearOf dateOf laterThan
     amountOf amountAbove otherVersion notYetEffective atAtm countryOf cashback usageBroken withBits holdsBit lowestFrom lowestBit cardCode heldAt capabilityAt choiceOf rulesFrom recognised
     supported amountMet met takenBy unsuccessful byRules verification onDevice alike
@@ -187,11 +194,11 @@ phone : map said (play freshSession (start startBytes lent ∷ answer phoneAnswe
     ≡ Answer.Command (record { size = 8 }) ∷ Answer.Command (record { size = 5 }) ∷ Answer.Command (record { size = 14 })
     ∷ Answer.Outcome (parametersOf Outcome.Ended 9 3) ∷ []
 unfolding commands play final taken admitted endedRanges goesWith outcomeFor inRanges allFit objectFits lengthIn lengthByte freshRanges optionsRanges recordRanges cryptogramRanges
-    completed running cryptogramAbsent askOptions processingOptions optionsOf filledBy fillingOf listEntries recurse recurseBy along lengthBytes withLength entryAt withEntry cut padding padded
+    completed running lastAbsent askOptions processingOptions optionsOf filledBy fillingOf listEntries recurse recurseBy along lengthBytes withLength entryAt withEntry cut padding padded
     fitted entryBytes cryptogramOf generateAc optionsStep storedReason optionsRead recordAt kth nth accepts wholeEntries entriesOf keeps sumOf recordsOf runOf readAnswer goodLength goodStatus
     isRead readBody bodyOf primitiveParts optionsParts templateParts parse nextOf withLeaf withNode count items takeAll takeNext takeItem allowed mayCome mayStand withResults withFindings placeOf
     load primitives withObject primitiveOf headerOf tagAt tagSize secondByte thirdByte lengthAt firstByte isTemplate isPrivate numberFrom if both either every rows past find settable setObject
-    setAll fitting digitsFit numeric nibbles digitsThenFs compressed typeListed listed offsetIn placeAt held valueAt putAt valueIn brought isBrought recordStep recordRead recordsRead analysed
+    setAll fitting digitsFit numeric nibbles digitsThenFs compressed typeListed listed offsetIn placeAt held valueAt putAt valueIn brought isBrought recordStep recordRead lastRead recordsRead analysed
     askedIn askCryptogram phoneIn limitOf aboveLimit usageIn restrictionsOf resultOf sameCurrency termsIn verifiedIn fullResult findingsOf codesOf chosen bit front decimalFrom yearOf dateOf laterThan
     amountOf amountAbove otherVersion notYetEffective atAtm countryOf cashback usageBroken withBits holdsBit lowestFrom lowestBit cardCode heldAt capabilityAt choiceOf rulesFrom recognised
     supported amountMet met takenBy unsuccessful byRules verification onDevice byPhone alike
@@ -200,11 +207,11 @@ phone = refl
 phone-held : final freshSession (start startBytes lent ∷ answer phoneAnswer lent ∷ answer ruleRecord lent ∷ []) .phase
     ≡ Phase.Cryptogram (record { choice = Choice.Online; method = Method.ConfirmationCode; limit = 50000 })
 unfolding commands play final taken admitted endedRanges goesWith outcomeFor inRanges allFit objectFits lengthIn lengthByte freshRanges optionsRanges recordRanges cryptogramRanges
-    completed running cryptogramAbsent askOptions processingOptions optionsOf filledBy fillingOf listEntries recurse recurseBy along lengthBytes withLength entryAt withEntry cut padding padded
+    completed running lastAbsent askOptions processingOptions optionsOf filledBy fillingOf listEntries recurse recurseBy along lengthBytes withLength entryAt withEntry cut padding padded
     fitted entryBytes cryptogramOf generateAc optionsStep storedReason optionsRead recordAt kth nth accepts wholeEntries entriesOf keeps sumOf recordsOf runOf readAnswer goodLength goodStatus
     isRead readBody bodyOf primitiveParts optionsParts templateParts parse nextOf withLeaf withNode count items takeAll takeNext takeItem allowed mayCome mayStand withResults withFindings placeOf
     load primitives withObject primitiveOf headerOf tagAt tagSize secondByte thirdByte lengthAt firstByte isTemplate isPrivate numberFrom if both either every rows past find settable setObject
-    setAll fitting digitsFit numeric nibbles digitsThenFs compressed typeListed listed offsetIn placeAt held valueAt putAt valueIn brought isBrought recordStep recordRead recordsRead analysed
+    setAll fitting digitsFit numeric nibbles digitsThenFs compressed typeListed listed offsetIn placeAt held valueAt putAt valueIn brought isBrought recordStep recordRead lastRead recordsRead analysed
     askedIn askCryptogram phoneIn limitOf aboveLimit usageIn restrictionsOf resultOf sameCurrency termsIn verifiedIn fullResult findingsOf codesOf chosen bit front decimalFrom yearOf dateOf laterThan
     amountOf amountAbove otherVersion notYetEffective atAtm countryOf cashback usageBroken withBits holdsBit lowestFrom lowestBit cardCode heldAt capabilityAt choiceOf rulesFrom recognised
     supported amountMet met takenBy unsuccessful byRules verification onDevice byPhone alike
@@ -214,12 +221,66 @@ phone-sent : commands (play freshSession (start startBytes lent ∷ answer phone
     ≡ optionsCommand ∷ recordCommand
     ∷ (0x80 ∷ 0xAE ∷ 0x80 ∷ 0x00 ∷ 0x08 ∷ 0x80 ∷ 0x00 ∷ 0x00 ∷ 0x00 ∷ 0x00 ∷ 0x01 ∷ 0x00 ∷ 0x02 ∷ 0x00 ∷ []) ∷ []
 unfolding commands play final taken admitted endedRanges goesWith outcomeFor inRanges allFit objectFits lengthIn lengthByte freshRanges optionsRanges recordRanges cryptogramRanges
-    completed running cryptogramAbsent askOptions processingOptions optionsOf filledBy fillingOf listEntries recurse recurseBy along lengthBytes withLength entryAt withEntry cut padding padded
+    completed running lastAbsent askOptions processingOptions optionsOf filledBy fillingOf listEntries recurse recurseBy along lengthBytes withLength entryAt withEntry cut padding padded
     fitted entryBytes cryptogramOf generateAc optionsStep storedReason optionsRead recordAt kth nth accepts wholeEntries entriesOf keeps sumOf recordsOf runOf readAnswer goodLength goodStatus
     isRead readBody bodyOf primitiveParts optionsParts templateParts parse nextOf withLeaf withNode count items takeAll takeNext takeItem allowed mayCome mayStand withResults withFindings placeOf
     load primitives withObject primitiveOf headerOf tagAt tagSize secondByte thirdByte lengthAt firstByte isTemplate isPrivate numberFrom if both either every rows past find settable setObject
-    setAll fitting digitsFit numeric nibbles digitsThenFs compressed typeListed listed offsetIn placeAt held valueAt putAt valueIn brought isBrought recordStep recordRead recordsRead analysed
+    setAll fitting digitsFit numeric nibbles digitsThenFs compressed typeListed listed offsetIn placeAt held valueAt putAt valueIn brought isBrought recordStep recordRead lastRead recordsRead analysed
     askedIn askCryptogram phoneIn limitOf aboveLimit usageIn restrictionsOf resultOf sameCurrency termsIn verifiedIn fullResult findingsOf codesOf chosen bit front decimalFrom yearOf dateOf laterThan
     amountOf amountAbove otherVersion notYetEffective atAtm countryOf cashback usageBroken withBits holdsBit lowestFrom lowestBit cardCode heldAt capabilityAt choiceOf rulesFrom recognised
     supported amountMet met takenBy unsuccessful byRules verification onDevice byPhone alike
 phone-sent = refl
+
+-- ---- mag-stripe mode
+
+-- 82 of 00 00; then track 2 with its bitmaps and the counter's digits; then the counter and the code
+abbrev trackRecord : List ℕ
+trackRecord =
+    0x70 ∷ 0x24 ∷ 0x9F ∷ 0x6B ∷ 0x13 ∷ 0x54 ∷ 0x13 ∷ 0x12 ∷ 0x34 ∷ 0x56 ∷ 0x78 ∷ 0x48 ∷ 0x00 ∷ 0xD2 ∷ 0x51 ∷ 0x21 ∷ 0x01 ∷ 0x00 ∷ 0x00 ∷ 0x00 ∷ 0x00 ∷ 0x00 ∷ 0x00 ∷ 0x0F ∷
+    0x9F ∷ 0x65 ∷ 0x02 ∷ 0x00 ∷ 0x0E ∷ 0x9F ∷ 0x66 ∷ 0x02 ∷ 0x0F ∷ 0xF0 ∷ 0x9F ∷ 0x67 ∷ 0x01 ∷ 0x04 ∷ 0x90 ∷ 0x00 ∷ []
+
+abbrev checksumAnswer : List ℕ
+checksumAnswer = 0x77 ∷ 0x0A ∷ 0x9F ∷ 0x36 ∷ 0x02 ∷ 0x00 ∷ 0x2A ∷ 0x9F ∷ 0x61 ∷ 0x02 ∷ 0x1F ∷ 0x35 ∷ 0x90 ∷ 0x00 ∷ []
+
+abbrev striped : List Call
+striped = start startBytes lent ∷ answer stripeAnswer lent ∷ answer trackRecord lent ∷ answer checksumAnswer lent ∷ []
+
+-- the outcome is an online request, and tells no method
+striped-said : map said (play freshSession striped)
+    ≡ Answer.Command (record { size = 8 }) ∷ Answer.Command (record { size = 5 }) ∷ Answer.Command (record { size = 10 })
+    ∷ Answer.Outcome (parametersOf Outcome.OnlineRequest 0 15) ∷ []
+unfolding commands play final taken admitted endedRanges goesWith outcomeFor inRanges allFit objectFits lengthIn lengthByte freshRanges optionsRanges recordRanges cryptogramRanges
+    completed running lastAbsent askOptions processingOptions optionsOf filledBy fillingOf listEntries recurse recurseBy along lengthBytes withLength entryAt withEntry cut padding padded
+    fitted entryBytes cryptogramOf generateAc optionsStep storedReason optionsRead recordAt kth nth accepts wholeEntries entriesOf keeps sumOf recordsOf runOf readAnswer goodLength goodStatus
+    isRead readBody bodyOf primitiveParts optionsParts templateParts parse nextOf withLeaf withNode count items takeAll takeNext takeItem allowed mayCome mayStand withResults withFindings placeOf
+    load primitives withObject primitiveOf headerOf tagAt tagSize secondByte thirdByte lengthAt firstByte isTemplate isPrivate numberFrom if both either every rows past find settable setObject
+    setAll fitting digitsFit numeric nibbles digitsThenFs compressed typeListed listed offsetIn placeAt held valueAt putAt valueIn brought isBrought recordStep recordRead lastRead recordsRead analysed
+    askedIn askCryptogram phoneIn limitOf aboveLimit usageIn restrictionsOf resultOf sameCurrency termsIn verifiedIn fullResult findingsOf codesOf chosen bit front decimalFrom yearOf dateOf laterThan
+    amountOf amountAbove otherVersion notYetEffective atAtm countryOf cashback usageBroken withBits holdsBit lowestFrom lowestBit cardCode heldAt capabilityAt choiceOf rulesFrom recognised
+    supported amountMet met takenBy unsuccessful byRules verification onDevice alike
+    checksumRanges trackCompleted checksumList checksumOf checksumWith computeChecksum askChecksum stripeRead checksumRead checksumTaken checksumReply
+    before discretionary placesFrom places within sound
+striped-said = refl
+
+-- the list is the default one: 9F6A in four bytes
+striped-sent : commands (play freshSession (start startBytes lent ∷ answer stripeAnswer lent ∷ answer trackRecord lent ∷ []))
+    ≡ optionsCommand ∷ recordCommand ∷ (0x80 ∷ 0x2A ∷ 0x8E ∷ 0x80 ∷ 0x04 ∷ 0x00 ∷ 0x00 ∷ 0x34 ∷ 0x56 ∷ 0x00 ∷ []) ∷ []
+unfolding commands play final taken admitted endedRanges goesWith outcomeFor inRanges allFit objectFits lengthIn lengthByte freshRanges optionsRanges recordRanges cryptogramRanges
+    completed running lastAbsent askOptions processingOptions optionsOf filledBy fillingOf listEntries recurse recurseBy along lengthBytes withLength entryAt withEntry cut padding padded
+    fitted entryBytes cryptogramOf generateAc optionsStep storedReason optionsRead recordAt kth nth accepts wholeEntries entriesOf keeps sumOf recordsOf runOf readAnswer goodLength goodStatus
+    isRead readBody bodyOf primitiveParts optionsParts templateParts parse nextOf withLeaf withNode count items takeAll takeNext takeItem allowed mayCome mayStand withResults withFindings placeOf
+    load primitives withObject primitiveOf headerOf tagAt tagSize secondByte thirdByte lengthAt firstByte isTemplate isPrivate numberFrom if both either every rows past find settable setObject
+    setAll fitting digitsFit numeric nibbles digitsThenFs compressed typeListed listed offsetIn placeAt held valueAt putAt valueIn brought isBrought recordStep recordRead lastRead recordsRead analysed
+    askedIn askCryptogram phoneIn limitOf aboveLimit usageIn restrictionsOf resultOf sameCurrency termsIn verifiedIn fullResult findingsOf codesOf chosen bit front decimalFrom yearOf dateOf laterThan
+    amountOf amountAbove otherVersion notYetEffective atAtm countryOf cashback usageBroken withBits holdsBit lowestFrom lowestBit cardCode heldAt capabilityAt choiceOf rulesFrom recognised
+    supported amountMet met takenBy unsuccessful byRules verification onDevice alike
+    checksumRanges trackCompleted checksumList checksumOf checksumWith computeChecksum askChecksum stripeRead
+striped-sent = refl
+
+-- the published order's last command by the bytes of the first answer, under 80 and in a 77
+last-commands : map (λ a. lastFor (broughtProfile a))
+    (optionsAnswer ∷ stripeAnswer
+    ∷ (0x77 ∷ 0x0A ∷ 0x82 ∷ 0x02 ∷ 0x00 ∷ 0x7F ∷ 0x94 ∷ 0x04 ∷ 0x08 ∷ 0x01 ∷ 0x01 ∷ 0x00 ∷ 0x90 ∷ 0x00 ∷ []) ∷ [])
+    ≡ cryptogram ∷ checksum ∷ checksum ∷ []
+unfolding lastFor broughtProfile firstIn77 bodyOf headerOf tagAt tagSize lengthAt firstByte isTemplate numberFrom items parse nextOf withLeaf withNode recurse recurseBy if both
+last-commands = refl

@@ -1,23 +1,23 @@
 -- What the reading of an answer, the result bits and the results of the verification leave of what the ranges speak of: each put is one
 -- that its row allows.
 -- Assumes nothing.
-use mathlib.Core.Path.{_≡_, refl, sym, ap, subst, _∙_}
-use mathlib.Core.Bool.{true, false}
+use mathlib.Core.Path.{_≡_, refl, sym, ap, ap₂, subst, _∙_}
+use mathlib.Core.Bool.{true, false, not}
 use mathlib.Core.List.{List, [], _∷_}
-use Prim.Native.Nat.{ℕ, _≤_, _<_}
+use Prim.Native.Nat.{ℕ, _/_, _%_, _≤_, _<_}
 use native.Mathlib.Omega.{arith}
 use lib.ListN.{length}
-use borrow.Author.Tests.{le-leb}
-use Rattle.basics.specs.Choice.{both, every}
+use borrow.Author.Tests.{le-leb, eqb-true}
+use Rattle.basics.specs.Choice.{both, either, every}
 use Rattle.basics.specs.Number.{hasBit}
 use Rattle.basics.proofs.Laws.{if-no, both-yes}
-use Rattle.dictionary.specs.Named.{row82, row94, row95, row9F34, rowDF811B, rowDF8124, rowDF8125}
+use Rattle.dictionary.specs.Named.{row82, row94, row95, row9F34, row9F6B, rowDF811B, rowDF8124, rowDF8125}
 use Rattle.dictionary.specs.declared.Found.the-variants.{At}
-use Rattle.dictionary.specs.Rows.{rows, rowAt, rowCount, storeSize, find, card, cryptogram}
+use Rattle.dictionary.specs.Rows.{rows, rowAt, rowCount, storeSize, find, card}
 use Rattle.dictionary.specs.Form.{digitsFit, fitting}
 use Rattle.dictionary.proofs.Fit.{fits-length}
-use Rattle.dictionary.proofs.Named.{at-82, at-94, at-95, at-9F34, at-DF811B, at-DF8124, at-DF8125}
-use Rattle.store.specs.Place.{Value, present, bytesOf, valueOf, putAt}
+use Rattle.dictionary.proofs.Named.{at-82, at-94, at-95, at-9F34, at-9F6B, at-DF811B, at-DF8124, at-DF8125}
+use Rattle.store.specs.Place.{Value, absent, present, bytesOf, isThere, valueOf, putAt}
 use Rattle.store.proofs.Laws.{by-row}
 use Rattle.locator.specs.Records.{accepts}
 use Rattle.locator.proofs.Laws.{accepted-length}
@@ -30,11 +30,16 @@ use Rattle.analysis.specs.Action.{limitOf}
 use Rattle.analysis.proofs.Laws.{limit-same}
 use Rattle.analysis.specs.declared.action.Findings.{Findings}
 use Rattle.store.specs.Held.{holds, bytesIn}
-use Rattle.record.specs.Ranges.{locatorIn}
+use Rattle.record.specs.Ranges.{valueFits, eitherMode, locatorIn}
 use Rattle.record.specs.Clauses.{Fits, Running, noResults}
 use Rattle.record.proofs.Stored.{put-size, put-here, put-named, put-holds, put-apart, put-runs, fits-kept, apartFrom, apart-rest, card-apart, runningTags, results-apart}
+use Rattle.record.proofs.Values.{value-fits, held-length}
+use Rattle.record.proofs.Phases.{either-there}
+use Rattle.stripe.specs.Digits.{filled}
+use Rattle.stripe.proofs.Laws.{length-filled}
 use Rattle.session.specs.Steps.{withResults, withFindings}
-use Rattle.session.proofs.Laws.{results-fit, results-place, verification-fits, verification-place}
+use Rattle.session.specs.Stripe.{trackIn, bitmapsIn, valuesIn, withDigits}
+use Rattle.session.proofs.Laws.{results-fit, results-place, verification-fits, verification-place, track-fits, track-place}
 
 -- what a running session holds before its result bits are set
 pub record Waits (b : List ℕ) : Type 0 where
@@ -45,15 +50,15 @@ pub record Waits (b : List ℕ) : Type 0 where
 
 -- ---- the reading of an answer
 
--- an answer other than the cryptogram's brings nothing that only the cryptogram's may
+-- an answer other than the last one's brings nothing that only the last may: its bit is one of the two lowest
 abbrev pub Plain : Awaited → Type 0
-Plain a = (x : ℕ) → hasBit x (answerBit a) ≡ true → x ≡ cryptogram → ⊥
+Plain a = (x : ℕ) → hasBit x (answerBit a) ≡ true → x % 4 ≡ 0 → ⊥
 
 pub options-plain : Plain Awaited.Options
-options-plain x h e = let w = ap (λ (n : ℕ). hasBit n 1) e in let z : _≡_ {A = ℕ} 0 1 = cc in omega arith
+options-plain x h e = let w = eqb-true (x / 1 % 2) 1 h in omega arith
 
 pub record-plain : (n : ℕ) → Plain (Awaited.Record (record { number = n }))
-record-plain n x h e = let w = ap (λ (m : ℕ). hasBit m 2) e in let z : _≡_ {A = ℕ} 0 1 = cc in omega arith
+record-plain n x h e = let w = eqb-true (x / 2 % 2) 1 h in omega arith
 
 pub read-waits : (a : Awaited) → Plain a → (b s : List ℕ) → Waits b → Waits (readAnswer a b s .store)
 read-waits a n b s w =
@@ -87,13 +92,16 @@ read-value a b s l t k e n =
     ∙ read-grows a b s l .kept k (λ z. n (ap (λ (x : Value). length (bytesOf x)) (by-row rows b t k e) ∙ z))
     ∙ sym (by-row rows b t k e)
 
--- 82 with a bit set has bytes, and so has an accepted 94
-mode-bytes : (v : List ℕ) → has v 2 8 ≡ true → length v ≡ 0 → ⊥
-mode-bytes [] m e = let z : _≡_ {A = ℕ} 0 1 = cc in omega arith
-mode-bytes (x ∷ v) m e = omega arith
+-- 82 is there with its two bytes in either mode, and so has an accepted 94 bytes
+profile-two : rowAt row82 .least ≡ 2
+unfolding rows
+profile-two = refl
 
-pub read-mode : (a : Awaited) (b s : List ℕ) → length b ≡ storeSize → has (bytesIn b 0x82) 2 8 ≡ true → valueOf (readAnswer a b s .store) 0x82 ≡ valueOf b 0x82
-read-mode a b s l m = read-value a b s l 0x82 row82 at-82 (mode-bytes (bytesIn b 0x82) m)
+pub mode-bytes : (b : List ℕ) → Fits b → eitherMode b ≡ true → 0 < length (bytesIn b 0x82)
+mode-bytes b f m = omega (arith, held-length b f 0x82 row82 at-82 (either-there b m) .0, profile-two)
+
+pub read-mode : (a : Awaited) (b s : List ℕ) → length b ≡ storeSize → Fits b → eitherMode b ≡ true → valueOf (readAnswer a b s .store) 0x82 ≡ valueOf b 0x82
+read-mode a b s l f m = read-value a b s l 0x82 row82 at-82 (λ z. omega (arith, mode-bytes b f m, z))
 
 pub read-locator : (a : Awaited) (b s : List ℕ) → length b ≡ storeSize → accepts (locatorIn b) ≡ true → valueOf (readAnswer a b s .store) 0x94 ≡ valueOf b 0x94
 read-locator a b s l m = read-value a b s l 0x94 row94 at-94 (λ z. omega (arith, accepted-length (locatorIn b) m .1))
@@ -117,9 +125,16 @@ by-start : (hasBit (rowAt rowDF811B .setters) card ≡ false) × (hasBit (rowAt 
 unfolding rows
 by-start = (refl, refl, refl)
 
-pub read-limit : (a : Awaited) (b s : List ℕ) → length b ≡ storeSize → has (bytesIn b 0x82) 2 8 ≡ true → limitOf (readAnswer a b s .store) ≡ limitOf b
-read-limit a b s l m =
-    limit-same _ _ (read-mode a b s l m) (read-start a b s l 0xDF811B rowDF811B at-DF811B (by-start .0))
+-- the mode stays
+pub read-either : (a : Awaited) (b s : List ℕ) → length b ≡ storeSize → Fits b → eitherMode b ≡ true → eitherMode (readAnswer a b s .store) ≡ true
+read-either a b s l f m =
+    ap₂ (λ (x y : Value). either (has (bytesOf x) 2 8) (both (isThere x) (both (not (has (bytesOf x) 2 8)) (not (has (bytesOf y) 1 8)))))
+    (read-mode a b s l f m) (read-start a b s l 0xDF811B rowDF811B at-DF811B (by-start .0))
+    ∙ m
+
+pub read-limit : (a : Awaited) (b s : List ℕ) → length b ≡ storeSize → Fits b → eitherMode b ≡ true → limitOf (readAnswer a b s .store) ≡ limitOf b
+read-limit a b s l f m =
+    limit-same _ _ (read-mode a b s l f m) (read-start a b s l 0xDF811B rowDF811B at-DF811B (by-start .0))
     (read-start a b s l 0xDF8124 rowDF8124 at-DF8124 (by-start .1)) (read-start a b s l 0xDF8125 rowDF8125 at-DF8125 (by-start .2))
 
 -- ---- the result bits
@@ -218,3 +233,44 @@ module _ (b : List ℕ) (f : Findings) (l : length b ≡ storeSize) (n : length 
       (found-other 0xDF811B rowDF811B at-DF811B (λ z. omega arith) (λ z. omega arith))
       (found-other 0xDF8124 rowDF8124 at-DF8124 (λ z. omega arith) (λ z. omega arith))
       (found-other 0xDF8125 rowDF8125 at-DF8125 (λ z. omega arith) (λ z. omega arith))
+
+-- ---- the digits in the stored track
+
+-- 9F6B takes any bytes up to its greatest length
+track-fitting : (v : List ℕ) → length v ≤ 19 → fitting (rowAt row9F6B) v ≡ true
+unfolding rows fitting digitsFit
+track-fitting v e = both-yes _ _ (le-leb 0 (length v) (omega arith)) (both-yes _ _ (le-leb (length v) 19 e) (if-no _ _ refl ∙ if-no _ _ refl))
+
+module _ (b : List ℕ) (l : length b ≡ storeSize) (f : Fits b) where
+  track-short : length (trackIn b) ≤ 19
+  track-short = go (valueOf b 0x9F6B) (value-fits b f 0x9F6B row9F6B at-9F6B)
+    where
+      go : (x : Value) → valueFits (rowAt row9F6B) x ≡ true → length (bytesOf x) ≤ 19
+      go absent e = omega arith
+      go (present v) e = omega (arith, fits-length (rowAt row9F6B) v e .1, track-fits)
+
+  abbrev digits : List ℕ
+  digits = filled (trackIn b) (bitmapsIn b) (valuesIn b)
+
+  digits-short : length digits ≤ 19
+  digits-short = omega (arith, length-filled (trackIn b) (bitmapsIn b) (valuesIn b), track-short)
+
+  digits-put : withDigits b ≡ putAt rows b row9F6B digits
+  unfolding withDigits
+  digits-put = ap (λ (k : ℕ). putAt rows b k digits) track-place
+
+  in-track : row9F6B < rowCount
+  in-track = omega arith
+
+  digits-room : length digits ≤ rowAt row9F6B .greatest
+  digits-room = omega (arith, digits-short, track-fits)
+
+  pub digits-size : length (withDigits b) ≡ storeSize
+  digits-size = ap length digits-put ∙ put-size b row9F6B digits l in-track digits-room
+
+  pub digits-fits : Fits (withDigits b)
+  digits-fits = subst (λ (d : List ℕ). Fits d) (sym digits-put) (fits-kept b row9F6B digits l in-track (track-fitting digits digits-short) f)
+
+  -- every other tag keeps its value
+  pub digits-other : (t j : ℕ) → find rows t ≡ At j → (j ≡ row9F6B → ⊥) → valueOf (withDigits b) t ≡ valueOf b t
+  digits-other t j e ne = ap (λ (d : List ℕ). valueOf d t) digits-put ∙ put-named b row9F6B digits l in-track digits-room t j e ne

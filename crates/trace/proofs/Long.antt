@@ -22,6 +22,7 @@ use Rattle.terminal.specs.Terminal.{mostBytes}
 use Rattle.terminal.proofs.Laws.{load-long-same}
 use Rattle.session.specs.Steps.{withoutCommand, ended, endBy, fails, admitted}
 use Rattle.session.specs.Start.{startLoaded, startIn, startStep}
+use Rattle.session.specs.Stripe.{checksumTaken, checksumReply}
 use Rattle.session.specs.Answer.{optionsRead, optionsStep, recordRead, recordFound, recordStep, cryptogramEnd, cryptogramReply, answerIn, answerStep}
 
 -- ---- start
@@ -32,6 +33,7 @@ module _ (s : Session) (x y buf : List ℕ) (h : mostBytes < length x) (k : most
   start-in Phase.Options = refl
   start-in (Phase.Record p) = refl
   start-in (Phase.Cryptogram a) = refl
+  start-in (Phase.Checksum k) = refl
   start-in (Phase.Ended e) = refl
 
   pub start-long : startStep s x buf ≡ startStep s y buf
@@ -54,7 +56,7 @@ module _ (s : Session) (x y buf : List ℕ) (h : 258 < length x) (k : 258 < leng
       (same-read (Awaited.Record (record { number = r .file })))
 
   long-in : (p : Phase) → answerIn p s x buf ≡ answerIn p s y buf
-  unfolding optionsStep recordStep cryptogramReply
+  unfolding optionsStep recordStep cryptogramReply checksumReply
   long-in Phase.Fresh = refl
   long-in Phase.Options =
       ap (λ (o : reading.Outcome). if (eqb (o .reason) 0) (optionsRead (s .count) (o .store) buf) (fails notApplicable (s .count) (stored s) (o .reason) buf))
@@ -63,6 +65,9 @@ module _ (s : Session) (x y buf : List ℕ) (h : 258 < length x) (k : 258 < leng
   long-in (Phase.Cryptogram a) =
       ap (λ (o : reading.Outcome). withoutCommand (if (eqb (o .reason) 0) (ended (methodNumber (a .method)) (s .count) (o .store) (cryptogramEnd a (o .store))) (ended (methodNumber (a .method)) (s .count) (stored s) (endBy (o .reason)))) buf)
       (same-read Awaited.Cryptogram)
+  long-in (Phase.Checksum k) =
+      ap (λ (o : reading.Outcome). withoutCommand (if (eqb (o .reason) 0) (checksumTaken (s .count) (stored s) (o .store)) (ended notApplicable (s .count) (stored s) (endBy (o .reason)))) buf)
+      (same-read Awaited.Checksum)
   long-in (Phase.Ended e) = refl
 
   pub answer-long : answerStep s x buf ≡ answerStep s y buf

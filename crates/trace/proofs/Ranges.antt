@@ -9,12 +9,12 @@ use lib.ListN.{length, getD}
 use borrow.Author.Tests.{ltb-true}
 use Rattle.basics.specs.Choice.{every}
 use Rattle.basics.specs.Number.{hasBit}
-use Rattle.basics.proofs.Laws.{both-left, both-right}
-use Rattle.dictionary.specs.Named.{row5A, row5F24, row82, row8C, row94, row95, row9F34, row9F10, row9F26, row9F27, row9F35, row9F36}
+use Rattle.basics.proofs.Laws.{both-left, both-right, either-false}
+use Rattle.dictionary.specs.Named.{row5A, row5F24, row82, row8C, row94, row95, row9F34, row9F10, row9F26, row9F27, row9F35, row9F36, row9F61}
 use Rattle.dictionary.specs.declared.Found.the-variants.{At}
 use Rattle.dictionary.specs.Rows.{rows, rowAt, storeSize, find, start}
 use Rattle.dictionary.specs.TerminalType.{listed}
-use Rattle.dictionary.proofs.Named.{at-5A, at-82, at-8C, at-94, at-5F24, at-9F10, at-9F26, at-9F27, at-9F35, at-9F36}
+use Rattle.dictionary.proofs.Named.{at-5A, at-82, at-8C, at-94, at-5F24, at-9F10, at-9F26, at-9F27, at-9F35, at-9F36, at-9F61}
 use Rattle.store.specs.Place.{Value, absent, bytesOf, isThere, valueOf}
 use Rattle.locator.specs.declared.Found.{Found}
 use Rattle.locator.specs.Records.{accepts, total, recordAt}
@@ -24,27 +24,29 @@ use Rattle.analysis.specs.Bits.{has}
 use Rattle.analysis.specs.Action.{limitOf, findingsOf}
 use Rattle.analysis.specs.declared.action.Findings.{Findings}
 use Rattle.analysis.proofs.Laws.{found-length, bits-length}
+use Rattle.record.specs.declared.Outcome.{Outcome}
 use Rattle.record.specs.declared.Place.{Place}
 use Rattle.record.specs.declared.Phase.{Phase}
 use Rattle.record.specs.declared.Session.{Session}
 use Rattle.record.specs.declared.Reply.{Reply}
 use Rattle.record.specs.Numbers.{outcomeFor}
-use Rattle.basics.specs.Reason.{reasonDataList, reasonLink, reasonStopped}
+use Rattle.basics.specs.Reason.{reasonMissing, reasonDataList, reasonLink, reasonStopped}
 use Rattle.record.specs.Session.{stored, endedSession, endOf}
 use Rattle.store.specs.Held.{bytesIn}
-use Rattle.record.specs.Ranges.{locatorIn, recordsIn, completed, mostCommands, inRanges}
+use Rattle.record.specs.Ranges.{emvMode, eitherMode, locatorIn, recordsIn, completed, trackCompleted, mostCommands, inRanges}
 use Rattle.record.specs.Clauses.{Fits, Running, OnFresh, OnOptions, OnRecord, noResults}
 use Rattle.record.proofs.Laws.{all-fits, fits-all, all-brought}
 use Rattle.record.proofs.Stored.{empty-lacks}
-use Rattle.record.proofs.Reasons.{outcome-goes}
+use Rattle.record.proofs.Reasons.{decided, outcome-goes}
 use Rattle.record.proofs.Phases.{store-size, store-fits, on-fresh, on-options, on-record, count-most, waiting-keeps, ended-keeps, fails-keeps}
 use Rattle.terminal.specs.Terminal.{loaded, load}
 use Rattle.terminal.proofs.Laws.{load-brought, load-size, load-fits, load-untouched-of, load-listed}
 use Rattle.session.specs.Steps.{Step, withResults, withFindings, brokenOff, linkStep, stopStep}
 use Rattle.session.specs.Start.{startStep}
 use Rattle.session.specs.Answer.{recordPhase, askedIn, answerStep}
-use Rattle.trace.proofs.Kept.{Waits, options-plain, record-plain, read-waits, read-fits, read-mode, read-locator, read-limit, bits-size, bits-fits, bits-runs, bits-here, bits-other, bits-hold, found-size, found-fits, found-runs, found-9F34, found-other, found-limit}
-use Rattle.trace.proofs.Ways.{Reason, taken, OptionsWay, RecordsWay, RecordWay, CryptogramWay, AnswerWay, answer-way, loadedSession, analysedSession, StartWay, start-way, BrokenWay, broken-way}
+use Rattle.session.specs.Stripe.{checksumPhase, withDigits}
+use Rattle.trace.proofs.Kept.{Waits, options-plain, record-plain, read-waits, read-fits, read-mode, read-either, read-locator, read-limit, bits-size, bits-fits, bits-runs, bits-here, bits-other, bits-hold, found-size, found-fits, found-runs, found-9F34, found-other, found-limit, digits-size, digits-fits}
+use Rattle.trace.proofs.Ways.{Reason, withStore, taken, OptionsWay, RecordsWay, StripeWay, RecordWay, CryptogramWay, ChecksumWay, AnswerWay, answer-way, loadedSession, analysedSession, StartWay, start-way, BrokenWay, broken-way}
 
 -- a session that ends for a reason
 failing : (t : Session) (n : ℕ) → Reason n → length (stored t) ≡ storeSize → Fits (stored t) → t .count ≤ mostCommands
@@ -96,11 +98,11 @@ module _ (s : Session) (i : inRanges s ≡ true) (p : Place) (q : s .phase ≡ P
   record-after : Waits (stored t)
   record-after = read-waits (Awaited.Record (record { number = file })) (record-plain file) (stored s) card record-before
 
-  mode : has (bytesIn (stored t) 0x82) 2 8 ≡ true
-  mode = ap (λ (x : Value). has (bytesOf x) 2 8) (read-mode (Awaited.Record (record { number = file })) (stored s) card (record-before .size) (record-on .mode)) ∙ record-on .mode
+  mode : eitherMode (stored t) ≡ true
+  mode = read-either (Awaited.Record (record { number = file })) (stored s) card (record-before .size) (record-before .fits) (record-on .mode)
 
   limited : p .limit ≡ limitOf (stored t)
-  limited = record-on .limit ∙ sym (read-limit (Awaited.Record (record { number = file })) (stored s) card (record-before .size) (record-on .mode))
+  limited = record-on .limit ∙ sym (read-limit (Awaited.Record (record { number = file })) (stored s) card (record-before .size) (record-before .fits) (record-on .mode))
 
   same : locatorIn (stored t) ≡ locatorIn (stored s)
   same = ap bytesOf (read-locator (Awaited.Record (record { number = file })) (stored s) card (record-before .size) (record-on .locator))
@@ -120,10 +122,10 @@ module _ (s : Session) (i : inRanges s ≡ true) (p : Place) (q : s .phase ≡ P
           let w = record-there (locatorIn (stored t)) (p .number + 1) (record { file = 0; number = 0 }) located (omega arith) h in
           let z : _≡_ {A = ℕ} 0 1 = cc in omega arith
 
-  records-keeps : p .number ≡ recordsIn (stored t) → {st : Step} → RecordsWay (p .limit) t buf st → inRanges (st .reply .session) ≡ true
+  records-keeps : p .number ≡ recordsIn (stored t) → emvMode (stored t) ≡ true → {st : Step} → RecordsWay (p .limit) t buf st → inRanges (st .reply .session) ≡ true
   unfolding completed every askedIn
-  records-keeps d (RecordsWay.failed n r x) = failing t n r (record-after .size) (record-after .fits) (count-most s i)
-  records-keeps d RecordsWay.unlisted =
+  records-keeps d v (RecordsWay.failed n r x) = failing t n r (record-after .size) (record-after .fits) (count-most s i)
+  records-keeps d v RecordsWay.unlisted =
       failing (analysedSession t) reasonDataList list-reason (found-size b f l n m) (found-fits b f l n m (record-after .fits)) (count-most s i)
     where
       b : List ℕ
@@ -140,11 +142,11 @@ module _ (s : Session) (i : inRanges s ≡ true) (p : Place) (q : s .phase ≡ P
 
       m : length (f .bits) ≡ 5
       m = bits-length (stored t)
-  records-keeps d (RecordsWay.asked c h g) =
+  records-keeps d v (RecordsWay.asked c h g) =
       waiting-keeps (analysedSession t) _ (s .count + 1) (found-size b f l n m) (found-fits b f l n m (record-after .fits))
       (record {
         runs = found-runs b f l n m (record-after .runs);
-        mode = ap (λ (x : Value). has (bytesOf x) 2 8) (found-other b f l n m 0x82 row82 at-82 (λ z. omega arith) (λ z. omega arith)) ∙ mode;
+        mode = ap (λ (x : Value). has (bytesOf x) 2 8) (found-other b f l n m 0x82 row82 at-82 (λ z. omega arith) (λ z. omega arith)) ∙ v;
         locator = ap accepts kept ∙ located;
         some-5F24 = filled 0x5F24 row5F24 at-5F24 (λ z. omega arith) (λ z. omega arith) (ltb-true 0 _ (both-left _ _ h));
         some-5A = filled 0x5A row5A at-5A (λ z. omega arith) (λ z. omega arith) (ltb-true 0 _ (both-left _ _ (both-right _ _ h)));
@@ -175,6 +177,24 @@ module _ (s : Session) (i : inRanges s ≡ true) (p : Place) (q : s .phase ≡ P
       filled : (u j : ℕ) → find rows u ≡ At j → (j ≡ row95 → ⊥) → (j ≡ row9F34 → ⊥) → 0 < length (bytesIn b u) → 0 < length (bytesIn (withFindings b f) u)
       filled u j e ne nf k = subst (λ (x : Value). 0 < length (bytesOf x)) (sym (found-other b f l n m u j e ne nf)) k
 
+  stripe-keeps : p .number ≡ recordsIn (stored t) → emvMode (stored t) ≡ false → {st : Step} → StripeWay (p .limit) t buf st → inRanges (st .reply .session) ≡ true
+  unfolding trackCompleted every
+  stripe-keeps d v (StripeWay.failed n r) = failing t n r (record-after .size) (record-after .fits) (count-most s i)
+  stripe-keeps d v (StripeWay.asked c h g) =
+      waiting-keeps t (checksumPhase (p .limit)) (s .count + 1) (record-after .size) (record-after .fits)
+      (record {
+        runs = record-after .runs;
+        mode = sym (either-false _ v) ∙ mode;
+        zero-95 = record-after .zero-95;
+        locator = located;
+        some-9F6B = ltb-true 0 _ (both-left _ _ h);
+        some-9F65 = ltb-true 0 _ (both-left _ _ (both-right _ _ h));
+        some-9F66 = ltb-true 0 _ (both-left _ _ (both-right _ _ (both-right _ _ h)));
+        some-9F67 = ltb-true 0 _ (both-left _ _ (both-right _ _ (both-right _ _ (both-right _ _ h))));
+        limit = limited;
+        count = omega (arith, record-on .count, d);
+      })
+
   record-keeps : {st : Step} → RecordWay p t buf st → inRanges (st .reply .session) ≡ true
   record-keeps (RecordWay.next r e) =
       waiting-keeps t (recordPhase (p .limit) (p .number + 1)) (s .count + 1) (record-after .size) (record-after .fits)
@@ -188,7 +208,8 @@ module _ (s : Session) (i : inRanges s ≡ true) (p : Place) (q : s .phase ≡ P
         last = record-inside (locatorIn (stored t)) (p .number + 1) r e .1;
         count = omega (arith, record-on .count);
       })
-  record-keeps (RecordWay.last e w) = records-keeps (at-last e) w
+  record-keeps (RecordWay.last e m w) = records-keeps (at-last e) m w
+  record-keeps (RecordWay.striped e m w) = stripe-keeps (at-last e) m w
 
 -- ---- the cryptogram
 
@@ -199,6 +220,20 @@ cryptogram-keeps s card m i (CryptogramWay.failed n r) =
 cryptogram-keeps s card m i (CryptogramWay.decides o g) =
     let w = read-fits Awaited.Cryptogram (stored s) card (store-size s i) (store-fits s i) in
     ended-keeps (taken Awaited.Cryptogram s card) o 0 g (w .0) (w .1) (count-most s i)
+
+-- ---- the checksum
+
+checksum-keeps : (s : Session) (card : List ℕ) → inRanges s ≡ true → {r : Reply} → ChecksumWay (taken Awaited.Checksum s card) r → inRanges (r .session) ≡ true
+checksum-keeps s card i ChecksumWay.failed =
+    let w = read-fits Awaited.Checksum (stored s) card (store-size s i) (store-fits s i) in
+    failing (taken Awaited.Checksum s card) reasonMissing (record { least = omega arith; most = omega arith }) (w .0) (w .1) (count-most s i)
+checksum-keeps s card i ChecksumWay.declined =
+    let w = read-fits Awaited.Checksum (stored s) card (store-size s i) (store-fits s i) in
+    ended-keeps (taken Awaited.Checksum s card) Outcome.Declined 0 (decided .2) (w .0) (w .1) (count-most s i)
+checksum-keeps s card i ChecksumWay.online =
+    let w = read-fits Awaited.Checksum (stored s) card (store-size s i) (store-fits s i) in
+    let b = stored (taken Awaited.Checksum s card) in
+    ended-keeps (withStore s (withDigits b)) Outcome.OnlineRequest 0 (decided .1) (digits-size b (w .0) (w .1)) (digits-fits b (w .0) (w .1)) (count-most s i)
 
 -- ---- the calls
 
@@ -211,6 +246,7 @@ answer-keeps s card buf i = go (answer-way s card buf)
     go (AnswerWay.options k q z w) = options-keeps s i q card buf w
     go (AnswerWay.recorded p r k q e w) = record-keeps s i p q (r .file) card buf w
     go (AnswerWay.cryptogram a k q w) = cryptogram-keeps s card _ i w
+    go (AnswerWay.checksum c k q w) = checksum-keeps s card i w
 
 broken-keeps : (s : Session) (n : ℕ) (buf : List ℕ) → Reason n → inRanges s ≡ true → inRanges (brokenOff s n buf .reply .session) ≡ true
 broken-keeps s n buf r i = go (broken-way s n buf)
@@ -230,8 +266,9 @@ stop-keeps s buf i = broken-keeps s reasonStopped buf (record { least = omega ar
 -- rows that a start may not set
 not-set : (hasBit (rowAt row82 .setters) start ≡ false) × (hasBit (rowAt row94 .setters) start ≡ false) × (hasBit (rowAt row9F10 .setters) start ≡ false)
     × (hasBit (rowAt row9F26 .setters) start ≡ false) × (hasBit (rowAt row9F27 .setters) start ≡ false) × (hasBit (rowAt row9F36 .setters) start ≡ false)
+    × (hasBit (rowAt row9F61 .setters) start ≡ false)
 unfolding rows
-not-set = (refl, refl, refl, refl, refl, refl)
+not-set = (refl, refl, refl, refl, refl, refl, refl)
 
 module _ (s : Session) (i : inRanges s ≡ true) (q : s .phase ≡ Phase.Fresh) (bytes buf b : List ℕ) (e : load (stored s) bytes ≡ loaded b) where
   fresh-on : OnFresh (s .count) (stored s)
@@ -260,6 +297,7 @@ module _ (s : Session) (i : inRanges s ≡ true) (q : s .phase ≡ Phase.Fresh) 
         no-9F26 = lacking 0x9F26 row9F26 at-9F26 (not-set .3) (λ z. omega arith);
         no-9F27 = lacking 0x9F27 row9F27 at-9F27 (not-set .4) (λ z. omega arith);
         no-9F36 = lacking 0x9F36 row9F36 at-9F36 (not-set .5) (λ z. omega arith);
+        no-9F61 = lacking 0x9F61 row9F61 at-9F61 (not-set .6) (λ z. omega arith);
       }
 
   start-fails : inRanges (endedSession (loadedSession s b) (endOf (outcomeFor reasonDataList) reasonDataList)) ≡ true

@@ -96,6 +96,7 @@ module _ (s : Session) (card buf : List ℕ) where
       go Phase.Options e = no (sym e)
       go (Phase.Record p) e = no (sym e)
       go (Phase.Cryptogram a) e = no (sym e)
+      go (Phase.Checksum k) e = no (sym e)
       go (Phase.Ended x) e = refl
 
 -- ---- the first answer that is taken
@@ -106,6 +107,7 @@ early Phase.Fresh = true
 early Phase.Options = true
 early (Phase.Record p) = false
 early (Phase.Cryptogram a) = false
+early (Phase.Checksum k) = false
 early (Phase.Ended e) = true
 
 waits : (p : Phase) → early p ≡ true → isRunning p ≡ true → p ≡ Phase.Options
@@ -113,6 +115,7 @@ waits Phase.Fresh e r = no r
 waits Phase.Options e r = refl
 waits (Phase.Record p) e r = no e
 waits (Phase.Cryptogram a) e r = no e
+waits (Phase.Checksum k) e r = no e
 waits (Phase.Ended x) e r = no r
 
 -- that stays so with a call that is refused or is no answer
@@ -144,6 +147,7 @@ module _ (s : Session) (e : early (s .phase) ≡ true) where
       go (AnswerWay.options i q z w) = first w
       go (AnswerWay.recorded p r i q f w) = λ x. no (sym (ap early q) ∙ e)
       go (AnswerWay.cryptogram a i q w) = λ x. no (sym (ap early q) ∙ e)
+      go (AnswerWay.checksum k i q w) = λ x. no (sym (ap early q) ∙ e)
   answer-stays card buf (inr f) = no (sym f)
 
   broken-stays : (c : Call) (n : ℕ) (buf : List ℕ) → Stays c (brokenOff s n buf)

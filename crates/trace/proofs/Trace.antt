@@ -15,6 +15,7 @@ use borrow.Author.Tests.{eq-eqb, ne-eqb}
 use Rattle.basics.specs.Choice.{if}
 use Rattle.basics.proofs.Laws.{if-ind, if-yes, if-no, bool-cases, either-left, both-yes, both-no-left, both-no-right}
 use Rattle.store.specs.Place.{bytesOf}
+use Rattle.store.specs.Held.{bytesIn}
 use Rattle.locator.specs.declared.CardRecord.{CardRecord}
 use Rattle.locator.specs.declared.Found.{Found}
 use Rattle.locator.specs.Records.{records, total, accepts, recordAt}
@@ -33,21 +34,22 @@ use Rattle.record.specs.declared.Session.{Session}
 use Rattle.record.specs.declared.Reply.{Reply}
 use Rattle.basics.specs.Reason.{reasonLink, reasonStopped}
 use Rattle.record.specs.Session.{stored, endOf}
-use Rattle.record.specs.Ranges.{locatorIn, inRanges}
+use Rattle.record.specs.Ranges.{emvMode, locatorIn, inRanges}
 use Rattle.record.specs.Clauses.{noResults}
-use Rattle.record.proofs.Phases.{store-size, on-fresh, on-options, on-record, count-most}
+use Rattle.record.proofs.Phases.{store-size, store-fits, on-fresh, on-options, on-record, count-most}
 use Rattle.session.specs.Steps as steps
 use Rattle.session.specs.Steps.{Step, withoutCommand, refuses, withResults, withFindings, admitted, endsIn, brokenOff}
 use Rattle.session.specs.Start.{startStep}
 use Rattle.session.specs.Answer.{recordPhase, optionsReason, answerStep}
-use Rattle.trace.proofs.Kept.{read-locator}
+use Rattle.session.specs.Stripe.{checksumPhase, withDigits}
+use Rattle.trace.proofs.Kept.{read-fits, read-mode, mode-bytes, read-locator}
 use Rattle.trace.proofs.Ways as ways
-use Rattle.trace.proofs.Ways.{OptionsWay, RecordsWay, RecordWay, CryptogramWay, AnswerWay, answer-way, StartWay, start-way, analysedSession, askedBy, loadedSession}
+use Rattle.trace.proofs.Ways.{OptionsWay, RecordsWay, StripeWay, RecordWay, CryptogramWay, ChecksumWay, AnswerWay, answer-way, StartWay, start-way, analysedSession, askedBy, loadedSession}
 use Rattle.trace.proofs.Ranges.{start-keeps, answer-keeps, link-keeps, stop-keeps}
 use Rattle.trace.specs.Calls.{Call, start, answer, link-failed, stop, step, Made, made, play, final, isRefusal, isCommand, isOutcome, said, commandIn, commands, taken, lastOf, isAnswer, anAnswer, notAnswered, unanswered}
-use Rattle.trace.specs.Order.{broughtLocator, firstAnswer, locatorOf, acceptedLocator, Kind, options, record-command, cryptogram, kindOf, published}
+use Rattle.trace.specs.Order.{broughtLocator, broughtProfile, firstAnswer, locatorOf, acceptedLocator, Kind, options, record-command, cryptogram, checksum, kindOf, lastFor, lastIn, lastKind, published}
 use Rattle.trace.specs.Claim.{Proper, isFresh, isRunning, isEnded, noneTaken, lastCommand, lastOutcome, most, oneIf}
-use Rattle.trace.proofs.Brought.{locator-brought}
+use Rattle.trace.proofs.Brought.{locator-brought, profile-brought}
 use Rattle.trace.proofs.Rules.{no, sent-by-rules, answer-off}
 
 -- ---- the kinds of commands
@@ -68,12 +70,22 @@ kind-cryptogram c p =
     if-no _ _ (both-no-right _ _ (ne-eqb (getD c 1 0) 0xA8 (λ z. omega (arith, t .1))))
     ∙ if-yes _ _ (both-yes _ _ (eq-eqb _ 0x80 (t .0)) (eq-eqb _ 0xAE (t .1)))
 
+kind-checksum : (c : List ℕ) → list.Proper 0x2A c → kindOf c ≡ checksum
+unfolding kindOf
+kind-checksum c p =
+    let t = first-two c 0x80 0x2A (p .starts) in
+    if-no _ _ (both-no-right _ _ (ne-eqb (getD c 1 0) 0xA8 (λ z. omega (arith, t .1))))
+    ∙ if-no _ _ (both-no-right _ _ (ne-eqb (getD c 1 0) 0xAE (λ z. omega (arith, t .1))))
+    ∙ if-yes _ _ (both-yes _ _ (eq-eqb _ 0x80 (t .0)) (eq-eqb _ 0x2A (t .1)))
+
 abbrev reads : CardRecord → Kind
 reads r = record-command (readRecord r)
 
 kind-record : (r : CardRecord) → kindOf (readRecord r) ≡ reads r
 unfolding kindOf
-kind-record r = if-no _ _ (both-no-left _ _ (ne-eqb 0 0x80 (λ z. omega arith))) ∙ if-no _ _ (both-no-left _ _ (ne-eqb 0 0x80 (λ z. omega arith)))
+kind-record r =
+    if-no _ _ (both-no-left _ _ (ne-eqb 0 0x80 (λ z. omega arith))) ∙ if-no _ _ (both-no-left _ _ (ne-eqb 0 0x80 (λ z. omega arith)))
+    ∙ if-no _ _ (both-no-left _ _ (ne-eqb 0 0x80 (λ z. omega arith)))
 
 -- ---- the front of a list
 
@@ -101,24 +113,41 @@ none-left : (sent : List (List ℕ)) (r : List Kind) → Front (map kindOf sent)
 none-left [] r f = (tt, refl)
 none-left (c ∷ sent) r f = absurd f
 
--- ---- what is left of the published order in each phase: by the stored locator, or by the one that will be accepted
+-- ---- what is left of the published order in each phase: by the stored locator and profile, or by those that the first answer brings
 
-abbrev rest : Phase → List ℕ → Option (List ℕ) → List Kind
-rest Phase.Fresh l a = published cryptogram a
-rest Phase.Options l a = drop 1 (published cryptogram a)
-rest (Phase.Record p) l a = map reads (drop (p .number) (records l)) ++ (cryptogram ∷ [])
-rest (Phase.Cryptogram x) l a = []
-rest (Phase.Ended e) l a = []
+-- the last command of a store's mode
+abbrev lastOn : List ℕ → Kind
+lastOn b = lastFor (some (bytesIn b 0x82))
 
-published-front : (a : Option (List ℕ)) → published cryptogram a ≡ options ∷ drop 1 (published cryptogram a)
+last-emv : (b : List ℕ) → emvMode b ≡ true → lastOn b ≡ cryptogram
+unfolding lastFor
+last-emv b e = if-yes _ _ e
+
+last-stripe : (b : List ℕ) → emvMode b ≡ false → lastOn b ≡ checksum
+unfolding lastFor
+last-stripe b e = if-no _ _ e
+
+-- the order that the first answer gives
+abbrev orderOf : Option Made → List Kind
+orderOf x = published (lastIn x) (locatorOf x)
+
+abbrev rest : Phase → List ℕ → Option Made → List Kind
+rest Phase.Fresh b x = orderOf x
+rest Phase.Options b x = drop 1 (orderOf x)
+rest (Phase.Record p) b x = map reads (drop (p .number) (records (locatorIn b))) ++ (lastOn b ∷ [])
+rest (Phase.Cryptogram a) b x = []
+rest (Phase.Checksum k) b x = []
+rest (Phase.Ended e) b x = []
+
+published-front : (k : Kind) (a : Option (List ℕ)) → published k a ≡ options ∷ drop 1 (published k a)
 unfolding published
-published-front none = refl
-published-front (some l) = refl
+published-front k none = refl
+published-front k (some l) = refl
 
-published-length : (a : Option (List ℕ)) → length (published cryptogram a) ≡ most a
+published-length : (k : Kind) (a : Option (List ℕ)) → length (published k a) ≡ most a
 unfolding published
-published-length none = refl
-published-length (some l) = simp (length-append, length-map) (omega (arith, records-length l))
+published-length k none = refl
+published-length k (some l) = simp (length-append, length-map) (omega (arith, records-length l))
 
 -- the record behind the k-th
 next-record : (l : List ℕ) (k : ℕ) (r : CardRecord) → recordAt l (k + 1) ≡ Found.At r → drop k (records l) ≡ r ∷ drop (k + 1) (records l)
@@ -139,10 +168,7 @@ no-record l k a e = empty (drop k (records l)) (length-drop k (records l) ∙ om
         let w = record-there l (k + 1) (record { file = 0; number = 0 }) a (omega arith) h in
         let z : _≡_ {A = ℕ} 0 1 = cc in omega arith
 
--- ---- the locator that is accepted among calls that were taken
-
-abbrev acceptedIn : List Made → Option (List ℕ)
-acceptedIn tk = locatorOf (firstAnswer tk)
+-- ---- the first answer among calls that were taken
 
 -- an answer in front is the first; other calls are passed over
 module _ (m : Made) (tk : List Made) where
@@ -175,6 +201,7 @@ running-is Phase.Fresh e = no e
 running-is Phase.Options e = (refl, refl)
 running-is (Phase.Record p) e = (refl, refl)
 running-is (Phase.Cryptogram a) e = (refl, refl)
+running-is (Phase.Checksum k) e = (refl, refl)
 running-is (Phase.Ended x) e = no e
 
 -- ---- unanswered: the command x that a running session waits on, and those that come after
@@ -213,7 +240,7 @@ record Run (s : Session) (sent : List (List ℕ)) (tk : List Made) (f : Session)
   ended : isEnded (f .phase) ≡ by (isEnded (s .phase)) (λ m. isOutcome (said m)) (lastOf tk)
   waiting : isRunning (f .phase) ≡ true → Waits (isRunning (s .phase)) sent tk
   calls : length tk + oneIf (isEnded (s .phase)) ≡ length sent + oneIf (isEnded (f .phase))
-  order : Front (map kindOf sent) (rest (s .phase) (locatorIn (stored s)) (acceptedIn tk))
+  order : Front (map kindOf sent) (rest (s .phase) (stored s) (firstAnswer tk))
   ranges : inRanges f ≡ true
 
 no-calls : (s : Session) → inRanges s ≡ true → Run s [] [] s
@@ -247,14 +274,14 @@ goes-ended s c k b o n buf e sent tk f r =
     m : Made
     m = made s c (withoutCommand (steps.ended k (s .count) b (endOf o n)) buf)
 
-    left : Front (map kindOf sent) (rest (s .phase) (locatorIn (stored s)) (acceptedIn (m ∷ tk))) × (length sent ≡ 0)
+    left : Front (map kindOf sent) (rest (s .phase) (stored s) (firstAnswer (m ∷ tk))) × (length sent ≡ 0)
     left = none-left sent _ (r .order)
 
 -- with a command: what is left begins with it
 abbrev Next : Session → Call → List ℕ → Phase → List ℕ → List ℕ → Type 0
 Next s c b p x buf =
-    (sent : List (List ℕ)) (tk : List Made) → Front (map kindOf sent) (rest p (locatorIn b) (acceptedIn tk))
-    → Front (kindOf x ∷ map kindOf sent) (rest (s .phase) (locatorIn (stored s)) (acceptedIn (made s c (steps.commands (s .count) b p x buf) ∷ tk)))
+    (sent : List (List ℕ)) (tk : List Made) → Front (map kindOf sent) (rest p b (firstAnswer tk))
+    → Front (kindOf x ∷ map kindOf sent) (rest (s .phase) (stored s) (firstAnswer (made s c (steps.commands (s .count) b p x buf) ∷ tk)))
 
 goes-sent : (s : Session) (c : Call) (b : List ℕ) (p : Phase) (x buf : List ℕ) → isEnded (s .phase) ≡ false → isRunning p ≡ true
     → (isRunning (s .phase) ≡ true → isAnswer c ≡ true) → Next s c b p x buf → Goes s c (steps.commands (s .count) b p x buf)
@@ -289,10 +316,10 @@ start-goes s bytes buf = go (start-way s bytes buf)
     go (StartWay.asked b c i q e f) =
         goes-sent s (start bytes buf) (withResults b noResults) Phase.Options c buf (ap isEnded q) refl (λ w. no (sym (ap isRunning q) ∙ w))
         (λ sent tk h. let m = made s (start bytes buf) (steps.commands (s .count) (stored (loadedSession s b)) Phase.Options c buf) in
-        subst (λ (p : Phase). Front (kindOf c ∷ map kindOf sent) (rest p (locatorIn (stored s)) (acceptedIn (m ∷ tk)))) (sym q)
-        (subst (λ (x : Option Made). Front (kindOf c ∷ map kindOf sent) (published cryptogram (locatorOf x))) (sym (passed-over m tk refl))
-        (front-cons (kindOf c) options (map kindOf sent) (published cryptogram (acceptedIn tk)) (drop 1 (published cryptogram (acceptedIn tk)))
-        (published-front (acceptedIn tk)) (kind-options c (list.options-proper (stored (loadedSession s b)) c f)) h)))
+        subst (λ (p : Phase). Front (kindOf c ∷ map kindOf sent) (rest p (stored s) (firstAnswer (m ∷ tk)))) (sym q)
+        (subst (λ (x : Option Made). Front (kindOf c ∷ map kindOf sent) (orderOf x)) (sym (passed-over m tk refl))
+        (front-cons (kindOf c) options (map kindOf sent) (orderOf (firstAnswer tk)) (drop 1 (orderOf (firstAnswer tk)))
+        (published-front _ (locatorOf (firstAnswer tk))) (kind-options c (list.options-proper (stored (loadedSession s b)) c f)) h)))
 
 -- ---- answer
 
@@ -307,11 +334,12 @@ module _ (s : Session) (card buf : List ℕ) where
   options-goes i q z (OptionsWay.failed n r) k = goes-ended s call _ _ _ n buf (ap isEnded q)
   options-goes i q z (OptionsWay.first r v a e) k =
       goes-sent s call b (recordPhase (limitOf b) 1) (readRecord r) buf (ap isEnded q) refl (λ w. refl)
-      (λ sent tk h. subst (λ (p : Phase). Front (kindOf (readRecord r) ∷ map kindOf sent) (rest p (locatorIn (stored s)) (acceptedIn (m ∷ tk)))) (sym q)
-      (subst (λ (x : Option (List ℕ)). Front (kindOf (readRecord r) ∷ map kindOf sent) (drop 1 (published cryptogram x)))
-      (sym (ap locatorOf (answer-first m tk refl) ∙ if-yes _ _ (k refl) ∙ here))
-      (front-cons (kindOf (readRecord r)) (reads r) (map kindOf sent) (drop 1 (published cryptogram (some l))) (map reads (drop 1 (records l)) ++ (cryptogram ∷ []))
-      (ap (λ (x : List CardRecord). map reads x ++ (cryptogram ∷ [])) (next-record l 0 r e)) (kind-record r) h)))
+      (λ sent tk h. subst (λ (p : Phase). Front (kindOf (readRecord r) ∷ map kindOf sent) (rest p (stored s) (firstAnswer (m ∷ tk)))) (sym q)
+      (subst (λ (x : Option Made). Front (kindOf (readRecord r) ∷ map kindOf sent) (drop 1 (orderOf x))) (sym (answer-first m tk refl))
+      (subst (λ (x : Option (List ℕ)). Front (kindOf (readRecord r) ∷ map kindOf sent) (drop 1 (published (lastFor (broughtProfile card)) x))) (sym (if-yes _ _ (k refl) ∙ here))
+      (subst (λ (x : Option (List ℕ)). Front (kindOf (readRecord r) ∷ map kindOf sent) (drop 1 (published (lastFor x) (some l)))) (sym told)
+      (front-cons (kindOf (readRecord r)) (reads r) (map kindOf sent) (drop 1 (published (lastOn b) (some l))) (map reads (drop 1 (records l)) ++ (lastOn b ∷ []))
+      (ap (λ (x : List CardRecord). map reads x ++ (lastOn b ∷ [])) (next-record l 0 r e)) (kind-record r) h)))))
     where
       b : List ℕ
       b = reading.readAnswer Awaited.Options (stored s) card .store
@@ -323,8 +351,12 @@ module _ (s : Session) (card buf : List ℕ) where
       m = made s call (steps.commands (s .count) b (recordPhase (limitOf b) 1) (readRecord r) buf)
 
       here : broughtLocator card ≡ some l
-      here =
-          locator-brought (stored s) card (store-size s i) (ap bytesOf (on-options s i q .no-94)) z (omega (arith, accepted-length l a .1))
+      here = locator-brought (stored s) card (store-size s i) z (ap bytesOf (on-options s i q .no-94)) (omega (arith, accepted-length l a .1))
+
+      told : broughtProfile card ≡ some (bytesIn b 0x82)
+      told =
+          profile-brought (stored s) card (store-size s i) z (ap bytesOf (on-options s i q .no-82))
+          (mode-bytes b (read-fits Awaited.Options (stored s) card (store-size s i) (store-fits s i) .1) v)
 
   module _ (i : inRanges s ≡ true) (p : Place) (q : s .phase ≡ Phase.Record p) (w : Awaited) where
     abbrev b : List ℕ
@@ -333,33 +365,57 @@ module _ (s : Session) (card buf : List ℕ) where
     same : locatorIn b ≡ locatorIn (stored s)
     same = ap bytesOf (read-locator w (stored s) card (store-size s i) (on-record s i p q .locator))
 
-    -- a claim on what is left of the read store's locator is one on what is left
-    left : (xs : List Kind) (a : Option (List ℕ)) → Front xs (rest (Phase.Record p) (locatorIn b) a) → Front xs (rest (s .phase) (locatorIn (stored s)) a)
-    left xs a h =
-        subst (λ (x : Phase). Front xs (rest x (locatorIn (stored s)) a)) (sym q) (subst (λ (l : List ℕ). Front xs (rest (Phase.Record p) l a)) same h)
+    same-mode : bytesIn b 0x82 ≡ bytesIn (stored s) 0x82
+    same-mode = ap bytesOf (read-mode w (stored s) card (store-size s i) (store-fits s i) (on-record s i p q .mode))
 
-    records-goes : recordAt (locatorIn b) (p .number + 1) ≡ Found.Nothing → {st : Step} → RecordsWay (p .limit) (ways.taken w s card) buf st → Goes s call st
-    records-goes e (RecordsWay.failed n r x) = goes-ended s call _ b _ n buf (ap isEnded q)
-    records-goes e RecordsWay.unlisted = goes-ended s call _ _ _ _ buf (ap isEnded q)
-    records-goes e (RecordsWay.asked c f g) =
-        goes-sent s call (withFindings b (findingsOf b)) _ c buf (ap isEnded q) refl (λ w. refl)
-        (λ sent tk h. left (kindOf c ∷ map kindOf sent) (acceptedIn (made s call (steps.commands (s .count) (stored (analysedSession (ways.taken w s card))) (Phase.Cryptogram (askedBy (p .limit) (ways.taken w s card))) c buf) ∷ tk))
-        (front-cons (kindOf c) cryptogram (map kindOf sent) (map reads (drop (p .number) (records (locatorIn b))) ++ (cryptogram ∷ [])) []
-        (ap (λ (x : List CardRecord). map reads x ++ (cryptogram ∷ [])) (no-record (locatorIn b) (p .number) (ap accepts same ∙ on-record s i p q .locator) e))
-        (kind-cryptogram c (list.cryptogram-proper (stored (analysedSession (ways.taken w s card))) c (p1Of (askedBy (p .limit) (ways.taken w s card) .choice)) g)) h))
+    -- a claim on what is left of the read store's records is one on what is left
+    left : (xs : List Kind) (x : Option Made) → Front xs (rest (Phase.Record p) b x) → Front xs (rest (s .phase) (stored s) x)
+    left xs x h =
+        subst (λ (y : Phase). Front xs (rest y (stored s) x)) (sym q)
+        (subst (λ (l : List ℕ). Front xs (map reads (drop (p .number) (records l)) ++ (lastOn (stored s) ∷ []))) same
+        (subst (λ (v : List ℕ). Front xs (map reads (drop (p .number) (records (locatorIn b))) ++ (lastFor (some v) ∷ []))) same-mode h))
+
+    -- the last command y, where no record is left
+    last-goes : (d : List ℕ) (f : Phase) (c : List ℕ) (y : Kind) → isRunning f ≡ true → ((t : Option Made) → rest f d t ≡ [])
+        → recordAt (locatorIn b) (p .number + 1) ≡ Found.Nothing → lastOn b ≡ y → kindOf c ≡ y → Goes s call (steps.commands (s .count) d f c buf)
+    last-goes d f c y o n e m k =
+        goes-sent s call d f c buf (ap isEnded q) o (λ w. refl)
+        (λ sent tk h. left (kindOf c ∷ map kindOf sent) (firstAnswer (made s call (steps.commands (s .count) d f c buf) ∷ tk))
+        (front-cons (kindOf c) y (map kindOf sent) (map reads (drop (p .number) (records (locatorIn b))) ++ (lastOn b ∷ [])) []
+        (ap (λ (x : List CardRecord). map reads x ++ (lastOn b ∷ [])) (no-record (locatorIn b) (p .number) (ap accepts same ∙ on-record s i p q .locator) e)
+        ∙ ap (λ (x : Kind). x ∷ []) m)
+        k (subst (Front (map kindOf sent)) (n (firstAnswer tk)) h)))
+
+    records-goes : recordAt (locatorIn b) (p .number + 1) ≡ Found.Nothing → emvMode b ≡ true → {st : Step} → RecordsWay (p .limit) (ways.taken w s card) buf st → Goes s call st
+    records-goes e m (RecordsWay.failed n r x) = goes-ended s call _ b _ n buf (ap isEnded q)
+    records-goes e m RecordsWay.unlisted = goes-ended s call _ _ _ _ buf (ap isEnded q)
+    records-goes e m (RecordsWay.asked c f g) =
+        last-goes (withFindings b (findingsOf b)) (Phase.Cryptogram (askedBy (p .limit) (ways.taken w s card))) c cryptogram refl (λ t. refl) e (last-emv b m)
+        (kind-cryptogram c (list.cryptogram-proper (stored (analysedSession (ways.taken w s card))) c (p1Of (askedBy (p .limit) (ways.taken w s card) .choice)) g))
+
+    stripe-goes : recordAt (locatorIn b) (p .number + 1) ≡ Found.Nothing → emvMode b ≡ false → {st : Step} → StripeWay (p .limit) (ways.taken w s card) buf st → Goes s call st
+    stripe-goes e m (StripeWay.failed n r) = goes-ended s call _ b _ n buf (ap isEnded q)
+    stripe-goes e m (StripeWay.asked c f g) =
+        last-goes b (checksumPhase (p .limit)) c checksum refl (λ t. refl) e (last-stripe b m) (kind-checksum c (list.checksum-proper b c g))
 
     record-goes : {st : Step} → RecordWay p (ways.taken w s card) buf st → Goes s call st
     record-goes (RecordWay.next r e) =
         goes-sent s call b (recordPhase (p .limit) (p .number + 1)) (readRecord r) buf (ap isEnded q) refl (λ w. refl)
-        (λ sent tk h. left (kindOf (readRecord r) ∷ map kindOf sent) (acceptedIn (made s call (steps.commands (s .count) (stored (ways.taken w s card)) (recordPhase (p .limit) (p .number + 1)) (readRecord r) buf) ∷ tk))
-        (front-cons (kindOf (readRecord r)) (reads r) (map kindOf sent) (map reads (drop (p .number) (records (locatorIn b))) ++ (cryptogram ∷ []))
-        (map reads (drop (p .number + 1) (records (locatorIn b))) ++ (cryptogram ∷ []))
-        (ap (λ (x : List CardRecord). map reads x ++ (cryptogram ∷ [])) (next-record (locatorIn b) (p .number) r e)) (kind-record r) h))
-    record-goes (RecordWay.last e v) = records-goes e v
+        (λ sent tk h. left (kindOf (readRecord r) ∷ map kindOf sent) (firstAnswer (made s call (steps.commands (s .count) (stored (ways.taken w s card)) (recordPhase (p .limit) (p .number + 1)) (readRecord r) buf) ∷ tk))
+        (front-cons (kindOf (readRecord r)) (reads r) (map kindOf sent) (map reads (drop (p .number) (records (locatorIn b))) ++ (lastOn b ∷ []))
+        (map reads (drop (p .number + 1) (records (locatorIn b))) ++ (lastOn b ∷ []))
+        (ap (λ (x : List CardRecord). map reads x ++ (lastOn b ∷ [])) (next-record (locatorIn b) (p .number) r e)) (kind-record r) h))
+    record-goes (RecordWay.last e m v) = records-goes e m v
+    record-goes (RecordWay.striped e m v) = stripe-goes e m v
 
   cryptogram-goes : (m : ℕ) → isEnded (s .phase) ≡ false → {y : Reply} → CryptogramWay m (ways.taken Awaited.Cryptogram s card) y → Goes s call (withoutCommand y buf)
   cryptogram-goes m e (CryptogramWay.failed n r) = goes-ended s call _ _ _ n buf e
   cryptogram-goes m e (CryptogramWay.decides o g) = goes-ended s call _ _ o _ buf e
+
+  checksum-goes : isEnded (s .phase) ≡ false → {y : Reply} → ChecksumWay (ways.taken Awaited.Checksum s card) y → Goes s call (withoutCommand y buf)
+  checksum-goes e ChecksumWay.failed = goes-ended s call _ _ _ _ buf e
+  checksum-goes e ChecksumWay.declined = goes-ended s call _ _ Outcome.Declined _ buf e
+  checksum-goes e ChecksumWay.online = goes-ended s call _ _ Outcome.OnlineRequest _ buf e
 
   answer-goes : Goes s call (answerStep s card buf)
   answer-goes = go (answer-way s card buf) (answer-off s card buf) (sent-by-rules s card buf)
@@ -375,6 +431,7 @@ module _ (s : Session) (card buf : List ℕ) where
       go (AnswerWay.options i q z w) o k = options-goes (i .ranges) q z w (k q)
       go (AnswerWay.recorded p r i q e w) o k = record-goes (i .ranges) p q (Awaited.Record (record { number = r .file })) w
       go (AnswerWay.cryptogram a i q w) o k = cryptogram-goes _ (ap isEnded q) w
+      go (AnswerWay.checksum c i q w) o k = checksum-goes (ap isEnded q) w
 
 -- ---- link failed and stop
 
@@ -391,6 +448,7 @@ broken-goes s c n buf =
     go Phase.Options q = goes-ended s c _ (stored s) _ n buf (ap isEnded q)
     go (Phase.Record p) q = goes-ended s c _ (stored s) _ n buf (ap isEnded q)
     go (Phase.Cryptogram a) q = goes-ended s c _ (stored s) _ n buf (ap isEnded q)
+    go (Phase.Checksum k) q = goes-ended s c _ (stored s) _ n buf (ap isEnded q)
     go (Phase.Ended x) q = goes-refused s c _ buf
 
 -- ---- every call, and every list of calls
@@ -431,12 +489,12 @@ most-one true = omega arith
 most-one false = omega arith
 
 pub always : (s : Session) (cs : List Call) → s .phase ≡ Phase.Fresh → inRanges s ≡ true → Proper (play s cs) (final s cs)
-unfolding acceptedLocator unanswered
+unfolding acceptedLocator lastKind unanswered
 always s cs q i =
     record {
-      order = front-take (map kindOf (commands ms)) (published cryptogram (acceptedIn (taken ms))) front ∙ ap (λ (n : ℕ). take n (published cryptogram (acceptedIn (taken ms)))) number;
+      order = front-take (map kindOf (commands ms)) (orderOf (firstAnswer (taken ms))) front ∙ ap (λ (n : ℕ). take n (orderOf (firstAnswer (taken ms)))) number;
       count = omega (arith, r .count, on-fresh s i q .count);
-      bound = omega (arith, front-length (map kindOf (commands ms)) (published cryptogram (acceptedIn (taken ms))) front, number, published-length (acceptedIn (taken ms)));
+      bound = omega (arith, front-length (map kindOf (commands ms)) (orderOf (firstAnswer (taken ms))) front, number, published-length (lastIn (firstAnswer (taken ms))) (locatorOf (firstAnswer (taken ms))));
       never-over = few;
       fresh = r .fresh ∙ ap (λ (p : Phase). by (isFresh p) (λ m. false) (lastOf (taken ms))) q ∙ none-fresh (lastOf (taken ms));
       running = r .running ∙ ap (λ (p : Phase). by (isRunning p) (λ m. isCommand (said m)) (lastOf (taken ms))) q ∙ none-running (lastOf (taken ms));
@@ -453,8 +511,8 @@ always s cs q i =
     r : Run s (commands (play s cs)) (taken (play s cs)) (final s cs)
     r = runs-on s cs i
 
-    front : Front (map kindOf (commands ms)) (published cryptogram (acceptedIn (taken ms)))
-    front = subst (λ (p : Phase). Front (map kindOf (commands ms)) (rest p (locatorIn (stored s)) (acceptedIn (taken ms)))) q (r .order)
+    front : Front (map kindOf (commands ms)) (orderOf (firstAnswer (taken ms)))
+    front = subst (λ (p : Phase). Front (map kindOf (commands ms)) (rest p (stored s) (firstAnswer (taken ms)))) q (r .order)
 
     number : length (map kindOf (commands ms)) ≡ length (commands ms)
     number = length-map (commands ms) kindOf

@@ -1,7 +1,7 @@
 -- The ways out of each call's step, with what is known on each: a call's step is one of them, and every law on steps goes by these cases.
 -- Assumes nothing.
 use mathlib.Core.Path.{_≡_, refl, sym, ap}
-use mathlib.Core.Bool.{true}
+use mathlib.Core.Bool.{true, false}
 use mathlib.Core.List.{List}
 use mathlib.Core.Option.{Option, some, none}
 use Prim.Native.Nat.{ℕ, _+_, _/_, _≤_}
@@ -17,7 +17,7 @@ use Rattle.locator.specs.Records.{accepts, recordAt}
 use Rattle.locator.specs.Command.{readRecord}
 use Rattle.reading.specs.declared.Awaited.{Awaited}
 use Rattle.reading.specs.Answer as reading
-use Rattle.data_list.specs.Commands.{processingOptions, generateAc}
+use Rattle.data_list.specs.Commands.{processingOptions, generateAc, computeChecksum}
 use Rattle.analysis.specs.declared.choice.Choice.{Choice}
 use Rattle.analysis.specs.Choice.{p1Of}
 use Rattle.analysis.specs.Action.{limitOf, findingsOf}
@@ -25,22 +25,24 @@ use Rattle.analysis.specs.Verification.{methodNumber, notApplicable}
 use Rattle.record.specs.declared.Outcome.{Outcome}
 use Rattle.record.specs.declared.Place.{Place}
 use Rattle.record.specs.declared.Asked.{Asked}
+use Rattle.record.specs.declared.Checksum.{Checksum}
 use Rattle.record.specs.declared.Phase.{Phase}
 use Rattle.record.specs.declared.Session.{Session}
 use Rattle.record.specs.declared.Reply.{Reply}
 use Rattle.record.specs.Numbers.{goesWith}
-use Rattle.basics.specs.Reason.{refusedBytes, refusedPhase, refusedBuffer, refusedObject, refusedAbsent, refusedRanges, reasonNone, reasonMissing, reasonLocator, reasonAboveLimit, reasonDataList, reasonCryptogram, reasonMode}
+use Rattle.basics.specs.Reason.{refusedBytes, refusedPhase, refusedBuffer, refusedObject, refusedAbsent, refusedRanges, reasonNone, reasonNotAllowed, reasonMissing, reasonLocator, reasonAboveLimit, reasonDataList, reasonCryptogram, reasonMode}
 use Rattle.record.specs.declared.End.{End}
 use Rattle.record.specs.Session.{stored, storedSession, endOf}
 use Rattle.store.specs.Held.{byteIn}
-use Rattle.record.specs.Ranges.{emvMode, locatorIn, completed, inRanges}
+use Rattle.record.specs.Ranges.{emvMode, eitherMode, locatorIn, completed, trackCompleted, inRanges}
 use Rattle.record.specs.Clauses.{noResults}
 use Rattle.record.proofs.Reasons.{decided}
 use Rattle.tlv.specs.Primitives.{Object, primitives}
 use Rattle.terminal.specs.Terminal.{Loaded, refusal, loaded, setAll, afterSetting, afterRun, load}
 use Rattle.session.specs.Steps.{Step, withoutCommand, refuses, ended, endBy, fails, commands, withResults, withFindings, leastBuffer, admitted, handOut, endsIn, brokenOff}
 use Rattle.session.specs.Start.{askOptions, startLoaded, startIn, startStep}
-use Rattle.session.specs.Answer.{recordPhase, askFound, storedReason, optionsRead, optionsStep, askCryptogram, askedIn, analysed, recordsRead, nextFound, recordRead, recordFound, recordStep, onlineFor, approvedFor, decision, endFor, cryptogramEnd, cryptogramReply, answerIn, answerStep}
+use Rattle.session.specs.Answer.{recordPhase, askFound, storedReason, optionsRead, optionsStep, askCryptogram, askedIn, analysed, recordsRead, lastRead, nextFound, recordRead, recordFound, recordStep, onlineFor, approvedFor, decision, endFor, cryptogramEnd, cryptogramReply, answerIn, answerStep}
+use Rattle.session.specs.Stripe.{checksumPhase, askChecksum, stripeRead, withDigits, checksumRead, checksumTaken, checksumReply}
 use Rattle.session.proofs.Laws.{read-ind}
 
 -- the session with a store of these bytes
@@ -92,8 +94,8 @@ not-list a b s z = let f = few-reasons a b s in omega arith
 
 -- ---- after the processing options
 
--- a store that has no reason is in EMV mode with an accepted locator; else its reason is one that ends a session
-pub stored-none : (b : List ℕ) → storedReason b ≡ reasonNone → (emvMode b ≡ true) × (accepts (locatorIn b) ≡ true)
+-- a store that has no reason is in one of the modes with an accepted locator; else its reason is one that ends a session
+pub stored-none : (b : List ℕ) → storedReason b ≡ reasonNone → (eitherMode b ≡ true) × (accepts (locatorIn b) ≡ true)
 unfolding storedReason
 stored-none b =
     if-ind P _ _ _ (λ t e. absurd (omega arith))
@@ -101,7 +103,7 @@ stored-none b =
     (λ m. if-ind P _ _ _ (λ a e. absurd (omega arith)) (λ a e. (not-false _ m, not-false _ a))))
   where
     P : ℕ → Type 0
-    P n = n ≡ reasonNone → (emvMode b ≡ true) × (accepts (locatorIn b) ≡ true)
+    P n = n ≡ reasonNone → (eitherMode b ≡ true) × (accepts (locatorIn b) ≡ true)
 
 stored-some : (b : List ℕ) → (storedReason b ≡ reasonNone → ⊥) → Reason (storedReason b)
 unfolding storedReason
@@ -115,7 +117,7 @@ stored-some b =
 
 pub data OptionsWay (t : Session) (buf : List ℕ) : Step → Type 0 where
   failed : (n : ℕ) → Reason n → OptionsWay t buf (fails notApplicable (t .count) (stored t) n buf)
-  first : (r : CardRecord) → emvMode (stored t) ≡ true → accepts (locatorIn (stored t)) ≡ true → recordAt (locatorIn (stored t)) 1 ≡ Found.At r
+  first : (r : CardRecord) → eitherMode (stored t) ≡ true → accepts (locatorIn (stored t)) ≡ true → recordAt (locatorIn (stored t)) 1 ≡ Found.At r
       → OptionsWay t buf (commands (t .count) (stored t) (recordPhase (limitOf (stored t)) 1) (readRecord r) buf)
 
 pub options-way : (t : Session) (buf : List ℕ) → OptionsWay t buf (optionsRead (t .count) (stored t) buf)
@@ -128,12 +130,12 @@ options-way t buf =
     P : Step → Type 0
     P = OptionsWay t buf
 
-    go : emvMode (stored t) ≡ true → accepts (locatorIn (stored t)) ≡ true → (x : Found) → recordAt (locatorIn (stored t)) 1 ≡ x
+    go : eitherMode (stored t) ≡ true → accepts (locatorIn (stored t)) ≡ true → (x : Found) → recordAt (locatorIn (stored t)) 1 ≡ x
         → P (askFound (t .count) (stored t) 1 buf x)
     go m a Found.Nothing e = failed reasonLocator (reason 5 (omega arith) (omega arith))
     go m a (Found.At r) e = first r m a e
 
--- ---- after the last record
+-- ---- after the last record in EMV mode
 
 -- the session with 9F34 and its result bits, and what is asked for with a limit
 abbrev pub analysedSession : Session → Session
@@ -163,19 +165,43 @@ records-way l t buf =
     go f none e = unlisted
     go f (some c) e = asked c f e
 
+-- ---- after the last record in mag-stripe mode
+
+pub data StripeWay (l : ℕ) (t : Session) (buf : List ℕ) : Step → Type 0 where
+  failed : (n : ℕ) → Reason n → StripeWay l t buf (fails notApplicable (t .count) (stored t) n buf)
+  asked : (c : List ℕ) → trackCompleted (stored t) ≡ true → computeChecksum (stored t) ≡ some c
+      → StripeWay l t buf (commands (t .count) (stored t) (checksumPhase l) c buf)
+
+stripe-way : (l : ℕ) (t : Session) (buf : List ℕ) → StripeWay l t buf (stripeRead l (t .count) (stored t) buf)
+unfolding stripeRead askChecksum
+stripe-way l t buf =
+    if-ind P _ _ _ (λ e. failed reasonAboveLimit (reason 6 (omega arith) (omega arith)))
+    (λ e. if-ind P _ _ _ (λ f. failed reasonMissing (reason 4 (omega arith) (omega arith))) (λ f. go (not-false _ f) (computeChecksum (stored t)) refl))
+  where
+    P : Step → Type 0
+    P = StripeWay l t buf
+
+    go : trackCompleted (stored t) ≡ true → (x : Option (List ℕ)) → computeChecksum (stored t) ≡ x
+        → P (handOut notApplicable (t .count) (stored t) (checksumPhase l) buf x)
+    go f none e = failed reasonDataList (reason 7 (omega arith) (omega arith))
+    go f (some c) e = asked c f e
+
 -- ---- after a record
 
 pub data RecordWay (p : Place) (t : Session) (buf : List ℕ) : Step → Type 0 where
   next : (r : CardRecord) → recordAt (locatorIn (stored t)) (p .number + 1) ≡ Found.At r
       → RecordWay p t buf (commands (t .count) (stored t) (recordPhase (p .limit) (p .number + 1)) (readRecord r) buf)
-  last : {st : Step} → recordAt (locatorIn (stored t)) (p .number + 1) ≡ Found.Nothing → RecordsWay (p .limit) t buf st → RecordWay p t buf st
+  last : {st : Step} → recordAt (locatorIn (stored t)) (p .number + 1) ≡ Found.Nothing → emvMode (stored t) ≡ true → RecordsWay (p .limit) t buf st
+      → RecordWay p t buf st
+  striped : {st : Step} → recordAt (locatorIn (stored t)) (p .number + 1) ≡ Found.Nothing → emvMode (stored t) ≡ false → StripeWay (p .limit) t buf st
+      → RecordWay p t buf st
 
 pub record-way : (p : Place) (t : Session) (buf : List ℕ) → RecordWay p t buf (recordRead p (t .count) (stored t) buf)
-unfolding recordRead
+unfolding recordRead lastRead
 record-way p t buf = go (recordAt (locatorIn (stored t)) (p .number + 1)) refl
   where
     go : (x : Found) → recordAt (locatorIn (stored t)) (p .number + 1) ≡ x → RecordWay p t buf (nextFound (p .limit) (t .count) (stored t) (p .number + 1) buf x)
-    go Found.Nothing e = last e (records-way (p .limit) t buf)
+    go Found.Nothing e = if-ind (RecordWay p t buf) _ _ _ (λ m. last e m (records-way (p .limit) t buf)) (λ m. striped e m (stripe-way (p .limit) t buf))
     go (Found.At r) e = next r e
 
 -- ---- after the cryptogram
@@ -218,6 +244,17 @@ cryptogram-way a t =
     go none f = failed reasonCryptogram (reason 8 (omega arith) (omega arith))
     go (some o) f = decides o f
 
+-- ---- after the checksum
+
+pub data ChecksumWay (t : Session) : Reply → Type 0 where
+  failed : ChecksumWay t (ended notApplicable (t .count) (stored t) (endBy reasonMissing))
+  declined : ChecksumWay t (ended notApplicable (t .count) (stored t) (endOf Outcome.Declined reasonNone))
+  online : ChecksumWay t (ended notApplicable (t .count) (withDigits (stored t)) (endOf Outcome.OnlineRequest reasonNone))
+
+checksum-way : (t : Session) → ChecksumWay t (checksumRead (t .count) (stored t))
+unfolding checksumRead
+checksum-way t = if-ind (ChecksumWay t) _ _ _ (λ e. failed) (λ e. if-ind (ChecksumWay t) _ _ _ (λ f. declined) (λ f. online))
+
 -- ---- the method that a session holds
 
 -- its number: not applicable but while the cryptogram is awaited
@@ -226,6 +263,7 @@ heldNumber Phase.Fresh = notApplicable
 heldNumber Phase.Options = notApplicable
 heldNumber (Phase.Record p) = notApplicable
 heldNumber (Phase.Cryptogram a) = methodNumber (a .method)
+heldNumber (Phase.Checksum c) = notApplicable
 heldNumber (Phase.Ended e) = notApplicable
 
 -- ---- the call answer
@@ -238,6 +276,8 @@ pub data AnswerWay (s : Session) (card buf : List ℕ) : Step → Type 0 where
   recorded : {st : Step} (p : Place) (r : CardRecord) → Admitted s (length buf) → s .phase ≡ Phase.Record p → recordAt (locatorIn (stored s)) (p .number) ≡ Found.At r
       → RecordWay p (taken (Awaited.Record (record { number = r .file })) s card) buf st → AnswerWay s card buf st
   cryptogram : {q : Reply} (a : Asked) → Admitted s (length buf) → s .phase ≡ Phase.Cryptogram a → CryptogramWay (methodNumber (a .method)) (taken Awaited.Cryptogram s card) q
+      → AnswerWay s card buf (withoutCommand q buf)
+  checksum : {q : Reply} (k : Checksum) → Admitted s (length buf) → s .phase ≡ Phase.Checksum k → ChecksumWay (taken Awaited.Checksum s card) q
       → AnswerWay s card buf (withoutCommand q buf)
 
 module _ (s : Session) (card buf : List ℕ) (i : Admitted s (length buf)) where
@@ -267,11 +307,24 @@ module _ (s : Session) (card buf : List ℕ) (i : Admitted s (length buf)) where
       (λ z. unread _ _ i (unread-reason Awaited.Cryptogram (stored s) card z) (sym (ap heldNumber q)) (not-list Awaited.Cryptogram (stored s) card))
       (λ z. cryptogram a i q (cryptogram-way a (taken Awaited.Cryptogram s card)))
 
+  -- a track that cannot take the digits leaves the store, as a reading that gives a reason does
+  step-checksum : (k : Checksum) → s .phase ≡ Phase.Checksum k → AnswerWay s card buf (withoutCommand (checksumReply (s .count) (stored s) card) buf)
+  unfolding checksumReply checksumTaken
+  step-checksum k q =
+      reading-ind P (reading.readAnswer Awaited.Checksum (stored s) card) _ _
+      (λ z. unread _ _ i (unread-reason Awaited.Checksum (stored s) card z) (sym (ap heldNumber q)) (not-list Awaited.Checksum (stored s) card))
+      (λ z. if-ind P _ _ _ (λ e. checksum k i q (checksum-way (taken Awaited.Checksum s card)))
+      (λ e. unread _ reasonNotAllowed i (reason 3 (omega arith) (omega arith)) (sym (ap heldNumber q)) (λ y. omega arith)))
+    where
+      P : Reply → Type 0
+      P r = AnswerWay s card buf (withoutCommand r buf)
+
   step-in : (p : Phase) → s .phase ≡ p → AnswerWay s card buf (answerIn p s card buf)
   step-in Phase.Fresh q = refused refusedPhase (omega arith)
   step-in Phase.Options q = step-options q
   step-in (Phase.Record p) q = step-record p q
   step-in (Phase.Cryptogram a) q = step-cryptogram a q
+  step-in (Phase.Checksum k) q = step-checksum k q
   step-in (Phase.Ended e) q = refused refusedPhase (omega arith)
 
 pub answer-way : (s : Session) (card buf : List ℕ) → AnswerWay s card buf (answerStep s card buf)
@@ -329,6 +382,7 @@ start-way s bytes buf = admitted-ind P s buf _ refused (λ i. go i (s .phase) re
     go i Phase.Options q = refused refusedPhase (omega arith)
     go i (Phase.Record p) q = refused refusedPhase (omega arith)
     go i (Phase.Cryptogram a) q = refused refusedPhase (omega arith)
+    go i (Phase.Checksum k) q = refused refusedPhase (omega arith)
     go i (Phase.Ended e) q = refused refusedPhase (omega arith)
 
 -- ---- link failed and stop
@@ -345,4 +399,5 @@ broken-way s n buf = admitted-ind (BrokenWay s n buf) s buf _ refused (λ i. go 
     go i Phase.Options q = broken _ i (sym (ap heldNumber q))
     go i (Phase.Record p) q = broken _ i (sym (ap heldNumber q))
     go i (Phase.Cryptogram a) q = broken _ i (sym (ap heldNumber q))
+    go i (Phase.Checksum k) q = broken _ i (sym (ap heldNumber q))
     go i (Phase.Ended e) q = refused refusedPhase (omega arith)

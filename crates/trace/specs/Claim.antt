@@ -10,7 +10,7 @@ use Rattle.locator.specs.Records.{total}
 use Rattle.record.specs.declared.Phase.{Phase}
 use Rattle.record.specs.declared.Session.{Session}
 use Rattle.trace.specs.Calls.{Made, commands, taken, said, isCommand, isOutcome, lastOf, unanswered}
-use Rattle.trace.specs.Order.{kindOf, cryptogram, acceptedLocator, published}
+use Rattle.trace.specs.Order.{kindOf, lastKind, acceptedLocator, published}
 
 -- ---- what a session says of itself
 
@@ -20,14 +20,16 @@ isFresh Phase.Fresh = true
 isFresh Phase.Options = false
 isFresh (Phase.Record p) = false
 isFresh (Phase.Cryptogram a) = false
+isFresh (Phase.Checksum c) = false
 isFresh (Phase.Ended e) = false
 
--- it waits on an answer: to processing options, to a record command, to the cryptogram
+-- it waits on an answer: to processing options, to a record command, to the cryptogram, to the checksum
 abbrev pub isRunning : Phase → Bool
 isRunning Phase.Fresh = false
 isRunning Phase.Options = true
 isRunning (Phase.Record p) = true
 isRunning (Phase.Cryptogram a) = true
+isRunning (Phase.Checksum c) = true
 isRunning (Phase.Ended e) = false
 
 -- it has an outcome
@@ -36,6 +38,7 @@ isEnded Phase.Fresh = false
 isEnded Phase.Options = false
 isEnded (Phase.Record p) = false
 isEnded (Phase.Cryptogram a) = false
+isEnded (Phase.Checksum c) = false
 isEnded (Phase.Ended e) = true
 
 -- ---- what the last call that was not refused says
@@ -71,7 +74,7 @@ oneIf false = 0
 -- after them, that fresh one where there are none (`final`); trace::most_commands promises it so
 pub record Proper (ms : List Made) (s : Session) : Type 0 where
   -- the N commands handed out are the first N of the published order
-  pub order : map kindOf (commands ms) ≡ take (length (commands ms)) (published cryptogram (acceptedLocator ms))
+  pub order : map kindOf (commands ms) ≡ take (length (commands ms)) (published (lastKind ms) (acceptedLocator ms))
   -- N is the count that the session reports
   pub count : s .count ≡ length (commands ms)
   -- N is at most 1 while no locator is accepted, and at most 2 + R from then on

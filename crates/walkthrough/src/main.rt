@@ -5,6 +5,7 @@ fn main() {
     decisions();
     methods();
     phones();
+    stripes();
     card_reasons();
     later_reasons();
     broken_off();
@@ -16,7 +17,7 @@ fn main() {
 
 // All that a start must bring: a terminal type, and an amount of 12.34 and so many hundreds. The floor
 // limit is 100.00, the transaction limit 200.00, for a phone 500.00; above 10.00 a check of the holder is required.
-fn terminal(kind: u8, hundreds: u8) -> [u8; 116] {
+fn terminal(kind: u8, hundreds: u8) -> [u8; 123] {
     [
         0x9A, 0x03, 0x25, 0x11, 0x15, 0x9C, 0x01, 0x00, 0x9F, 0x02, 0x06, 0x00, 0x00, 0x00, hundreds, 0x12, 0x34, 0x9F,
         0x09, 0x02, 0x00, 0x02, 0x9F, 0x1A, 0x02, 0x00, 0x56, 0x9F, 0x33, 0x03, 0xE0, 0x68, 0xC8, 0x9F, 0x35, 0x01,
@@ -24,14 +25,20 @@ fn terminal(kind: u8, hundreds: u8) -> [u8; 116] {
         0x00, 0x00, 0x00, 0x00, 0xDF, 0x81, 0x21, 0x05, 0x00, 0x00, 0x00, 0x00, 0x00, 0xDF, 0x81, 0x22, 0x05, 0x00,
         0x00, 0x00, 0x00, 0x00, 0xDF, 0x81, 0x23, 0x06, 0x00, 0x00, 0x00, 0x01, 0x00, 0x00, 0xDF, 0x81, 0x24, 0x06,
         0x00, 0x00, 0x00, 0x02, 0x00, 0x00, 0xDF, 0x81, 0x25, 0x06, 0x00, 0x00, 0x00, 0x05, 0x00, 0x00, 0xDF, 0x81, 0x26, 0x06, 0x00, 0x00, 0x00,
-        0x00, 0x10, 0x00,
+        0x00, 0x10, 0x00, 0x9F, 0x6A, 0x04, 0x00, 0x00, 0x34, 0x56,
     ]
 }
 
 // A start of a fresh session, shown.
 fn begin(kind: u8, hundreds: u8) -> Reply {
+    configured(0x20, kind, hundreds)
+}
+
+// The same with another Kernel Configuration.
+fn configured(configuration: u8, kind: u8, hundreds: u8) -> Reply {
     let mut command = [0u8; 261];
-    let bytes = terminal(kind, hundreds);
+    let mut bytes = terminal(kind, hundreds);
+    bytes[48] = configuration;
     let reply = session::start(record::fresh(), &bytes, &mut command);
     show::reply_with_method(reply, &command);
     reply
@@ -140,6 +147,32 @@ fn limited(hundreds: u8, options: &[u8], record: &[u8]) {
     next(read, b"\x80\x0B\x80\x00\x01\x01\x02\x03\x04\x05\x06\x07\x08\x90\x00");
 }
 
+// ---- old magnetic stripe cards
+
+// 82 says that the card has no EMV mode: the checksum follows the record, and the digits go into the track.
+fn stripes() {
+    let record = b"\x70\x24\x9F\x6B\x13\x54\x13\x12\x34\x56\x78\x48\x00\xD2\x51\x21\x01\x00\x00\x00\x00\x00\x00\x0F\x9F\x65\x02\x00\x0E\x9F\x66\x02\x0F\xF0\x9F\x67\x01\x04\x90\x00";
+    let unsound = b"\x70\x24\x9F\x6B\x13\x54\x13\x12\x34\x56\x78\x48\x00\xD2\x51\x21\x01\x00\x00\x00\x00\x00\x00\x0F\x9F\x65\x02\x00\x0E\x9F\x66\x02\x2F\xF0\x9F\x67\x01\x05\x90\x00";
+    let both = b"\x77\x0A\x9F\x36\x02\x00\x2A\x9F\x61\x02\x1F\x35\x90\x00";
+    show::text(b"an old magnetic stripe card\n");
+    striped(record, both);
+    show::text(b"without its code\n");
+    striped(record, b"\x77\x05\x9F\x36\x02\x00\x2A\x90\x00");
+    show::text(b"a track that cannot take the digits\n");
+    striped(unsound, both);
+}
+
+// A purchase with such a card, and the track that it leaves.
+fn striped(record: &[u8], checksum: &[u8]) {
+    let started = begin(0x22, 0);
+    let asked = next(started, b"\x80\x06\x00\x00\x08\x01\x01\x00\x90\x00");
+    let read = next(asked, record);
+    let ended = next(read, checksum);
+    let session = ended.session;
+    let store = session.store;
+    show::object(0x9F6B, store::value(&store.bytes, dictionary::ROW_9F6B));
+}
+
 // ---- reasons
 
 // Reasons 1 to 5 and 11: what the card answered to processing options and to the record.
@@ -156,7 +189,8 @@ fn card_reasons() {
     show::text(b"reason 5\n");
     reads(b"\x80\x06\x00\x80\x00\x01\x01\x00\x90\x00", b"\x90\x00");
     show::text(b"reason 11\n");
-    reads(b"\x80\x06\x00\x00\x08\x01\x01\x00\x90\x00", b"\x90\x00");
+    let off = configured(0xA0, 0x22, 0);
+    next(off, b"\x80\x06\x00\x00\x08\x01\x01\x00\x90\x00");
 }
 
 // Reasons 6 to 8: the limit, the list of the cryptogram, and its type.

@@ -3,6 +3,7 @@
 use crate::damage;
 use crate::objects::{self, TEMPLATES, UNKNOWN};
 use crate::rng::Rng;
+use crate::track;
 use model::dictionary::{Object, Setter};
 use model::locator;
 use model::store::{self, Store};
@@ -16,8 +17,8 @@ const INNER_LEVELS: usize = 3;
 /// An answer to a session with these bytes; with `faults` it mostly breaks a rule.
 pub fn answer(rng: &mut Rng, session: &[u8], faults: bool) -> Vec<u8> {
     let phase = match session.get(1) {
-        Some(&phase @ 1..=3) => phase,
-        _ => rng.within(1..=3) as u8,
+        Some(&phase @ (1..=3 | 5)) => phase,
+        _ => rng.pick(&[1, 2, 3, 5]),
     };
     let detail = session.get(2).copied().unwrap_or(0);
     let empty = [0; model::STORE_SIZE];
@@ -30,6 +31,7 @@ pub fn answer(rng: &mut Rng, session: &[u8], faults: bool) -> Vec<u8> {
     let mut body = match phase {
         1 => options(rng, store, in_objects),
         2 => record(rng, store, u32::from(detail), in_objects),
+        5 => checksum(rng, store, in_objects),
         _ => cryptogram(rng, store, detail, in_objects),
     };
     let mut status = [0x90, 0x00];
@@ -165,13 +167,24 @@ fn record(rng: &mut Rng, store: &Store, k: u32, fault: Option<usize>) -> Vec<u8>
             list.push(encoded);
         }
     };
-    for object in NEEDED {
+    let stripe = in_store(store, Object::InterchangeProfile)
+        .is_some_and(|profile| profile.get(1).is_some_and(|second| second & 0x80 == 0));
+    let needed: &[Object] = if stripe { &track::NEEDED } else { &NEEDED };
+    let stripe_values = track::values(rng, |object| in_store(store, object));
+    for (i, &object) in needed.iter().enumerate() {
         let wanted = if last { rng.percent(97) } else { rng.one_in(3) };
         if wanted && !store::has_value(store, object) {
-            if rng.one_in(12) && object != Object::ExpirationDate {
+            if rng.one_in(12) && object.row().least == 0 {
                 add(rng, object, &[]);
+                if stripe && rng.one_in(4) {
+                    continue;
+                }
             }
-            let value = objects::good_value(rng, object);
+            let value = if stripe {
+                stripe_values[i].clone()
+            } else {
+                objects::good_value(rng, object)
+            };
             add(rng, object, &value);
         }
     }
@@ -185,13 +198,15 @@ fn record(rng: &mut Rng, store: &Store, k: u32, fault: Option<usize>) -> Vec<u8>
             Object::CvmList | Object::ApplicationCurrency => {
                 rng.percent(if last { 75 } else { 30 })
             }
+            Object::Udol if stripe => rng.percent(if last { 50 } else { 20 }),
             _ => rng.one_in(if code { 2 } else { rate }),
         };
-        if wanted && !NEEDED.contains(&object) && !store::has_value(store, object) {
-            if object == Object::Track2 && rng.one_in(3) {
+        if wanted && !needed.contains(&object) && !store::has_value(store, object) {
+            let may_be_empty = matches!(object, Object::Track2 | Object::Udol);
+            if may_be_empty && rng.one_in(3) {
                 add(rng, object, &[]);
             }
-            if object != Object::Track2 || rng.percent(80) {
+            if !may_be_empty || rng.percent(80) {
                 let value = objects::good_value(rng, object);
                 add(rng, object, &value);
             }
@@ -258,6 +273,54 @@ fn cryptogram(rng: &mut Rng, store: &Store, asked: u8, fault: Option<usize>) -> 
         list.push(data);
     }
     if fault == Some(1) {
+        list.remove(rng.below(list.len()));
+    } else if let Some(fault) = fault {
+        fault_in_objects(rng, store, &mut list, 0x77, fault);
+    }
+    objects::template(rng, 0x77, &list)
+}
+
+/// The answer to COMPUTE CRYPTOGRAPHIC CHECKSUM.
+fn checksum(rng: &mut Rng, store: &Store, fault: Option<usize>) -> Vec<u8> {
+    let counter = objects::good_value(rng, Object::TransactionCounter);
+    let code = objects::good_value(rng, Object::Cvc3Track2);
+    if fault == Some(0) {
+        let mut value = [counter, code].concat();
+        let length = rng.pick(&[2, 4, 4, 6, 11, 43]);
+        value.resize(length, 0x40);
+        return objects::object(rng, 0x80, &value);
+    }
+    let mut list = Vec::new();
+    if rng.percent(88) {
+        list.push(objects::object(rng, 0x9F36, &counter));
+    }
+    if rng.percent(85) {
+        list.push(objects::object(rng, 0x9F61, &code));
+    }
+    noise(rng, store, &mut list);
+    if rng.one_in(12) {
+        // An object of the card in a template 70, which is not allowed if the session has it.
+        let object = rng.pick(&[
+            Object::Track2Data,
+            Object::Pcvc3Track2,
+            Object::PunatcTrack2,
+            Object::NatcTrack2,
+            Object::Udol,
+            Object::Pan,
+        ]);
+        let mut value = objects::good_value(rng, object);
+        value.truncate(60);
+        let inner = objects::object(rng, object.row().tag, &value);
+        list.push(objects::template(rng, 0x70, &[inner]));
+    }
+    shuffle(rng, &mut list);
+    if rng.one_in(20) && !list.is_empty() {
+        // In a template 77 of its own.
+        let inner = list.remove(0);
+        let wrapped = objects::template(rng, 0x77, &[inner]);
+        list.push(wrapped);
+    }
+    if fault == Some(1) && !list.is_empty() {
         list.remove(rng.below(list.len()));
     } else if let Some(fault) = fault {
         fault_in_objects(rng, store, &mut list, 0x77, fault);
@@ -386,7 +449,12 @@ fn fault_in_objects(
             // A wrong length or digit in an object that the card may set.
             let setters: &[Setter] = match outer {
                 0x70 => &[Setter::Card70],
-                _ => &[Setter::Card77, Setter::Cryptogram77],
+                _ => &[
+                    Setter::Card77,
+                    Setter::Cryptogram77,
+                    Setter::Checksum77,
+                    Setter::Either77,
+                ],
             };
             let setter = rng.pick(setters);
             let candidates: Vec<Object> = objects::of_setter(setter).collect();

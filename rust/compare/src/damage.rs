@@ -2,6 +2,7 @@
 
 use crate::objects;
 use crate::rng::Rng;
+use crate::track;
 use model::dictionary::{Object, Setter, REQUIRED_AT_START, ROWS};
 use model::{analysis, locator, store, HEAD_SIZE, SESSION_SIZE};
 
@@ -60,7 +61,7 @@ pub fn right_limit(record: &[u8]) -> u64 {
 /// Puts the limit in place that goes with the phase and the store.
 fn put_right_limit(record: &mut [u8]) {
     let limit = match record[1] {
-        2 | 3 => right_limit(record),
+        2 | 3 | 5 => right_limit(record),
         _ => 0,
     };
     record[LIMIT].copy_from_slice(&limit.to_be_bytes());
@@ -103,7 +104,7 @@ pub fn put(record: &mut [u8], object: Object, value: &[u8]) {
 }
 
 /// The number of records of the locator that a session record holds.
-fn records(record: &[u8]) -> Option<u32> {
+pub fn records(record: &[u8]) -> Option<u32> {
     let place = place(Object::FileLocator);
     let length = usize::from(record[place]).checked_sub(1)?;
     locator::records(record.get(place + 1..place + 1 + length)?)
@@ -122,10 +123,14 @@ fn fill_free(rng: &mut Rng, record: &mut [u8]) {
 
 /// Damages a session record, or changes it within its ranges. The slice holds a whole record.
 pub fn record(rng: &mut Rng, record: &mut [u8]) {
+    if record[1] == 5 && rng.one_in(3) {
+        break_checksum(rng, record);
+        return;
+    }
     let object = rng.pick(&Object::ALL);
     let at = place(object);
     let most = object.row().most;
-    match rng.below(22) {
+    match rng.below(25) {
         0 => {
             for _ in 0..rng.within(1..=3) {
                 record[rng.below(SESSION_SIZE)] ^= 1 << rng.below(8);
@@ -136,7 +141,7 @@ pub fn record(rng: &mut Rng, record: &mut [u8]) {
             record[at] = if rng.one_in(2) {
                 rng.byte()
             } else {
-                rng.below(6) as u8
+                rng.below(7) as u8
             };
         }
         2 => record[4] = record[4].wrapping_add(rng.pick(&[1, 2, 127, 128, 255])),
@@ -198,6 +203,12 @@ pub fn record(rng: &mut Rng, record: &mut [u8]) {
                 Object::KernelConfiguration,
                 Object::TransactionLimit,
                 Object::TransactionLimitOnDevice,
+                Object::Cvc3Track2,
+                Object::UnpredictableNumberNumeric,
+                Object::Track2Data,
+                Object::Pcvc3Track2,
+                Object::PunatcTrack2,
+                Object::NatcTrack2,
             ]);
             if rng.one_in(2) {
                 record[place(object)] = rng.below(2) as u8;
@@ -226,14 +237,49 @@ pub fn record(rng: &mut Rng, record: &mut [u8]) {
                 put_right_limit(record);
             }
         }
+        20 | 21 => {
+            // The other mode, or stripe mode on or off.
+            let bit = if rng.one_in(2) {
+                place(Object::InterchangeProfile) + 2
+            } else {
+                place(Object::KernelConfiguration) + 1
+            };
+            record[bit] ^= 0x80;
+        }
+        22 => {
+            // What the digits need, with place for them or not.
+            let values = track::values(rng, |_| None);
+            for (object, value) in track::NEEDED.into_iter().zip(values) {
+                put(record, object, &value);
+            }
+        }
         _ => other_phase(rng, record),
+    }
+}
+
+/// Breaks one of the ranges of a record on the checksum.
+fn break_checksum(rng: &mut Rng, record: &mut [u8]) {
+    match rng.below(10) {
+        0 => record[place(Object::InterchangeProfile) + 2] |= 0x80,
+        1 => record[place(Object::KernelConfiguration) + 1] |= 0x80,
+        2 => record[place(Object::VerificationResults) + 1 + rng.below(5)] ^= 1 << rng.below(8),
+        3 | 4 => record[place(rng.pick(&track::NEEDED))] = 0,
+        5 => record[place(Object::Track2Data)] = 1,
+        6 => record[4] = record[4].wrapping_add(rng.pick(&[1, 255])),
+        7 => record[place(Object::FileLocator) + 1] ^= 1 << rng.below(3),
+        8 => {
+            let object = rng.pick(&[Object::Cvc3Track2, Object::TransactionCounter]);
+            let value = objects::good_value(rng, object);
+            put(record, object, &value);
+        }
+        _ => record[place(Object::UnpredictableNumberNumeric)] = 0,
     }
 }
 
 /// Gives a record another phase, mostly with the numbers that go with it.
 fn other_phase(rng: &mut Rng, record: &mut [u8]) {
     let records = records(record).unwrap_or(1);
-    let phase = rng.below(5) as u8;
+    let phase = rng.below(6) as u8;
     let (detail, reason, count) = match phase {
         0 => (0, 0, 0),
         1 => (0, 0, 1),
@@ -243,6 +289,7 @@ fn other_phase(rng: &mut Rng, record: &mut [u8]) {
             (k as u8, 0, k as u8 + 1)
         }
         3 => (rng.pick(&[0x00, 0x40, 0x80]), 0, records as u8 + 2),
+        5 => (0, 0, records as u8 + 2),
         _ => {
             let outcome = rng.below(5) as u8;
             let reason = match outcome {
@@ -279,7 +326,7 @@ fn ended_head(rng: &mut Rng) -> (u8, u8, u8) {
 
 /// A session record of any phase built from nothing, mostly within its ranges.
 pub fn built_record(rng: &mut Rng) -> Vec<u8> {
-    let phase = rng.below(5);
+    let phase = rng.below(6);
     record_of_phase(rng, phase)
 }
 
@@ -290,7 +337,7 @@ pub fn record_of_phase(rng: &mut Rng, phase: usize) -> Vec<u8> {
     if phase == 0 {
         return bytes;
     }
-    let running = phase < 4;
+    let running = phase != 4;
     for object in Object::ALL {
         let wanted = match object.row().setter {
             _ if REQUIRED_AT_START.contains(&object) => running || rng.one_in(2),
@@ -298,16 +345,19 @@ pub fn record_of_phase(rng: &mut Rng, phase: usize) -> Vec<u8> {
             Setter::Session => rng.one_in(3),
             Setter::Start | Setter::Card70 => rng.one_in(2),
             Setter::Card77 => phase >= 2,
-            Setter::Cryptogram77 => !running && rng.one_in(2),
+            Setter::Cryptogram77 | Setter::Checksum77 | Setter::Either77 => {
+                !running && rng.one_in(2)
+            }
         };
         if wanted {
             let value = objects::good_value(rng, object);
             put(&mut bytes, object, &value);
         }
     }
-    if phase == 1 || phase == 2 {
+    if matches!(phase, 1 | 2 | 5) {
         put(&mut bytes, Object::VerificationResults, &[0; 5]);
     }
+    put_mode(&mut bytes, phase);
     if phase == 3 {
         for object in [
             Object::ExpirationDate,
@@ -316,6 +366,12 @@ pub fn record_of_phase(rng: &mut Rng, phase: usize) -> Vec<u8> {
             Object::CvmResults,
         ] {
             let value = objects::good_value(rng, object);
+            put(&mut bytes, object, &value);
+        }
+    }
+    if phase == 5 {
+        let values = track::values(rng, |_| None);
+        for (object, value) in track::NEEDED.into_iter().zip(values) {
             put(&mut bytes, object, &value);
         }
     }
@@ -330,6 +386,7 @@ pub fn record_of_phase(rng: &mut Rng, phase: usize) -> Vec<u8> {
             (k, 0, k + 1)
         }
         3 => (rng.pick(&[0x00, 0x40, 0x80]), 0, records as u8 + 2),
+        5 => (0, 0, records as u8 + 2),
         _ => ended_head(rng),
     };
     bytes[1..5].copy_from_slice(&[phase as u8, detail, reason, count]);
@@ -339,4 +396,20 @@ pub fn record_of_phase(rng: &mut Rng, phase: usize) -> Vec<u8> {
         put_other_limit(rng, &mut bytes);
     }
     bytes
+}
+
+/// Gives a record the mode that goes with its phase: on GENERATE AC EMV mode, on the checksum stripe mode, on a record
+/// one that is not off.
+fn put_mode(record: &mut [u8], phase: usize) {
+    let profile = place(Object::InterchangeProfile) + 2;
+    let configuration = place(Object::KernelConfiguration) + 1;
+    match phase {
+        2 if record[configuration] & 0x80 != 0 => record[profile] |= 0x80,
+        3 => record[profile] |= 0x80,
+        5 => {
+            record[profile] &= 0x7F;
+            record[configuration] &= 0x7F;
+        }
+        _ => {}
+    }
 }

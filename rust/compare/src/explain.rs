@@ -57,8 +57,12 @@ pub struct Reached {
     out_of_ranges: u64,
     /// Reasons 0 to 11.
     reasons: [u64; 12],
-    /// Sessions without a choice: fresh, waiting on processing options, on a record.
-    no_choice: [u64; 3],
+    /// Sessions without a choice: fresh, waiting on processing options, on a record; ended and waiting on the checksum in stripe mode.
+    no_choice: [u64; 5],
+    /// Sessions that ended in stripe mode, which in EMV mode would be explained, and would be refused.
+    stripe: [u64; 2],
+    /// Sessions that ended with reason 0 and hold no 82: explained, and refused.
+    no_profile: [u64; 2],
     /// Lower cryptograms: AAC on online, AAC on offline, ARQC on offline.
     lower: [u64; 3],
     /// Decided, waiting and ended, by stage and holder; holder 0 is nobody.
@@ -86,7 +90,9 @@ impl Reached {
             all.extend(named.map(|(i, &count)| (format!("{what} {i}"), count)));
         };
         list("reason 1 +", &self.reasons[1..]);
-        list("no choice, phase", &self.no_choice);
+        list("no choice", &self.no_choice);
+        list("stripe mode, else", &self.stripe);
+        list("without 82", &self.no_profile);
         list("lower cryptogram", &self.lower);
         for (ended, stages) in ["waiting", "ended"].iter().zip(&self.decided) {
             let [denial, online_only, default, online] = stages;
@@ -143,8 +149,20 @@ impl Reached {
         let (phase, store) = (record[1], store_of(record));
         match word >> 16 {
             KIND_REASON => self.reasons[(word & 0xFF) as usize] += 1,
-            KIND_NO_CHOICE => self.no_choice[usize::from(phase)] += 1,
+            KIND_NO_CHOICE => {
+                let which = phase - u8::from(phase > 2);
+                self.no_choice[usize::from(which)] += 1;
+                if phase == 4 {
+                    let mut emv = record.to_vec();
+                    emv[place(Object::InterchangeProfile) + 2] |= 0x80;
+                    let refused = model::explain(&emv) >> 16 == KIND_REFUSED;
+                    self.stripe[usize::from(refused)] += 1;
+                }
+            }
             kind => {
+                if phase == 4 && !store::has(store, Object::InterchangeProfile) {
+                    self.no_profile[usize::from(kind == KIND_REFUSED)] += 1;
+                }
                 self.count_lacking(record, kind == KIND_REFUSED);
                 match kind {
                     KIND_REFUSED => {}
@@ -252,6 +270,15 @@ fn record_to_explain(rng: &mut Rng) -> Vec<u8> {
     let ended = rng.one_in(2);
     let mut record = damage::record_of_phase(rng, if ended { 4 } else { 3 });
     put_codes(rng, &mut record, ended);
+    if ended {
+        // Mostly in EMV mode, some without 82.
+        let profile = place(Object::InterchangeProfile);
+        match rng.below(12) {
+            0 => record[profile] = 0,
+            1 => record[profile + 2] &= 0x7F,
+            _ => record[profile + 2] |= 0x80,
+        }
+    }
     if rng.one_in(4) {
         let object = rng.pick(&NEEDED);
         record[place(object)] = 0;

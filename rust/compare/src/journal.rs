@@ -109,6 +109,8 @@ pub struct Reached {
     pub accepted: [u64; 2],
     /// The right record was a command, and an outcome.
     pub right: [u64; 2],
+    /// Accepted up to the checksum's command or its answer, and with an end; the right record was the checksum's command.
+    pub checksum: [u64; 3],
     /// A cut record stands behind an unlike one.
     pub cut_behind: u64,
     /// Journals in one part, in single bytes, in parts that end inside records.
@@ -149,6 +151,7 @@ impl Reached {
         }
         need(&self.accepted, "accepted");
         need(&self.right, "the right record");
+        need(&self.checksum, "the checksum");
         need(&[self.cut_behind], "a cut record behind an unlike one");
         need(&self.parts, "parts");
         need(&[u64::from(self.most == 262)], "262 records");
@@ -177,6 +180,10 @@ impl Reached {
         if which == 0 {
             self.accepted[number % 2] += 1;
             self.most = self.most.max(number);
+            let (records, _) = split(bytes);
+            if let Some(at) = records.iter().position(|record| is_checksum(record)) {
+                self.checksum[usize::from(number > at + 2)] += 1;
+            }
             return;
         }
         let (rest, behind) = split(bytes);
@@ -195,8 +202,14 @@ impl Reached {
         self.cut_behind += u64::from(followed);
         if let Some(record) = right {
             self.right[usize::from(record[0] == 6)] += 1;
+            self.checksum[2] += u64::from(is_checksum(record));
         }
     }
+}
+
+/// Whether a whole record is of the checksum's command.
+fn is_checksum(record: &[u8]) -> bool {
+    record[0] == 5 && record[3..5] == [0x80, 0x2A]
 }
 
 /// The whole records at the front of some bytes, and what stands behind them.

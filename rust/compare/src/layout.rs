@@ -394,8 +394,9 @@ impl Draft {
     fn fill(&mut self, rng: &mut Rng, record: u8, target: usize) {
         self.pieces.retain(|piece| piece.tag != 0x8C);
         if self.content(record) + 2 > target {
-            // The list for cardholder verification may be as long.
-            self.pieces.retain(|piece| piece.tag != 0x8E);
+            // The list for cardholder verification and that for the checksum may be as long.
+            self.pieces
+                .retain(|piece| !matches!(piece.tag, 0x8E | 0x9F69));
         }
         if self.content(record) == 0 {
             self.pieces.retain(|piece| piece.tag != 0x57);
@@ -464,7 +465,12 @@ impl Draft {
             }
             Damage::TagOf77 | Damage::TagOfTerminal | Damage::TagOfSession => {
                 let setters: &[Setter] = match damage {
-                    Damage::TagOf77 => &[Setter::Card77, Setter::Cryptogram77],
+                    Damage::TagOf77 => &[
+                        Setter::Card77,
+                        Setter::Cryptogram77,
+                        Setter::Checksum77,
+                        Setter::Either77,
+                    ],
                     Damage::TagOfTerminal => &[Setter::Start],
                     _ => &[Setter::Session],
                 };
@@ -506,7 +512,13 @@ impl Draft {
                 self.double(rng, object, values);
             }
             Damage::DoubledEmpty => {
-                let object = rng.pick(&[Object::Track2, Object::Pan, Object::Cdol1]);
+                let object = rng.pick(&[
+                    Object::Track2,
+                    Object::Pan,
+                    Object::Cdol1,
+                    Object::Udol,
+                    Object::Track2Data,
+                ]);
                 let values = rng.pick(&[[&[][..], &[0x12]], [&[0x12], &[]], [&[], &[]]]);
                 self.double(rng, object, values.map(<[u8]>::to_vec));
             }

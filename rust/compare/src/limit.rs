@@ -14,8 +14,8 @@ pub struct Reached {
     amounts: [[u64; 3]; 2],
     /// Amounts that the other limit would have let pass, or not: of other cards, of phones.
     other_limit: [u64; 2],
-    /// Records refused for their limit alone, by phase 0 to 4.
-    refused: [u64; 5],
+    /// Records refused for their limit alone, by phase 0 to 5.
+    refused: [u64; 6],
 }
 
 impl Reached {
@@ -75,12 +75,12 @@ impl Reached {
 
     /// Counts a record that was refused with 25, if another limit would have kept it in its ranges.
     pub fn count_refused(&mut self, session: &[u8]) {
-        if session.len() < SESSION_SIZE || session[1] > 4 {
+        if session.len() < SESSION_SIZE || session[1] > 5 {
             return;
         }
         let mut right = session[..SESSION_SIZE].to_vec();
         let limit = match session[1] {
-            2 | 3 => damage::right_limit(&right),
+            2 | 3 | 5 => damage::right_limit(&right),
             _ => 0,
         };
         right[LIMIT].copy_from_slice(&limit.to_be_bytes());

@@ -1,11 +1,12 @@
 //! Values, encoded objects and data object lists.
 
 use crate::rng::Rng;
+use crate::track;
 use model::dictionary::{Form, Object, Setter, ROWS};
 
 /// Primitive tags that the dictionary does not know, private ones among them.
 pub const UNKNOWN: [u32; 20] = [
-    0x50, 0x4F, 0x81, 0x83, 0x8D, 0x9B, 0x01, 0x5F20, 0x5F50, 0x9F00, 0x9F4E, 0x9F6A, 0x9F7F, 0xC1,
+    0x50, 0x4F, 0x81, 0x83, 0x8D, 0x9B, 0x01, 0x5F20, 0x5F50, 0x9F00, 0x9F4E, 0x9F60, 0x9F7F, 0xC1,
     0xDF01, 0xDF8119, 0xDF8127, 0xDF8220, 0x1F05, 0x9F8102,
 ];
 
@@ -303,7 +304,7 @@ pub fn good_value(rng: &mut Rng, object: Object) -> Vec<u8> {
         | Object::TerminalActionDenial
         | Object::TerminalActionOnline => action_code(rng),
         Object::KernelConfiguration if special => {
-            vec![rng.pick(&[0x20, 0x20, 0xFF, 0xDF, 0x00])]
+            vec![rng.pick(&[0x20, 0x20, 0x7F, 0x5F, 0x00, 0xA0, 0xDF])]
         }
         Object::InterchangeProfile => {
             let mut first = rng.byte();
@@ -316,15 +317,15 @@ pub fn good_value(rng: &mut Rng, object: Object) -> Vec<u8> {
             }
             vec![
                 first,
-                if rng.one_in(20) {
-                    rng.byte()
+                if rng.one_in(6) {
+                    rng.byte() & 0x7F
                 } else {
                     rng.byte() | 0x80
                 },
             ]
         }
         Object::FileLocator => locator(rng),
-        Object::Cdol1 => data_list(rng, 250, 255),
+        Object::Cdol1 | Object::Udol => data_list(rng, 250, 255),
         Object::Pdol => data_list(rng, 240, 252),
         Object::Pan => {
             let length = if rng.one_in(12) {
@@ -339,6 +340,13 @@ pub fn good_value(rng: &mut Rng, object: Object) -> Vec<u8> {
                 rng.pick(&[0x00, 0x40, 0x80, 0xC0])
                     | if rng.one_in(3) { rng.byte() & 0x3F } else { 0 },
             ]
+        }
+        Object::Track2Data => track::track(rng),
+        Object::Pcvc3Track2 | Object::PunatcTrack2 => track::mask(rng, 13),
+        Object::NatcTrack2 if special => vec![rng.below(9) as u8],
+        Object::Cvc3Track2 | Object::TransactionCounter if special => {
+            let number = rng.pick(&[0u16, 7, 9, 10, 42, 100, 999, 9999, 10_000, 0x1F35, 0xFFFF]);
+            number.to_be_bytes().to_vec()
         }
         _ => {
             let length = rng.within(usize::from(row.least)..=usize::from(row.most));

@@ -20,7 +20,7 @@ pub struct InReadings {
     /// Well-formed answers by the level of a padded template, 1 to 4, and by the padding's place: before, between, behind, alone.
     pub places: [[u64; 4]; 4],
     /// Padded answers that were accepted, by answer.
-    pub accepted: [u64; 3],
+    pub accepted: [u64; 4],
     /// Padded answers with reason 3.
     pub not_allowed: u64,
     /// Padded answers of another outer tag.
@@ -64,7 +64,12 @@ impl InReadings {
         };
         if !tag.is_template() {
             let shorter = value.strip_suffix(&[0x00]).map_or(0, <[u8]>::len);
-            let whole = [shorter >= 6 && shorter % 4 == 2, false, shorter == 43];
+            let whole = [
+                shorter >= 6 && shorter % 4 == 2,
+                false,
+                shorter == 43,
+                false,
+            ];
             let refused = tag.number == 0x80 && reason == 2;
             self.in_format_1 += u64::from(refused && whole[answer]);
         } else if count > 0 {

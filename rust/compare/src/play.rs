@@ -94,7 +94,7 @@ impl Play {
                 let faults = self.rng.one_in(self.profile.start);
                 Some(self.start(faults))
             }
-            phase @ 1..=3
+            phase @ (1..=3 | 5)
                 if self.rng.one_in(self.profile.give_up) || phase == 3 && self.rng.one_in(25) =>
             {
                 let buffer = self.buffer();
@@ -104,10 +104,10 @@ impl Play {
                     Step::Stop { buffer }
                 })
             }
-            1..=3 => {
-                // More often on GENERATE AC, which each method is to see.
-                let on_cryptogram = session[1] == 3 && self.rng.one_in(6);
-                let faults = on_cryptogram || self.rng.one_in(self.profile.answer);
+            phase @ (1..=3 | 5) => {
+                // More often on GENERATE AC, which each method is to see, and on the checksum.
+                let on_last = matches!(phase, 3 | 5) && self.rng.one_in(6);
+                let faults = on_last || self.rng.one_in(self.profile.answer);
                 Some(self.answer(session, faults))
             }
             _ => self.after_end(session),
@@ -180,7 +180,7 @@ impl Play {
 
     /// Any call, in order or not. On a running session it is mostly a start, which is refused.
     fn any_call(&mut self, session: &[u8]) -> Step {
-        let running = matches!(session.get(1), Some(1..=3));
+        let running = matches!(session.get(1), Some(1..=3 | 5));
         match self.rng.below(if running { 20 } else { 4 }) {
             0 => Step::LinkFailed {
                 buffer: self.buffer(),

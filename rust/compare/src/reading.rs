@@ -14,7 +14,15 @@ use model::{tlv, HEAD_SIZE, STORE_SIZE};
 use std::fmt::Write as _;
 
 /// The answers by the library's numbers.
-const ANSWERS: [AnswerTo; 3] = [AnswerTo::Options, AnswerTo::Record, AnswerTo::Cryptogram];
+const ANSWERS: [AnswerTo; 4] = [
+    AnswerTo::Options,
+    AnswerTo::Record,
+    AnswerTo::Cryptogram,
+    AnswerTo::Checksum,
+];
+
+/// The phases in which they are awaited.
+const PHASES: [u8; 4] = [1, 2, 3, 5];
 
 /// The side that is compared with the model: the library's word of one reading.
 #[cfg(feature = "library")]
@@ -38,16 +46,16 @@ const NOT_READ: u32 = 0xFFFF_FFFF;
 pub struct Reached {
     /// Readings made.
     pub readings: u64,
-    /// By answer (options, record, cryptogram) and reason, 0 to 3.
-    pub reasons: [[u64; 4]; 3],
+    /// By answer (options, record, cryptogram, checksum) and reason, 0 to 3.
+    pub reasons: [[u64; 4]; 4],
     /// Accepted under tag 80, by answer.
-    pub format_1: [u64; 3],
+    pub format_1: [u64; 4],
     /// Reason 2 under tag 80, counted as one object, by answer.
-    pub format_1_refused: [u64; 3],
+    pub format_1_refused: [u64; 4],
     /// A template of another tag than the answer's, counted as its whole tree of more than one object, by answer.
-    pub other_template: [u64; 3],
+    pub other_template: [u64; 4],
     /// A primitive object of another tag than 80, by answer.
-    pub other_primitive: [u64; 3],
+    pub other_primitive: [u64; 4],
     /// Accepted or not allowed trees by their depth, 1 to 4.
     pub depths: [u64; 4],
     /// Trees of five levels, which are malformed.
@@ -67,13 +75,13 @@ impl Reached {
     pub fn missing(&self) -> Vec<String> {
         let mut missing = Vec::new();
         let mut need = |counts: &[u64], what: &str| missing.extend(never(counts, what));
-        for (answer, reasons) in ["options", "record", "cryptogram"]
+        for (answer, reasons) in ["options", "record", "cryptogram", "checksum"]
             .iter()
             .zip(&self.reasons)
         {
             need(reasons, &format!("{answer} with reason"));
         }
-        let [options, _, cryptogram] = self.format_1;
+        let [options, _, cryptogram, _] = self.format_1;
         need(&[options, cryptogram], "accepted under 80");
         need(&self.format_1_refused, "refused under 80");
         need(&self.other_template, "another template");
@@ -142,12 +150,12 @@ struct Reading {
 impl Reading {
     /// Draws a reading, mostly of the answer that is awaited.
     fn draw(rng: &mut Rng) -> Reading {
-        let awaited = rng.below(3) as u32;
+        let awaited = rng.below(4) as u32;
         let mut session = damage::built_record(rng);
         session[1] = if rng.one_in(5) {
-            rng.within(1..=3) as u8
+            rng.pick(&PHASES)
         } else {
-            awaited as u8 + 1
+            PHASES[awaited as usize]
         };
         session[2] = 1;
         if rng.one_in(3) {

@@ -5,8 +5,10 @@ use crate::padding;
 use crate::play::Play;
 use crate::side::Side;
 use crate::step::{Hex, Step};
+use crate::stripe;
 use crate::verification::Reached;
 use model::dictionary::{Object, ROWS};
+use model::store::Store;
 use model::{HEAD_SIZE, SESSION_SIZE};
 use std::fmt::Write as _;
 use std::panic::{self, AssertUnwindSafe};
@@ -22,6 +24,8 @@ pub struct Coverage {
     pub calls: u64,
     /// Sessions that reached GENERATE AC.
     pub reached_cryptogram: u64,
+    /// Checksum commands.
+    pub checksums: u64,
     /// Outcomes 0 to 4.
     pub outcomes: [u64; 5],
     /// Reasons 0 to 11.
@@ -44,10 +48,12 @@ pub struct Coverage {
     pub verification: Reached,
     /// Which limits decided, and which were refused.
     pub limit: limit::Reached,
-    /// Padded answers that were taken with reason 0, 3 or a later one, or gave a command: to processing options, a record, GENERATE AC.
-    pub padded_answers: [u64; 3],
-    /// Refusals 20 because of 00 between start objects; reasons 7 because of 00 in 9F38, and in 8C.
-    pub padding_refused: [u64; 3],
+    /// What cards without EMV mode reached.
+    pub stripe: stripe::Reached,
+    /// Padded answers that were taken with reason 0, 3 or a later one, or gave a command, in the order of `AWAITED`.
+    pub padded_answers: [u64; 4],
+    /// Refusals 20 because of 00 between start objects; reasons 7 because of 00 in 9F38, in 8C, and in 9F69.
+    pub padding_refused: [u64; 4],
     /// Explanations of sessions that calls made, by the kinds of `EXPLANATIONS`.
     pub explanations: [u64; 5],
     /// Sessions that ended with reason 0 and an action code that came with the answer to GENERATE AC: explained, and not.
@@ -74,6 +80,7 @@ impl Default for Coverage {
             sessions: 0,
             calls: 0,
             reached_cryptogram: 0,
+            checksums: 0,
             outcomes: [0; 5],
             reasons: [0; 12],
             refusals: [[0; 6]; 4],
@@ -85,8 +92,9 @@ impl Default for Coverage {
             longest: 0,
             verification: Reached::default(),
             limit: limit::Reached::default(),
-            padded_answers: [0; 3],
-            padding_refused: [0; 3],
+            stripe: stripe::Reached::default(),
+            padded_answers: [0; 4],
+            padding_refused: [0; 4],
             explanations: [0; 5],
             late_codes: [0; 2],
         }
@@ -102,6 +110,7 @@ impl Coverage {
         self.sessions += other.sessions;
         self.calls += other.calls;
         self.reached_cryptogram += other.reached_cryptogram;
+        self.checksums += other.checksums;
         self.refused_open += other.refused_open;
         self.longest += other.longest;
         all(&mut self.outcomes, &other.outcomes);
@@ -120,6 +129,7 @@ impl Coverage {
         all(&mut self.late_codes, &other.late_codes);
         self.verification.add(&other.verification);
         self.limit.add(&other.limit);
+        self.stripe.add(&other.stripe);
     }
 
     /// What should occur and never did.
@@ -162,7 +172,7 @@ impl Coverage {
         for (what, &count) in AWAITED.iter().zip(&self.padded_answers) {
             need(count, format!("padding in the answer to {what}"));
         }
-        for (what, &count) in ["start bytes", "9F38", "8C"]
+        for (what, &count) in ["start bytes", "9F38", "8C", "9F69"]
             .iter()
             .zip(&self.padding_refused)
         {
@@ -175,6 +185,7 @@ impl Coverage {
         need(self.late_codes[1], "unexplained for a late code".into());
         missing.extend(self.verification.missing());
         missing.extend(self.limit.missing());
+        missing.extend(self.stripe.missing());
         missing
     }
 
@@ -184,8 +195,8 @@ impl Coverage {
         let part = 100.0 * self.reached_cryptogram as f64 / self.sessions.max(1) as f64;
         let _ = writeln!(
             out,
-            "sessions {}  calls {}  reached GENERATE AC {} ({part:.0} %)  of 130 commands {}",
-            self.sessions, self.calls, self.reached_cryptogram, self.longest
+            "sessions {}  calls {}  reached GENERATE AC {} ({part:.0} %)  checksums {}  of 130 commands {}",
+            self.sessions, self.calls, self.reached_cryptogram, self.checksums, self.longest
         );
         let _ = writeln!(out, "outcomes 0-4: {:?}", self.outcomes);
         let _ = writeln!(out, "reasons 0-11: {:?}", self.reasons);
@@ -208,7 +219,7 @@ impl Coverage {
         let _ = writeln!(out, "objects held at the end: {}", held.join(", "));
         let _ = writeln!(
             out,
-            "padded answers: {:?}  00 in start bytes, 9F38, 8C: {:?}",
+            "padded answers: {:?}  00 in start bytes, 9F38, 8C, 9F69: {:?}",
             self.padded_answers, self.padding_refused
         );
         for (what, count) in EXPLANATIONS.iter().zip(&self.explanations) {
@@ -220,6 +231,7 @@ impl Coverage {
             self.late_codes
         );
         out += &self.limit.report();
+        out += &self.stripe.report();
         out += &self.verification.report();
         out
     }
@@ -233,16 +245,23 @@ impl Coverage {
             }
             Step::Answer { card, .. } if kind == 0 || kind == 1 && !matches!(number, 1 | 2) => {
                 let padded = padding::is_padded(card);
-                self.padded_answers[usize::from(phase) - 1] += u64::from(padded);
+                let awaited = if phase == 5 {
+                    3
+                } else {
+                    usize::from(phase) - 1
+                };
+                self.padded_answers[awaited] += u64::from(padded);
             }
             _ => {}
         }
         if (kind, number) == (1, 7) {
-            let store = session[HEAD_SIZE..].first_chunk().expect("a whole record");
-            let pdol = padding::breaks_list(store, Object::Pdol);
-            let cdol1 = padding::breaks_list(store, Object::Cdol1);
-            self.padding_refused[1] += u64::from(phase == 0 && pdol);
-            self.padding_refused[2] += u64::from(phase == 2 && cdol1);
+            let store = store_of(session);
+            let (which, list) = match phase {
+                0 => (1, Object::Pdol),
+                _ if stripe::without_emv_mode(store) => (3, Object::Udol),
+                _ => (2, Object::Cdol1),
+            };
+            self.padding_refused[which] += u64::from(padding::breaks_list(store, list));
         }
     }
 
@@ -259,6 +278,7 @@ impl Coverage {
                     *count += u64::from(bits[*byte] & bit != 0);
                 }
             }
+            0 if command.starts_with(&[0x80, 0x2A]) && session[1] == 5 => self.checksums += 1,
             1 => {
                 self.outcomes[usize::from(high)] += 1;
                 self.reasons[usize::from(low)] += 1;
@@ -279,8 +299,13 @@ impl Coverage {
     }
 }
 
-/// The commands whose answers are awaited, by phase from 1 on.
-const AWAITED: [&str; 3] = ["processing options", "a record", "GENERATE AC"];
+/// The commands whose answers are awaited, in phases 1, 2, 3 and 5.
+const AWAITED: [&str; 4] = [
+    "processing options",
+    "a record",
+    "GENERATE AC",
+    "the checksum",
+];
 
 /// The kinds of explanations, from 2 on.
 const EXPLANATIONS: [&str; 5] = ["none", "reason", "no choice", "lower cryptogram", "stage"];
@@ -359,33 +384,30 @@ impl<A: Side, B: Side> Pair<'_, A, B> {
         coverage.count(call, word, &self.session, &self.buffer, asked);
         let phase = self.before.get(1).copied().unwrap_or_default();
         coverage.count_padding(step, phase, word, &self.session);
-        self.count_last_record(call, word, coverage);
+        if let (Step::Answer { card, .. }, 0 | 1) = (step, kind_of(word)) {
+            self.count_answer(card, word, coverage);
+        }
         if word == 0x0002_0000 + 25 {
             coverage.limit.count_refused(&self.session);
+            coverage.stripe.count_refused(&self.session);
         }
         Ok(())
     }
 
-    /// Counts what the answer to the last record decided.
-    fn count_last_record(&self, call: usize, word: u32, coverage: &mut Coverage) {
-        let chosen = self.method_was_chosen(call, word);
-        let above_limit = kind_of(word) == 1 && word & 0xFF == 6;
-        if chosen || above_limit {
-            let store = self.session[HEAD_SIZE..].first_chunk();
-            let store = store.expect("a whole record");
-            coverage.limit.count_decision(store);
-            if chosen {
-                coverage.verification.count_choice(store);
+    /// Counts what an answer that was not refused decided.
+    fn count_answer(&self, card: &[u8], word: u32, coverage: &mut Coverage) {
+        let [_, kind, outcome, reason] = word.to_be_bytes();
+        let ended_with = (kind == 1).then_some(reason);
+        let store = store_of(&self.session);
+        match self.before[1] {
+            1 => coverage.stripe.count_mode(store, ended_with),
+            2 if self.session[1] != 2 => count_last_record(store, ended_with, coverage),
+            5 => {
+                let before = store_of(&self.before);
+                coverage.stripe.count_answer(before, card, outcome, reason);
             }
+            _ => {}
         }
-    }
-
-    /// Whether a call chose a method: the answer to the last record was taken, and gave GENERATE AC or reason 7.
-    fn method_was_chosen(&self, call: usize, word: u32) -> bool {
-        let gave_outcome_of_list = kind_of(word) == 1 && word & 0xFF == 7;
-        call == 1
-            && self.before.get(1) == Some(&2)
-            && (kind_of(word) == 0 && self.session[1] == 3 || gave_outcome_of_list)
     }
 
     fn open(&mut self, coverage: &mut Coverage) -> Result<(), String> {
@@ -467,6 +489,29 @@ impl<A: Side, B: Side> Pair<'_, A, B> {
             &self.before[changed..],
         )
     }
+}
+
+/// Counts what the answer to the last record decided: a command, or the reason.
+fn count_last_record(store: &Store, reason: Option<u8>, coverage: &mut Coverage) {
+    if !matches!(reason, None | Some(4 | 6 | 7)) {
+        return;
+    }
+    let stripe_mode = stripe::without_emv_mode(store);
+    if stripe_mode {
+        coverage.stripe.count_last_record(store, reason);
+    }
+    if reason != Some(4) {
+        coverage.limit.count_decision(store);
+        if reason != Some(6) && !stripe_mode {
+            // A method was chosen.
+            coverage.verification.count_choice(store);
+        }
+    }
+}
+
+/// The store of a whole record.
+fn store_of(record: &[u8]) -> &Store {
+    record[HEAD_SIZE..].first_chunk().expect("a whole record")
 }
 
 /// The kind of a word: 0 a command, 1 an outcome, 2 a refusal.

@@ -15,9 +15,9 @@ const CAPABILITIES: [u8; 5] = [0x80, 0x40, 0x20, 0x10, 0x08];
 /// The methods by number.
 const METHODS: [u8; 6] = [0, 1, 2, 3, 4, NOT_APPLICABLE];
 
-/// Reasons that an end after the choice has, and one before it.
+/// Reasons that an end after the choice has, and one before it or in stripe mode.
 const LATER_REASONS: [usize; 9] = [0, 1, 2, 3, 4, 7, 8, 9, 10];
-const EARLY_REASONS: [usize; 10] = [1, 2, 3, 4, 5, 6, 7, 9, 10, 11];
+const EARLY_REASONS: [usize; 11] = [0, 1, 2, 3, 4, 5, 6, 7, 9, 10, 11];
 
 /// How often each branch was reached.
 #[derive(Clone, Debug, Default, PartialEq, Eq)]

@@ -33,7 +33,9 @@ fn library_equals_model() {
     println!("{}", coverage.report());
     let missing = coverage.missing();
     assert!(missing.is_empty(), "never occurred: {missing:?}");
-    assert!(coverage.reached_cryptogram * 3 > coverage.sessions);
+    let reached_last = coverage.reached_cryptogram + coverage.checksums;
+    assert!(reached_last * 3 > coverage.sessions);
+    assert!(coverage.checksums * 30 > coverage.sessions);
 }
 
 #[test]

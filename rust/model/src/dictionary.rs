@@ -1,7 +1,7 @@
-//! The table of known tags (document 01, "Dictionary"; document 02, Items 5 and 8).
+//! The table of known tags (document 01, "Dictionary"; document 02, Items 5, 8 and 9).
 
 /// Bytes of the store: one place for each tag, with room for its greatest length.
-pub const STORE_SIZE: usize = 1217;
+pub const STORE_SIZE: usize = 1504;
 
 /// Form of a value.
 #[derive(Clone, Copy, Debug, PartialEq, Eq)]
@@ -49,6 +49,10 @@ pub enum Setter {
     Card77,
     /// The card, in template 77 of the answer to GENERATE AC only.
     Cryptogram77,
+    /// The card, in template 77 of the answer to COMPUTE CRYPTOGRAPHIC CHECKSUM only.
+    Checksum77,
+    /// The card, in template 77 of the answers to these two commands only.
+    Either77,
     /// The session itself.
     Session,
 }
@@ -115,48 +119,55 @@ macro_rules! dictionary {
 }
 
 dictionary! {
-    Track2                    0x57     0  19 Binary            Card70,
-    Pan                       0x5A     0  10 CompressedNumeric Card70,
-    InterchangeProfile        0x82     2   2 Binary            Card77,
-    Cdol1                     0x8C     0 250 Binary            Card70,
-    CvmList                   0x8E    10 250 Binary            Card70,
-    FileLocator               0x94     4 248 Binary            Card77,
-    VerificationResults       0x95     5   5 Binary            Session,
-    TransactionDate           0x9A     3   3 Numeric           Start,
-    TransactionType           0x9C     1   1 Numeric           Start,
-    ExpirationDate            0x5F24   3   3 Numeric           Card70,
-    EffectiveDate             0x5F25   3   3 Numeric           Card70,
-    IssuerCountry             0x5F28   2   2 Numeric           Card70,
-    TransactionCurrency       0x5F2A   2   2 Numeric           Start,
-    PanSequenceNumber         0x5F34   1   1 Numeric           Card70,
-    AmountAuthorised          0x9F02   6   6 Numeric           Start,
-    AmountOther               0x9F03   6   6 Numeric           Start,
-    UsageControl              0x9F07   2   2 Binary            Card70,
-    VersionCard               0x9F08   2   2 Binary            Card70,
-    VersionReader             0x9F09   2   2 Binary            Start,
-    IssuerActionDefault       0x9F0D   5   5 Binary            Card70,
-    IssuerActionDenial        0x9F0E   5   5 Binary            Card70,
-    IssuerActionOnline        0x9F0F   5   5 Binary            Card70,
-    IssuerApplicationData     0x9F10   0  32 Binary            Cryptogram77,
-    TerminalCountry           0x9F1A   2   2 Numeric           Start,
-    Cryptogram                0x9F26   8   8 Binary            Cryptogram77,
-    CryptogramInformation     0x9F27   1   1 Binary            Cryptogram77,
-    TerminalCapabilities      0x9F33   3   3 Binary            Start,
-    CvmResults                0x9F34   3   3 Binary            Session,
-    TerminalType              0x9F35   1   1 Numeric           Start,
-    TransactionCounter        0x9F36   2   2 Binary            Cryptogram77,
-    UnpredictableNumber       0x9F37   4   4 Binary            Start,
-    Pdol                      0x9F38   0 240 Binary            Start,
-    AdditionalCapabilities    0x9F40   5   5 Binary            Start,
-    ApplicationCurrency       0x9F42   2   2 Numeric           Card70,
-    KernelConfiguration       0xDF811B 1   1 Binary            Start,
-    TerminalActionDefault     0xDF8120 5   5 Binary            Start,
-    TerminalActionDenial      0xDF8121 5   5 Binary            Start,
-    TerminalActionOnline      0xDF8122 5   5 Binary            Start,
-    FloorLimit                0xDF8123 6   6 Numeric           Start,
-    TransactionLimit          0xDF8124 6   6 Numeric           Start,
-    TransactionLimitOnDevice  0xDF8125 6   6 Numeric           Start,
-    CvmRequiredLimit          0xDF8126 6   6 Numeric           Start,
+    Track2                     0x57     0  19 Binary            Card70,
+    Pan                        0x5A     0  10 CompressedNumeric Card70,
+    InterchangeProfile         0x82     2   2 Binary            Card77,
+    Cdol1                      0x8C     0 250 Binary            Card70,
+    CvmList                    0x8E    10 250 Binary            Card70,
+    FileLocator                0x94     4 248 Binary            Card77,
+    VerificationResults        0x95     5   5 Binary            Session,
+    TransactionDate            0x9A     3   3 Numeric           Start,
+    TransactionType            0x9C     1   1 Numeric           Start,
+    ExpirationDate             0x5F24   3   3 Numeric           Card70,
+    EffectiveDate              0x5F25   3   3 Numeric           Card70,
+    IssuerCountry              0x5F28   2   2 Numeric           Card70,
+    TransactionCurrency        0x5F2A   2   2 Numeric           Start,
+    PanSequenceNumber          0x5F34   1   1 Numeric           Card70,
+    AmountAuthorised           0x9F02   6   6 Numeric           Start,
+    AmountOther                0x9F03   6   6 Numeric           Start,
+    UsageControl               0x9F07   2   2 Binary            Card70,
+    VersionCard                0x9F08   2   2 Binary            Card70,
+    VersionReader              0x9F09   2   2 Binary            Start,
+    IssuerActionDefault        0x9F0D   5   5 Binary            Card70,
+    IssuerActionDenial         0x9F0E   5   5 Binary            Card70,
+    IssuerActionOnline         0x9F0F   5   5 Binary            Card70,
+    IssuerApplicationData      0x9F10   0  32 Binary            Cryptogram77,
+    TerminalCountry            0x9F1A   2   2 Numeric           Start,
+    Cryptogram                 0x9F26   8   8 Binary            Cryptogram77,
+    CryptogramInformation      0x9F27   1   1 Binary            Cryptogram77,
+    TerminalCapabilities       0x9F33   3   3 Binary            Start,
+    CvmResults                 0x9F34   3   3 Binary            Session,
+    TerminalType               0x9F35   1   1 Numeric           Start,
+    TransactionCounter         0x9F36   2   2 Binary            Either77,
+    UnpredictableNumber        0x9F37   4   4 Binary            Start,
+    Pdol                       0x9F38   0 240 Binary            Start,
+    AdditionalCapabilities     0x9F40   5   5 Binary            Start,
+    ApplicationCurrency        0x9F42   2   2 Numeric           Card70,
+    Cvc3Track2                 0x9F61   2   2 Binary            Checksum77,
+    Pcvc3Track2                0x9F65   2   2 Binary            Card70,
+    PunatcTrack2               0x9F66   2   2 Binary            Card70,
+    NatcTrack2                 0x9F67   1   1 Binary            Card70,
+    Udol                       0x9F69   0 250 Binary            Card70,
+    UnpredictableNumberNumeric 0x9F6A   4   4 Numeric           Start,
+    Track2Data                 0x9F6B   0  19 Binary            Card70,
+    KernelConfiguration        0xDF811B 1   1 Binary            Start,
+    TerminalActionDefault      0xDF8120 5   5 Binary            Start,
+    TerminalActionDenial       0xDF8121 5   5 Binary            Start,
+    TerminalActionOnline       0xDF8122 5   5 Binary            Start,
+    FloorLimit                 0xDF8123 6   6 Numeric           Start,
+    TransactionLimit           0xDF8124 6   6 Numeric           Start,
+    TransactionLimitOnDevice   0xDF8125 6   6 Numeric           Start,
+    CvmRequiredLimit           0xDF8126 6   6 Numeric           Start,
 }
 
 /// Gives each row its place: a length byte and room for the greatest length.
@@ -214,7 +225,7 @@ pub fn search(tags: &[u32], tag: u32) -> Searched {
 }
 
 /// The mandatory objects of a start.
-pub const REQUIRED_AT_START: [Object; 16] = [
+pub const REQUIRED_AT_START: [Object; 17] = [
     Object::TransactionDate,
     Object::TransactionType,
     Object::AmountAuthorised,
@@ -223,6 +234,7 @@ pub const REQUIRED_AT_START: [Object; 16] = [
     Object::TerminalCapabilities,
     Object::TerminalType,
     Object::UnpredictableNumber,
+    Object::UnpredictableNumberNumeric,
     Object::KernelConfiguration,
     Object::TerminalActionDefault,
     Object::TerminalActionDenial,

@@ -1,7 +1,8 @@
 //! Why a choice was made, for the cashier (document 02, Item 7).
 //!
 //! The choice is worked out again from the stored result bits, terminal type and action codes. A record that does not give
-//! its own choice or outcome is not explained. How the result bits came about is not looked at.
+//! its own choice or outcome is not explained. How the result bits came about is not looked at. A session in stripe mode makes
+//! no choice (document 02, Item 9).
 
 use crate::analysis::Choice;
 use crate::dictionary::Object;
@@ -14,7 +15,7 @@ use crate::store::{self, Store};
 pub enum Explanation {
     /// The session ended with this reason, which is not 0.
     Ended(u8),
-    /// No choice has been made yet.
+    /// No choice has been made yet, or none is made: the card has no EMV mode.
     NoChoice,
     /// The card gave a lower cryptogram than was asked for.
     LowerCryptogram,
@@ -71,8 +72,13 @@ const BITS: u8 = 40;
 pub fn explain(bytes: &[u8]) -> Result<Explanation, Refusal> {
     let (phase, store) = session::look(bytes).ok_or(Refusal::Record)?;
     let explanation = match phase {
-        Phase::Fresh | Phase::Options | Phase::Record { .. } => Some(Explanation::NoChoice),
+        Phase::Fresh | Phase::Options | Phase::Record { .. } | Phase::Checksum { .. } => {
+            Some(Explanation::NoChoice)
+        }
         Phase::Cryptogram { choice, .. } => explain_choice(store, choice),
+        Phase::Ended { reason: 0, .. } if session::without_emv_mode(store) => {
+            Some(Explanation::NoChoice)
+        }
         Phase::Ended { outcome, reason: 0 } => explain_outcome(store, outcome),
         Phase::Ended { reason, .. } => Some(Explanation::Ended(reason)),
     };

@@ -1,4 +1,4 @@
-//! A plain Rust model of one contactless session in EMV mode, written from document 01.
+//! A plain Rust model of one contactless session, written from documents 01 and 02.
 //!
 //! The calls take lent bytes and give the result words of docs/HOST.md, so that a reply, a
 //! command buffer, a count and the session's bytes can be compared byte for byte with the library.
@@ -10,9 +10,11 @@
 //! - `find`: the first object of a tag in a card's bytes
 //! - `data_list`, `locator`, `analysis`: data object lists, the file locator, result bits and choice
 //! - `verification`: the method of cardholder verification by the card's list
+//! - `stripe`: the digits that go into the track of an old magnetic stripe card
 //! - `session`: the session record, its ranges and its steps
 //! - `explain`: why a session made its choice
 //! - `journal`: the journal of a session, written from its calls and checked
+//! - `lookup`: a start object out of a site's bytes, else out of the defaults
 //! - `personalise`: the card's side, records and locator written from a list of objects
 
 #![no_std]
@@ -27,11 +29,13 @@ pub mod explain;
 pub mod find;
 pub mod journal;
 pub mod locator;
+pub mod lookup;
 pub mod personalise;
 pub mod reading;
 pub mod reason;
 pub mod session;
 pub mod store;
+pub mod stripe;
 pub mod tlv;
 pub mod verification;
 

@@ -1,4 +1,4 @@
-//! Reading a card's answer into a store, whole or not at all (document 01, "Reading an answer"; document 02, Item 6).
+//! Reading a card's answer into a store, whole or not at all (document 01, "Reading an answer"; document 02, Items 6 and 9).
 
 use crate::dictionary::{Object, Setter};
 use crate::reason::Reason;
@@ -17,6 +17,8 @@ pub enum AnswerTo {
     Record,
     /// GENERATE AC.
     Cryptogram,
+    /// COMPUTE CRYPTOGRAPHIC CHECKSUM.
+    Checksum,
 }
 
 /// What a reading gives: nothing or the reason it ended with, and the number of objects in the answer's tree.
@@ -58,7 +60,7 @@ fn read_template(store: &mut Store, answer_to: AnswerTo, outer: Tag, contents: &
         return (Err(Reason::Malformed), 0);
     }
     let wanted = match answer_to {
-        AnswerTo::Options | AnswerTo::Cryptogram => 0x77,
+        AnswerTo::Options | AnswerTo::Cryptogram | AnswerTo::Checksum => 0x77,
         AnswerTo::Record => 0x70,
     };
     if outer.number != wanted {
@@ -100,7 +102,7 @@ fn read_format_1(store: &mut Store, answer_to: AnswerTo, value: &[u8]) -> Result
             let brought = if value.len() > 11 { 4 } else { 3 };
             put_all(store, &objects[..brought])
         }
-        AnswerTo::Record => Err(Reason::Malformed),
+        AnswerTo::Record | AnswerTo::Checksum => Err(Reason::Malformed),
     }
 }
 
@@ -156,7 +158,13 @@ impl Walk {
             Setter::Card70 => 0x70,
             Setter::Card77 => 0x77,
             Setter::Cryptogram77 if self.answer_to == AnswerTo::Cryptogram => 0x77,
-            Setter::Cryptogram77 => return false,
+            Setter::Checksum77 if self.answer_to == AnswerTo::Checksum => 0x77,
+            Setter::Either77
+                if matches!(self.answer_to, AnswerTo::Cryptogram | AnswerTo::Checksum) =>
+            {
+                0x77
+            }
+            Setter::Cryptogram77 | Setter::Checksum77 | Setter::Either77 => return false,
             Setter::Start | Setter::Session => return tag.is_private(),
         };
         if around.number != template || !row.fits(value) || store::has_value(&self.store, object) {

@@ -8,7 +8,7 @@ pub enum Reason {
     Status = 1,
     /// The answer's length, encoding, outer tag or body is wrong.
     Malformed = 2,
-    /// The card sent an object that it may not set so.
+    /// The card sent an object that it may not set so, or its track has no place for the digits.
     NotAllowed = 3,
     /// The card left out an object that the next step needs.
     Missing = 4,
@@ -16,7 +16,7 @@ pub enum Reason {
     Locator = 5,
     /// 9F02 is greater than the limit in force.
     Limit = 6,
-    /// 9F38 or 8C is broken, or fills to a length that its command cannot carry.
+    /// 9F38, 8C or 9F69 is broken, or fills to a length that its command cannot carry.
     DataList = 7,
     /// 9F27 has a type that was not asked for.
     CryptogramType = 8,
@@ -24,7 +24,7 @@ pub enum Reason {
     LinkFailed = 9,
     /// The host gave up.
     Stopped = 10,
-    /// 82 says that the card has no EMV mode.
+    /// 82 says that the card has no EMV mode, and DF811B that the reader has no stripe mode.
     NotEmvMode = 11,
 }
 

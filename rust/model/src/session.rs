@@ -7,6 +7,7 @@ use crate::locator;
 use crate::reading::{self, AnswerTo};
 use crate::reason::{self, Outcome, Reason};
 use crate::store::{self, Store};
+use crate::stripe;
 use crate::tlv;
 use crate::verification::{self, Method};
 
@@ -20,7 +21,7 @@ pub const SESSION_SIZE: usize = HEAD_SIZE + STORE_SIZE;
 pub const COMMAND_SIZE: usize = 261;
 
 /// Version of the record's layout.
-const VERSION: u8 = 3;
+const VERSION: u8 = 4;
 
 /// A call that is refused changes nothing (document 01, refusals 20 to 25).
 #[derive(Clone, Copy, Debug, PartialEq, Eq)]
@@ -53,7 +54,7 @@ pub enum Reply {
 enum Next {
     /// A command of this length.
     Command(usize),
-    /// The decision after GENERATE AC.
+    /// The decision after GENERATE AC or the checksum.
     Decision(Outcome),
 }
 
@@ -78,6 +79,19 @@ pub(crate) enum Phase {
         outcome: u8,
         reason: u8,
     },
+    /// Waiting on the answer to COMPUTE CRYPTOGRAPHIC CHECKSUM.
+    Checksum {
+        limit: u64,
+    },
+}
+
+/// What the session does after the last record.
+#[derive(Clone, Copy, Debug, PartialEq, Eq)]
+enum Mode {
+    /// 82 byte 2 b8 is set, whatever DF811B says.
+    Emv,
+    /// That bit is clear, and so is b8 of DF811B.
+    Stripe,
 }
 
 /// A session record in lent bytes: the decoded head, and the store in place.
@@ -107,6 +121,7 @@ fn decode(head: &[u8; HEAD_SIZE]) -> Option<(Phase, u8)> {
             limit,
         },
         (4, outcome @ 0..=4, reason, 0, 0) => Phase::Ended { outcome, reason },
+        (5, 0, 0, 0, limit) => Phase::Checksum { limit },
         _ => return None,
     };
     Some((phase, count))
@@ -124,6 +139,7 @@ fn encode(phase: Phase, count: u8) -> [u8; HEAD_SIZE] {
             limit,
         } => (3, choice.p1(), 0, method as u8, limit),
         Phase::Ended { outcome, reason } => (4, outcome, reason, 0, 0),
+        Phase::Checksum { limit } => (5, 0, 0, 0, limit),
     };
     let mut head = [0; HEAD_SIZE];
     head[..6].copy_from_slice(&[VERSION, phase, detail, reason, count, method]);
@@ -153,7 +169,7 @@ pub(crate) fn look(bytes: &[u8]) -> Option<(Phase, &Store)> {
     in_range(phase, count, store).then_some((phase, store))
 }
 
-/// The ranges of a session record (document 01, "Session ranges"; document 02, Items 5 and 8).
+/// The ranges of a session record (document 01, "Session ranges"; document 02, Items 5, 8 and 9).
 fn in_range(phase: Phase, count: u8, store: &Store) -> bool {
     match phase {
         Phase::Fresh => count == 0 && *store == [0; STORE_SIZE],
@@ -173,7 +189,8 @@ fn in_range(phase: Phase, count: u8, store: &Store) -> bool {
                 && running(store)
                 && results_zero(store)
                 && analysis::transaction_limit(store) == Some(limit)
-                && records_of_emv_card(store).is_some_and(|records| {
+                && mode(store).is_some()
+                && records(store).is_some_and(|records| {
                     (1..=records).contains(&u32::from(k)) && u32::from(count) == 1 + u32::from(k)
                 })
         }
@@ -181,9 +198,19 @@ fn in_range(phase: Phase, count: u8, store: &Store) -> bool {
             store::fits(store)
                 && running(store)
                 && analysis::transaction_limit(store) == Some(limit)
-                && records_of_emv_card(store).is_some_and(|records| u32::from(count) == 2 + records)
-                && holds_record_data(store)
+                && mode(store) == Some(Mode::Emv)
+                && records(store).is_some_and(|records| u32::from(count) == 2 + records)
+                && holds_all(store, &RECORD_DATA)
                 && store::has(store, Object::CvmResults)
+        }
+        Phase::Checksum { limit } => {
+            store::fits(store)
+                && running(store)
+                && results_zero(store)
+                && analysis::transaction_limit(store) == Some(limit)
+                && mode(store) == Some(Mode::Stripe)
+                && records(store).is_some_and(|records| u32::from(count) == 2 + records)
+                && holds_all(store, &STRIPE_DATA)
         }
     }
 }
@@ -231,6 +258,7 @@ impl<'a> Session<'a> {
             Phase::Options => self.take_options(answer, command),
             Phase::Record { k, limit } => self.take_record(u32::from(k), limit, answer, command),
             Phase::Cryptogram { choice, .. } => self.take_cryptogram(choice, answer),
+            Phase::Checksum { .. } => self.take_checksum(answer),
         };
         Ok(self.finish(next))
     }
@@ -286,16 +314,13 @@ impl<'a> Session<'a> {
     fn take_options(&mut self, answer: &[u8], command: &mut [u8]) -> Result<Next, Reason> {
         let body = reading::body(answer)?;
         reading::read(self.store, AnswerTo::Options, body).0?;
-        let (Some(&[_, profile]), Some(locator)) = (
-            store::get_fixed(self.store, Object::InterchangeProfile),
-            store::get(self.store, Object::FileLocator),
-        ) else {
+        if !store::has(self.store, Object::InterchangeProfile)
+            || !store::has(self.store, Object::FileLocator)
+        {
             return Err(Reason::Missing);
-        };
-        if profile & 0x80 == 0 {
-            return Err(Reason::NotEmvMode);
         }
-        locator::records(locator).ok_or(Reason::Locator)?;
+        mode(self.store).ok_or(Reason::NotEmvMode)?;
+        records(self.store).ok_or(Reason::Locator)?;
         let limit = analysis::transaction_limit(self.store).ok_or(Reason::Missing)?;
         self.ask_record(1, limit, command)
     }
@@ -316,7 +341,7 @@ impl<'a> Session<'a> {
             .ok_or(Reason::Locator)
     }
 
-    /// The answer to READ RECORD; then the next record, or GENERATE AC after the last.
+    /// The answer to READ RECORD; then the next record, or after the last the amount against the limit and the last command.
     fn take_record(
         &mut self,
         k: u32,
@@ -330,18 +355,20 @@ impl<'a> Session<'a> {
         }
         let locator = store::get(self.store, Object::FileLocator).unwrap_or_default();
         if locator::record(locator, k + 1).is_some() {
-            self.ask_record(k + 1, limit, command)
-        } else {
-            self.ask_cryptogram(limit, command)
+            return self.ask_record(k + 1, limit, command);
         }
-    }
-
-    /// After the last record: limit, missing objects, restrictions, method, choice, then GENERATE AC.
-    fn ask_cryptogram(&mut self, limit: u64, command: &mut [u8]) -> Result<Next, Reason> {
         if analysis::amount(self.store, Object::AmountAuthorised) > Some(limit) {
             return Err(Reason::Limit);
         }
-        if !holds_record_data(self.store) {
+        match mode(self.store) {
+            Some(Mode::Stripe) => self.ask_checksum(limit, command),
+            _ => self.ask_cryptogram(limit, command),
+        }
+    }
+
+    /// After the last record in EMV mode: missing objects, restrictions, method, choice, then GENERATE AC.
+    fn ask_cryptogram(&mut self, limit: u64, command: &mut [u8]) -> Result<Next, Reason> {
+        if !holds_all(self.store, &RECORD_DATA) {
             return Err(Reason::Missing);
         }
         let selection = verification::select(self.store);
@@ -355,18 +382,26 @@ impl<'a> Session<'a> {
         let choice = analysis::choice(self.store, &bits);
 
         let list = store::get(self.store, Object::Cdol1).unwrap_or_default();
-        let length = data_list::filled_length(list)
-            .filter(|length| (1..=255).contains(length))
-            .ok_or(Reason::DataList)?;
-        command[..5].copy_from_slice(&[0x80, 0xAE, choice.p1(), 0x00, length as u8]);
-        data_list::fill(self.store, list, &mut command[5..][..length]);
-        command[5 + length] = 0x00;
+        let length = put_command(self.store, [0x80, 0xAE, choice.p1(), 0x00], list, command)?;
         self.phase = Phase::Cryptogram {
             choice,
             method: selection.method,
             limit,
         };
-        Ok(Next::Command(5 + length + 1))
+        Ok(Next::Command(length))
+    }
+
+    /// After the last record in stripe mode: missing objects, then COMPUTE CRYPTOGRAPHIC CHECKSUM. 95 stays zero.
+    fn ask_checksum(&mut self, limit: u64, command: &mut [u8]) -> Result<Next, Reason> {
+        if !holds_all(self.store, &STRIPE_DATA) {
+            return Err(Reason::Missing);
+        }
+        let list = store::get(self.store, Object::Udol)
+            .filter(|list| !list.is_empty())
+            .unwrap_or(&stripe::DEFAULT_UDOL);
+        let length = put_command(self.store, [0x80, 0x2A, 0x8E, 0x80], list, command)?;
+        self.phase = Phase::Checksum { limit };
+        Ok(Next::Command(length))
     }
 
     /// The answer to GENERATE AC; its type against the choice asked for gives the outcome.
@@ -385,6 +420,46 @@ impl<'a> Session<'a> {
         let outcome = decision(information, asked).ok_or(Reason::CryptogramType)?;
         Ok(Next::Decision(outcome))
     }
+
+    /// The answer to COMPUTE CRYPTOGRAPHIC CHECKSUM; with counter and code the digits go into the track.
+    ///
+    /// The track is looked at as it stood before, and of an answer to one without place for the digits nothing is kept.
+    fn take_checksum(&mut self, answer: &[u8]) -> Result<Next, Reason> {
+        let body = reading::body(answer)?;
+        let mut store = *self.store;
+        reading::read(&mut store, AnswerTo::Checksum, body).0?;
+        let places = stripe::places(self.store).map_err(|_| Reason::NotAllowed)?;
+        *self.store = store;
+        let value = |object| store::get_fixed(&store, object).copied();
+        let counter = value(Object::TransactionCounter).ok_or(Reason::Missing)?;
+        let Some(code) = value(Object::Cvc3Track2) else {
+            return Ok(Next::Decision(Outcome::Declined));
+        };
+        let track = places.filled(
+            &store,
+            u16::from_be_bytes(code),
+            u16::from_be_bytes(counter),
+        );
+        store::put(self.store, Object::Track2Data, &track);
+        Ok(Next::Decision(Outcome::OnlineRequest))
+    }
+}
+
+/// Writes a command with the values that a list asks for as its data: its length, or the reason that there is none.
+fn put_command(
+    store: &Store,
+    header: [u8; 4],
+    list: &[u8],
+    command: &mut [u8],
+) -> Result<usize, Reason> {
+    let length = data_list::filled_length(list)
+        .filter(|length| (1..=255).contains(length))
+        .ok_or(Reason::DataList)?;
+    command[..4].copy_from_slice(&header);
+    command[4] = length as u8;
+    data_list::fill(store, list, &mut command[5..][..length]);
+    command[5 + length] = 0x00;
+    Ok(5 + length + 1)
 }
 
 /// The outcome that 9F27, by its top two bits, gives on the choice asked for, or none.
@@ -440,16 +515,17 @@ fn read_start(terminal: &[u8]) -> Result<Store, Refusal> {
 fn running(store: &Store) -> bool {
     let type_listed = store::get(store, Object::TerminalType)
         .is_some_and(|value| dictionary::terminal_type_listed(value[0]));
-    let cryptogram_absent = [
+    let last_answer_absent = [
         Object::IssuerApplicationData,
         Object::Cryptogram,
         Object::CryptogramInformation,
         Object::TransactionCounter,
+        Object::Cvc3Track2,
     ]
     .iter()
     .all(|&object| !store::has(store, object));
     type_listed
-        && cryptogram_absent
+        && last_answer_absent
         && store::has(store, Object::VerificationResults)
         && REQUIRED_AT_START
             .iter()
@@ -461,18 +537,43 @@ fn results_zero(store: &Store) -> bool {
     store::get(store, Object::VerificationResults) == Some(&[0; 5])
 }
 
-/// The number of records of a card in EMV mode whose locator keeps the rules.
-fn records_of_emv_card(store: &Store) -> Option<u32> {
-    let &[_, profile] = store::get_fixed(store, Object::InterchangeProfile)?;
-    if profile & 0x80 == 0 {
+/// Whether 82 is there and says that the card has no EMV mode: byte 2 b8 is clear.
+pub(crate) fn without_emv_mode(store: &Store) -> bool {
+    store::get_fixed(store, Object::InterchangeProfile)
+        .is_some_and(|&[_, profile]| profile & 0x80 == 0)
+}
+
+/// The mode of a session that holds 82 and DF811B, or none where DF811B says that stripe mode is off and the card has no other.
+fn mode(store: &Store) -> Option<Mode> {
+    if !store::has(store, Object::InterchangeProfile) {
         return None;
     }
+    if !without_emv_mode(store) {
+        return Some(Mode::Emv);
+    }
+    let &[configuration] = store::get_fixed(store, Object::KernelConfiguration)?;
+    (configuration & 0x80 == 0).then_some(Mode::Stripe)
+}
+
+/// The number of records of the locator, if it is there and keeps the rules.
+fn records(store: &Store) -> Option<u32> {
     locator::records(store::get(store, Object::FileLocator)?)
 }
 
-/// Whether 5F24, 5A and 8C are there and not empty.
-fn holds_record_data(store: &Store) -> bool {
-    [Object::ExpirationDate, Object::Pan, Object::Cdol1]
+/// What the records must have brought for GENERATE AC.
+const RECORD_DATA: [Object; 3] = [Object::ExpirationDate, Object::Pan, Object::Cdol1];
+
+/// What the records must have brought for the checksum.
+const STRIPE_DATA: [Object; 4] = [
+    Object::Track2Data,
+    Object::Pcvc3Track2,
+    Object::PunatcTrack2,
+    Object::NatcTrack2,
+];
+
+/// Whether all of these objects are there and not empty.
+fn holds_all(store: &Store, objects: &[Object]) -> bool {
+    objects
         .iter()
         .all(|&object| store::has_value(store, object))
 }

@@ -7,7 +7,7 @@ use common::{hex, Draw};
 use model::dictionary::Object;
 use model::locator::{self, Record};
 use model::personalise::{personalise, Answer, Refusal};
-use model::reading::AnswerTo;
+use model::reading::{self, AnswerTo};
 use model::store::{self, Store};
 use model::{read_answer, tlv, STORE_SIZE};
 use Refusal::{Entry, List, LocatorBuffer, RecordsBuffer};
@@ -111,18 +111,14 @@ fn shortest(tag: u32, value: &[u8]) -> Vec<u8> {
     [tag, length, value].concat()
 }
 
-/// Reads a record of file 1 with a good status: the reason.
-fn read_record(store: &mut Store, record: &[u8]) -> u8 {
-    let answer = [record, &[0x90, 0x00]].concat();
-    read_answer(store, AnswerTo::Record, 1, &answer).0
-}
-
-/// Whether the card may set an object in template 70: a record with it alone is read, and the store holds it then.
+/// Whether the card may set an object in template 70: a record with it alone, of any length, is read, and the store holds it
+/// then.
 fn card_may_set(tag: u32, value: &[u8]) -> bool {
     let record = shortest(0x70, &shortest(tag, value));
     let mut store = EMPTY;
     let object = Object::of_tag(tag);
-    read_record(&mut store, &record) == 0 && object.is_some_and(|object| store::has(&store, object))
+    let (result, _) = reading::read(&mut store, AnswerTo::Record, &record);
+    result.is_ok() && object.is_some_and(|object| store::has(&store, object))
 }
 
 /// Whether some entries are a locator of document 01 that also keeps the rules of the card's side.
@@ -336,6 +332,8 @@ fn every_tag() {
             }
         }
     }
-    // 57, 8C, 8E and 9F07 to 9F0F of any bytes; 5A of 0 or F, and empty three times; the dates, 5F28, 5F34 and 9F42 of 0.
-    assert_eq!(good, 3 * (20 + 251 + 241 + 5) + (2 * 10 + 3) + 5);
+    // 57, 8C, 8E and 9F07 to 9F0F of any bytes; 5A of 0 or F, and empty three times; the dates, 5F28, 5F34 and 9F42 of 0;
+    // 9F65 to 9F67, 9F69 and 9F6B of any bytes. 250 bytes of 9F69 are good, and no record has room for them.
+    let of_any_bytes = 20 + 251 + 241 + 5 + 3 + 250 + 20;
+    assert_eq!(good, 3 * of_any_bytes + (2 * 10 + 3) + 5);
 }

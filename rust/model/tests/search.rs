@@ -34,8 +34,8 @@ fn short_tables() {
 fn the_dictionary() {
     finds(
         &tags(),
-        &[0x57, 0x5F24, 0x9F09, 0xDF8126],
-        &[Some(0), Some(9), Some(18), Some(41)],
+        &[0x57, 0x5F24, 0x9F09, 0x9F6A, 0xDF8126],
+        &[Some(0), Some(9), Some(18), Some(39), Some(48)],
         6,
     );
     finds(&tags(), &[0, 0x5F26, 0xDF8127, 0xFFFF_FFFF], &[None; 4], 6);

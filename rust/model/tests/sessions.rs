@@ -44,7 +44,7 @@ fn purchase_of_three_records() {
     assert_eq!(host.count(), 5);
     let word = host.answer_hex("77 14 9F27 01 40 9F36 02 0007 9F26 08 1122334455667788 9000");
     assert_eq!(word, decided(0));
-    assert_eq!(host.head(), [3, 4, 0, 0, 5, 0]);
+    assert_eq!(host.head(), [4, 4, 0, 0, 5, 0]);
     assert_eq!(host.get(Object::TransactionCounter), Some(&[0, 7][..]));
     assert_eq!(host.stop(), refused(21));
 }
@@ -127,7 +127,7 @@ fn start_bytes() {
     for tag in ["9A", "9C", "9F02", "9F09", "9F1A", "9F33", "9F35", "9F37"] {
         assert_eq!(start(&start_without(tag)), refused(24), "{tag}");
     }
-    for tag in ["DF811B", "DF8120", "DF8121", "DF8122"] {
+    for tag in ["9F6A", "DF811B", "DF8120", "DF8121", "DF8122"] {
         assert_eq!(start(&start_without(tag)), refused(24), "{tag}");
     }
     for tag in ["DF8123", "DF8124", "DF8125", "DF8126"] {
@@ -153,6 +153,15 @@ fn start_bytes() {
         "DF8125 05 0000002000",
         "DF811B 00",
         "DF811B 02 2000",
+        "9F6A 04 0000345A",
+        "9F6A 03 003456",
+        "9F6A 05 0000003456",
+        "9F61 02 1F35",
+        "9F65 02 000E",
+        "9F66 02 0FF0",
+        "9F67 01 04",
+        "9F69 00",
+        "9F6B 00",
     ] {
         assert_eq!(start(&start_with(&[bad])), refused(23), "{bad}");
         // A malformed object anywhere comes first.
@@ -224,7 +233,7 @@ fn options_list() {
         let (word, host) = start(bad);
         assert_eq!(word, ended(7), "{bad}");
         assert_eq!(host.count(), 0);
-        assert_eq!(host.head(), [3, 4, 3, 7, 0, 0]);
+        assert_eq!(host.head(), [4, 4, 3, 7, 0, 0]);
         assert_eq!(host.get(Object::VerificationResults), Some(&[0; 5][..]));
         assert!(host.get(Object::AmountAuthorised).is_some());
     }
@@ -240,7 +249,7 @@ fn options_list() {
 #[test]
 fn options_answers() {
     let answer = |text: &str| {
-        let mut host = Host::started(&[]);
+        let mut host = Host::started(&["DF811B 01 80"]);
         let word = host.answer_hex(text);
         (word, host)
     };
@@ -259,7 +268,7 @@ fn options_answers() {
         ("77 06 94 04 08010100 9000", 4),
         ("77 00 9000", 4),
         ("77 0A 82 02 0000 94 04 08010100 9000", 11),
-        ("80 06 0000 09010100 9000", 11),
+        ("80 06 FF7F 09010100 9000", 11),
         ("80 06 0080 09010100 9000", 5),
         ("77 0B 82 02 0080 94 05 0801010000 9000", 5),
         ("77 0D 82 02 0080 94 04 08010100 9F27 00 9000", 3),
@@ -392,7 +401,7 @@ fn record_answers() {
 fn after_the_last_record() {
     let mut host = Host::reading(&["DF8124 06 000000001233"], "08010100");
     assert_eq!(host.record(""), outcome(NOT_APPLICABLE, 4, 6));
-    assert_eq!(host.head(), [3, 4, 4, 6, 2, 0]);
+    assert_eq!(host.head(), [4, 4, 4, 6, 2, 0]);
     let mut host = Host::reading(&["DF8124 06 000000001234"], "08010100");
     assert_eq!(host.record(GOOD), 11);
     for missing in [
@@ -575,7 +584,7 @@ fn link_and_stop() {
             };
             let expected = if count == 3 { ended_later } else { ended };
             assert_eq!(word, expected(reason));
-            assert_eq!(host.head(), [3, 4, 3, reason as u8, count, 0]);
+            assert_eq!(host.head(), [4, 4, 3, reason as u8, count, 0]);
             assert_eq!(*host.store(), store);
             assert_eq!(host.start(&start_with(&[])), refused(21));
         }
@@ -611,11 +620,13 @@ fn ranges() {
 
     // The head.
     for session in [&fresh, &started, &reading, &generating, &ended] {
-        for version in [0, 1, 2, 4, 255] {
+        for version in [0, 1, 2, 3, 5, 255] {
             assert!(!in_range(&with(session, &[(0, version)])));
             assert_eq!(model::count(&with(session, &[(0, version)])), NO_COUNT);
         }
         assert!(!in_range(&with(session, &[(1, 5)])));
+        assert!(!in_range(&with(session, &[(1, 6)])));
+        assert_eq!(model::count(&with(session, &[(1, 6)])), NO_COUNT);
         assert_eq!(model::count(&with(session, &[(4, 200)])), 200);
         assert!(!in_range(&with(session, &[(4, 200)])));
     }
@@ -704,10 +715,13 @@ fn ranges() {
         assert_eq!(in_range(&with(session, &profile)), session[1] != 1);
     }
     for session in [&reading, &generating] {
-        assert!(!in_range(&with(
-            session,
-            &[(place(Object::InterchangeProfile) + 2, 0x7F)]
-        )));
+        let no_emv_mode = [
+            (place(Object::InterchangeProfile) + 2, 0x7F),
+            (place(Object::KernelConfiguration) + 1, 0x80),
+        ];
+        assert!(!in_range(&with(session, &no_emv_mode)));
+        assert!(in_range(&with(session, &no_emv_mode[1..])));
+        assert_eq!(in_range(&with(session, &no_emv_mode[..1])), session[1] == 2);
         assert!(!in_range(&with(
             session,
             &[(place(Object::FileLocator) + 1, 0x09)]

@@ -1,6 +1,6 @@
 //! Safe wrapper over the static library of the payment kernel session.
 //!
-//! A [`Session`] owns the 1,231 bytes of one session record. The host opens it, starts it with the
+//! A [`Session`] owns the 1,518 bytes of one session record. The host opens it, starts it with the
 //! terminal's objects, sends each command it is handed to the card, and brings each answer back,
 //! until an outcome comes:
 //!
@@ -49,7 +49,7 @@ pub mod personalise;
 use core::fmt;
 
 /// Bytes of a session record.
-pub const SESSION_SIZE: usize = 1231;
+pub const SESSION_SIZE: usize = 1518;
 
 /// The longest command, and so the least length of a command buffer.
 pub const COMMAND_SIZE: usize = 261;
@@ -108,7 +108,7 @@ pub enum Method {
     ConfirmationCodeVerified,
     /// A PIN that the card checks, which 9F33 says is supported. Nobody has checked it.
     OfflinePin,
-    /// The session ended before a method was chosen.
+    /// No method was chosen: the session ended before, or the card has no EMV mode.
     NotApplicable,
 }
 
@@ -308,11 +308,11 @@ pub fn reason_text(reason: u8) -> &'static str {
         4 => "mandatory object not sent by the card",
         5 => "Application File Locator breaks a rule",
         6 => "amount over the reader's transaction limit",
-        7 => "PDOL or CDOL1 cannot be filled",
+        7 => "PDOL, CDOL1 or UDOL cannot be filled",
         8 => "cryptogram of a type not asked for",
         9 => "no link to the card",
         10 => "stopped by the terminal",
-        11 => "card without EMV mode",
+        11 => "card without EMV mode, and mag-stripe mode is off",
         _ => "unknown reason",
     }
 }
@@ -330,7 +330,7 @@ pub fn refusal_text(number: u8) -> &'static str {
     }
 }
 
-/// One session: its record of 1,231 bytes.
+/// One session: its record of 1,518 bytes.
 #[derive(Clone, PartialEq, Eq)]
 pub struct Session {
     bytes: [u8; SESSION_SIZE],

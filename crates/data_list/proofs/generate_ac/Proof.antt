@@ -53,8 +53,8 @@ returns-3 c =
     some-written (generateAc (a .p1) (a .store .now)) (command 0xAE (a .p1) (f .bytes)) (a .buffer .now) _ (cl .result)
     (cryptogram-of (a .p1) (a .store .now) _ (c .before .before .before .before .before .before .before .before .before .before .before .before .before .value .ensures) ∙ ap (cryptogramOf (a .p1)) (f .is)
     ∙ cryptogram-some (a .p1) (f .bytes) (omega (arith, c .before .before .before .before .before .before .before .before .if1 .left, f .long)) (omega (arith, f .long, f .few)))
-    (cl .ensures .0 ∙ command-length 0xAE (a .p1) (a .buffer .now) (f .bytes) (5 + n) h e)
-    (command-front 0xAE (a .p1) (a .buffer .now) (f .bytes) (5 + n) h e _ _ y (cl .ensures .1))
+    (cl .ensures .0 ∙ command-length 0xAE (a .p1) 0 (a .buffer .now) (f .bytes) (5 + n) h e)
+    (command-front 0xAE (a .p1) 0 (a .buffer .now) (f .bytes) (5 + n) h e _ _ y (cl .ensures .1))
 
 pub generate-ac-spec : {M : Type 1} → statement M
 generate-ac-spec =

@@ -78,8 +78,8 @@ returns-3 c =
     let e : o .result + n ≡ 5 + length (optionsData v) = omega (arith, o .ensures .0) in
     some-written (processingOptions (a .store .now)) (command 0xA8 0 (optionsData v)) b _ (cl .result)
     (options-of (a .store .now) _ (c .before .before .before .before .before .before .before .before .before .before .before .before .before .before .before .before .before .value .ensures) ∙ ap optionsOf (f .is) ∙ options-some v (omega (arith, f .long)))
-    (cl .ensures .0 ∙ command-length 0xA8 0 b (optionsData v) (o .result + n) h e)
-    (command-front 0xA8 0 b (optionsData v) (o .result + n) h e _ _ (body (c .before .before .before .before .before .before)) (cl .ensures .1))
+    (cl .ensures .0 ∙ command-length 0xA8 0 0 b (optionsData v) (o .result + n) h e)
+    (command-front 0xA8 0 0 b (optionsData v) (o .result + n) h e _ _ (body (c .before .before .before .before .before .before)) (cl .ensures .1))
 
 pub processing-options-spec : {M : Type 1} → statement M
 processing-options-spec =

@@ -36,7 +36,10 @@ returns-5 : tie.Need-returns-5
 returns-5 c = told _ (c .waiting .ensures ∙ by-phase (c .before .before .before .before) _ (c .before .before .phase .given .1))
 
 returns-6 : tie.Need-returns-6
-returns-6 c = told _ (c .ended .ensures ∙ by-phase (c .before .before .before .before) _ (c .before .before .phase2 .given .1))
+returns-6 c = told _ (by-phase (c .before .before) _ (c .enum-told4 .given .1))
+
+returns-7 : tie.Need-returns-7
+returns-7 c = told _ (c .ended-by .ensures ∙ by-phase (c .before .before .before .before) _ (c .before .before .phase2 .given .1))
 
 pub explain-in-spec : {M : Type 1} → statement M
 explain-in-spec =
@@ -50,9 +53,11 @@ explain-in-spec =
     (λ c. search needs)
     (λ c κs. search needs)
     (λ c. search needs)
+    (λ c. search needs)
     (λ c κs. search needs)
     returns-2
     returns-3
     returns-4
     returns-5
-    returns-6)
+    returns-6
+    returns-7)

@@ -17,7 +17,10 @@ returns-4 : tie.Need-returns-4
 returns-4 c = rw (c .before .before .before .phase2 .given .1, c .before .p1 .ensures, c .method-number .ensures)
 
 returns-5 : tie.Need-returns-5
-returns-5 c = rw (c .before .before .phase3 .given .1, c .outcome-number .ensures)
+returns-5 c = rw (c .enum-told3 .given .1)
+
+returns-6 : tie.Need-returns-6
+returns-6 c = rw (c .before .before .phase3 .given .1, c .outcome-number .ensures)
 
 pub code-of-spec : {M : Type 1} → statement M
 code-of-spec =
@@ -30,9 +33,11 @@ code-of-spec =
     (λ c κs. search needs)
     (λ c κs. search needs)
     (λ c. search needs)
+    (λ c. search needs)
     (λ c κs. search needs)
     returns
     returns-2
     returns-3
     returns-4
-    returns-5)
+    returns-5
+    returns-6)

@@ -33,9 +33,16 @@ returns-5 : tie.Need-returns-5
 unfolding phaseOf
 returns-5 c =
     let k = c .before .before in
+    sym (if-no _ _ (ne-eqb _ _ (k .before .before .if1 .left)) ∙ (if-no _ _ (ne-eqb _ _ (k .before .if2 .left))
+    ∙ (if-no _ _ (ne-eqb _ _ (k .if3 .left)) ∙ (if-no _ _ (ne-eqb _ _ (c .before .if4 .left)) ∙ if-yes _ _ (eq-eqb _ _ (c .if5 .taken))))))
+
+returns-6 : tie.Need-returns-6
+unfolding phaseOf
+returns-6 c =
+    let k = c .before .before .before in
     rw (c .outcome-from .ensures)
     (sym (if-no _ _ (ne-eqb _ _ (k .before .before .if1 .left)) ∙ (if-no _ _ (ne-eqb _ _ (k .before .if2 .left))
-    ∙ (if-no _ _ (ne-eqb _ _ (k .if3 .left)) ∙ if-no _ _ (ne-eqb _ _ (c .before .if4 .left))))))
+    ∙ (if-no _ _ (ne-eqb _ _ (k .if3 .left)) ∙ (if-no _ _ (ne-eqb _ _ (c .before .before .if4 .left)) ∙ if-no _ _ (ne-eqb _ _ (c .before .if5 .left)))))))
 
 pub phase-of-spec : {M : Type 1} → statement M
-phase-of-spec = tie.close (tie.spec returns returns-2 returns-3 (λ c κs. search needs) (λ c κs. search needs) returns-4 (λ c κs. search needs) returns-5)
+phase-of-spec = tie.close (tie.spec returns returns-2 returns-3 (λ c κs. search needs) (λ c κs. search needs) returns-4 returns-5 (λ c κs. search needs) returns-6)

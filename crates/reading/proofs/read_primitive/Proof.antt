@@ -6,7 +6,7 @@ use Rattle.reading.specs.declared.Reading.{Reading}
 use Rattle.reading.specs.declared.Verdict.the-variants.{Malformed}
 use Rattle.reading.specs.Answer.{takenParts, primitiveParts}
 use Rattle.reading.specs.Inner.{storeAfter}
-use Rattle.reading.proofs.Parts.{gives, regive, wrong-tag, as-options, as-cryptogram, as-record}
+use Rattle.reading.proofs.Parts.{gives, regive, wrong-tag, as-options, as-cryptogram, as-record, as-checksum}
 use borrow.Author.Needs.{needs}
 use Rattle.reading.proofs.read_primitive.Statement.{statement}
 use Rattle.reading.proofs.read_primitive.Tie as tie
@@ -42,6 +42,15 @@ returns-4 c =
       c .read-cryptogram .ensures .1,
     )
 
+returns-5 : tie.Need-returns-5
+returns-5 c =
+    let st = c .before .before .before .before .before in
+    let a = st .args in (
+      gives Malformed 1 (storeAfter (a .work .now) _) (c .made3 .ensures)
+          (ap (λ (w : Awaited). takenParts w (a .work .now) 1 (primitiveParts w (a .tag) (a .value .now))) (c .before .enum-told4 .given .1) ∙ ap (takenParts _ (a .work .now) 1) (as-checksum (a .tag) (a .value .now))),
+      (st .pre .0, ap (λ (x : Reading). x .objects) (c .made3 .ensures)),
+    )
+
 pub read-primitive-spec : {M : Type 1} → statement M
 read-primitive-spec =
     tie.close
@@ -54,6 +63,9 @@ read-primitive-spec =
     (λ c κs. search needs)
     (λ c. search needs)
     (λ c κs. search needs)
+    (λ c. search needs)
+    (λ c κs. search needs)
     returns-2
     returns-3
-    returns-4)
+    returns-4
+    returns-5)

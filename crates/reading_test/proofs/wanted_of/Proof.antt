@@ -21,7 +21,15 @@ returns-3 c = sym (if-no _ _ (ne-eqb _ _ (c .before .before .if1 .left)) ∙ if-
 
 returns-4 : tie.Need-returns-4
 unfolding wantedOf
-returns-4 c = sym (if-no _ _ (ne-eqb _ _ (c .before .before .if1 .left)) ∙ if-no _ _ (ne-eqb _ _ (c .before .if2 .left)) ∙ if-no _ _ (ne-eqb _ _ (c .if3 .left)))
+returns-4 c =
+    sym (if-no _ _ (ne-eqb _ _ (c .before .before .before .if1 .left)) ∙ if-no _ _ (ne-eqb _ _ (c .before .before .if2 .left)) ∙ if-no _ _ (ne-eqb _ _ (c .before .if3 .left))
+    ∙ if-yes _ _ (eq-eqb _ _ (c .if4 .taken)))
+
+returns-5 : tie.Need-returns-5
+unfolding wantedOf
+returns-5 c =
+    sym (if-no _ _ (ne-eqb _ _ (c .before .before .before .if1 .left)) ∙ if-no _ _ (ne-eqb _ _ (c .before .before .if2 .left)) ∙ if-no _ _ (ne-eqb _ _ (c .before .if3 .left))
+    ∙ if-no _ _ (ne-eqb _ _ (c .if4 .left)))
 
 pub wanted-of-spec : {M : Type 1} → statement M
-wanted-of-spec = tie.close (tie.spec returns returns-2 returns-3 returns-4)
+wanted-of-spec = tie.close (tie.spec returns returns-2 returns-3 returns-4 returns-5)

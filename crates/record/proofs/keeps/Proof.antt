@@ -42,7 +42,10 @@ returns-5 : tie.Need-returns-5
 returns-5 c = by-phase (c .before .before .before .before) _ (c .before .before .phase2 .given .1) (c .cryptogram-keeps .ensures)
 
 returns-6 : tie.Need-returns-6
-returns-6 c = by-phase (c .before .before .before .before) _ (c .before .before .phase3 .given .1) (c .ended-keeps .ensures)
+returns-6 c = by-phase (c .before .before .before .before) _ (c .before .before .phase3 .given .1) (c .checksum-keeps .ensures)
+
+returns-7 : tie.Need-returns-7
+returns-7 c = by-phase (c .before .before .before .before) _ (c .before .before .phase4 .given .1) (c .ended-keeps .ensures)
 
 pub keeps-spec : {M : Type 1} → statement M
 keeps-spec =
@@ -59,8 +62,11 @@ keeps-spec =
     (λ c κs. search needs)
     (λ c. search needs)
     (λ c κs. search needs)
+    (λ c. search needs)
+    (λ c κs. search needs)
     returns-2
     returns-3
     returns-4
     returns-5
-    returns-6)
+    returns-6
+    returns-7)

@@ -13,7 +13,7 @@ use Rattle.basics.specs.Number.{between}
 use Rattle.locator.specs.Records.{accepts}
 use Rattle.analysis.specs.Action.{limitOf}
 use Rattle.store.specs.Held.{zeroed}
-use Rattle.record.specs.Ranges.{allFit, emvMode, locatorIn, recordsIn, recordRanges}
+use Rattle.record.specs.Ranges.{allFit, eitherMode, locatorIn, recordsIn, recordRanges}
 use Rattle.record.proofs.Tags.{zero-is, located-no, located-yes}
 use Rattle.record.proofs.record_keeps.Statement.{statement}
 use Rattle.record.proofs.record_keeps.Tie as tie
@@ -22,7 +22,7 @@ past-running : (c : tie.Else1)
     → let a = c .before .before .before .args in
     let b = a .bytes .now in
     both (allFit b) (recordRanges (a .place) (a .count) b)
-    ≡ both (emvMode b) (both (zeroed b 0x95) (both (eqb (a .place .limit) (limitOf b)) (both (accepts (locatorIn b)) (both (between 1 (a .place .number) (recordsIn b)) (eqb (a .count) (1 + a .place .number))))))
+    ≡ both (eitherMode b) (both (zeroed b 0x95) (both (eqb (a .place .limit) (limitOf b)) (both (accepts (locatorIn b)) (both (between 1 (a .place .number) (recordsIn b)) (eqb (a .count) (1 + a .place .number))))))
 unfolding recordRanges
 past-running c = both-assoc _ _ _ ∙ both-true _ (sym (c .before .runs .ensures) ∙ not-false _ (c .if1 .left))
 
@@ -31,7 +31,7 @@ past-mode : (c : tie.Else2)
     let b = a .bytes .now in
     both (allFit b) (recordRanges (a .place) (a .count) b)
     ≡ both (zeroed b 0x95) (both (eqb (a .place .limit) (limitOf b)) (both (accepts (locatorIn b)) (both (between 1 (a .place .number) (recordsIn b)) (eqb (a .count) (1 + a .place .number)))))
-past-mode c = past-running (c .before .before) ∙ both-true _ (sym (c .before .is-emv .ensures) ∙ not-false _ (c .if2 .left))
+past-mode c = past-running (c .before .before) ∙ both-true _ (sym (c .before .is-either .ensures) ∙ not-false _ (c .if2 .left))
 
 past-95 : (c : tie.Else3)
     → let a = c .before .before .before .before .before .before .before .before .args in
@@ -64,7 +64,7 @@ unfolding recordRanges
 returns c = sym (both-assoc _ _ _ ∙ both-no-left _ _ (sym (c .before .runs .ensures) ∙ not-true _ (c .if1 .taken)))
 
 returns-2 : tie.Need-returns-2
-returns-2 c = sym (past-running (c .before .before) ∙ both-no-left _ _ (sym (c .before .is-emv .ensures) ∙ not-true _ (c .if2 .taken)))
+returns-2 c = sym (past-running (c .before .before) ∙ both-no-left _ _ (sym (c .before .is-either .ensures) ∙ not-true _ (c .if2 .taken)))
 
 returns-3 : tie.Need-returns-3
 returns-3 c =

@@ -11,7 +11,7 @@ use Rattle.basics.proofs.Laws.{both-true, both-assoc, both-no-left, either-fals
 use Rattle.dictionary.specs.TerminalType.{listed}
 use Rattle.dictionary.proofs.Named.{at-95, at-9F35}
 use Rattle.store.specs.Held.{holds, byteIn}
-use Rattle.record.specs.Ranges.{allFit, brought, cryptogramAbsent, running}
+use Rattle.record.specs.Ranges.{allFit, brought, lastAbsent, running}
 use Rattle.record.proofs.Tests.{both-cross}
 use Rattle.record.proofs.Tags.{held-is, bytes-are}
 use Rattle.record.proofs.runs.Statement.{statement}
@@ -22,18 +22,18 @@ kept-is : (c : tie.After-all-keep) → let b = c .before .before .args .bytes .n
 kept-is c = c .all-keep .ensures ∙ ap (both (allFit _)) (either-false _ refl)
 
 -- the walk stands before the other clauses
-apart : (b : List ℕ) → both (allFit b) (running b) ≡ both (both (allFit b) (brought b)) (both (holds b 0x95) (both (listed (byteIn b 0x9F35 1)) (cryptogramAbsent b)))
+apart : (b : List ℕ) → both (allFit b) (running b) ≡ both (both (allFit b) (brought b)) (both (holds b 0x95) (both (listed (byteIn b 0x9F35 1)) (lastAbsent b)))
 unfolding running
 apart b = both-assoc (allFit b) (holds b 0x95) _ ∙ both-cross (allFit b) (holds b 0x95) (brought b) _
 
 past-kept : (c : tie.Else1)
     → let b = c .before .before .before .args .bytes .now in
-    both (allFit b) (running b) ≡ both (holds b 0x95) (both (listed (byteIn b 0x9F35 1)) (cryptogramAbsent b))
+    both (allFit b) (running b) ≡ both (holds b 0x95) (both (listed (byteIn b 0x9F35 1)) (lastAbsent b))
 past-kept c = apart _ ∙ both-true _ (sym (kept-is (c .before)) ∙ not-false _ (c .if1 .left))
 
 past-95 : (c : tie.Else2)
     → let b = c .before .before .before .before .before .args .bytes .now in
-    both (allFit b) (running b) ≡ both (listed (byteIn b 0x9F35 1)) (cryptogramAbsent b)
+    both (allFit b) (running b) ≡ both (listed (byteIn b 0x9F35 1)) (lastAbsent b)
 past-95 c = past-kept (c .before .before) ∙ both-true _ (held-is _ _ _ at-95 (c .before .is-there .ensures) (not-false _ (c .if2 .left)))
 
 -- what was asked of the terminal's type
@@ -54,7 +54,7 @@ returns-3 c = sym (past-95 (c .before .before .before .before) ∙ both-no-left 
 returns-4 : tie.Need-returns-4
 returns-4 c =
     let e3 = c .before in
-    c .is-cryptogram-absent .ensures
+    c .is-last-absent .ensures
     ∙ sym (past-95 (e3 .before .before .before .before) ∙ both-true _ (sym (kind-is (e3 .before)) ∙ not-false _ (e3 .if3 .left)))
 
 pub runs-spec : {M : Type 1} → statement M

@@ -8,10 +8,10 @@ use lib.ListN.{length}
 use Rattle.locator.specs.declared.Found.{Found}
 use Rattle.locator.specs.Command.{readRecord}
 use Rattle.record.proofs.Tags.{located-no, located-yes}
-use Rattle.record.specs.Ranges.{emvMode}
+use Rattle.record.specs.Ranges.{eitherMode}
 use Rattle.record.specs.Session.{commandsTurn}
 use Rattle.session.specs.Answer.{recordPhase, askFound, optionsThere, optionsRead}
-use Rattle.session.proofs.Laws.{did-as, reply-as, did-without-command, is-complete, is-missing, is-emv, is-stripe, found-as, found-there, options-missing, options-mode, options-locator, options-ask}
+use Rattle.session.proofs.Laws.{did-as, reply-as, did-without-command, is-complete, is-missing, is-carried, is-off, found-as, found-there, options-missing, options-mode, options-locator, options-ask}
 use Rattle.session.proofs.after_options.Statement.{statement}
 use Rattle.session.proofs.after_options.Tie as tie
 
@@ -19,8 +19,8 @@ use Rattle.session.proofs.after_options.Tie as tie
 there : (c : tie.After-enum-told) → let b = c .before .before .before .before .before .args .bytes .now in optionsThere b ≡ true
 there c = is-complete _ (c .before .before .options-there .ensures) (c .enum-told .given .1)
 
-emv : (c : tie.After-enum-told3) → emvMode (c .before .before .before .before .before .before .before .before .args .bytes .now) ≡ true
-emv c = is-emv _ (c .before .before .mode-in .ensures) (c .enum-told3 .given .1)
+carried : (c : tie.After-enum-told3) → eitherMode (c .before .before .before .before .before .before .before .before .args .bytes .now) ≡ true
+carried c = is-carried _ (c .before .before .mode-in .ensures) (c .enum-told3 .given .1)
 
 -- past all three, the first record decides
 asked : (c : tie.After-record-at) (x : Found) → let a = c .before .before .before .before .before .before .before .before .before .before .before .before .before .args in c .record-at .result ≡ x
@@ -28,7 +28,7 @@ asked : (c : tie.After-record-at) (x : Found) → let a = c .before .before .bef
 asked c x e =
     let v = c .before .before .before .before in
     let m = c .before .before .before .before .before in
-    options-ask _ _ _ x (there (m .before .before .before)) (emv m) (located-yes _ (v .value .ensures) (sym (c .before .before .before .check .ensures .0) ∙ c .before .enum-told5 .given .1) .0)
+    options-ask _ _ _ x (there (m .before .before .before)) (carried m) (located-yes _ (v .value .ensures) (sym (c .before .before .before .check .ensures .0) ∙ c .before .enum-told5 .given .1) .0)
     (found-as (c .record-at .ensures) e _ 1 (v .value .ensures) refl)
 
 returns : tie.Need-returns
@@ -36,13 +36,13 @@ returns c = did-without-command _ (c .fails .ensures) (options-missing _ _ _ (is
 
 returns-2 : tie.Need-returns-2
 returns-2 c =
-    did-without-command _ (c .fails2 .ensures) (options-mode _ _ _ (there (c .before .before .before .before)) (is-stripe _ (c .before .before .before .mode-in .ensures) (c .before .enum-told4 .given .1)))
+    did-without-command _ (c .fails2 .ensures) (options-mode _ _ _ (there (c .before .before .before .before)) (is-off _ (c .before .before .before .mode-in .ensures) (c .before .enum-told4 .given .1)))
 
 returns-3 : tie.Need-returns-3
 returns-3 c =
     let m = c .before .before .before .before .before in
     did-without-command _ (c .fails3 .ensures)
-    (options-locator _ _ _ (there (m .before .before .before)) (emv m) (located-no _ (c .before .before .before .before .value .ensures) (sym (c .before .before .before .check .ensures .0) ∙ c .before .enum-told6 .given .1)))
+    (options-locator _ _ _ (there (m .before .before .before)) (carried m) (located-no _ (c .before .before .before .before .value .ensures) (sym (c .before .before .before .check .ensures .0) ∙ c .before .enum-told6 .given .1)))
 
 returns-4 : tie.Need-returns-4
 returns-4 c = did-without-command _ (c .fails4 .ensures) (asked (c .before .before .before) Found.Nothing (c .before .enum-told7 .given .1))

@@ -20,7 +20,7 @@ next c x e =
     (found-as (c .record-at .ensures) e _ _ (c .before .value .ensures) (ap (λ (n : ℕ). n + 1) (c .before .before .before .wide .ensures .0)))
 
 returns : tie.Need-returns
-returns c = did-as (next (c .before .before .before .before .before .before .before .before .before) Found.Nothing (c .before .before .before .before .before .before .before .enum-told .given .1)) (c .before .before .before .before .after-records .ensures)
+returns c = did-as (next (c .before .before .before .before .before .before .before .before .before) Found.Nothing (c .before .before .before .before .before .before .before .enum-told .given .1)) (c .before .before .before .before .after-last .ensures)
 
 add-t18 : tie.Need-add-t18
 add-t18 c = omega (arith, found-there _ _ (c .before .before .before .record-at .ensures) (c .before .found .given .1) .1, c .before .before .before .before .before .before .wide .ensures .0)

@@ -41,6 +41,9 @@ take-record-requires c κs = ((search needs, omega (arith, count-most _ (ranged 
 take-cryptogram-requires : tie.Need-take-cryptogram-requires
 take-cryptogram-requires c κs = store-size _ (ranged (c .before .before .before .before))
 
+take-checksum-requires : tie.Need-take-checksum-requires
+take-checksum-requires c κs = store-size _ (ranged (c .before .before .before))
+
 returns-3 : tie.Need-returns-3
 returns-3 c =
     let e = c .before .enum-told .given .1 in
@@ -60,7 +63,11 @@ returns-6 c =
 
 returns-7 : tie.Need-returns-7
 returns-7 c =
-    let e = c .before .enum-told3 .given .1 in
+    did-as (by-phase (c .before .before .before .before .before .before) _ (c .before .before .before .before .enum-told3 .given .1)) (record { reply = c .before .before .take-checksum .ensures; buffer = refl })
+
+returns-8 : tie.Need-returns-8
+returns-8 c =
+    let e = c .before .enum-told4 .given .1 in
     did-without-command _ (c .refused4 .ensures ∙ ap (λ (q : Phase). refusedTurn q (c .before .before .before .before .before .before .before .before .before .before .args .count) refusedPhase) e) (by-phase (c .before .before .before) _ e)
 
 pub answer-in-spec : {M : Type 1} → statement M
@@ -82,6 +89,8 @@ answer-in-spec =
     (λ c. search needs)
     take-cryptogram-requires
     (λ c. search needs)
+    take-checksum-requires
+    (λ c. search needs)
     (λ c κs. search needs)
     (λ c. search needs)
     returns-3
@@ -94,4 +103,6 @@ answer-in-spec =
     (λ c. search needs)
     returns-6
     (λ c. search needs)
-    returns-7)
+    returns-7
+    (λ c. search needs)
+    returns-8)

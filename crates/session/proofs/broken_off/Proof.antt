@@ -41,7 +41,10 @@ returns-6 c =
     (by-phase (c .before .before .before .before .before) _ (c .before .before .before .phase .given .1))
 
 returns-7 : tie.Need-returns-7
-returns-7 c = did-without-command _ (c .refused4 .ensures) (by-phase (c .before .before .before) _ (c .before .enum-told4 .given .1))
+returns-7 c = did-without-command _ (c .fails4 .ensures) (by-phase (c .before .before .before) _ (c .before .enum-told4 .given .1))
+
+returns-8 : tie.Need-returns-8
+returns-8 c = did-without-command _ (c .refused4 .ensures) (by-phase (c .before .before .before) _ (c .before .enum-told5 .given .1))
 
 pub broken-off-spec : {M : Type 1} → statement M
 broken-off-spec =
@@ -63,8 +66,11 @@ broken-off-spec =
     (λ c κs. search needs)
     (λ c. search needs)
     (λ c κs. search needs)
+    (λ c. search needs)
+    (λ c κs. search needs)
     returns-3
     returns-4
     returns-5
     returns-6
-    returns-7)
+    returns-7
+    returns-8)

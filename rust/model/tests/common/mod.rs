@@ -20,7 +20,7 @@ pub fn hex(text: &str) -> Vec<u8> {
 }
 
 /// The objects of an ordinary start, each as one text.
-pub const START: [&str; 16] = [
+pub const START: [&str; 17] = [
     "9A 03 250615",
     "9C 01 00",
     "9F02 06 000000001234",
@@ -29,6 +29,7 @@ pub const START: [&str; 16] = [
     "9F33 03 E0F8C8",
     "9F35 01 22",
     "9F37 04 11223344",
+    "9F6A 04 00003456",
     "DF811B 01 00",
     "DF8120 05 0000000000",
     "DF8121 05 0000000000",
@@ -222,7 +223,7 @@ impl Host {
 
     /// The head of the record without the limit in force: version, phase, two bytes of detail, count, method.
     pub fn head(&self) -> [u8; 6] {
-        if !matches!(self.session[1], 2 | 3) {
+        if !matches!(self.session[1], 2 | 3 | 5) {
             assert_eq!(self.session[6..HEAD_SIZE], [0; 8]);
         }
         self.session[..6].try_into().expect("a whole record")
