@@ -98,11 +98,16 @@ tally n g = record { objects = n; good = g }
 abbrev pub Has : ℕ → Work → Contents → List ℕ → Type 0
 Has n w r b = (r ≡ Whole (tally n (w .good))) × (b ≡ w .store)
 
--- after n objects and the work w, a tree directly inside the template `around`: its count is added and its objects are
--- taken. r is what is said and b the working store that is left; malformed bytes leave the working store free.
+-- a tree directly inside the template `around`, after n objects and the work w: its count is added, its objects are
+-- taken, and k holds of both; r is what is said where there is no tree
+abbrev pub Then : ℕ → ℕ → Option Forest → Contents → (ℕ → Work → Type 0) → ℕ → Work → Type 0
+Then answer around none r k n w = r ≡ Broken
+Then answer around (some f) r k n w = k (n + count f) (takeAll answer w (items around f))
+
+-- the same with nothing behind it: r is what is said and b the working store that is left; malformed bytes leave the
+-- working store free
 abbrev pub Leaves : ℕ → ℕ → ℕ → Work → Option Forest → Contents → List ℕ → Type 0
-Leaves answer around n w none r b = r ≡ Broken
-Leaves answer around n w (some f) r b = Has (n + count f) (takeAll answer w (items around f)) r b
+Leaves answer around n w f r b = Then answer around f r (λ m v. Has m v r b) n w
 
 -- the same after the objects of a tally, into the store b
 abbrev pub Reads : ℕ → ℕ → Tally → List ℕ → Option Forest → Contents → List ℕ → Type 0
