@@ -1,67 +1,53 @@
+-- `reading::judge_contents` meets its contract: whether the contents are whole, the outer tag, the objects.
+-- Assumes nothing.
 use borrow.Author.Needs.{needs}
+use mathlib.Core.Path.{_≡_, sym, ap, _∙_}
+use borrow.Author.Tests.{eq-eqb, ne-eqb, not-true, not-false}
+use Rattle.basics.proofs.Laws.{if-yes, if-no}
+use Rattle.reading.specs.Inner.{contentsReading}
 use Rattle.reading.proofs.judge_contents.Statement.{statement}
 use Rattle.reading.proofs.judge_contents.Tie as tie
-use Rattle.reading.proofs.judge_contents.Reads as reads
-use Rattle.reading.proofs.judge_contents.Lts as lts
-use Rattle.reading.proofs.made.Reads as made-reads
-use Rattle.reading.proofs.template_tag.Reads as template-tag-reads
 
--- src/lib.rt:314:25
-enum-known-contents : tie.Need-enum-known-contents
-enum-known-contents c = search needs
-
--- src/lib.rt:315:21
-enum-told : tie.Need-enum-told
-enum-told c = search needs
-
--- src/lib.rt:315:9
-made-requires : tie.Need-made-requires
-made-requires c κs = search needs
-
--- src/lib.rt:315:9
 returns : tie.Need-returns
-returns c = ?
+unfolding contentsReading
+returns c = c .made .ensures ∙ sym (ap (contentsReading _ _) (c .before .enum-told .given .1))
 
--- src/lib.rt:318:15
-template-tag-requires : tie.Need-template-tag-requires
-template-tag-requires c κs = search needs
-
--- src/lib.rt:319:9
-made-requires-2 : tie.Need-made-requires-2
-made-requires-2 c κs = search needs
-
--- src/lib.rt:319:9
 returns-2 : tie.Need-returns-2
-returns-2 c = ?
+unfolding contentsReading
+returns-2 c =
+    c .made2 .ensures
+    ∙ sym
+    (ap (contentsReading _ _) (c .before .before .before .before .contents .given .1)
+    ∙ if-no _ _ (ne-eqb _ _ (λ e. c .before .if1 .taken (e ∙ sym (c .before .before .template-tag .ensures)))))
 
--- src/lib.rt:322:9
-made-requires-3 : tie.Need-made-requires-3
-made-requires-3 c κs = search needs
-
--- src/lib.rt:322:9
 returns-3 : tie.Need-returns-3
-returns-3 c = ?
+unfolding contentsReading
+returns-3 c =
+    c .made3 .ensures
+    ∙ sym
+    (ap (contentsReading _ _) (c .before .before .before .before .before .before .contents .given .1)
+    ∙ if-yes _ _ (eq-eqb _ _ (c .before .before .before .if1 .left ∙ c .before .before .before .before .template-tag .ensures)) ∙ if-no _ _ (not-true _ (c .before .if2 .taken)))
 
--- src/lib.rt:324:5
-made-requires-4 : tie.Need-made-requires-4
-made-requires-4 c κs = search needs
-
--- src/lib.rt:311:1
 returns-4 : tie.Need-returns-4
-returns-4 c = ?
+unfolding contentsReading
+returns-4 c =
+    c .made4 .ensures
+    ∙ sym
+    (ap (contentsReading _ _) (c .before .before .before .before .before .before .contents .given .1)
+    ∙ if-yes _ _ (eq-eqb _ _ (c .before .before .before .if1 .left ∙ c .before .before .before .before .template-tag .ensures)) ∙ if-yes _ _ (not-false _ (c .before .if2 .left)))
 
 pub judge-contents-spec : {M : Type 1} → statement M
 judge-contents-spec =
     tie.close
     (tie.spec
-    enum-known-contents
-    enum-told
-    made-requires
+    (λ c. search needs)
+    (λ c. search needs)
+    (λ c κs. search needs)
     returns
-    template-tag-requires
-    made-requires-2
+    (λ c κs. search needs)
+    (λ c κs. search needs)
     returns-2
-    made-requires-3
+    (λ c κs. search needs)
     returns-3
-    made-requires-4
+    (λ c κs. search needs)
     returns-4)

@@ -1,58 +1,36 @@
+-- `reading::read_answer` meets its contract: how it begins decides (`decided`), or leads to the body (`with-body`).
+-- Assumes nothing.
 use borrow.Author.Needs.{needs}
+use mathlib.Core.Path.{sym, _∙_}
+use native.Mathlib.Omega.{arith}
+use lib.ListN.{length-take}
+use Rattle.reading.proofs.Stages.{begin-size, decided, with-body}
 use Rattle.reading.proofs.read_answer.Statement.{statement}
 use Rattle.reading.proofs.read_answer.Tie as tie
-use Rattle.reading.proofs.read_answer.Reads as reads
-use Rattle.reading.proofs.read_answer.Lts as lts
-use Rattle.reading.proofs.begin.Reads as begin-reads
-use Rattle.reading.proofs.made.Reads as made-reads
-use Rattle.reading.proofs.read_body.Reads as read-body-reads
 
--- src/lib.rt:102:9
-begin-requires : tie.Need-begin-requires
-begin-requires c κs = search needs
-
--- src/lib.rt:104:28
-enum-known-beginning : tie.Need-enum-known-beginning
-enum-known-beginning c = search needs
-
--- src/lib.rt:104:40
-made-requires : tie.Need-made-requires
-made-requires c κs = search needs
-
--- src/lib.rt:105:25
-enum-known-beginning-2 : tie.Need-enum-known-beginning-2
-enum-known-beginning-2 c = search needs
-
--- src/lib.rt:105:57
 slice-aggregate-read-body : tie.Need-slice-aggregate-read-body
-slice-aggregate-read-body c = ?
+slice-aggregate-read-body c =
+    let l = begin-size _ _ _ (sym (c .before .before .before .before .before .begin .ensures) ∙ c .before .before .before .beginning2 .given .1) in
+    simp length-take (omega arith)
 
--- src/lib.rt:105:31
-read-body-requires : tie.Need-read-body-requires
-read-body-requires c κs = search needs
-
--- src/lib.rt:95:1
 returns : tie.Need-returns
-returns c = ?
+returns c = decided _ _ _ _ (sym (c .before .before .before .before .begin .ensures) ∙ c .before .before .beginning .given .1) (c .made .ensures) (c .before .before .before .before .before .before .before .pre)
 
--- src/lib.rt:95:1
-same-length : tie.Need-same-length
-same-length c = search needs
-
--- src/lib.rt:95:1
 returns-2 : tie.Need-returns-2
-returns-2 c = ?
+returns-2 c =
+    let r = c .before .before .read-body .ensures in
+    with-body _ _ _ _ (sym (c .before .before .before .before .before .before .before .before .begin .ensures) ∙ c .before .before .before .before .before .before .beginning2 .given .1) (r .0) (r .1 .0) (r .1 .1 .0)
 
 pub read-answer-spec : {M : Type 1} → statement M
 read-answer-spec =
     tie.close
     (tie.spec
-    begin-requires
-    enum-known-beginning
-    made-requires
-    enum-known-beginning-2
+    (λ c κs. search needs)
+    (λ c. search needs)
+    (λ c κs. search needs)
+    (λ c. search needs)
     slice-aggregate-read-body
-    read-body-requires
+    (λ c κs. search needs)
     returns
-    same-length
+    (λ c. search needs)
     returns-2)

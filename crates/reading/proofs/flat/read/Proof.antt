@@ -1,3 +1,15 @@
+-- `flat::read` meets its contract. The invariant is `Reached` (proofs/Frames), which has a law for each way through a turn. The measure
+-- counts what is left of the bytes twice and each open level once: an object takes two bytes at least, and an end closes a level.
+-- Assumes nothing.
+use borrow.Author.Needs.{needs}
+use mathlib.Core.Path.{_≡_, refl, sym, _∙_}
+use Prim.Native.Nat.{_+_, _-_, _*_}
+use native.Mathlib.Omega.{arith}
+use lib.ListN.{length, getD}
+use Rattle.tlv.specs.declared.Following.the-variants.{Inner}
+use Rattle.tlv.specs.Tree.{nextOf}
+use Rattle.reading.proofs.Laws.{did}
+use Rattle.reading.proofs.Frames.{part, Reached, begin, inside, failed, done, close, deep, leaf, push, bounds}
 use Rattle.reading.proofs.flat.read.Statement.{statement}
 use Rattle.reading.proofs.flat.read.Tie as tie
 use Rattle.reading.proofs.flat.read.Reads as reads
@@ -7,147 +19,51 @@ use Rattle.tlv.proofs.next.Reads as next-reads
 
 abbrev Inv-loop : tie.InvT-loop
 Inv-loop bytes tag answer store₀ tags codes places ends₀ around₀ depth₀ at₀ n₀ good₀ store ends around depth at n good =
-    ?
+    Reached bytes tag answer store₀ store ends around depth at n good
 
 abbrev μ-loop : tie.MeasureT-loop
-μ-loop bytes tag answer store₀ tags codes places ends₀ around₀ depth₀ at₀ n₀ good₀ store ends around depth at n good =
-    ?
+μ-loop bytes tag answer store₀ tags codes places ends₀ around₀ depth₀ at₀ n₀ good₀ store ends around depth at n good = 2 * (length bytes - at) + depth
 
--- src/flat.rt:131:5
-loop-holds : tie.Need-loop-holds Inv-loop μ-loop
-loop-holds c = ?
+-- where an object is next
+abbrev At-object : Type 0
+At-object = lts.After-following (next-reads.Asked, next-reads.Learnt, take-next-reads.Asked, take-next-reads.Learnt) reads.Pre reads.Post Inv-loop μ-loop
 
--- src/flat.rt:132:19
-mul-end : tie.Need-mul-end Inv-loop μ-loop
-mul-end c = ?
+next-at : (c : At-object)
+    → nextOf (part (c .before .before .before .before .before .before .args .bytes .now) (c .before .before .before .before .loop .at) (getD (c .before .before .before .before .loop .ends) (c .before .before .before .before .loop .depth) 0))
+    ≡ Inner (c .following .given .0 .0)
+next-at c = sym (c .before .before .next .ensures .0) ∙ c .following .given .1
 
--- src/flat.rt:132:19
-array-read-end : tie.Need-array-read-end Inv-loop μ-loop
-array-read-end c = ?
-
--- src/flat.rt:133:35
-sub-next : tie.Need-sub-next Inv-loop μ-loop
-sub-next c = ?
-
--- src/flat.rt:133:35
-part-next-start : tie.Need-part-next-start Inv-loop μ-loop
-part-next-start c = ?
-
--- src/flat.rt:133:35
-part-next-end : tie.Need-part-next-end Inv-loop μ-loop
-part-next-end c = ?
-
--- src/flat.rt:133:13
-next-requires : tie.Need-next-requires Inv-loop μ-loop
-next-requires c κs = ?
-
--- src/flat.rt:135:37
-enum-told : tie.Need-enum-told Inv-loop μ-loop
-enum-told c = ?
-
--- src/flat.rt:135:37
 returns : tie.Need-returns Inv-loop μ-loop
-returns c = ?
+returns c =
+    let w = c .before .before .before .before .loop .inv in
+    (failed w (sym (c .before .before .next .ensures .0) ∙ c .enum-told .given .1) _, (omega arith, w .sized))
 
--- src/flat.rt:137:20
-enum-told-2 : tie.Need-enum-told-2 Inv-loop μ-loop
-enum-told-2 c = ?
-
--- src/flat.rt:138:21
 returns-2 : tie.Need-returns-2 Inv-loop μ-loop
-returns-2 c = ?
+returns-2 c =
+    let w = c .before .before .before .before .before .loop .inv in
+    let i = inside w in
+    (done w (sym (c .before .before .before .next .ensures .0) ∙ c .before .enum-told2 .given .1) (c .if1 .taken), (omega (arith, w .half), w .sized))
 
--- src/flat.rt:140:17
-sub-depth : tie.Need-sub-depth Inv-loop μ-loop
-sub-depth c = ?
-
--- src/flat.rt:131:5
-loop-less : tie.Need-loop-less Inv-loop μ-loop
-loop-less c = ?
-
--- src/flat.rt:131:5
 loop-again : tie.Need-loop-again Inv-loop μ-loop
-loop-again c = ?
+loop-again c =
+    close (c .before .before .before .before .before .loop .inv) (sym (c .before .before .before .next .ensures .0) ∙ c .before .enum-told2 .given .1) (c .if1 .left)
 
--- src/flat.rt:143:30
-enum-known-following : tie.Need-enum-known-following Inv-loop μ-loop
-enum-known-following c = ?
-
--- src/flat.rt:144:29
-add-start : tie.Need-add-start Inv-loop μ-loop
-add-start c = ?
-
--- src/flat.rt:145:25
-add-e : tie.Need-add-e Inv-loop μ-loop
-add-e c = ?
-
--- src/flat.rt:146:17
-add-n : tie.Need-add-n Inv-loop μ-loop
-add-n c = ?
-
--- src/flat.rt:148:21
-add-depth : tie.Need-add-depth Inv-loop μ-loop
-add-depth c = ?
-
--- src/flat.rt:150:25
 returns-3 : tie.Need-returns-3 Inv-loop μ-loop
-returns-3 c = ?
+returns-3 c =
+    let o = c .before .before .before .before .before in
+    let w = o .before .before .before .before .loop .inv in
+    (deep w _ (next-at o) (c .before .if2 .taken) (c .if3 .taken) _, (omega arith, w .sized))
 
--- src/flat.rt:152:21
-mul-ends : tie.Need-mul-ends Inv-loop μ-loop
-mul-ends c = ?
-
--- src/flat.rt:152:21
-array-write-ends : tie.Need-array-write-ends Inv-loop μ-loop
-array-write-ends c = ?
-
--- src/flat.rt:153:21
-mul-around : tie.Need-mul-around Inv-loop μ-loop
-mul-around c = ?
-
--- src/flat.rt:153:21
-array-write-around : tie.Need-array-write-around Inv-loop μ-loop
-array-write-around c = ?
-
--- src/flat.rt:131:5
-loop-less-2 : tie.Need-loop-less-2 Inv-loop μ-loop
-loop-less-2 c = ?
-
--- src/flat.rt:131:5
 loop-again-2 : tie.Need-loop-again-2 Inv-loop μ-loop
-loop-again-2 c = ?
+loop-again-2 c =
+    let o = c .before .before .before .before .before in
+    push (o .before .before .before .before .loop .inv) _ (next-at o) (c .before .if2 .taken) (c .if3 .left)
 
--- src/flat.rt:156:33
-sub-value : tie.Need-sub-value Inv-loop μ-loop
-sub-value c = ?
-
--- src/flat.rt:156:33
-part-value-start : tie.Need-part-value-start Inv-loop μ-loop
-part-value-start c = ?
-
--- src/flat.rt:156:33
-part-value-end : tie.Need-part-value-end Inv-loop μ-loop
-part-value-end c = ?
-
--- src/flat.rt:157:58
-mul-take-next : tie.Need-mul-take-next Inv-loop μ-loop
-mul-take-next c = ?
-
--- src/flat.rt:157:58
-array-read-take-next : tie.Need-array-read-take-next Inv-loop μ-loop
-array-read-take-next c = ?
-
--- src/flat.rt:157:21
-take-next-requires : tie.Need-take-next-requires Inv-loop μ-loop
-take-next-requires c κs = ?
-
--- src/flat.rt:131:5
-loop-less-3 : tie.Need-loop-less-3 Inv-loop μ-loop
-loop-less-3 c = ?
-
--- src/flat.rt:131:5
 loop-again-3 : tie.Need-loop-again-3 Inv-loop μ-loop
-loop-again-3 c = ?
+loop-again-3 c =
+    let o = c .before .before .before .before .before .before .before in
+    let t = c .take-next in
+    leaf (o .before .before .before .before .loop .inv) _ (next-at o) (c .before .before .before .if2 .left) _ _ (did (t .ensures .0) (t .ensures .1 .0)) (t .ensures .1 .1)
 
 pub read-spec : {M : Type 1} → statement M
 read-spec =
@@ -155,37 +71,37 @@ read-spec =
     (tie.spec
     Inv-loop
     μ-loop
-    loop-holds
-    mul-end
-    array-read-end
-    sub-next
-    part-next-start
-    part-next-end
-    next-requires
-    enum-told
+    (λ c. begin _ _ _ _ _ _ refl refl refl refl (c .before .pre .0))
+    (λ c. let w = c .loop .inv in omega arith)
+    (λ c. let w = c .loop .inv in omega arith)
+    (λ c. let i = inside (c .loop .inv) in omega arith)
+    (λ c. let i = inside (c .loop .inv) in omega arith)
+    (λ c. let i = inside (c .loop .inv) in omega arith)
+    (λ c κs. search needs)
+    (λ c. search needs)
     returns
-    enum-told-2
+    (λ c. search needs)
     returns-2
-    sub-depth
-    loop-less
+    (λ c. omega arith)
+    (λ c. let i = inside (c .before .before .before .before .before .loop .inv) in omega arith)
     loop-again
-    enum-known-following
-    add-start
-    add-e
-    add-n
-    add-depth
+    (λ c. search needs)
+    (λ c. let o = c .before .before in let i = bounds (o .before .before .before .before .loop .inv) _ (next-at o) in omega arith)
+    (λ c. let o = c .before .before .before in let i = bounds (o .before .before .before .before .loop .inv) _ (next-at o) in omega arith)
+    (λ c. let o = c .before .before .before in let w = o .before .before .before .before .loop .inv in let i = inside w in omega (arith, w .half))
+    (λ c. let w = c .before .before .before .before .before .before .before .before .loop .inv in omega (arith, w .few))
     returns-3
-    mul-ends
-    array-write-ends
-    mul-around
-    array-write-around
-    loop-less-2
+    (λ c. let w = c .before .before .before .before .before .before .before .before .before .loop .inv in omega (arith, w .few))
+    (λ c. let w = c .before .before .before .before .before .before .before .before .before .loop .inv in omega (arith, w .few, w .ends-four))
+    (λ c. let w = c .before .before .before .before .before .before .before .before .before .loop .inv in omega (arith, w .few))
+    (λ c. let w = c .before .before .before .before .before .before .before .before .before .loop .inv in omega (arith, w .few, w .around-four))
+    (λ c. let o = c .before .before .before .before .before in let i = bounds (o .before .before .before .before .loop .inv) _ (next-at o) in omega arith)
     loop-again-2
-    sub-value
-    part-value-start
-    part-value-end
-    mul-take-next
-    array-read-take-next
-    take-next-requires
-    loop-less-3
+    (λ c. omega arith)
+    (λ c. omega arith)
+    (λ c. let o = c .before .before .before .before in let i = bounds (o .before .before .before .before .loop .inv) _ (next-at o) in omega arith)
+    (λ c. let w = c .before .before .before .before .before .before .before .before .before .loop .inv in omega (arith, w .few))
+    (λ c. let w = c .before .before .before .before .before .before .before .before .before .loop .inv in omega (arith, w .few, w .around-four))
+    (λ c κs. let o = c .before .before .before .before .before .before in let st = o .before .before .before .before .before .before in (o .before .before .before .before .loop .inv .sized, st .pre .1 .1))
+    (λ c. let o = c .before .before .before .before .before .before .before in let i = bounds (o .before .before .before .before .loop .inv) _ (next-at o) in omega arith)
     loop-again-3)
