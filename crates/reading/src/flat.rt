@@ -102,8 +102,8 @@ fn read_object(
 }
 
 // The contents of the outer template, whose tag this is. `ends` and `around` have the end and the tag of each open
-// template, the outer one first and the innermost at `depth`; what is next stands at `at`. The primitive objects are
-// taken into the store, each with the tag of the template directly around it.
+// template, the outer one first and the innermost at `depth`; `s` is what is left of the innermost. The primitive
+// objects are taken into the store, each with the tag of the template directly around it.
 fn read(
     bytes: &[u8],
     tag: u32,
@@ -125,37 +125,40 @@ fn read(
     let mut ends = [bytes.len(); LEVELS];
     let mut around = [tag; LEVELS];
     let mut depth = 0;
-    let mut at = 0;
+    let mut s = bytes;
     let mut n = 1;
     let mut good = true;
     loop {
-        let end = ends[depth];
-        let following = tlv::next(&bytes[at..end]);
+        let following = tlv::next(s);
         match following {
             Following::Malformed => return Contents::Broken,
             Following::End => {
                 if depth == 0 {
                     return Contents::Whole(Tally { objects: n, good });
                 }
+                let start = ends[depth];
                 depth -= 1;
-                at = end;
+                let e = ends[depth];
+                s = &bytes[start..e];
             }
             Following::Inner(h) => {
-                let start = at + h.start;
+                let start = h.start;
                 let e = start + h.len;
+                let value = &s[start..e];
+                let rest = &s[e..];
                 n += 1;
                 if h.template {
+                    let end = ends[depth] - rest.len();
                     depth += 1;
                     if depth == LEVELS {
                         return Contents::Broken;
                     }
-                    ends[depth] = e;
+                    ends[depth] = end;
                     around[depth] = h.tag;
-                    at = start;
+                    s = value;
                 } else {
-                    let value = &bytes[start..e];
                     good = crate::take_next(good, h.tag, around[depth], answer, value, store, tags, codes, places);
-                    at = e;
+                    s = rest;
                 }
             }
         }
