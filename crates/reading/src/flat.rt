@@ -138,8 +138,7 @@ fn read(
                 }
                 let start = ends[depth];
                 depth -= 1;
-                let e = ends[depth];
-                s = &bytes[start..e];
+                s = &bytes[start..ends[depth]];
             }
             Following::Inner(h) => {
                 let start = h.start;
@@ -148,13 +147,12 @@ fn read(
                 let rest = &s[e..];
                 n += 1;
                 if h.template {
-                    let end = ends[depth] - rest.len();
-                    depth += 1;
-                    if depth == LEVELS {
+                    if depth + 1 == LEVELS {
                         return Contents::Broken;
                     }
-                    ends[depth] = end;
-                    around[depth] = h.tag;
+                    ends[depth + 1] = ends[depth] - rest.len();
+                    around[depth + 1] = h.tag;
+                    depth += 1;
                     s = value;
                 } else {
                     good = crate::take_next(good, h.tag, around[depth], answer, value, store, tags, codes, places);

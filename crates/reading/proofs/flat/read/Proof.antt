@@ -3,10 +3,8 @@
 -- Assumes nothing.
 use borrow.Author.Needs.{needs}
 use mathlib.Core.Path.{_≡_, refl, sym, _∙_}
-use Prim.Native.Nat.{_+_, _-_, _*_}
 use native.Mathlib.Omega.{arith}
-use lib.ListN.{length, getD, length-take, length-drop}
-use Rattle.tlv.specs.declared.Following.the-variants.{Inner}
+use Rattle.tlv.specs.declared.Following.the-variants.{End, Inner}
 use Rattle.tlv.specs.Tree.{nextOf}
 use Rattle.reading.proofs.Laws.{did}
 use Rattle.reading.proofs.Frames.{Reached, ahead, begin, inside, failed, done, outer-end, close, close-less, bounds, deep, leaf, leaf-less, end-fits, push, push-less}
@@ -24,12 +22,18 @@ Inv-loop bytes tag answer store₀ tags codes places ends₀ around₀ depth₀ 
 abbrev μ-loop : tie.MeasureT-loop
 μ-loop bytes tag answer store₀ tags codes places ends₀ around₀ depth₀ s₀ n₀ good₀ store ends around depth s n good = ahead bytes ends depth s
 
--- where an object is next
+-- where an object is next, and where the innermost template ends and another is open
 abbrev At-object : Type 0
 At-object = lts.After-following (next-reads.Asked, next-reads.Learnt, take-next-reads.Asked, take-next-reads.Learnt) reads.Pre reads.Post Inv-loop μ-loop
 
 next-at : (c : At-object) → nextOf (c .before .before .before .loop .s .now) ≡ Inner (c .following .given .0 .0)
 next-at c = sym (c .before .before .next .ensures .0) ∙ c .following .given .1
+
+abbrev At-end : Type 0
+At-end = lts.Else1 (next-reads.Asked, next-reads.Learnt, take-next-reads.Asked, take-next-reads.Learnt) reads.Pre reads.Post Inv-loop μ-loop
+
+end-at : (c : At-end) → nextOf (c .before .before .before .before .loop .s .now) ≡ End
+end-at c = sym (c .before .before .before .next .ensures .0) ∙ c .before .enum-told2 .given .1
 
 returns : tie.Need-returns Inv-loop μ-loop
 returns c =
@@ -43,8 +47,7 @@ returns-2 c =
     (done w (sym (c .before .before .before .next .ensures .0) ∙ c .before .enum-told2 .given .1) (c .if1 .taken), (omega (arith, w .half), w .sized))
 
 loop-again : tie.Need-loop-again Inv-loop μ-loop
-loop-again c =
-    close (c .before .before .before .before .before .loop .inv) (sym (c .before .before .before .before .next .ensures .0) ∙ c .before .before .enum-told2 .given .1) (c .before .if1 .left)
+loop-again c = close (c .before .before .before .before .before .loop .inv) (end-at (c .before)) (c .before .if1 .left)
 
 returns-3 : tie.Need-returns-3 Inv-loop μ-loop
 returns-3 c =
@@ -76,14 +79,14 @@ read-spec =
     (λ c. search needs)
     returns-2
     (λ c. let w = c .before .before .before .before .loop .inv in omega (arith, w .few))
-    (λ c. let w = c .before .before .before .before .loop .inv in omega (arith, w .few, w .ends-four))
+    (λ c. let w = c .before .before .before .before .loop .inv in omega (arith, w .few))
     (λ c. omega arith)
     (λ c. let w = c .before .before .before .before .loop .inv in omega (arith, w .few))
     (λ c. let w = c .before .before .before .before .loop .inv in omega (arith, w .few))
-    (λ c. let i = outer-end (c .before .before .before .before .loop .inv) (sym (c .before .before .before .next .ensures .0) ∙ c .before .enum-told2 .given .1) (c .if1 .left) in omega arith)
-    (λ c. let i = outer-end (c .before .before .before .before .loop .inv) (sym (c .before .before .before .next .ensures .0) ∙ c .before .enum-told2 .given .1) (c .if1 .left) in omega arith)
-    (λ c. let i = outer-end (c .before .before .before .before .loop .inv) (sym (c .before .before .before .next .ensures .0) ∙ c .before .enum-told2 .given .1) (c .if1 .left) in omega arith)
-    (λ c. close-less (c .before .before .before .before .before .loop .inv) (sym (c .before .before .before .before .next .ensures .0) ∙ c .before .before .enum-told2 .given .1) (c .before .if1 .left))
+    (λ c. let i = outer-end (c .before .before .before .before .loop .inv) (end-at c) (c .if1 .left) in omega arith)
+    (λ c. let i = outer-end (c .before .before .before .before .loop .inv) (end-at c) (c .if1 .left) in omega arith)
+    (λ c. let i = outer-end (c .before .before .before .before .loop .inv) (end-at c) (c .if1 .left) in omega arith)
+    (λ c. close-less (c .before .before .before .before .before .loop .inv) (end-at (c .before)) (c .before .if1 .left))
     loop-again
     (λ c. search needs)
     (λ c. let o = c .before .before in let i = bounds (o .before .before .before .loop .inv) _ (next-at o) in omega arith)
@@ -93,12 +96,15 @@ read-spec =
     (λ c. let o = c .before .before .before in let i = bounds (o .before .before .before .loop .inv) _ (next-at o) in omega arith)
     (λ c. let o = c .before .before .before in let i = bounds (o .before .before .before .loop .inv) _ (next-at o) in omega arith)
     (λ c. let o = c .before .before .before in let i = bounds (o .before .before .before .loop .inv) _ (next-at o) in omega arith)
-    (λ c. let o = c .before .before .before .before in let w = o .before .before .before .loop .inv in let j = inside w in omega (arith, w .half, w .fits))
-    (λ c. let w = c .before .before .before .before .before .before .before .before .loop .inv in omega (arith, w .few))
-    (λ c. let w = c .before .before .before .before .before .before .before .before .loop .inv in omega (arith, w .few))
-    (λ c. let o = c .before .before .before .before .before in end-fits (o .before .before .before .loop .inv) _ (next-at o))
+    (λ c. let w = c .before .before .before .before .before .before .before .loop .inv in let j = inside w in omega (arith, w .half, w .fits))
     (λ c. let w = c .before .before .before .before .before .before .before .before .loop .inv in omega (arith, w .few))
     returns-3
+    (λ c. let w = c .before .before .before .before .before .before .before .before .before .loop .inv in omega (arith, w .few))
+    (λ c. let w = c .before .before .before .before .before .before .before .before .before .loop .inv in omega (arith, w .few))
+    (λ c. let o = c .before .before .before .before .before .before in end-fits (o .before .before .before .loop .inv) _ (next-at o))
+    (λ c. let w = c .before .before .before .before .before .before .before .before .before .loop .inv in omega (arith, w .few))
+    (λ c. let w = c .before .before .before .before .before .before .before .before .before .loop .inv in omega (arith, w .few))
+    (λ c. let w = c .before .before .before .before .before .before .before .before .before .loop .inv in omega (arith, w .few))
     (λ c. let w = c .before .before .before .before .before .before .before .before .before .loop .inv in omega (arith, w .few))
     (λ c. let w = c .before .before .before .before .before .before .before .before .before .loop .inv in omega (arith, w .few))
     (λ c. let w = c .before .before .before .before .before .before .before .before .before .loop .inv in omega (arith, w .few))
