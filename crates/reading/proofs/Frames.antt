@@ -13,7 +13,7 @@ use lib.Seq.{take-take, take-nil, drop-drop, take-all, getD-set-same, getD-set-o
 use Rattle.tlv.specs.declared.Header.{Header}
 use Rattle.tlv.specs.declared.Following.the-variants.{End, Inner, Malformed}
 use Rattle.tlv.specs.Object.{valueIn, behind}
-use Rattle.tlv.specs.Tree.{Forest, end, count, nextOf, withLeaf, withNode, parse}
+use Rattle.tlv.specs.Tree.{Forest, end, count, nextOf, withNode, parse}
 use Rattle.tlv.proofs.Laws.{contents, contents-is, tail, tail-is}
 use Rattle.tlv.proofs.NextObject.{next-fits}
 use Rattle.tlv.proofs.Tree.{parse-end, parse-malformed, parse-deep, parse-node, parse-leaf}
