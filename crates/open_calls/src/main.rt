@@ -5,12 +5,14 @@
 use dictionary::SIZE;
 use journal::{Checker, Verdict};
 use layout::{Held, RECORD_SIZE};
+use reading::{Awaited, Readings};
 use record::Session;
 use run::Said;
 
 fn main() {
     statements();
     parts();
+    readers();
     calls();
     card();
     judge();
@@ -53,6 +55,28 @@ fn said_number(said: Said) -> u8 {
     run::said_number(said)
 }
 
+// ---- both readers of an answer
+
+fn readers() {
+    let read = both(Awaited::Options, b"\x77\x00\x90\x00");
+    let first = read.recursive;
+    let second = read.flat;
+    line(b"reading::read_both, the first's objects", first.objects);
+    line(b"reading::read_both, the second's objects", second.objects);
+    line(b"reading::flat::judge_answer", basics::wide(judged(Awaited::Options, b"\x90\x01")));
+}
+
+fn both(awaited: Awaited, answer: &[u8]) -> Readings {
+    let mut first = [0u8; SIZE];
+    let mut second = [0u8; SIZE];
+    reading::read_both(&mut first, &mut second, awaited, answer)
+}
+
+fn judged(awaited: Awaited, answer: &[u8]) -> u8 {
+    let store = [0u8; SIZE];
+    reading::flat::judge_answer(&store, awaited, answer)
+}
+
 // ---- the exported calls
 
 fn calls() {
@@ -73,6 +97,7 @@ fn calls() {
     word(b"emv_version", host::emv_version());
     found(b"emv_find", find(b"\x6F\x04\x84\x02\x41\x42", 0x84));
     word(b"emv_test_read", test_read(&mut store, 1, 1, b"\x70\x00\x90\x00"));
+    word(b"emv_test_read_flat", test_read_flat(&mut store, 1, 1, b"\x70\x00\x90\x00"));
     word(b"emv_test_journal", test_journal(b"\x07", 0, 1));
     line(b"emv_test_wanted", test_wanted(b"\x07", &mut value));
 }
@@ -119,6 +144,10 @@ fn find(bytes: &[u8], tag: u32) -> u64 {
 
 fn test_read(store: &mut [u8], awaited: u32, file: u8, card: &[u8]) -> u32 {
     reading_test::emv_test_read(store, awaited, file, card)
+}
+
+fn test_read_flat(store: &mut [u8], awaited: u32, file: u8, card: &[u8]) -> u32 {
+    reading_test::emv_test_read_flat(store, awaited, file, card)
 }
 
 fn test_journal(bytes: &[u8], first: usize, part: usize) -> u32 {
