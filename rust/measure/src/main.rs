@@ -78,7 +78,7 @@ fn terminal() -> Vec<u8> {
         "9A 03 250615  9C 01 00  9F02 06 000000001234  9F09 02 0002  9F1A 02 0056  9F35 01 22
          9F37 04 5A3C96E1  9F6A 04 00003456  DF8120 05 0000000000  DF8121 05 0000000000  DF8122 05 0000000000
          DF8123 06 000000010000  DF8124 06 000000100000  DF8125 06 000000200000  DF8126 06 000000002500
-         DF811B 01 00  9F6A 04 00003456  9F33 03 E0F8C8
+         DF811B 01 00  9F33 03 E0F8C8
          9F38 08 9F0206 9A03 9F3704",
     )
 }
@@ -116,7 +116,7 @@ fn full_record(unknown: u8) -> Vec<Vec<u8>> {
     .into();
     for i in 0..12 {
         let length = if i == 0 { unknown + 1 } else { unknown };
-        let mut object = vec![0x9F, 0x50 + i, length];
+        let mut object = vec![0x5F, 0x60 + i, length];
         object.extend((0..length).map(|n| n * 17));
         objects.push(object);
     }
@@ -132,7 +132,7 @@ fn cases() -> Vec<Case> {
     let padded = record(&padded.concat());
     let mut unknown = Vec::new();
     for i in 0..20 {
-        unknown.extend([0x9F, 0x50 + i, 0x04, i, i, i, i]);
+        unknown.extend([0x5F, 0x60 + i, 0x04, i, i, i, i]);
     }
     let unknown = record(&unknown);
     // The last object is cut by one byte.
