@@ -162,7 +162,7 @@ uint32_t emv_stop(uint8_t *session, size_t session_len, uint8_t *command, size_t
 uint32_t emv_count(const uint8_t *session, size_t session_len);
 
 /* Why the session is where it is. Ended with a reason other than 0: EMV_EXPLAIN_REASONS + the reason. Before the cryptogram is asked
- * for: EMV_EXPLAIN_NO_CHOICE. A cryptogram of lower rank (AAC, ARQC, TC) than asked for: EMV_EXPLAIN_LOWER_CRYPTOGRAM. Else the
+ * for, and in mag-stripe mode, ended with reason 0 too: EMV_EXPLAIN_NO_CHOICE. A cryptogram of lower rank (AAC, ARQC, TC) than asked for: EMV_EXPLAIN_LOWER_CRYPTOGRAM. Else the
  * choice, EMV_EXPLAIN_CHOICES + stage * 4096 + holder * 256 + bit: the stage that decided, the lowest bit of 95 that forced it, 0
  * (byte 1 b8) to 39 (byte 5 b1), and whose code holds that bit. Refusal: 25, bytes that hold no record within its ranges, and one
  * that lacks what the answer needs, or whose choice or outcome the rest of it does not give. */

@@ -344,12 +344,39 @@ module _ (b : List ℕ) where
   unfolding endedIn
   ended-given x e n = decided-given x (decidingIn b) (λ z. n (if-yes _ _ (eq-eqb _ _ e) ∙ z))
 
-  -- one that does not say that there is no choice
-  chosen-given : (x : End) → x .reason ≡ reasonNone → (endedBy x b ≡ Explanation.Refused → ⊥) → (endedBy x b ≡ Explanation.NoChoice → ⊥) → Decides b (x .outcome)
-  unfolding endedBy
-  chosen-given x e =
-      if-ind (λ (r : Explanation). (r ≡ Explanation.Refused → ⊥) → (r ≡ Explanation.NoChoice → ⊥) → Decides b (x .outcome)) _ _ _
-      (λ t n m. absurd (m refl)) (λ t n m. ended-given x e n)
+  -- outside mag-stripe mode
+  chosen-given : (x : End) → x .reason ≡ reasonNone → (endedBy x b ≡ Explanation.Refused → ⊥) → isStripe b ≡ false → Decides b (x .outcome)
+  chosen-given x e n m = ended-given x e (λ z. n (by-choice x b m ∙ z))
+
+  -- a choice is told of
+  abbrev Tells : Explanation → Type 0
+  Tells Explanation.Refused = Unit {0}
+  Tells (Explanation.Reason n) = Unit {0}
+  Tells Explanation.NoChoice = ⊥
+  Tells Explanation.LowerCryptogram = Unit {0}
+  Tells (Explanation.Forced c) = Unit {0}
+  Tells (Explanation.Unforced g) = Unit {0}
+
+  reason-tells : (stage : Stage) → Tells (reasonAt b stage)
+  unfolding reasonAt
+  reason-tells stage = go (lowestBit (resultIn b) (pairAt b stage))
+    where
+      go : (l : Lowest) → Tells (byBit stage (pairAt b stage) l)
+      go (Lowest.Bit i) = tt
+      go Lowest.NoBit = tt
+
+  decided-tells : (x : End) (d : Deciding) → Tells (decidedAt x b d)
+  decided-tells x Deciding.Nothing = tt
+  decided-tells x (Deciding.At g) =
+      if-ind Tells _ _ _ (λ t. tt) (λ t. if-ind Tells _ _ _ (λ u. tt) (λ u. if-ind Tells _ _ _ (λ v. tt) (λ v. reason-tells g)))
+
+  ended-tells : (x : End) → Tells (endedIn x b)
+  unfolding endedIn
+  ended-tells x = if-ind Tells _ _ _ (λ t. decided-tells x (decidingIn b)) (λ t. tt)
+
+  -- so no choice is told of in mag-stripe mode alone
+  no-choice-stripe : (x : End) → endedBy x b ≡ Explanation.NoChoice → isStripe b ≡ true
+  no-choice-stripe x e = elim (bool-cases (isStripe b)) [ inl y ↦ y | inr n ↦ absurd (subst Tells (sym (by-choice x b n) ∙ e) (ended-tells x)) ]
 
 -- ---- the promise
 
@@ -366,12 +393,12 @@ module _ (s : Session) where
       P : Explanation → Type 0
       P r = (r ≡ Explanation.Refused → ⊥) → (p : Phase) → s .phase ≡ p → inPhase p (stored s) ≡ Explanation.Refused → ⊥
 
-  chosen-by-phase : (explained s ≡ Explanation.Refused → ⊥) → (explained s ≡ Explanation.NoChoice → ⊥) → (p : Phase) → s .phase ≡ p → inPhase p (stored s) ≡ Explanation.NoChoice → ⊥
+  without-by-phase : (p : Phase) → s .phase ≡ p → explained s ≡ Explanation.NoChoice → inPhase p (stored s) ≡ Explanation.NoChoice
   unfolding explained
-  chosen-by-phase = if-ind P _ _ _ (λ t n m p q z. m (ap (λ (x : Phase). inPhase x (stored s)) q ∙ z)) (λ t n m p q z. n refl)
+  without-by-phase p q = if-ind P _ _ _ (λ t z. ap (λ (x : Phase). inPhase x (stored s)) (sym q) ∙ z) (λ t z. cc)
     where
       P : Explanation → Type 0
-      P r = (r ≡ Explanation.Refused → ⊥) → (r ≡ Explanation.NoChoice → ⊥) → (p : Phase) → s .phase ≡ p → inPhase p (stored s) ≡ Explanation.NoChoice → ⊥
+      P r = r ≡ Explanation.NoChoice → inPhase p (stored s) ≡ Explanation.NoChoice
 
   explained-told : Told s (explained s)
   explained-told =
@@ -381,7 +408,8 @@ module _ (s : Session) where
         unnamed = explained-right .unnamed;
         lower = explained-right .lower;
         held = λ a q n. waiting-held (stored s) a (decidingIn (stored s)) (by-phase n (Phase.Cryptogram a) q);
-        decided = λ x q z n m. chosen-given (stored s) x z (by-phase n (Phase.Ended x) q) (chosen-by-phase n m (Phase.Ended x) q);
+        decided = λ x q z n m. chosen-given (stored s) x z (by-phase n (Phase.Ended x) q) m;
+        without = λ x q z e. no-choice-stripe (stored s) x (without-by-phase (Phase.Ended x) q e);
       }
 
   -- an answer that is the definition's keeps every clause

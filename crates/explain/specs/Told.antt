@@ -23,7 +23,7 @@ use Rattle.explain.specs.declared.Deciding.{Deciding}
 use Rattle.explain.specs.declared.Cause.{Cause}
 use Rattle.explain.specs.declared.Explanation.{Explanation}
 use Rattle.explain.specs.Explain.{resultIn, choiceIn, decidingIn, holderOf, pairAt, rankOf, typeIn, typeAsked}
-use Rattle.explain.specs.Explain.{explained}
+use Rattle.explain.specs.Explain.{isStripe, explained}
 
 -- the choice that a bit held at a stage forces
 abbrev pub forcedBy : Stage → Choice
@@ -65,7 +65,8 @@ abbrev pub Decides : List ℕ → Outcome → Type 0
 Decides b o = decision (choiceIn b) (typeIn b) ≡ some o
 
 -- what is promised of the explanation r of a session; one that is not refused holds the choice that the rest of the
--- record gives, or, where it does not say that there is no choice, the outcome that its cryptogram gives
+-- record gives, or, outside mag-stripe mode, the outcome that its cryptogram gives; after reason 0 there is no choice
+-- in mag-stripe mode alone
 pub record Told (s : Session) (r : Explanation) : Type 0 where
   pub answer : r ≡ explained s
   pub named : (c : Cause) → r ≡ Explanation.Forced c → Named (stored s) c
@@ -74,4 +75,6 @@ pub record Told (s : Session) (r : Explanation) : Type 0 where
   pub held : (a : Asked) → s .phase ≡ Phase.Cryptogram a → (r ≡ Explanation.Refused → ⊥)
       → a .choice ≡ choiceIn (stored s)
   pub decided : (e : End) → s .phase ≡ Phase.Ended e → e .reason ≡ reasonNone → (r ≡ Explanation.Refused → ⊥)
-      → (r ≡ Explanation.NoChoice → ⊥) → Decides (stored s) (e .outcome)
+      → isStripe (stored s) ≡ false → Decides (stored s) (e .outcome)
+  pub without : (e : End) → s .phase ≡ Phase.Ended e → e .reason ≡ reasonNone → r ≡ Explanation.NoChoice
+      → isStripe (stored s) ≡ true

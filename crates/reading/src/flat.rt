@@ -17,7 +17,7 @@ ghost use Rattle.store.specs.Place.{placesOf};
 ghost use Rattle.tlv.specs.Tree.{parse};
 ghost use Rattle.reading.specs.Count.{bodyObjects, answerObjects};
 ghost use Rattle.reading.specs.Inner.{tally, Reads, counted, GivesIn};
-ghost use Rattle.reading.specs.Answer.{Gives, readBody, readAnswer};
+ghost use Rattle.reading.specs.Answer.{Gives, numberOf, readBody, readAnswer};
 
 // How many templates may be open at once, the outer one counted.
 const LEVELS: usize = 4;
@@ -37,15 +37,14 @@ pub fn read_answer(store: &mut [u8], awaited: Awaited, answer: &[u8]) -> Reading
     }
 }
 
-// What a reading says of an answer, by the number of its verdict; the store stays.
-pub fn judge_answer(store: &[u8], awaited: Awaited, answer: &[u8]) -> u8
+// What a reading says of an answer; the store stays.
+pub fn judge_answer(store: &[u8], awaited: Awaited, answer: &[u8]) -> Verdict
     requires { ⌜ length (now store) ≡ storeSize ⌝ }
-    ensures { λ r. ⌜ r ≡ readAnswer awaited (now (store .entry)) (now (answer .entry)) .reason ⌝ }
+    ensures { λ r. ⌜ numberOf r ≡ readAnswer awaited (now (store .entry)) (now (answer .entry)) .reason ⌝ }
 {
     let mut work = [0u8; SIZE];
     bytes::copy(store, &mut work);
-    let verdict = read_answer(&mut work, awaited, answer).verdict;
-    crate::number(verdict)
+    read_answer(&mut work, awaited, answer).verdict
 }
 
 // The body of an answer, read into a working copy, which is the store where all was accepted.

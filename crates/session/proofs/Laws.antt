@@ -410,12 +410,14 @@ module _ (n : ℕ) (b : List ℕ) where
   unfolding checksumTaken
   taken-sound d e = if-yes _ _ e
 
-  -- a track that cannot take the digits: by the reading's reason r
-  module _ (card : List ℕ) {r : ℕ} (e : soundIn b ≡ false) (q : r ≡ reading.readAnswer Awaited.Checksum b card .reason) where
-    pub unsound-read : (r ≡ 0 → ⊥) → checksumReply n b card ≡ ended notApplicable n b (endBy r)
+  -- a track that cannot take the digits: by the reading's verdict v
+  module _ (card : List ℕ) (v : Verdict) (e : soundIn b ≡ false) (q : reading.numberOf v ≡ reading.readAnswer Awaited.Checksum b card .reason) where
+    pub unsound-read : OneOf (1 ∷ 2 ∷ 3 ∷ []) (tagOf verdict-type v) → checksumReply n b card ≡ ended notApplicable n b (endBy (reading.numberOf v))
     unfolding checksumReply
-    unsound-read z = if-no _ _ (ne-eqb _ 0 (λ (y : reading.readAnswer Awaited.Checksum b card .reason ≡ 0). z (q ∙ y))) ∙ ap (λ (x : ℕ). ended notApplicable n b (endBy x)) (sym q)
+    unsound-read h =
+        if-no _ _ (ne-eqb _ 0 (λ (y : reading.readAnswer Awaited.Checksum b card .reason ≡ 0). not-accepted v h (q ∙ y)))
+        ∙ ap (λ (x : ℕ). ended notApplicable n b (endBy x)) (sym q)
 
-    pub unsound-kept : r ≡ 0 → checksumReply n b card ≡ ended notApplicable n b (endBy reasonNotAllowed)
+    pub unsound-kept : v ≡ Accepted → checksumReply n b card ≡ ended notApplicable n b (endBy reasonNotAllowed)
     unfolding checksumReply checksumTaken
-    unsound-kept z = if-yes _ _ (eq-eqb _ 0 (sym q ∙ z)) ∙ if-no _ _ e
+    unsound-kept z = if-yes _ _ (eq-eqb _ 0 (sym q ∙ ap reading.numberOf z)) ∙ if-no _ _ e

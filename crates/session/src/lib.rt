@@ -26,6 +26,7 @@ ghost use lib.ListN.{length};
 ghost use Rattle.basics.specs.Front.{inFront};
 ghost use Rattle.basics.specs.Reason.{reasonNotAllowed, reasonMissing, reasonAboveLimit, reasonMode, unless};
 ghost use Rattle.dictionary.specs.Rows.{storeSize};
+ghost use Rattle.store.specs.Held.{holds};
 ghost use Rattle.locator.specs.Command.{readRecord};
 ghost use Rattle.analysis.specs.Action.{aboveLimit};
 ghost use Rattle.analysis.specs.Verification.{methodNumber};
@@ -491,10 +492,10 @@ fn refuse_track(count: u8, bytes: &[u8], card: &[u8]) -> Turn
     requires { ⌜ soundIn (now bytes) ≡ false ⌝ }
     ensures { λ r. ⌜ replyOf r (now (bytes .entry)) ≡ checksumReply count (now (bytes .entry)) (now (card .entry)) ⌝ }
 {
-    let reason = reader::judge_answer(bytes, Awaited::Checksum, card);
-    if reason != basics::REASON_NONE {
-        return record::fails(count, reason, NOT_APPLICABLE);
-    }
+    let verdict = reader::judge_answer(bytes, Awaited::Checksum, card);
+    let Verdict::Accepted = verdict else {
+        return record::fails(count, reading::number(verdict), NOT_APPLICABLE);
+    };
     record::fails(count, basics::REASON_NOT_ALLOWED, NOT_APPLICABLE)
 }
 
@@ -503,9 +504,9 @@ fn conclude(count: u8, store: &mut [u8]) -> Turn
     requires { ⌜ length (now store) ≡ storeSize ⌝ }
     ensures { λ r. ⌜ replyOf r (now (store .exit)) ≡ checksumRead count (now (store .entry)) ⌝ }
 {
-    if !store::is_there(&store[..], ROW_9F36) {
+    let Needed::Complete = counter_there(&store[..]) else {
         return record::fails(count, basics::REASON_MISSING, NOT_APPLICABLE);
-    }
+    };
     if !store::is_there(&store[..], ROW_9F61) {
         return record::ends(count, Outcome::Declined, basics::REASON_NONE, NOT_APPLICABLE);
     }
@@ -570,6 +571,16 @@ fn track_complete(bytes: &[u8]) -> Needed
     ensures { λ r. ⌜ neededNumber r ≡ unless (trackCompleted (now (bytes .entry))) reasonMissing ⌝ }
 {
     if record::is_track_complete(bytes) {
+        return Needed::Complete;
+    }
+    Needed::Missing
+}
+
+// 9F36 is there.
+fn counter_there(bytes: &[u8]) -> Needed
+    ensures { λ r. ⌜ neededNumber r ≡ unless (holds (now (bytes .entry)) 0x9F36) reasonMissing ⌝ }
+{
+    if store::is_there(bytes, ROW_9F36) {
         return Needed::Complete;
     }
     Needed::Missing

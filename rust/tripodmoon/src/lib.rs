@@ -242,7 +242,7 @@ pub enum Explanation {
     Unforced(Stage),
     /// The card gave a lower cryptogram than the one asked for.
     LowerCryptogram,
-    /// No choice was made yet.
+    /// No choice was made yet, or none is: mag-stripe mode.
     NoChoice,
     /// The session ended with a reason other than 0 (see [`reason_text`]).
     Reason(u8),

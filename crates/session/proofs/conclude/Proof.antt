@@ -4,38 +4,38 @@ use borrow.Author.Needs.{needs}
 use borrow.Author.Tests.{not-true, not-false}
 use mathlib.Core.Path.{_≡_, sym, _∙_}
 use mathlib.Core.Bool.{true}
-use Rattle.dictionary.proofs.Named.{at-9F36, at-9F61}
+use Rattle.dictionary.proofs.Named.{at-9F61}
 use Rattle.store.specs.Held.{holds}
 use Rattle.record.proofs.Tags.{held-is}
-use Rattle.session.proofs.Laws.{reply-as, counter-missing, code-missing, digits-go-in}
+use Rattle.session.proofs.Laws.{reply-as, is-complete, is-missing, counter-missing, code-missing, digits-go-in}
 use Rattle.session.proofs.conclude.Statement.{statement}
 use Rattle.session.proofs.conclude.Tie as tie
 
--- past the first test the counter is there
-counted : (c : tie.Else1) → holds (c .before .before .before .before .args .store .now) 0x9F36 ≡ true
-counted c = held-is _ _ _ at-9F36 (c .before .is-there .ensures) (not-false _ (c .if1 .left))
+-- behind the first answer the counter is there
+counted : (c : tie.After-enum-told) → holds (c .before .before .before .before .before .args .store .now) 0x9F36 ≡ true
+counted c = is-complete _ (c .before .before .counter-there .ensures) (c .enum-told .given .1)
 
 returns : tie.Need-returns
-returns c =
-    reply-as _ (c .fails .ensures)
-    ∙ sym (counter-missing _ _ (held-is _ _ _ at-9F36 (c .before .before .is-there .ensures) (not-true _ (c .before .if1 .taken))))
+returns c = reply-as _ (c .fails .ensures) ∙ sym (counter-missing _ _ (is-missing _ (c .before .before .before .counter-there .ensures) (c .before .enum-told2 .given .1)))
 
 returns-2 : tie.Need-returns-2
 returns-2 c =
     reply-as _ (c .ends .ensures)
-    ∙ sym (code-missing _ _ (counted (c .before .before .before .before)) (held-is _ _ _ at-9F61 (c .before .before .is-there2 .ensures) (not-true _ (c .before .if2 .taken))))
+    ∙ sym (code-missing _ _ (counted (c .before .before .before .before)) (held-is _ _ _ at-9F61 (c .before .before .is-there .ensures) (not-true _ (c .before .if1 .taken))))
 
 returns-3 : tie.Need-returns-3
 returns-3 c =
     let e = c .before .before .before .before .before in
     reply-as _ (c .ends2 .ensures)
-    ∙ sym (digits-go-in _ _ (counted (e .before .before .before)) (held-is _ _ _ at-9F61 (e .before .is-there2 .ensures) (not-false _ (e .if2 .left))) (c .before .before .before .store-digits .ensures))
+    ∙ sym (digits-go-in _ _ (counted (e .before .before .before)) (held-is _ _ _ at-9F61 (e .before .is-there .ensures) (not-false _ (e .if1 .left))) (c .before .before .before .store-digits .ensures))
 
 pub conclude-spec : {M : Type 1} → statement M
 conclude-spec =
     tie.close
     (tie.spec
     (λ c κs. search needs)
+    (λ c. search needs)
+    (λ c. search needs)
     (λ c κs. search needs)
     (λ c. search needs)
     returns

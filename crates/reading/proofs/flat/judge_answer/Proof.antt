@@ -17,9 +17,9 @@ read-answer-requires c κs =
 
 returns : tie.Need-returns
 returns c =
-    let st = c .before .before .before .before .before .before .before .before .before in
-    let e = copied (st .args .store .now) _ _ (st .pre) (c .before .before .before .before .before .copy .ensures .1) in
-    c .number .ensures ∙ c .before .before .read-answer .ensures .0 .reason
+    let st = c .before .before .before .before .before .before .before .before in
+    let e = copied (st .args .store .now) _ _ (st .pre) (c .before .before .before .before .copy .ensures .1) in
+    c .before .read-answer .ensures .0 .reason
     ∙ ap (λ (b : List ℕ). readAnswer (st .args .awaited) b (st .args .answer .now) .reason) e
 
 pub judge-answer-spec : {M : Type 1} → statement M
@@ -30,5 +30,4 @@ judge-answer-spec =
     (λ c κs. search needs)
     (λ c. search needs)
     read-answer-requires
-    (λ c κs. search needs)
     returns)

@@ -1,0 +1,18 @@
+-- `session::counter_there` meets its contract: by row and by tag.
+-- Assumes nothing.
+use borrow.Author.Needs.{needs}
+use mathlib.Core.Path.{sym}
+use Rattle.basics.proofs.Laws.{if-yes, if-no}
+use Rattle.dictionary.proofs.Named.{at-9F36}
+use Rattle.record.proofs.Tags.{held-is}
+use Rattle.session.proofs.counter_there.Statement.{statement}
+use Rattle.session.proofs.counter_there.Tie as tie
+
+returns : tie.Need-returns
+returns c = sym (if-yes _ _ (held-is _ _ _ at-9F36 (c .before .is-there .ensures) (c .if1 .taken)))
+
+returns-2 : tie.Need-returns-2
+returns-2 c = sym (if-no _ _ (held-is _ _ _ at-9F36 (c .before .is-there .ensures) (c .if1 .left)))
+
+pub counter-there-spec : {M : Type 1} → statement M
+counter-there-spec = tie.close (tie.spec (λ c κs. search needs) returns returns-2)
