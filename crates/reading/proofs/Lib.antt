@@ -1,6 +1,9 @@
 pub mod Laws
 pub mod Walk
+pub mod Frames
 pub mod Parts
-pub mod Kept
 pub mod Count
+pub mod Stages
+pub mod Both
+pub mod Kept
 pub mod Examples

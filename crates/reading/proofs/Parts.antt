@@ -1,4 +1,5 @@
--- The reading's steps in order, one law for each way out; and what a reading of the contents says of their tree. Assumes nothing.
+-- What a reading gives, from its parts: a primitive body, a template by what the reading of its contents says of their tree, and a body by
+-- its one object; one law for each way out. Assumes nothing.
 use mathlib.Core.Path.{_≡_, refl, sym, ap, ap₂, _∙_}
 use mathlib.Core.Bool.{Bool, true, false}
 use mathlib.Core.List.{List, [], _∷_}
@@ -20,7 +21,7 @@ use Rattle.reading.specs.declared.Tally.{Tally}
 use Rattle.reading.specs.declared.Contents.the-variants as contents
 use Rattle.reading.specs.Taking.{item, items, Work, work, takeAll}
 use Rattle.reading.specs.Inner.{made, tally, Leaves}
-use Rattle.reading.specs.Answer.{numberOf, Outcome, outcome, Gives, Body, primitive, template, templateBody, frontBody, bodyOf, answerBit, templateTag, optionsParts, issuerPart, cryptogramParts, primitiveParts, templateParts, judged, takenParts, readTree, readBody, isRead, goodStatus, goodLength, readAnswer}
+use Rattle.reading.specs.Answer.{numberOf, Outcome, outcome, Gives, Body, primitive, template, templateBody, frontBody, bodyOf, answerBit, templateTag, optionsParts, issuerPart, cryptogramParts, primitiveParts, templateParts, judged, takenParts, readTree, readBody}
 use Rattle.reading.proofs.Walk.{whole-broken}
 
 -- a reading that is made of parts gives the outcome of those parts, with the store that its verdict leaves
@@ -175,31 +176,3 @@ module _ (s : List ℕ) where
 pub body-read : (a : Awaited) (b s : List ℕ) {x : Option Body} → bodyOf s ≡ x → readBody a b s ≡ readTree a b x
 unfolding readBody
 body-read a b s e = ap (readTree a b) e
-
--- ---- the answer
-
-module _ (a : Awaited) (b s : List ℕ) where
-  pub answer-short : length s < 2 → readAnswer a b s ≡ outcome 2 0 b
-  unfolding readAnswer goodLength
-  answer-short h = if-no _ _ (both-no-left _ _ (lt-leb _ _ h))
-
-  pub answer-long : 258 < length s → readAnswer a b s ≡ outcome 2 0 b
-  unfolding readAnswer goodLength
-  answer-long h = if-no _ _ (both-no-right _ _ (lt-leb _ _ h))
-
-  module _ (l : 2 ≤ length s) (m : length s ≤ 258) where
-    sized : goodLength s ≡ true
-    unfolding goodLength
-    sized = both-yes _ _ (le-leb _ _ l) (le-leb _ _ m)
-
-    pub answer-status : goodStatus s ≡ false → readAnswer a b s ≡ outcome 1 0 b
-    unfolding readAnswer
-    answer-status e = if-yes _ _ sized ∙ if-no _ _ e
-
-    pub answer-unread : goodStatus s ≡ true → isRead a ≡ false → readAnswer a b s ≡ outcome 0 0 b
-    unfolding readAnswer
-    answer-unread e f = if-yes _ _ sized ∙ if-yes _ _ e ∙ if-no _ _ f
-
-    pub answer-read : goodStatus s ≡ true → isRead a ≡ true → readAnswer a b s ≡ readBody a b (take (length s - 2) s)
-    unfolding readAnswer
-    answer-read e f = if-yes _ _ sized ∙ if-yes _ _ e ∙ if-yes _ _ f

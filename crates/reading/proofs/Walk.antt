@@ -2,7 +2,7 @@
 -- Assumes nothing.
 use mathlib.Core.Path.{_≡_, refl, sym, ap, ap₂, subst, _∙_}
 use mathlib.Core.Bool.{true, false}
-use mathlib.Core.List.{List, []}
+use mathlib.Core.List.{List}
 use mathlib.Core.Option.{Option, some, none}
 use Prim.Native.Nat.{ℕ, _+_, _-_, _*_, _≤_}
 use native.Mathlib.Omega.{arith}
@@ -16,7 +16,7 @@ use Rattle.reading.specs.declared.Tally.{Tally}
 use Rattle.reading.specs.declared.Contents.{Contents}
 use Rattle.reading.specs.declared.Contents.the-variants.{Whole, Broken}
 use Rattle.reading.specs.Taking.{Work, work, item, items, takeNext, takeAll}
-use Rattle.reading.specs.Inner.{tally, Has, Leaves}
+use Rattle.reading.specs.Inner.{tally, Has, Then, Leaves}
 use Rattle.reading.proofs.Laws.{take-join}
 
 -- the same, said and left, after equal counts and equal work
@@ -26,13 +26,16 @@ same r b e f h = (h .0 ∙ ap₂ (λ (k : ℕ) (x : Work). Whole (tally k (x .go
 pub whole-broken : (t : Tally) → Whole t ≡ Broken → ⊥
 whole-broken t e = let z : _≡_ {A = ℕ} 0 1 = cc in omega arith
 
-module _ (answer around : ℕ) where
-  on-leaf : (t : ℕ) (v : List ℕ) (x : Option Forest) (n : ℕ) (w : Work) (r : Contents) (b : List ℕ)
-      → Leaves answer around (n + 1) (takeNext answer w (item around t v)) x r b → Leaves answer around n w (withLeaf t v x) r b
-  unfolding withLeaf count items takeAll
-  on-leaf t v none n w r b h = h
-  on-leaf t v (some f) n w r b h = same r b (omega arith) refl h
+-- a primitive object, and then what is behind it
+pub on-leaf : (answer around t : ℕ) (v : List ℕ) (x : Option Forest) (r : Contents) (k : ℕ → Work → Type 0) (n : ℕ) (w : Work)
+    → Then answer around x r k (n + 1) (takeNext answer w (item around t v)) → Then answer around (withLeaf t v x) r k n w
+unfolding withLeaf count items takeAll
+on-leaf answer around t v none r k n w h = h
+on-leaf answer around t v (some f) r k n w h =
+    let e : n + 1 + count f ≡ n + (1 + count f) = omega arith in
+    subst (λ (m : ℕ). k m (takeAll answer (takeNext answer w (item around t v)) (items around f))) e h
 
+module _ (answer around : ℕ) where
   -- a template whose contents were read to the tally u and the store a
   on-node : (t : ℕ) (x y : Option Forest) (n : ℕ) (w : Work) (u : Tally) (a : List ℕ) (r : Contents) (b : List ℕ)
       → Leaves answer t (n + 1) w x (Whole u) a → Leaves answer around (u .objects) (work (u .good) a) y r b
@@ -81,7 +84,7 @@ module _ (answer around : ℕ) where
           → Leaves answer around (n + 1) v (parse l rest) r b → Here r b
       at-leaf p v q r b g =
           by-parse _ r b (parse-leaf l s h e p)
-          (on-leaf (h .tag) _ _ n w r b
+          (on-leaf answer around (h .tag) _ _ r (λ m u. Has m u r b) n w
           (subst (λ (z : Work). Leaves answer around (n + 1) z (parse l (drop (h .start + h .len) s)) r b) (q ∙ ap (λ (z : List ℕ). takeNext answer w (item around (h .tag) z)) (contents-is s (h .start) (h .len)))
           (subst (λ (z : List ℕ). Leaves answer around (n + 1) v (parse l z) r b) (tail-is s (h .start + h .len)) g)))
 

@@ -1,24 +1,32 @@
--- What private functions promise, for their callers' proofs: what the reading of a run of objects says and leaves, by
--- their tree, and the working copy of the store.
--- No rule of document 01 stands here: a reader of the rules can pass it over. proofs/Parts ties it to specs/Answer:
--- `broken-contents` and `whole-contents` to the tree of a template's contents, `gives` and `restore` to `Gives`.
+-- What private functions promise, for their callers' proofs: the stages of a reading that both readers share, what the
+-- reading of a run of objects says and leaves, by their tree, and the working copy of the store.
+-- No rule of document 01 stands here: a reader of the rules can pass it over. proofs/Parts and proofs/Stages tie it to
+-- specs/Answer: `broken-contents` and `whole-contents` to the tree of a template's contents, `gives` and `restore` to
+-- `Gives`; `answer-begun`, `outer-object` and `contents-judged` say that the stages are those of `readAnswer`.
 -- Assumes nothing.
 use mathlib.Core.Path.{_≡_}
 use mathlib.Core.Bool.{Bool}
 use mathlib.Core.List.{List}
 use mathlib.Core.Option.{Option, some, none}
-use Prim.Native.Nat.{ℕ, _+_}
+use Prim.Native.Nat.{ℕ, _+_, _-_}
+use lib.ListN.{length}
+use Rattle.basics.specs.Choice.{if_then_else_, _=?_}
+use Rattle.tlv.specs.declared.Front.{Front}
+use Rattle.tlv.specs.declared.Front.the-variants as front
+use Rattle.tlv.specs.Object.{headerOf}
 use Rattle.tlv.specs.Tree.{Forest, count, parse}
 use Rattle.reading.specs.declared.Awaited.{Awaited}
 use Rattle.reading.specs.declared.Verdict.{Verdict}
 use Rattle.reading.specs.declared.Verdict.the-variants.{Accepted, BadStatus, Malformed, NotAllowed}
 use Rattle.reading.specs.declared.Reading.{Reading}
+use Rattle.reading.specs.declared.Beginning.{Beginning}
+use Rattle.reading.specs.declared.Outer.{Outer}
 use Rattle.reading.specs.declared.Tally.{Tally}
 use Rattle.reading.specs.declared.Contents.{Contents}
 use Rattle.reading.specs.declared.Contents.the-variants.{Whole, Broken}
 use Rattle.reading.specs.Taking.{Work, work, items, takeAll}
-use Rattle.reading.specs.Answer.{Outcome, Gives, templateBody, optionsParts, cryptogramParts}
-use Rattle.reading.specs.Answer.{takenParts, readTree}
+use Rattle.reading.specs.Answer.{Outcome, Gives, templateBody, templateTag, optionsParts, cryptogramParts}
+use Rattle.reading.specs.Answer.{takenParts, readTree, goodLength, goodStatus, isRead}
 
 -- ---- the working copy
 
@@ -47,6 +55,39 @@ readCryptogram b v = takenParts Awaited.Cryptogram b 1 (cryptogramParts v)
 abbrev pub made : Verdict → ℕ → Reading
 made v n = record { verdict = v; objects = n }
 
+-- ---- the stages of a reading
+
+-- how it begins: with so many bytes of body, or with a verdict where length, status or file decides
+unfoldable pub beginning : Awaited → List ℕ → Beginning
+beginning a s =
+    if goodLength s then
+      if goodStatus s then
+        if isRead a then Beginning.Body (length s - 2)
+        else Beginning.Decided Accepted
+      else Beginning.Decided BadStatus
+    else Beginning.Decided Malformed
+
+-- the one object that a body is, with no byte behind it
+abbrev pub outerFront : List ℕ → Front → Outer
+outerFront s front.Broken = Outer.Broken
+outerFront s (front.Object h) =
+    if h .start + h .len =? length s then
+      if h .template then Outer.Template h
+      else Outer.Primitive h
+    else Outer.Broken
+
+unfoldable pub outerOf : List ℕ → Outer
+outerOf s = outerFront s (headerOf s)
+
+-- the reading of a template by what is said of its contents: their encoding, the outer tag, the objects
+unfoldable pub contentsReading : Awaited → ℕ → Contents → Reading
+contentsReading a t Broken = made Malformed 0
+contentsReading a t (Whole u) =
+    if t =? templateTag a then
+      if u .good then made Accepted (u .objects)
+      else made NotAllowed (u .objects)
+    else made Malformed (u .objects)
+
 -- ---- a run of objects
 
 -- n objects visited, and whether all were allowed
@@ -57,11 +98,16 @@ tally n g = record { objects = n; good = g }
 abbrev pub Has : ℕ → Work → Contents → List ℕ → Type 0
 Has n w r b = (r ≡ Whole (tally n (w .good))) × (b ≡ w .store)
 
--- after n objects and the work w, a tree directly inside the template `around`: its count is added and its objects are
--- taken. r is what is said and b the working store that is left; malformed bytes leave the working store free.
+-- a tree directly inside the template `around`, after n objects and the work w: its count is added, its objects are
+-- taken, and k holds of both; r is what is said where there is no tree
+abbrev pub Then : ℕ → ℕ → Option Forest → Contents → (ℕ → Work → Type 0) → ℕ → Work → Type 0
+Then answer around none r k n w = r ≡ Broken
+Then answer around (some f) r k n w = k (n + count f) (takeAll answer w (items around f))
+
+-- the same with nothing behind it: r is what is said and b the working store that is left; malformed bytes leave the
+-- working store free
 abbrev pub Leaves : ℕ → ℕ → ℕ → Work → Option Forest → Contents → List ℕ → Type 0
-Leaves answer around n w none r b = r ≡ Broken
-Leaves answer around n w (some f) r b = Has (n + count f) (takeAll answer w (items around f)) r b
+Leaves answer around n w f r b = Then answer around f r (λ m v. Has m v r b) n w
 
 -- the same after the objects of a tally, into the store b
 abbrev pub Reads : ℕ → ℕ → Tally → List ℕ → Option Forest → Contents → List ℕ → Type 0

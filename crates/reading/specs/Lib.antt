@@ -2,3 +2,4 @@ pub mod Taking
 pub mod Answer
 pub mod Count
 pub mod Inner
+pub mod Both

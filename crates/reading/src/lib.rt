@@ -3,11 +3,15 @@
 // `read_answer` takes the whole answer with its status bytes, `read_body` the body alone. Inside, the
 // objects go into one working copy that is lent down the templates, with the table's tags, its
 // rows' numbers and places; the store is written only where every object was allowed.
+//
+// Here a template's contents are read by `read`, which calls itself. The module `flat` has the same open
+// functions with the same promises and no recursion: it shares all but the walk over the objects.
+// `read_both` runs both readers and says that they agree.
+pub mod flat;
 use dictionary::Attributes;
 use dictionary::Found;
 use dictionary::{ROWS, ROW_82, ROW_94, ROW_9F10, ROW_9F26, ROW_9F27, ROW_9F36, SIZE};
-use tlv::Following;
-use tlv::Front;
+use tlv::{Following, Front, Header};
 ghost use mathlib.Core.Path.{_≡_};
 ghost use mathlib.Core.Bool.{not};
 ghost use mathlib.Core.Option.{some};
@@ -24,7 +28,9 @@ ghost use Rattle.tlv.specs.Tag.{isPrivate};
 ghost use Rattle.tlv.specs.Tree.{parse};
 ghost use Rattle.reading.specs.Taking.{item, mayCome, byCard, standsIn, work, takeItem, takeNext, takeAll};
 ghost use Rattle.reading.specs.Count.{bodyObjects, answerObjects};
-ghost use Rattle.reading.specs.Inner.{made, Reads, counted, GivesIn, readTemplate, readOptions, readCryptogram};
+ghost use Rattle.reading.specs.Both.{Answered, Agree};
+ghost use Rattle.reading.specs.Inner.{made, beginning, outerOf, contentsReading, storeAfter, GivesIn, readOptions, readCryptogram};
+ghost use Rattle.reading.specs.Inner.{Reads, counted};
 ghost use Rattle.reading.specs.Answer.{Gives, numberOf, answerBit, templateTag, primitive, issuerPart, readTree, readBody, isRead, goodStatus, readAnswer};
 
 // A record's file.
@@ -54,6 +60,26 @@ pub struct Reading {
     pub objects: usize,
 }
 
+// The readings of one answer by both readers.
+pub struct Readings {
+    pub recursive: Reading,
+    pub flat: Reading,
+}
+
+// How the reading of an answer begins: with so many bytes of body, or with a verdict where length, status or
+// file decides.
+pub enum Beginning {
+    Body(usize),
+    Decided(Verdict),
+}
+
+// The one object that a body is, with no byte behind it.
+pub enum Outer {
+    Template(Header),
+    Primitive(Header),
+    Broken,
+}
+
 // How many objects were visited so far, and whether all were allowed.
 pub struct Tally {
     pub objects: usize,
@@ -74,21 +100,11 @@ pub fn read_answer(store: &mut [u8], awaited: Awaited, answer: &[u8]) -> Reading
     ensures half { λ r. ⌜ 2 * r .objects ≤ length (now (answer .entry)) ⌝ }
     ensures tree { λ r. ⌜ r .objects ≡ answerObjects awaited (now (answer .entry)) ⌝ }
 {
-    let n = answer.len();
-    if n < 2 {
-        return made(Verdict::Malformed, 0);
+    let beginning = begin(awaited, answer);
+    match beginning {
+        Beginning::Decided(verdict) => made(verdict, 0),
+        Beginning::Body(n) => read_body(store, awaited, &answer[..n]),
     }
-    if 258 < n {
-        return made(Verdict::Malformed, 0);
-    }
-    if !is_good(answer) {
-        return made(Verdict::BadStatus, 0);
-    }
-    if !is_read(awaited) {
-        return made(Verdict::Accepted, 0);
-    }
-    let e = n - 2;
-    read_body(store, awaited, &answer[..e])
 }
 
 // What a reading says of an answer; the store stays.
@@ -116,11 +132,25 @@ pub fn read_body(store: &mut [u8], awaited: Awaited, body: &[u8]) -> Reading
     let places = store::row_places();
     let reading = read_object(&mut work, awaited, body, &tags, &codes, &places);
     let verdict = reading.verdict;
-    let Verdict::Accepted = verdict else {
-        return reading;
-    };
-    bytes::copy(&work, store);
+    keep(store, &work, verdict);
     reading
+}
+
+// The answer by both readers, each with a store of its own; where the stores are equal, so are the readings and
+// what they leave.
+pub fn read_both(recursive: &mut [u8], flat: &mut [u8], awaited: Awaited, answer: &[u8]) -> Readings
+    requires { ⌜ length (now recursive) ≡ storeSize ⌝ }
+    requires { ⌜ length (now flat) ≡ storeSize ⌝ }
+    ensures recursive { λ r. ⌜ Answered awaited (now (answer .entry)) (now (recursive .entry)) (r .recursive) (now (recursive .exit)) ⌝ }
+    ensures flat { λ r. ⌜ Answered awaited (now (answer .entry)) (now (flat .entry)) (r .flat) (now (flat .exit)) ⌝ }
+    ensures same { λ r. ⌜ (now (recursive .entry) ≡ now (flat .entry) → Agree r (now (recursive .exit)) (now (flat .exit))) ⌝ }
+{
+    let first = read_answer(recursive, awaited, answer);
+    let second = flat::read_answer(flat, awaited, answer);
+    Readings {
+        recursive: first,
+        flat: second,
+    }
 }
 
 // Document 01's number of a verdict; 0 where the answer gives no reason.
@@ -140,6 +170,37 @@ fn made(verdict: Verdict, objects: usize) -> Reading
     ensures { λ r. ⌜ r ≡ made verdict objects ⌝ }
 {
     Reading { verdict, objects }
+}
+
+// Length and status, and whether the body is read.
+fn begin(awaited: Awaited, answer: &[u8]) -> Beginning
+    ensures { λ r. ⌜ r ≡ beginning awaited (now (answer .entry)) ⌝ }
+{
+    let n = answer.len();
+    if n < 2 {
+        return Beginning::Decided(Verdict::Malformed);
+    }
+    if 258 < n {
+        return Beginning::Decided(Verdict::Malformed);
+    }
+    if !is_good(answer) {
+        return Beginning::Decided(Verdict::BadStatus);
+    }
+    if !is_read(awaited) {
+        return Beginning::Decided(Verdict::Accepted);
+    }
+    Beginning::Body(n - 2)
+}
+
+// The store after a reading: its working copy where all was accepted, else as it was.
+fn keep(store: &mut [u8], work: &[u8; SIZE], verdict: Verdict)
+    requires { ⌜ length (now store) ≡ storeSize ⌝ }
+    requires { ⌜ length (now work) ≡ storeSize ⌝ }
+    ensures { λ _. ⌜ now (store .exit) ≡ storeAfter (now (store .entry)) (now (work .entry)) verdict ⌝ }
+{
+    if let Verdict::Accepted = verdict {
+        bytes::copy(work, store);
+    }
 }
 
 // Whether the two bytes at the end are 90 00.
@@ -191,7 +252,24 @@ fn template_tag(awaited: Awaited) -> u32
     }
 }
 
-// The body's one object, with no byte behind it, into a working copy.
+// The body's one object.
+fn outer_of(body: &[u8]) -> Outer
+    ensures { λ r. ⌜ r ≡ outerOf (now (body .entry)) ⌝ }
+{
+    let front = tlv::head(body);
+    let Front::Object(h) = front else {
+        return Outer::Broken;
+    };
+    if h.start + h.len != body.len() {
+        return Outer::Broken;
+    }
+    if h.template {
+        return Outer::Template(h);
+    }
+    Outer::Primitive(h)
+}
+
+// The body's one object into a working copy, a template by its contents.
 fn read_object(
     work: &mut [u8; SIZE],
     awaited: Awaited,
@@ -207,55 +285,32 @@ fn read_object(
     ensures sized { λ _. ⌜ length (now (work .exit)) ≡ storeSize ⌝ }
     ensures half { λ r. ⌜ 2 * r .objects ≤ length (now (body .entry)) ⌝ }
 {
-    let front = tlv::head(body);
-    let Front::Object(h) = front else {
-        return made(Verdict::Malformed, 0);
-    };
-    let start = h.start;
-    let e = start + h.len;
-    if e != body.len() {
-        return made(Verdict::Malformed, 0);
+    let outer = outer_of(body);
+    match outer {
+        Outer::Broken => made(Verdict::Malformed, 0),
+        Outer::Primitive(h) => {
+            let start = h.start;
+            let e = start + h.len;
+            read_primitive(work, awaited, h.tag, &body[start..e], codes, places)
+        }
+        Outer::Template(h) => {
+            let start = h.start;
+            let e = start + h.len;
+            let bit = answer_bit(awaited);
+            let first = Tally {
+                objects: 1,
+                good: true,
+            };
+            let contents = read(&body[start..e], h.tag, 3, bit, first, work, tags, codes, places);
+            judge_contents(awaited, h.tag, contents)
+        }
     }
-    let value = &body[start..e];
-    if h.template {
-        return read_template(work, awaited, h.tag, value, tags, codes, places);
-    }
-    read_primitive(work, awaited, h.tag, value, codes, places)
 }
 
-// An answer that is a template, by its contents.
-fn read_template(
-    work: &mut [u8; SIZE],
-    awaited: Awaited,
-    tag: u32,
-    value: &[u8],
-    tags: &[u32; ROWS],
-    codes: &[u32; ROWS],
-    places: &[u32; ROWS],
-) -> Reading
-    requires { ⌜ length (now work) ≡ storeSize ⌝ }
-    requires { ⌜ length (now value) + 2 < 2 ^ 64 ⌝ }
-    requires { ⌜ Lent (now tags) (now codes) ⌝ }
-    requires { ⌜ now places ≡ placesOf rows ⌝ }
-    ensures given { λ r. ⌜ GivesIn r (now (work .entry)) (now (work .exit)) (readTemplate awaited (now (work .entry)) tag (now (value .entry))) ⌝ }
-    ensures sized { λ _. ⌜ length (now (work .exit)) ≡ storeSize ⌝ }
-    ensures half { λ r. ⌜ 2 * r .objects ≤ 2 + length (now (value .entry)) ⌝ }
+// The reading of a template by what is said of its contents.
+fn judge_contents(awaited: Awaited, tag: u32, contents: Contents) -> Reading
+    ensures { λ r. ⌜ r ≡ contentsReading awaited tag contents ⌝ }
 {
-    let bit = answer_bit(awaited);
-    let contents = read(
-        value,
-        tag,
-        3,
-        bit,
-        Tally {
-            objects: 1,
-            good: true,
-        },
-        work,
-        tags,
-        codes,
-        places,
-    );
     let Contents::Whole(t) = contents else {
         return made(Verdict::Malformed, 0);
     };

@@ -42,13 +42,17 @@ wantedOf n file =
     else if n =? 3 then Answer Awaited.Checksum
     else Nothing
 
+-- the same for a store of so many bytes, which must be its size
+unfoldable pub askedOf : ℕ → ℕ → ℕ → Wanted
+askedOf size n file =
+    if size =? storeSize then wantedOf n file
+    else Nothing
+
 -- the card's answer s to what is wanted, into the store b
 abbrev pub readWanted : Wanted → List ℕ → List ℕ → Read
 readWanted Nothing b s = notRead b
 readWanted (Answer a) b s = readAs (readAnswer a b s)
 
--- the same where the store has its size
+-- one reading
 unfoldable pub readOver : ℕ → ℕ → List ℕ → List ℕ → Read
-readOver n file b s =
-    if length b =? storeSize then readWanted (wantedOf n file) b s
-    else notRead b
+readOver n file b s = readWanted (askedOf (length b) n file) b s

@@ -1,13 +1,14 @@
-// One reading of a card's answer over a lent store, for tests that compare it with another implementation.
+// One reading of a card's answer over a lent store, by either reader, for tests that compare it with another
+// implementation and with each other.
 //
-// The sessions' calls do not hand out how many objects a reading counted, so this one does. It is in an
+// The sessions' calls do not hand out how many objects a reading counted, so these do. They are in an
 // archive of its own, which no host links.
 use dictionary::SIZE;
 use reading::{Awaited, File, Reading};
 ghost use mathlib.Core.Path.{_≡_};
 ghost use Prim.Native.Nat.{_+_, _*_, _<_};
 ghost use Rattle.reading.specs.Answer.{numberOf};
-ghost use Rattle.reading_test.specs.Read.{DidRead, readOver, wantedOf, countLimit};
+ghost use Rattle.reading_test.specs.Read.{DidRead, readOver, askedOf, wantedOf, countLimit};
 
 // The answer that is awaited, or none.
 pub enum Wanted {
@@ -28,15 +29,35 @@ const REASON: u32 = 0x10000;
 pub extern "C" fn emv_test_read(store: &mut [u8], awaited: u32, file: u8, card: &[u8]) -> u32
     ensures { λ r. ⌜ DidRead r (now (store .exit)) (readOver awaited file (now (store .entry)) (now (card .entry))) ⌝ }
 {
-    if store.len() != SIZE {
-        return NOT_READ;
-    }
-    let answer = wanted_of(awaited, file);
+    let answer = asked(store.len(), awaited, file);
     let Wanted::Answer(a) = answer else {
         return NOT_READ;
     };
     let reading = reading::read_answer(store, a, card);
     word(reading)
+}
+
+// The same by the reader without recursion.
+#[no_mangle]
+pub extern "C" fn emv_test_read_flat(store: &mut [u8], awaited: u32, file: u8, card: &[u8]) -> u32
+    ensures { λ r. ⌜ DidRead r (now (store .exit)) (readOver awaited file (now (store .entry)) (now (card .entry))) ⌝ }
+{
+    let answer = asked(store.len(), awaited, file);
+    let Wanted::Answer(a) = answer else {
+        return NOT_READ;
+    };
+    let reading = reading::flat::read_answer(store, a, card);
+    word(reading)
+}
+
+// The answer of a number, for a store of its size.
+fn asked(size: usize, awaited: u32, file: u8) -> Wanted
+    ensures { λ r. ⌜ r ≡ askedOf size awaited file ⌝ }
+{
+    if size != SIZE {
+        return Wanted::Nothing;
+    }
+    wanted_of(awaited, file)
 }
 
 // The answer of a number.

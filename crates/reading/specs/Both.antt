@@ -1,0 +1,28 @@
+-- Two readers of an answer (document 02, Item 10): what each of them promises, and that they give the same store,
+-- reason and object count.
+-- Assumes nothing.
+use mathlib.Core.Path.{_≡_}
+use mathlib.Core.List.{List}
+use Prim.Native.Nat.{ℕ, _*_, _≤_}
+use lib.ListN.{length}
+use Rattle.dictionary.specs.Rows.{storeSize}
+use Rattle.reading.specs.declared.Awaited.{Awaited}
+use Rattle.reading.specs.declared.Reading.{Reading}
+use Rattle.reading.specs.declared.Readings.{Readings}
+use Rattle.reading.specs.Answer.{Gives, readAnswer}
+use Rattle.reading.specs.Count.{answerObjects}
+
+-- the reading r of an answer s and the store c that it leaves of the store b: the four promises of `read_answer`
+pub record Answered (a : Awaited) (s b : List ℕ) (r : Reading) (c : List ℕ) : Type 0 where
+  pub given : Gives r c (readAnswer a b s)
+  pub sized : length c ≡ storeSize
+  pub half : 2 * r .objects ≤ length s
+  pub tree : r .objects ≡ answerObjects a s
+
+-- both readings have the same reason and count, and the stores that they leave are the same
+pub record Agree (r : Readings) (b c : List ℕ) : Type 0 where
+  pub readings : r .recursive ≡ r .flat
+  pub stores : b ≡ c
+
+-- ---- what holds of it, promised by `read_both`, for every answer and every store
+--   same    from equal stores the readers agree
