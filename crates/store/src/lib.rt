@@ -9,7 +9,7 @@ ghost use mathlib.Core.Path.{_≡_};
 ghost use Prim.Native.Nat.{_+_, _-_, _≤_, _<_, min};
 ghost use lib.ListN.{length, replicate};
 ghost use Rattle.dictionary.specs.Rows.{rows, rowAt, rowCount, storeSize};
-ghost use Rattle.store.specs.Place.{placesOf, spanOf, lengthByte, valueAt, bytesOf, isThere, isFree, writtenAt, putAt, putIf};
+ghost use Rattle.store.specs.Place.{placesOf, spanOf, spanIn, lengthByte, valueAt, bytesOf, isThere, isFree, writtenAt, putAt, putIf};
 
 pub struct Store {
     pub bytes: [u8; SIZE],
@@ -29,6 +29,23 @@ const PLACES: [u32; ROWS] = [
     1175 * START + 2, 1178 * START + 1, 1180 * START + 250, 1431 * START + 4, 1436 * START + 19, 1456 * START + 1,
     1458 * START + 5, 1464 * START + 5, 1470 * START + 5, 1476 * START + 6, 1483 * START + 6, 1490 * START + 6,
     1497 * START + 6,
+];
+
+// The same in parts of 32 rows, for a read of a single row: an array is built anew where it is read, but of one as
+// small as this the compiler makes a constant where the row is a constant.
+const PLACES_0: [u32; 32] = [
+    0 * START + 19, 20 * START + 10, 31 * START + 2, 34 * START + 250, 285 * START + 250, 536 * START + 248,
+    785 * START + 5, 791 * START + 3, 795 * START + 1, 797 * START + 3, 801 * START + 3, 805 * START + 2,
+    808 * START + 2, 811 * START + 1, 813 * START + 6, 820 * START + 6, 827 * START + 2, 830 * START + 2,
+    833 * START + 2, 836 * START + 5, 842 * START + 5, 848 * START + 5, 854 * START + 32, 887 * START + 2,
+    890 * START + 8, 899 * START + 1, 901 * START + 3, 905 * START + 3, 909 * START + 1, 911 * START + 2,
+    914 * START + 4, 919 * START + 240,
+];
+
+const PLACES_32: [u32; 17] = [
+    1160 * START + 5, 1166 * START + 2, 1169 * START + 2, 1172 * START + 2, 1175 * START + 2, 1178 * START + 1,
+    1180 * START + 250, 1431 * START + 4, 1436 * START + 19, 1456 * START + 1, 1458 * START + 5, 1464 * START + 5,
+    1470 * START + 5, 1476 * START + 6, 1483 * START + 6, 1490 * START + 6, 1497 * START + 6,
 ];
 
 // A row's place: where it starts, and the greatest length of its value.
@@ -56,8 +73,13 @@ fn span_of(row: usize) -> Span
     ensures { λ r. ⌜ r ≡ spanOf row ⌝ }
     ensures { λ r. ⌜ r .at ≤ storeSize ⌝ }
 {
-    let places = PLACES;
-    span_in(row, &places)
+    if row < 32 {
+        return unpacked(PLACES_0[row]);
+    }
+    if row < ROWS {
+        return unpacked(PLACES_32[row - 32]);
+    }
+    Span { at: SIZE, most: 0 }
 }
 
 // The same with the places lent.
@@ -67,13 +89,19 @@ fn span_in(row: usize, places: &[u32; ROWS]) -> Span
     ensures { λ r. ⌜ r .at ≤ storeSize ⌝ }
 {
     if row < ROWS {
-        let code = places[row];
-        return Span {
-            at: (code / START) as usize,
-            most: (code % START) as usize,
-        };
+        return unpacked(places[row]);
     }
     Span { at: SIZE, most: 0 }
+}
+
+// A place's number taken apart.
+fn unpacked(place: u32) -> Span
+    ensures { λ r. ⌜ r ≡ spanIn place ⌝ }
+{
+    Span {
+        at: (place / START) as usize,
+        most: (place % START) as usize,
+    }
 }
 
 // The length byte of a row's place as it stands: 0 where the object is absent, else its length + 1.
@@ -140,8 +168,8 @@ pub fn put(bytes: &mut [u8], row: usize, v: &[u8])
     ensures stored { λ _. ⌜ now (bytes .exit) ≡ putAt rows (now (bytes .entry)) row (now (v .entry)) ⌝ }
     ensures sized { λ _. ⌜ length (now (bytes .exit)) ≡ storeSize ⌝ }
 {
-    let places = PLACES;
-    put_in(bytes, row, v, &places);
+    let at = span_of(row).at;
+    write(bytes, at, v);
 }
 
 // The same with the places lent.
