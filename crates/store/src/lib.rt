@@ -61,6 +61,20 @@ pub fn empty() -> Store
     Store { bytes: [0u8; SIZE] }
 }
 
+// All of a store's bytes into a working copy. The loop runs to a constant, so that a copy that is zeros before it need not be
+// written twice.
+pub fn copy_whole(bytes: &[u8], work: &mut [u8; SIZE])
+    requires { ⌜ length (now bytes) ≡ storeSize ⌝ }
+    requires { ⌜ length (now work) ≡ storeSize ⌝ }
+    ensures { λ _. ⌜ now (work .exit) ≡ now (bytes .entry) ⌝ }
+{
+    let mut i = 0;
+    while i < SIZE {
+        work[i] = bytes[i];
+        i += 1;
+    }
+}
+
 // The places of all rows: a call that reads or writes many rows binds them once and lends them down.
 pub fn row_places() -> [u32; ROWS]
     ensures { λ r. ⌜ r ≡ placesOf rows ⌝ }
