@@ -640,5 +640,14 @@ fn may_stand(templates: u8, around: u32) -> bool
     if around == 0x77 {
         return templates / dictionary::IN_77 % 2 == 1;
     }
+    if around == 0xA5 {
+        return templates / dictionary::IN_A5 % 2 == 1;
+    }
+    if around == 0xBF0C {
+        return templates / dictionary::IN_BF0C % 2 == 1;
+    }
+    if around == 0x6F {
+        return templates / dictionary::IN_6F % 2 == 1;
+    }
     false
 }
