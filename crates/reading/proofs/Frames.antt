@@ -13,7 +13,8 @@ use lib.Seq.{take-take, take-nil, drop-drop, take-all, getD-set-same, getD-set-o
 use Rattle.tlv.specs.declared.Header.{Header}
 use Rattle.tlv.specs.declared.Following.the-variants.{End, Inner, Malformed}
 use Rattle.tlv.specs.Object.{valueIn, behind}
-use Rattle.tlv.specs.Tree.{Forest, end, count, nextOf, withLeaf, withNode, parse}
+use Rattle.tlv.specs.Tree.{Forest, end, count, nextOf, withNode, parse}
+use Rattle.tlv.proofs.Laws.{contents, contents-is, tail, tail-is}
 use Rattle.tlv.proofs.NextObject.{next-fits}
 use Rattle.tlv.proofs.Tree.{parse-end, parse-malformed, parse-deep, parse-node, parse-leaf}
 use Rattle.dictionary.specs.Rows.{storeSize}
@@ -120,7 +121,18 @@ module _ (s : List ℕ) (a e : ℕ) (h : Header) (x : nextOf (part s a e) ≡ In
       (drop-take (h .start + h .len) (e - a) (drop a s)
       ∙ ap₂ take n (drop-drop (h .start + h .len) a s ∙ ap (λ (k : ℕ). drop k s) m))
 
--- ---- the open templates by the arrays of their ends and tags, k of them; what is next stands at a
+-- a part begins as many bytes before its end as it has
+module _ (s : List ℕ) (a e : ℕ) (l : a ≤ e) (m : e ≤ length s) where
+  pub part-length : length (part s a e) ≡ e - a
+  part-length = simp (length-take, length-drop) (omega arith)
+
+  part-begins : (v : List ℕ) → v ≡ part s a e → v ≡ part s (e - length v) e
+  part-begins v q =
+      let k = ap length q ∙ part-length in
+      let z : a ≡ e - length v = omega arith in
+      q ∙ ap (λ (i : ℕ). part s i e) z
+
+-- ---- the open templates by the arrays of their ends and tags, k of them, of which the innermost is left from a on
 
 unfoldable pub opened : List ℕ → List ℕ → List ℕ → ℕ → ℕ → List Frame
 opened s ends tags zero a = []
@@ -158,47 +170,42 @@ module _ (ends tags : List ℕ) (i e t : ℕ) where
       let p = getD-set-other ends i k e 0 (λ q. omega arith) in
       rw p (h .0, nested-set n k (getD ends k 0) (omega arith) (h .1))
 
-  module _ (room : i < length ends) where
-    opened-push : (s : List ℕ) (a : ℕ) → i < length tags → opened s (set ends i e) (set tags i t) (suc i) a ≡ frame (part s a e) t ∷ opened s ends tags i e
-    unfolding opened
-    opened-push s a l =
-        rw (getD-set-same ends i e 0 room, getD-set-same tags i t 0 l) (ap (λ (fs : List Frame). frame (part s a e) t ∷ fs) (opened-set s i e (omega arith)))
-
-    nested-push : (n a : ℕ) → a ≤ e → Nested ends n i e → Nested (set ends i e) n (suc i) a
-    unfolding Nested
-    nested-push n a l h = rw (getD-set-same ends i e 0 room) (l, nested-set n i e (omega arith) h)
-
 -- ---- the invariant, and each turn of the walk
 
--- after n objects, with the working store b that was c at the front, and whether all were allowed
-pub record Reached (s : List ℕ) (tag answer : ℕ) (c b ends around : List ℕ) (depth a n : ℕ) (g : Bool) : Type 0 where
+-- after n objects: the working store b, which was c at the front, whether all were allowed, and what is left of the innermost template
+pub record Reached (s : List ℕ) (tag answer : ℕ) (c b ends around : List ℕ) (depth : ℕ) (rest : List ℕ) (n : ℕ) (g : Bool) : Type 0 where
   pub ends-four : length ends ≡ 4
   pub around-four : length around ≡ 4
   pub few : depth < 4
-  pub nested : Nested ends (length s) (suc depth) a
-  pub half : 2 * n ≤ 2 + a
+  pub fits : length rest ≤ getD ends depth 0
+  pub here : rest ≡ part s (getD ends depth 0 - length rest) (getD ends depth 0)
+  pub nested : Nested ends (length s) depth (getD ends depth 0)
+  pub half : 2 * n + length rest ≤ 2 + getD ends depth 0
   pub sized : length b ≡ storeSize
-  pub same : (r : Contents) (d : List ℕ) → Left answer r d (opened s ends around (suc depth) a) n (work g b)
+  pub same : (r : Contents) (d : List ℕ) → Left answer r d (frame rest (getD around depth 0) ∷ opened s ends around depth (getD ends depth 0)) n (work g b)
     → Leaves answer tag 1 (work true c) (parse 3 s) r d
+
+-- the measure of the walk: what is left of the bytes, twice, and the open levels
+abbrev pub ahead : List ℕ → List ℕ → ℕ → List ℕ → ℕ
+ahead s ends depth rest = 2 * (length rest + (length s - getD ends depth 0)) + depth
 
 -- at the front the outer template is open, and it is the one object
 pub begin : (s : List ℕ) (tag answer : ℕ) (c ends around : List ℕ) → length ends ≡ 4 → length around ≡ 4 → getD ends 0 0 ≡ length s → getD around 0 0 ≡ tag
-    → length c ≡ storeSize → Reached s tag answer c c ends around 0 0 1 true
+    → length c ≡ storeSize → Reached s tag answer c c ends around 0 s 1 true
 unfolding opened Nested Left
 begin s tag answer c ends around l m e t z = record {
   ends-four = l;
   around-four = m;
   few = omega arith;
-  nested = (omega arith, omega arith);
+  fits = omega arith;
+  here = rw e (part-begins s 0 (length s) (omega arith) (omega arith) s (sym (take-all (length s - 0) s (omega arith))));
+  nested = omega arith;
   half = omega arith;
   sized = z;
-  same = λ r d h. rw (ap (λ (k : ℕ). part s 0 k) e ∙ whole, t) at h;
+  same = λ r d h. rw t at h;
 }
-  where
-    whole : part s 0 (length s) ≡ s
-    whole = take-all (length s - 0) s (omega arith)
 
-module _ {s : List ℕ} {tag answer : ℕ} {c b ends around : List ℕ} {depth a n : ℕ} {g : Bool} (w : Reached s tag answer c b ends around depth a n g) where
+module _ {s : List ℕ} {tag answer : ℕ} {c b ends around : List ℕ} {depth : ℕ} {rest : List ℕ} {n : ℕ} {g : Bool} (w : Reached s tag answer c b ends around depth rest n g) where
   abbrev All : Contents → List ℕ → Type 0
   All r d = Leaves answer tag 1 (work true c) (parse 3 s) r d
 
@@ -212,109 +219,181 @@ module _ {s : List ℕ} {tag answer : ℕ} {c b ends around : List ℕ} {depth a
   abbrev outside : List Frame
   outside = opened s ends around depth stop
 
-  nested-at : (a ≤ stop) × Nested ends (length s) depth stop
-  unfolding Nested
-  nested-at = w .nested
+  -- it ends inside the bytes
+  pub inside : stop ≤ length s
+  inside = nested-most ends (length s) depth stop (w .nested)
 
-  -- what is next stands inside it, and it inside the bytes
-  pub inside : (a ≤ stop) × (stop ≤ length s)
-  inside = (nested-at .0, nested-most ends (length s) depth stop (nested-at .1))
+  pub failed : nextOf rest ≡ Malformed → (d : List ℕ) → All Broken d
+  failed q d = w .same Broken d (left-malformed answer Broken d _ _ outside n (work g b) q refl)
 
-  same-at : (r : Contents) (d : List ℕ) → Left answer r d (frame (part s a stop) inmost ∷ outside) n (work g b) → All r d
-  unfolding opened
-  same-at = w .same
-
-  pub failed : nextOf (part s a stop) ≡ Malformed → (d : List ℕ) → All Broken d
-  failed q d = same-at Broken d (left-malformed answer Broken d _ _ outside n (work g b) q refl)
-
-  module _ (q : nextOf (part s a stop) ≡ End) where
+  module _ (q : nextOf rest ≡ End) where
     closed : (r : Contents) (d : List ℕ) → Left answer r d outside n (work g b) → All r d
-    closed r d h = same-at r d (left-end answer r d _ _ outside n (work g b) q h)
+    closed r d h = w .same r d (left-end answer r d _ _ outside n (work g b) q h)
 
     pub done : depth ≡ 0 → All (Whole (tally n g)) b
     unfolding opened Left
     done z = closed _ _ (subst (λ (k : ℕ). Left answer (Whole (tally n g)) b (opened s ends around k stop) n (work g b)) (sym z) (refl, refl))
 
-    pub close : (depth ≡ 0 → ⊥) → Reached s tag answer c b ends around (depth - 1) stop n g
-    close z =
-        let i = inside in
-        let k : depth ≡ suc (depth - 1) = omega arith in
-        record {
-          ends-four = w .ends-four;
-          around-four = w .around-four;
-          few = omega (arith, w .few);
-          nested = subst (λ (m : ℕ). Nested ends (length s) m stop) k (nested-at .1);
-          half = omega (arith, w .half);
-          sized = w .sized;
-          same = λ r d h. closed r d (subst (λ (m : ℕ). Left answer r d (opened s ends around m stop) n (work g b)) (sym k) h);
-        }
+    module _ (z : depth ≡ 0 → ⊥) where
+      abbrev next : ℕ
+      next = getD ends (depth - 1) 0
 
-  module _ (h : Header) (q : nextOf (part s a stop) ≡ Inner h) where
-    abbrev start : ℕ
-    start = a + h .start
+      -- the template around it ends behind it
+      nested-out : (stop ≤ next) × Nested ends (length s) (depth - 1) next
+      unfolding Nested
+      nested-out = let k : depth ≡ suc (depth - 1) = omega arith in subst (λ (m : ℕ). Nested ends (length s) m stop) k (w .nested)
 
-    abbrev beyond : ℕ
-    beyond = a + h .start + h .len
+      pub outer-end : (stop ≤ next) × (next ≤ length s)
+      outer-end = (nested-out .0, nested-most ends (length s) (depth - 1) next (nested-out .1))
 
-    -- an object's value starts two bytes on at least, and ends where its template ends at the latest
-    pub bounds : (2 ≤ h .start) × ((beyond ≤ stop) × (stop ≤ length s))
-    bounds = let i = object-in s a stop h q in let j = inside in (i .0, (omega arith, j .1))
+      opened-out : outside ≡ frame (part s stop next) (getD around (depth - 1) 0) ∷ opened s ends around (depth - 1) next
+      unfolding opened
+      opened-out = let k : depth ≡ suc (depth - 1) = omega arith in ap (λ (m : ℕ). opened s ends around m stop) k
+
+      pub close : Reached s tag answer c b ends around (depth - 1) (part s stop next) n g
+      close =
+          let o = outer-end in
+          let l = part-length s stop next (o .0) (o .1) in
+          record {
+            ends-four = w .ends-four;
+            around-four = w .around-four;
+            few = omega (arith, w .few);
+            fits = omega arith;
+            here = part-begins s stop next (o .0) (o .1) _ refl;
+            nested = nested-out .1;
+            half = omega (arith, w .half);
+            sized = w .sized;
+            same = λ r d h. closed r d (subst (λ (fs : List Frame). Left answer r d fs n (work g b)) (sym opened-out) h);
+          }
+
+      pub close-less : ahead s ends (depth - 1) (part s stop next) < ahead s ends depth rest
+      close-less =
+          let o = outer-end in
+          let l = part-length s stop next (o .0) (o .1) in
+          omega arith
+
+  module _ (h : Header) (q : nextOf rest ≡ Inner h) where
+    -- an object's value starts two bytes on at least, and ends inside what is left
+    pub bounds : (2 ≤ h .start) × ((h .start + h .len ≤ length rest) × (length rest ≤ length s))
+    bounds = let f = next-fits rest h q in let j = inside in (f .two, (f .inside, omega (arith, w .fits)))
 
     pub deep : h .template ≡ true → depth + 1 ≡ 4 → (d : List ℕ) → All Broken d
     deep p z d =
         let m = opened-length s ends around depth stop in
         let l : 3 - length outside ≡ 0 = omega arith in
-        same-at Broken d (left-deep answer Broken d _ _ outside n (work g b) h q p l refl)
+        w .same Broken d (left-deep answer Broken d _ _ outside n (work g b) h q p l refl)
 
-    -- behind the object, in the same template
-    nested-behind : Nested ends (length s) (suc depth) beyond
-    unfolding Nested
-    nested-behind = (bounds .1 .0, nested-at .1)
+    -- what is left behind the object
+    abbrev after : List ℕ
+    after = tail rest (h .start + h .len)
 
-    opened-behind : opened s ends around (suc depth) beyond ≡ frame (behind (part s a stop) h) inmost ∷ outside
-    unfolding opened
-    opened-behind = ap (λ (v : List ℕ). frame v inmost ∷ outside) (behind-part s a stop h q)
+    after-length : length after ≡ length rest - (h .start + h .len)
+    after-length = ap length (tail-is rest (h .start + h .len)) ∙ length-drop (h .start + h .len) rest
 
-    pub leaf : h .template ≡ false → (g′ : Bool) (b′ : List ℕ) → work g′ b′ ≡ takeNext answer (work g b) (item inmost (h .tag) (part s start beyond))
-        → length b′ ≡ storeSize → Reached s tag answer c b′ ends around depth beyond (n + 1) g′
+    -- where what is left begins, and its object and what is behind that, by places
+    abbrev at : ℕ
+    at = stop - length rest
+
+    abbrev beyond : ℕ
+    beyond = at + h .start + h .len
+
+    next-at : nextOf (part s at stop) ≡ Inner h
+    next-at = subst (λ (v : List ℕ). nextOf v ≡ Inner h) (w .here) q
+
+    value-at : contents rest (h .start) (h .len) ≡ part s (at + h .start) beyond
+    value-at = contents-is rest (h .start) (h .len) ∙ ap (λ (v : List ℕ). valueIn v h) (w .here) ∙ sym (value-part s at stop h next-at)
+
+    behind-at : part s beyond stop ≡ behind rest h
+    behind-at = behind-part s at stop h next-at ∙ ap (λ (v : List ℕ). behind v h) (sym (w .here))
+
+    pub leaf : h .template ≡ false → (g′ : Bool) (b′ : List ℕ) → work g′ b′ ≡ takeNext answer (work g b) (item inmost (h .tag) (contents rest (h .start) (h .len)))
+        → length b′ ≡ storeSize → Reached s tag answer c b′ ends around depth after (n + 1) g′
     leaf p g′ b′ t z =
         let i = bounds in
+        let j = inside in
+        let l = after-length in
+        let v = tail-is rest (h .start + h .len) in
+        let k : beyond ≤ stop = omega (arith, w .fits) in
         record {
           ends-four = w .ends-four;
           around-four = w .around-four;
           few = w .few;
-          nested = nested-behind;
+          fits = omega (arith, w .fits);
+          here = part-begins s beyond stop k j _ (v ∙ sym behind-at);
+          nested = w .nested;
           half = omega (arith, w .half);
           sized = z;
-          same = λ r d l.
-              same-at r d
+          same = λ r d x.
+              w .same r d
               (left-leaf answer r d _ _ outside n (work g b) h q p
-              (subst (Left answer r d (frame (behind (part s a stop) h) inmost ∷ outside) (n + 1)) (t ∙ ap (λ (v : List ℕ). takeNext answer (work g b) (item inmost (h .tag) v)) (value-part s a stop h q))
-              (subst (λ (fs : List Frame). Left answer r d fs (n + 1) (work g′ b′)) opened-behind l)));
+              (subst (Left answer r d (frame (behind rest h) inmost ∷ outside) (n + 1)) (t ∙ ap (λ (v : List ℕ). takeNext answer (work g b) (item inmost (h .tag) v)) (contents-is rest (h .start) (h .len)))
+              (subst (λ (v : List ℕ). Left answer r d (frame v inmost ∷ outside) (n + 1) (work g′ b′)) v x)));
         }
 
-    opened-inside : (depth + 1 ≡ 4 → ⊥) → opened s (set ends (depth + 1) beyond) (set around (depth + 1) (h .tag)) (suc (depth + 1)) start
-        ≡ frame (valueIn (part s a stop) h) (h .tag) ∷ frame (behind (part s a stop) h) inmost ∷ outside
-    opened-inside z =
-        opened-push ends around (depth + 1) beyond (h .tag) (omega (arith, w .few, w .ends-four)) s start (omega (arith, w .few, w .around-four))
-        ∙ ap₂ {C = List Frame} (λ (v : List ℕ) fs. frame v (h .tag) ∷ fs) (value-part s a stop h q) (ap (λ (k : ℕ). opened s ends around k beyond) (add-one depth) ∙ opened-behind)
+    pub leaf-less : ahead s ends depth after < ahead s ends depth rest
+    leaf-less = let i = bounds in let l = after-length in omega arith
 
-    pub push : h .template ≡ true → (depth + 1 ≡ 4 → ⊥) → Reached s tag answer c b (set ends (depth + 1) beyond) (set around (depth + 1) (h .tag)) (depth + 1) start (n + 1) g
-    push p z =
-        let i = bounds in
-        let m = opened-length s ends around depth stop in
-        let le : start ≤ beyond = omega arith in
-        record {
-          ends-four = length-set ends (depth + 1) beyond ∙ w .ends-four;
-          around-four = length-set around (depth + 1) (h .tag) ∙ w .around-four;
-          few = omega (arith, w .few);
-          nested =
-              nested-push ends around (depth + 1) beyond (h .tag) (omega (arith, w .few, w .ends-four)) (length s) start le
-              (subst (λ (k : ℕ). Nested ends (length s) k beyond) (sym (add-one depth)) nested-behind);
-          half = omega (arith, w .half);
-          sized = w .sized;
-          same = λ r d l.
-              same-at r d
-              (left-node answer r d _ _ outside n (work g b) h q p (omega (arith, w .few))
-              (subst (λ (fs : List Frame). Left answer r d fs (n + 1) (work g b)) (opened-inside z) l));
-        }
+    -- the end of a template that is opened
+    abbrev inner-end : ℕ
+    inner-end = stop - length after
+
+    pub end-fits : length after ≤ stop
+    end-fits = let l = after-length in omega (arith, w .fits)
+
+    end-beyond : inner-end ≡ beyond
+    end-beyond = let i = bounds in let l = after-length in omega (arith, w .fits)
+
+    module _ (z : depth + 1 ≡ 4 → ⊥) where
+      abbrev ends′ : List ℕ
+      ends′ = set ends (depth + 1) inner-end
+
+      abbrev around′ : List ℕ
+      around′ = set around (depth + 1) (h .tag)
+
+      end-is : getD ends′ (depth + 1) 0 ≡ beyond
+      end-is = getD-set-same ends (depth + 1) inner-end 0 (omega (arith, w .few, w .ends-four)) ∙ end-beyond
+
+      tag-is : getD around′ (depth + 1) 0 ≡ h .tag
+      tag-is = getD-set-same around (depth + 1) (h .tag) 0 (omega (arith, w .few, w .around-four))
+
+      -- behind it the template around it is left
+      nested-in : beyond ≤ stop → Nested ends′ (length s) (depth + 1) beyond
+      unfolding Nested
+      nested-in l = nested-set ends around (depth + 1) inner-end (h .tag) (length s) (depth + 1) beyond (omega arith) (rw (add-one depth) (l, w .nested))
+
+      opened-in : opened s ends′ around′ (depth + 1) beyond ≡ frame (behind rest h) inmost ∷ outside
+      unfolding opened
+      opened-in =
+          opened-set ends around (depth + 1) inner-end (h .tag) s (depth + 1) beyond (omega arith)
+          ∙ rw (add-one depth) (ap (λ (v : List ℕ). frame v inmost ∷ outside) behind-at)
+
+      value-length : length (contents rest (h .start) (h .len)) ≡ h .len
+      value-length = let i = bounds in ap length (contents-is rest (h .start) (h .len)) ∙ simp (length-take, length-drop) (omega arith)
+
+      pub push : h .template ≡ true → Reached s tag answer c b ends′ around′ (depth + 1) (contents rest (h .start) (h .len)) (n + 1) g
+      push p =
+          let i = bounds in
+          let j = inside in
+          let m = opened-length s ends around depth stop in
+          let l = value-length in
+          let k : at + h .start ≤ beyond = omega arith in
+          let o : beyond ≤ length s = omega (arith, w .fits) in
+          record {
+            ends-four = length-set ends (depth + 1) inner-end ∙ w .ends-four;
+            around-four = length-set around (depth + 1) (h .tag) ∙ w .around-four;
+            few = omega (arith, w .few);
+            fits = rw end-is (omega (arith, w .fits));
+            here = rw end-is (part-begins s (at + h .start) beyond k o _ value-at);
+            nested = rw end-is (nested-in (omega (arith, w .fits)));
+            half = rw end-is (omega (arith, w .half));
+            sized = w .sized;
+            same = λ r d x.
+                w .same r d
+                (left-node answer r d _ _ outside n (work g b) h q p (omega (arith, w .few))
+                (subst (λ (v : List ℕ). Left answer r d (frame v (h .tag) ∷ frame (behind rest h) inmost ∷ outside) (n + 1) (work g b)) (contents-is rest (h .start) (h .len))
+                (subst (λ (fs : List Frame). Left answer r d (frame (contents rest (h .start) (h .len)) (h .tag) ∷ fs) (n + 1) (work g b)) opened-in
+                (rw (tag-is, end-is) at x))));
+          }
+
+      pub push-less : ahead s ends′ (depth + 1) (contents rest (h .start) (h .len)) < ahead s ends depth rest
+      push-less = let i = bounds in let j = inside in let l = value-length in rw end-is (omega (arith, w .fits))

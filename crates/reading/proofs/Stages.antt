@@ -32,7 +32,7 @@ use Rattle.reading.specs.declared.Contents.the-variants as said
 use Rattle.reading.specs.Taking.{work}
 use Rattle.reading.specs.Answer.{numberOf, Outcome, outcome, Gives, primitive, templateBody, frontBody, bodyOf, answerBit, readTree, readBody, isRead, goodStatus, goodLength, readAnswer}
 use Rattle.reading.specs.Count.{bodyObjects, answerObjects}
-use Rattle.reading.specs.Inner.{storeAfter, GivesIn, readTemplate, made, beginning, outerFront, outerOf, contentsReading, tally, Leaves, counted}
+use Rattle.reading.specs.Inner.{storeAfter, GivesIn, readTemplate, made, beginning, outerFront, outerOf, contentsReading, Leaves, counted}
 use Rattle.reading.proofs.Parts.{gives, regive, restore, broken-contents, whole-contents, tree-wrong, tree-refused, tree-taken}
 use Rattle.reading.proofs.Count.{answer-tree, body-tree}
 

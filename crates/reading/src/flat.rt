@@ -101,8 +101,8 @@ fn read_object(
 }
 
 // The contents of the outer template, whose tag this is. `ends` and `around` have the end and the tag of each open
-// template, the outer one first and the innermost at `depth`; what is next stands at `at`. The primitive objects are
-// taken into the store, each with the tag of the template directly around it.
+// template, the outer one first and the innermost at `depth`; `s` is what is left of the innermost. The primitive
+// objects are taken into the store, each with the tag of the template directly around it.
 fn read(
     bytes: &[u8],
     tag: u32,
@@ -124,37 +124,38 @@ fn read(
     let mut ends = [bytes.len(); LEVELS];
     let mut around = [tag; LEVELS];
     let mut depth = 0;
-    let mut at = 0;
+    let mut s = bytes;
     let mut n = 1;
     let mut good = true;
     loop {
-        let end = ends[depth];
-        let following = tlv::next(&bytes[at..end]);
+        let following = tlv::next(s);
         match following {
             Following::Malformed => return Contents::Broken,
             Following::End => {
                 if depth == 0 {
                     return Contents::Whole(Tally { objects: n, good });
                 }
+                let start = ends[depth];
                 depth -= 1;
-                at = end;
+                s = &bytes[start..ends[depth]];
             }
             Following::Inner(h) => {
-                let start = at + h.start;
+                let start = h.start;
                 let e = start + h.len;
+                let value = &s[start..e];
+                let rest = &s[e..];
                 n += 1;
                 if h.template {
-                    depth += 1;
-                    if depth == LEVELS {
+                    if depth + 1 == LEVELS {
                         return Contents::Broken;
                     }
-                    ends[depth] = e;
-                    around[depth] = h.tag;
-                    at = start;
+                    ends[depth + 1] = ends[depth] - rest.len();
+                    around[depth + 1] = h.tag;
+                    depth += 1;
+                    s = value;
                 } else {
-                    let value = &bytes[start..e];
                     good = crate::take_next(good, h.tag, around[depth], answer, value, store, tags, codes, places);
-                    at = e;
+                    s = rest;
                 }
             }
         }

@@ -1,7 +1,7 @@
 -- `reading::judge_contents` meets its contract: whether the contents are whole, the outer tag, the objects.
 -- Assumes nothing.
 use borrow.Author.Needs.{needs}
-use mathlib.Core.Path.{_≡_, sym, ap, _∙_}
+use mathlib.Core.Path.{sym, ap, _∙_}
 use borrow.Author.Tests.{eq-eqb, ne-eqb, not-true, not-false}
 use Rattle.basics.proofs.Laws.{if-yes, if-no}
 use Rattle.reading.specs.Inner.{contentsReading}
