@@ -1,4 +1,5 @@
-//! Single readings: one answer read by the model and by the library, with its reason, its object count and the whole store.
+//! Single readings: one answer read by the model, by both readers of the library and by the plain reader, with its reason, its
+//! object count and the whole store.
 //!
 //! The count is compared with the tree's as well, which is counted apart from any reading.
 
@@ -7,9 +8,8 @@ use crate::padding::InReadings;
 use crate::rng::Rng;
 use crate::step::Hex;
 use crate::{card, damage, never};
-use model::dictionary::Object;
+use model::dictionary::{Object, Setter};
 use model::reading::{self, AnswerTo};
-use model::store::Store;
 use model::{tlv, HEAD_SIZE, STORE_SIZE};
 use std::fmt::Write as _;
 
@@ -24,22 +24,33 @@ const ANSWERS: [AnswerTo; 4] = [
 /// The phases in which they are awaited.
 const PHASES: [u8; 4] = [1, 2, 3, 5];
 
-/// The side that is compared with the model: the library's word of one reading.
-#[cfg(feature = "library")]
-use reading_test::read as other;
+/// One reading: a store, the answer's number, a record's file and the card's bytes. The word has the reason in bits 16 to 23 and
+/// the object count below, or is `NOT_READ`.
+pub type Read = fn(&mut [u8], u32, u8, &[u8]) -> u32;
 
-/// Without the library the model is compared with itself.
+/// The readers that are compared with the model.
+#[cfg(feature = "library")]
+pub const READERS: [(&str, Read); 3] = [
+    ("library", reading_test::read),
+    ("library, no recursion", reading_test::read_flat),
+    ("plain", plain_reader::read),
+];
+
+/// Without the library the plain reader alone.
 #[cfg(not(feature = "library"))]
-fn other(store: &mut [u8], awaited: u32, file: u8, card: &[u8]) -> u32 {
+pub const READERS: [(&str, Read); 1] = [("plain", plain_reader::read)];
+
+/// The word where nothing is read.
+pub const NOT_READ: u32 = 0xFFFF_FFFF;
+
+/// One reading by the model.
+pub fn by_model(store: &mut [u8], awaited: u32, file: u8, card: &[u8]) -> u32 {
     let (Ok(store), Some(&to)) = (store.try_into(), ANSWERS.get(awaited as usize)) else {
         return NOT_READ;
     };
     let (reason, count) = model::read_answer(store, to, file, card);
     u32::from(reason) << 16 | count
 }
-
-/// The word where nothing is read.
-const NOT_READ: u32 = 0xFFFF_FFFF;
 
 /// What some readings reached.
 #[derive(Clone, Debug, Default, PartialEq, Eq)]
@@ -60,6 +71,10 @@ pub struct Reached {
     pub depths: [u64; 4],
     /// Trees of five levels, which are malformed.
     pub five_levels: u64,
+    /// Objects of the card directly behind so many templates that end together, 1 to 3: in their own template, in another.
+    pub behind_ends: [[u64; 2]; 3],
+    /// Trees with so many inner templates, 1 to 3, that end together with the outer one.
+    pub at_end: [u64; 3],
     /// Records above file 10 with a good status.
     pub unread: u64,
     /// Answers under 2 bytes, and over 258.
@@ -88,6 +103,11 @@ impl Reached {
         need(&self.other_primitive, "another primitive object");
         need(&self.depths, "depth 1 +");
         need(&[self.five_levels], "five levels");
+        need(
+            self.behind_ends.as_flattened(),
+            "an object behind ended templates",
+        );
+        need(&self.at_end, "templates that end with the outer one, 1 +");
         need(&[self.unread], "a file above 10");
         need(&self.lengths, "length out of range");
         need(&[u64::from(self.greatest >= 120)], "a count of 120");
@@ -114,9 +134,12 @@ impl Reached {
             return;
         }
         self.padding.count(answer, &reading.card, reason, count);
-        let Some((tag, _, [])) = tlv::split_object(body) else {
+        let Some((tag, value, [])) = tlv::split_object(body) else {
             return;
         };
+        if tag.is_template() && matches!((reason, count), (0 | 3, 1..)) {
+            self.count_ends(tag.number, value);
+        }
         let wanted = if answer == 1 { 0x70 } else { 0x77 };
         match (tag.is_template(), tag.number) {
             (false, 0x80) if reason == 0 => self.format_1[answer] += 1,
@@ -131,6 +154,47 @@ impl Reached {
                 _ => {}
             },
         }
+    }
+}
+
+impl Reached {
+    /// Counts the templates that end together in a tree.
+    fn count_ends(&mut self, outer: u32, contents: &[u8]) {
+        let mut ended = 0;
+        tell_objects(outer, contents, &mut ended, &mut |ended, around, tag| {
+            let template = Object::of_tag(tag).and_then(|object| match object.row().setter {
+                Setter::Card70 => Some(0x70),
+                Setter::Start | Setter::Session => None,
+                _ => Some(0x77),
+            });
+            if let (Some(template), 1..=3) = (template, ended) {
+                self.behind_ends[ended - 1][usize::from(template != around)] += 1;
+            }
+        });
+        if let 1..=3 = ended {
+            self.at_end[ended - 1] += 1;
+        }
+    }
+}
+
+/// Tells each primitive object of a tree, with the template around it and how many templates have ended since the object before it.
+fn tell_objects(
+    around: u32,
+    contents: &[u8],
+    ended: &mut usize,
+    told: &mut impl FnMut(usize, u32, u32),
+) {
+    let mut rest = tlv::skip_padding(contents);
+    while let Some((tag, value, behind)) = tlv::split_object(rest) {
+        if tag.is_template() {
+            *ended = 0;
+            tell_objects(tag.number, value, ended, told);
+            *ended += 1;
+        } else {
+            told(*ended, around, tag.number);
+            *ended = 0;
+        }
+        rest = tlv::skip_padding(behind);
     }
 }
 
@@ -161,7 +225,11 @@ impl Reading {
         if rng.one_in(3) {
             session[HEAD_SIZE..].fill(0);
         }
-        let mut card = match rng.below(6) {
+        let mut card = match rng.below(7) {
+            6 => {
+                let tree = ends_together(rng);
+                answer_of(rng, tree)
+            }
             0 => {
                 let tree = any_tree(rng);
                 answer_of(rng, tree)
@@ -213,25 +281,27 @@ impl Reading {
         }
     }
 
-    /// Reads on both sides; an error says what differs.
+    /// Reads with the model and with each reader; an error says what differs.
     fn compare(&self, reached: &mut Reached) -> Result<(), String> {
-        let to = ANSWERS[self.awaited as usize];
-        let mut store: Store = self.store[..].try_into().expect("a store has its size");
-        let (reason, count) = model::read_answer(&mut store, to, self.file, &self.card);
-        let mut store_other = self.store.clone();
-        let word = other(&mut store_other, self.awaited, self.file, &self.card);
-        let (reason_other, count_other) = ((word >> 16) as u8, word & 0xFFFF);
+        let mut store = self.store.clone();
+        let word = by_model(&mut store, self.awaited, self.file, &self.card);
+        let (reason, count) = ((word >> 16) as u8, word & 0xFFFF);
         reached.count(self, reason, count);
         let tree = self.tree_count();
-        if (reason, count, count) != (reason_other, count_other, tree) {
-            return Err(format!(
-                "model: reason {reason}, {count} objects; other: {word:08X}; the tree has {tree}"
-            ));
+        if count != tree {
+            return Err(format!("model: {count} objects; the tree has {tree}"));
         }
-        match store.iter().zip(&store_other).position(|(a, b)| a != b) {
-            Some(at) => Err(format!("store at {at}")),
-            None => Ok(()),
+        for (name, read) in READERS {
+            let mut store_other = self.store.clone();
+            let word_other = read(&mut store_other, self.awaited, self.file, &self.card);
+            if word_other != word {
+                return Err(format!("model {word:08X}, {name} {word_other:08X}"));
+            }
+            if let Some(at) = store.iter().zip(&store_other).position(|(a, b)| a != b) {
+                return Err(format!("{name}: store at {at}"));
+            }
         }
+        Ok(())
     }
 
     /// Reads nothing: a store of another size, or a number that is no answer. All bytes stay.
@@ -247,12 +317,14 @@ impl Reading {
             rng.bits() as u32 | 4
         };
         let before = store.clone();
-        let word = other(&mut store, awaited, self.file, &self.card);
-        if word != NOT_READ || store != before {
-            return Err(format!(
-                "store of {} bytes, answer {awaited}: {word:08X}",
-                store.len()
-            ));
+        for (name, read) in READERS {
+            let word = read(&mut store, awaited, self.file, &self.card);
+            if word != NOT_READ || store != before {
+                return Err(format!(
+                    "{name}: store of {} bytes, answer {awaited}: {word:08X}",
+                    store.len()
+                ));
+            }
         }
         Ok(())
     }
@@ -290,6 +362,55 @@ pub(crate) fn any_tree(rng: &mut Rng) -> Vec<u8> {
     objects::template(rng, tag, &list)
 }
 
+/// Runs of templates that end together, an object of the card behind each; some have one in the innermost.
+fn ends_together(rng: &mut Rng) -> Vec<u8> {
+    let outer = rng.pick(&[0x70, 0x77]);
+    let mut list = Vec::new();
+    for _ in 0..rng.within(1..=4) {
+        let mut inner = if rng.one_in(2) {
+            card_object(rng)
+        } else {
+            Vec::new()
+        };
+        for _ in 0..rng.within(1..=3) {
+            let other = rng.pick(&TEMPLATES);
+            let tag = rng.pick(&[0x70, 0x77, other]);
+            let before = if rng.one_in(4) {
+                card_object(rng)
+            } else {
+                Vec::new()
+            };
+            inner = objects::object(rng, tag, &[before, inner].concat());
+        }
+        list.push(inner);
+        if rng.percent(80) {
+            list.push(card_object(rng));
+        }
+    }
+    objects::template(rng, outer, &list)
+}
+
+/// A short object that the card may set in some answer.
+fn card_object(rng: &mut Rng) -> Vec<u8> {
+    let object = rng.pick(&[
+        Object::Track2,
+        Object::IssuerCountry,
+        Object::PanSequenceNumber,
+        Object::VersionCard,
+        Object::UsageControl,
+        Object::InterchangeProfile,
+        Object::InterchangeProfile,
+        Object::TransactionCounter,
+        Object::IssuerApplicationData,
+        Object::Cvc3Track2,
+    ]);
+    let mut value = objects::good_value(rng, object);
+    if object.row().least == 0 {
+        value.truncate(rng.below(4));
+    }
+    objects::object(rng, object.row().tag, &value)
+}
+
 /// A few objects: unknown ones, private ones of the terminal, known ones that may stand or not.
 fn some_objects(rng: &mut Rng) -> Vec<Vec<u8>> {
     let mut list = Vec::new();
@@ -322,7 +443,7 @@ fn many_objects(rng: &mut Rng) -> Vec<u8> {
     body
 }
 
-/// Makes this many readings on both sides, from a seed on; an error has the first that differs.
+/// Makes this many readings with the model and each reader, from a seed on; an error has the first that differs.
 pub fn run_many(readings: u64, seed: u64) -> Result<Reached, String> {
     let mut reached = Reached::default();
     for seed in seed..seed + readings {

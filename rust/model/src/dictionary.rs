@@ -16,6 +16,7 @@ pub enum Form {
 
 impl Form {
     /// Whether the nibbles of `value` are allowed in this form.
+    #[inline]
     pub fn allows(self, value: &[u8]) -> bool {
         match self {
             Form::Binary => true,
@@ -76,6 +77,7 @@ pub struct Row {
 
 impl Row {
     /// Whether a value has a length and nibbles that this row allows.
+    #[inline]
     pub fn fits(&self, value: &[u8]) -> bool {
         (usize::from(self.least)..=usize::from(self.most)).contains(&value.len())
             && self.form.allows(value)
