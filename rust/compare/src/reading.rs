@@ -247,7 +247,10 @@ impl Rows {
             if row.templates == Templates::NONE {
                 continue;
             }
-            need(self.length[i], format!("{tag:X} of another length"));
+            // An answer has no room for 250 bytes and more.
+            if row.least > 0 || row.most < 249 {
+                need(self.length[i], format!("{tag:X} of another length"));
+            }
             need(self.there[i], format!("{tag:X} again"));
             if row.form != Form::Binary {
                 need(self.digits[i], format!("{tag:X} with a wrong digit"));
@@ -322,7 +325,7 @@ struct Reading {
 impl Reading {
     /// Draws a reading, mostly of the answer that is awaited.
     fn draw(rng: &mut Rng) -> Reading {
-        let awaited = rng.below(4) as u32;
+        let mut awaited = rng.below(4) as u32;
         let mut session = damage::built_record(rng);
         session[1] = if rng.one_in(5) {
             rng.pick(&PHASES)
@@ -333,9 +336,21 @@ impl Reading {
         if rng.one_in(3) {
             session[HEAD_SIZE..].fill(0);
         }
-        let mut card = match rng.below(8) {
-            7 => {
-                let tree = one_object(rng, awaited);
+        let mut card = match rng.below(9) {
+            7 | 8 => {
+                let object = rng.pick(&Object::ALL);
+                if rng.one_in(5) {
+                    let value = objects::good_value(rng, object);
+                    damage::put(&mut session, object, &value);
+                }
+                if rng.one_in(2) {
+                    // An answer in which it may come, if there is one.
+                    let answers: Vec<u32> = (0..4).filter(|&n| comes(object.row(), n)).collect();
+                    if !answers.is_empty() {
+                        awaited = rng.pick(&answers);
+                    }
+                }
+                let tree = one_object(rng, awaited, object);
                 answer_of(rng, tree)
             }
             6 => {
@@ -475,16 +490,20 @@ pub(crate) fn any_tree(rng: &mut Rng) -> Vec<u8> {
 }
 
 /// A known object alone in the outer template of an answer, or in one more.
-fn one_object(rng: &mut Rng, awaited: u32) -> Vec<u8> {
+fn one_object(rng: &mut Rng, awaited: u32, object: Object) -> Vec<u8> {
     let outer = if awaited == 1 { 0x70 } else { 0x77 };
-    let object = rng.pick(&Object::ALL);
-    let value = if rng.one_in(4) {
+    let value = if rng.one_in(3) {
         objects::odd_value(rng, object)
     } else {
         objects::good_value(rng, object)
     };
     let inner = objects::object(rng, object.row().tag, &value);
-    let tag = rng.pick(&AROUND);
+    let mut around = AROUND.to_vec();
+    if object.row().templates != Templates::NONE && rng.one_in(2) {
+        // One of its own.
+        around.retain(|&tag| object.row().templates.meets(Templates::of_tag(tag)));
+    }
+    let tag = rng.pick(&around);
     if tag == outer {
         return objects::object(rng, outer, &inner);
     }
