@@ -9,6 +9,9 @@ use model::{tlv, HEAD_SIZE, SESSION_SIZE};
 /// A count for each row.
 type Counts = [u64; ROWS.len()];
 
+/// Counts, with what they are of and which rows can reach it.
+type Named<'a> = (&'static str, fn(&Row) -> bool, &'a mut Counts);
+
 /// How often each case was reached, by row.
 #[derive(Clone, Debug, PartialEq, Eq)]
 pub struct Reached {
@@ -47,8 +50,8 @@ impl Default for Reached {
 }
 
 impl Reached {
-    /// The counts, with what each is of and which rows can reach it.
-    fn counts(&mut self) -> [(&'static str, fn(&Row) -> bool, &mut Counts); 8] {
+    /// All counts.
+    fn counts(&mut self) -> [Named<'_>; 8] {
         [
             ("brought by calls", may_be_brought, &mut self.by_calls),
             (
