@@ -312,7 +312,7 @@ fn version_of_the_layout() {
         major: 0,
         minor: 1,
         patch: 0,
-        layout: 4,
+        layout: 5,
     };
     assert_eq!(version, expected);
 }
