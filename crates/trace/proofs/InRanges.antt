@@ -15,7 +15,7 @@ use Rattle.session.specs.Steps.{Step, refuses, leastBuffer, admitted, endsIn}
 use Rattle.session.specs.Start.{startIn}
 use Rattle.session.specs.Answer.{answerIn}
 use Rattle.trace.specs.Calls.{Call, start, answer, link-failed, stop, step, Made, made, play, final}
-use Rattle.trace.proofs.Ranges.{start-keeps, answer-keeps, link-keeps, stop-keeps}
+use Rattle.trace.proofs.Trace.{call-keeps}
 
 -- the refusal for the buffer's size, then the step
 abbrev pub sized : Session → List ℕ → Step → Step
@@ -47,14 +47,8 @@ module _ (s : Session) (e : inRanges s ≡ true) where
   step-in (link-failed buf) = tested buf _
   step-in (stop buf) = tested buf _
 
-  step-keeps : (c : Call) → inRanges (step s c .reply .session) ≡ true
-  step-keeps (start bytes buf) = start-keeps s bytes buf e
-  step-keeps (answer card buf) = answer-keeps s card buf e
-  step-keeps (link-failed buf) = link-keeps s buf e
-  step-keeps (stop buf) = stop-keeps s buf e
-
   after : (c : Call) → inRanges (stepIn s c .reply .session) ≡ true
-  after c = subst (λ (st : Step). inRanges (st .reply .session) ≡ true) (step-in c) (step-keeps c)
+  after c = subst (λ (st : Step). inRanges (st .reply .session) ≡ true) (step-in c) (call-keeps s c e)
 
 pub play-in : (s : Session) → inRanges s ≡ true → (cs : List Call) → play s cs ≡ playIn s cs
 unfolding play playIn
