@@ -126,18 +126,18 @@ of-eight : let tags : List ℕ = 0x57 ∷ 0x5A ∷ 0x82 ∷ 0x8C ∷ 0x94 ∷ 0x
 unfolding searchOf halvingOf halve if
 of-eight = refl
 
--- the dictionary: first row, two within, last; below all, between, above all
-of-rows : map (searchOf (tagsOf rows)) (0x57 ∷ 0x5F24 ∷ 0x9F09 ∷ 0xDF8126 ∷ [])
-    ≡ said (At 0) 6 ∷ said (At 9) 4 ∷ said (At 18) 3 ∷ said (At 48) 5 ∷ []
+-- the dictionary: first row, four within, last; below all, between, above all
+of-rows : map (searchOf (tagsOf rows)) (0x50 ∷ 0x57 ∷ 0x5F24 ∷ 0x9F09 ∷ 0xDF8126 ∷ 0xDF8307 ∷ [])
+    ≡ said (At 0) 8 ∷ said (At 2) 6 ∷ said (At 16) 7 ∷ said (At 30) 8 ∷ said (At 136) 7 ∷ said (At 157) 7 ∷ []
 unfolding rows searchOf halvingOf halve if
 of-rows = refl
 
-of-no-row : map (searchOf (tagsOf rows)) (0 ∷ 0x5F26 ∷ 0xDF8127 ∷ 0xFFFFFFFF ∷ [])
-    ≡ said Unknown 6 ∷ said Unknown 6 ∷ said Unknown 5 ∷ said Unknown 5 ∷ []
+of-no-row : map (searchOf (tagsOf rows)) (0 ∷ 0x5F26 ∷ 0xDF8131 ∷ 0xDF8308 ∷ 0xFFFFFFFF ∷ [])
+    ≡ said Unknown 8 ∷ said Unknown 7 ∷ said Unknown 8 ∷ said Unknown 7 ∷ said Unknown 7 ∷ []
 unfolding rows searchOf halvingOf halve if
 of-no-row = refl
 
 -- the places looked at, in their order
-places-of-last : lookedAt (tagsOf rows) 0xDF8126 ≡ 24 ∷ 37 ∷ 43 ∷ 46 ∷ 48 ∷ []
+places-of-last : lookedAt (tagsOf rows) 0xDF8307 ≡ 79 ∷ 119 ∷ 139 ∷ 149 ∷ 154 ∷ 156 ∷ 157 ∷ []
 unfolding rows halvingOf halve if
 places-of-last = refl

@@ -29,139 +29,139 @@ usedTags =
 -- ---- the numbers of these rows, counted from 0: proofs/Named finds each in the table
 
 abbrev pub row5A : ℕ
-row5A = 1
+row5A = 3
 
 abbrev pub row82 : ℕ
-row82 = 2
+row82 = 5
 
 abbrev pub row8C : ℕ
-row8C = 3
+row8C = 8
 
 abbrev pub row8E : ℕ
-row8E = 4
+row8E = 9
 
 abbrev pub row94 : ℕ
-row94 = 5
+row94 = 12
 
 abbrev pub row95 : ℕ
-row95 = 6
+row95 = 13
 
 abbrev pub row9A : ℕ
-row9A = 7
+row9A = 14
 
 abbrev pub row9C : ℕ
-row9C = 8
+row9C = 15
 
 abbrev pub row5F24 : ℕ
-row5F24 = 9
+row5F24 = 16
 
 abbrev pub row5F25 : ℕ
-row5F25 = 10
+row5F25 = 17
 
 abbrev pub row5F28 : ℕ
-row5F28 = 11
+row5F28 = 18
 
 abbrev pub row5F2A : ℕ
-row5F2A = 12
+row5F2A = 19
 
 abbrev pub row9F02 : ℕ
-row9F02 = 14
+row9F02 = 26
 
 abbrev pub row9F03 : ℕ
-row9F03 = 15
+row9F03 = 27
 
 abbrev pub row9F07 : ℕ
-row9F07 = 16
+row9F07 = 28
 
 abbrev pub row9F08 : ℕ
-row9F08 = 17
+row9F08 = 29
 
 abbrev pub row9F09 : ℕ
-row9F09 = 18
+row9F09 = 30
 
 abbrev pub row9F0D : ℕ
-row9F0D = 19
+row9F0D = 31
 
 abbrev pub row9F0E : ℕ
-row9F0E = 20
+row9F0E = 32
 
 abbrev pub row9F0F : ℕ
-row9F0F = 21
+row9F0F = 33
 
 abbrev pub row9F10 : ℕ
-row9F10 = 22
+row9F10 = 34
 
 abbrev pub row9F1A : ℕ
-row9F1A = 23
+row9F1A = 39
 
 abbrev pub row9F26 : ℕ
-row9F26 = 24
+row9F26 = 47
 
 abbrev pub row9F27 : ℕ
-row9F27 = 25
+row9F27 = 48
 
 abbrev pub row9F33 : ℕ
-row9F33 = 26
+row9F33 = 50
 
 abbrev pub row9F34 : ℕ
-row9F34 = 27
+row9F34 = 51
 
 abbrev pub row9F35 : ℕ
-row9F35 = 28
+row9F35 = 52
 
 abbrev pub row9F36 : ℕ
-row9F36 = 29
+row9F36 = 53
 
 abbrev pub row9F38 : ℕ
-row9F38 = 31
+row9F38 = 55
 
 abbrev pub row9F40 : ℕ
-row9F40 = 32
+row9F40 = 56
 
 abbrev pub row9F42 : ℕ
-row9F42 = 33
+row9F42 = 57
 
 abbrev pub row9F61 : ℕ
-row9F61 = 34
+row9F61 = 74
 
 abbrev pub row9F65 : ℕ
-row9F65 = 35
+row9F65 = 78
 
 abbrev pub row9F66 : ℕ
-row9F66 = 36
+row9F66 = 79
 
 abbrev pub row9F67 : ℕ
-row9F67 = 37
+row9F67 = 80
 
 abbrev pub row9F69 : ℕ
-row9F69 = 38
+row9F69 = 81
 
 abbrev pub row9F6A : ℕ
-row9F6A = 39
+row9F6A = 82
 
 abbrev pub row9F6B : ℕ
-row9F6B = 40
+row9F6B = 83
 
 abbrev pub rowDF811B : ℕ
-rowDF811B = 41
+rowDF811B = 125
 
 abbrev pub rowDF8120 : ℕ
-rowDF8120 = 42
+rowDF8120 = 130
 
 abbrev pub rowDF8121 : ℕ
-rowDF8121 = 43
+rowDF8121 = 131
 
 abbrev pub rowDF8122 : ℕ
-rowDF8122 = 44
+rowDF8122 = 132
 
 abbrev pub rowDF8123 : ℕ
-rowDF8123 = 45
+rowDF8123 = 133
 
 abbrev pub rowDF8124 : ℕ
-rowDF8124 = 46
+rowDF8124 = 134
 
 abbrev pub rowDF8125 : ℕ
-rowDF8125 = 47
+rowDF8125 = 135
 
 abbrev pub rowDF8126 : ℕ
-rowDF8126 = 48
+rowDF8126 = 136

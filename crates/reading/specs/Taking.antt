@@ -10,7 +10,7 @@ use Rattle.tlv.specs.Tag.{isPrivate}
 use Rattle.tlv.specs.Tree.{Forest, end, leaf, node}
 use Rattle.dictionary.specs.declared.Found.{Found}
 use Rattle.dictionary.specs.declared.Found.the-variants.{At, Unknown}
-use Rattle.dictionary.specs.Rows.{Row, rows, rowAt, find, card, in70, in77}
+use Rattle.dictionary.specs.Rows.{Row, rows, rowAt, find, card, in70, in77, inA5, inBF0C, in6F}
 use Rattle.dictionary.specs.Form.{fitting}
 use Rattle.store.specs.Place.{isFree, putAt}
 
@@ -30,11 +30,14 @@ items a end = []
 items a (leaf t v r) = item a t v ∷ items a r
 items a (node t f r) = items t f ++ items a r
 
--- a template is one of a set of templates; one other than 70 and 77 is in none
+-- a template is one of a set of templates; one other than these five is in none
 abbrev pub standsIn : ℕ → ℕ → Bool
 standsIn templates around =
     if around =? 0x70 then hasBit templates in70
     else if around =? 0x77 then hasBit templates in77
+    else if around =? 0xA5 then hasBit templates inA5
+    else if around =? 0xBF0C then hasBit templates inBF0C
+    else if around =? 0x6F then hasBit templates in6F
     else false
 
 -- a row's object may stand directly inside this template

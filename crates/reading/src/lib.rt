@@ -126,7 +126,7 @@ pub fn read_body(store: &mut [u8], awaited: Awaited, body: &[u8]) -> Reading
     ensures tree { λ r. ⌜ r .objects ≡ bodyObjects (now (body .entry)) ⌝ }
 {
     let mut work = [0u8; SIZE];
-    bytes::copy(store, &mut work);
+    store::copy_whole(store, &mut work);
     let tags = dictionary::tags();
     let codes = dictionary::codes();
     let places = store::row_places();
@@ -640,6 +640,15 @@ fn may_stand(templates: u8, around: u32) -> bool
     }
     if around == 0x77 {
         return templates / dictionary::IN_77 % 2 == 1;
+    }
+    if around == 0xA5 {
+        return templates / dictionary::IN_A5 % 2 == 1;
+    }
+    if around == 0xBF0C {
+        return templates / dictionary::IN_BF0C % 2 == 1;
+    }
+    if around == 0x6F {
+        return templates / dictionary::IN_6F % 2 == 1;
     }
     false
 }

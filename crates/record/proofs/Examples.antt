@@ -3,18 +3,15 @@
 -- Assumes nothing.
 use mathlib.Core.Path.{_≡_, refl}
 use mathlib.Core.Bool.{Bool, true, false}
-use mathlib.Core.List.{List, [], _∷_, _++_, map}
+use mathlib.Core.List.{List, [], _∷_, map}
 use Prim.Native.Nat.{ℕ}
-use lib.Dec.{eqb}
 use lib.ListN.{replicate}
 use Rattle.basics.specs.Choice.{if, both, either, every}
 use Rattle.basics.specs.Number.{nibbles}
-use Rattle.dictionary.specs.Named.{placeOf}
-use Rattle.dictionary.specs.Rows.{rows, past, find, storeSize}
+use Rattle.dictionary.specs.Rows.{rows, past, find}
 use Rattle.dictionary.specs.Form.{numeric, digitsThenFs, compressed, digitsFit, fitting}
 use Rattle.dictionary.specs.TerminalType.{listed}
-use Rattle.store.specs.Place.{offsetIn, placeAt, held, valueAt, lengthByte, putAt, valueIn}
-use Rattle.store.specs.Held.{lengthIn}
+use Rattle.store.specs.Place.{offsetIn, placeAt, held, valueAt, valueIn}
 use Rattle.locator.specs.Entry.{keeps}
 use Rattle.locator.specs.Records.{entries, wholeEntries, sumOf, accepts}
 use Rattle.analysis.specs.Action.{phoneIn, limitOf}
@@ -26,8 +23,12 @@ use Rattle.analysis.specs.declared.verification.Method.{Method}
 use Rattle.record.specs.declared.Outcome.{Outcome}
 use Rattle.record.specs.declared.Phase.{Phase}
 use Rattle.record.specs.Numbers.{outcomeNumber, goesWith, outcomeFor}
+use Rattle.record.specs.declared.Session.{Session}
+use Rattle.record.specs.Inner.{placeFits}
 use Rattle.record.specs.Session.{sessionOf, endOf}
-use Rattle.record.specs.Ranges.{objectFits, allFit, isBrought, brought, lastAbsent, running, completed, trackCompleted, freshRanges, optionsRanges, recordRanges, cryptogramRanges, checksumRanges, endedRanges, inRanges}
+use Rattle.record.specs.Ranges.{isBrought, brought, lastAbsent, running, completed, trackCompleted, freshRanges, optionsRanges, recordRanges, cryptogramRanges, checksumRanges, endedRanges, inRanges}
+use Rattle.record.proofs.Along.{fitAlong, each-along}
+use Rattle.record.proofs.Stores.{storing, without}
 
 -- ---- outcomes and reasons
 
@@ -75,14 +76,6 @@ ended-counts = refl
 
 -- ---- stores
 
--- objects put one by one into the empty store, without those of a tag
-abbrev without : ℕ → List (ℕ × List ℕ) → List ℕ
-without x [] = replicate storeSize 0
-without x ((t, v) ∷ more) = if (eqb t x) (without x more) (putAt rows (without x more) (placeOf t) v)
-
-abbrev storing : List (ℕ × List ℕ) → List ℕ
-storing l = without 0 l
-
 -- what a start must bring, and 95; the limits are 1.00, for a phone 2.00
 abbrev started : List (ℕ × List ℕ)
 started =
@@ -102,138 +95,200 @@ complete =
 
 -- ---- fresh
 
-fresh-counts : map (λ n. inRanges (sessionOf Phase.Fresh n (storing []))) (0 ∷ 1 ∷ []) ≡ true ∷ false ∷ []
-unfolding inRanges allFit objectFits lengthIn lengthByte valueIn valueAt placeAt held offsetIn find past rows freshRanges every both if
-fresh-counts = refl
+abbrev onFresh : ℕ × List (ℕ × List ℕ) → Session
+onFresh (n, l) = sessionOf Phase.Fresh n (storing l)
 
-fresh-store : inRanges (sessionOf Phase.Fresh 0 (storing ((0x9C, 0x00 ∷ []) ∷ []))) ≡ false
-unfolding inRanges allFit objectFits lengthIn lengthByte fitting digitsFit numeric nibbles putAt placeOf valueIn valueAt placeAt held offsetIn find past rows
-    freshRanges every both if
-fresh-store = refl
+-- a count of 1; an object
+abbrev freshOnes : List (ℕ × List (ℕ × List ℕ))
+freshOnes = (0, []) ∷ (1, []) ∷ (0, (0x9C, 0x00 ∷ []) ∷ []) ∷ []
+
+fresh-ones : map (λ x. inRanges (onFresh x)) freshOnes ≡ true ∷ false ∷ false ∷ []
+unfolding fitAlong placeFits fitting digitsFit numeric nibbles freshRanges held offsetIn placeAt valueAt valueIn find past rows every both either if
+fresh-ones = each-along onFresh freshOnes
 
 -- ---- waiting on processing options
 
-options-counts : map (λ n. inRanges (sessionOf Phase.Options n (storing started))) (0 ∷ 1 ∷ 2 ∷ []) ≡ false ∷ true ∷ false ∷ []
-unfolding inRanges allFit objectFits lengthIn lengthByte fitting digitsFit numeric nibbles putAt placeOf valueIn valueAt placeAt held offsetIn find past rows
-    optionsRanges running brought isBrought lastAbsent listed every both either if
-options-counts = refl
+abbrev onOptions : ℕ → List ℕ → Session
+onOptions n b = sessionOf Phase.Options n b
+
+abbrev optionsCounts : List ℕ
+optionsCounts = 0 ∷ 1 ∷ 2 ∷ []
+
+options-counts : map (λ n. inRanges (onOptions n (storing started))) optionsCounts ≡ false ∷ true ∷ false ∷ []
+unfolding fitAlong placeFits fitting digitsFit numeric nibbles optionsRanges running brought isBrought lastAbsent listed held offsetIn placeAt valueAt
+    valueIn find past rows every both either if
+options-counts = each-along (λ n. onOptions n (storing started)) optionsCounts
 
 -- each object that a start must bring is asked for, and so is 95
-options-lacking : map (λ t. inRanges (sessionOf Phase.Options 1 (without t started)))
-    (0x9A ∷ 0x9C ∷ 0x9F02 ∷ 0x9F09 ∷ 0x9F1A ∷ 0x9F33 ∷ 0x9F35 ∷ 0x9F37 ∷ 0xDF8120 ∷ 0xDF8121 ∷ 0xDF8122 ∷ 0xDF8123 ∷ 0xDF8124 ∷ 0xDF8125 ∷ 0xDF8126 ∷ 0xDF811B ∷ 0x9F6A ∷ 0x95 ∷ [])
-    ≡ replicate 18 false
-unfolding inRanges allFit objectFits lengthIn lengthByte fitting digitsFit numeric nibbles putAt placeOf valueIn valueAt placeAt held offsetIn find past rows
-    optionsRanges running brought isBrought lastAbsent listed every both either if
-options-lacking = refl
+abbrev optionsLacking : List ℕ
+optionsLacking =
+    0x9A ∷ 0x9C ∷ 0x9F02 ∷ 0x9F09 ∷ 0x9F1A ∷ 0x9F33 ∷ 0x9F35 ∷ 0x9F37 ∷ 0xDF8120 ∷ 0xDF8121 ∷ 0xDF8122 ∷ 0xDF8123 ∷ 0xDF8124 ∷ 0xDF8125 ∷ 0xDF8126 ∷ 0xDF811B ∷ 0x9F6A ∷ 0x95 ∷ []
+
+options-lacking : map (λ t. inRanges (onOptions 1 (without t started))) optionsLacking ≡ replicate 18 false
+unfolding fitAlong placeFits fitting digitsFit numeric nibbles optionsRanges running brought isBrought lastAbsent listed held offsetIn placeAt valueAt
+    valueIn find past rows every both either if
+options-lacking = each-along (λ t. onOptions 1 (without t started)) optionsLacking
 
 -- 82; 94; a result bit; each object of the last answer; a terminal type that is not listed; a digit that is none; a
 -- length over the row's and two under it. Then an account number, an empty one, the least list of rules, and 9F34
-options-with : map (λ x. inRanges (sessionOf Phase.Options 1 (storing (x ∷ started))))
-    ((0x82, 0x00 ∷ 0x80 ∷ []) ∷ (0x94, 0x08 ∷ 1 ∷ 2 ∷ 0 ∷ []) ∷ (0x95, 0 ∷ 0 ∷ 0 ∷ 0 ∷ 1 ∷ []) ∷ (0x9F10, []) ∷ (0x9F26, replicate 8 0) ∷ (0x9F27, 0 ∷ []) ∷ (0x9F36, 0 ∷ 1 ∷ []) ∷ (0x9F61, 0 ∷ 1 ∷ [])
+abbrev optionsWith : List (ℕ × List ℕ)
+optionsWith =
+    (0x82, 0x00 ∷ 0x80 ∷ []) ∷ (0x94, 0x08 ∷ 1 ∷ 2 ∷ 0 ∷ []) ∷ (0x95, 0 ∷ 0 ∷ 0 ∷ 0 ∷ 1 ∷ []) ∷ (0x9F10, []) ∷ (0x9F26, replicate 8 0) ∷ (0x9F27, 0 ∷ []) ∷ (0x9F36, 0 ∷ 1 ∷ []) ∷ (0x9F61, 0 ∷ 1 ∷ [])
     ∷ (0x9F35, 0x17 ∷ []) ∷ (0x9A, 0x25 ∷ 0x12 ∷ 0x3A ∷ []) ∷ (0xDF8124, replicate 7 0) ∷ (0x9F07, 0xFF ∷ []) ∷ (0x8E, replicate 9 0)
-    ∷ (0x5A, 0x12 ∷ 0x3F ∷ []) ∷ (0x5A, []) ∷ (0x8E, replicate 10 0) ∷ (0x9F34, 0x3F ∷ 0x00 ∷ 0x00 ∷ []) ∷ [])
+    ∷ (0x5A, 0x12 ∷ 0x3F ∷ []) ∷ (0x5A, []) ∷ (0x8E, replicate 10 0) ∷ (0x9F34, 0x3F ∷ 0x00 ∷ 0x00 ∷ []) ∷ []
+
+options-with : map (λ x. inRanges (onOptions 1 (storing (x ∷ started)))) optionsWith
     ≡ false ∷ false ∷ false ∷ false ∷ false ∷ false ∷ false ∷ false ∷ false ∷ false ∷ false ∷ false ∷ false ∷ true ∷ true ∷ true ∷ true ∷ []
-unfolding inRanges allFit objectFits lengthIn lengthByte fitting digitsFit numeric compressed digitsThenFs nibbles putAt placeOf valueIn valueAt placeAt held offsetIn find past rows
-    optionsRanges running brought isBrought lastAbsent listed every both either if
-options-with = refl
+unfolding fitAlong placeFits fitting digitsFit numeric compressed digitsThenFs nibbles optionsRanges running brought isBrought lastAbsent listed held
+    offsetIn placeAt valueAt valueIn find past rows every both either if
+options-with = each-along (λ x. onOptions 1 (storing (x ∷ started))) optionsWith
+
+-- rows of annex A alone: an object of the session in its length and out of it; one of the card that names no template; one of start or card at
+-- its greatest length; digits of 9F20, right and wrong
+abbrev optionsRows : List (ℕ × List ℕ)
+optionsRows =
+    (0xDF8115, replicate 6 0) ∷ (0xDF8115, replicate 5 0) ∷ (0x80, []) ∷ (0x9F70, replicate 192 0xFF) ∷ (0x9F20, 0x12 ∷ 0x3F ∷ []) ∷ (0x9F20, 0x12 ∷ 0xF3 ∷ []) ∷ []
+
+options-rows : map (λ x. inRanges (onOptions 1 (storing (x ∷ started)))) optionsRows ≡ true ∷ false ∷ true ∷ true ∷ true ∷ false ∷ []
+unfolding fitAlong placeFits fitting digitsFit numeric compressed digitsThenFs nibbles optionsRanges running brought isBrought lastAbsent listed held
+    offsetIn placeAt valueAt valueIn find past rows every both either if
+options-rows = each-along (λ x. onOptions 1 (storing (x ∷ started))) optionsRows
 
 -- ---- waiting on a record: k from 1 to R, 1 + k commands
 
-abbrev onRecord : ℕ × ℕ → Bool
-onRecord (k, n) = inRanges (sessionOf (Phase.Record (record { number = k; limit = 100 })) n (storing opened))
+abbrev onRecord : ℕ → ℕ → ℕ → List (ℕ × List ℕ) → Session
+onRecord k limit n l = sessionOf (Phase.Record (record { number = k; limit = limit })) n (storing l)
 
-record-counts : map onRecord ((0, 1) ∷ (1, 2) ∷ (2, 3) ∷ (3, 4) ∷ (1, 1) ∷ (1, 3) ∷ []) ≡ false ∷ true ∷ true ∷ false ∷ false ∷ false ∷ []
-unfolding inRanges allFit objectFits lengthIn lengthByte fitting digitsFit numeric nibbles putAt placeOf valueIn valueAt placeAt held offsetIn find past rows
-    recordRanges limitOf phoneIn onDevice amountOf decimalFrom front running brought isBrought lastAbsent listed accepts wholeEntries entries keeps sumOf every both either if
-record-counts = refl
+abbrev numbered : ℕ × ℕ → Session
+numbered (k, n) = onRecord k 100 n opened
+
+abbrev recordCounts : List (ℕ × ℕ)
+recordCounts = (0, 1) ∷ (1, 2) ∷ (2, 3) ∷ (3, 4) ∷ (1, 1) ∷ (1, 3) ∷ []
+
+record-counts : map (λ x. inRanges (numbered x)) recordCounts ≡ false ∷ true ∷ true ∷ false ∷ false ∷ false ∷ []
+unfolding fitAlong placeFits fitting digitsFit numeric nibbles recordRanges limitOf phoneIn onDevice amountOf decimalFrom front running brought
+    isBrought lastAbsent listed accepts wholeEntries entries keeps sumOf held offsetIn placeAt valueAt valueIn find past rows every both either if
+record-counts = each-along numbered recordCounts
 
 -- EMV mode; a first record of 0 in the locator; a result bit
-record-with : map (λ x. inRanges (sessionOf (Phase.Record (record { number = 1; limit = 100 })) 2 (storing (x ∷ opened))))
-    ((0x82, 0x00 ∷ 0x80 ∷ []) ∷ (0x94, 0x08 ∷ 0 ∷ 2 ∷ 0 ∷ []) ∷ (0x95, 0x80 ∷ 0 ∷ 0 ∷ 0 ∷ 0 ∷ []) ∷ [])
-    ≡ true ∷ false ∷ false ∷ []
-unfolding inRanges allFit objectFits lengthIn lengthByte fitting digitsFit numeric nibbles putAt placeOf valueIn valueAt placeAt held offsetIn find past rows
-    recordRanges limitOf phoneIn onDevice amountOf decimalFrom front running brought isBrought lastAbsent listed accepts wholeEntries entries keeps sumOf every both either if
-record-with = refl
+abbrev recordWith : List (ℕ × List ℕ)
+recordWith = (0x82, 0x00 ∷ 0x80 ∷ []) ∷ (0x94, 0x08 ∷ 0 ∷ 2 ∷ 0 ∷ []) ∷ (0x95, 0x80 ∷ 0 ∷ 0 ∷ 0 ∷ 0 ∷ []) ∷ []
+
+record-with : map (λ x. inRanges (onRecord 1 100 2 (x ∷ opened))) recordWith ≡ true ∷ false ∷ false ∷ []
+unfolding fitAlong placeFits fitting digitsFit numeric nibbles recordRanges limitOf phoneIn onDevice amountOf decimalFrom front running brought
+    isBrought lastAbsent listed accepts wholeEntries entries keeps sumOf held offsetIn placeAt valueAt valueIn find past rows every both either if
+record-with = each-along (λ x. onRecord 1 100 2 (x ∷ opened)) recordWith
 
 -- byte 2 of 82 and DF811B: b8 set, whatever DF811B says; all but b8 set, with all but b8 of DF811B and with b8 alone
-abbrev inMode : ℕ × ℕ → Bool
-inMode (profile, configuration) =
-    inRanges (sessionOf (Phase.Record (record { number = 1; limit = 100 })) 2 (storing ((0x82, 0 ∷ profile ∷ []) ∷ (0xDF811B, configuration ∷ []) ∷ opened)))
+abbrev inMode : ℕ × ℕ → Session
+inMode (profile, configuration) = onRecord 1 100 2 ((0x82, 0 ∷ profile ∷ []) ∷ (0xDF811B, configuration ∷ []) ∷ opened)
 
-record-modes : map inMode ((0x80, 0xFF) ∷ (0x80, 0x00) ∷ (0x7F, 0x7F) ∷ (0x7F, 0x80) ∷ []) ≡ true ∷ true ∷ true ∷ false ∷ []
-unfolding inRanges allFit objectFits lengthIn lengthByte fitting digitsFit numeric nibbles putAt placeOf valueIn valueAt placeAt held offsetIn find past rows
-    recordRanges limitOf phoneIn onDevice amountOf decimalFrom front running brought isBrought lastAbsent listed accepts wholeEntries entries keeps sumOf every both either if
-record-modes = refl
+abbrev recordModes : List (ℕ × ℕ)
+recordModes = (0x80, 0xFF) ∷ (0x80, 0x00) ∷ (0x7F, 0x7F) ∷ (0x7F, 0x80) ∷ []
+
+record-modes : map (λ x. inRanges (inMode x)) recordModes ≡ true ∷ true ∷ true ∷ false ∷ []
+unfolding fitAlong placeFits fitting digitsFit numeric nibbles recordRanges limitOf phoneIn onDevice amountOf decimalFrom front running brought
+    isBrought lastAbsent listed accepts wholeEntries entries keeps sumOf held offsetIn placeAt valueAt valueIn find past rows every both either if
+record-modes = each-along inMode recordModes
 
 -- a card with either limit, with none and with one more; a phone with either; and a phone where b6 of DF811B alone is clear
-abbrev withLimit : ℕ × (ℕ × ℕ) → Bool
-withLimit (profile, (configuration, limit)) =
-    inRanges (sessionOf (Phase.Record (record { number = 1; limit = limit })) 2 (storing ((0x82, profile ∷ 0x80 ∷ []) ∷ (0xDF811B, configuration ∷ []) ∷ opened)))
+abbrev withLimit : ℕ × (ℕ × ℕ) → Session
+withLimit (profile, (configuration, limit)) = onRecord 1 limit 2 ((0x82, profile ∷ 0x80 ∷ []) ∷ (0xDF811B, configuration ∷ []) ∷ opened)
 
-record-limits : map withLimit
-    ((0xFD, (0xFF, 100)) ∷ (0xFD, (0xFF, 200)) ∷ (0xFD, (0xFF, 0)) ∷ (0xFD, (0xFF, 101)) ∷ (0x02, (0x20, 100)) ∷ (0x02, (0x20, 200)) ∷ (0x02, (0xDF, 100)) ∷ (0x02, (0xDF, 200)) ∷ [])
-    ≡ true ∷ false ∷ false ∷ false ∷ false ∷ true ∷ true ∷ false ∷ []
-unfolding inRanges allFit objectFits lengthIn lengthByte fitting digitsFit numeric nibbles putAt placeOf valueIn valueAt placeAt held offsetIn find past rows
-    recordRanges limitOf phoneIn onDevice amountOf decimalFrom front running brought isBrought lastAbsent listed accepts wholeEntries entries keeps sumOf every both either if
-record-limits = refl
+abbrev recordLimits : List (ℕ × (ℕ × ℕ))
+recordLimits =
+    (0xFD, (0xFF, 100)) ∷ (0xFD, (0xFF, 200)) ∷ (0xFD, (0xFF, 0)) ∷ (0xFD, (0xFF, 101)) ∷ (0x02, (0x20, 100)) ∷ (0x02, (0x20, 200)) ∷ (0x02, (0xDF, 100)) ∷ (0x02, (0xDF, 200)) ∷ []
+
+record-limits : map (λ x. inRanges (withLimit x)) recordLimits ≡ true ∷ false ∷ false ∷ false ∷ false ∷ true ∷ true ∷ false ∷ []
+unfolding fitAlong placeFits fitting digitsFit numeric nibbles recordRanges limitOf phoneIn onDevice amountOf decimalFrom front running brought
+    isBrought lastAbsent listed accepts wholeEntries entries keeps sumOf held offsetIn placeAt valueAt valueIn find past rows every both either if
+record-limits = each-along withLimit recordLimits
 
 -- ---- waiting on the cryptogram: 2 + R commands
 
-abbrev withAsked : ℕ → ℕ → List ℕ → Bool
-withAsked limit n b = inRanges (sessionOf (Phase.Cryptogram (record { choice = Choice.Online; method = Method.OnlinePin; limit = limit })) n b)
+abbrev onCryptogram : ℕ → ℕ → List ℕ → Session
+onCryptogram limit n b = sessionOf (Phase.Cryptogram (record { choice = Choice.Online; method = Method.OnlinePin; limit = limit })) n b
 
-abbrev onCryptogram : ℕ → List ℕ → Bool
-onCryptogram n b = withAsked 100 n b
+abbrev cryptogramCounts : List ℕ
+cryptogramCounts = 3 ∷ 4 ∷ 5 ∷ []
 
-cryptogram-counts : map (λ n. onCryptogram n (storing complete)) (3 ∷ 4 ∷ 5 ∷ []) ≡ false ∷ true ∷ false ∷ []
-unfolding inRanges allFit objectFits lengthIn lengthByte fitting digitsFit numeric compressed digitsThenFs nibbles putAt placeOf valueIn valueAt placeAt held offsetIn find past rows
-    cryptogramRanges limitOf phoneIn onDevice amountOf decimalFrom front running brought isBrought lastAbsent completed listed accepts wholeEntries entries keeps sumOf every both either if
-cryptogram-counts = refl
+cryptogram-counts : map (λ n. inRanges (onCryptogram 100 n (storing complete))) cryptogramCounts ≡ false ∷ true ∷ false ∷ []
+unfolding fitAlong placeFits fitting digitsFit numeric compressed digitsThenFs nibbles cryptogramRanges completed limitOf phoneIn onDevice amountOf
+    decimalFrom front running brought isBrought lastAbsent listed accepts wholeEntries entries keeps sumOf held offsetIn placeAt valueAt valueIn find
+    past rows every both either if
+cryptogram-counts = each-along (λ n. onCryptogram 100 n (storing complete)) cryptogramCounts
 
 -- each needed object absent, 9F34, and 82 and 94
-cryptogram-lacking : map (λ t. onCryptogram 4 (without t complete)) (0x5F24 ∷ 0x5A ∷ 0x8C ∷ 0x9F34 ∷ 0x82 ∷ 0x94 ∷ 0x95 ∷ []) ≡ replicate 7 false
-unfolding inRanges allFit objectFits lengthIn lengthByte fitting digitsFit numeric compressed digitsThenFs nibbles putAt placeOf valueIn valueAt placeAt held offsetIn find past rows
-    cryptogramRanges limitOf phoneIn onDevice amountOf decimalFrom front running brought isBrought lastAbsent completed listed accepts wholeEntries entries keeps sumOf every both either if
-cryptogram-lacking = refl
+abbrev cryptogramLacking : List ℕ
+cryptogramLacking = 0x5F24 ∷ 0x5A ∷ 0x8C ∷ 0x9F34 ∷ 0x82 ∷ 0x94 ∷ 0x95 ∷ []
+
+cryptogram-lacking : map (λ t. inRanges (onCryptogram 100 4 (without t complete))) cryptogramLacking ≡ replicate 7 false
+unfolding fitAlong placeFits fitting digitsFit numeric compressed digitsThenFs nibbles cryptogramRanges completed limitOf phoneIn onDevice amountOf
+    decimalFrom front running brought isBrought lastAbsent listed accepts wholeEntries entries keeps sumOf held offsetIn placeAt valueAt valueIn find
+    past rows every both either if
+cryptogram-lacking = each-along (λ t. onCryptogram 100 4 (without t complete)) cryptogramLacking
 
 -- any result bits; an empty account number; an empty list; byte 2 b8 of 82 alone clear
-cryptogram-with : map (λ x. onCryptogram 4 (storing (x ∷ complete))) ((0x95, 0x80 ∷ 0 ∷ 0 ∷ 0 ∷ 0 ∷ []) ∷ (0x5A, []) ∷ (0x8C, []) ∷ (0x82, 0x00 ∷ 0x7F ∷ []) ∷ [])
-    ≡ true ∷ false ∷ false ∷ false ∷ []
-unfolding inRanges allFit objectFits lengthIn lengthByte fitting digitsFit numeric compressed digitsThenFs nibbles putAt placeOf valueIn valueAt placeAt held offsetIn find past rows
-    cryptogramRanges limitOf phoneIn onDevice amountOf decimalFrom front running brought isBrought lastAbsent completed listed accepts wholeEntries entries keeps sumOf every both either if
-cryptogram-with = refl
+abbrev cryptogramWith : List (ℕ × List ℕ)
+cryptogramWith = (0x95, 0x80 ∷ 0 ∷ 0 ∷ 0 ∷ 0 ∷ []) ∷ (0x5A, []) ∷ (0x8C, []) ∷ (0x82, 0x00 ∷ 0x7F ∷ []) ∷ []
+
+cryptogram-with : map (λ x. inRanges (onCryptogram 100 4 (storing (x ∷ complete)))) cryptogramWith ≡ true ∷ false ∷ false ∷ false ∷ []
+unfolding fitAlong placeFits fitting digitsFit numeric compressed digitsThenFs nibbles cryptogramRanges completed limitOf phoneIn onDevice amountOf
+    decimalFrom front running brought isBrought lastAbsent listed accepts wholeEntries entries keeps sumOf held offsetIn placeAt valueAt valueIn find
+    past rows every both either if
+cryptogram-with = each-along (λ x. onCryptogram 100 4 (storing (x ∷ complete))) cryptogramWith
 
 -- a card with either limit, a phone with either
-cryptogram-limits :
-    map (λ l. withAsked l 4 (storing complete)) (100 ∷ 200 ∷ []) ++ map (λ l. withAsked l 4 (storing ((0x82, 0x02 ∷ 0x80 ∷ []) ∷ complete))) (100 ∷ 200 ∷ [])
-    ≡ true ∷ false ∷ false ∷ true ∷ []
-unfolding inRanges allFit objectFits lengthIn lengthByte fitting digitsFit numeric compressed digitsThenFs nibbles putAt placeOf valueIn valueAt placeAt held offsetIn find past rows
-    cryptogramRanges limitOf phoneIn onDevice amountOf decimalFrom front running brought isBrought lastAbsent completed listed accepts wholeEntries entries keeps sumOf every both either if
-cryptogram-limits = refl
+abbrev askedOf : ℕ × ℕ → Session
+askedOf (profile, limit) = onCryptogram limit 4 (storing ((0x82, profile ∷ 0x80 ∷ []) ∷ complete))
+
+abbrev cryptogramLimits : List (ℕ × ℕ)
+cryptogramLimits = (0x00, 100) ∷ (0x00, 200) ∷ (0x02, 100) ∷ (0x02, 200) ∷ []
+
+cryptogram-limits : map (λ x. inRanges (askedOf x)) cryptogramLimits ≡ true ∷ false ∷ false ∷ true ∷ []
+unfolding fitAlong placeFits fitting digitsFit numeric compressed digitsThenFs nibbles cryptogramRanges completed limitOf phoneIn onDevice amountOf
+    decimalFrom front running brought isBrought lastAbsent listed accepts wholeEntries entries keeps sumOf held offsetIn placeAt valueAt valueIn find
+    past rows every both either if
+cryptogram-limits = each-along askedOf cryptogramLimits
 
 -- ---- waiting on the checksum: 2 + R commands; the track need not take the digits
 
 abbrev striped : List (ℕ × List ℕ)
 striped = (0x9F6B, 0xFF ∷ []) ∷ (0x9F65, 0 ∷ 0 ∷ []) ∷ (0x9F66, 0 ∷ 0 ∷ []) ∷ (0x9F67, 0x09 ∷ []) ∷ (0x82, 0 ∷ 0 ∷ []) ∷ opened
 
-abbrev onChecksum : ℕ → ℕ → List ℕ → Bool
-onChecksum limit n b = inRanges (sessionOf (Phase.Checksum (record { limit = limit })) n b)
+abbrev onChecksum : ℕ → ℕ → List ℕ → Session
+onChecksum limit n b = sessionOf (Phase.Checksum (record { limit = limit })) n b
 
-checksum-counts : map (λ n. onChecksum 100 n (storing striped)) (3 ∷ 4 ∷ 5 ∷ []) ++ onChecksum 200 4 (storing striped) ∷ [] ≡ false ∷ true ∷ false ∷ false ∷ []
-unfolding inRanges allFit objectFits lengthIn lengthByte fitting digitsFit numeric nibbles putAt placeOf valueIn valueAt placeAt held offsetIn find past rows
-    checksumRanges limitOf phoneIn onDevice amountOf decimalFrom front running brought isBrought lastAbsent trackCompleted listed accepts wholeEntries entries keeps sumOf every both either if
-checksum-counts = refl
+abbrev checkedWith : ℕ × ℕ → Session
+checkedWith (limit, n) = onChecksum limit n (storing striped)
+
+abbrev checksumCounts : List (ℕ × ℕ)
+checksumCounts = (100, 3) ∷ (100, 4) ∷ (100, 5) ∷ (200, 4) ∷ []
+
+checksum-counts : map (λ x. inRanges (checkedWith x)) checksumCounts ≡ false ∷ true ∷ false ∷ false ∷ []
+unfolding fitAlong placeFits fitting digitsFit numeric nibbles checksumRanges trackCompleted limitOf phoneIn onDevice amountOf decimalFrom front
+    running brought isBrought lastAbsent listed accepts wholeEntries entries keeps sumOf held offsetIn placeAt valueAt valueIn find past rows every
+    both either if
+checksum-counts = each-along checkedWith checksumCounts
 
 -- each needed object absent, and 82, 94 and 95
-checksum-lacking : map (λ t. onChecksum 100 4 (without t striped)) (0x9F6B ∷ 0x9F65 ∷ 0x9F66 ∷ 0x9F67 ∷ 0x82 ∷ 0x94 ∷ 0x95 ∷ []) ≡ replicate 7 false
-unfolding inRanges allFit objectFits lengthIn lengthByte fitting digitsFit numeric nibbles putAt placeOf valueIn valueAt placeAt held offsetIn find past rows
-    checksumRanges limitOf phoneIn onDevice amountOf decimalFrom front running brought isBrought lastAbsent trackCompleted listed accepts wholeEntries entries keeps sumOf every both either if
-checksum-lacking = refl
+abbrev checksumLacking : List ℕ
+checksumLacking = 0x9F6B ∷ 0x9F65 ∷ 0x9F66 ∷ 0x9F67 ∷ 0x82 ∷ 0x94 ∷ 0x95 ∷ []
+
+checksum-lacking : map (λ t. inRanges (onChecksum 100 4 (without t striped))) checksumLacking ≡ replicate 7 false
+unfolding fitAlong placeFits fitting digitsFit numeric nibbles checksumRanges trackCompleted limitOf phoneIn onDevice amountOf decimalFrom front
+    running brought isBrought lastAbsent listed accepts wholeEntries entries keeps sumOf held offsetIn placeAt valueAt valueIn find past rows every
+    both either if
+checksum-lacking = each-along (λ t. onChecksum 100 4 (without t striped)) checksumLacking
 
 -- an empty track; EMV mode; b8 of DF811B; a result bit; the counter; the code; and all of DF811B but b8
-checksum-with : map (λ x. onChecksum 100 4 (storing (x ∷ striped)))
-    ((0x9F6B, []) ∷ (0x82, 0 ∷ 0x80 ∷ []) ∷ (0xDF811B, 0x80 ∷ []) ∷ (0x95, 0 ∷ 0 ∷ 0 ∷ 0 ∷ 1 ∷ []) ∷ (0x9F36, 0 ∷ 1 ∷ []) ∷ (0x9F61, 0 ∷ 1 ∷ []) ∷ (0xDF811B, 0x7F ∷ []) ∷ [])
+abbrev checksumWith : List (ℕ × List ℕ)
+checksumWith =
+    (0x9F6B, []) ∷ (0x82, 0 ∷ 0x80 ∷ []) ∷ (0xDF811B, 0x80 ∷ []) ∷ (0x95, 0 ∷ 0 ∷ 0 ∷ 0 ∷ 1 ∷ []) ∷ (0x9F36, 0 ∷ 1 ∷ []) ∷ (0x9F61, 0 ∷ 1 ∷ []) ∷ (0xDF811B, 0x7F ∷ []) ∷ []
+
+checksum-with : map (λ x. inRanges (onChecksum 100 4 (storing (x ∷ striped)))) checksumWith
     ≡ false ∷ false ∷ false ∷ false ∷ false ∷ false ∷ true ∷ []
-unfolding inRanges allFit objectFits lengthIn lengthByte fitting digitsFit numeric nibbles putAt placeOf valueIn valueAt placeAt held offsetIn find past rows
-    checksumRanges limitOf phoneIn onDevice amountOf decimalFrom front running brought isBrought lastAbsent trackCompleted listed accepts wholeEntries entries keeps sumOf every both either if
-checksum-with = refl
+unfolding fitAlong placeFits fitting digitsFit numeric nibbles checksumRanges trackCompleted limitOf phoneIn onDevice amountOf decimalFrom front
+    running brought isBrought lastAbsent listed accepts wholeEntries entries keeps sumOf held offsetIn placeAt valueAt valueIn find past rows every
+    both either if
+checksum-with = each-along (λ x. onChecksum 100 4 (storing (x ∷ striped))) checksumWith

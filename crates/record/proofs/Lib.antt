@@ -2,6 +2,8 @@ pub mod Tests
 pub mod Every
 pub mod Tags
 pub mod Fit
+pub mod Along
+pub mod Stores
 pub mod Values
 pub mod Laws
 pub mod Stored

@@ -1,7 +1,8 @@
 // Writes what the programs show to standard output: bytes in hexadecimal, numbers, replies and data objects.
 //
-// `tree` shows the objects of a card's answer, `bits` the bits of an object in words.
+// `tree` shows the objects of a card's answer, `bits` the bits of an object in words; `names` has the names of data objects.
 pub mod bits;
+mod names;
 pub mod tree;
 
 use record::{Answer, Outcome, OutcomeParameters, Phase, Reply};
@@ -296,7 +297,7 @@ pub fn margin(levels: usize) {
 pub fn named(number: u32) {
     tag(number);
     text(b" ");
-    name(number);
+    names::name(number);
 }
 
 // One object, and a new line.
@@ -311,7 +312,7 @@ pub fn object(number: u32, value: &[u8]) {
 }
 
 // A tag in hexadecimal digits.
-fn tag(number: u32) {
+pub fn tag(number: u32) {
     if 65535 < number {
         io::write_all(1, &pair((number / 65536 % 256) as u8));
     }
@@ -319,109 +320,4 @@ fn tag(number: u32) {
         io::write_all(1, &pair((number / 256 % 256) as u8));
     }
     io::write_all(1, &pair((number % 256) as u8));
-}
-
-// The name of a data object (Book C-2, Annex A).
-fn name(tag: u32) {
-    if tag < 0x100 {
-        short_name(tag);
-    } else if tag < 0x9F07 {
-        date_name(tag);
-    } else if tag < 0x9F26 {
-        card_name(tag);
-    } else if tag < 0x9F60 {
-        terminal_name(tag);
-    } else if tag < 0x10000 {
-        stripe_name(tag);
-    } else {
-        reader_name(tag);
-    }
-}
-
-fn short_name(tag: u32) {
-    match tag {
-        0x57 => text(b"Track 2 Equivalent Data"),
-        0x5A => text(b"Application PAN"),
-        0x70 => text(b"READ RECORD Response Message Template"),
-        0x77 => text(b"Response Message Template Format 2"),
-        0x80 => text(b"Response Message Template Format 1"),
-        0x82 => text(b"Application Interchange Profile"),
-        0x8C => text(b"CDOL1"),
-        0x8E => text(b"CVM List"),
-        0x94 => text(b"Application File Locator"),
-        0x95 => text(b"Terminal Verification Results"),
-        0x9A => text(b"Transaction Date"),
-        0x9C => text(b"Transaction Type"),
-        _ => text(b"unknown"),
-    }
-}
-
-fn date_name(tag: u32) {
-    match tag {
-        0x5F24 => text(b"Application Expiration Date"),
-        0x5F25 => text(b"Application Effective Date"),
-        0x5F28 => text(b"Issuer Country Code"),
-        0x5F2A => text(b"Transaction Currency Code"),
-        0x5F34 => text(b"Application PAN Sequence Number"),
-        0x9F02 => text(b"Amount, Authorized (Numeric)"),
-        0x9F03 => text(b"Amount, Other (Numeric)"),
-        _ => text(b"unknown"),
-    }
-}
-
-fn card_name(tag: u32) {
-    match tag {
-        0x9F07 => text(b"Application Usage Control"),
-        0x9F08 => text(b"Application Version Number (Card)"),
-        0x9F09 => text(b"Application Version Number (Reader)"),
-        0x9F0D => text(b"Issuer Action Code - Default"),
-        0x9F0E => text(b"Issuer Action Code - Denial"),
-        0x9F0F => text(b"Issuer Action Code - Online"),
-        0x9F10 => text(b"Issuer Application Data"),
-        0x9F1A => text(b"Terminal Country Code"),
-        _ => text(b"unknown"),
-    }
-}
-
-fn terminal_name(tag: u32) {
-    match tag {
-        0x9F26 => text(b"Application Cryptogram"),
-        0x9F27 => text(b"Cryptogram Information Data"),
-        0x9F33 => text(b"Terminal Capabilities"),
-        0x9F34 => text(b"CVM Results"),
-        0x9F35 => text(b"Terminal Type"),
-        0x9F36 => text(b"Application Transaction Counter"),
-        0x9F37 => text(b"Unpredictable Number"),
-        0x9F38 => text(b"PDOL"),
-        0x9F40 => text(b"Additional Terminal Capabilities"),
-        0x9F42 => text(b"Application Currency Code"),
-        _ => text(b"unknown"),
-    }
-}
-
-fn stripe_name(tag: u32) {
-    match tag {
-        0x9F61 => text(b"CVC3 (Track2)"),
-        0x9F65 => text(b"PCVC3(Track2)"),
-        0x9F66 => text(b"PUNATC(Track2)"),
-        0x9F67 => text(b"NATC(Track2)"),
-        0x9F69 => text(b"UDOL"),
-        0x9F6A => text(b"Unpredictable Number (Numeric)"),
-        0x9F6B => text(b"Track 2 Data"),
-        _ => text(b"unknown"),
-    }
-}
-
-fn reader_name(tag: u32) {
-    match tag {
-        0xDF811B => text(b"Kernel Configuration"),
-        0xDF8120 => text(b"Terminal Action Code - Default"),
-        0xDF8121 => text(b"Terminal Action Code - Denial"),
-        0xDF8122 => text(b"Terminal Action Code - Online"),
-        0xDF8123 => text(b"Reader Contactless Floor Limit"),
-        0xDF8124 => text(b"Reader Contactless Transaction Limit (No On-device CVM)"),
-        0xDF8125 => text(b"Reader Contactless Transaction Limit (On-device CVM)"),
-        0xDF8126 => text(b"Reader CVM Required Limit"),
-        _ => text(b"unknown"),
-    }
 }

@@ -3,7 +3,7 @@
 -- Assumes nothing.
 use mathlib.Core.Bool.{Bool, true, false}
 use mathlib.Core.List.{List, [], _∷_, _++_}
-use Prim.Native.Nat.{ℕ, zero, suc, _+_, _-_, _*_}
+use Prim.Native.Nat.{ℕ, zero, suc, _+_, _-_, _*_, _/_, _%_}
 use lib.ListN.{length, getD, take, drop}
 use Rattle.basics.specs.Choice.{if_then_else_, _=?_}
 use Rattle.dictionary.specs.Rows.{Row, rows, rowIn, rowAt, find}
@@ -92,6 +92,10 @@ putIf t table b k v =
 -- a row's place in the dictionary's store, and the greatest length of its value
 abbrev pub spanOf : ℕ → Span
 spanOf k = record { at = offsetIn rows k; most = rowAt k .greatest }
+
+-- a place's number taken apart
+abbrev pub spanIn : ℕ → Span
+spanIn n = record { at = n / 256; most = n % 256 }
 
 -- ---- by tag
 

@@ -8,7 +8,7 @@ use crate::padding::InReadings;
 use crate::rng::Rng;
 use crate::step::Hex;
 use crate::{card, damage, never};
-use model::dictionary::{Object, Setter};
+use model::dictionary::{Answers, Form, Object, Row, Templates, ROWS};
 use model::reading::{self, AnswerTo};
 use model::{tlv, HEAD_SIZE, STORE_SIZE};
 use std::fmt::Write as _;
@@ -83,6 +83,8 @@ pub struct Reached {
     pub greatest: u32,
     /// Where padding stood.
     pub padding: InReadings,
+    /// What answers of one known object reached.
+    pub rows: Rows,
 }
 
 impl Reached {
@@ -114,6 +116,7 @@ impl Reached {
         for (what, counts) in self.padding.counts() {
             need(counts, what);
         }
+        missing.extend(self.rows.missing());
         missing
     }
 
@@ -139,6 +142,7 @@ impl Reached {
         };
         if tag.is_template() && matches!((reason, count), (0 | 3, 1..)) {
             self.count_ends(tag.number, value);
+            self.rows.count(reading, tag.number, value, reason);
         }
         let wanted = if answer == 1 { 0x70 } else { 0x77 };
         match (tag.is_template(), tag.number) {
@@ -162,13 +166,10 @@ impl Reached {
     fn count_ends(&mut self, outer: u32, contents: &[u8]) {
         let mut ended = 0;
         tell_objects(outer, contents, &mut ended, &mut |ended, around, tag| {
-            let template = Object::of_tag(tag).and_then(|object| match object.row().setter {
-                Setter::Card70 => Some(0x70),
-                Setter::Start | Setter::Session => None,
-                _ => Some(0x77),
-            });
-            if let (Some(template), 1..=3) = (template, ended) {
-                self.behind_ends[ended - 1][usize::from(template != around)] += 1;
+            let row = Object::of_tag(tag).map(Object::row);
+            if let (Some(row), 1..=3) = (row.filter(|row| row.is_of_card()), ended) {
+                let elsewhere = !row.templates.meets(Templates::of_tag(around));
+                self.behind_ends[ended - 1][usize::from(elsewhere)] += 1;
             }
         });
         if let 1..=3 = ended {
@@ -198,6 +199,116 @@ fn tell_objects(
     }
 }
 
+/// The templates that rows name, and one that none does.
+const AROUND: [u32; 6] = [0x70, 0x77, 0xA5, 0xBF0C, 0x6F, 0xE1];
+
+/// What answers of one known object reached, by row. The object's place in the store is empty but for `there`.
+#[derive(Clone, Debug, PartialEq, Eq)]
+pub struct Rows {
+    /// Objects that fit and may come in the answer, by the template directly around: one of `AROUND`.
+    pub fitting: [[u64; 6]; ROWS.len()],
+    /// Objects in one of their templates, of a length that does not fit.
+    pub length: [u64; ROWS.len()],
+    /// Objects in one of their templates, of a length that fits and nibbles that do not.
+    pub digits: [u64; ROWS.len()],
+    /// Objects that fit, in one of their templates, of which the store held a value.
+    pub there: [u64; ROWS.len()],
+    /// Objects that fit, in one of their templates, in an answer in which they may not come.
+    pub other_answer: [u64; ROWS.len()],
+}
+
+impl Default for Rows {
+    fn default() -> Rows {
+        let none = [0; ROWS.len()];
+        Rows {
+            fitting: [[0; 6]; ROWS.len()],
+            length: none,
+            digits: none,
+            there: none,
+            other_answer: none,
+        }
+    }
+}
+
+impl Rows {
+    /// What should be reached and never was.
+    fn missing(&self) -> Vec<String> {
+        let mut missing = Vec::new();
+        let mut need = |count: u64, what: String| {
+            if count == 0 {
+                missing.push(what);
+            }
+        };
+        for (i, row) in ROWS.iter().enumerate() {
+            let tag = row.tag;
+            for (around, &count) in AROUND.iter().zip(&self.fitting[i]) {
+                need(count, format!("{tag:X} in {around:X}"));
+            }
+            if row.templates == Templates::NONE {
+                continue;
+            }
+            // An answer has no room for 250 bytes and more.
+            if row.least > 0 || row.most < 249 {
+                need(self.length[i], format!("{tag:X} of another length"));
+            }
+            need(self.there[i], format!("{tag:X} again"));
+            if row.form != Form::Binary {
+                need(self.digits[i], format!("{tag:X} with a wrong digit"));
+            }
+            if row.answers != Answers::All {
+                need(self.other_answer[i], format!("{tag:X} in another answer"));
+            }
+        }
+        missing
+    }
+
+    /// Counts an answer if it has one primitive object, and that is known.
+    fn count(&mut self, reading: &Reading, outer: u32, contents: &[u8], reason: u8) {
+        let mut around = outer;
+        let mut contents = contents;
+        let (object, value) = loop {
+            match tlv::split_object(contents) {
+                Some((tag, value, [])) if tag.is_template() => {
+                    (around, contents) = (tag.number, value);
+                }
+                Some((tag, value, [])) => match Object::of_tag(tag.number) {
+                    Some(object) => break (object, value),
+                    None => return,
+                },
+                _ => return,
+            }
+        };
+        let row = object.row();
+        let i = object as usize;
+        let there = reading.store[row.place] > 1;
+        let in_place = row.templates.meets(Templates::of_tag(around));
+        let comes = comes(row, reading.awaited);
+        let good_length = (usize::from(row.least)..=usize::from(row.most)).contains(&value.len());
+        match (there, good_length, row.fits(value)) {
+            (false, true, true) if comes || !row.is_of_card() => {
+                if let Some(at) = AROUND.iter().position(|&tag| tag == around) {
+                    self.fitting[i][at] += 1;
+                }
+            }
+            (false, true, true) => self.other_answer[i] += u64::from(in_place),
+            (false, false, _) => self.length[i] += u64::from(in_place && comes && reason == 3),
+            (false, true, false) => self.digits[i] += u64::from(in_place && comes && reason == 3),
+            (true, _, fits) => self.there[i] += u64::from(in_place && comes && fits && reason == 3),
+        }
+    }
+}
+
+/// Whether an object of the card may come in an answer.
+fn comes(row: &Row, awaited: u32) -> bool {
+    match row.answers {
+        Answers::All => true,
+        Answers::Cryptogram => awaited == 2,
+        Answers::Checksum => awaited == 3,
+        Answers::Either => awaited >= 2,
+        Answers::None => false,
+    }
+}
+
 /// The depth of a tree's templates, up to 8; none for bytes that are no tree.
 fn depth(body: &[u8]) -> Option<u32> {
     (0..=8).find(|&levels| tlv::count_objects(body, levels).is_some())
@@ -214,7 +325,7 @@ struct Reading {
 impl Reading {
     /// Draws a reading, mostly of the answer that is awaited.
     fn draw(rng: &mut Rng) -> Reading {
-        let awaited = rng.below(4) as u32;
+        let mut awaited = rng.below(4) as u32;
         let mut session = damage::built_record(rng);
         session[1] = if rng.one_in(5) {
             rng.pick(&PHASES)
@@ -225,7 +336,23 @@ impl Reading {
         if rng.one_in(3) {
             session[HEAD_SIZE..].fill(0);
         }
-        let mut card = match rng.below(7) {
+        let mut card = match rng.below(9) {
+            7 | 8 => {
+                let object = rng.pick(&Object::ALL);
+                if rng.one_in(5) {
+                    let value = objects::good_value(rng, object);
+                    damage::put(&mut session, object, &value);
+                }
+                if rng.one_in(2) {
+                    // An answer in which it may come, if there is one.
+                    let answers: Vec<u32> = (0..4).filter(|&n| comes(object.row(), n)).collect();
+                    if !answers.is_empty() {
+                        awaited = rng.pick(&answers);
+                    }
+                }
+                let tree = one_object(rng, awaited, object);
+                answer_of(rng, tree)
+            }
             6 => {
                 let tree = ends_together(rng);
                 answer_of(rng, tree)
@@ -362,6 +489,28 @@ pub(crate) fn any_tree(rng: &mut Rng) -> Vec<u8> {
     objects::template(rng, tag, &list)
 }
 
+/// A known object alone in the outer template of an answer, or in one more.
+fn one_object(rng: &mut Rng, awaited: u32, object: Object) -> Vec<u8> {
+    let outer = if awaited == 1 { 0x70 } else { 0x77 };
+    let value = if rng.one_in(3) {
+        objects::odd_value(rng, object)
+    } else {
+        objects::good_value(rng, object)
+    };
+    let inner = objects::object(rng, object.row().tag, &value);
+    let mut around = AROUND.to_vec();
+    if object.row().templates != Templates::NONE && rng.one_in(2) {
+        // One of its own.
+        around.retain(|&tag| object.row().templates.meets(Templates::of_tag(tag)));
+    }
+    let tag = rng.pick(&around);
+    if tag == outer {
+        return objects::object(rng, outer, &inner);
+    }
+    let inside = objects::object(rng, tag, &inner);
+    objects::object(rng, outer, &inside)
+}
+
 /// Runs of templates that end together, an object of the card behind each; some have one in the innermost.
 fn ends_together(rng: &mut Rng) -> Vec<u8> {
     let outer = rng.pick(&[0x70, 0x77]);
@@ -403,6 +552,12 @@ fn card_object(rng: &mut Rng) -> Vec<u8> {
         Object::TransactionCounter,
         Object::IssuerApplicationData,
         Object::Cvc3Track2,
+        Object::Label,
+        Object::PriorityIndicator,
+        Object::LogEntry,
+        Object::DfName,
+        Object::CaKeyIndexCard,
+        Object::ThirdPartyData,
     ]);
     let mut value = objects::good_value(rng, object);
     if object.row().least == 0 {
@@ -420,7 +575,7 @@ fn some_objects(rng: &mut Rng) -> Vec<Vec<u8>> {
                 let object = rng.pick(&Object::ALL);
                 (object.row().tag, objects::good_value(rng, object))
             }
-            1 => (0xDF8120 + rng.below(5) as u32, vec![0; rng.below(7)]),
+            1 => (0xDF8115 + rng.below(16) as u32, vec![0; rng.below(7)]),
             _ => (rng.pick(&UNKNOWN), vec![0; rng.below(4)]),
         };
         if value.len() < 24 {
@@ -432,7 +587,7 @@ fn some_objects(rng: &mut Rng) -> Vec<Vec<u8>> {
 
 /// A template with as many empty objects as it has room for, or fewer.
 fn many_objects(rng: &mut Rng) -> Vec<u8> {
-    let empty: [&[u8]; 3] = [&[0x50, 0x00], &[0xC1, 0x00], &[0xE1, 0x00]];
+    let empty: [&[u8]; 3] = [&[0x51, 0x00], &[0xC1, 0x00], &[0xE1, 0x00]];
     let mut content: Vec<u8> = Vec::new();
     for _ in 0..rng.pick(&[1, 60, 125, 126, 126, 127]) {
         content.extend(rng.pick(&empty));

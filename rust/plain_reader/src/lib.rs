@@ -7,7 +7,7 @@
 #![no_std]
 #![forbid(unsafe_code)]
 
-use model::dictionary::{Object, Setter, COUNT, ROWS};
+use model::dictionary::{Answers, Object, Templates, COUNT, ROWS};
 use model::store::Store;
 
 /// The greatest depth of templates; the outer one is the first.
@@ -232,10 +232,10 @@ impl Walk<'_> {
     /// Behind an object that is not allowed no more are taken, but all are counted.
     #[inline(never)]
     fn objects(&mut self, outer: u32, contents: &[u8]) -> Option<()> {
-        // The templates around the innermost open one: their tags, and what is left of them.
-        let mut open = [(0, &[][..]); LEVELS - 1];
+        // The templates around the innermost open one, and what is left of each.
+        let mut open = [(Templates::NONE, &[][..]); LEVELS - 1];
         let mut depth = 0;
-        let (mut around, mut rest) = (outer, contents);
+        let (mut around, mut rest) = (Templates::of_tag(outer), contents);
         loop {
             while let Some((&first, behind)) = rest.split_first() {
                 if first == 0x00 {
@@ -247,7 +247,7 @@ impl Walk<'_> {
                 if tag.is_template() {
                     *open.get_mut(depth)? = (around, behind);
                     depth += 1;
-                    (around, rest) = (tag.number, value);
+                    (around, rest) = (Templates::of_tag(tag.number), value);
                 } else {
                     if self.allowed {
                         self.allowed = self.take(around, tag, value);
@@ -264,25 +264,24 @@ impl Walk<'_> {
     }
 
     /// Skips or lists one primitive object; false if it is not allowed.
-    fn take(&mut self, around: u32, tag: Tag, value: &[u8]) -> bool {
+    fn take(&mut self, around: Templates, tag: Tag, value: &[u8]) -> bool {
         let Some(object) = Object::of_tag(tag.number) else {
             return true;
         };
         let row = object.row();
-        let template = match row.setter {
-            Setter::Card70 => 0x70,
-            Setter::Card77 => 0x77,
-            Setter::Cryptogram77 if self.to == AnswerTo::Cryptogram => 0x77,
-            Setter::Checksum77 if self.to == AnswerTo::Checksum => 0x77,
-            Setter::Either77 if matches!(self.to, AnswerTo::Cryptogram | AnswerTo::Checksum) => {
-                0x77
-            }
-            Setter::Cryptogram77 | Setter::Checksum77 | Setter::Either77 => return false,
-            Setter::Start | Setter::Session => return tag.is_private(),
+        if !row.is_of_card() {
+            return tag.is_private();
+        }
+        let comes = match row.answers {
+            Answers::All => true,
+            Answers::Cryptogram => self.to == AnswerTo::Cryptogram,
+            Answers::Checksum => self.to == AnswerTo::Checksum,
+            Answers::Either => matches!(self.to, AnswerTo::Cryptogram | AnswerTo::Checksum),
+            Answers::None => false,
         };
         let index = object as usize;
         let filled = self.store[row.place] > 1 || self.filled[index];
-        if around != template || filled || !row.fits(value) {
+        if !comes || !row.templates.meets(around) || filled || !row.fits(value) {
             return false;
         }
         self.filled[index] = !value.is_empty();

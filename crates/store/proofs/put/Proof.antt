@@ -1,13 +1,32 @@
--- `store::put` meets its contract: the array is the dictionary's places. Assumes nothing.
+-- `store::put` meets its contract. What is written lies in the row's place.
+-- Assumes nothing.
 use borrow.Author.Needs.{needs}
-use mathlib.Core.Path.{refl}
+use mathlib.Core.Path.{ap, _∙_}
+use native.Mathlib.Omega.{arith}
+use lib.ListN.{length}
 use Rattle.dictionary.specs.Rows.{rows}
+use Rattle.store.specs.declared.Span.{Span}
+use Rattle.store.specs.Place.{writtenAt, putAt}
+use Rattle.store.proofs.Laws.{put-length}
+use Rattle.store.proofs.Rows.{row-inside, fits-row}
 use Rattle.store.proofs.put.Statement.{statement}
 use Rattle.store.proofs.put.Tie as tie
 
-put-in-requires : tie.Need-put-in-requires
-unfolding rows
-put-in-requires c κs = let st = c .before .before .before .before in (st .pre .0, (st .pre .1, refl))
+write-requires : tie.Need-write-requires
+write-requires c κs =
+    let st = c .before .before .before .before in
+    let at = ap (λ (p : Span). p .at) (c .before .span-of .ensures .0) in
+    let i = row-inside (st .args .row) (st .pre .1 .0) in
+    (omega arith, omega arith)
+
+returns : tie.Need-returns
+unfolding putAt
+returns c =
+    let st = c .before .before .before .before .before .before .before in
+    let a = st .args in
+    let f = fits-row (a .bytes .now) (a .row) (a .v .now) (st .pre .0) (st .pre .1 .0) (st .pre .1 .1) in
+    let p = c .before .before .write .ensures ∙ ap (λ (p : Span). writtenAt (a .bytes .now) (p .at) (a .v .now)) (c .before .before .before .before .span-of .ensures .0) in
+    (p, ap length p ∙ put-length rows (a .bytes .now) (a .row) (a .v .now) f ∙ st .pre .0)
 
 pub put-spec : {M : Type 1} → statement M
-put-spec = tie.close (tie.spec put-in-requires (λ c. search needs) (λ c. c .before .before .put-in .ensures))
+put-spec = tie.close (tie.spec (λ c κs. search needs) write-requires (λ c. search needs) returns)
