@@ -1,2 +1,4 @@
 pub mod Taking
 pub mod Contents
+pub mod Answers
+pub mod Room
