@@ -4,7 +4,7 @@
 use mathlib.Core.Path.{_≡_, refl, sym, ap, subst, _∙_}
 use mathlib.Core.Bool.{true, false}
 use mathlib.Core.Logic.{inl, inr}
-use mathlib.Core.List.{List, _++_}
+use mathlib.Core.List.{List}
 use mathlib.Core.Option.{Option, some, none}
 use Prim.Native.Nat.{ℕ, suc, _+_, _≤_}
 use native.Mathlib.Omega.{arith}
@@ -22,11 +22,10 @@ use Rattle.tlv.specs.Tree.{Forest, count, parse}
 use Rattle.tlv.proofs.Laws.{header-fits}
 use Rattle.dictionary.specs.Rows.{storeSize}
 use Rattle.reading.specs.declared.File.{File}
-use Rattle.reading.specs.declared.Awaited.{Awaited}
 use Rattle.reading.specs.declared.Awaited.the-variants.{Record}
 use Rattle.reading.specs.Answer.{Outcome, Body, templateBody, takenParts, readTree, readBody, bodyOf, isRead, goodStatus, goodLength, readAnswer}
 use Rattle.reading.proofs.Parts.{as-record, template-wrong, template-right, body-broken, body-behind, body-template, body-primitive, body-read}
-use Rattle.laws.specs.Records.{ShareNoTag, readContents, readRecord, Accepted, EitherOrder, InOne, bodyBytes, contentsIn, contentsOf, is70, isRecord, AnswerWith, AnswersAgree}
+use Rattle.laws.specs.Records.{ShareNoTag, readContents, readRecord, Accepted, EitherOrder, InOne, bodyBytes, contentsIn, contentsOf, is70, isRecord, AnswersAgree}
 use Rattle.laws.proofs.Contents.{contents-agree}
 
 -- ---- a record's answer: its length, its status and its outer object

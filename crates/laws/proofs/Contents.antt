@@ -2,7 +2,7 @@
 -- store; joined contents parse to the joined tree, whose objects are those of the one behind those of the other.
 -- Assumes nothing.
 use mathlib.Core.Path.{_≡_, refl, sym, ap, subst, _∙_}
-use mathlib.Core.Bool.{true, false}
+use mathlib.Core.Bool.{true}
 use mathlib.Core.Logic.{inl, inr}
 use mathlib.Core.List.{List, [], _∷_, _++_, append-assoc}
 use mathlib.Core.Option.{Option, some, none}
@@ -11,16 +11,16 @@ use native.Mathlib.Omega.{arith}
 use lib.ListN.{length}
 use borrow.Author.Tests.{eq-eqb}
 use Rattle.basics.proofs.Laws.{bool-cases, either-left, either-right}
-use Rattle.tlv.specs.Tree.{Forest, end, leaf, node, count, parse}
+use Rattle.tlv.specs.Tree.{Forest, end, leaf, node, count}
 use Rattle.tlv.proofs.Tree.{join, parse-join}
 use Rattle.dictionary.specs.Rows.{storeSize, cardRecord}
 use Rattle.reading.specs.declared.Awaited.{Awaited}
 use Rattle.reading.specs.declared.Awaited.the-variants.{Record}
-use Rattle.reading.specs.Taking.{Item, item, items, Work, work, takeAll}
+use Rattle.reading.specs.Taking.{Item, item, items, work, takeAll}
 use Rattle.reading.specs.Answer.{Outcome, outcome, templateBody, judged, takenParts, readTree}
 use Rattle.reading.proofs.Kept.{All}
 use Rattle.reading.proofs.Parts.{judged-yes, judged-no, template-right}
-use Rattle.laws.specs.Records.{brings, treeOf, ShareNoTag, readContents, Accepted, after, EitherOrder, InOne, ContentsAgree}
+use Rattle.laws.specs.Records.{brings, treeOf, ShareNoTag, readContents, Accepted, after, ContentsAgree}
 use Rattle.laws.proofs.Taking.{Run, run-is, run-of, run-join, past-lists}
 
 -- ---- the objects of a tree, by their tags
@@ -91,8 +91,8 @@ accepted-read b c l a = go (treeOf c) refl
             tree = f;
             parsed = p;
             run =
-              subst (λ (d : List ℕ). Run cardRecord b (items 0x70 f) d) (sym (ap (λ (o : Outcome). o .store) e))
-              (run-of cardRecord b (items 0x70 f) (w .store) l (ap (λ t. work t (w .store)) g));
+                subst (λ (d : List ℕ). Run cardRecord b (items 0x70 f) d) (sym (ap (λ (o : Outcome). o .store) e))
+                (run-of cardRecord b (items 0x70 f) (w .store) l (ap (λ t. work t (w .store)) g));
           }
       | inr g ↦
           let e : _≡_ {A = ℕ} 3 0 = sym (ap (λ (o : Outcome). o .reason) (by-tree b c f p ∙ judged-no b (1 + count f) refl g)) ∙ a in

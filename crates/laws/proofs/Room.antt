@@ -8,7 +8,7 @@ use mathlib.Core.Logic.{inl, inr}
 use Prim.Native.Nat.{ℕ, _+_, _-_, _≤_, _<_}
 use native.Mathlib.Omega.{arith}
 use lib.Dec.{eqb}
-use lib.ListN.{length, getD, take, drop, length-append, length-take, length-drop}
+use lib.ListN.{length, getD, take, drop, length-append, length-take}
 use lib.Seq.{drop-append-add, drop-append-seam, take-length, take-at, getD-append-add}
 use borrow.Author.Tests.{le-leb, leb-true, ltb-true, ltb-false}
 use Rattle.basics.specs.Choice.{if, both}
@@ -19,14 +19,13 @@ use Rattle.tlv.specs.declared.TagFront.{TagFront}
 use Rattle.tlv.specs.declared.TagFront.the-variants.{Tagged, Untagged}
 use Rattle.tlv.specs.declared.LengthFront.{LengthFront}
 use Rattle.tlv.specs.declared.LengthFront.the-variants.{Sized, Unsized}
-use Rattle.tlv.specs.declared.Header.{Header}
 use Rattle.tlv.specs.declared.Front.{Front}
 use Rattle.tlv.specs.declared.Front.the-variants.{Object, Broken}
 use Rattle.tlv.specs.Tag.{tagSize, tagAt}
 use Rattle.tlv.specs.Length.{oneByte, twoBytes, lengthAt}
 use Rattle.tlv.specs.Object.{header, withLength, withTag, headerOf, valueIn}
 use Rattle.tlv.specs.Encoding.{tagBytes, wellFormedTag, lengthBytes, objectBytes}
-use Rattle.tlv.proofs.Laws.{tag-fits, header-fits}
+use Rattle.tlv.proofs.Laws.{tag-fits}
 use Rattle.tlv.proofs.Encoding.{header-encoded}
 use Rattle.reading.specs.Answer.{goodStatus, goodLength}
 use Rattle.laws.specs.Records.{bodyBytes, contentsOf, isRecord, AnswerWith, recordOf}

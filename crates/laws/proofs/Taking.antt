@@ -8,6 +8,7 @@ use mathlib.Core.Logic.{inl, inr}
 use mathlib.Core.List.{List, [], _∷_, _++_}
 use Prim.Native.Nat.{ℕ, _≤_, _<_}
 use native.Mathlib.Omega.{arith}
+use lib.Dec.{eqb}
 use lib.ListN.{length}
 use Rattle.basics.specs.Choice.{both}
 use Rattle.basics.proofs.Laws.{if-yes, bool-cases}
@@ -17,10 +18,10 @@ use Rattle.dictionary.specs.declared.Found.the-variants.{At, Unknown}
 use Rattle.dictionary.specs.Rows.{rows, rowAt, find, rowCount, storeSize}
 use Rattle.dictionary.proofs.Find.{found}
 use Rattle.dictionary.proofs.Fit.{fits-length}
-use Rattle.store.specs.Place.{Value, bytesOf, valueAt, isFree, putAt, putIf}
+use Rattle.store.specs.Place.{Value, bytesOf, isFree, putAt, putIf}
 use Rattle.store.proofs.Laws.{Fits, put-length, put-other, put-put}
 use Rattle.store.proofs.Rows.{rows-length, fits-row}
-use Rattle.reading.specs.Taking.{Item, byCard, mayCome, Work, work, takeItem, takeNext, takeAll}
+use Rattle.reading.specs.Taking.{Item, byCard, mayCome, Work, work, takeItem, takeAll}
 use Rattle.reading.proofs.Laws.{item-unknown, item-skipped, item-barred, item-put, may-come-fits, next-good, next-bad}
 use Rattle.reading.proofs.Kept.{All}
 
@@ -90,18 +91,26 @@ module _ (answer : ℕ) where
     other-free : (j : ℕ) → (j ≡ k → ⊥) → isFree rows c j ≡ isFree rows b j
     other-free j ne =
         ap (λ (x : List ℕ). isFree rows x j) (sym written)
-        ∙ ap (λ (x : Value). lib.Dec.eqb (length (bytesOf x)) 0) (put-other rows b k (i .value) fit j ne)
+        ∙ ap (λ (x : Value). eqb (length (bytesOf x)) 0) (put-other rows b k (i .value) fit j ne)
 
   -- the object that is put where its row is free
   puts-free : (b : List ℕ) {i : Item} {k : ℕ} (s : Stored i k) → isFree rows b k ≡ true → takeItem answer b i ≡ work true (putAt rows b k (i .value))
   puts-free b {i} {k} s e = s .puts b ∙ ap₂ work e (if-yes _ _ e)
+
+  -- a refusal takes nothing
+  never : {b c : List ℕ} {i : Item} {A : Type 0} → ((x : List ℕ) → takeItem answer x i ≡ work false x) → Takes b i c → A
+  never {b} {c} h t =
+      let e : work false b ≡ work true c = sym (h b) ∙ t .is in
+      let f : false ≡ true = ap (λ (w : Work). w .good) e in
+      let z : _≡_ {A = ℕ} 0 1 = cc in
+      absurd (omega arith)
 
   takes-size : {b c : List ℕ} {i : Item} → Takes b i c → length c ≡ storeSize
   takes-size {b} {c} {i} t = go (effect i)
     where
       go : Effect i → length c ≡ storeSize
       go (skipped h) = let e : work true b ≡ work true c = sym (h b) ∙ t .is in ap (λ (w : Work). length (w .store)) (sym e) ∙ t .size
-      go (barred h) = let e : work false b ≡ work true c = sym (h b) ∙ t .is in let z : false ≡ true = ap (λ (w : Work). w .good) e in cc
+      go (barred h) = never h t
       go (stored k s) = sized s t
 
   -- ---- two objects
@@ -139,13 +148,6 @@ module _ (answer : ℕ) where
           ap (λ (x : List ℕ). putAt rows x k (i .value)) (sym (written s′ u))
           ∙ sym (put-put rows b k l (i .value) (j .value) apart-rows (fit s t) (fit s′ u))
           ∙ ap (λ (x : List ℕ). putAt rows x l (j .value)) (written s t)
-
-  never : {b c : List ℕ} {i : Item} {A : Type 0} → ((x : List ℕ) → takeItem answer x i ≡ work false x) → Takes b i c → A
-  never {b} {c} h t =
-      let e : work false b ≡ work true c = sym (h b) ∙ t .is in
-      let f : false ≡ true = ap (λ (w : Work). w .good) e in
-      let z : _≡_ {A = ℕ} 0 1 = cc in
-      absurd (omega arith)
 
   swap : {b c d : List ℕ} {i j : Item} → (i .tag ≡ j .tag → ⊥) → Takes b i c → Takes b j d → Meets c d i j
   swap {b} {c} {d} {i} {j} ne t u = go (effect i) (effect j)

@@ -15,7 +15,6 @@ use Rattle.tlv.specs.Object.{headerOf, valueIn}
 use Rattle.tlv.specs.Tree.{Forest, end, leaf, node, parse}
 use Rattle.tlv.specs.Encoding.{objectBytes}
 use Rattle.reading.specs.declared.File.{File}
-use Rattle.reading.specs.declared.Awaited.{Awaited}
 use Rattle.reading.specs.declared.Awaited.the-variants.{Record}
 use Rattle.reading.specs.Answer.{Outcome, templateBody, readTree, goodStatus, goodLength, readAnswer}
 

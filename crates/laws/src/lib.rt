@@ -11,19 +11,21 @@ ghost use Rattle.laws.specs.Lists.{Fills, PaddedOnce};
 ghost use Rattle.laws.specs.Records.{ShareNoTag, Accepted, readContents, readRecord, ContentsAgree, AnswersAgree};
 ghost use Rattle.laws.specs.Records.{contentsOf, isRecord, AnswerWith, recordOf};
 
-// The most bytes of contents that a record's answer holds: joined contents up to here are one answer.
+// The most bytes of contents that a record's answer holds: up to here, joined contents are one answer.
 pub fn most_contents() -> usize
     ensures most { λ r. ⌜ r ≡ 253 ⌝ }
-    ensures room { λ r. ⌜ ((c : List ℕ) → length c ≤ r → AnswerWith (recordOf c) c) ⌝ }
-    ensures most_held { λ r. ⌜ ((s : List ℕ) → isRecord s ≡ true → length (contentsOf s) ≤ r) ⌝ }
     ensures filling { λ _. ⌜ ((table : List Row) (store s t v w : List ℕ) → Fills table store s v → Fills table store t w
         → Fills table store (s ++ t) (v ++ w)) ⌝ }
-    ensures records { λ _. ⌜ ((b c d : List ℕ) → length b ≡ storeSize → ShareNoTag c d → Accepted (readContents c) b → Accepted (readContents d) b
-        → ContentsAgree b c d) ⌝ }
+    ensures records { λ _. ⌜ ((b c d : List ℕ) → length b ≡ storeSize → ShareNoTag c d
+        → Accepted (readContents c) b → Accepted (readContents d) b → ContentsAgree b c d) ⌝ }
     ensures answers { λ _. ⌜ ((f g : File) (b s t : List ℕ) → f .number ≤ 10 → g .number ≤ 10 → length b ≡ storeSize
         → ShareNoTag (contentsOf s) (contentsOf t) → Accepted (readRecord f s) b → Accepted (readRecord g t) b → AnswersAgree f g b s t) ⌝ }
-    ensures whole { λ _. ⌜ ((f : File) (b s : List ℕ) → f .number ≤ 10 → isRecord s ≡ true → readRecord f s b ≡ readContents (contentsOf s) b) ⌝ }
     ensures padding { λ _. ⌜ ((form m n : ℕ) (v : List ℕ) → length v ≤ m → m ≤ n → PaddedOnce form m n v) ⌝ }
+    ensures whole { λ _. ⌜ ((f : File) (b s : List ℕ) → f .number ≤ 10 → isRecord s ≡ true
+        → readRecord f s b ≡ readContents (contentsOf s) b) ⌝ }
+    ensures accepted { λ _. ⌜ ((f : File) (b s : List ℕ) → f .number ≤ 10 → Accepted (readRecord f s) b → isRecord s ≡ true) ⌝ }
+    ensures room { λ r. ⌜ ((c : List ℕ) → length c ≤ r → AnswerWith (recordOf c) c) ⌝ }
+    ensures longest { λ r. ⌜ ((s : List ℕ) → isRecord s ≡ true → length (contentsOf s) ≤ r) ⌝ }
 {
     253
 }
