@@ -16,3 +16,6 @@ Fills table store s v = filled table store s ≡ some v
 pub record PaddedOnce (form m n : ℕ) (v : List ℕ) : Type 0 where
   pub padding : padded form n (padded form m v) ≡ padded form n v
   pub fitting : fitted form n (fitted form m v) ≡ fitted form n v
+
+-- ---- what holds of it: the promises `filling` and `padding` of `most_contents`, by `filled-join`, `padded-twice` and
+-- `fitted-twice` (`data_list`, proofs/Filling and proofs/Fitting)

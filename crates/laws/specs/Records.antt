@@ -41,8 +41,8 @@ ShareNoTag c d = (tag : ℕ) → bringsIn tag (treeOf c) ≡ true → bringsIn t
 
 -- ---- readings
 
--- the contents c read into the store b: what a template 70 around them gives, whatever their length. Of a file's number
--- `readTree` makes nothing.
+-- the contents c read into the store b: what a template 70 around them gives, whatever their length; `readTree` does not
+-- look at the file's number
 abbrev pub readContents : List ℕ → List ℕ → Outcome
 readContents c b = readTree (Record (record { number = 1 })) b (templateBody 0x70 (treeOf c))
 
@@ -116,3 +116,5 @@ pub record AnswersAgree (f g : File) (b s t : List ℕ) : Type 0 where
       → InOne (readRecord h u) (readRecord f s) (readRecord g t) b
   pub swapped : (h : File) (u : List ℕ) → h .number ≤ 10 → AnswerWith u (contentsOf t ++ contentsOf s)
       → InOne (readRecord h u) (readRecord f s) (readRecord g t) b
+
+-- ---- what holds of it: the promises of `most_contents`, proved in proofs/ (Contents and, under it, Taking; Answers, Room)
