@@ -23,6 +23,7 @@ fn main() {
 fn statements() {
     line(b"bench::rows", bench::rows());
     line(b"trace::most_commands", trace::most_commands());
+    line(b"laws::most_contents", laws::most_contents());
     word(b"explain_calls::refusal_word", explain_calls::refusal_word());
     let rows = dictionary::used_rows();
     line(b"dictionary::used_rows, the last", rows[45]);

@@ -1,0 +1,229 @@
+-- Objects of two lists that share no tag, taken in either order. What an object does is the same on every store (`effect`): nothing, a refusal, or a
+-- put into the row of its tag where that holds no bytes. Puts into two rows commute, so two objects do (`swap`), one object and a list
+-- (`past-list`), and two lists (`past-lists`). Nothing here looks at a row of the table.
+-- Assumes nothing.
+use mathlib.Core.Path.{_≡_, refl, sym, ap, ap₂, subst, _∙_}
+use mathlib.Core.Bool.{Bool, true, false, not}
+use mathlib.Core.Logic.{inl, inr}
+use mathlib.Core.List.{List, [], _∷_, _++_}
+use Prim.Native.Nat.{ℕ, _≤_, _<_}
+use native.Mathlib.Omega.{arith}
+use lib.Dec.{eqb}
+use lib.ListN.{length}
+use Rattle.basics.specs.Choice.{both}
+use Rattle.basics.proofs.Laws.{if-yes, bool-cases}
+use Rattle.tlv.specs.Tag.{isPrivate}
+use Rattle.dictionary.specs.declared.Found.{Found}
+use Rattle.dictionary.specs.declared.Found.the-variants.{At, Unknown}
+use Rattle.dictionary.specs.Rows.{rows, rowAt, find, rowCount, storeSize}
+use Rattle.dictionary.proofs.Find.{found}
+use Rattle.dictionary.proofs.Fit.{fits-length}
+use Rattle.store.specs.Place.{Value, bytesOf, isFree, putAt, putIf}
+use Rattle.store.proofs.Laws.{Fits, put-length, put-other, put-put}
+use Rattle.store.proofs.Rows.{rows-length, fits-row}
+use Rattle.reading.specs.Taking.{Item, byCard, mayCome, Work, work, takeItem, takeAll}
+use Rattle.reading.proofs.Laws.{item-unknown, item-skipped, item-barred, item-put, may-come-fits, next-good, next-bad}
+use Rattle.reading.proofs.Kept.{All}
+
+module _ (answer : ℕ) where
+  -- ---- what one object does
+
+  -- it is put into row k where that is free
+  record Stored (i : Item) (k : ℕ) : Type 0 where
+    row : k < rowCount
+    tag : rowAt k .tag ≡ i .tag
+    short : length (i .value) ≤ rowAt k .greatest
+    puts : (b : List ℕ) → takeItem answer b i ≡ work (isFree rows b k) (putIf (isFree rows b k) rows b k (i .value))
+
+  data Effect (i : Item) : Type 0 where
+    skipped : ((b : List ℕ) → takeItem answer b i ≡ work true b) → Effect i
+    barred : ((b : List ℕ) → takeItem answer b i ≡ work false b) → Effect i
+    stored : (k : ℕ) → Stored i k → Effect i
+
+  effect : (i : Item) → Effect i
+  effect i = go (find rows (i .tag)) refl
+    where
+      known : (k : ℕ) → find rows (i .tag) ≡ At k → Effect i
+      known k e = elim (bool-cases (both (isPrivate (i .tag)) (not (byCard (rowAt k))))) [
+        | inl s ↦ skipped (λ b. item-skipped answer b i (find rows (i .tag)) refl k e s)
+        | inr s ↦ elim (bool-cases (mayCome answer (rowAt k) (i .around) (i .value))) [
+          | inl m ↦
+              let f = found rows (i .tag) k e in
+              let l = fits-length (rowAt k) (i .value) (may-come-fits answer (rowAt k) (i .around) (i .value) m) in
+              stored k (record {
+                row = omega (arith, rows-length);
+                tag = f .1;
+                short = l .1;
+                puts = λ b. item-put answer b i (find rows (i .tag)) refl k e s m (isFree rows b k) refl;
+              })
+          | inr m ↦ barred (λ b. item-barred answer b i (find rows (i .tag)) refl k e s m)
+        ]
+      ]
+
+      go : (x : Found) → find rows (i .tag) ≡ x → Effect i
+      go Unknown e = skipped (λ b. item-unknown answer b i (find rows (i .tag)) refl e)
+      go (At k) e = known k e
+
+  -- a store of its size, and an object that it takes
+  pub record Takes (b : List ℕ) (i : Item) (c : List ℕ) : Type 0 where
+    size : length b ≡ storeSize
+    is : takeItem answer b i ≡ work true c
+
+  -- ---- a put that was made
+
+  module _ {b c : List ℕ} {i : Item} {k : ℕ} (s : Stored i k) (t : Takes b i c) where
+    fit : Fits rows b k (i .value)
+    fit = fits-row b k (i .value) (t .size) (s .row) (s .short)
+
+    same : work (isFree rows b k) (putIf (isFree rows b k) rows b k (i .value)) ≡ work true c
+    same = sym (s .puts b) ∙ t .is
+
+    free : isFree rows b k ≡ true
+    free = ap (λ (w : Work). w .good) same
+
+    written : putAt rows b k (i .value) ≡ c
+    written = sym (if-yes _ _ free) ∙ ap (λ (w : Work). w .store) same
+
+    sized : length c ≡ storeSize
+    sized = ap length (sym written) ∙ put-length rows b k (i .value) fit ∙ t .size
+
+    -- another row is free as it was
+    other-free : (j : ℕ) → (j ≡ k → ⊥) → isFree rows c j ≡ isFree rows b j
+    other-free j ne =
+        ap (λ (x : List ℕ). isFree rows x j) (sym written)
+        ∙ ap (λ (x : Value). eqb (length (bytesOf x)) 0) (put-other rows b k (i .value) fit j ne)
+
+  -- the object that is put where its row is free
+  puts-free : (b : List ℕ) {i : Item} {k : ℕ} (s : Stored i k) → isFree rows b k ≡ true → takeItem answer b i ≡ work true (putAt rows b k (i .value))
+  puts-free b {i} {k} s e = s .puts b ∙ ap₂ work e (if-yes _ _ e)
+
+  -- a refusal takes nothing
+  never : {b c : List ℕ} {i : Item} {A : Type 0} → ((x : List ℕ) → takeItem answer x i ≡ work false x) → Takes b i c → A
+  never {b} {c} h t =
+      let e : work false b ≡ work true c = sym (h b) ∙ t .is in
+      let f : false ≡ true = ap (λ (w : Work). w .good) e in
+      let z : _≡_ {A = ℕ} 0 1 = cc in
+      absurd (omega arith)
+
+  takes-size : {b c : List ℕ} {i : Item} → Takes b i c → length c ≡ storeSize
+  takes-size {b} {c} {i} t = go (effect i)
+    where
+      go : Effect i → length c ≡ storeSize
+      go (skipped h) = let e : work true b ≡ work true c = sym (h b) ∙ t .is in ap (λ (w : Work). length (w .store)) (sym e) ∙ t .size
+      go (barred h) = never h t
+      go (stored k s) = sized s t
+
+  -- ---- two objects
+
+  -- the store that both orders come to: j behind i, and i behind j
+  record Meets (c d : List ℕ) (i j : Item) : Type 0 where
+    store : List ℕ
+    second : Takes c j store
+    first : Takes d i store
+
+  -- an object that does nothing
+  nothing : {b c d : List ℕ} {i j : Item} → ((x : List ℕ) → takeItem answer x i ≡ work true x) → Takes b i c → Takes b j d → Meets c d i j
+  nothing {b} {c} {d} {i} {j} h t u =
+      let e : work true b ≡ work true c = sym (h b) ∙ t .is in
+      let same-store : b ≡ c = ap (λ (w : Work). w .store) e in
+      record { store = d; second = subst (λ (x : List ℕ). Takes x j d) same-store u; first = record { size = takes-size u; is = h d } }
+
+  turned : {c d : List ℕ} {i j : Item} → Meets c d i j → Meets d c j i
+  turned m = record { store = m .store; second = m .first; first = m .second }
+
+  -- two rows, which differ since the tags do
+  two-rows : {b c d : List ℕ} {i j : Item} {k l : ℕ} → (i .tag ≡ j .tag → ⊥) → Stored i k → Stored j l → Takes b i c → Takes b j d → Meets c d i j
+  two-rows {b} {c} {d} {i} {j} {k} {l} ne s s′ t u =
+      record {
+        store = putAt rows c l (j .value);
+        second = record { size = sized s t; is = puts-free c s′ (other-free s t l (λ e. apart-rows (sym e)) ∙ free s′ u) };
+        first = record { size = sized s′ u; is = puts-free d s (other-free s′ u k apart-rows ∙ free s t) ∙ ap (work true) meet };
+      }
+    where
+      apart-rows : k ≡ l → ⊥
+      apart-rows e = ne (sym (s .tag) ∙ ap (λ (n : ℕ). rowAt n .tag) e ∙ s′ .tag)
+
+      meet : putAt rows d k (i .value) ≡ putAt rows c l (j .value)
+      meet =
+          ap (λ (x : List ℕ). putAt rows x k (i .value)) (sym (written s′ u))
+          ∙ sym (put-put rows b k l (i .value) (j .value) apart-rows (fit s t) (fit s′ u))
+          ∙ ap (λ (x : List ℕ). putAt rows x l (j .value)) (written s t)
+
+  swap : {b c d : List ℕ} {i j : Item} → (i .tag ≡ j .tag → ⊥) → Takes b i c → Takes b j d → Meets c d i j
+  swap {b} {c} {d} {i} {j} ne t u = go (effect i) (effect j)
+    where
+      go : Effect i → Effect j → Meets c d i j
+      go (skipped h) y = nothing h t u
+      go (barred h) y = never h t
+      go (stored k s) (skipped h) = turned (nothing h u t)
+      go (stored k s) (barred h) = never h u
+      go (stored k s) (stored l s′) = two-rows ne s s′ t u
+
+  -- ---- one object and a list, two lists
+
+  -- the objects of a list are all taken, one after the other
+  pub data Run : List ℕ → List Item → List ℕ → Type 0 where
+    done : {b : List ℕ} → length b ≡ storeSize → Run b [] b
+    more : {b c d : List ℕ} {i : Item} {is : List Item} → Takes b i c → Run c is d → Run b (i ∷ is) d
+
+  pub run-size : {b c : List ℕ} {is : List Item} → Run b is c → length c ≡ storeSize
+  run-size (done l) = l
+  run-size (more t r) = run-size r
+
+  pub run-join : {b c d : List ℕ} {is js : List Item} → Run b is c → Run c js d → Run b (is ++ js) d
+  run-join (done l) r = r
+  run-join (more t q) r = more t (run-join q r)
+
+  past-list : {b c d : List ℕ} {i : Item} {js : List Item} → All (λ j. i .tag ≡ j .tag → ⊥) js → Takes b i c → Run b js d
+      → (e : List ℕ) × Run c js e × Takes d i e
+  past-list {c = c} a t (done l) = (c, done (takes-size t), t)
+  past-list a t (more u r) =
+      let m = swap (a .0) t u in
+      let p = past-list (a .1) (m .first) r in
+      (p .0, more (m .second) (p .1), p .2)
+
+  pub past-lists : {b c d : List ℕ} {is js : List Item} → All (λ i. All (λ j. i .tag ≡ j .tag → ⊥) js) is → Run b is c → Run b js d
+      → (e : List ℕ) × Run c js e × Run d is e
+  past-lists {d = d} a (done l) r = (d, r, done (run-size r))
+  past-lists a (more t q) r =
+      let p = past-list (a .0) t r in
+      let z = past-lists (a .1) q (p .1) in
+      (z .0, z .1, more (p .2) (z .2))
+
+  -- ---- as the reading takes them
+
+  pub run-is : {b c : List ℕ} {is : List Item} → Run b is c → takeAll answer (work true b) is ≡ work true c
+  unfolding takeAll
+  run-is (done l) = refl
+  run-is {b = b} (more {i = i} {is = is} t r) = ap (λ (w : Work). takeAll answer w is) (next-good answer b i refl ∙ t .is) ∙ run-is r
+
+  bad-stays : (b : List ℕ) (is : List Item) → takeAll answer (work false b) is ≡ work false b
+  unfolding takeAll
+  bad-stays b [] = refl
+  bad-stays b (i ∷ is) = ap (λ (w : Work). takeAll answer w is) (next-bad answer b i refl) ∙ bad-stays b is
+
+  -- the first object of a list that is taken whole, and the ones behind it
+  first-of : (b : List ℕ) (i : Item) (is : List Item) (c : List ℕ) → takeAll answer (work true b) (i ∷ is) ≡ work true c
+      → (d : List ℕ) × (takeItem answer b i ≡ work true d) × (takeAll answer (work true d) is ≡ work true c)
+  unfolding takeAll
+  first-of b i is c e = by (takeItem answer b i .good) (takeItem answer b i .store) refl
+    where
+      behind : (w : Work) → takeItem answer b i ≡ w → takeAll answer w is ≡ work true c
+      behind w p = ap (λ (x : Work). takeAll answer x is) (sym p ∙ sym (next-good answer b i refl)) ∙ e
+
+      by : (g : Bool) (d : List ℕ) → takeItem answer b i ≡ work g d
+          → (d : List ℕ) × (takeItem answer b i ≡ work true d) × (takeAll answer (work true d) is ≡ work true c)
+      by true d p = (d, p, behind (work true d) p)
+      by false d p =
+          let f : work false d ≡ work true c = sym (bad-stays d is) ∙ behind (work false d) p in
+          let q : false ≡ true = ap (λ (w : Work). w .good) f in
+          let z : _≡_ {A = ℕ} 0 1 = cc in
+          absurd (omega arith)
+
+  pub run-of : (b : List ℕ) (is : List Item) (c : List ℕ) → length b ≡ storeSize → takeAll answer (work true b) is ≡ work true c → Run b is c
+  unfolding takeAll
+  run-of b [] c l e = subst (Run b []) (ap (λ (w : Work). w .store) e) (done l)
+  run-of b (i ∷ is) c l e =
+      let f = first-of b i is c e in
+      let t : Takes b i (f .0) = record { size = l; is = f .1 } in
+      more t (run-of (f .0) is c (takes-size t) (f .2))
