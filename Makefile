@@ -3,6 +3,7 @@
 #
 #     make install [PREFIX=/usr/local] [DESTDIR=]
 #     make uninstall
+#     make flat          target/staticlib/libhost_flat.a, the kernel's without recursion (docs/HOST.md); it is not installed
 #
 # An archive is proved and built by `rt staticlib NAME` where it is missing or older than a crate that it has.
 PREFIX = /usr/local
@@ -10,6 +11,7 @@ DESTDIR =
 
 archive = target/staticlib/libhost.a
 header = include/tripodmoon.h
+flat_archive = target/staticlib/libhost_flat.a
 card_archive = target/staticlib/libpersonalise.a
 card_header = include/tripodmoon_personalise.h
 
@@ -26,12 +28,17 @@ installed = '$(headers)/tripodmoon.h' '$(headers)/tripodmoon_personalise.h' '$(f
 crates = $(wildcard $(addprefix crates/,$(1) $(shell sed -n 's/^$(1)://p' crates.txt)))
 sources = crates.txt $(shell find $(call crates,$(1)) -type f -not -path '*/must-fail/*')
 
-.PHONY: all install uninstall
+.PHONY: all flat install uninstall
 
 all: $(archive) $(card_archive)
 
+flat: $(flat_archive)
+
 $(archive): $(call sources,host)
 	rt staticlib host
+
+$(flat_archive): bin/host-flat tests/calls $(call sources,host)
+	bin/host-flat
 
 $(card_archive): $(call sources,personalise)
 	rt staticlib personalise

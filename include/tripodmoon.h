@@ -20,8 +20,8 @@ typedef char emv_size_t_has_64_bits[sizeof(size_t) == 8 ? 1 : -1];
 extern "C" {
 #endif
 
-/* Sizes in bytes. EMV_SESSION_SIZE is what emv_session_size gives for version 4 of the layout. */
-#define EMV_SESSION_SIZE 1518u
+/* Sizes in bytes. EMV_SESSION_SIZE is what emv_session_size gives for version 5 of the layout. */
+#define EMV_SESSION_SIZE 6022u
 #define EMV_LEAST_BUFFER 261u
 #define EMV_MOST_TERMINAL 1024u
 
@@ -88,7 +88,7 @@ extern "C" {
 #define EMV_VERSION_LAYOUT(word) ((word) & 0xFFu)
 
 /* The version that this header is of, as emv_version gives it. */
-#define EMV_VERSION 0x00010004u
+#define EMV_VERSION 0x00010005u
 
 /* Outcomes. */
 #define EMV_APPROVED 0u

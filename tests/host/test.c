@@ -236,7 +236,7 @@ static void phones(void)
 /* The head of a record of each phase, by its offsets; the method is 0 in all of them. */
 static int head(uint8_t phase, uint8_t datum, uint8_t reason, uint8_t n, uint64_t held)
 {
-    return session[0] == 4 && session[1] == phase && session[2] == datum && session[3] == reason && session[4] == n && session[5] == 0 &&
+    return session[0] == 5 && session[1] == phase && session[2] == datum && session[3] == reason && session[4] == n && session[5] == 0 &&
            limit() == held;
 }
 
@@ -362,8 +362,8 @@ static void lent_bytes(void)
     CHECK(all_stays());
     CHECK(emv_count(session, EMV_SESSION_SIZE - 1) == EMV_NO_COUNT);
     no_record(0, 0); /* no version */
-    no_record(0, 3); /* another version */
-    no_record(0, 5);
+    no_record(0, 4); /* another version */
+    no_record(0, 6);
     no_record(1, 6); /* no phase */
     no_record(2, 1); /* a fresh record with a number */
     no_record(3, 1); /* a fresh record with a reason */
@@ -427,7 +427,7 @@ static void objects(void)
     for (i = 0; i < sizeof sent_online / sizeof *sent_online; i++)
         CHECK(object_in(sent_online[i], sizeof value) == EMV_ABSENT && object_in(sent_online[i], 0) == EMV_ABSENT);
     CHECK(EMV_IS_ABSENT(object_in(0x5A, 0)));
-    CHECK(object_in(0x9F12, sizeof value) == EMV_UNKNOWN && EMV_IS_UNKNOWN(object_in(0, 0)));
+    CHECK(object_in(0x9F13, sizeof value) == EMV_UNKNOWN && EMV_IS_UNKNOWN(object_in(0, 0)));
     CHECK(object_in(0x70, sizeof value) == EMV_UNKNOWN && object_in(0x1009F26, sizeof value) == EMV_UNKNOWN);
 
     begin(0x22);
@@ -442,9 +442,9 @@ static void objects(void)
     CHECK(holds(0x9F10, BYTES(""))); /* there, and empty */
 
     CHECK(emv_object(session, EMV_SESSION_SIZE - 1, 0x9F26, value, sizeof value) == REFUSED(EMV_REFUSED_RANGES));
-    CHECK(emv_object(session, 0, 0x9F12, value, 0) == REFUSED(EMV_REFUSED_RANGES));
+    CHECK(emv_object(session, 0, 0x9F13, value, 0) == REFUSED(EMV_REFUSED_RANGES));
     session[4] = 131; /* a count that no session reaches */
-    CHECK(object_in(0x9F26, sizeof value) == REFUSED(EMV_REFUSED_RANGES) && object_in(0x9F12, 0) == REFUSED(EMV_REFUSED_RANGES));
+    CHECK(object_in(0x9F26, sizeof value) == REFUSED(EMV_REFUSED_RANGES) && object_in(0x9F13, 0) == REFUSED(EMV_REFUSED_RANGES));
     session[4] = 3;
     session[0] = 2; /* another version */
     CHECK(object_in(0x9F26, sizeof value) == REFUSED(EMV_REFUSED_RANGES));

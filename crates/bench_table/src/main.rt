@@ -12,6 +12,9 @@ fn main() {
     unpadded_rows();
     options_rows();
     result_rows();
+    table_rows();
+    second_rows();
+    start_rows();
 }
 
 // ---- start bytes
@@ -188,13 +191,13 @@ fn full_record() -> [u8; 252] {
         0x00, 0x02, 0x00, 0x9F, 0x0D, 0x05, 0x00, 0x00, 0x00, 0x00, 0x00, 0x00, 0x9F, 0x0E, 0x05, 0x00, 0x00, 0x00,
         0x00, 0x00, 0x00, 0x9F, 0x0F, 0x05, 0x00, 0x00, 0x00, 0x00, 0x00, 0x00, 0x8C, 0x24, 0x9F, 0x02, 0x06, 0x9F,
         0x03, 0x06, 0x9F, 0x1A, 0x02, 0x95, 0x05, 0x5F, 0x2A, 0x02, 0x9A, 0x03, 0x9C, 0x01, 0x9F, 0x37, 0x04, 0x9F,
-        0x35, 0x01, 0x9F, 0x45, 0x02, 0x9F, 0x4C, 0x08, 0x9F, 0x34, 0x03, 0x9F, 0x21, 0x03, 0x00, 0x9F, 0x50, 0x06,
-        0x00, 0x11, 0x22, 0x33, 0x44, 0x55, 0x00, 0x9F, 0x51, 0x05, 0x00, 0x11, 0x22, 0x33, 0x44, 0x00, 0x9F, 0x52,
-        0x05, 0x00, 0x11, 0x22, 0x33, 0x44, 0x00, 0x9F, 0x53, 0x05, 0x00, 0x11, 0x22, 0x33, 0x44, 0x00, 0x9F, 0x54,
-        0x05, 0x00, 0x11, 0x22, 0x33, 0x44, 0x00, 0x9F, 0x55, 0x05, 0x00, 0x11, 0x22, 0x33, 0x44, 0x00, 0x9F, 0x56,
-        0x05, 0x00, 0x11, 0x22, 0x33, 0x44, 0x00, 0x9F, 0x57, 0x05, 0x00, 0x11, 0x22, 0x33, 0x44, 0x00, 0x9F, 0x58,
-        0x05, 0x00, 0x11, 0x22, 0x33, 0x44, 0x00, 0x9F, 0x59, 0x05, 0x00, 0x11, 0x22, 0x33, 0x44, 0x00, 0x9F, 0x5A,
-        0x05, 0x00, 0x11, 0x22, 0x33, 0x44, 0x00, 0x9F, 0x5B, 0x05, 0x00, 0x11, 0x22, 0x33, 0x44, 0x00, 0x90, 0x00,
+        0x35, 0x01, 0x9F, 0x45, 0x02, 0x9F, 0x4C, 0x08, 0x9F, 0x34, 0x03, 0x9F, 0x21, 0x03, 0x00, 0x5F, 0x60, 0x06,
+        0x00, 0x11, 0x22, 0x33, 0x44, 0x55, 0x00, 0x5F, 0x61, 0x05, 0x00, 0x11, 0x22, 0x33, 0x44, 0x00, 0x5F, 0x62,
+        0x05, 0x00, 0x11, 0x22, 0x33, 0x44, 0x00, 0x5F, 0x63, 0x05, 0x00, 0x11, 0x22, 0x33, 0x44, 0x00, 0x5F, 0x64,
+        0x05, 0x00, 0x11, 0x22, 0x33, 0x44, 0x00, 0x5F, 0x65, 0x05, 0x00, 0x11, 0x22, 0x33, 0x44, 0x00, 0x5F, 0x66,
+        0x05, 0x00, 0x11, 0x22, 0x33, 0x44, 0x00, 0x5F, 0x67, 0x05, 0x00, 0x11, 0x22, 0x33, 0x44, 0x00, 0x5F, 0x68,
+        0x05, 0x00, 0x11, 0x22, 0x33, 0x44, 0x00, 0x5F, 0x69, 0x05, 0x00, 0x11, 0x22, 0x33, 0x44, 0x00, 0x5F, 0x6A,
+        0x05, 0x00, 0x11, 0x22, 0x33, 0x44, 0x00, 0x5F, 0x6B, 0x05, 0x00, 0x11, 0x22, 0x33, 0x44, 0x00, 0x90, 0x00,
     ]
 }
 
@@ -269,4 +272,105 @@ fn result_row(kind: u8, floor: u8, card: &[u8]) {
         b"\x80\x06\x00\x80\x08\x01\x01\x00\x90\x00",
     );
     show_answered(session, card);
+}
+
+// ---- the whole dictionary: objects of the rows that annex A adds
+
+// In a record: the named template around it and another; rows with no template; start's and session's, private and not.
+fn table_rows() {
+    record_row(b"\x70\x04\x50\x02\x41\x42\x90\x00");
+    record_row(b"\x70\x06\xA5\x04\x50\x02\x41\x42\x90\x00");
+    record_row(b"\x70\x09\x6F\x07\x84\x05\x01\x02\x03\x04\x05\x90\x00");
+    record_row(b"\x70\x04\x80\x02\x00\x00\x90\x00");
+    record_row(b"\x70\x05\xDF\x81\x17\x01\x00\x90\x00");
+    record_row(b"\x70\x05\x9F\x15\x02\x12\x34\x90\x00");
+    record_row(b"\x70\x04\x9F\x53\x01\x52\x90\x00");
+    record_row(b"\x70\x0B\xDF\x60\x08\x00\x00\x00\x00\x00\x00\x00\x00\x90\x00");
+    record_row(b"\x70\x08\xDF\x83\x02\x04\x01\x02\x03\x04\x90\x00");
+    record_row(b"\x70\x06\xDF\x4B\x03\x00\x01\x00\x90\x00");
+    record_row(b"\x70\x05\x9F\x70\x02\x01\x02\x90\x00");
+    third_party_rows();
+    length_rows();
+    left_out_rows();
+    options_objects();
+}
+
+// An object of two templates: in each of them, in another, and too short.
+fn third_party_rows() {
+    record_row(b"\x70\x08\x9F\x6E\x05\x08\x40\x00\x01\x02\x90\x00");
+    record_row(b"\x70\x0B\xBF\x0C\x08\x9F\x6E\x05\x08\x40\x00\x01\x02\x90\x00");
+    record_row(b"\x70\x0A\xA5\x08\x9F\x6E\x05\x08\x40\x00\x01\x02\x90\x00");
+    record_row(b"\x70\x07\x9F\x6E\x04\x08\x40\x00\x01\x90\x00");
+    options_count(b"\x77\x08\x9F\x6E\x05\x08\x40\x00\x01\x02\x90\x00");
+}
+
+// Lengths from 1 to 3, and digits with Fs behind them.
+fn length_rows() {
+    record_row(b"\x70\x03\x9F\x47\x00\x90\x00");
+    record_row(b"\x70\x05\x9F\x47\x02\x00\x03\x90\x00");
+    record_row(b"\x70\x07\x9F\x47\x04\x00\x00\x00\x03\x90\x00");
+    record_row(b"\x70\x05\x9F\x20\x02\x12\x3F\x90\x00");
+    record_row(b"\x70\x05\x9F\x20\x02\x12\xF3\x90\x00");
+}
+
+// Tags that annex A gives no greatest length.
+fn left_out_rows() {
+    record_row(b"\x70\x03\x92\x01\x00\x90\x00");
+    record_row(b"\x70\x04\x9F\x4B\x01\x00\x90\x00");
+    record_row(b"\x70\x05\xDF\x81\x12\x01\x00\x90\x00");
+}
+
+// In the answer to GET PROCESSING OPTIONS: what may stand in 77, what may not, and what only another answer brings.
+fn options_objects() {
+    options_row(b"\x77\x06\xDF\x4B\x03\x00\x01\x00\x90\x00");
+    options_row(b"\x77\x05\x9F\x60\x02\x00\x01\x90\x00");
+    options_row(b"\x77\x05\x9F\x61\x02\x00\x01\x90\x00");
+    options_row(b"\x77\x05\x9F\x08\x02\x00\x02\x90\x00");
+    options_row(b"\x77\x05\x9F\x42\x02\x08\x40\x90\x00");
+    options_row(b"\x77\x03\x8F\x01\x05\x90\x00");
+}
+
+// The answer read into an empty store, and as a session's first.
+fn options_row(card: &[u8]) {
+    show::text(b"options");
+    show::bytes(card);
+    show_reading(Awaited::Options, card);
+    show::text(b", ");
+    show_answered(started(0x22, 1), card);
+}
+
+// An object of 70 and 77 that came with the processing options, again in a record.
+fn second_rows() {
+    show::text(b"8F in options, then in a record: ");
+    let session = answered(
+        started(0x22, 1),
+        b"\x77\x0D\x82\x02\x00\x80\x94\x04\x08\x01\x02\x00\x8F\x01\x05\x90\x00",
+    );
+    show_answered(session, b"\x70\x03\x8F\x01\x05\x90\x00");
+}
+
+// Start bytes: all that they must bring, and further objects.
+fn start_rows() {
+    start_row(b"\x9F\x15\x02\x12\x34");
+    start_row(b"\x9F\x01\x06\x00\x00\x00\x00\x00\x01");
+    start_row(b"\x50\x02\x41\x42");
+    start_row(b"\x80\x02\x00\x00");
+    start_row(b"\x9F\x53\x01\x52");
+    start_row(b"\x9F\x53\x01\x52\x9F\x53\x01\x52");
+    start_row(b"\xDF\x81\x12\x01\x00");
+    start_row(b"\x9F\x21\x03\x12\x34\x56\x9F\x38\x06\x9F\x21\x02\x9F\x21\x05");
+    start_row(b"\x9F\x70\x02\x01\x02\x9F\x38\x03\x9F\x70\x04");
+}
+
+fn start_row(further: &[u8]) {
+    show::text(b"start with");
+    show::bytes(further);
+    show::text(b": ");
+    let plain = terminal(0x22, 1, 0);
+    let mut bytes = [0u8; 160];
+    bytes::copy(&plain[..PLAIN], &mut bytes);
+    bytes::copy(further, &mut bytes[PLAIN..]);
+    let end = PLAIN + further.len();
+    let mut command = [0u8; 261];
+    show::reply(session::start(record::fresh(), &bytes[..end], &mut command), &command);
 }

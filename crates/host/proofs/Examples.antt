@@ -48,6 +48,6 @@ fresh : explainWord (some freshSession) ≡ 0x40000
 unfolding explained if
 fresh = rw fresh-keeps
 
--- 0.1.0, and version 4 of the layout
-version : versionWord ≡ 0x00010004
+-- 0.1.0, and version 5 of the layout
+version : versionWord ≡ 0x00010005
 version = refl

@@ -27,7 +27,7 @@ use Rattle.layout.specs.declared.Held.{Held}
 
 -- the layout's version, the first byte of every record
 abbrev pub version : ℕ
-version = 4
+version = 5
 
 -- the bytes in front of the store, and of the whole record
 abbrev pub headSize : ℕ

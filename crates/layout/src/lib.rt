@@ -20,7 +20,7 @@ ghost use Rattle.layout.specs.Layout.{version as layoutVersion};
 ghost use Rattle.layout.specs.Word.{commandWord, outcomeWord, refusalWord, wordOf};
 
 // The layout's version, the first byte of every record.
-const VERSION: u8 = 4;
+const VERSION: u8 = 5;
 
 // How many bytes stand in front of the store.
 pub const HEAD: usize = 14;

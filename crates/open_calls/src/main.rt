@@ -6,12 +6,14 @@ use analysis::choice::Choice;
 use dictionary::SIZE;
 use journal::{Checker, Verdict};
 use layout::{Held, RECORD_SIZE};
+use reading::{Awaited, Readings};
 use record::Session;
 use run::Said;
 
 fn main() {
     statements();
     parts();
+    readers();
     calls();
     card();
     judge();
@@ -60,12 +62,44 @@ fn said_number(said: Said) -> u8 {
     run::said_number(said)
 }
 
+// ---- both readers of an answer
+
+fn readers() {
+    let read = both(Awaited::Options, b"\x77\x00\x90\x00");
+    let first = read.recursive;
+    let second = read.flat;
+    line(b"reading::read_both, the first's objects", first.objects);
+    line(b"reading::read_both, the second's objects", second.objects);
+    line(b"reading::flat::judge_answer", basics::wide(judged(Awaited::Options, b"\x90\x01")));
+    let mut store = [0u8; SIZE];
+    word(b"emv_test_read", test_read(&mut store, 1, 1, b"\x70\x00\x90\x00"));
+    word(b"emv_test_read_flat", test_read_flat(&mut store, 1, 1, b"\x70\x00\x90\x00"));
+}
+
+fn both(awaited: Awaited, answer: &[u8]) -> Readings {
+    let mut first = [0u8; SIZE];
+    let mut second = [0u8; SIZE];
+    reading::read_both(&mut first, &mut second, awaited, answer)
+}
+
+fn judged(awaited: Awaited, answer: &[u8]) -> u8 {
+    let store = [0u8; SIZE];
+    reading::number(reading::flat::judge_answer(&store, awaited, answer))
+}
+
+fn test_read(store: &mut [u8], awaited: u32, file: u8, card: &[u8]) -> u32 {
+    reading_test::emv_test_read(store, awaited, file, card)
+}
+
+fn test_read_flat(store: &mut [u8], awaited: u32, file: u8, card: &[u8]) -> u32 {
+    reading_test::emv_test_read_flat(store, awaited, file, card)
+}
+
 // ---- the exported calls
 
 fn calls() {
     let mut session = [0u8; RECORD_SIZE];
     let mut command = [0u8; 261];
-    let mut store = [0u8; SIZE];
     line(b"emv_session_size", host::emv_session_size());
     word(b"emv_open", open(&mut session));
     word(b"emv_start", start(&mut session, b"", &mut command));
@@ -79,7 +113,6 @@ fn calls() {
     word(b"emv_wipe", wipe(&mut session));
     word(b"emv_version", host::emv_version());
     found(b"emv_find", find(b"\x6F\x04\x84\x02\x41\x42", 0x84));
-    word(b"emv_test_read", test_read(&mut store, 1, 1, b"\x70\x00\x90\x00"));
     word(b"emv_test_journal", test_journal(b"\x07", 0, 1));
     line(b"emv_test_wanted", test_wanted(b"\x07", &mut value));
 }
@@ -122,10 +155,6 @@ fn wipe(session: &mut [u8]) -> u32 {
 
 fn find(bytes: &[u8], tag: u32) -> u64 {
     host::emv_find(bytes, tag)
-}
-
-fn test_read(store: &mut [u8], awaited: u32, file: u8, card: &[u8]) -> u32 {
-    reading_test::emv_test_read(store, awaited, file, card)
 }
 
 fn test_journal(bytes: &[u8], first: usize, part: usize) -> u32 {

@@ -148,3 +148,59 @@ padded-others : body Options (0x77 ∷ 0x0F ∷ 0x00 ∷ 0x82 ∷ 0x02 ∷ 0x00 
     ≡ (0 ∷ 3 ∷ []) ∷ (2 ∷ 1 ∷ []) ∷ (0 ∷ 1 ∷ []) ∷ (0 ∷ 4 ∷ []) ∷ []
 unfolding readBody bodyOf headerOf tagAt tagSize secondByte lengthAt firstByte isTemplate isPrivate numberFrom if both parse recurse recurseBy nextOf withLeaf withNode count primitiveParts optionsParts templateParts items takeAll takeNext takeItem rows past find allowed mayCome mayStand fitting digitsFit offsetIn placeAt held valueAt putAt valueIn
 padded-others = refl
+
+-- ---- templates inside templates (document 02, Item 10, walks the same bytes without recursion)
+
+-- in a record: 9F08 behind an empty E1; three levels that end together, twice; an E1 that cuts 9F08; 9F08 behind two that end together;
+-- a 70 in an E1; 9F08 in an E1; a cut 57 in an E1 behind 9F08; four levels of 70, and five; a second 57, which is not empty, and a third;
+-- padding in an E1 and behind it
+nested : map (body (file 1))
+    ((0x70 ∷ 0x07 ∷ 0xE1 ∷ 0x00 ∷ 0x9F ∷ 0x08 ∷ 0x02 ∷ 0x00 ∷ 0x02 ∷ [])
+    ∷ (0x70 ∷ 0x0C ∷ 0xE1 ∷ 0x04 ∷ 0xE1 ∷ 0x02 ∷ 0xE1 ∷ 0x00 ∷ 0xE1 ∷ 0x04 ∷ 0xE1 ∷ 0x02 ∷ 0xE1 ∷ 0x00 ∷ [])
+    ∷ (0x70 ∷ 0x07 ∷ 0xE1 ∷ 0x02 ∷ 0x9F ∷ 0x08 ∷ 0x02 ∷ 0x00 ∷ 0x02 ∷ [])
+    ∷ (0x70 ∷ 0x0B ∷ 0xE1 ∷ 0x04 ∷ 0xE1 ∷ 0x02 ∷ 0x42 ∷ 0x00 ∷ 0x9F ∷ 0x08 ∷ 0x02 ∷ 0x00 ∷ 0x02 ∷ [])
+    ∷ (0x70 ∷ 0x09 ∷ 0xE1 ∷ 0x07 ∷ 0x70 ∷ 0x05 ∷ 0x9F ∷ 0x08 ∷ 0x02 ∷ 0x00 ∷ 0x02 ∷ [])
+    ∷ (0x70 ∷ 0x07 ∷ 0xE1 ∷ 0x05 ∷ 0x9F ∷ 0x08 ∷ 0x02 ∷ 0x00 ∷ 0x02 ∷ [])
+    ∷ (0x70 ∷ 0x09 ∷ 0x9F ∷ 0x08 ∷ 0x02 ∷ 0x00 ∷ 0x02 ∷ 0xE1 ∷ 0x02 ∷ 0x57 ∷ 0x01 ∷ [])
+    ∷ (0x70 ∷ 0x0B ∷ 0x70 ∷ 0x09 ∷ 0x70 ∷ 0x07 ∷ 0x70 ∷ 0x05 ∷ 0x9F ∷ 0x08 ∷ 0x02 ∷ 0x00 ∷ 0x02 ∷ [])
+    ∷ (0x70 ∷ 0x0D ∷ 0x70 ∷ 0x0B ∷ 0x70 ∷ 0x09 ∷ 0x70 ∷ 0x07 ∷ 0x70 ∷ 0x05 ∷ 0x9F ∷ 0x08 ∷ 0x02 ∷ 0x00 ∷ 0x02 ∷ [])
+    ∷ (0x70 ∷ 0x07 ∷ 0x57 ∷ 0x00 ∷ 0x57 ∷ 0x01 ∷ 0xAA ∷ 0x57 ∷ 0x00 ∷ [])
+    ∷ (0x70 ∷ 0x06 ∷ 0xE1 ∷ 0x04 ∷ 0x00 ∷ 0xE1 ∷ 0x00 ∷ 0x00 ∷ [])
+    ∷ [])
+    ≡ (0 ∷ 3 ∷ []) ∷ (0 ∷ 7 ∷ []) ∷ (2 ∷ 0 ∷ []) ∷ (0 ∷ 5 ∷ []) ∷ (0 ∷ 4 ∷ []) ∷ (3 ∷ 3 ∷ []) ∷ (2 ∷ 0 ∷ []) ∷ (0 ∷ 5 ∷ []) ∷ (2 ∷ 0 ∷ []) ∷ (3 ∷ 4 ∷ []) ∷ (0 ∷ 3 ∷ []) ∷ []
+unfolding readBody bodyOf headerOf tagAt tagSize secondByte lengthAt firstByte isTemplate isPrivate numberFrom if both parse recurse recurseBy nextOf withLeaf withNode count templateParts items takeAll takeNext takeItem rows past find allowed mayCome mayStand fitting digitsFit numeric nibbles every offsetIn placeAt held valueAt putAt valueIn
+nested = refl
+
+-- the store that a body leaves of one that holds nothing
+abbrev left : Awaited → List ℕ → List ℕ
+left a s = readBody a (replicate storeSize 0) s .store
+
+-- of those that are accepted with 9F08, what 9F08 alone leaves; nothing of those that are not
+nested-stores : map (left (file 1))
+    ((0x70 ∷ 0x07 ∷ 0xE1 ∷ 0x00 ∷ 0x9F ∷ 0x08 ∷ 0x02 ∷ 0x00 ∷ 0x02 ∷ [])
+    ∷ (0x70 ∷ 0x0B ∷ 0xE1 ∷ 0x04 ∷ 0xE1 ∷ 0x02 ∷ 0x42 ∷ 0x00 ∷ 0x9F ∷ 0x08 ∷ 0x02 ∷ 0x00 ∷ 0x02 ∷ [])
+    ∷ (0x70 ∷ 0x09 ∷ 0xE1 ∷ 0x07 ∷ 0x70 ∷ 0x05 ∷ 0x9F ∷ 0x08 ∷ 0x02 ∷ 0x00 ∷ 0x02 ∷ [])
+    ∷ (0x70 ∷ 0x0B ∷ 0x70 ∷ 0x09 ∷ 0x70 ∷ 0x07 ∷ 0x70 ∷ 0x05 ∷ 0x9F ∷ 0x08 ∷ 0x02 ∷ 0x00 ∷ 0x02 ∷ [])
+    ∷ [])
+    ≡ replicate 4 (left (file 1) (0x70 ∷ 0x05 ∷ 0x9F ∷ 0x08 ∷ 0x02 ∷ 0x00 ∷ 0x02 ∷ []))
+unfolding readBody bodyOf headerOf tagAt tagSize secondByte lengthAt firstByte isTemplate isPrivate numberFrom if both parse recurse recurseBy nextOf withLeaf withNode count templateParts items takeAll takeNext takeItem rows past find allowed mayCome mayStand fitting digitsFit numeric nibbles every offsetIn placeAt held valueAt putAt valueIn
+nested-stores = refl
+
+nested-kept : map (left (file 1))
+    ((0x70 ∷ 0x07 ∷ 0xE1 ∷ 0x05 ∷ 0x9F ∷ 0x08 ∷ 0x02 ∷ 0x00 ∷ 0x02 ∷ [])
+    ∷ (0x70 ∷ 0x09 ∷ 0x9F ∷ 0x08 ∷ 0x02 ∷ 0x00 ∷ 0x02 ∷ 0xE1 ∷ 0x02 ∷ 0x57 ∷ 0x01 ∷ [])
+    ∷ (0x70 ∷ 0x07 ∷ 0x57 ∷ 0x00 ∷ 0x57 ∷ 0x01 ∷ 0xAA ∷ 0x57 ∷ 0x00 ∷ [])
+    ∷ [])
+    ≡ replicate 3 (replicate storeSize 0)
+unfolding readBody bodyOf headerOf tagAt tagSize secondByte lengthAt firstByte isTemplate isPrivate numberFrom if both parse recurse recurseBy nextOf withLeaf withNode count templateParts items takeAll takeNext takeItem rows past find allowed mayCome mayStand fitting digitsFit numeric nibbles every offsetIn placeAt held valueAt putAt valueIn
+nested-kept = refl
+
+-- processing options: 5F28 in a 70 that stands in the 77, and 82 directly in the 77
+nested-options : body Options (0x77 ∷ 0x0B ∷ 0x70 ∷ 0x05 ∷ 0x5F ∷ 0x28 ∷ 0x02 ∷ 0x00 ∷ 0x56 ∷ 0x82 ∷ 0x02 ∷ 0x00 ∷ 0x80 ∷ []) ≡ 0 ∷ 4 ∷ []
+unfolding readBody bodyOf headerOf tagAt tagSize secondByte lengthAt firstByte isTemplate isPrivate numberFrom if both parse recurse recurseBy nextOf withLeaf withNode count templateParts items takeAll takeNext takeItem rows past find allowed mayCome mayStand fitting digitsFit numeric nibbles every offsetIn placeAt held valueAt putAt valueIn
+nested-options = refl
+
+nested-options-store : left Options (0x77 ∷ 0x0B ∷ 0x70 ∷ 0x05 ∷ 0x5F ∷ 0x28 ∷ 0x02 ∷ 0x00 ∷ 0x56 ∷ 0x82 ∷ 0x02 ∷ 0x00 ∷ 0x80 ∷ [])
+    ≡ readBody Options (left (file 1) (0x70 ∷ 0x05 ∷ 0x5F ∷ 0x28 ∷ 0x02 ∷ 0x00 ∷ 0x56 ∷ [])) (0x77 ∷ 0x04 ∷ 0x82 ∷ 0x02 ∷ 0x00 ∷ 0x80 ∷ []) .store
+unfolding readBody bodyOf headerOf tagAt tagSize secondByte lengthAt firstByte isTemplate isPrivate numberFrom if both parse recurse recurseBy nextOf withLeaf withNode count templateParts items takeAll takeNext takeItem rows past find allowed mayCome mayStand fitting digitsFit numeric nibbles every offsetIn placeAt held valueAt putAt valueIn
+nested-options-store = refl

@@ -125,7 +125,7 @@ pub fn read_body(store: &mut [u8], awaited: Awaited, body: &[u8]) -> Reading
     ensures tree { λ r. ⌜ r .objects ≡ bodyObjects (now (body .entry)) ⌝ }
 {
     let mut work = [0u8; SIZE];
-    bytes::copy(store, &mut work);
+    store::copy_whole(store, &mut work);
     let tags = dictionary::tags();
     let codes = dictionary::codes();
     let places = store::row_places();

@@ -3,16 +3,15 @@
 -- Assumes nothing.
 use mathlib.Core.Path.{_≡_, refl}
 use mathlib.Core.Bool.{Bool, true, false}
-use mathlib.Core.List.{List, [], _∷_, _++_, map}
-use Prim.Native.Nat.{ℕ, _+_}
-use lib.Dec.{eqb}
-use lib.ListN.{length, take, replicate}
+use mathlib.Core.List.{List, [], _∷_, map}
+use Prim.Native.Nat.{ℕ}
+use lib.ListN.{replicate}
 use Rattle.basics.specs.Choice.{if, both, either, every}
 use Rattle.basics.specs.Number.{nibbles}
-use Rattle.dictionary.specs.Rows.{Row, rows, past, find}
+use Rattle.dictionary.specs.Rows.{rows, past, find}
 use Rattle.dictionary.specs.Form.{numeric, digitsThenFs, compressed, digitsFit, fitting}
 use Rattle.dictionary.specs.TerminalType.{listed}
-use Rattle.store.specs.Place.{room, offsetIn, placeAt, held, valueAt, valueIn}
+use Rattle.store.specs.Place.{offsetIn, placeAt, held, valueAt, valueIn}
 use Rattle.locator.specs.Entry.{keeps}
 use Rattle.locator.specs.Records.{entries, wholeEntries, sumOf, accepts}
 use Rattle.analysis.specs.Action.{phoneIn, limitOf}
@@ -29,6 +28,7 @@ use Rattle.record.specs.Inner.{placeFits}
 use Rattle.record.specs.Session.{sessionOf, endOf}
 use Rattle.record.specs.Ranges.{isBrought, brought, lastAbsent, running, completed, trackCompleted, freshRanges, optionsRanges, recordRanges, cryptogramRanges, checksumRanges, endedRanges, inRanges}
 use Rattle.record.proofs.Along.{fitAlong, each-along}
+use Rattle.record.proofs.Stores.{storing, without}
 
 -- ---- outcomes and reasons
 
@@ -75,27 +75,6 @@ unfolding endedRanges goesWith both
 ended-counts = refl
 
 -- ---- stores
-
--- a row's place with the first value that a list has for its tag; empty where there is none
-abbrev placed : List (ℕ × List ℕ) → Row → List ℕ
-placed [] r = replicate (room r) 0
-placed ((t, v) ∷ more) r = if (eqb t (r .tag)) (take (room r) ((length v + 1) ∷ v ++ replicate (r .greatest) 0)) (placed more r)
-
--- the store of a list of objects, from a row on
-abbrev stores : List (ℕ × List ℕ) → List Row → List ℕ
-stores l [] = []
-stores l (r ∷ rs) = placed l r ++ stores l rs
-
-abbrev storing : List (ℕ × List ℕ) → List ℕ
-storing l = stores l rows
-
--- a list of objects without those of a tag
-abbrev leaving : ℕ → List (ℕ × List ℕ) → List (ℕ × List ℕ)
-leaving x [] = []
-leaving x ((t, v) ∷ more) = if (eqb t x) (leaving x more) ((t, v) ∷ leaving x more)
-
-abbrev without : ℕ → List (ℕ × List ℕ) → List ℕ
-without x l = storing (leaving x l)
 
 -- what a start must bring, and 95; the limits are 1.00, for a phone 2.00
 abbrev started : List (ℕ × List ℕ)

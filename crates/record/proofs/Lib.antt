@@ -3,6 +3,7 @@ pub mod Every
 pub mod Tags
 pub mod Fit
 pub mod Along
+pub mod Stores
 pub mod Values
 pub mod Laws
 pub mod Stored

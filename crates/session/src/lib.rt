@@ -13,6 +13,7 @@ use data_list::Written;
 use dictionary::{ROW_82, ROW_94, ROW_95, ROW_9F26, ROW_9F27, ROW_9F34, ROW_9F36};
 use dictionary::{ROW_9F61, ROW_9F65, ROW_9F66, ROW_9F67, ROW_9F6A, ROW_9F6B};
 use locator::{Checked, Found};
+use reading as reader; // `use reading::flat as reader;` reads without recursion (bin/host-flat)
 use reading::{Awaited, File, Verdict};
 use record::{Asked, Checksum, Outcome, Phase, Place, Reply, Session, Turn};
 use store::Store;
@@ -239,7 +240,7 @@ fn take_options(count: u8, store: &mut [u8], card: &[u8], command: &mut [u8]) ->
     ensures { λ r. ⌜ DidIn r (now (store .exit)) (now (command .exit))
         (optionsStep count (now (store .entry)) (now (card .entry)) (now (command .entry))) ⌝ }
 {
-    let read = reading::read_answer(store, Awaited::Options, card);
+    let read = reader::read_answer(store, Awaited::Options, card);
     let verdict = read.verdict;
     let Verdict::Accepted = verdict else {
         return record::fails(count, reading::number(verdict), NOT_APPLICABLE);
@@ -294,7 +295,7 @@ fn take_record(place: Place, count: u8, store: &mut [u8], card: &[u8], command: 
         return record::fails(count, basics::REASON_LOCATOR, NOT_APPLICABLE);
     };
     let file = asked.file;
-    let read = reading::read_answer(store, Awaited::Record(File { number: file }), card);
+    let read = reader::read_answer(store, Awaited::Record(File { number: file }), card);
     let verdict = read.verdict;
     let Verdict::Accepted = verdict else {
         return record::fails(count, reading::number(verdict), NOT_APPLICABLE);
@@ -392,7 +393,7 @@ fn take_cryptogram(asked: Asked, count: u8, store: &mut [u8], card: &[u8]) -> Tu
     requires { ⌜ length (now store) ≡ storeSize ⌝ }
     ensures { λ r. ⌜ replyOf r (now (store .exit)) ≡ cryptogramReply asked count (now (store .entry)) (now (card .entry)) ⌝ }
 {
-    let read = reading::read_answer(store, Awaited::Cryptogram, card);
+    let read = reader::read_answer(store, Awaited::Cryptogram, card);
     let verdict = read.verdict;
     let Verdict::Accepted = verdict else {
         return record::fails(count, reading::number(verdict), held_method(asked));
@@ -477,7 +478,7 @@ fn take_checksum(count: u8, store: &mut [u8], card: &[u8]) -> Turn
     let Track::Sound = track_in(&store[..]) else {
         return refuse_track(count, &store[..], card);
     };
-    let read = reading::read_answer(store, Awaited::Checksum, card);
+    let read = reader::read_answer(store, Awaited::Checksum, card);
     let verdict = read.verdict;
     let Verdict::Accepted = verdict else {
         return record::fails(count, reading::number(verdict), NOT_APPLICABLE);
@@ -491,7 +492,7 @@ fn refuse_track(count: u8, bytes: &[u8], card: &[u8]) -> Turn
     requires { ⌜ soundIn (now bytes) ≡ false ⌝ }
     ensures { λ r. ⌜ replyOf r (now (bytes .entry)) ≡ checksumReply count (now (bytes .entry)) (now (card .entry)) ⌝ }
 {
-    let verdict = reading::judge_answer(bytes, Awaited::Checksum, card);
+    let verdict = reader::judge_answer(bytes, Awaited::Checksum, card);
     let Verdict::Accepted = verdict else {
         return record::fails(count, reading::number(verdict), NOT_APPLICABLE);
     };

@@ -2,22 +2,22 @@
 -- induction over the objects, since a 94 or an 82 that the rules allow has bytes, stands in a 77, and is the first.
 -- Assumes nothing.
 use mathlib.Core.Path.{_≡_, refl, sym, ap, subst, _∙_}
-use mathlib.Core.Bool.{true, false, not}
+use mathlib.Core.Bool.{Bool, true, false, not}
 use mathlib.Core.Logic.{_⊎_, inl, inr}
 use mathlib.Core.List.{List, [], _∷_}
 use mathlib.Core.Option.{Option, some, none}
 use Prim.Native.Nat.{ℕ, _-_, _≤_, _<_}
 use native.Mathlib.Omega.{arith}
+use lib.Dec.{eqb}
 use lib.ListN.{length, take, drop}
 use borrow.Author.Tests.{eqb-true, leb-true, eq-eqb, ne-eqb, lt-ltb}
 use Rattle.basics.specs.Choice.{if, both}
-use Rattle.basics.specs.Number.{hasBit}
 use Rattle.basics.proofs.Laws.{if-ind, if-yes, if-no, both-yes, both-left, both-right, both-no-left}
 use Rattle.basics.proofs.Order.{equal-or-not}
 use Rattle.dictionary.specs.Named.{row82, row94}
 use Rattle.dictionary.specs.declared.Found.{Found}
 use Rattle.dictionary.specs.declared.Found.the-variants.{At, Unknown}
-use Rattle.dictionary.specs.Rows.{rows, rowAt, find, storeSize, in70}
+use Rattle.dictionary.specs.Rows.{rows, rowAt, find, storeSize, in77}
 use Rattle.dictionary.specs.Form.{fitting}
 use Rattle.dictionary.proofs.Find.{found}
 use Rattle.dictionary.proofs.Named.{at-82, at-94}
@@ -26,7 +26,7 @@ use Rattle.store.specs.Place.{bytesOf, valueAt, valueOf, putAt}
 use Rattle.store.proofs.Laws.{Fits, put-length, put-get, put-other, by-row}
 use Rattle.store.proofs.Rows.{rows-length, fits-row}
 use Rattle.reading.specs.declared.Awaited.{Awaited}
-use Rattle.reading.specs.Taking.{Item, item, items, byCard, mayStand, mayCome, allowed, Work, work, takeKnown, takeFound, takeItem, takeNext, takeAll}
+use Rattle.reading.specs.Taking.{Item, item, items, byCard, standsIn, mayStand, mayCome, allowed, Work, work, takeKnown, takeFound, takeItem, takeNext, takeAll}
 use Rattle.reading.specs.Answer.{Outcome, Body, primitive, template, answerBit, bodyOf, bodyCount, optionsParts, primitiveParts, templateParts, takenParts, readTree, readBody, isRead, readAnswer}
 use Rattle.reading.proofs.Kept.{All, all-holds}
 use Rattle.trace.specs.Order.{isIn77, firstIn77, bodyLocator, bodyProfile, broughtLocator, broughtProfile}
@@ -36,7 +36,7 @@ use Rattle.trace.proofs.Rules.{no}
 record Row77 (t k : ℕ) : Type 0 where
   finds : find rows t ≡ At k
   tagged : rowAt k .tag ≡ t
-  apart : hasBit (rowAt k .templates) in70 ≡ false
+  only : rowAt k .templates ≡ in77
   least : 1 ≤ rowAt k .least
   settable : byCard (rowAt k) ≡ true
 
@@ -50,11 +50,33 @@ least-82 = refl
 
 row-94 : Row77 0x94 row94
 unfolding rows
-row-94 = record { finds = at-94; tagged = refl; apart = refl; least = omega (arith, least-94); settable = refl }
+row-94 = record { finds = at-94; tagged = refl; only = refl; least = omega (arith, least-94); settable = refl }
 
 row-82 : Row77 0x82 row82
 unfolding rows
-row-82 = record { finds = at-82; tagged = refl; apart = refl; least = omega (arith, least-82); settable = refl }
+row-82 = record { finds = at-82; tagged = refl; only = refl; least = omega (arith, least-82); settable = refl }
+
+-- a test that passes where it cannot by its first answer passes by its second
+by-second : (a b : ℕ) (x y : Bool) → x ≡ false → if (eqb a b) x y ≡ true → y ≡ true
+by-second a b x y n e = go (eqb a b) refl
+  where
+    go : (z : Bool) → eqb a b ≡ z → y ≡ true
+    go true q = no (sym n ∙ sym (if-yes _ _ q) ∙ e)
+    go false q = sym (if-no _ _ q) ∙ e
+
+-- what may stand in 77 alone stands in no other template
+only-77 : (around : ℕ) → standsIn in77 around ≡ true → around ≡ 0x77
+only-77 around e = go (equal-or-not around 0x77)
+  where
+    others : (around ≡ 0x77 → ⊥) → false ≡ true
+    others n =
+        by-second around 0x6F false _ refl
+        (by-second around 0xBF0C false _ refl
+        (by-second around 0xA5 false _ refl (sym (if-no _ _ (ne-eqb around 0x77 n)) ∙ by-second around 0x70 false _ refl e)))
+
+    go : (around ≡ 0x77) ⊎ (around ≡ 0x77 → ⊥) → around ≡ 0x77
+    go (inl y) = y
+    go (inr n) = no (others n)
 
 -- after an object that is not allowed nothing is good
 bad-stays : (answer : ℕ) (w : Work) (is : List Item) → w .good ≡ false → takeAll answer w is .good ≡ false
@@ -87,12 +109,7 @@ module _ (tag row : ℕ) (r : Row77 tag row) where
   -- what stands in a template that its row names
   stands : (around : ℕ) → mayStand (rowAt row) around ≡ true → around ≡ 0x77
   unfolding mayStand
-  stands around e = go (equal-or-not around 0x70) (equal-or-not around 0x77)
-    where
-      go : (around ≡ 0x70) ⊎ (around ≡ 0x70 → ⊥) → (around ≡ 0x77) ⊎ (around ≡ 0x77 → ⊥) → around ≡ 0x77
-      go x (inl y) = y
-      go (inl x) (inr y) = no (sym (r .apart) ∙ sym (if-yes _ _ (eq-eqb around 0x70 x)) ∙ e)
-      go (inr x) (inr y) = no (sym (if-no _ _ (ne-eqb around 0x70 x) ∙ if-no _ _ (ne-eqb around 0x77 y)) ∙ e)
+  stands around e = only-77 around (subst (λ (ts : ℕ). standsIn ts around ≡ true) (r .only) e)
 
   not-named : (i : Item) → (i .tag ≡ tag → ⊥) → isIn77 tag i ≡ false
   not-named i n = both-no-left _ _ (ne-eqb (i .tag) tag n)

@@ -1,7 +1,7 @@
 -- Worked lists of calls, computed: what the step functions hand out, the locator that is accepted and where the session is left; and
 -- document 01's own example of the published order, from the card's bytes to the three commands.
 -- Assumes nothing.
-use mathlib.Core.Path.{_≡_, refl}
+use mathlib.Core.Path.{_≡_, refl, ap}
 use mathlib.Core.List.{List, [], _∷_, map}
 use mathlib.Core.Option.{some, none}
 use Prim.Native.Nat.{ℕ}
@@ -18,7 +18,7 @@ use Rattle.dictionary.specs.Rows.{rows, past, find}
 use Rattle.dictionary.specs.Named.{placeOf}
 use Rattle.dictionary.specs.Form.{numeric, digitsFit, fitting, digitsThenFs, compressed}
 use Rattle.dictionary.specs.TerminalType.{listed}
-use Rattle.store.specs.Place.{offsetIn, placeAt, held, valueAt, putAt, valueIn, lengthByte}
+use Rattle.store.specs.Place.{offsetIn, placeAt, held, valueAt, putAt, valueIn}
 use Rattle.locator.specs.Entry.{keeps}
 use Rattle.locator.specs.Records.{entries as entriesOf, wholeEntries, recordsFrom as runOf, recordsOf, sumOf, accepts, nth, kth, recordAt}
 use Rattle.reading.specs.Taking.{mayStand, mayCome, allowed, takeItem, takeNext, takeAll, items}
@@ -27,19 +27,20 @@ use Rattle.data_list.specs.Entries.{along, listEntries, withLength, entryAt, wi
 use Rattle.data_list.specs.Filling.{fillingOf, filledBy, cut, padding, padded, fitted, entryBytes}
 use Rattle.data_list.specs.Commands.{optionsOf, processingOptions, cryptogramOf, generateAc, checksumList, checksumOf, checksumWith, computeChecksum}
 use Rattle.record.specs.declared.Phase.{Phase}
-use Rattle.record.specs.Numbers.{goesWith, outcomeFor}
+use Rattle.record.specs.declared.Session.{Session}
+use Rattle.record.specs.Numbers.{outcomeFor}
 use Rattle.basics.specs.Reason.{reasonLink, reasonMode}
-use Rattle.store.specs.Held.{lengthIn}
-use Rattle.record.specs.Ranges.{isBrought, brought, lastAbsent, running, optionsRanges, inRanges, allFit, objectFits, freshRanges, endedRanges, recordRanges, cryptogramRanges, checksumRanges, completed, trackCompleted}
+use Rattle.record.specs.Ranges.{isBrought, brought, completed, trackCompleted}
 use Rattle.record.specs.Session.{freshSession, endOf, parametersOf}
+use Rattle.record.proofs.Phases.{fresh-keeps}
 use Rattle.terminal.specs.Terminal.{typeListed, settable, setObject, setAll, load}
-use Rattle.session.specs.Steps.{withResults, admitted, withFindings}
+use Rattle.session.specs.Steps.{withResults, withFindings}
 use Rattle.session.specs.Start.{askOptions}
 use Rattle.session.specs.Stripe.{askChecksum, stripeRead, withDigits, checksumRead, checksumTaken, checksumReply}
 use Rattle.stripe.specs.Track.{before, discretionary}
 use Rattle.stripe.specs.Bitmap.{placesFrom, places, within, sound}
 use Rattle.session.specs.Answer.{storedReason, optionsRead, optionsStep, optionsReason, recordStep, recordRead, lastRead, recordsRead, analysed, askedIn, askCryptogram}
-use Rattle.trace.specs.Calls.{Call, start, answer, link-failed, stop, play, final, said, commands, taken}
+use Rattle.trace.specs.Calls.{Call, start, answer, link-failed, stop, Made, play, final, said, commands, taken}
 use Rattle.trace.specs.Order.{firstIn77, broughtLocator, broughtProfile, firstAnswer, acceptedLocator, options, record-command, cryptogram, checksum, lastFor, lastKind, published}
 use Rattle.basics.specs.Alike.{alike}
 use Rattle.tlv.specs.Tree.{count, nextOf, withLeaf, withNode, parse}
@@ -55,6 +56,7 @@ use Rattle.analysis.specs.Verification.{rulesFrom, recognised, supported, amoun
 use Rattle.analysis.specs.Action.{phoneIn, limitOf, aboveLimit, usageIn, restrictionsOf, resultOf, sameCurrency, termsIn, verifiedIn, fullResult, findingsOf, codesOf, chosen}
 use Rattle.record.specs.declared.Outcome.{Outcome}
 use Rattle.record.specs.declared.Answer.{Answer}
+use Rattle.trace.proofs.InRanges.{playIn, finalIn, play-in, final-in}
 
 -- ---- lists of calls
 
@@ -121,19 +123,23 @@ pub record Worked : Type 0 where
   not-emv-end : final freshSession notEmv .phase ≡ Phase.Ended (endOf (outcomeFor reasonMode) reasonMode)
 
 pub worked : Worked
-unfolding commands play final taken acceptedLocator firstAnswer broughtLocator optionsReason admitted endedRanges goesWith outcomeFor inRanges allFit objectFits lengthIn lengthByte freshRanges optionsRanges running lastAbsent askOptions processingOptions optionsOf filledBy fillingOf listEntries recurse recurseBy along lengthBytes optionsStep storedReason optionsRead recordAt kth nth accepts wholeEntries entriesOf keeps sumOf recordsOf runOf readAnswer goodLength goodStatus isRead readBody bodyOf primitiveParts optionsParts takeAll takeNext takeItem allowed mayCome mayStand withResults placeOf load primitives withObject primitiveOf headerOf tagAt tagSize secondByte thirdByte lengthAt firstByte isTemplate isPrivate numberFrom if both either every rows past find settable setObject setAll fitting digitsFit numeric nibbles typeListed listed offsetIn placeAt held valueAt putAt valueIn brought isBrought
+unfolding commands playIn finalIn taken acceptedLocator firstAnswer broughtLocator optionsReason outcomeFor askOptions processingOptions optionsOf filledBy fillingOf listEntries recurse
+    recurseBy along lengthBytes optionsStep storedReason optionsRead recordAt kth nth accepts wholeEntries entriesOf keeps sumOf recordsOf runOf readAnswer goodLength goodStatus isRead
+    readBody bodyOf primitiveParts optionsParts takeAll takeNext takeItem allowed mayCome mayStand withResults placeOf load primitives withObject primitiveOf headerOf tagAt tagSize
+    secondByte thirdByte lengthAt firstByte isTemplate isPrivate numberFrom if both either every rows past find settable setObject setAll fitting digitsFit numeric nibbles typeListed listed
+    offsetIn placeAt held valueAt putAt valueIn brought isBrought
 worked =
     record {
-      begun-sent = refl;
-      begun-accepted = refl;
-      interrupted-sent = refl;
-      interrupted-taken = refl;
-      torn-sent = refl;
-      torn-taken = refl;
-      torn-end = refl;
+      begun-sent = ap commands (play-in freshSession fresh-keeps begun);
+      begun-accepted = ap acceptedLocator (play-in freshSession fresh-keeps begun);
+      interrupted-sent = ap commands (play-in freshSession fresh-keeps interrupted);
+      interrupted-taken = ap (λ (ms : List Made). length (taken ms)) (play-in freshSession fresh-keeps interrupted);
+      torn-sent = ap commands (play-in freshSession fresh-keeps torn);
+      torn-taken = ap (λ (ms : List Made). length (taken ms)) (play-in freshSession fresh-keeps torn);
+      torn-end = ap (λ (s : Session). s .phase) (final-in freshSession fresh-keeps torn);
       not-emv-brought = refl;
-      not-emv-accepted = refl;
-      not-emv-end = refl;
+      not-emv-accepted = ap acceptedLocator (play-in freshSession fresh-keeps notEmv);
+      not-emv-end = ap (λ (s : Session). s .phase) (final-in freshSession fresh-keeps notEmv);
     }
 
 -- ---- the published order
@@ -155,34 +161,39 @@ ruleRecord =
     0x8C ∷ 0x05 ∷ 0x95 ∷ 0x05 ∷ 0x9F ∷ 0x34 ∷ 0x03 ∷
     0x8E ∷ 0x0C ∷ 0x00 ∷ 0x00 ∷ 0x00 ∷ 0x00 ∷ 0x00 ∷ 0x00 ∷ 0x00 ∷ 0x00 ∷ 0x42 ∷ 0x03 ∷ 0x5E ∷ 0x03 ∷ 0x90 ∷ 0x00 ∷ []
 
+-- a start, processing options and the record; and then the link fails
+abbrev asking : List ℕ → List Call
+asking profile = start startBytes lent ∷ answer profile lent ∷ answer ruleRecord lent ∷ []
+
+abbrev failing : List ℕ → List Call
+failing profile = start startBytes lent ∷ answer profile lent ∷ answer ruleRecord lent ∷ link-failed lent ∷ []
+
 -- 8C is filled with the bit of an online PIN and with 9F34. The link fails, and the outcome tells the method
-verified : map said (play freshSession (start startBytes lent ∷ answer verifyingAnswer lent ∷ answer ruleRecord lent ∷ link-failed lent ∷ []))
+verified : map said (play freshSession (failing verifyingAnswer))
     ≡ Answer.Command (record { size = 8 }) ∷ Answer.Command (record { size = 5 }) ∷ Answer.Command (record { size = 14 })
     ∷ Answer.Outcome (parametersOf Outcome.Ended 9 2) ∷ []
-unfolding commands play final taken admitted endedRanges goesWith outcomeFor inRanges allFit objectFits lengthIn lengthByte freshRanges optionsRanges recordRanges cryptogramRanges
-    completed running lastAbsent askOptions processingOptions optionsOf filledBy fillingOf listEntries recurse recurseBy along lengthBytes withLength entryAt withEntry cut padding padded
-    fitted entryBytes cryptogramOf generateAc optionsStep storedReason optionsRead recordAt kth nth accepts wholeEntries entriesOf keeps sumOf recordsOf runOf readAnswer goodLength goodStatus
-    isRead readBody bodyOf primitiveParts optionsParts templateParts parse nextOf withLeaf withNode count items takeAll takeNext takeItem allowed mayCome mayStand withResults withFindings placeOf
-    load primitives withObject primitiveOf headerOf tagAt tagSize secondByte thirdByte lengthAt firstByte isTemplate isPrivate numberFrom if both either every rows past find settable setObject
-    setAll fitting digitsFit numeric nibbles digitsThenFs compressed typeListed listed offsetIn placeAt held valueAt putAt valueIn brought isBrought recordStep recordRead lastRead recordsRead analysed
-    askedIn askCryptogram phoneIn limitOf aboveLimit usageIn restrictionsOf resultOf sameCurrency termsIn verifiedIn fullResult findingsOf codesOf chosen bit front decimalFrom yearOf dateOf laterThan
-    amountOf amountAbove otherVersion notYetEffective atAtm countryOf cashback usageBroken withBits holdsBit lowestFrom lowestBit cardCode heldAt capabilityAt choiceOf rulesFrom recognised
-    supported amountMet met takenBy unsuccessful byRules verification onDevice alike
-verified = refl
+unfolding commands playIn finalIn taken outcomeFor completed askOptions processingOptions optionsOf filledBy fillingOf listEntries recurse recurseBy along lengthBytes withLength entryAt
+    withEntry cut padding padded fitted entryBytes cryptogramOf generateAc optionsStep storedReason optionsRead recordAt kth nth accepts wholeEntries entriesOf keeps sumOf recordsOf runOf
+    readAnswer goodLength goodStatus isRead readBody bodyOf primitiveParts optionsParts templateParts parse nextOf withLeaf withNode count items takeAll takeNext takeItem allowed mayCome
+    mayStand withResults withFindings placeOf load primitives withObject primitiveOf headerOf tagAt tagSize secondByte thirdByte lengthAt firstByte isTemplate isPrivate numberFrom if both
+    either every rows past find settable setObject setAll fitting digitsFit numeric nibbles digitsThenFs compressed typeListed listed offsetIn placeAt held valueAt putAt valueIn brought
+    isBrought recordStep recordRead lastRead recordsRead analysed askedIn askCryptogram phoneIn limitOf aboveLimit usageIn restrictionsOf resultOf sameCurrency termsIn verifiedIn fullResult
+    findingsOf codesOf chosen bit front decimalFrom yearOf dateOf laterThan amountOf amountAbove otherVersion notYetEffective atAtm countryOf cashback usageBroken withBits holdsBit
+    lowestFrom lowestBit cardCode heldAt capabilityAt choiceOf rulesFrom recognised supported amountMet met takenBy unsuccessful byRules verification onDevice alike
+verified = ap (map said) (play-in freshSession fresh-keeps (failing verifyingAnswer))
 
-verified-sent : commands (play freshSession (start startBytes lent ∷ answer verifyingAnswer lent ∷ answer ruleRecord lent ∷ []))
+verified-sent : commands (play freshSession (asking verifyingAnswer))
     ≡ optionsCommand ∷ recordCommand
     ∷ (0x80 ∷ 0xAE ∷ 0x80 ∷ 0x00 ∷ 0x08 ∷ 0x80 ∷ 0x00 ∷ 0x04 ∷ 0x00 ∷ 0x00 ∷ 0x42 ∷ 0x03 ∷ 0x00 ∷ 0x00 ∷ []) ∷ []
-unfolding commands play final taken admitted endedRanges goesWith outcomeFor inRanges allFit objectFits lengthIn lengthByte freshRanges optionsRanges recordRanges cryptogramRanges
-    completed running lastAbsent askOptions processingOptions optionsOf filledBy fillingOf listEntries recurse recurseBy along lengthBytes withLength entryAt withEntry cut padding padded
-    fitted entryBytes cryptogramOf generateAc optionsStep storedReason optionsRead recordAt kth nth accepts wholeEntries entriesOf keeps sumOf recordsOf runOf readAnswer goodLength goodStatus
-    isRead readBody bodyOf primitiveParts optionsParts templateParts parse nextOf withLeaf withNode count items takeAll takeNext takeItem allowed mayCome mayStand withResults withFindings placeOf
-    load primitives withObject primitiveOf headerOf tagAt tagSize secondByte thirdByte lengthAt firstByte isTemplate isPrivate numberFrom if both either every rows past find settable setObject
-    setAll fitting digitsFit numeric nibbles digitsThenFs compressed typeListed listed offsetIn placeAt held valueAt putAt valueIn brought isBrought recordStep recordRead lastRead recordsRead analysed
-    askedIn askCryptogram phoneIn limitOf aboveLimit usageIn restrictionsOf resultOf sameCurrency termsIn verifiedIn fullResult findingsOf codesOf chosen bit front decimalFrom yearOf dateOf laterThan
-    amountOf amountAbove otherVersion notYetEffective atAtm countryOf cashback usageBroken withBits holdsBit lowestFrom lowestBit cardCode heldAt capabilityAt choiceOf rulesFrom recognised
-    supported amountMet met takenBy unsuccessful byRules verification onDevice alike
-verified-sent = refl
+unfolding commands playIn finalIn taken outcomeFor completed askOptions processingOptions optionsOf filledBy fillingOf listEntries recurse recurseBy along lengthBytes withLength entryAt
+    withEntry cut padding padded fitted entryBytes cryptogramOf generateAc optionsStep storedReason optionsRead recordAt kth nth accepts wholeEntries entriesOf keeps sumOf recordsOf runOf
+    readAnswer goodLength goodStatus isRead readBody bodyOf primitiveParts optionsParts templateParts parse nextOf withLeaf withNode count items takeAll takeNext takeItem allowed mayCome
+    mayStand withResults withFindings placeOf load primitives withObject primitiveOf headerOf tagAt tagSize secondByte thirdByte lengthAt firstByte isTemplate isPrivate numberFrom if both
+    either every rows past find settable setObject setAll fitting digitsFit numeric nibbles digitsThenFs compressed typeListed listed offsetIn placeAt held valueAt putAt valueIn brought
+    isBrought recordStep recordRead lastRead recordsRead analysed askedIn askCryptogram phoneIn limitOf aboveLimit usageIn restrictionsOf resultOf sameCurrency termsIn verifiedIn fullResult
+    findingsOf codesOf chosen bit front decimalFrom yearOf dateOf laterThan amountOf amountAbove otherVersion notYetEffective atAtm countryOf cashback usageBroken withBits holdsBit
+    lowestFrom lowestBit cardCode heldAt capabilityAt choiceOf rulesFrom recognised supported amountMet met takenBy unsuccessful byRules verification onDevice alike
+verified-sent = ap commands (play-in freshSession fresh-keeps (asking verifyingAnswer))
 
 -- ---- a phone
 
@@ -190,46 +201,43 @@ verified-sent = refl
 abbrev phoneAnswer : List ℕ
 phoneAnswer = 0x80 ∷ 0x06 ∷ 0x12 ∷ 0x80 ∷ 0x08 ∷ 0x01 ∷ 0x01 ∷ 0x00 ∷ 0x90 ∷ 0x00 ∷ []
 
-phone : map said (play freshSession (start startBytes lent ∷ answer phoneAnswer lent ∷ answer ruleRecord lent ∷ link-failed lent ∷ []))
+phone : map said (play freshSession (failing phoneAnswer))
     ≡ Answer.Command (record { size = 8 }) ∷ Answer.Command (record { size = 5 }) ∷ Answer.Command (record { size = 14 })
     ∷ Answer.Outcome (parametersOf Outcome.Ended 9 3) ∷ []
-unfolding commands play final taken admitted endedRanges goesWith outcomeFor inRanges allFit objectFits lengthIn lengthByte freshRanges optionsRanges recordRanges cryptogramRanges
-    completed running lastAbsent askOptions processingOptions optionsOf filledBy fillingOf listEntries recurse recurseBy along lengthBytes withLength entryAt withEntry cut padding padded
-    fitted entryBytes cryptogramOf generateAc optionsStep storedReason optionsRead recordAt kth nth accepts wholeEntries entriesOf keeps sumOf recordsOf runOf readAnswer goodLength goodStatus
-    isRead readBody bodyOf primitiveParts optionsParts templateParts parse nextOf withLeaf withNode count items takeAll takeNext takeItem allowed mayCome mayStand withResults withFindings placeOf
-    load primitives withObject primitiveOf headerOf tagAt tagSize secondByte thirdByte lengthAt firstByte isTemplate isPrivate numberFrom if both either every rows past find settable setObject
-    setAll fitting digitsFit numeric nibbles digitsThenFs compressed typeListed listed offsetIn placeAt held valueAt putAt valueIn brought isBrought recordStep recordRead lastRead recordsRead analysed
-    askedIn askCryptogram phoneIn limitOf aboveLimit usageIn restrictionsOf resultOf sameCurrency termsIn verifiedIn fullResult findingsOf codesOf chosen bit front decimalFrom yearOf dateOf laterThan
-    amountOf amountAbove otherVersion notYetEffective atAtm countryOf cashback usageBroken withBits holdsBit lowestFrom lowestBit cardCode heldAt capabilityAt choiceOf rulesFrom recognised
-    supported amountMet met takenBy unsuccessful byRules verification onDevice byPhone alike
-phone = refl
+unfolding commands playIn finalIn taken outcomeFor completed askOptions processingOptions optionsOf filledBy fillingOf listEntries recurse recurseBy along lengthBytes withLength entryAt
+    withEntry cut padding padded fitted entryBytes cryptogramOf generateAc optionsStep storedReason optionsRead recordAt kth nth accepts wholeEntries entriesOf keeps sumOf recordsOf runOf
+    readAnswer goodLength goodStatus isRead readBody bodyOf primitiveParts optionsParts templateParts parse nextOf withLeaf withNode count items takeAll takeNext takeItem allowed mayCome
+    mayStand withResults withFindings placeOf load primitives withObject primitiveOf headerOf tagAt tagSize secondByte thirdByte lengthAt firstByte isTemplate isPrivate numberFrom if both
+    either every rows past find settable setObject setAll fitting digitsFit numeric nibbles digitsThenFs compressed typeListed listed offsetIn placeAt held valueAt putAt valueIn brought
+    isBrought recordStep recordRead lastRead recordsRead analysed askedIn askCryptogram phoneIn limitOf aboveLimit usageIn restrictionsOf resultOf sameCurrency termsIn verifiedIn fullResult
+    findingsOf codesOf chosen bit front decimalFrom yearOf dateOf laterThan amountOf amountAbove otherVersion notYetEffective atAtm countryOf cashback usageBroken withBits holdsBit
+    lowestFrom lowestBit cardCode heldAt capabilityAt choiceOf rulesFrom recognised supported amountMet met takenBy unsuccessful byRules verification onDevice byPhone alike
+phone = ap (map said) (play-in freshSession fresh-keeps (failing phoneAnswer))
 
-phone-held : final freshSession (start startBytes lent ∷ answer phoneAnswer lent ∷ answer ruleRecord lent ∷ []) .phase
+phone-held : final freshSession (asking phoneAnswer) .phase
     ≡ Phase.Cryptogram (record { choice = Choice.Online; method = Method.ConfirmationCode; limit = 50000 })
-unfolding commands play final taken admitted endedRanges goesWith outcomeFor inRanges allFit objectFits lengthIn lengthByte freshRanges optionsRanges recordRanges cryptogramRanges
-    completed running lastAbsent askOptions processingOptions optionsOf filledBy fillingOf listEntries recurse recurseBy along lengthBytes withLength entryAt withEntry cut padding padded
-    fitted entryBytes cryptogramOf generateAc optionsStep storedReason optionsRead recordAt kth nth accepts wholeEntries entriesOf keeps sumOf recordsOf runOf readAnswer goodLength goodStatus
-    isRead readBody bodyOf primitiveParts optionsParts templateParts parse nextOf withLeaf withNode count items takeAll takeNext takeItem allowed mayCome mayStand withResults withFindings placeOf
-    load primitives withObject primitiveOf headerOf tagAt tagSize secondByte thirdByte lengthAt firstByte isTemplate isPrivate numberFrom if both either every rows past find settable setObject
-    setAll fitting digitsFit numeric nibbles digitsThenFs compressed typeListed listed offsetIn placeAt held valueAt putAt valueIn brought isBrought recordStep recordRead lastRead recordsRead analysed
-    askedIn askCryptogram phoneIn limitOf aboveLimit usageIn restrictionsOf resultOf sameCurrency termsIn verifiedIn fullResult findingsOf codesOf chosen bit front decimalFrom yearOf dateOf laterThan
-    amountOf amountAbove otherVersion notYetEffective atAtm countryOf cashback usageBroken withBits holdsBit lowestFrom lowestBit cardCode heldAt capabilityAt choiceOf rulesFrom recognised
-    supported amountMet met takenBy unsuccessful byRules verification onDevice byPhone alike
-phone-held = refl
+unfolding commands playIn finalIn taken outcomeFor completed askOptions processingOptions optionsOf filledBy fillingOf listEntries recurse recurseBy along lengthBytes withLength entryAt
+    withEntry cut padding padded fitted entryBytes cryptogramOf generateAc optionsStep storedReason optionsRead recordAt kth nth accepts wholeEntries entriesOf keeps sumOf recordsOf runOf
+    readAnswer goodLength goodStatus isRead readBody bodyOf primitiveParts optionsParts templateParts parse nextOf withLeaf withNode count items takeAll takeNext takeItem allowed mayCome
+    mayStand withResults withFindings placeOf load primitives withObject primitiveOf headerOf tagAt tagSize secondByte thirdByte lengthAt firstByte isTemplate isPrivate numberFrom if both
+    either every rows past find settable setObject setAll fitting digitsFit numeric nibbles digitsThenFs compressed typeListed listed offsetIn placeAt held valueAt putAt valueIn brought
+    isBrought recordStep recordRead lastRead recordsRead analysed askedIn askCryptogram phoneIn limitOf aboveLimit usageIn restrictionsOf resultOf sameCurrency termsIn verifiedIn fullResult
+    findingsOf codesOf chosen bit front decimalFrom yearOf dateOf laterThan amountOf amountAbove otherVersion notYetEffective atAtm countryOf cashback usageBroken withBits holdsBit
+    lowestFrom lowestBit cardCode heldAt capabilityAt choiceOf rulesFrom recognised supported amountMet met takenBy unsuccessful byRules verification onDevice byPhone alike
+phone-held = ap (λ (s : Session). s .phase) (final-in freshSession fresh-keeps (asking phoneAnswer))
 
-phone-sent : commands (play freshSession (start startBytes lent ∷ answer phoneAnswer lent ∷ answer ruleRecord lent ∷ []))
+phone-sent : commands (play freshSession (asking phoneAnswer))
     ≡ optionsCommand ∷ recordCommand
     ∷ (0x80 ∷ 0xAE ∷ 0x80 ∷ 0x00 ∷ 0x08 ∷ 0x80 ∷ 0x00 ∷ 0x00 ∷ 0x00 ∷ 0x00 ∷ 0x01 ∷ 0x00 ∷ 0x02 ∷ 0x00 ∷ []) ∷ []
-unfolding commands play final taken admitted endedRanges goesWith outcomeFor inRanges allFit objectFits lengthIn lengthByte freshRanges optionsRanges recordRanges cryptogramRanges
-    completed running lastAbsent askOptions processingOptions optionsOf filledBy fillingOf listEntries recurse recurseBy along lengthBytes withLength entryAt withEntry cut padding padded
-    fitted entryBytes cryptogramOf generateAc optionsStep storedReason optionsRead recordAt kth nth accepts wholeEntries entriesOf keeps sumOf recordsOf runOf readAnswer goodLength goodStatus
-    isRead readBody bodyOf primitiveParts optionsParts templateParts parse nextOf withLeaf withNode count items takeAll takeNext takeItem allowed mayCome mayStand withResults withFindings placeOf
-    load primitives withObject primitiveOf headerOf tagAt tagSize secondByte thirdByte lengthAt firstByte isTemplate isPrivate numberFrom if both either every rows past find settable setObject
-    setAll fitting digitsFit numeric nibbles digitsThenFs compressed typeListed listed offsetIn placeAt held valueAt putAt valueIn brought isBrought recordStep recordRead lastRead recordsRead analysed
-    askedIn askCryptogram phoneIn limitOf aboveLimit usageIn restrictionsOf resultOf sameCurrency termsIn verifiedIn fullResult findingsOf codesOf chosen bit front decimalFrom yearOf dateOf laterThan
-    amountOf amountAbove otherVersion notYetEffective atAtm countryOf cashback usageBroken withBits holdsBit lowestFrom lowestBit cardCode heldAt capabilityAt choiceOf rulesFrom recognised
-    supported amountMet met takenBy unsuccessful byRules verification onDevice byPhone alike
-phone-sent = refl
+unfolding commands playIn finalIn taken outcomeFor completed askOptions processingOptions optionsOf filledBy fillingOf listEntries recurse recurseBy along lengthBytes withLength entryAt
+    withEntry cut padding padded fitted entryBytes cryptogramOf generateAc optionsStep storedReason optionsRead recordAt kth nth accepts wholeEntries entriesOf keeps sumOf recordsOf runOf
+    readAnswer goodLength goodStatus isRead readBody bodyOf primitiveParts optionsParts templateParts parse nextOf withLeaf withNode count items takeAll takeNext takeItem allowed mayCome
+    mayStand withResults withFindings placeOf load primitives withObject primitiveOf headerOf tagAt tagSize secondByte thirdByte lengthAt firstByte isTemplate isPrivate numberFrom if both
+    either every rows past find settable setObject setAll fitting digitsFit numeric nibbles digitsThenFs compressed typeListed listed offsetIn placeAt held valueAt putAt valueIn brought
+    isBrought recordStep recordRead lastRead recordsRead analysed askedIn askCryptogram phoneIn limitOf aboveLimit usageIn restrictionsOf resultOf sameCurrency termsIn verifiedIn fullResult
+    findingsOf codesOf chosen bit front decimalFrom yearOf dateOf laterThan amountOf amountAbove otherVersion notYetEffective atAtm countryOf cashback usageBroken withBits holdsBit
+    lowestFrom lowestBit cardCode heldAt capabilityAt choiceOf rulesFrom recognised supported amountMet met takenBy unsuccessful byRules verification onDevice byPhone alike
+phone-sent = ap commands (play-in freshSession fresh-keeps (asking phoneAnswer))
 
 -- ---- mag-stripe mode
 
@@ -242,6 +250,9 @@ trackRecord =
 abbrev checksumAnswer : List ℕ
 checksumAnswer = 0x77 ∷ 0x0A ∷ 0x9F ∷ 0x36 ∷ 0x02 ∷ 0x00 ∷ 0x2A ∷ 0x9F ∷ 0x61 ∷ 0x02 ∷ 0x1F ∷ 0x35 ∷ 0x90 ∷ 0x00 ∷ []
 
+abbrev begunStripe : List Call
+begunStripe = start startBytes lent ∷ answer stripeAnswer lent ∷ answer trackRecord lent ∷ []
+
 abbrev striped : List Call
 striped = start startBytes lent ∷ answer stripeAnswer lent ∷ answer trackRecord lent ∷ answer checksumAnswer lent ∷ []
 
@@ -249,33 +260,30 @@ striped = start startBytes lent ∷ answer stripeAnswer lent ∷ answer trackRec
 striped-said : map said (play freshSession striped)
     ≡ Answer.Command (record { size = 8 }) ∷ Answer.Command (record { size = 5 }) ∷ Answer.Command (record { size = 10 })
     ∷ Answer.Outcome (parametersOf Outcome.OnlineRequest 0 15) ∷ []
-unfolding commands play final taken admitted endedRanges goesWith outcomeFor inRanges allFit objectFits lengthIn lengthByte freshRanges optionsRanges recordRanges cryptogramRanges
-    completed running lastAbsent askOptions processingOptions optionsOf filledBy fillingOf listEntries recurse recurseBy along lengthBytes withLength entryAt withEntry cut padding padded
-    fitted entryBytes cryptogramOf generateAc optionsStep storedReason optionsRead recordAt kth nth accepts wholeEntries entriesOf keeps sumOf recordsOf runOf readAnswer goodLength goodStatus
-    isRead readBody bodyOf primitiveParts optionsParts templateParts parse nextOf withLeaf withNode count items takeAll takeNext takeItem allowed mayCome mayStand withResults withFindings placeOf
-    load primitives withObject primitiveOf headerOf tagAt tagSize secondByte thirdByte lengthAt firstByte isTemplate isPrivate numberFrom if both either every rows past find settable setObject
-    setAll fitting digitsFit numeric nibbles digitsThenFs compressed typeListed listed offsetIn placeAt held valueAt putAt valueIn brought isBrought recordStep recordRead lastRead recordsRead analysed
-    askedIn askCryptogram phoneIn limitOf aboveLimit usageIn restrictionsOf resultOf sameCurrency termsIn verifiedIn fullResult findingsOf codesOf chosen bit front decimalFrom yearOf dateOf laterThan
-    amountOf amountAbove otherVersion notYetEffective atAtm countryOf cashback usageBroken withBits holdsBit lowestFrom lowestBit cardCode heldAt capabilityAt choiceOf rulesFrom recognised
-    supported amountMet met takenBy unsuccessful byRules verification onDevice alike
-    checksumRanges trackCompleted checksumList checksumOf checksumWith computeChecksum askChecksum stripeRead checksumRead checksumTaken checksumReply
-    before discretionary placesFrom places within sound
-striped-said = refl
+unfolding commands playIn finalIn taken outcomeFor completed askOptions processingOptions optionsOf filledBy fillingOf listEntries recurse recurseBy along lengthBytes withLength entryAt
+    withEntry cut padding padded fitted entryBytes cryptogramOf generateAc optionsStep storedReason optionsRead recordAt kth nth accepts wholeEntries entriesOf keeps sumOf recordsOf runOf
+    readAnswer goodLength goodStatus isRead readBody bodyOf primitiveParts optionsParts templateParts parse nextOf withLeaf withNode count items takeAll takeNext takeItem allowed mayCome
+    mayStand withResults withFindings placeOf load primitives withObject primitiveOf headerOf tagAt tagSize secondByte thirdByte lengthAt firstByte isTemplate isPrivate numberFrom if both
+    either every rows past find settable setObject setAll fitting digitsFit numeric nibbles digitsThenFs compressed typeListed listed offsetIn placeAt held valueAt putAt valueIn brought
+    isBrought recordStep recordRead lastRead recordsRead analysed askedIn askCryptogram phoneIn limitOf aboveLimit usageIn restrictionsOf resultOf sameCurrency termsIn verifiedIn fullResult
+    findingsOf codesOf chosen bit front decimalFrom yearOf dateOf laterThan amountOf amountAbove otherVersion notYetEffective atAtm countryOf cashback usageBroken withBits holdsBit
+    lowestFrom lowestBit cardCode heldAt capabilityAt choiceOf rulesFrom recognised supported amountMet met takenBy unsuccessful byRules verification onDevice alike trackCompleted
+    checksumList checksumOf checksumWith computeChecksum askChecksum stripeRead checksumRead checksumTaken checksumReply before discretionary placesFrom places within sound
+striped-said = ap (map said) (play-in freshSession fresh-keeps striped)
 
 -- the list is the default one: 9F6A in four bytes
-striped-sent : commands (play freshSession (start startBytes lent ∷ answer stripeAnswer lent ∷ answer trackRecord lent ∷ []))
+striped-sent : commands (play freshSession begunStripe)
     ≡ optionsCommand ∷ recordCommand ∷ (0x80 ∷ 0x2A ∷ 0x8E ∷ 0x80 ∷ 0x04 ∷ 0x00 ∷ 0x00 ∷ 0x34 ∷ 0x56 ∷ 0x00 ∷ []) ∷ []
-unfolding commands play final taken admitted endedRanges goesWith outcomeFor inRanges allFit objectFits lengthIn lengthByte freshRanges optionsRanges recordRanges cryptogramRanges
-    completed running lastAbsent askOptions processingOptions optionsOf filledBy fillingOf listEntries recurse recurseBy along lengthBytes withLength entryAt withEntry cut padding padded
-    fitted entryBytes cryptogramOf generateAc optionsStep storedReason optionsRead recordAt kth nth accepts wholeEntries entriesOf keeps sumOf recordsOf runOf readAnswer goodLength goodStatus
-    isRead readBody bodyOf primitiveParts optionsParts templateParts parse nextOf withLeaf withNode count items takeAll takeNext takeItem allowed mayCome mayStand withResults withFindings placeOf
-    load primitives withObject primitiveOf headerOf tagAt tagSize secondByte thirdByte lengthAt firstByte isTemplate isPrivate numberFrom if both either every rows past find settable setObject
-    setAll fitting digitsFit numeric nibbles digitsThenFs compressed typeListed listed offsetIn placeAt held valueAt putAt valueIn brought isBrought recordStep recordRead lastRead recordsRead analysed
-    askedIn askCryptogram phoneIn limitOf aboveLimit usageIn restrictionsOf resultOf sameCurrency termsIn verifiedIn fullResult findingsOf codesOf chosen bit front decimalFrom yearOf dateOf laterThan
-    amountOf amountAbove otherVersion notYetEffective atAtm countryOf cashback usageBroken withBits holdsBit lowestFrom lowestBit cardCode heldAt capabilityAt choiceOf rulesFrom recognised
-    supported amountMet met takenBy unsuccessful byRules verification onDevice alike
-    checksumRanges trackCompleted checksumList checksumOf checksumWith computeChecksum askChecksum stripeRead
-striped-sent = refl
+unfolding commands playIn finalIn taken outcomeFor completed askOptions processingOptions optionsOf filledBy fillingOf listEntries recurse recurseBy along lengthBytes withLength entryAt
+    withEntry cut padding padded fitted entryBytes cryptogramOf generateAc optionsStep storedReason optionsRead recordAt kth nth accepts wholeEntries entriesOf keeps sumOf recordsOf runOf
+    readAnswer goodLength goodStatus isRead readBody bodyOf primitiveParts optionsParts templateParts parse nextOf withLeaf withNode count items takeAll takeNext takeItem allowed mayCome
+    mayStand withResults withFindings placeOf load primitives withObject primitiveOf headerOf tagAt tagSize secondByte thirdByte lengthAt firstByte isTemplate isPrivate numberFrom if both
+    either every rows past find settable setObject setAll fitting digitsFit numeric nibbles digitsThenFs compressed typeListed listed offsetIn placeAt held valueAt putAt valueIn brought
+    isBrought recordStep recordRead lastRead recordsRead analysed askedIn askCryptogram phoneIn limitOf aboveLimit usageIn restrictionsOf resultOf sameCurrency termsIn verifiedIn fullResult
+    findingsOf codesOf chosen bit front decimalFrom yearOf dateOf laterThan amountOf amountAbove otherVersion notYetEffective atAtm countryOf cashback usageBroken withBits holdsBit
+    lowestFrom lowestBit cardCode heldAt capabilityAt choiceOf rulesFrom recognised supported amountMet met takenBy unsuccessful byRules verification onDevice alike trackCompleted
+    checksumList checksumOf checksumWith computeChecksum askChecksum stripeRead
+striped-sent = ap commands (play-in freshSession fresh-keeps begunStripe)
 
 -- the published order's last command by the bytes of the first answer, under 80 and in a 77
 last-commands : map (λ a. lastFor (broughtProfile a))

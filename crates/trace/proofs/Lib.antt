@@ -6,5 +6,6 @@ pub mod Rules
 pub mod Long
 pub mod Brought
 pub mod Trace
+pub mod InRanges
 pub mod Examples
 pub mod Methods

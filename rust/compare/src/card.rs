@@ -4,7 +4,7 @@ use crate::damage;
 use crate::objects::{self, TEMPLATES, UNKNOWN};
 use crate::rng::Rng;
 use crate::track;
-use model::dictionary::{Object, Setter};
+use model::dictionary::{Object, Templates};
 use model::locator;
 use model::store::{self, Store};
 
@@ -105,7 +105,7 @@ fn padded_outside(rng: &mut Rng, body: Vec<u8>) -> Vec<u8> {
 fn long_record(rng: &mut Rng, length: usize) -> Vec<u8> {
     let inner = length - 4;
     let mut body = vec![0x70, 0x82, (inner >> 8) as u8, inner as u8];
-    body.extend([rng.pick(&[0x50, 0xC1]), 0x81, (inner - 3) as u8]);
+    body.extend([rng.pick(&[0x51, 0xC1]), 0x81, (inner - 3) as u8]);
     body.resize(length, rng.byte());
     body
 }
@@ -132,6 +132,7 @@ fn options(rng: &mut Rng, store: &Store, fault: Option<usize>) -> Vec<u8> {
         objects::object(rng, 0x94, &locator),
     ];
     if locator.len() < 200 {
+        more_objects(rng, store, Templates::T77, &mut list);
         noise(rng, store, &mut list);
     }
     shuffle(rng, &mut list);
@@ -189,7 +190,8 @@ fn record(rng: &mut Rng, store: &Store, k: u32, fault: Option<usize>) -> Vec<u8>
         }
     }
     let rate = rng.pick(&[2, 3, 6, 12]);
-    for object in objects::of_setter(Setter::Card70) {
+    let unused = rng.pick(&[0, 0, 12, 30]);
+    for object in objects::in_template(Templates::T70) {
         let code = matches!(
             object,
             Object::IssuerActionDefault | Object::IssuerActionOnline
@@ -199,6 +201,8 @@ fn record(rng: &mut Rng, store: &Store, k: u32, fault: Option<usize>) -> Vec<u8>
                 rng.percent(if last { 75 } else { 30 })
             }
             Object::Udol if stripe => rng.percent(if last { 50 } else { 20 }),
+            Object::Track2 | Object::PanSequenceNumber => rng.one_in(rate),
+            _ if !objects::is_used(object) => rng.one_in(unused),
             _ => rng.one_in(if code { 2 } else { rate }),
         };
         if wanted && !needed.contains(&object) && !store::has_value(store, object) {
@@ -259,6 +263,7 @@ fn cryptogram(rng: &mut Rng, store: &Store, asked: u8, fault: Option<usize>) -> 
         objects::object(rng, 0x9F36, &counter),
         objects::object(rng, 0x9F26, &cryptogram),
     ];
+    more_objects(rng, store, Templates::T77, &mut list);
     noise(rng, store, &mut list);
     if rng.one_in(8) {
         list.extend(late_code(rng, store));
@@ -297,6 +302,7 @@ fn checksum(rng: &mut Rng, store: &Store, fault: Option<usize>) -> Vec<u8> {
     if rng.percent(85) {
         list.push(objects::object(rng, 0x9F61, &code));
     }
+    more_objects(rng, store, Templates::T77, &mut list);
     noise(rng, store, &mut list);
     if rng.one_in(12) {
         // An object of the card in a template 70, which is not allowed if the session has it.
@@ -356,6 +362,25 @@ fn shuffle(rng: &mut Rng, list: &mut [Vec<u8>]) {
     }
 }
 
+/// Adds objects that may stand in a template, that no step looks at and that the store does not hold.
+fn more_objects(rng: &mut Rng, store: &Store, template: Templates, list: &mut Vec<Vec<u8>>) {
+    if !rng.one_in(4) {
+        return;
+    }
+    let mut left = objects::unused_in(template);
+    left.retain(|&object| !store::has_value(store, object));
+    for _ in 0..rng.pick(&[1, 1, 2, 4]) {
+        if left.is_empty() {
+            return;
+        }
+        let object = left.swap_remove(rng.below(left.len()));
+        let value = objects::good_value(rng, object);
+        if value.len() < 40 {
+            list.push(objects::object(rng, object.row().tag, &value));
+        }
+    }
+}
+
 /// Adds objects that are skipped or allowed: unknown tags, private terminal tags, nested templates.
 fn noise(rng: &mut Rng, store: &Store, list: &mut Vec<Vec<u8>>) {
     if !rng.one_in(3) {
@@ -388,14 +413,16 @@ fn unknown(rng: &mut Rng) -> Vec<u8> {
     objects::object(rng, tag, &value)
 }
 
-/// A private tag of the terminal, of any length.
+/// A private tag of the start or the session, of any length. One that is not known is skipped as well.
 fn private(rng: &mut Rng) -> Vec<u8> {
     let length = rng.below(8);
     let value = rng.bytes(length);
-    // DF8127 is not known, and skipped as well.
-    let tag = rng.pick(&[
-        0xDF811B, 0xDF8120, 0xDF8121, 0xDF8122, 0xDF8123, 0xDF8124, 0xDF8125, 0xDF8126, 0xDF8127,
-    ]);
+    let known = objects::which(|row| !row.is_of_card() && objects::is_private(row.tag));
+    let tag = if rng.one_in(10) {
+        rng.pick(&[0xDF8107, 0xDF8112, 0xDF8308])
+    } else {
+        rng.pick(&known).row().tag
+    };
     objects::object(rng, tag, &value)
 }
 
@@ -416,14 +443,11 @@ fn nested(rng: &mut Rng, store: &Store, levels: usize) -> Vec<u8> {
     if rng.one_in(4) {
         list.push(private(rng));
     }
-    if tag == 0x70 && rng.one_in(3) {
-        let object = rng.pick(&[
-            Object::Track2,
-            Object::PanSequenceNumber,
-            Object::IssuerCountry,
-        ]);
-        if !store::has_value(store, object) {
-            let value = objects::good_value(rng, object);
+    let allowed = objects::unused_in(Templates::of_tag(tag));
+    if !allowed.is_empty() && rng.one_in(3) {
+        let object = rng.pick(&allowed);
+        let value = objects::good_value(rng, object);
+        if !store::has_value(store, object) && value.len() < 24 {
             list.push(objects::object(rng, object.row().tag, &value));
         }
     }
@@ -447,18 +471,7 @@ fn fault_in_objects(
         }
         2 | 3 => {
             // A wrong length or digit in an object that the card may set.
-            let setters: &[Setter] = match outer {
-                0x70 => &[Setter::Card70],
-                _ => &[
-                    Setter::Card77,
-                    Setter::Cryptogram77,
-                    Setter::Checksum77,
-                    Setter::Either77,
-                ],
-            };
-            let setter = rng.pick(setters);
-            let candidates: Vec<Object> = objects::of_setter(setter).collect();
-            let object = rng.pick(&candidates);
+            let object = rng.pick(&objects::in_template(Templates::of_tag(outer)));
             let value = objects::odd_value(rng, object);
             objects::object(rng, object.row().tag, &value)
         }

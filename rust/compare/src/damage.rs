@@ -3,7 +3,7 @@
 use crate::objects;
 use crate::rng::Rng;
 use crate::track;
-use model::dictionary::{Object, Setter, REQUIRED_AT_START, ROWS};
+use model::dictionary::{Answers, Object, Setter, REQUIRED_AT_START, ROWS};
 use model::{analysis, locator, store, HEAD_SIZE, SESSION_SIZE};
 
 /// Flips, cuts, inserts, appends or replaces some bytes.
@@ -338,16 +338,17 @@ pub fn record_of_phase(rng: &mut Rng, phase: usize) -> Vec<u8> {
         return bytes;
     }
     let running = phase != 4;
+    let others = rng.pick(&[2, 3, 8]);
     for object in Object::ALL {
-        let wanted = match object.row().setter {
+        let row = object.row();
+        let wanted = match object {
             _ if REQUIRED_AT_START.contains(&object) => running || rng.one_in(2),
-            Setter::Session if object == Object::VerificationResults => running || rng.one_in(2),
-            Setter::Session => rng.one_in(3),
-            Setter::Start | Setter::Card70 => rng.one_in(2),
-            Setter::Card77 => phase >= 2,
-            Setter::Cryptogram77 | Setter::Checksum77 | Setter::Either77 => {
-                !running && rng.one_in(2)
-            }
+            Object::VerificationResults => running || rng.one_in(2),
+            Object::CvmResults => rng.one_in(3),
+            Object::InterchangeProfile | Object::FileLocator => phase >= 2,
+            _ if row.is_of_card() && row.answers != Answers::All => !running && rng.one_in(2),
+            _ if row.setter == Setter::Session => rng.one_in(others),
+            _ => rng.one_in(if objects::is_used(object) { 2 } else { others }),
         };
         if wanted {
             let value = objects::good_value(rng, object);

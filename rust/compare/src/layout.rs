@@ -3,7 +3,7 @@
 use crate::damage;
 use crate::objects::{self, TEMPLATES, UNKNOWN};
 use crate::rng::Rng;
-use model::dictionary::{Form, Object, Setter};
+use model::dictionary::{Form, Object, Row, Setter, Templates};
 
 /// What a call is lent: the list and its layout, the lengths of the two buffers, and the byte that fills them.
 #[derive(Clone, Debug, PartialEq, Eq)]
@@ -94,11 +94,11 @@ damages! {
         Template,
         /// A tag that the dictionary does not have.
         UnknownTag,
-        /// A tag of template 77.
-        TagOf77,
+        /// A tag that the card may set in other templates alone, or in none.
+        TagOfOther,
         /// A tag of the terminal, private ones too.
         TagOfTerminal,
-        /// The tag of the session.
+        /// A tag of the session.
         TagOfSession,
         /// A length that does not fit the row.
         WrongLength,
@@ -331,7 +331,7 @@ impl Draft {
             records_room: 32_768 + rng.pick(&[0, 0, 0, 1, 5000]),
             locator_room: 248 + rng.pick(&[0, 0, 0, 1, 50]),
         };
-        let mut left: Vec<Object> = objects::of_setter(Setter::Card70).collect();
+        let mut left = objects::in_template(Templates::T70);
         let most = rng.pick(&[0, 1, 2, 3, 6, 12, 12]);
         for _ in 0..most {
             let object = left.swap_remove(rng.below(left.len()));
@@ -393,10 +393,11 @@ impl Draft {
     /// Fills a record with an 8C up to a number of bytes; at least two of them are another object's.
     fn fill(&mut self, rng: &mut Rng, record: u8, target: usize) {
         self.pieces.retain(|piece| piece.tag != 0x8C);
-        if self.content(record) + 2 > target {
-            // The list for cardholder verification and that for the checksum may be as long.
-            self.pieces
-                .retain(|piece| !matches!(piece.tag, 0x8E | 0x9F69));
+        while self.content(record) + 2 > target {
+            // The longest objects go.
+            let sizes = self.pieces.iter().map(|piece| piece.size);
+            let most = sizes.max().unwrap_or(0);
+            self.pieces.retain(|piece| piece.size != most);
         }
         if self.content(record) == 0 {
             self.pieces.retain(|piece| piece.tag != 0x57);
@@ -429,11 +430,7 @@ impl Draft {
     }
 
     fn damage_list(&mut self, rng: &mut Rng, damage: Damage) {
-        let of = |rng: &mut Rng, setters: &[Setter]| {
-            let setter = rng.pick(setters);
-            let all: Vec<Object> = objects::of_setter(setter).collect();
-            rng.pick(&all)
-        };
+        let of_70 = |rng: &mut Rng| rng.pick(&objects::in_template(Templates::T70));
         let value = rng.bytes(2);
         match damage {
             Damage::Broken => {
@@ -447,7 +444,7 @@ impl Draft {
                 }
             }
             Damage::RefusedLength => {
-                let object = of(rng, &[Setter::Card70]);
+                let object = of_70(rng);
                 let mut bytes = Vec::new();
                 objects::put_refused_length(rng, &mut bytes, object.row().tag);
                 self.pieces.retain(|piece| piece.tag != object.row().tag);
@@ -463,23 +460,20 @@ impl Draft {
                 let tag = rng.pick(&UNKNOWN);
                 self.insert(rng, tag, &value);
             }
-            Damage::TagOf77 | Damage::TagOfTerminal | Damage::TagOfSession => {
-                let setters: &[Setter] = match damage {
-                    Damage::TagOf77 => &[
-                        Setter::Card77,
-                        Setter::Cryptogram77,
-                        Setter::Checksum77,
-                        Setter::Either77,
-                    ],
-                    Damage::TagOfTerminal => &[Setter::Start],
-                    _ => &[Setter::Session],
+            Damage::TagOfOther | Damage::TagOfTerminal | Damage::TagOfSession => {
+                let test: fn(&Row) -> bool = match damage {
+                    Damage::TagOfOther => {
+                        |row| row.is_of_card() && !row.templates.meets(Templates::T70)
+                    }
+                    Damage::TagOfTerminal => |row| row.setter == Setter::Start,
+                    _ => |row| row.setter == Setter::Session,
                 };
-                let object = of(rng, setters);
+                let object = rng.pick(&objects::which(test));
                 let value = objects::good_value(rng, object);
                 self.insert(rng, object.row().tag, &value);
             }
             Damage::WrongLength => {
-                let row = of(rng, &[Setter::Card70]).row();
+                let row = of_70(rng).row();
                 let (least, most) = (usize::from(row.least), usize::from(row.most));
                 let above = rng.pick(&[most + 1, most + 1, most + 6, most + 256, 65_535]);
                 let below = rng.within(0..=least.saturating_sub(1));
@@ -491,19 +485,15 @@ impl Draft {
                 self.replace(rng, row.tag, &vec![0x11; length]);
             }
             Damage::WrongDigit => {
-                let object = rng.pick(&[
-                    Object::Pan,
-                    Object::ExpirationDate,
-                    Object::EffectiveDate,
-                    Object::IssuerCountry,
-                    Object::PanSequenceNumber,
-                    Object::ApplicationCurrency,
-                ]);
+                let digits = objects::which(|row| {
+                    row.templates.meets(Templates::T70) && row.form != Form::Binary
+                });
+                let object = rng.pick(&digits);
                 let value = wrong_digits(rng, object);
                 self.replace(rng, object.row().tag, &value);
             }
             Damage::Doubled => {
-                let mut object = of(rng, &[Setter::Card70]);
+                let mut object = of_70(rng);
                 let mut values = [(); 2].map(|()| objects::good_value(rng, object));
                 if values.iter().any(Vec::is_empty) {
                     object = Object::Track2;

@@ -3,7 +3,7 @@
 //! After each call the reply word, the whole command buffer, the count, the explanation and the whole session slice
 //! must be equal. `rng`, `objects`, `track`, `terminal`, `card`, `damage` and `play` draw the sessions; `run`
 //! makes the calls and counts what occurred, `verification` what the choices of a method reached, `limit` which limits
-//! decided, `stripe` what cards without EMV mode reached and `padding` where runs of 00 stood. `reading` compares single readings, with the object count that no call hands out,
+//! decided, `stripe` what cards without EMV mode reached, `rows` which rows of the dictionary and `padding` where runs of 00 stood. `reading` compares single readings, with the object count that no call hands out,
 //! `find` the search for a tag in a card's bytes, and `explain` the explanations of records that no call may have left.
 //! `layout` draws lists of objects and layouts of the card's side, and `personalise` compares what is written for them.
 
@@ -22,6 +22,7 @@ pub mod personalise;
 pub mod play;
 pub mod reading;
 pub mod rng;
+pub mod rows;
 pub mod run;
 pub mod side;
 pub mod step;

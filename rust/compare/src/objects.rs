@@ -2,12 +2,40 @@
 
 use crate::rng::Rng;
 use crate::track;
-use model::dictionary::{Form, Object, Setter, ROWS};
+use model::dictionary::{Answers, Form, Object, Row, Templates, ROWS};
 
-/// Primitive tags that the dictionary does not know, private ones among them.
-pub const UNKNOWN: [u32; 20] = [
-    0x50, 0x4F, 0x81, 0x83, 0x8D, 0x9B, 0x01, 0x5F20, 0x5F50, 0x9F00, 0x9F4E, 0x9F60, 0x9F7F, 0xC1,
-    0xDF01, 0xDF8119, 0xDF8127, 0xDF8220, 0x1F05, 0x9F8102,
+/// Primitive tags that the dictionary does not know, private ones among them. Some are entries of annex A that have no row.
+pub const UNKNOWN: [u32; 23] = [
+    0x51, 0x4F, 0x81, 0x83, 0x8D, 0x92, 0x9B, 0x01, 0x5F20, 0x5F50, 0x5F60, 0x9F00, 0x9F48, 0x9F4B,
+    0x9F4E, 0xC1, 0xDF01, 0xDF8107, 0xDF8112, 0xDF8131, 0xDF8220, 0x1F05, 0x9F8102,
+];
+
+/// Objects of the card that a step of the session looks at.
+const USED: [Object; 24] = [
+    Object::Pan,
+    Object::InterchangeProfile,
+    Object::Cdol1,
+    Object::CvmList,
+    Object::FileLocator,
+    Object::ExpirationDate,
+    Object::EffectiveDate,
+    Object::IssuerCountry,
+    Object::UsageControl,
+    Object::VersionCard,
+    Object::IssuerActionDefault,
+    Object::IssuerActionDenial,
+    Object::IssuerActionOnline,
+    Object::IssuerApplicationData,
+    Object::Cryptogram,
+    Object::CryptogramInformation,
+    Object::TransactionCounter,
+    Object::ApplicationCurrency,
+    Object::Cvc3Track2,
+    Object::Pcvc3Track2,
+    Object::PunatcTrack2,
+    Object::NatcTrack2,
+    Object::Udol,
+    Object::Track2Data,
 ];
 
 /// Templates other than 70 and 77.
@@ -349,7 +377,13 @@ pub fn good_value(rng: &mut Rng, object: Object) -> Vec<u8> {
             number.to_be_bytes().to_vec()
         }
         _ => {
-            let length = rng.within(usize::from(row.least)..=usize::from(row.most));
+            let (least, most) = (usize::from(row.least), usize::from(row.most));
+            let length = match rng.below(8) {
+                _ if most - least <= 32 => rng.within(least..=most),
+                0 => most,
+                1 => rng.within(least..=most),
+                _ => rng.within(least..=least + 12),
+            };
             match row.form {
                 Form::Numeric => rng.digits(length),
                 Form::CompressedNumeric => pan(rng, length),
@@ -552,9 +586,33 @@ pub fn locator(rng: &mut Rng) -> Vec<u8> {
     locator
 }
 
-/// Objects of the dictionary that a setter has.
-pub fn of_setter(setter: Setter) -> impl Iterator<Item = Object> {
-    Object::ALL
-        .into_iter()
-        .filter(move |object| object.row().setter == setter)
+/// Whether a step of the session looks at an object of the card.
+pub fn is_used(object: Object) -> bool {
+    USED.contains(&object)
+}
+
+/// Objects of the dictionary whose rows pass a test.
+pub fn which(test: impl Fn(&Row) -> bool) -> Vec<Object> {
+    let mut all = Object::ALL.to_vec();
+    all.retain(|object| test(object.row()));
+    all
+}
+
+/// Objects that the card may set in a template.
+pub fn in_template(template: Templates) -> Vec<Object> {
+    which(|row| row.templates.meets(template))
+}
+
+/// Objects that the card may set in a template of any answer, and that no step of the session looks at.
+pub fn unused_in(template: Templates) -> Vec<Object> {
+    let mut all = which(|row| row.templates.meets(template) && row.answers == Answers::All);
+    all.retain(|&object| !is_used(object));
+    all
+}
+
+/// Whether a tag is of private class.
+pub fn is_private(tag: u32) -> bool {
+    let mut bytes = Vec::new();
+    put_tag(&mut bytes, tag);
+    bytes[0] >= 0xC0
 }

@@ -5,6 +5,7 @@
 use crate::layout::{Damage, Drawn, Kind, Layout, DAMAGES};
 use crate::rng::Rng;
 use crate::step::Hex;
+use model::dictionary::{Object, Templates, ROWS};
 use model::{personalise, tlv};
 use std::fmt::Write as _;
 
@@ -98,6 +99,8 @@ pub struct Reached {
     pub several: [u64; Kind::ALL.len()],
     /// Limits that were reached.
     pub edges: Vec<(&'static str, u64)>,
+    /// Objects that were written, by row.
+    pub rows: [u64; ROWS.len()],
 }
 
 impl Reached {
@@ -108,6 +111,7 @@ impl Reached {
             damages: [0; DAMAGES],
             several: [0; Kind::ALL.len()],
             edges: Vec::new(),
+            rows: [0; ROWS.len()],
         }
     }
 
@@ -117,11 +121,14 @@ impl Reached {
         let damages = Damage::ALL.iter().zip(&self.damages);
         let several = Kind::ALL[1..5].iter().zip(&self.several[1..5]);
         let edges = self.edges.iter();
+        let rows = ROWS.iter().zip(&self.rows);
+        let of_70 = rows.filter(|(row, _)| row.templates.meets(Templates::T70));
         kinds
             .map(|(kind, &count)| (format!("{kind:?}"), count))
             .chain(damages.map(|(damage, &count)| (format!("{damage:?} alone"), count)))
             .chain(several.map(|(kind, &count)| (format!("{kind:?} first of several"), count)))
             .chain(edges.map(|&(edge, count)| (edge.to_owned(), count)))
+            .chain(of_70.map(|(row, &count)| (format!("{:X} written", row.tag), count)))
             .collect()
     }
 
@@ -148,6 +155,14 @@ impl Reached {
             [] => {}
             [damage] => self.damages[damage as usize] += 1,
             _ => self.several[kind as usize] += 1,
+        }
+        for mut content in left.contents() {
+            while let Some((tag, _, rest)) = tlv::split_object(content) {
+                if let Some(object) = Object::of_tag(tag.number) {
+                    self.rows[object as usize] += 1;
+                }
+                content = rest;
+            }
         }
         let edges = edges(&drawn.layout, kind, left);
         if self.edges.is_empty() {

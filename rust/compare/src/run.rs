@@ -3,12 +3,13 @@
 use crate::limit;
 use crate::padding;
 use crate::play::Play;
+use crate::rows;
 use crate::side::Side;
 use crate::step::{Hex, Step};
 use crate::stripe;
 use crate::verification::Reached;
 use model::dictionary::{Object, ROWS};
-use model::store::Store;
+use model::store::{self, Store};
 use model::{HEAD_SIZE, SESSION_SIZE};
 use std::fmt::Write as _;
 use std::panic::{self, AssertUnwindSafe};
@@ -50,6 +51,8 @@ pub struct Coverage {
     pub limit: limit::Reached,
     /// What cards without EMV mode reached.
     pub stripe: stripe::Reached,
+    /// What was reached of each row of the dictionary.
+    pub rows: rows::Reached,
     /// Padded answers that were taken with reason 0, 3 or a later one, or gave a command, in the order of `AWAITED`.
     pub padded_answers: [u64; 4],
     /// Refusals 20 because of 00 between start objects; reasons 7 because of 00 in 9F38, in 8C, and in 9F69.
@@ -93,6 +96,7 @@ impl Default for Coverage {
             verification: Reached::default(),
             limit: limit::Reached::default(),
             stripe: stripe::Reached::default(),
+            rows: rows::Reached::default(),
             padded_answers: [0; 4],
             padding_refused: [0; 4],
             explanations: [0; 5],
@@ -130,6 +134,7 @@ impl Coverage {
         self.verification.add(&other.verification);
         self.limit.add(&other.limit);
         self.stripe.add(&other.stripe);
+        self.rows.add(&other.rows);
     }
 
     /// What should occur and never did.
@@ -186,6 +191,7 @@ impl Coverage {
         missing.extend(self.verification.missing());
         missing.extend(self.limit.missing());
         missing.extend(self.stripe.missing());
+        missing.extend(self.rows.missing());
         missing
     }
 
@@ -232,6 +238,7 @@ impl Coverage {
         );
         out += &self.limit.report();
         out += &self.stripe.report();
+        out += &self.rows.report();
         out += &self.verification.report();
         out
     }
@@ -390,8 +397,31 @@ impl<A: Side, B: Side> Pair<'_, A, B> {
         if word == 0x0002_0000 + 25 {
             coverage.limit.count_refused(&self.session);
             coverage.stripe.count_refused(&self.session);
+            coverage.rows.count_refused(&self.session);
+        }
+        if let (Step::Start { terminal, .. }, 0x0002_0017) = (step, word) {
+            coverage.rows.count_start(terminal);
+        }
+        match kind_of(word) {
+            0 => self.count_list(coverage),
+            1 if self.by_calls => coverage.rows.count_end(store_of(&self.session)),
+            _ => {}
         }
         Ok(())
+    }
+
+    /// Counts what a command's list was filled from.
+    fn count_list(&self, coverage: &mut Coverage) {
+        let store = store_of(&self.session);
+        let list = match self.buffer[..2] {
+            [0x80, 0xA8] => Object::Pdol,
+            [0x80, 0xAE] => Object::Cdol1,
+            [0x80, 0x2A] => Object::Udol,
+            _ => return,
+        };
+        if let Some(list) = store::get(store, list) {
+            coverage.rows.count_list(list, store);
+        }
     }
 
     /// Counts what an answer that was not refused decided.

@@ -3,7 +3,7 @@
 use crate::damage;
 use crate::objects::{self, TEMPLATES, UNKNOWN};
 use crate::rng::Rng;
-use model::dictionary::{Object, Setter, REQUIRED_AT_START};
+use model::dictionary::{Object, Row, REQUIRED_AT_START};
 
 /// Start bytes; with `faults` they mostly break a rule, some of them two.
 pub fn start(rng: &mut Rng, faults: bool) -> Vec<u8> {
@@ -42,11 +42,14 @@ pub fn start(rng: &mut Rng, faults: bool) -> Vec<u8> {
 /// The objects of a good start, in any order, unknown ones among them.
 fn good_objects(rng: &mut Rng) -> Vec<(u32, Vec<u8>)> {
     let mut list = Vec::new();
-    for object in objects::of_setter(Setter::Start) {
+    let mut total = 0;
+    let others = rng.pick(&[0, 8, 30]);
+    for object in objects::which(Row::is_of_start) {
         let often = match object {
             Object::TransactionCurrency => 75,
             Object::AdditionalCapabilities => 60,
-            _ => 35,
+            Object::AmountOther | Object::Pdol => 35,
+            _ => others,
         };
         let wanted = REQUIRED_AT_START.contains(&object) || rng.percent(often);
         if !wanted {
@@ -61,7 +64,11 @@ fn good_objects(rng: &mut Rng) -> Vec<(u32, Vec<u8>)> {
         } else {
             objects::good_value(rng, object)
         };
-        list.push((object.row().tag, value));
+        // Mostly within 1,024 bytes.
+        total += value.len() + 5;
+        if total < 900 || rng.one_in(20) || REQUIRED_AT_START.contains(&object) {
+            list.push((object.row().tag, value));
+        }
     }
     if rng.one_in(3) {
         for _ in 0..rng.within(1..=3) {
@@ -162,7 +169,7 @@ fn fault_in_bytes(rng: &mut Rng, bytes: &mut Vec<u8>, fault: usize) {
             // Near 1,024 bytes in all.
             let length = rng.pick(&[1022, 1023, 1024, 1025, 1026, 1500]);
             if let Some(room) = (length - 4usize).checked_sub(bytes.len()) {
-                bytes.extend([0x50, 0x82, (room >> 8) as u8, room as u8]);
+                bytes.extend([0x51, 0x82, (room >> 8) as u8, room as u8]);
                 bytes.resize(length, 0x41);
             }
         }

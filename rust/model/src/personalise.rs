@@ -7,7 +7,7 @@
 use alloc::vec;
 use alloc::vec::Vec;
 
-use crate::dictionary::{Object, Setter};
+use crate::dictionary::{Object, Templates};
 use crate::tlv;
 
 /// The least length of the buffer for the records: 128 of them, each 70 81 FD and 253 bytes.
@@ -126,7 +126,7 @@ fn read_list(mut bytes: &[u8]) -> Option<Vec<Vec<u8>>> {
             return None;
         }
         let row = Object::of_tag(tag.number)?.row();
-        if row.setter != Setter::Card70 || !row.fits(value) {
+        if !row.templates.meets(Templates::T70) || !row.fits(value) {
             return None;
         }
         let (_, behind_tag) = tlv::split_tag(bytes)?;

@@ -1,6 +1,6 @@
-//! Reading a card's answer into a store, whole or not at all (document 01, "Reading an answer"; document 02, Items 6 and 9).
+//! Reading a card's answer into a store, whole or not at all (document 01, "Reading an answer"; document 02, Items 6, 9 and 11).
 
-use crate::dictionary::{Object, Setter};
+use crate::dictionary::{Answers, Object, Row, Templates};
 use crate::reason::Reason;
 use crate::store::{self, Store};
 use crate::tlv::{self, Tag};
@@ -56,7 +56,8 @@ fn read_template(store: &mut Store, answer_to: AnswerTo, outer: Tag, contents: &
         allowed: true,
         count: 1,
     };
-    if walk.contents(outer, contents, LEVELS - 1).is_none() {
+    let around = Templates::of_tag(outer.number);
+    if walk.contents(around, contents, LEVELS - 1).is_none() {
         return (Err(Reason::Malformed), 0);
     }
     let wanted = match answer_to {
@@ -133,13 +134,14 @@ impl Walk {
     ///
     /// `levels` is how many more templates may nest inside this one.
     /// A not allowed object does not stop the walk: a malformed one behind it decides.
-    fn contents(&mut self, around: Tag, bytes: &[u8], levels: u32) -> Option<()> {
+    fn contents(&mut self, around: Templates, bytes: &[u8], levels: u32) -> Option<()> {
         let mut bytes = tlv::skip_padding(bytes);
         while !bytes.is_empty() {
             let (tag, value, rest) = tlv::split_object(bytes)?;
             self.count += 1;
             if tag.is_template() {
-                self.contents(tag, value, levels.checked_sub(1)?)?;
+                let inside = Templates::of_tag(tag.number);
+                self.contents(inside, value, levels.checked_sub(1)?)?;
             } else if self.allowed {
                 self.allowed = self.primitive(around, tag, value);
             }
@@ -149,28 +151,34 @@ impl Walk {
     }
 
     /// Skips or stores one primitive object; false if it is not allowed.
-    fn primitive(&mut self, around: Tag, tag: Tag, value: &[u8]) -> bool {
+    fn primitive(&mut self, around: Templates, tag: Tag, value: &[u8]) -> bool {
         let Some(object) = Object::of_tag(tag.number) else {
             return true;
         };
         let row = object.row();
-        let template = match row.setter {
-            Setter::Card70 => 0x70,
-            Setter::Card77 => 0x77,
-            Setter::Cryptogram77 if self.answer_to == AnswerTo::Cryptogram => 0x77,
-            Setter::Checksum77 if self.answer_to == AnswerTo::Checksum => 0x77,
-            Setter::Either77
-                if matches!(self.answer_to, AnswerTo::Cryptogram | AnswerTo::Checksum) =>
-            {
-                0x77
-            }
-            Setter::Cryptogram77 | Setter::Checksum77 | Setter::Either77 => return false,
-            Setter::Start | Setter::Session => return tag.is_private(),
-        };
-        if around.number != template || !row.fits(value) || store::has_value(&self.store, object) {
-            return false;
+        if !row.is_of_card() {
+            return tag.is_private();
         }
-        store::put(&mut self.store, object, value);
-        true
+        let allowed = self.comes_here(row)
+            && row.templates.meets(around)
+            && row.fits(value)
+            && !store::has_value(&self.store, object);
+        if allowed {
+            store::put(&mut self.store, object, value);
+        }
+        allowed
+    }
+
+    /// Whether an object of the card may come in this answer.
+    fn comes_here(&self, row: &Row) -> bool {
+        match row.answers {
+            Answers::All => true,
+            Answers::Cryptogram => self.answer_to == AnswerTo::Cryptogram,
+            Answers::Checksum => self.answer_to == AnswerTo::Checksum,
+            Answers::Either => {
+                matches!(self.answer_to, AnswerTo::Cryptogram | AnswerTo::Checksum)
+            }
+            Answers::None => false,
+        }
     }
 }

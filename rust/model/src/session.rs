@@ -2,7 +2,7 @@
 
 use crate::analysis::{self, Choice};
 use crate::data_list;
-use crate::dictionary::{self, Object, Setter, REQUIRED_AT_START, STORE_SIZE};
+use crate::dictionary::{self, Object, REQUIRED_AT_START, STORE_SIZE};
 use crate::locator;
 use crate::reading::{self, AnswerTo};
 use crate::reason::{self, Outcome, Reason};
@@ -21,7 +21,7 @@ pub const SESSION_SIZE: usize = HEAD_SIZE + STORE_SIZE;
 pub const COMMAND_SIZE: usize = 261;
 
 /// Version of the record's layout.
-const VERSION: u8 = 4;
+const VERSION: u8 = 5;
 
 /// A call that is refused changes nothing (document 01, refusals 20 to 25).
 #[derive(Clone, Copy, Debug, PartialEq, Eq)]
@@ -486,7 +486,7 @@ fn read_start(terminal: &[u8]) -> Result<Store, Refusal> {
             .ok_or(Refusal::StartBytes)?;
         if let Some(object) = Object::of_tag(tag.number) {
             let row = object.row();
-            if row.setter == Setter::Start
+            if row.is_of_start()
                 && row.fits(value)
                 && !store::has(&store, object)
                 && (object != Object::TerminalType || dictionary::terminal_type_listed(value[0]))

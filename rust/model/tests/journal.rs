@@ -132,7 +132,7 @@ fn wrong_calls() {
 
 #[test]
 fn full_bodies() {
-    let unknown = "50 82 0381"; // 4 bytes, and 897 behind them
+    let unknown = "51 82 0381"; // 4 bytes, and 897 behind them
     let full = |length: &str| start(&format!("01 {length} {TERMINAL} {unknown}"));
     let reply = purchase()[1].clone();
     assert_eq!(after(0, &[full("0400"), reply.clone()]), Accepted(2));

@@ -96,7 +96,7 @@ fn nowhere_else() {
         read("70 05 9F08020000"),
         (0, 2, with(&[(Object::VersionCard, "0000")]))
     );
-    assert_eq!(read("70 06 50 04 00000000"), (0, 2, EMPTY));
+    assert_eq!(read("70 06 51 04 00000000"), (0, 2, EMPTY));
     // An outer tag that is wrong, over contents of padding, and one object that is not allowed.
     assert_eq!(read("61 02 0000"), (2, 1, EMPTY));
     assert_eq!(read("77 07 00 9F08020002 00"), (2, 2, EMPTY));

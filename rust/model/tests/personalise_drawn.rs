@@ -332,8 +332,11 @@ fn every_tag() {
             }
         }
     }
-    // 57, 8C, 8E and 9F07 to 9F0F of any bytes; 5A of 0 or F, and empty three times; the dates, 5F28, 5F34 and 9F42 of 0;
-    // 9F65 to 9F67, 9F69 and 9F6B of any bytes. 250 bytes of 9F69 are good, and no record has room for them.
-    let of_any_bytes = 20 + 251 + 241 + 5 + 3 + 250 + 20;
-    assert_eq!(good, 3 * of_any_bytes + (2 * 10 + 3) + 5);
+    // 56, 57, 8C, 8E, 8F and 90 of any bytes; then 9F07 to 9F0F, 9F1F, 9F24, 9F32, 9F46 and 9F47; then 9F4A, 9F51, 9F5B and 9F69, of
+    // which 250 bytes are good, and no record has room for them; then 9F62 to 9F67, 9F6B and 9F6E.
+    let of_any_bytes =
+        (77 + 20 + 251 + 241 + 1 + 249) + (5 + 55 + 1 + 3 + 249 + 3) + 4 * 250 + (6 + 20 + 28);
+    // 5A and 9F20 of 0 or F, and empty three times; the dates, 5F28, 5F30, 5F34, 9F42 and 9F44 of 0.
+    let of_digits = (2 * 10 + 3) + (2 * 16 + 3) + 7;
+    assert_eq!(good, 3 * of_any_bytes + of_digits);
 }

@@ -131,7 +131,7 @@ fn the_record_holds_the_limit() {
         assert_eq!((host.head()[1], host.limit()), (1, 0));
         let answer = format!("80 0A {profile} 08010100 08020200 9000");
         assert_eq!(host.answer_hex(&answer), 5);
-        assert_eq!(host.head(), [4, 2, 1, 0, 2, 0]);
+        assert_eq!(host.head(), [5, 2, 1, 0, 2, 0]);
         assert_eq!(host.limit(), limit);
         assert_eq!(host.record(RECORD), 5);
         assert_eq!((host.head()[2], host.limit()), (2, limit));
@@ -255,7 +255,7 @@ fn what_the_session_says() {
         let command = format!("80AE8000 08 {results} 8000000000 00");
         assert_eq!(host.buffer[..14], hex(&command));
         assert_eq!(host.get(Object::CvmResults), Some(&hex(results)[..]));
-        assert_eq!(host.head(), [4, 3, 0x80, 0, 3, method as u8]);
+        assert_eq!(host.head(), [5, 3, 0x80, 0, 3, method as u8]);
         for (answer, kind, reason) in [
             ("80 0B 80 0001 1122334455667788 9000", 1, 0),
             ("80 0B 00 0001 1122334455667788 9000", 2, 0),

@@ -34,18 +34,18 @@ fn short_tables() {
 fn the_dictionary() {
     finds(
         &tags(),
-        &[0x57, 0x5F24, 0x9F09, 0x9F6A, 0xDF8126],
-        &[Some(0), Some(9), Some(18), Some(39), Some(48)],
-        6,
+        &[0x50, 0x57, 0x5F24, 0x9F09, 0x9F6A, 0xDF8126, 0xDF8307],
+        &[0, 2, 16, 30, 82, 136, 157].map(Some),
+        8,
     );
-    finds(&tags(), &[0, 0x5F26, 0xDF8127, 0xFFFF_FFFF], &[None; 4], 6);
+    finds(&tags(), &[0, 0x5F26, 0xDF8308, 0xFFFF_FFFF], &[None; 4], 8);
 }
 
 /// The answers are the same for every tag of one and two bytes, and for those of three around the known ones.
 #[test]
 fn same_answers() {
     let tags = tags();
-    for tag in (0..0x1_0000).chain(0xDF_8000..0xDF_8200) {
+    for tag in (0..0x1_0000).chain(0xDF_8000..0xDF_8400) {
         assert_eq!(
             search(&tags, tag).place,
             Object::of_tag(tag).map(|object| object as usize)

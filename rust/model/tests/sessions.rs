@@ -44,7 +44,7 @@ fn purchase_of_three_records() {
     assert_eq!(host.count(), 5);
     let word = host.answer_hex("77 14 9F27 01 40 9F36 02 0007 9F26 08 1122334455667788 9000");
     assert_eq!(word, decided(0));
-    assert_eq!(host.head(), [4, 4, 0, 0, 5, 0]);
+    assert_eq!(host.head(), [5, 4, 0, 0, 5, 0]);
     assert_eq!(host.get(Object::TransactionCounter), Some(&[0, 7][..]));
     assert_eq!(host.stop(), refused(21));
 }
@@ -171,7 +171,7 @@ fn start_bytes() {
     }
     let doubled = [start_with(&[]), hex("9F38 00 9F38 00")].concat();
     assert_eq!(start(&doubled), refused(23));
-    let doubled_unknown = [start_with(&[]), hex("50 01 41 50 01 41 DF01 00")].concat();
+    let doubled_unknown = [start_with(&[]), hex("51 01 41 51 01 41 DF01 00")].concat();
     assert!(is_command(start(&doubled_unknown)));
     for broken in [
         "00",
@@ -192,7 +192,7 @@ fn start_bytes() {
     // 1,024 bytes are allowed, one more is not.
     let mut long = start_with(&[]);
     let rest = 1024 - long.len() - 4;
-    long.extend([0x50, 0x82, (rest >> 8) as u8, rest as u8]);
+    long.extend([0x51, 0x82, (rest >> 8) as u8, rest as u8]);
     long.resize(1024, 0x41);
     assert!(is_command(start(&long)));
     long.push(0x41);
@@ -233,7 +233,7 @@ fn options_list() {
         let (word, host) = start(bad);
         assert_eq!(word, ended(7), "{bad}");
         assert_eq!(host.count(), 0);
-        assert_eq!(host.head(), [4, 4, 3, 7, 0, 0]);
+        assert_eq!(host.head(), [5, 4, 3, 7, 0, 0]);
         assert_eq!(host.get(Object::VerificationResults), Some(&[0; 5][..]));
         assert!(host.get(Object::AmountAuthorised).is_some());
     }
@@ -401,7 +401,7 @@ fn record_answers() {
 fn after_the_last_record() {
     let mut host = Host::reading(&["DF8124 06 000000001233"], "08010100");
     assert_eq!(host.record(""), outcome(NOT_APPLICABLE, 4, 6));
-    assert_eq!(host.head(), [4, 4, 4, 6, 2, 0]);
+    assert_eq!(host.head(), [5, 4, 4, 6, 2, 0]);
     let mut host = Host::reading(&["DF8124 06 000000001234"], "08010100");
     assert_eq!(host.record(GOOD), 11);
     for missing in [
@@ -584,7 +584,7 @@ fn link_and_stop() {
             };
             let expected = if count == 3 { ended_later } else { ended };
             assert_eq!(word, expected(reason));
-            assert_eq!(host.head(), [4, 4, 3, reason as u8, count, 0]);
+            assert_eq!(host.head(), [5, 4, 3, reason as u8, count, 0]);
             assert_eq!(*host.store(), store);
             assert_eq!(host.start(&start_with(&[])), refused(21));
         }
@@ -620,7 +620,7 @@ fn ranges() {
 
     // The head.
     for session in [&fresh, &started, &reading, &generating, &ended] {
-        for version in [0, 1, 2, 3, 5, 255] {
+        for version in [0, 1, 2, 3, 4, 6, 255] {
             assert!(!in_range(&with(session, &[(0, version)])));
             assert_eq!(model::count(&with(session, &[(0, version)])), NO_COUNT);
         }

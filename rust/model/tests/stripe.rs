@@ -4,11 +4,11 @@ mod common;
 
 use common::NOT_APPLICABLE;
 use common::{change, decided, ended, hex, is_command, outcome, refused, start_with, Draw, Host};
-use model::dictionary::{Object, REQUIRED_AT_START, ROWS};
+use model::dictionary::{Object, REQUIRED_AT_START};
 use model::journal::{check, write, Call, Verdict};
 use model::reading::AnswerTo;
 use model::stripe::{places_in, Unsound};
-use model::{HEAD_SIZE, NO_COUNT, SESSION_SIZE, STORE_SIZE};
+use model::{HEAD_SIZE, NO_COUNT};
 
 /// A track of thirteen discretionary digits and an F.
 const TRACK: &str = "5413123456784800D25121010000000000000F";
@@ -45,15 +45,6 @@ fn filled(track: &str, values: &str) -> Result<String, Unsound> {
 /// Whether a track has place for the digits: the values are 9F65, 9F66 and 9F67.
 fn sound(track: &str, values: &str) -> Result<(), Unsound> {
     filled(track, &format!("{values} 0000 00000000 0000")).map(|_| ())
-}
-
-#[test]
-fn the_store_has_49_rows() {
-    assert_eq!(ROWS.len(), 49);
-    let sizes: usize = ROWS.iter().map(|row| 1 + usize::from(row.most)).sum();
-    assert_eq!((sizes, STORE_SIZE), (1504, 1504));
-    assert_eq!((HEAD_SIZE, SESSION_SIZE), (14, 1518));
-    assert_eq!(REQUIRED_AT_START.len(), 17);
 }
 
 #[test]
@@ -386,13 +377,13 @@ const BOTH: &str = "77 0A 9F36 02 002A 9F61 02 1F35";
 #[test]
 fn the_whole_session() {
     let host = waiting(&DATA);
-    assert_eq!(host.head(), [4, 5, 0, 0, 3, 0]);
+    assert_eq!(host.head(), [5, 5, 0, 0, 3, 0]);
     assert_eq!((host.limit(), host.count()), (50_000, 3));
     assert_eq!(host.get(Object::VerificationResults), Some(&[0; 5][..]));
     assert_eq!(host.get(Object::CvmResults), None);
     let (word, host) = answered(&DATA, BOTH);
     assert_eq!(word, decision(ONLINE));
-    assert_eq!(host.head(), [4, 4, 1, 0, 3, 0]);
+    assert_eq!(host.head(), [5, 4, 1, 0, 3, 0]);
     let track = host.get(Object::Track2Data).map(text);
     assert_eq!(
         track.as_deref(),
@@ -413,7 +404,7 @@ fn other_answers_with_both() {
     for answer in [
         "77 0A 9F61 02 1F35 9F36 02 002A",
         "77 0D 00 9F36 02 002A 00 9F61 02 1F35 00",
-        "77 14 9F60 02 FFFF DF4B 00 E1 00 9F36 02 002A 9F61 02 1F35",
+        "77 14 5F60 02 FFFF DF01 00 E1 00 9F36 02 002A 9F61 02 1F35",
         "77 0C 77 05 9F36 02 002A 9F61 02 1F35",
         "77 0F 70 03 5A 01 12 9F36 02 002A 9F61 02 1F35",
         "77 10 DF811B 02 FFFF 9F36 02 002A 9F61 02 1F35",
@@ -473,7 +464,7 @@ fn reasons_of_the_answer() {
             let mut host = waiting(data);
             assert_eq!(host.answer_hex(answer), ended(reason), "{answer}");
             assert!(host.store() == before.store(), "{answer}");
-            assert_eq!(host.head(), [4, 4, 3, reason as u8, 3, 0]);
+            assert_eq!(host.head(), [5, 4, 3, reason as u8, 3, 0]);
         }
     }
     let mut long = vec![0x00; 257];
@@ -490,7 +481,7 @@ fn counter_and_code() {
         ("77 00", ended(4), &[]),
         ("77 02 00 00", ended(4), &[]),
         (
-            "77 08 9F36 02 002A 50 01 41",
+            "77 08 9F36 02 002A 51 01 41",
             decision(DECLINED),
             &["9F36 002A"],
         ),
@@ -720,7 +711,7 @@ fn the_list_for_the_command() {
     ] {
         let (word, host) = with_list(bad);
         assert_eq!(word, ended(7), "{bad}");
-        assert_eq!(host.head(), [4, 4, 3, 7, 2, 0]);
+        assert_eq!(host.head(), [5, 4, 3, 7, 2, 0]);
         assert_eq!(host.get(Object::VerificationResults), Some(&[0; 5][..]));
         assert_eq!(host.get(Object::CvmResults), None);
     }

@@ -316,7 +316,7 @@ fn after_the_restrictions_and_before_the_choice() {
     let host = generating(&["DF8123 06 000000001000"], &content);
     assert_eq!(host.buffer[..14], hex("80AE8000 08 420000 8040048000 00"));
     assert_eq!(host.get(Object::CvmResults), Some(&hex("420000")[..]));
-    assert_eq!(host.head(), [4, 3, 0x80, 0, 3, 2]);
+    assert_eq!(host.head(), [5, 3, 0x80, 0, 3, 2]);
     // The choice sees the bits of the method: each alone in a denial code, and in an online code.
     for (rules, bits) in [
         ("", "2000000000"),
@@ -365,7 +365,7 @@ fn broken_list_keeps_the_method() {
         assert_eq!(word, outcome(method, 3, 7), "{rules}");
         assert_eq!(host.get(Object::CvmResults), Some(&hex(results)[..]));
         assert_eq!(host.get(Object::VerificationResults), Some(&hex(bits)[..]));
-        assert_eq!(host.head(), [4, 4, 3, 7, 2, 0]);
+        assert_eq!(host.head(), [5, 4, 3, 7, 2, 0]);
     }
 }
 
@@ -390,11 +390,11 @@ fn method_in_every_end() {
         ("0100", OFFLINE_PIN),
     ] {
         let session = || generating(&[], &record(rules, "9505"));
-        assert_eq!(session().head(), [4, 3, 0x80, 0, 3, number as u8]);
+        assert_eq!(session().head(), [5, 3, 0x80, 0, 3, number as u8]);
         // Decisions and reasons on GENERATE AC.
         let mut host = session();
         assert_eq!(host.answer(&good), outcome(number, 1, 0));
-        assert_eq!(host.head(), [4, 4, 1, 0, 3, 0]);
+        assert_eq!(host.head(), [5, 4, 1, 0, 3, 0]);
         for (answer, kind, reason) in [
             ("80 0B 00 0001 1122334455667788 9000", 2, 0),
             ("6985", 3, 1),

@@ -1,6 +1,6 @@
 //! Safe wrapper over the static library of the payment kernel session.
 //!
-//! A [`Session`] owns the 1,518 bytes of one session record. The host opens it, starts it with the
+//! A [`Session`] owns the 6,022 bytes of one session record. The host opens it, starts it with the
 //! terminal's objects, sends each command it is handed to the card, and brings each answer back,
 //! until an outcome comes:
 //!
@@ -49,7 +49,7 @@ pub mod personalise;
 use core::fmt;
 
 /// Bytes of a session record.
-pub const SESSION_SIZE: usize = 1518;
+pub const SESSION_SIZE: usize = 6022;
 
 /// The longest command, and so the least length of a command buffer.
 pub const COMMAND_SIZE: usize = 261;
@@ -330,7 +330,7 @@ pub fn refusal_text(number: u8) -> &'static str {
     }
 }
 
-/// One session: its record of 1,518 bytes.
+/// One session: its record of 6,022 bytes.
 #[derive(Clone, PartialEq, Eq)]
 pub struct Session {
     bytes: [u8; SESSION_SIZE],

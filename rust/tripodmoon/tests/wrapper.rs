@@ -6,7 +6,7 @@ use tripodmoon::{
 };
 
 /// The objects that a start must bring.
-const TERMINAL: [u8; 126] = [
+const TERMINAL: [u8; 130] = [
     0x9A, 0x03, 0x25, 0x06, 0x15, 0x9C, 0x01, 0x00, //
     0x9F, 0x02, 0x06, 0x00, 0x00, 0x00, 0x00, 0x12, 0x34, //
     0x9F, 0x09, 0x02, 0x00, 0x02, 0x9F, 0x1A, 0x02, 0x00, 0x56, //
@@ -18,7 +18,7 @@ const TERMINAL: [u8; 126] = [
     0x9F, 0x33, 0x03, 0xE0, 0xF8, 0xC8, 0xDF, 0x81, 0x26, 0x06, 0, 0, 0, 0, 0x25, 0, //
     0xDF, 0x81, 0x25, 0x06, 0, 0, 0x01, 0, 0, 0, 0xDF, 0x81, 0x1B, 0x01, 0x20, //
     0x9F, 0x6A, 0x04, 0x00, 0x00, 0x34, 0x56, //
-    0x50, 0x01, 0x41,
+    0x51, 0x01, 0x41, 0x9F, 0x53, 0x01, 0x52,
 ];
 
 const OPTIONS: [u8; 8] = [0x80, 0xA8, 0x00, 0x00, 0x02, 0x83, 0x00, 0x00];
@@ -123,7 +123,8 @@ fn objects_sent_online() {
     let mut buffer = [0; COMMAND_SIZE];
     let mut value = [7; MOST_VALUE];
     assert_eq!(session.object(0x9F02, &mut value), Object::Absent);
-    assert_eq!(session.object(0x50, &mut []), Object::Unknown);
+    assert_eq!(session.object(0x51, &mut []), Object::Unknown);
+    assert_eq!(session.object(0x50, &mut []), Object::Absent);
     session.start(&TERMINAL, &mut buffer);
     for answer in [
         &[0x80, 0x06, 0x00, 0x80, 0x08, 0x01, 0x01, 0x00, 0x90, 0x00][..],
@@ -150,13 +151,15 @@ fn objects_sent_online() {
     holds(&session, 0x95, &[0x80, 0x00, 0x00, 0x00, 0x00]);
     holds(&session, 0x9F02, &[0x00, 0x00, 0x00, 0x00, 0x12, 0x34]);
     assert_eq!(session.object(0x57, &mut value), Object::Absent);
-    assert_eq!(session.object(0x50, &mut value), Object::Unknown);
+    holds(&session, 0x9F53, &[0x52]);
+    assert_eq!(session.object(0x51, &mut value), Object::Unknown);
+    assert_eq!(session.object(0x80, &mut value), Object::Absent);
     assert_eq!(value, [7; MOST_VALUE]);
 
     session.wipe();
     assert_eq!(*session.as_bytes(), [0; SESSION_SIZE]);
     assert_eq!(session.object(0x9F26, &mut value), Object::Refused(25));
-    assert_eq!(session.object(0x50, &mut []), Object::Refused(25));
+    assert_eq!(session.object(0x51, &mut []), Object::Refused(25));
     assert_eq!(session.count(), None);
     assert_eq!(calls::wipe(&mut []), 0);
 }
@@ -309,7 +312,7 @@ fn version_of_the_layout() {
         major: 0,
         minor: 1,
         patch: 0,
-        layout: 4,
+        layout: 5,
     };
     assert_eq!(version, expected);
 }

@@ -4,14 +4,12 @@
 //!
 //! Prints a Markdown table of nanoseconds for one call (or one whole purchase).
 
+use measure::{purchase, summary, terminal, BATCH};
 use std::env;
 use std::error::Error;
 use std::hint::black_box;
 use std::process::Command;
 use std::time::Instant;
-
-/// Sessions timed together as one sample, so that reading the clock weighs little.
-const BATCH: usize = 16;
 
 const SESSION_SIZE: usize = model::SESSION_SIZE;
 
@@ -52,139 +50,31 @@ struct Case {
     work: Work,
 }
 
-/// Bytes of a hexadecimal text.
-fn hex(text: &str) -> Vec<u8> {
-    let digits: String = text.split_whitespace().collect();
-    (0..digits.len() / 2)
-        .map(|i| u8::from_str_radix(&digits[2 * i..2 * i + 2], 16).expect("two digits"))
-        .collect()
-}
-
-/// An answer of template 70 with this content.
-fn record(content: &[u8]) -> Vec<u8> {
-    let mut answer = vec![0x70];
-    if content.len() > 127 {
-        answer.push(0x81);
-    }
-    answer.push(content.len() as u8);
-    answer.extend(content);
-    answer.extend([0x90, 0x00]);
-    answer
-}
-
-/// The start: all that it must bring, and a list of three objects.
-fn terminal() -> Vec<u8> {
-    hex(
-        "9A 03 250615  9C 01 00  9F02 06 000000001234  9F09 02 0002  9F1A 02 0056  9F35 01 22
-         9F37 04 5A3C96E1  9F6A 04 00003456  DF8120 05 0000000000  DF8121 05 0000000000  DF8122 05 0000000000
-         DF8123 06 000000010000  DF8124 06 000000100000  DF8125 06 000000200000  DF8126 06 000000002500
-         DF811B 01 00  9F33 03 E0F8C8
-         9F38 08 9F0206 9A03 9F3704",
-    )
-}
-
-/// The answers of a purchase: processing options, three records, cryptogram.
-fn purchase() -> Vec<Vec<u8>> {
-    vec![
-        hex("77 0A 82 02 1980 94 04 08010300 9000"),
-        record(&hex("57 10 4761739001010010D49122010000001F 5F34 01 01 9F08 02 0002")),
-        record(&hex("5A 08 4761739001010010 5F24 03 491231 5F25 03 200101 5F28 02 0056 9F07 02 FFC0")),
-        record(&hex(
-            "8C 0F 9F0206 9F3704 9505 9A03 9C01 9F1A02 9F0D 05 0000000000 9F0E 05 0000000000 9F0F 05 0000000000",
-        )),
-        hex("77 14 9F27 01 40 9F36 02 0007 9F26 08 1122334455667788 9000"),
-    ]
-}
-
-/// The objects of a full record: twelve of template 70, then twelve unknown ones with so many bytes each, the first one with one more.
-fn full_record(unknown: u8) -> Vec<Vec<u8>> {
-    let mut objects: Vec<Vec<u8>> = [
-        "57 13 4761739001010010D49122010000001F000000",
-        "5A 0A 4761739001010010FFFF",
-        "5F24 03 491231",
-        "5F25 03 200101",
-        "5F28 02 0056",
-        "5F34 01 01",
-        "9F07 02 FFC0",
-        "9F08 02 0002",
-        "9F0D 05 0000000000",
-        "9F0E 05 0000000000",
-        "9F0F 05 0000000000",
-        "8C 24 9F0206 9F0306 9F1A02 9505 5F2A02 9A03 9C01 9F3704 9F3501 9F4502 9F4C08 9F3403 9F2103",
-    ]
-    .map(hex)
-    .into();
-    for i in 0..12 {
-        let length = if i == 0 { unknown + 1 } else { unknown };
-        let mut object = vec![0x5F, 0x60 + i, length];
-        object.extend((0..length).map(|n| n * 17));
-        objects.push(object);
-    }
-    objects
-}
-
 fn cases() -> Vec<Case> {
-    let short = record(&hex("9F08 02 0002 5F24 03 491231"));
-    let full = record(&full_record(7).concat());
-    // A 00 behind each object; the unknown ones are shorter, so that the record is as long as the full one.
-    let mut padded = full_record(5);
-    padded.iter_mut().for_each(|object| object.push(0x00));
-    let padded = record(&padded.concat());
-    let mut unknown = Vec::new();
-    for i in 0..20 {
-        unknown.extend([0x5F, 0x60 + i, 0x04, i, i, i, i]);
-    }
-    let unknown = record(&unknown);
-    // The last object is cut by one byte.
-    let mut content = full_record(7).concat();
-    content.pop();
-    let broken = record(&content);
-    let name = |what: &str, answer: &[u8], objects: u32| {
-        let mut store = [0; model::STORE_SIZE];
-        let (_, count) =
-            model::read_answer(&mut store, model::reading::AnswerTo::Record, 1, answer);
-        assert_eq!(count, objects, "{what}");
-        format!(
-            "answer: {what}, {} bytes, {objects} objects",
-            answer.len() - 2
-        )
-    };
-    vec![
-        Case {
-            name: name("short record", &short, 3),
-            work: Work::Answer(short),
-        },
-        Case {
-            name: name("full record", &full, 25),
-            work: Work::Answer(full),
-        },
-        Case {
-            name: name("padded record", &padded, 25),
-            work: Work::Answer(padded),
-        },
-        Case {
-            name: name("record of 20 unknown tags", &unknown, 21),
-            work: Work::Answer(unknown),
-        },
-        Case {
-            name: format!(
-                "answer: broken record, {} bytes, cut in its last object",
-                broken.len() - 2
-            ),
-            work: Work::Answer(broken),
-        },
-        Case {
-            name: format!(
-                "start, {} objects",
-                model::tlv::count_objects(&terminal(), 0).expect("a run of objects")
-            ),
-            work: Work::Start,
-        },
-        Case {
-            name: "whole purchase of 3 records: open and 6 calls".into(),
-            work: Work::Purchase,
-        },
-    ]
+    let records = [
+        measure::short_record(),
+        measure::long_record(),
+        measure::padded_record(),
+        measure::unknown_tags(),
+        measure::broken_record(),
+    ];
+    let mut cases: Vec<Case> = records
+        .into_iter()
+        .map(|record| Case {
+            name: format!("answer: {}", record.name),
+            work: Work::Answer(record.answer),
+        })
+        .collect();
+    let objects = model::tlv::count_objects(&terminal(), 0).expect("a run of objects");
+    cases.push(Case {
+        name: format!("start, {objects} objects"),
+        work: Work::Start,
+    });
+    cases.push(Case {
+        name: "whole purchase of 3 records: open and 6 calls".into(),
+        work: Work::Purchase,
+    });
+    cases
 }
 
 /// The bytes of the sessions before the timed calls.
@@ -197,18 +87,12 @@ struct Kept {
 
 impl Kept {
     fn new() -> Kept {
-        let (terminal, purchase) = (terminal(), purchase());
-        let mut fresh = [0; SESSION_SIZE];
-        assert_eq!(model::open(&mut fresh), 0);
-        let mut waiting = fresh;
-        let mut buffer = [0; model::COMMAND_SIZE];
-        assert!(model::start(&mut waiting, &terminal, &mut buffer) < 0x10000);
-        assert_eq!(model::answer(&mut waiting, &purchase[0], &mut buffer), 5);
+        let [fresh, waiting] = measure::sessions();
         Kept {
             fresh,
             waiting,
-            terminal,
-            purchase,
+            terminal: terminal(),
+            purchase: purchase(),
         }
     }
 
@@ -293,12 +177,6 @@ fn each(sessions: &mut [Session; BATCH], mut call: impl FnMut(&mut Session) -> u
     sessions
         .iter_mut()
         .fold(0, |sum, session| sum.wrapping_add(call(session)))
-}
-
-/// Median and 10th percentile.
-fn summary(mut samples: Vec<f64>) -> (f64, f64) {
-    samples.sort_by(f64::total_cmp);
-    (samples[samples.len() / 2], samples[samples.len() / 10])
 }
 
 /// The sizes of libhost.a by the program `size`, if it is there.
