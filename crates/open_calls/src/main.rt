@@ -2,6 +2,7 @@
 //
 // Each call stands in a function that asks nothing and hands on its own arguments: a condition that some
 // arguments do not meet is refused here. `tests/called` names the functions that nothing calls.
+use analysis::choice::Choice;
 use dictionary::SIZE;
 use journal::{Checker, Verdict};
 use layout::{Held, RECORD_SIZE};
@@ -25,8 +26,13 @@ fn statements() {
     line(b"trace::most_commands", trace::most_commands());
     line(b"laws::most_contents", laws::most_contents());
     word(b"explain_calls::refusal_word", explain_calls::refusal_word());
+    line(b"rank::rank, of offline", basics::wide(rank_of(Choice::Offline)));
     let rows = dictionary::used_rows();
     line(b"dictionary::used_rows, the last", rows[45]);
+}
+
+fn rank_of(choice: Choice) -> u8 {
+    rank::rank(choice)
 }
 
 // ---- the record

@@ -1,0 +1,189 @@
+-- Added bits never raise the choice: what a stage holds it still holds when bits are added, and by each type a stage that holds a bit gives
+-- a choice that ranks no higher than the one without. Where the codes alone have grown, the result bits that are found are the same.
+-- Assumes nothing.
+use mathlib.Core.Path.{_≡_, refl, sym, ap, subst, _∙_}
+use mathlib.Core.Bool.{Bool, true, false, not}
+use mathlib.Core.List.{List}
+use mathlib.Core.Logic.{inl, inr}
+use Prim.Native.Nat.{ℕ, zero, suc, _+_, _-_, _/_, _≤_, _<_}
+use native.Mathlib.Nat.{zero-div}
+use native.Mathlib.Omega.{arith}
+use lib.ListN.{getD}
+use borrow.Author.Tests.{ne-eqb, not-false}
+use Rattle.basics.specs.Choice.{if, both, either}
+use Rattle.basics.proofs.Laws.{if-yes, if-no, bool-cases}
+use Rattle.store.specs.Place.{absent}
+use Rattle.analysis.specs.Bits.{bit}
+use Rattle.analysis.specs.Value.{front}
+use Rattle.analysis.specs.Choice.{denial, noBits, allBits, cardCode, holdsBit, lowestFrom, lowestBit, someBit, heldAt, capabilityOf, choiceBy, choiceOf}
+use Rattle.analysis.specs.Action.{terminalType, phoneIn, usageIn, restrictionsOf, resultOf, termsIn, verifiedIn, fullResult, findingsOf, codesOf, chosen}
+use Rattle.analysis.specs.declared.choice.Pair.{Pair}
+use Rattle.analysis.specs.declared.choice.Lowest.the-variants.{Bit}
+use Rattle.analysis.specs.declared.choice.Capability.{Capability}
+use Rattle.analysis.specs.declared.choice.Capability.the-variants.{OnlineOnly, OnlineCapable, OfflineOnly, Unlisted}
+use Rattle.analysis.specs.declared.choice.Choice.{Choice}
+use Rattle.analysis.specs.declared.choice.Choice.the-variants.{Decline, Online, Offline}
+use Rattle.analysis.proofs.Lowest.{none-passes}
+use Rattle.rank.specs.Rank.{rankOf, Ranked}
+use Rattle.rank.specs.Stricter.{Within, AllSet, PairsWithin, CodesWithin, AlikeButCodes, NeverLoosens, AbsentCodes}
+
+pub apart : {P : Type 0} → _≡_ {A = Bool} false true → P
+apart e = let z : _≡_ {A = ℕ} 0 1 = cc in absurd (omega arith)
+
+-- ---- a stage
+
+-- a test that passes wherever another does finds a number where the other finds one
+some-still : (f g : ℕ → Bool) (n i : ℕ) → ((m : ℕ) → m < i + n → f m ≡ true → g m ≡ true)
+    → someBit (lowestFrom f i n) ≡ true → someBit (lowestFrom g i n) ≡ true
+unfolding lowestFrom
+some-still f g zero i h e = e
+some-still f g (suc n) i h e =
+    elim (bool-cases (g i)) [
+      | inl t ↦ ap someBit (if-yes (Bit i) (lowestFrom g (suc i) n) t)
+      | inr t ↦
+          ap someBit (if-no (Bit i) (lowestFrom g (suc i) n) t)
+          ∙ elim (bool-cases (f i)) [
+            | inl u ↦ apart (sym t ∙ h i (omega arith) u)
+            | inr u ↦
+                some-still f g n (suc i) (λ m l. h m (omega arith))
+                (sym (ap someBit (if-no (Bit i) (lowestFrom f (suc i) n) u)) ∙ e)
+          ]
+    ]
+
+-- a bit of the result in one of two codes, when each of the three may have been added
+both-still : (a b c x y z : Bool) → (a ≡ true → x ≡ true) → (b ≡ true → y ≡ true) → (c ≡ true → z ≡ true)
+    → both a (either b c) ≡ true → both x (either y z) ≡ true
+unfolding both either
+both-still true true  c x y z p q r e = simp (p refl, q refl)
+both-still true false c x y z p q r e = simp (p refl, r e) (either-true y)
+  where
+    either-true : (t : Bool) → either t true ≡ true
+    either-true true = refl
+    either-true false = refl
+both-still false b c x y z p q r e = apart e
+
+module _ (r s : List ℕ) (ps qs : List Pair) (grown : Within r s) (codes : PairsWithin ps qs) where
+  -- a stage that held a bit still holds one
+  held-still : (stage : ℕ) → stage < 3 → heldAt r ps stage ≡ true → heldAt s qs stage ≡ true
+  unfolding heldAt lowestBit holdsBit
+  held-still stage l e =
+      some-still _ _ 40 0
+      (λ m u. both-still _ _ _ _ _ _ (grown m u) (codes stage l .card m u) (codes stage l .terminal m u))
+      e
+
+-- ---- the choice
+
+pub ranked : Ranked
+ranked = record { decline-online = omega arith; online-offline = omega arith }
+
+decline-lowest : (c : Choice) → rankOf Decline ≤ rankOf c
+decline-lowest Decline = omega arith
+decline-lowest Online = omega arith
+decline-lowest Offline = omega arith
+
+-- by the type and what the three stages hold
+by-held : (k : Capability) (h o d x y z : Bool) → (h ≡ true → x ≡ true) → (o ≡ true → y ≡ true) → (d ≡ true → z ≡ true)
+    → rankOf (choiceBy k x y z) ≤ rankOf (choiceBy k h o d)
+by-held k             h     o     d     true  y     z     p q r = decline-lowest (choiceBy k h o d)
+by-held k             true  o     d     false y     z     p q r = apart (p refl)
+by-held OnlineOnly    false o     d     false y     z     p q r = omega arith
+by-held OfflineOnly   false o     d     false y     true  p q r = decline-lowest (choiceBy OfflineOnly false o d)
+by-held OfflineOnly   false o     true  false y     false p q r = apart (r refl)
+by-held OfflineOnly   false o     false false y     false p q r = omega arith
+by-held OnlineCapable false true  d     false true  z     p q r = omega arith
+by-held OnlineCapable false false d     false true  z     p q r = omega arith
+by-held OnlineCapable false true  d     false false z     p q r = apart (q refl)
+by-held OnlineCapable false false d     false false z     p q r = omega arith
+by-held Unlisted      false o     d     false y     z     p q r = omega arith
+
+lists : (r s : List ℕ) (kind : ℕ) (ps qs : List Pair) → Within r s → PairsWithin ps qs
+    → rankOf (choiceOf s kind qs) ≤ rankOf (choiceOf r kind ps)
+unfolding choiceOf
+lists r s kind ps qs g c =
+    by-held (capabilityOf kind) _ _ _ _ _ _
+    (held-still r s ps qs g c 0 (omega arith)) (held-still r s ps qs g c 1 (omega arith)) (held-still r s ps qs g c 2 (omega arith))
+
+-- ---- two stores
+
+store-codes : (b c : List ℕ) → CodesWithin b c → PairsWithin (codesOf b) (codesOf c)
+unfolding codesOf
+store-codes b c w zero l = record { card = w .card-denial; terminal = w .terminal-denial }
+store-codes b c w (suc zero) l = record { card = w .card-online; terminal = w .terminal-online }
+store-codes b c w (suc (suc zero)) l = record { card = w .card-default; terminal = w .terminal-default }
+store-codes b c w (suc (suc (suc i))) l = absurd (omega arith)
+
+stores : (r s b c : List ℕ) → terminalType c ≡ terminalType b → Within r s → CodesWithin b c → rankOf (chosen c s) ≤ rankOf (chosen b r)
+unfolding chosen
+stores r s b c e g w =
+    subst (λ k. rankOf (choiceOf s k (codesOf c)) ≤ rankOf (choiceOf r (terminalType b) (codesOf b))) (sym e)
+    (lists r s (terminalType b) (codesOf b) (codesOf c) g (store-codes b c w))
+
+-- ---- codes that grow alone
+
+-- no code is read for the result bits
+module _ (b c : List ℕ) (a : AlikeButCodes b c) where
+  terms-same : termsIn b ≡ termsIn c
+  unfolding termsIn either
+  terms-same = simp (a 0x9F33 refl, a 0x9C refl, a 0x9F35 refl, a 0x9F40 refl, a 0x5F2A refl, a 0x9F42 refl, a 0x9F02 refl, a 0x8E refl)
+
+  verified-same : verifiedIn b ≡ verifiedIn c
+  unfolding verifiedIn phoneIn either
+  verified-same = simp (a 0x82 refl, a 0xDF811B refl, a 0x9F02 refl, a 0xDF8126 refl, a 0x8E refl, terms-same)
+
+  usage-same : usageIn b ≡ usageIn c
+  unfolding usageIn either
+  usage-same = simp (a 0x9F07 refl, a 0x9F35 refl, a 0x9F40 refl, a 0x5F28 refl, a 0x9F1A refl, a 0x9C refl, a 0x9F03 refl)
+
+  result-same : resultOf b ≡ resultOf c
+  unfolding resultOf restrictionsOf either
+  result-same = simp (a 0x9F08 refl, a 0x9F09 refl, a 0x9A refl, a 0x5F24 refl, a 0x5F25 refl, a 0x9F02 refl, a 0xDF8123 refl, usage-same)
+
+  bits-same : findingsOf b .bits ≡ findingsOf c .bits
+  unfolding findingsOf fullResult
+  bits-same = simp (verified-same, result-same)
+
+  type-same : terminalType c ≡ terminalType b
+  unfolding either
+  type-same = simp (a 0x9F35 refl)
+
+  codes-alone : CodesWithin b c → rankOf (chosen c (findingsOf c .bits)) ≤ rankOf (chosen b (findingsOf b .bits))
+  codes-alone w = stores (findingsOf b .bits) (findingsOf c .bits) b c type-same (λ i l e. ap (λ s. bit s i) (sym bits-same) ∙ e) w
+
+pub never-loosens : NeverLoosens
+never-loosens = record { lists = lists; stores = stores; codes-alone = codes-alone }
+
+-- ---- a code that is absent
+
+-- zeros have no bit, and ones have all forty
+zeros : (j : ℕ) → getD noBits j 0 ≡ 0
+zeros zero = refl
+zeros (suc zero) = refl
+zeros (suc (suc zero)) = refl
+zeros (suc (suc (suc zero))) = refl
+zeros (suc (suc (suc (suc zero)))) = refl
+zeros (suc (suc (suc (suc (suc j))))) = refl
+
+no-bit : (i : ℕ) → bit noBits i ≡ false
+unfolding bit
+no-bit i = simp (zeros (i / 8 + 1 - 1), zero-div)
+
+all-bits : AllSet allBits
+unfolding lowestFrom if bit
+all-bits i l = not-false _ (none-passes (λ i. not (bit allBits i)) 40 0 refl i (omega arith) l)
+
+-- an absent code that is not denial's is all ones
+ones : (stage : ℕ) → (stage ≡ denial → ⊥) → cardCode stage absent ≡ allBits
+unfolding cardCode
+ones stage n = if-no noBits allBits (ne-eqb stage denial n)
+
+pub absent-codes : AbsentCodes
+unfolding cardCode if
+absent-codes =
+    record {
+      denial-appears = λ v i l e. apart (sym (no-bit i) ∙ e);
+      denial-leaves = λ v none i l e. apart (sym (none i l) ∙ e);
+      only-zeros = λ v w i l. elim (bool-cases (bit (front 5 v) i)) [ inl t ↦ apart (sym (no-bit i) ∙ w i l t) | inr t ↦ t ];
+      other-appears = λ stage v n all i l e. all i l;
+      only-ones = λ stage v n w i l. w i l (ap (λ s. bit s i) (ones stage n) ∙ all-bits i l);
+      other-leaves = λ stage v n i l e. ap (λ s. bit s i) (ones stage n) ∙ all-bits i l;
+    }

@@ -1,0 +1,20 @@
+// Stricter codes never loosen: the rank of a choice, and the rule that added bits never raise it. The statements are in specs/Stricter,
+// the proofs in proofs/.
+use analysis::choice::Choice;
+ghost use mathlib.Core.Path.{_≡_};
+ghost use Rattle.rank.specs.Rank.{rankOf, Ranked};
+ghost use Rattle.rank.specs.Stricter.{NeverLoosens, AbsentCodes};
+
+// The rank of a choice: decline, then online, then offline.
+pub fn rank(choice: Choice) -> u8
+    ensures rank { λ r. ⌜ r ≡ rankOf choice ⌝ }
+    ensures ordered { λ _. ⌜ Ranked ⌝ }
+    ensures stricter { λ _. ⌜ NeverLoosens ⌝ }
+    ensures absent { λ _. ⌜ AbsentCodes ⌝ }
+{
+    match choice {
+        Choice::Decline => 0,
+        Choice::Online => 1,
+        Choice::Offline => 2,
+    }
+}
