@@ -77,6 +77,18 @@ startFresh bytes left l buf =
     let st = startStep freshSession bytes buf in
     startTaken (st .reply .answer) st left l buf
 
+-- how many bytes of a buffer an answer's command takes
+abbrev pub sizeIn : Answer → ℕ
+sizeIn (Answer.Command x) = x .size
+sizeIn (Answer.Outcome e) = 0
+sizeIn (Answer.Refused r) = 0
+
+-- the command in the front of one buffer, in front of another
+abbrev pub handedOver : Answer → List ℕ → List ℕ → List ℕ
+handedOver (Answer.Command x) first buf = take (x .size) first ++ drop (x .size) buf
+handedOver (Answer.Outcome e) first buf = buf
+handedOver (Answer.Refused r) first buf = buf
+
 -- ---- the state as it is written
 
 -- the amounts behind the record, whatever that is

@@ -8,7 +8,7 @@ use layout::{Held, HEAD, RECORD_SIZE};
 use record::{Answer, Outcome, Phase, Turn};
 use session::LEAST_BUFFER;
 ghost use mathlib.Core.Path.{_≡_};
-ghost use Prim.Native.Nat.{_+_, _≤_, _<_};
+ghost use Prim.Native.Nat.{_+_, _*_, _≤_, _<_};
 ghost use lib.Dec.{leb};
 ghost use lib.ListN.{length};
 ghost use Rattle.basics.specs.Number.{number as numberOf};
@@ -18,7 +18,7 @@ ghost use Rattle.trace.specs.Claim.{isRunning};
 ghost use Rattle.cabinet_lookup.specs.Word.{placeWord};
 ghost use Rattle.cabinet.specs.State.{mostAmount, stateSize, amountBytes, amountIn, dueIn, cabinetIn};
 ghost use Rattle.cabinet.specs.Calls.{Did, Opened, leftAfter, leftWord, startOn, startOver, answerOver, linkOver, stopOver};
-ghost use Rattle.cabinet.specs.Inner.{holdingIn, admissionOf, cabinetOf, ranged, startFresh, withAmounts, settledOf, finished};
+ghost use Rattle.cabinet.specs.Inner.{holdingIn, admissionOf, cabinetOf, ranged, startFresh, sizeIn, handedOver, withAmounts, settledOf, finished};
 
 // Refusals beside the kernel's: less is left than the amount of a start; a cap over the greatest amount.
 pub const REFUSED_LEFT: u8 = 30;
@@ -283,12 +283,21 @@ fn start_fresh(left: u64, state: &mut [u8], terminal: &[u8], command: &mut [u8])
     if left < amount {
         return layout::refusal_word(REFUSED_LEFT);
     }
-    if let Answer::Command(issued) = answer {
-        let size = issued.size;
-        bytes::copy(&first[..size], command);
-    }
+    hand_over(answer, &first, command);
     bytes::copy(&store, &mut state[HEAD..RECORD_SIZE]);
     finish(turn, Amounts { left: left - amount, aside: amount }, state)
+}
+
+// Copies a command from the front of one buffer to the front of another; without a command nothing.
+fn hand_over(answer: Answer, first: &[u8], command: &mut [u8])
+    requires { ⌜ (sizeIn answer ≤ length (now first)) × (sizeIn answer ≤ length (now command)) ⌝ }
+    ensures { λ _. ⌜ now (command .exit) ≡ handedOver answer (now (first .entry)) (now (command .entry)) ⌝ }
+{
+    let Answer::Command(issued) = answer else {
+        return;
+    };
+    let size = issued.size;
+    bytes::copy(&first[..size], command);
 }
 
 // Writes the head and the amounts of a turn, whose store lies in its place, and gives the word of its answer. A refusal writes nothing.
@@ -368,14 +377,15 @@ fn eight(s: &[u8]) -> u64
     requires { ⌜ length (now s) ≡ 8 ⌝ }
     ensures { λ r. ⌜ r ≡ numberOf (now (s .entry)) ⌝ }
 {
-    four(&s[..4]) * 0x100000000 + four(&s[4..])
+    let high = four(s[0], s[1], s[2], s[3]);
+    let low = four(s[4], s[5], s[6], s[7]);
+    high * 0x100000000 + low
 }
 
 // Four bytes as a number, high byte first.
-fn four(s: &[u8]) -> u64
-    requires { ⌜ length (now s) ≡ 4 ⌝ }
-    ensures { λ r. ⌜ (r ≡ numberOf (now (s .entry))) × (r < 0x100000000) ⌝ }
+fn four(a: u8, b: u8, c: u8, d: u8) -> u64
+    ensures { λ r. ⌜ (r ≡ ((a * 256 + b) * 256 + c) * 256 + d) × (r < 0x100000000) ⌝ }
 {
-    let n = basics::wide32(s[0]) * 0x1000000 + basics::wide32(s[1]) * 0x10000 + basics::wide32(s[2]) * 0x100 + basics::wide32(s[3]);
+    let n = basics::wide32(a) * 0x1000000 + basics::wide32(b) * 0x10000 + basics::wide32(c) * 0x100 + basics::wide32(d);
     n as u64
 }
