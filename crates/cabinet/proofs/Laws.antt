@@ -50,8 +50,8 @@ use Rattle.cabinet.specs.declared.Admission.{Admission}
 use Rattle.cabinet.specs.declared.Amounts.{Amounts}
 use Rattle.cabinet.specs.declared.Holding.{Holding}
 use Rattle.cabinet.specs.State.{Cabinet, cabinet, mostAmount, stateSize, withState, leftIn, asideIn, amountIn, dueIn, amountsFit, heldBy, cabinetIn}
-use Rattle.cabinet.specs.Calls.{Done, Did, refusedLeft, refuses, onHeld, admitted, settles, stepOn, startsOn, setsAside, startAmount, startTaken, startOn}
-use Rattle.cabinet.specs.Inner.{holdingOf, refusedBy, fittingOf, heldAdmission, holdingIn, admissionOf, cabinetOf, ranged, startFresh, sizeIn, handedOver, withAmounts, settledOf, finishedBy, finished}
+use Rattle.cabinet.specs.Calls.{Done, Did, refusedLeft, refuses, onHeld, admitted, settles, stepOn, startsOn, setsAside, startAmount, startTaken, startHeld}
+use Rattle.cabinet.specs.Inner.{holdingOf, refusedBy, fittingOf, heldAdmission, holdingIn, admissionOf, cabinetOf, ranged, freshStart, sizeIn, handedOver, withAmounts, settledOf, finishedBy, finished}
 use Rattle.cabinet.proofs.State.{amounts-behind}
 
 -- ---- what a state says
@@ -358,7 +358,7 @@ module _ (s : Session) (bytes l buf : List ℕ) (r : leastBuffer ≤ length buf)
       go (Phase.Checksum c) e = refl
       go (Phase.Ended x) e = refl
 
-  pub start-running : (n a : ℕ) → isRunning (s .phase) ≡ true → startOn bytes l buf (cabinet s n a) ≡ refuses refusedPhase l buf
+  pub start-running : (n a : ℕ) → isRunning (s .phase) ≡ true → startHeld bytes l buf (cabinet s n a) ≡ refuses refusedPhase l buf
   unfolding startsOn
   start-running n a e =
       ap (λ (x : Session). startTaken (startStep x bytes buf .reply .answer) (startStep x bytes buf) n l buf) (if-no _ _ (running-not-ended (s .phase) e))
@@ -373,7 +373,7 @@ module _ (s : Session) (bytes l buf : List ℕ) (r : leastBuffer ≤ length buf)
   made-fresh (Phase.Checksum c) q e = let z : _≡_ {A = ℕ} 0 1 = cc in absurd (omega arith)
   made-fresh (Phase.Ended x) q e = if-yes _ _ refl
 
-  pub start-idle : (n a : ℕ) → isRunning (s .phase) ≡ false → startOn bytes l buf (cabinet s n a) ≡ startFresh bytes n l buf
+  pub start-idle : (n a : ℕ) → isRunning (s .phase) ≡ false → startHeld bytes l buf (cabinet s n a) ≡ freshStart bytes n l buf
   unfolding startsOn
   start-idle n a e =
       ap (λ (x : Session). startTaken (startStep x bytes buf .reply .answer) (startStep x bytes buf) n l buf) (made-fresh (s .phase) refl e)
@@ -452,23 +452,23 @@ module _ (bytes l first buf : List ℕ) (n : ℕ) (f : leastBuffer ≤ length fi
   fresh-length = ap length (did .buffer) ∙ buffer-length (start-came freshSession bytes first)
 
   -- the kernel's refusal
-  pub fresh-refused : (x : Refusal) (w : ℕ) → w ≡ refusalWord (x .number) → t .answer ≡ Answer.Refused x → Did w l buf (startFresh bytes n l buf)
+  pub fresh-refused : (x : Refusal) (w : ℕ) → w ≡ refusalWord (x .number) → t .answer ≡ Answer.Refused x → Did w l buf (freshStart bytes n l buf)
   fresh-refused x w e q =
       subst (λ (y : Answer). Did w l buf (startTaken y st n l buf)) (sym q ∙ answer-is) (record { word = e; state = refl; buffer = refl })
 
   module _ (m : isRefusal (t .answer) ≡ false) where
-    past : startFresh bytes n l buf ≡ setsAside st (amountIn c) n l buf
+    past : freshStart bytes n l buf ≡ setsAside st (amountIn c) n l buf
     past = taken-amount (st .reply .answer) st n l buf (ap isRefusal (sym answer-is) ∙ m) ∙ ap (λ (a : ℕ). setsAside st a n l buf) amount-is
 
     -- 30
-    pub fresh-left : (w : ℕ) → w ≡ refusalWord refusedLeft → n < amountIn c → Did w l buf (startFresh bytes n l buf)
+    pub fresh-left : (w : ℕ) → w ≡ refusalWord refusedLeft → n < amountIn c → Did w l buf (freshStart bytes n l buf)
     unfolding setsAside
     fresh-left w e q = subst (Did w l buf) (sym (past ∙ if-yes _ _ (lt-ltb _ _ q))) (record { word = e; state = refl; buffer = refl })
 
     -- the amount is set aside, and the command is copied over
     pub fresh-taken : stateSize ≤ length l → amountIn c ≤ n → (w : ℕ) (l′ b′ : List ℕ) (a : Amounts) → a .left ≡ n - amountIn c → a .aside ≡ amountIn c
         → (w ≡ wordOf (t .answer)) × (l′ ≡ finished t a (putMid headSize storeSize l c)) → b′ ≡ handedOver (t .answer) first′ buf
-        → Did w l′ b′ (startFresh bytes n l buf)
+        → Did w l′ b′ (freshStart bytes n l buf)
     unfolding setsAside
     fresh-taken h q w l′ b′ a x y k b =
         subst (Did w l′ b′) (sym (past ∙ if-no _ _ (le-ltb _ _ q) ∙ (λ i. settles (st .reply .answer) st (sym x i) (sym y i) l buf)))

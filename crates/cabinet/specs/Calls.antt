@@ -101,13 +101,14 @@ stopOver l buf = admitted (stepOn stopStep l buf) l buf
 
 -- ---- start
 
--- the session that a start is made on: a fresh one after an end
+-- the session that a start is made on: a fresh one after an end; a running one stays, and the kernel refuses it (21)
 unfoldable pub startsOn : Session → Session
 startsOn s =
     if isEnded (s .phase) then freshSession
     else s
 
--- the amount a of a start is set aside where what is left is no smaller, else 30
+-- the amount a of a start is set aside where what is left is no smaller, else 30; a start that ends its session
+-- (reason 7) gives it back at once
 unfoldable pub setsAside : Step → ℕ → ℕ → List ℕ → List ℕ → Done
 setsAside st a left l buf =
     if left <? a then refuses refusedLeft l buf
@@ -117,19 +118,19 @@ setsAside st a left l buf =
 abbrev pub startAmount : Step → ℕ
 startAmount st = amountIn (stored (st .reply .session))
 
--- the kernel's refusals come first; a start that ends its session (reason 7) needs its amount too
+-- the kernel's refusals come first; a start that ends its session needs its amount too
 abbrev pub startTaken : Answer → Step → ℕ → List ℕ → List ℕ → Done
 startTaken (Answer.Command x) st left l buf = setsAside st (startAmount st) left l buf
 startTaken (Answer.Outcome e) st left l buf = setsAside st (startAmount st) left l buf
 startTaken (Answer.Refused r) st left l buf = refuses (r .number) l buf
 
-abbrev pub startOn : List ℕ → List ℕ → List ℕ → Cabinet → Done
-startOn bytes l buf c =
+abbrev pub startHeld : List ℕ → List ℕ → List ℕ → Cabinet → Done
+startHeld bytes l buf c =
     let st = startStep (startsOn (c .session)) bytes buf in
     startTaken (st .reply .answer) st (c .left) l buf
 
 abbrev pub startOver : List ℕ → List ℕ → List ℕ → Done
-startOver bytes l buf = admitted (startOn bytes l buf) l buf
+startOver bytes l buf = admitted (startHeld bytes l buf) l buf
 
 -- ---- opening, and what is left
 

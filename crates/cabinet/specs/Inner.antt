@@ -72,8 +72,8 @@ ranged does l buf c =
     else refuses refusedRanges l buf
 
 -- a start on a fresh session of its own
-abbrev pub startFresh : List ℕ → ℕ → List ℕ → List ℕ → Done
-startFresh bytes left l buf =
+abbrev pub freshStart : List ℕ → ℕ → List ℕ → List ℕ → Done
+freshStart bytes left l buf =
     let st = startStep freshSession bytes buf in
     startTaken (st .reply .answer) st left l buf
 

@@ -47,7 +47,7 @@ stateSize = recordSize + 16
 abbrev pub amountBytes : ℕ → List ℕ
 amountBytes n = limitBytes n
 
--- a cabinet in front of bytes that are enough: those behind the state stay
+-- a cabinet in front of bytes that are enough, those behind the state stay; every call looks first whether they are
 unfoldable pub withState : Cabinet → List ℕ → List ℕ
 withState c l =
     encoded (c .session) ++ (amountBytes (c .left) ++ (amountBytes (c .aside) ++ drop stateSize l))
@@ -61,7 +61,7 @@ asideIn l = number (take 8 (drop asideAt l))
 
 -- ---- which bytes are refused with 25
 
--- the amount of a store: 9F02
+-- the Amount, Authorized (Numeric) of a store, 9F02; 0 where it is absent, as in no running session in its ranges
 abbrev pub amountIn : List ℕ → ℕ
 amountIn b = amountOf (bytesIn b 0x9F02)
 

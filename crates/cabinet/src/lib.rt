@@ -17,8 +17,8 @@ ghost use Rattle.layout.specs.Word.{wordOf};
 ghost use Rattle.trace.specs.Claim.{isRunning};
 ghost use Rattle.cabinet_lookup.specs.Word.{placeWord};
 ghost use Rattle.cabinet.specs.State.{mostAmount, stateSize, amountBytes, amountIn, dueIn, cabinetIn};
-ghost use Rattle.cabinet.specs.Calls.{Did, Opened, leftAfter, leftWord, startOn, startOver, answerOver, linkOver, stopOver};
-ghost use Rattle.cabinet.specs.Inner.{holdingIn, admissionOf, cabinetOf, ranged, startFresh, sizeIn, handedOver, withAmounts, settledOf, finished};
+ghost use Rattle.cabinet.specs.Calls.{Did, Opened, leftAfter, leftWord, startHeld, startOver, answerOver, linkOver, stopOver};
+ghost use Rattle.cabinet.specs.Inner.{holdingIn, admissionOf, cabinetOf, ranged, freshStart, sizeIn, handedOver, withAmounts, settledOf, finished};
 
 // Refusals beside the kernel's: less is left than the amount of a start; a cap over the greatest amount.
 pub const REFUSED_LEFT: u8 = 30;
@@ -32,7 +32,7 @@ const LEFT: usize = RECORD_SIZE;
 const ASIDE: usize = RECORD_SIZE + 8;
 const STATE_SIZE: usize = RECORD_SIZE + 16;
 
-// What is told to be left where a call would be refused with 25.
+// What is told to be left where every call but opening is refused with 25.
 const NO_AMOUNT: u64 = 0xFFFFFFFFFFFFFFFF;
 
 // What is left of the cap, and what is set aside.
@@ -144,7 +144,7 @@ pub extern "C" fn cabinet_stop(state: &mut [u8], command: &mut [u8]) -> u32
     }
 }
 
-// What is left of the cap; NO_AMOUNT where a call would be refused with 25.
+// What is left of the cap; NO_AMOUNT where every call but opening is refused with 25.
 #[no_mangle]
 pub extern "C" fn cabinet_left(state: &[u8]) -> u64
     ensures { λ r. ⌜ r ≡ leftWord (cabinetIn (now (state .entry))) ⌝ }
@@ -161,6 +161,7 @@ pub extern "C" fn cabinet_left(state: &[u8]) -> u64
 }
 
 // Where the value of a tag lies, counted over the site's bytes and then the defaults': the start in bits 32 to 63, the length in bits 0 to 31.
+// In neither list: no bytes behind the site's, as of an empty value that ends them. All ones where both have 2^32 bytes or more.
 #[no_mangle]
 pub extern "C" fn cabinet_find(site: &[u8], defaults: &[u8], tag: u32) -> u64
     ensures { λ r. ⌜ r ≡ placeWord tag (now (site .entry)) (now (defaults .entry)) ⌝ }
@@ -249,7 +250,7 @@ fn start_held(holding: Holding, state: &mut [u8], terminal: &[u8], command: &mut
     requires { ⌜ leastBuffer ≤ length (now command) ⌝ }
     requires { ⌜ holding .amounts .left ≤ mostAmount ⌝ }
     ensures { λ r. ⌜ Did r (now (state .exit)) (now (command .exit))
-        (ranged (startOn (now (terminal .entry)) (now (state .entry)) (now (command .entry)))
+        (ranged (startHeld (now (terminal .entry)) (now (state .entry)) (now (command .entry)))
         (now (state .entry)) (now (command .entry)) (cabinetOf holding (now (state .entry)))) ⌝ }
 {
     let phase = holding.phase;
@@ -270,7 +271,7 @@ fn start_fresh(left: u64, state: &mut [u8], terminal: &[u8], command: &mut [u8])
     requires { ⌜ leastBuffer ≤ length (now command) ⌝ }
     requires { ⌜ left ≤ mostAmount ⌝ }
     ensures { λ r. ⌜ Did r (now (state .exit)) (now (command .exit))
-        (startFresh (now (terminal .entry)) left (now (state .entry)) (now (command .entry))) ⌝ }
+        (freshStart (now (terminal .entry)) left (now (state .entry)) (now (command .entry))) ⌝ }
 {
     let mut store = [0u8; SIZE];
     let mut first = [0u8; LEAST_BUFFER];

@@ -5,6 +5,7 @@
 use mathlib.Core.Path.{_≡_}
 use mathlib.Core.Bool.{Bool, true, not}
 use mathlib.Core.List.{List, [], _∷_}
+use mathlib.Core.Option.{some}
 use Prim.Native.Nat.{ℕ, _+_, _/_, _%_, _≤_}
 use Rattle.basics.specs.Choice.{if_then_else_, _and_, _=?_, every}
 use Rattle.basics.specs.Reason.{refusedRanges}
@@ -13,12 +14,13 @@ use Rattle.record.specs.declared.Outcome.{Outcome}
 use Rattle.record.specs.Numbers.{outcomeNumber}
 use Rattle.layout.specs.Word.{kindOf, ofOutcome, ofRefusal, refusalWord}
 use Rattle.cabinet_lookup.specs.Value.{valueOf}
-use Rattle.cabinet.specs.State.{leftIn, asideIn, cabinetIn}
-use Rattle.cabinet.specs.Calls.{openWord, openState, startOver, answerOver, linkOver, stopOver, leftWord}
+use Rattle.cabinet.specs.State.{Cabinet, mostAmount, cabinetIn}
+use Rattle.cabinet.specs.Calls.{openWord, openState, startOver, answerOver, linkOver, stopOver}
 
 -- ---- the calls
 
--- a call: an opening with its cap; the others with the bytes that come in and the command buffer that is lent
+-- a call that may write the state: an opening with its cap; the others with the bytes that come in and the command
+-- buffer that is lent. What is left, a lookup and the size are asked for with no bytes to write
 pub data Call : Type 0 where
   opening : ℕ → Call
   start : List ℕ → List ℕ → Call
@@ -63,8 +65,8 @@ final l (c ∷ cs) = final (stateBy l c) cs
 
 -- ---- the account: by the calls and their words alone, not by the state
 
--- the cap of the last accepted opening, the amount of the last accepted start, and the amounts approved since that
--- opening
+-- the cap of the last accepted opening; since then the amount of the last accepted start, 0 where there is none, and the
+-- amounts approved
 pub record Account : Type 0 where
   pub cap : ℕ
   pub amount : ℕ
@@ -127,11 +129,13 @@ notRanges m = not (m .word =? refusalWord refusedRanges)
 -- ms are the calls of a list made one after the other (`play`) since an opening with this cap was accepted, and l are the
 -- bytes that the last of them left (`final`), those of the opening where there are none
 pub record Balanced (cap : ℕ) (ms : List Made) (l : List ℕ) : Type 0 where
+  -- the bytes hold a cabinet in order: what is set aside is the running session's amount, 0 where none runs
+  pub state : Cabinet
+  pub held : cabinetIn l ≡ some state
   -- left, set aside and the amounts of approved sessions are together the cap
-  pub balance : leftIn l + asideIn l + accountOf cap ms .approved ≡ accountOf cap ms .cap
-  -- so approvals never come to more than the cap
+  pub balance : state .left + state .aside + accountOf cap ms .approved ≡ accountOf cap ms .cap
+  -- so approvals never come to more than the cap, and no cap is over the greatest amount
   pub never-over : accountOf cap ms .approved ≤ accountOf cap ms .cap
-  -- what is left is what a host is told
-  pub told : leftWord (cabinetIn l) ≡ leftIn l
+  pub cap-fits : accountOf cap ms .cap ≤ mostAmount
   -- none of the calls was refused with 25
   pub never-25 : every notRanges ms ≡ true

@@ -53,9 +53,11 @@ returns-3 c =
     let z = fresh-store (st .args .terminal .now) l _ (st .args .command .now) (st .args .left) own (st .pre .1 .0) _ _ _ d in
     let k = copied b _ _ (z ∙ sym (store-long l (omega (arith, st .pre .0)))) (c .before .before .before .before .before .before .copy .ensures .1) in
     let f = c .before .before .finish .ensures in
+    let n = c .before .before .before .before .before .before .before .before .before .before .before .before .before .before .before .amount-in .result in
+    let amounts : Amounts = record { left = st .args .left - n; aside = n } in
     fresh-taken (st .args .terminal .now) l _ (st .args .command .now) (st .args .left) own (st .pre .1 .0) _ _ _
-    d (not-refused (c .before .before .before .before .before .before .before .before .before .before .before .before .before .before .before .before .before .before .before .before .start-in .result .answer) (c .before .before .before .before .before .before .before .before .before .before .before .before .before .before .before .before .before .match .keys2)) (st .pre .0) (omega (arith, c .before .before .before .before .before .before .before .before .before .before .before .before .before .before .if1 .left, a)) _ _ _ _ (ap (λ (n : ℕ). st .args .left - n) a) a
-    (f .0, f .1 ∙ ap (λ (x : List ℕ). finished _ _ (putMid headSize storeSize l x)) k) (c .before .before .before .before .before .before .before .before .before .before .before .hand-over .ensures)
+    d (not-refused (c .before .before .before .before .before .before .before .before .before .before .before .before .before .before .before .before .before .before .before .before .start-in .result .answer) (c .before .before .before .before .before .before .before .before .before .before .before .before .before .before .before .before .before .match .keys2)) (st .pre .0) (omega (arith, c .before .before .before .before .before .before .before .before .before .before .before .before .before .before .if1 .left, a)) _ _ _ amounts (ap (λ (x : ℕ). st .args .left - x) a) a
+    (f .0, f .1 ∙ ap (λ (x : List ℕ). finished (c .before .before .before .before .before .before .before .before .before .before .before .before .before .before .before .before .before .before .before .before .start-in .result) amounts (putMid headSize storeSize l x)) k) (c .before .before .before .before .before .before .before .before .before .before .before .hand-over .ensures)
 
 pub start-fresh-spec : {M : Type 1} → statement M
 start-fresh-spec =

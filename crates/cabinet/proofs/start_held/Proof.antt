@@ -7,7 +7,7 @@ use mathlib.Core.Bool.{true}
 use Rattle.basics.specs.Reason.{refusedRanges, refusedPhase}
 use Rattle.record.specs.Session.{sessionOf}
 use Rattle.record.specs.Ranges.{inRanges}
-use Rattle.cabinet.specs.Calls.{Did, startOn}
+use Rattle.cabinet.specs.Calls.{Did, startHeld}
 use Rattle.cabinet.specs.Inner.{cabinetOf}
 use Rattle.cabinet.proofs.Laws.{storeIn, ranged-in, ranged-out, did-refuse, start-running, start-idle}
 use Rattle.cabinet.proofs.start_held.Statement.{statement}
@@ -21,7 +21,7 @@ returns : tie.Need-returns
 returns c =
     let a = c .before .before .before .before .before .before .before .before .args in
     did-refuse refusedRanges (c .refusal-word .ensures)
-    (ranged-out (startOn (a .terminal .now) (a .state .now) (a .command .now)) _ _ (cabinetOf (a .holding) (a .state .now)) (sym (c .before .before .keeps .ensures .test) ∙ not-true _ (c .before .if1 .taken)))
+    (ranged-out (startHeld (a .terminal .now) (a .state .now) (a .command .now)) _ _ (cabinetOf (a .holding) (a .state .now)) (sym (c .before .before .keeps .ensures .test) ∙ not-true _ (c .before .if1 .taken)))
 
 returns-2 : tie.Need-returns-2
 returns-2 c =
@@ -29,7 +29,7 @@ returns-2 c =
     let st = e .before .before .before .before .before .before .before in
     let a = st .args in
     did-refuse refusedPhase (c .refusal-word2 .ensures)
-    (ranged-in (startOn (a .terminal .now) (a .state .now) (a .command .now)) _ _ (cabinetOf (a .holding) (a .state .now)) (kept e)
+    (ranged-in (startHeld (a .terminal .now) (a .state .now) (a .command .now)) _ _ (cabinetOf (a .holding) (a .state .now)) (kept e)
     ∙ start-running _ (a .terminal .now) (a .state .now) (a .command .now) (st .pre .1 .0) (kept e) (a .holding .amounts .left) (a .holding .amounts .aside) (sym (c .before .before .is-running .ensures) ∙ c .before .if2 .taken))
 
 returns-3 : tie.Need-returns-3
@@ -38,7 +38,7 @@ returns-3 c =
     let st = e .before .before .before .before .before .before .before in
     let a = st .args in
     subst (Did _ _ _)
-    (sym (ranged-in (startOn (a .terminal .now) (a .state .now) (a .command .now)) (a .state .now) (a .command .now) (cabinetOf (a .holding) (a .state .now)) (kept e)
+    (sym (ranged-in (startHeld (a .terminal .now) (a .state .now) (a .command .now)) (a .state .now) (a .command .now) (cabinetOf (a .holding) (a .state .now)) (kept e)
     ∙ start-idle _ (a .terminal .now) (a .state .now) (a .command .now) (st .pre .1 .0) (kept e) (a .holding .amounts .left) (a .holding .amounts .aside) (sym (c .before .before .before .before .before .before .before .before .before .is-running .ensures) ∙ c .before .before .before .before .before .before .before .before .if2 .left)))
     (c .before .before .before .before .start-fresh .ensures)
 
