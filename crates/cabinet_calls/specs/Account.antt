@@ -65,8 +65,8 @@ final l (c ∷ cs) = final (stateBy l c) cs
 
 -- ---- the account: by the calls and their words alone, not by the state
 
--- the cap of the last accepted opening; since then the amount of the last accepted start, 0 where there is none, and the
--- amounts approved
+-- the cap of the last accepted opening; since then the amount of the last accepted start, 0 where there is none, and
+-- the amounts approved
 pub record Account : Type 0 where
   pub cap : ℕ
   pub amount : ℕ
@@ -126,8 +126,8 @@ accountOf cap ms = accountAfter (opened cap) ms
 abbrev pub notRanges : Made → Bool
 notRanges m = not (m .word =? refusalWord refusedRanges)
 
--- ms are the calls of a list made one after the other (`play`) since an opening with this cap was accepted, and l are the
--- bytes that the last of them left (`final`), those of the opening where there are none
+-- ms are the calls of a list made one after the other (`play`) since an opening with this cap was accepted, and l are
+-- the bytes that the last of them left (`final`), those of the opening where there are none
 pub record Balanced (cap : ℕ) (ms : List Made) (l : List ℕ) : Type 0 where
   -- the bytes hold a cabinet in order: what is set aside is the running session's amount, 0 where none runs
   pub state : Cabinet

@@ -1,0 +1,4 @@
+pub mod Brought
+pub mod Kernel
+pub mod Words
+pub mod Calls
