@@ -9,20 +9,18 @@ use mathlib.Core.List.{List, [], _∷_}
 use mathlib.Core.Option.{Option, some, none}
 use Prim.Native.Nat.{ℕ, _+_, _-_, _≤_, _<_}
 use native.Mathlib.Omega.{arith}
-use lib.Dec.{leb, ltb}
+use lib.Dec.{ltb}
 use lib.ListN.{length}
-use borrow.Author.Tests.{leb-true, le-leb, eqb-true, eq-eqb, ltb-true, ltb-false, le-ltb}
+use borrow.Author.Tests.{ltb-false, le-ltb}
 use Rattle.basics.specs.Choice.{if, every}
 use Rattle.basics.specs.Reason.{refusedRanges, refusedBuffer, refusedPhase, reasonDataList, reasonLink, reasonStopped}
-use Rattle.basics.proofs.Laws.{if-yes, if-no, if-ind, bool-cases, both-yes, both-left, both-right}
+use Rattle.basics.proofs.Laws.{if-yes, if-no, if-ind, bool-cases, both-yes}
 use Rattle.dictionary.specs.Named.{row9F02}
-use Rattle.dictionary.specs.Rows.{storeSize}
 use Rattle.dictionary.proofs.Named.{at-9F02}
 use Rattle.store.specs.Place.{Value, bytesOf}
 use Rattle.data_list.specs.Commands.{processingOptions}
 use Rattle.analysis.specs.Digits.{amountOf}
 use Rattle.analysis.specs.Verification.{notApplicable}
-use Rattle.record.specs.declared.Answer.{Answer}
 use Rattle.record.specs.declared.Outcome.{Outcome}
 use Rattle.record.specs.declared.OutcomeParameters.{OutcomeParameters}
 use Rattle.record.specs.declared.Phase.{Phase}
@@ -40,59 +38,22 @@ use Rattle.session.specs.Steps.{Step, withoutCommand, commands, fails, withResu
 use Rattle.session.specs.Start.{askOptions, startLoaded, startStep}
 use Rattle.session.specs.Answer.{answerStep}
 use Rattle.session.proofs.Laws.{admitted-in}
-use Rattle.layout.specs.Layout.{decoded}
 use Rattle.layout.specs.Word.{refusalWord, commandWord, outcomeWord}
 use Rattle.trace.specs.Calls.{isRefusal}
 use Rattle.trace.specs.Claim.{isRunning}
 use Rattle.trace.proofs.Kept.{bits-other}
 use Rattle.trace.proofs.EveryCall.{Came, answer-came, link-came, stop-came}
 use Rattle.trace.proofs.Ranges.{start-keeps, answer-keeps, link-keeps, stop-keeps}
-use Rattle.cabinet.specs.State.{Cabinet, cabinet, mostAmount, stateSize, withState, amountIn, dueIn, amountsFit, inOrder, heldBy, cabinetIn}
+use Rattle.cabinet.specs.State.{Cabinet, cabinet, mostAmount, stateSize, withState, amountIn, dueIn, cabinetIn}
 use Rattle.cabinet.specs.Calls.{Done, refusedLeft, refusedCap, refuses, onHeld, admitted, leftAfter, settles, stepOn, setsAside, startTaken, startHeld, openWord, openState}
 use Rattle.cabinet.specs.Inner.{freshStart}
 use Rattle.cabinet.proofs.State.{state-read}
 use Rattle.cabinet.proofs.Laws.{start-running, start-idle}
 use Rattle.cabinet_calls.specs.Account.{Call, opening, start, answer, link-failed, stop, wordBy, stateBy, Made, made, play, final, Account, account, opened, broughtAmount, approves, accepted, entered, accountAfter, isRefused, isApproved, notRanges, Balanced}
 use Rattle.cabinet_calls.proofs.Brought.{brought-amount}
+use Rattle.cabinet_calls.proofs.Held.{Ordered, held-ordered, in-order}
 use Rattle.cabinet_calls.proofs.Kernel.{Stays, stays-amount, answer-stays, link-stays, stop-stays, answer-goes, answer-idle, broken-goes, broken-idle, load-number}
 use Rattle.cabinet_calls.proofs.Words.{Other, refused-told, refused-other, command-told, command-unapproved, command-other, outcome-told, outcome-approved, outcome-unapproved, outcome-other}
-
--- ---- a cabinet that bytes hold
-
-record Ordered (c : Cabinet) (l : List ℕ) : Type 0 where
-  enough : stateSize ≤ length l
-  ranges : inRanges (c .session) ≡ true
-  due : c .aside ≡ dueIn (c .session .phase) (stored (c .session))
-  sum : c .left + c .aside ≤ mostAmount
-
-never : {A : Type 0} {c : Cabinet} → _≡_ {A = Option Cabinet} none (some c) → A
-never e = let z : _≡_ {A = ℕ} 0 1 = cc in absurd (omega arith)
-
-held-ordered : (c : Cabinet) (l : List ℕ) → cabinetIn l ≡ some c → Ordered c l
-unfolding cabinetIn amountsFit
-held-ordered c l e = elim (bool-cases (leb stateSize (length l))) [
-  | inl t ↦ by-record (leb-true _ _ t) (decoded l) (sym (if-yes _ _ t) ∙ e)
-  | inr t ↦ never (sym (if-no _ _ t) ∙ e)
-]
-  where
-    by-order : (d : Cabinet) → stateSize ≤ length l → inOrder d ≡ true → d ≡ c → Ordered c l
-    by-order d h o q =
-        subst (λ (x : Cabinet). Ordered x l) q
-        (record { enough = h; ranges = both-left _ _ o; due = eqb-true _ _ (both-left _ _ (both-right _ _ o)); sum = leb-true _ _ (both-right _ _ (both-right _ _ o)) })
-
-    by-test : (d : Cabinet) → stateSize ≤ length l → if (inOrder d) (some d) none ≡ some c → Ordered c l
-    by-test d h f = elim (bool-cases (inOrder d)) [
-      | inl o ↦ let q : some d ≡ some c = sym (if-yes _ _ o) ∙ f in by-order d h o (cc)
-      | inr o ↦ never (sym (if-no _ _ o) ∙ f)
-    ]
-
-    by-record : stateSize ≤ length l → (x : Option Session) → heldBy l x ≡ some c → Ordered c l
-    by-record h none f = never f
-    by-record h (some s) f = by-test _ h f
-
-in-order : {c : Cabinet} {l : List ℕ} → Ordered c l → inOrder c ≡ true
-unfolding amountsFit
-in-order o = both-yes _ _ (o .ranges) (both-yes _ _ (eq-eqb _ _ (o .due)) (le-leb _ _ (o .sum)))
 
 -- ---- what goes through every call
 
