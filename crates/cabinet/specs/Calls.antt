@@ -157,3 +157,7 @@ pub record Opened (cap w : ℕ) (before after : List ℕ) : Type 0 where
 abbrev pub leftWord : Option Cabinet → ℕ
 leftWord none = 0xFFFFFFFFFFFFFFFF
 leftWord (some c) = c .left
+
+-- ---- what holds of it for every cabinet and every list of calls, promised by cabinet_calls::most_approved
+--   Balanced       left, set aside and the amounts of approved sessions are together the cap
+--   AsTheKernel    but for the cap each call is the kernel's
