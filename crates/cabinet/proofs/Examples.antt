@@ -19,7 +19,7 @@ use Rattle.record.specs.declared.Session.{Session}
 use Rattle.record.specs.Session.{sessionOf, freshSession, endOf, parametersOf}
 use Rattle.session.specs.Steps.{Step}
 use Rattle.layout.specs.Word.{refusalWord}
-use Rattle.cabinet.specs.State.{Cabinet, cabinet, stateSize, amountBytes, dueIn, amountsFit}
+use Rattle.cabinet.specs.State.{cabinet, stateSize, amountBytes, dueIn, amountsFit}
 use Rattle.cabinet.specs.Calls.{refusedLeft, refusedCap, refuses, leftAfter, carries, settles, startsOn, setsAside, openWord}
 
 -- none, the greatest, and all ones in eight bytes

@@ -14,7 +14,7 @@ use lib.Dec.{leb, ltb}
 use lib.ListN.{length, take, drop, length-take, length-drop}
 use lib.Seq.{take-append-seam, take-length, length-take-le}
 use borrow.Author.Tests.{leb-true, le-leb, lt-leb, lt-ltb, le-ltb, ltb-false, eq-eqb, ne-eqb}
-use borrow.Rule.Slice.PartMut.{putMid, put-same, same-len-mid}
+use borrow.Rule.Slice.PartMut.{putMid, put-same}
 use Rattle.basics.specs.Choice.{if, both}
 use Rattle.basics.specs.Reason.{refusedBuffer, refusedRanges, refusedPhase}
 use Rattle.basics.proofs.Laws.{if-yes, if-no, bool-cases, both-yes, both-no-left, both-no-right, both-right}
@@ -33,9 +33,9 @@ use Rattle.record.proofs.Phases.{store-size, fresh-keeps, is-fresh}
 use Rattle.terminal.specs.Terminal.{Loaded, refusal, loaded, load}
 use Rattle.data_list.specs.Commands.{processingOptions}
 use Rattle.session.specs.Steps as steps
-use Rattle.session.specs.Steps.{Step, leastBuffer, handOut, withResults}
+use Rattle.session.specs.Steps.{Step, leastBuffer, handOut}
 use Rattle.session.specs.Start.{askOptions, startLoaded, startIn, startStep}
-use Rattle.session.proofs.Laws.{admitted-ranges, admitted-in}
+use Rattle.session.proofs.Laws.{admitted-in}
 use Rattle.layout.specs.declared.Head.{Head}
 use Rattle.layout.specs.declared.Held.{Held}
 use Rattle.layout.specs.Layout.{headSize, recordSize, decoded, heldOf, withHead}

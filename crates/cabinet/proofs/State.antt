@@ -1,7 +1,7 @@
 -- The state in bytes: the two amounts are written behind the record and read back, the bytes behind the state stay, and a state that is
 -- written over another is as if the other had not been.
 -- Assumes nothing.
-use mathlib.Core.Path.{_≡_, refl, sym, ap, _∙_}
+use mathlib.Core.Path.{_≡_, sym, ap, _∙_}
 use mathlib.Core.Bool.{true}
 use mathlib.Core.List.{List, [], _∷_, _++_, append-assoc}
 use mathlib.Core.Option.{some}

@@ -6,7 +6,7 @@ use mathlib.Core.List.{List}
 use mathlib.Core.Option.{Option, some, none}
 use Prim.Native.Nat.{ℕ, _+_, _-_}
 use lib.ListN.{length}
-use Rattle.basics.specs.Choice.{if_then_else_, _≤?_, _<?_}
+use Rattle.basics.specs.Choice.{if_then_else_, _<?_}
 use Rattle.basics.specs.Reason.{refusedBuffer, refusedRanges}
 use Rattle.record.specs.declared.Answer.{Answer}
 use Rattle.record.specs.declared.Outcome.{Outcome}

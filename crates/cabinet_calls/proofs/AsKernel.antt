@@ -5,18 +5,17 @@ use mathlib.Core.Path.{_≡_, refl, sym, ap, subst, _∙_}
 use mathlib.Core.Bool.{Bool, true, false}
 use mathlib.Core.Logic.{inl, inr}
 use mathlib.Core.List.{List}
-use mathlib.Core.Option.{Option, some}
-use Prim.Native.Nat.{ℕ, _≤_, _<_}
+use mathlib.Core.Option.{some}
+use Prim.Native.Nat.{ℕ, _<_}
 use native.Mathlib.Omega.{arith}
 use lib.Dec.{ltb}
 use lib.ListN.{length}
-use borrow.Author.Tests.{lt-ltb, le-ltb, ltb-true, ltb-false}
+use borrow.Author.Tests.{lt-ltb, le-ltb, ltb-true}
 use Rattle.basics.specs.Reason.{refusedBuffer}
 use Rattle.basics.proofs.Laws.{if-yes, if-no, if-ind, bool-cases}
 use Rattle.record.specs.declared.Answer.{Answer}
 use Rattle.record.specs.declared.Refusal.{Refusal}
 use Rattle.record.specs.declared.Session.{Session}
-use Rattle.record.specs.Session.{freshSession}
 use Rattle.record.specs.Ranges.{inRanges}
 use Rattle.record.proofs.Phases.{store-size, fresh-keeps}
 use Rattle.session.specs.Steps as steps

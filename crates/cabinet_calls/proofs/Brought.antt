@@ -26,12 +26,12 @@ use Rattle.dictionary.specs.Rows.{rows, rowAt, find, storeSize}
 use Rattle.dictionary.proofs.Find.{found}
 use Rattle.dictionary.proofs.Fit.{fits-length}
 use Rattle.dictionary.proofs.Named.{at-9F02}
-use Rattle.store.specs.Place.{Value, absent, present, bytesOf, isThere, valueAt, valueOf, putAt}
+use Rattle.store.specs.Place.{Value, absent, present, bytesOf, isThere, valueOf, putAt}
 use Rattle.store.proofs.Laws.{by-row}
 use Rattle.analysis.specs.Digits.{amountOf}
 use Rattle.record.proofs.Stored.{empty-lacks, put-size, put-here, put-away}
 use Rattle.terminal.specs.Terminal.{settable, setFound, setObject, andThen, setAll, loaded, load}
-use Rattle.terminal.proofs.Laws.{Put, put-of, load-by}
+use Rattle.terminal.proofs.Laws.{put-of, load-by}
 use Rattle.cabinet_lookup.specs.Value.{fromFront, held, firstValue, orElse}
 use Rattle.cabinet_lookup.proofs.Laws.{held-unroll}
 use Rattle.cabinet.specs.State.{amountIn}

@@ -34,7 +34,7 @@ use Rattle.record.proofs.Reasons.{goes-most}
 use Rattle.terminal.specs.Terminal.{Loaded, refusal, loaded, load}
 use Rattle.terminal.proofs.Laws.{load-size}
 use Rattle.session.specs.Steps as steps
-use Rattle.session.specs.Steps.{Step, withoutCommand, commands, fails, withResults, leastBuffer, handOut, linkStep, stopStep}
+use Rattle.session.specs.Steps.{Step, commands, fails, withResults, leastBuffer, handOut, linkStep, stopStep}
 use Rattle.session.specs.Start.{askOptions, startLoaded, startStep}
 use Rattle.session.specs.Answer.{answerStep}
 use Rattle.session.proofs.Laws.{admitted-in}
@@ -49,7 +49,7 @@ use Rattle.cabinet.specs.Calls.{Done, refusedLeft, refusedCap, refuses, onHeld,
 use Rattle.cabinet.specs.Inner.{freshStart}
 use Rattle.cabinet.proofs.State.{state-read}
 use Rattle.cabinet.proofs.Laws.{start-running, start-idle}
-use Rattle.cabinet_calls.specs.Account.{Call, opening, start, answer, link-failed, stop, wordBy, stateBy, Made, made, play, final, Account, account, opened, broughtAmount, approves, accepted, entered, accountAfter, isRefused, isApproved, notRanges, Balanced}
+use Rattle.cabinet_calls.specs.Account.{Call, opening, start, answer, link-failed, stop, wordBy, stateBy, made, play, final, Account, account, opened, broughtAmount, approves, accepted, entered, accountAfter, isRefused, isApproved, notRanges, Balanced}
 use Rattle.cabinet_calls.proofs.Brought.{brought-amount}
 use Rattle.cabinet_calls.proofs.Held.{Ordered, held-ordered, in-order}
 use Rattle.cabinet_calls.proofs.Kernel.{Stays, stays-amount, answer-stays, link-stays, stop-stays, answer-goes, answer-idle, broken-goes, broken-idle, load-number}

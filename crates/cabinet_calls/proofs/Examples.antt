@@ -14,7 +14,7 @@ use Rattle.tlv.specs.Primitives.{primitiveOf}
 use Rattle.analysis.specs.Value.{front}
 use Rattle.analysis.specs.Digits.{decimalFrom, amountOf}
 use Rattle.cabinet_lookup.specs.Value.{held, firstValue, orElse}
-use Rattle.cabinet_calls.specs.Account.{Call, opening, start, answer, link-failed, Made, made, account, broughtAmount, isRefused, isApproved, entered, accountAfter, accountOf}
+use Rattle.cabinet_calls.specs.Account.{opening, start, answer, link-failed, Made, made, account, broughtAmount, isRefused, isApproved, entered, accountAfter, accountOf}
 
 -- approved with no CVM, with a signature, with none told; online request, declined, ended by a failed link, select next; a command, refusal 30
 approvals : map isApproved (0x00010000 ∷ 0x01010000 ∷ 0x0F010000 ∷ 0x00010100 ∷ 0x02010200 ∷ 0x0F010309 ∷ 0x0F010406 ∷ 8 ∷ 0x2001E ∷ [])

@@ -10,7 +10,6 @@ use native.Mathlib.Omega.{arith}
 use lib.Dec.{leb}
 use lib.ListN.{length}
 use borrow.Author.Tests.{leb-true, le-leb, eqb-true, eq-eqb}
-use Rattle.basics.specs.Choice.{if}
 use Rattle.basics.proofs.Laws.{if-yes, if-no, bool-cases, both-yes, both-left, both-right}
 use Rattle.record.specs.declared.Session.{Session}
 use Rattle.record.specs.Session.{stored}

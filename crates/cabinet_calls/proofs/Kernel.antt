@@ -8,7 +8,6 @@ use mathlib.Core.Option.{Option, some, none}
 use Prim.Native.Nat.{ℕ, _≤_}
 use native.Mathlib.Omega.{arith}
 use lib.ListN.{length}
-use Rattle.basics.specs.Choice.{if}
 use Rattle.basics.specs.Number.{hasBit}
 use Rattle.basics.specs.Reason.{refusedBytes, refusedObject, refusedAbsent, refusedPhase, reasonLink, reasonStopped}
 use Rattle.basics.proofs.Laws.{if-ind}
@@ -20,7 +19,6 @@ use Rattle.store.specs.Place.{Value, bytesOf, valueOf}
 use Rattle.locator.specs.declared.Found.{Found}
 use Rattle.locator.specs.Records.{recordAt}
 use Rattle.reading.specs.declared.Awaited.{Awaited}
-use Rattle.reading.specs.Answer as reading
 use Rattle.analysis.specs.Action.{findingsOf}
 use Rattle.analysis.specs.Digits.{amountOf}
 use Rattle.analysis.proofs.Laws.{found-length, bits-length}
@@ -34,7 +32,7 @@ use Rattle.record.specs.declared.Session.{Session}
 use Rattle.record.specs.Session.{stored}
 use Rattle.record.specs.Ranges.{locatorIn, inRanges}
 use Rattle.record.proofs.Phases.{store-size, store-fits}
-use Rattle.terminal.specs.Terminal.{setAll, Loaded, refusal, loaded, afterSetting, afterRun, load}
+use Rattle.terminal.specs.Terminal.{setAll, Loaded, refusal, afterSetting, afterRun, load}
 use Rattle.session.specs.Steps.{Step, withoutCommand, refuses, withFindings, leastBuffer, endsIn, brokenOff, linkStep, stopStep}
 use Rattle.session.specs.Answer.{optionsStep, recordFound, recordStep, cryptogramReply, answerIn, answerStep}
 use Rattle.session.specs.Stripe.{checksumRead, checksumTaken, checksumReply}

@@ -2,12 +2,11 @@
 -- that of refusal 25.
 -- Assumes nothing.
 use mathlib.Core.Path.{_≡_, ap, _∙_}
-use mathlib.Core.Bool.{Bool, true, false, not}
+use mathlib.Core.Bool.{true, false, not}
 use Prim.Native.Nat.{ℕ, _/_, _%_, _≤_, _<_}
 use native.Mathlib.Omega.{arith}
 use lib.Dec.{eqb}
 use borrow.Author.Tests.{eq-eqb, ne-eqb}
-use Rattle.basics.specs.Choice.{both}
 use Rattle.basics.specs.Reason.{refusedRanges}
 use Rattle.basics.proofs.Laws.{both-yes, both-no-left, both-no-right}
 use Rattle.record.specs.declared.Outcome.{Outcome}

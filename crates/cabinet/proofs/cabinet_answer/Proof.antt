@@ -1,7 +1,6 @@
 -- `cabinet::cabinet_answer` meets its contract: a call that is not taken by its law; else the kernel's step, with the store lent in its place.
 -- Assumes nothing.
 use borrow.Author.Needs.{needs}
-use mathlib.Core.Path.{_∙_}
 use native.Mathlib.Omega.{arith}
 use borrow.Rule.Slice.PartMut.{same-len-mid}
 use Rattle.dictionary.specs.Rows.{storeSize}

@@ -1,7 +1,7 @@
 -- `cabinet::finish` meets its contract: a refusal writes nothing; else the head, and the amounts by the answer.
 -- Assumes nothing.
 use borrow.Author.Needs.{needs}
-use mathlib.Core.Path.{_≡_, ap₂, ap, _∙_}
+use mathlib.Core.Path.{ap₂, _∙_}
 use mathlib.Core.List.{List}
 use Prim.Native.Nat.{ℕ}
 use Rattle.cabinet.specs.declared.Amounts.{Amounts}

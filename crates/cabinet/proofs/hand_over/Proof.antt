@@ -1,10 +1,10 @@
 -- `cabinet::hand_over` meets its contract: a command is copied, another answer copies nothing.
 -- Assumes nothing.
 use borrow.Author.Needs.{needs}
-use mathlib.Core.Path.{_≡_, sym, ap, subst, _∙_}
+use mathlib.Core.Path.{sym, ap, subst, _∙_}
 use Prim.Native.Nat.{_≤_}
 use native.Mathlib.Omega.{arith}
-use lib.ListN.{length, take}
+use lib.ListN.{length}
 use lib.Seq.{length-take-le}
 use Rattle.record.specs.declared.Answer.{Answer}
 use Rattle.cabinet.specs.Inner.{sizeIn, handedOver}

@@ -1,6 +1,5 @@
 -- `cabinet::is_within` meets its contract: the sum is compared by a difference, so that it cannot wrap.
 -- Assumes nothing.
-use borrow.Author.Needs.{needs}
 use borrow.Author.Tests.{le-leb, lt-leb, leb-true, leb-false}
 use mathlib.Core.Logic.{inl, inr}
 use mathlib.Core.Path.{sym, _∙_}

@@ -3,7 +3,6 @@
 use borrow.Author.Needs.{needs}
 use mathlib.Core.Path.{sym, ap}
 use Rattle.record.specs.declared.Outcome.{Outcome}
-use Rattle.cabinet.specs.declared.Amounts.{Amounts}
 use Rattle.cabinet.specs.Calls.{leftAfter}
 use Rattle.cabinet.proofs.left_after.Statement.{statement}
 use Rattle.cabinet.proofs.left_after.Tie as tie

@@ -3,7 +3,6 @@
 use borrow.Author.Needs.{needs}
 use mathlib.Core.Path.{sym, ap, _∙_}
 use Rattle.record.specs.declared.Answer.{Answer}
-use Rattle.cabinet.specs.declared.Amounts.{Amounts}
 use Rattle.cabinet.specs.Inner.{settledOf}
 use Rattle.cabinet.proofs.settled.Statement.{statement}
 use Rattle.cabinet.proofs.settled.Tie as tie

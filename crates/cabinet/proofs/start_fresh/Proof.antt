@@ -1,9 +1,9 @@
 -- `cabinet::start_fresh` meets its contract: the kernel's start on a fresh session, its refusal, then 30; else store and command are copied over.
 -- Assumes nothing.
 use borrow.Author.Needs.{needs}
-use mathlib.Core.Path.{_≡_, refl, sym, ap, _∙_}
+use mathlib.Core.Path.{sym, ap, _∙_}
 use mathlib.Core.List.{List}
-use Prim.Native.Nat.{ℕ, _-_, _≤_, _<_}
+use Prim.Native.Nat.{ℕ, _-_, _≤_}
 use native.Mathlib.Omega.{arith}
 use lib.ListN.{length, replicate, length-replicate}
 use borrow.Rule.Slice.PartMut.{putMid}
@@ -12,7 +12,6 @@ use Rattle.store.proofs.Laws.{copied}
 use Rattle.session.specs.Steps.{leastBuffer}
 use Rattle.layout.specs.Layout.{headSize}
 use Rattle.cabinet.specs.declared.Amounts.{Amounts}
-use Rattle.cabinet.specs.State.{amountIn}
 use Rattle.cabinet.specs.Inner.{finished}
 use Rattle.cabinet.proofs.Laws.{store-long, not-refused, fresh-store, fresh-size, fresh-length, fresh-refused, fresh-left, fresh-taken}
 use Rattle.cabinet.proofs.start_fresh.Statement.{statement}
