@@ -1,0 +1,32 @@
+//! Lists of calls of a vending cabinet, and lookups of start objects, against the library's. COMPARE_SEED=n makes the list of
+//! that seed alone and prints it.
+
+use compare::cabinet::{self, Reached};
+use std::env;
+
+/// Lists of calls made; fewer without optimization.
+const LISTS: u64 = if cfg!(debug_assertions) {
+    3_000
+} else {
+    30_000
+};
+
+#[test]
+fn calls_agree() {
+    if let Ok(seed) = env::var("COMPARE_SEED") {
+        let seed = seed.parse().expect("COMPARE_SEED is a number");
+        if let Err(text) = cabinet::run_seed(seed, &mut Reached::default(), true) {
+            panic!("{text}");
+        }
+        return;
+    }
+    let lists =
+        env::var("COMPARE_LISTS").map_or(LISTS, |n| n.parse().expect("COMPARE_LISTS is a number"));
+    let reached = match cabinet::run_many(lists, 1) {
+        Ok(reached) => reached,
+        Err(text) => panic!("{text}"),
+    };
+    print!("{}", reached.report());
+    let missing = reached.missing();
+    assert!(missing.is_empty(), "never occurred: {missing:?}");
+}
