@@ -6,7 +6,8 @@
 //! decided, `stripe` what cards without EMV mode reached and `padding` where runs of 00 stood. `reading` compares single readings, with the object count that no call hands out,
 //! `find` the search for a tag in a card's bytes, and `explain` the explanations of records that no call may have left.
 //! `layout` draws lists of objects and layouts of the card's side, and `personalise` compares what is written for them.
-//! `customers` draws the calls of a vending cabinet, and `cabinet` compares them and holds the sum.
+//! `customers` draws the calls of a vending cabinet, `cabinet` compares them and holds the sum, and `lookup` compares the
+//! lookup of its start objects.
 
 #![forbid(unsafe_code)]
 
@@ -19,6 +20,7 @@ pub mod find;
 pub mod journal;
 pub mod layout;
 pub mod limit;
+pub mod lookup;
 pub mod objects;
 pub mod padding;
 pub mod personalise;

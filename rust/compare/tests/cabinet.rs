@@ -11,6 +11,13 @@ const LISTS: u64 = if cfg!(debug_assertions) {
     30_000
 };
 
+/// Lookups made; fewer without optimization.
+const LOOKUPS: u64 = if cfg!(debug_assertions) {
+    20_000
+} else {
+    200_000
+};
+
 #[test]
 fn calls_agree() {
     if let Ok(seed) = env::var("COMPARE_SEED") {
@@ -27,6 +34,19 @@ fn calls_agree() {
         Err(text) => panic!("{text}"),
     };
     print!("{}", reached.report());
+    let missing = reached.missing();
+    assert!(missing.is_empty(), "never occurred: {missing:?}");
+}
+
+#[test]
+fn lookups_agree() {
+    let lookups = env::var("COMPARE_LOOKUPS")
+        .map_or(LOOKUPS, |n| n.parse().expect("COMPARE_LOOKUPS is a number"));
+    let reached = match compare::lookup::run_many(lookups, 1) {
+        Ok(reached) => reached,
+        Err(text) => panic!("{text}"),
+    };
+    println!("{reached:#?}");
     let missing = reached.missing();
     assert!(missing.is_empty(), "never occurred: {missing:?}");
 }

@@ -5,7 +5,7 @@ use tripodmoon::cabinet::{calls, lookup, Cabinet, AMOUNTS_SIZE, MOST_CAP, STATE_
 use tripodmoon::{refusal_text, Method, Object, Outcome, Reply, COMMAND_SIZE, SESSION_SIZE};
 
 /// The objects that a start must bring, but the amount.
-const TERMINAL: [u8; 116] = [
+const TERMINAL: [u8; 118] = [
     0x9A, 0x03, 0x25, 0x06, 0x15, 0x9C, 0x01, 0x00, //
     0x9F, 0x09, 0x02, 0x00, 0x02, 0x9F, 0x1A, 0x02, 0x00, 0x56, //
     0x9F, 0x35, 0x01, 0x22, 0x9F, 0x37, 0x04, 0x5A, 0x3C, 0x96, 0xE1, //
@@ -45,16 +45,8 @@ fn cryptogram(kind: u8) -> [u8; 15] {
     ]
 }
 
-fn decided(outcome: Outcome) -> Reply<'static> {
-    Reply::Outcome {
-        outcome,
-        reason: 0,
-        method: Method::NoCvm,
-    }
-}
-
-/// A session of an amount whose card answers with this type of cryptogram.
-fn sale(cabinet: &mut Cabinet, amount: u16, kind: u8) -> Reply<'static> {
+/// A session of an amount whose card answers with this type of cryptogram: its outcome.
+fn sale(cabinet: &mut Cabinet, amount: u16, kind: u8) -> Outcome {
     let mut buffer = [0; COMMAND_SIZE];
     let reply = cabinet.start(&terminal(amount), &mut buffer);
     assert!(matches!(reply, Reply::Command([0x80, 0xA8, ..])));
@@ -65,13 +57,9 @@ fn sale(cabinet: &mut Cabinet, amount: u16, kind: u8) -> Reply<'static> {
     match cabinet.answer(&cryptogram(kind), &mut buffer) {
         Reply::Outcome {
             outcome,
-            reason,
-            method,
-        } => Reply::Outcome {
-            outcome,
-            reason,
-            method,
-        },
+            reason: 0,
+            method: Method::NoCvm,
+        } => outcome,
         reply => panic!("{reply:?}"),
     }
 }
@@ -103,12 +91,9 @@ fn caps() {
 fn spent_and_given_back() {
     let mut cabinet = Cabinet::open(1000).expect("a cap");
     let mut buffer = [7; COMMAND_SIZE];
-    assert_eq!(sale(&mut cabinet, 300, 0x40), decided(Outcome::Approved));
+    assert_eq!(sale(&mut cabinet, 300, 0x40), Outcome::Approved);
     assert_eq!(cabinet.left(), Some(700));
-    assert_eq!(
-        sale(&mut cabinet, 600, 0x80),
-        decided(Outcome::OnlineRequest)
-    );
+    assert_eq!(sale(&mut cabinet, 600, 0x80), Outcome::OnlineRequest);
     assert_eq!(cabinet.left(), Some(700));
     let mut value = [0; 8];
     assert_eq!(
