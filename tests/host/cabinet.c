@@ -134,6 +134,7 @@ static void open_afresh(uint64_t cap)
 #define DATE_SIZE 5u
 #define AMOUNT_AT 11u
 #define TYPE_AT 30u
+#define LIMIT_AT 79u
 #define CAPABILITIES_AT 89u
 #define TERMINAL_SIZE (sizeof terminal - 4u)
 static uint8_t terminal[] = {
@@ -312,6 +313,11 @@ static void other_ends(void)
     begin(400);
     CHECK(commands(answer(BYTES(OPTIONS)), BYTES(ASK_RECORD)) && answer(BYTES("\x70\x00\x90\x00")) == ENDED_EARLY(EMV_REASON_MISSING));
     CHECK(holds(1000, 0));
+    memset(terminal + LIMIT_AT, 0x00, 6); /* a transaction limit of 0 */
+    begin(400);
+    memset(terminal + LIMIT_AT, 0x99, 6);
+    CHECK(commands(answer(BYTES(OPTIONS)), BYTES(ASK_RECORD)));
+    CHECK(answer(BYTES(RECORD)) == OUTCOME_OF(EMV_METHOD_NOT_APPLICABLE, EMV_SELECT_NEXT, EMV_REASON_ABOVE_LIMIT) && holds(1000, 0));
     begin(300); /* three approvals, and what is left after each */
     ask();
     CHECK(answer(BYTES(CRYPTOGRAM("\x40"))) == DECIDED(EMV_APPROVED) && holds(700, 0));
@@ -383,7 +389,7 @@ static void lookups(void)
     CHECK(finds(BYTES("\x9C\x01\x01\x9F\x02\x06\x00\x00"), BYTES("\x9C\x01\x20\x9F\x02\x06\x00\x00\x00\x00\x12\x34"), 0x9F02, 8 + 6,
                 BYTES("\x00\x00\x00\x00\x12\x34")));
     CHECK(finds(BYTES(""), BYTES(""), 0x9C, 0, BYTES("")) && finds(BYTES(""), BYTES(DEFAULTS), 0x9C, 2, BYTES("\x20")));
-    CHECK(finds(BYTES("\x70\x00"), BYTES("\x70\x00"), 0x70, 2, BYTES(""))); /* no template is found */
+    CHECK(finds(BYTES("\x70\x03\x9C\x01\x01"), BYTES("\x70\x00"), 0x70, 5, BYTES(""))); /* no template is found */
     CHECK(finds(BYTES("\xDF\x01\x81\x01\x41\x9F\x7F\x82\x00\x01\x42"), BYTES(""), 0x9F7F, 10, BYTES("\x42"))); /* unknown tags, long lengths */
 }
 

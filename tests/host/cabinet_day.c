@@ -85,11 +85,20 @@ static void print_amount(const char *before, uint64_t cents)
     printf("%s%lu.%02lu", before, (unsigned long)(cents / 100), (unsigned long)(cents % 100));
 }
 
+static void print_bytes(const char *before, const uint8_t *bytes, size_t n)
+{
+    size_t i;
+    printf("%s", before);
+    for (i = 0; i < n; i++)
+        printf(" %02X", (unsigned)bytes[i]);
+    printf("\n");
+}
+
 int main(void)
 {
     static const char *const outcomes[] = {"approved", "online request", "declined", "ended", "select next"};
     static uint8_t state[CABINET_STATE_SIZE], command[EMV_LEAST_BUFFER], card[258], start[EMV_MOST_TERMINAL], cryptogram[8];
-    size_t i, j, n;
+    size_t i, n;
     uint64_t left;
     if (cabinet_open(state, sizeof state, CAP) != 0)
         return 1;
@@ -98,6 +107,8 @@ int main(void)
     for (i = 0; i < sizeof customers / sizeof *customers; i++) {
         uint32_t word;
         n = start_bytes(start, customers[i].cents, (uint8_t)(i + 1));
+        if (i == 0)
+            print_bytes("start bytes:", start, n);
         word = cabinet_start(state, sizeof state, start, n, command, sizeof command); /* after an end it opens a fresh session */
         while (EMV_IS_COMMAND(word)) {
             n = exchange(command, customers[i].card, card);
@@ -111,12 +122,10 @@ int main(void)
             printf(": %s, reason %u", outcomes[EMV_OUTCOME(word)], (unsigned)EMV_REASON(word));
         print_amount(", left ", cabinet_left(state, sizeof state));
         if (EMV_IS_OUTCOME(word) && EMV_OUTCOME(word) == EMV_ONLINE_REQUEST && /* the kernel's calls read the session in front */
-            emv_object(state, sizeof state, 0x9F26, cryptogram, sizeof cryptogram) == sizeof cryptogram) {
-            printf(", sent on:");
-            for (j = 0; j < sizeof cryptogram; j++)
-                printf(" %02X", (unsigned)cryptogram[j]);
-        }
-        printf("\n");
+            emv_object(state, sizeof state, 0x9F26, cryptogram, sizeof cryptogram) == sizeof cryptogram)
+            print_bytes(", sent on:", cryptogram, sizeof cryptogram);
+        else
+            printf("\n");
     }
     left = cabinet_left(state, sizeof state);
     print_amount("closed, approved ", CAP - left);
