@@ -74,8 +74,8 @@ uint32_t cabinet_stop(uint8_t *state, size_t state_len, uint8_t *command, size_t
  * aside together. */
 uint64_t cabinet_left(const uint8_t *state, size_t state_len);
 
-/* The value of a start object, by its tag as 0x9F1A: the site's where the site has one, though it be empty, else the defaults'. Each is
- * a list of whole primitive objects without padding; bytes from a broken object or a template on hold nothing, and the first of a tag
+/* The value of a start object, by its tag as 0x9F1A: the site's where the site has one, an empty one too, else the defaults'. Each is a
+ * list of whole primitive objects without padding; bytes from a broken object or a template on hold nothing, and the first of a tag
  * counts. Gives the value's start in bits 32 to 63 and its length in bits 0 to 31. A tag in neither has length 0 at the front of the
  * defaults, the same word as an empty value at the very end of the site. CABINET_FIND_TOO_MANY, and nothing is looked at, where both
  * have 2 to the 32 bytes or more together. */

@@ -177,7 +177,7 @@ pub mod calls {
     }
 }
 
-/// The value of a start object, in place: the site's if the site has one, though it be empty, else that of the defaults. A tag in
+/// The value of a start object, in place: the site's if the site has one, an empty one too, else that of the defaults. A tag in
 /// neither gives an empty part. None where both have 2 to the 32 bytes or more together, which are not looked at.
 pub fn lookup<'a>(site: &'a [u8], defaults: &'a [u8], tag: u32) -> Option<&'a [u8]> {
     let word = calls::find(site, defaults, tag);
