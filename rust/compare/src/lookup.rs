@@ -4,7 +4,7 @@ use crate::objects::{self, TEMPLATES, UNKNOWN};
 use crate::rng::Rng;
 use crate::step::Hex;
 use crate::{damage, never};
-use model::dictionary::{Object, Setter, ROWS};
+use model::dictionary::{Object, REQUIRED_AT_START, ROWS};
 use model::lookup::{self, lookup};
 use model::tlv;
 
@@ -175,10 +175,8 @@ struct Drawn {
 impl Drawn {
     /// Draws a lookup of few tags, so that both lists often have one.
     fn draw(rng: &mut Rng) -> Drawn {
-        let start: Vec<Object> = objects::of_setter(Setter::Start).collect();
-        let known = rng.pick(&start).row().tag;
         let tags = [
-            known,
+            rng.pick(&REQUIRED_AT_START).row().tag,
             rng.pick(&UNKNOWN),
             ROWS[rng.below(ROWS.len())].tag,
             rng.pick(&[0x9C, 0x9F1A, 0xDF8123]),
