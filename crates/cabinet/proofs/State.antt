@@ -59,6 +59,12 @@ put-both l a b h m =
     size : length (front ++ a) ≡ asideAt
     size = length-append front a ∙ omega (arith, length-take-le recordSize l (omega arith))
 
+-- and all bytes keep their number
+pub amounts-length : (l : List ℕ) (a : Amounts) → stateSize ≤ length l → length (withAmounts a l) ≡ length l
+amounts-length l a h =
+    length-append (take recordSize l) (amountBytes (a .left) ++ (amountBytes (a .aside) ++ drop stateSize l))
+    ∙ omega (arith, length-take-le recordSize l (omega arith), length-drop stateSize l)
+
 module _ (s : Session) (z : length (stored s) ≡ storeSize) where
   encoded-size : length (encoded s) ≡ recordSize
   unfolding encoded

@@ -1,13 +1,14 @@
 -- A purchase whose answer to GENERATE AC brings a denial code that was absent, computed from a fresh session on: it is approved with
 -- reason 0, the code that came asks for a decline, and so the final store does not give the outcome. Without the code it is explained.
 -- Assumes nothing.
-use mathlib.Core.Path.{_≡_, refl}
+use mathlib.Core.Path.{_≡_, ap, _∙_}
 use mathlib.Core.Bool.{true}
 use mathlib.Core.List.{List, [], _∷_, _++_}
 use Prim.Native.Nat.{ℕ}
 use lib.ListN.{replicate}
 use Rattle.basics.specs.Recursion.{recurse, recurseBy}
 use Rattle.basics.specs.Choice.{if, both, either, every}
+use Rattle.basics.proofs.Laws.{if-yes}
 use Rattle.basics.specs.Number.{numberFrom, nibbles}
 use Rattle.basics.specs.Alike.{alike}
 use Rattle.tlv.specs.Tag.{tagSize, secondByte, thirdByte, tagAt, firstByte, isTemplate, isPrivate}
@@ -40,19 +41,23 @@ use Rattle.analysis.specs.Action.{phoneIn, limitOf, aboveLimit, usageIn, restri
 use Rattle.record.specs.declared.Outcome.{Outcome}
 use Rattle.record.specs.declared.Phase.{Phase}
 use Rattle.record.specs.Numbers.{goesWith, outcomeFor}
-use Rattle.record.specs.Ranges.{isBrought, brought, lastAbsent, running, optionsRanges, inRanges, allFit, objectFits, freshRanges, endedRanges, recordRanges, cryptogramRanges, completed}
-use Rattle.record.specs.Session.{freshSession, endOf}
+use Rattle.record.specs.Ranges.{isBrought, brought, inRanges, completed}
+use Rattle.record.specs.declared.Session.{Session}
+use Rattle.record.specs.Session.{freshSession, endOf, stored}
+use Rattle.record.proofs.Phases.{fresh-keeps}
 use Rattle.terminal.specs.Terminal.{typeListed, settable, setObject, setAll, load}
-use Rattle.session.specs.Steps.{withResults, admitted, withFindings}
+use Rattle.session.specs.Steps.{withResults, withFindings}
 use Rattle.session.specs.Start.{askOptions}
 use Rattle.session.specs.Answer.{storedReason, optionsRead, optionsStep, optionsReason, recordStep, recordRead, lastRead, recordsRead, analysed, askedIn, askCryptogram, decision, cryptogramEnd, cryptogramReply}
-use Rattle.trace.specs.Calls.{Call, start, answer, play, final, taken, lastOf}
+use Rattle.trace.specs.Calls.{Call, start, answer, Made, play, final, taken, lastOf}
+use Rattle.trace.proofs.Trace.{call-keeps}
+use Rattle.trace.proofs.InRanges.{playIn, finalIn, play-in, final-in}
 use Rattle.explain.specs.declared.Stage.{Stage}
 use Rattle.explain.specs.declared.Explanation.{Explanation}
-use Rattle.explain.specs.Explain.{stageIn, decidingIn, holderOf, pairAt, reasonAt, rankOf, endedIn, endedBy, explained}
+use Rattle.explain.specs.Explain.{stageIn, decidingIn, holderOf, pairAt, reasonAt, rankOf, endedIn, endedBy, inPhase, explained}
 use Rattle.explain_calls.specs.Explained.{bringsCode, codeBrought, codeLast}
 
--- the terminal's objects of a purchase at type 22; three of them no row has
+-- the terminal's objects of a purchase at type 22
 abbrev startBytes : List ℕ
 startBytes =
     0x9A ∷ 0x03 ∷ 0x25 ∷ 0x11 ∷ 0x16 ∷ 0x9C ∷ 0x01 ∷ 0x00 ∷ 0x9F ∷ 0x02 ∷ 0x06 ∷ 0x00 ∷ 0x00 ∷ 0x00 ∷ 0x00 ∷ 0x12 ∷ 0x34 ∷
@@ -96,9 +101,19 @@ pub record Worked : Type 0 where
   last : codeLast (lastOf (taken (play freshSession (purchase (cryptogramAnswer 0x1E denialCode))))) ≡ true
   plain : explained (final freshSession (purchase (cryptogramAnswer 0x14 []))) ≡ Explanation.Unforced Stage.Online
 
+-- a session that calls lead to is in its ranges, and is explained by its phase
+kept : (s : Session) → inRanges s ≡ true → (cs : List Call) → inRanges (final s cs) ≡ true
+unfolding final
+kept s e [] = e
+kept s e (c ∷ cs) = kept _ (call-keeps s c e) cs
+
+by-phase : (cs : List Call) → explained (final freshSession cs) ≡ inPhase (finalIn freshSession cs .phase) (stored (finalIn freshSession cs))
+unfolding explained
+by-phase cs = if-yes _ _ (kept freshSession fresh-keeps cs) ∙ ap (λ (s : Session). inPhase (s .phase) (stored s)) (final-in freshSession fresh-keeps cs)
+
 pub worked : Worked
-unfolding play final taken lastOf codeBrought bringsCode admitted endedRanges goesWith outcomeFor inRanges allFit objectFits lengthIn lengthByte freshRanges optionsRanges recordRanges cryptogramRanges
-    completed running lastAbsent askOptions processingOptions optionsOf filledBy fillingOf listEntries recurse recurseBy along lengthBytes withLength entryAt withEntry cut padding padded
+unfolding playIn finalIn taken lastOf codeBrought bringsCode goesWith outcomeFor
+    completed askOptions processingOptions optionsOf filledBy fillingOf listEntries recurse recurseBy along lengthBytes withLength entryAt withEntry cut padding padded
     fitted entryBytes cryptogramOf generateAc optionsStep storedReason optionsRead recordAt kth nth accepts wholeEntries entriesOf keeps sumOf recordsOf runOf readAnswer goodLength goodStatus
     isRead readBody bodyOf primitiveParts optionsParts templateParts parse nextOf withLeaf withNode count items takeAll takeNext takeItem allowed mayCome mayStand withResults withFindings placeOf
     load primitives withObject primitiveOf headerOf tagAt tagSize secondByte thirdByte lengthAt firstByte isTemplate isPrivate numberFrom if both either every rows past find settable setObject
@@ -106,5 +121,11 @@ unfolding play final taken lastOf codeBrought bringsCode admitted endedRanges go
     askedIn askCryptogram phoneIn onDevice limitOf aboveLimit usageIn restrictionsOf resultOf sameCurrency termsIn verifiedIn fullResult findingsOf codesOf chosen bit front decimalFrom yearOf dateOf laterThan
     amountOf amountAbove otherVersion notYetEffective atAtm countryOf cashback usageBroken withBits holdsBit lowestFrom lowestBit cardCode heldAt capabilityAt choiceOf rulesFrom recognised
     supported amountMet met takenBy unsuccessful byRules verification alike decision cryptogramEnd cryptogramReply
-    stageIn decidingIn holderOf pairAt reasonAt rankOf endedIn endedBy explained
-worked = record { brought-end = refl; brought = refl; last = refl; plain = refl }
+    stageIn decidingIn holderOf pairAt reasonAt rankOf endedIn endedBy lengthByte
+worked =
+    record {
+      brought-end = ap (λ (s : Session). s .phase) (final-in freshSession fresh-keeps (purchase (cryptogramAnswer 0x1E denialCode)));
+      brought = by-phase (purchase (cryptogramAnswer 0x1E denialCode));
+      last = ap (λ (ms : List Made). codeLast (lastOf (taken ms))) (play-in freshSession fresh-keeps (purchase (cryptogramAnswer 0x1E denialCode)));
+      plain = by-phase (purchase (cryptogramAnswer 0x14 []));
+    }

@@ -19,24 +19,24 @@ no-record : (t : ℕ) (l : List ℕ) → objectOf none t l ≡ says 0x20019 l
 unfolding objectOf
 no-record t l = refl
 
-unknown : objectIn [] 0x9F12 (7 ∷ []) ≡ says 0x40000 (7 ∷ [])
+unknown : objectIn [] 0x5F60 (7 ∷ []) ≡ says 0x40000 (7 ∷ [])
 unfolding objectIn if rows find past
 unknown = refl
 
-absent : objectIn [] 0x57 (7 ∷ []) ≡ says 0x30000 (7 ∷ [])
+absent : objectIn [] 0x50 (7 ∷ []) ≡ says 0x30000 (7 ∷ [])
 unfolding objectIn if rows find past valueIn valueAt placeAt held offsetIn
 absent = refl
 
--- 57 of two bytes at the store's front: one lent byte is too few, two are enough, the third stays; and 57 that is there and empty
-needed : objectIn (3 ∷ 0xA1 ∷ 0xA2 ∷ 0xA3 ∷ []) 0x57 (7 ∷ []) ≡ says 0x50002 (7 ∷ [])
+-- 50, the first row, of two bytes: one lent byte is too few, two are enough, the third stays; and 50 that is there and empty
+needed : objectIn (3 ∷ 0xA1 ∷ 0xA2 ∷ 0xA3 ∷ []) 0x50 (7 ∷ []) ≡ says 0x50002 (7 ∷ [])
 unfolding objectIn if rows find past valueIn valueAt placeAt held offsetIn
 needed = refl
 
-value : objectIn (3 ∷ 0xA1 ∷ 0xA2 ∷ 0xA3 ∷ []) 0x57 (7 ∷ 8 ∷ 9 ∷ []) ≡ record { word = 2; lent = 0xA1 ∷ 0xA2 ∷ 9 ∷ [] }
+value : objectIn (3 ∷ 0xA1 ∷ 0xA2 ∷ 0xA3 ∷ []) 0x50 (7 ∷ 8 ∷ 9 ∷ []) ≡ record { word = 2; lent = 0xA1 ∷ 0xA2 ∷ 9 ∷ [] }
 unfolding objectIn if rows find past valueIn valueAt placeAt held offsetIn
 value = refl
 
-empty : objectIn (1 ∷ 0xA1 ∷ []) 0x57 [] ≡ record { word = 0; lent = [] }
+empty : objectIn (1 ∷ 0xA1 ∷ []) 0x50 [] ≡ record { word = 0; lent = [] }
 unfolding objectIn if rows find past valueIn valueAt placeAt held offsetIn
 empty = refl
 

@@ -9,7 +9,7 @@ use lib.ListN.{length, length-take, length-drop}
 use borrow.Rule.Slice.PartMut.{putMid, same-len-mid}
 use Rattle.store.proofs.Laws.{copied}
 use Rattle.cabinet.specs.State.{leftAt, asideAt, amountBytes}
-use Rattle.cabinet.proofs.State.{put-both}
+use Rattle.cabinet.proofs.State.{put-both, amounts-length}
 use Rattle.cabinet.proofs.put_amounts.Statement.{statement}
 use Rattle.cabinet.proofs.put_amounts.Tie as tie
 
@@ -27,6 +27,11 @@ returns c =
     let h : y ≡ amountBytes (st .args .amounts .aside) = copied _ _ y (ap length f ∙ simp (length-take, length-drop) (omega arith)) (c .before .before .copy2 .ensures .1) ∙ f in
     ap₂ (λ (a b : List ℕ). putMid asideAt 8 (putMid leftAt 8 l a) b) g h ∙ put-both l (amountBytes (st .args .amounts .left)) (amountBytes (st .args .amounts .aside)) p (omega arith)
 
+same-length : tie.Need-same-length
+same-length c =
+    let st = c .before .before .before .before .before .before .before .before .before .before .before .before .before in
+    ap length (returns c) ∙ amounts-length (st .args .state .now) (st .args .amounts) (st .pre)
+
 pub put-amounts-spec : {M : Type 1} → statement M
 put-amounts-spec =
     tie.close
@@ -43,5 +48,5 @@ put-amounts-spec =
     (λ c. search needs)
     (λ c. search needs)
     (λ c κs. search needs)
-    (λ c. search needs)
+    same-length
     returns)
