@@ -1,5 +1,5 @@
--- Two readers of an answer (document 02, Item 10): what each of them promises, and that they give the same store, reason
--- and object count.
+-- Two readers of an answer (document 02, Item 10): what each of them promises, and that they give the same store,
+-- reason and object count.
 -- Assumes nothing.
 use mathlib.Core.Path.{_≡_}
 use mathlib.Core.List.{List}

@@ -29,7 +29,8 @@ ghost use Rattle.tlv.specs.Tree.{parse};
 ghost use Rattle.reading.specs.Taking.{item, mayCome, byCard, standsIn, work, takeItem, takeNext, takeAll};
 ghost use Rattle.reading.specs.Count.{bodyObjects, answerObjects};
 ghost use Rattle.reading.specs.Both.{Answered, Agree};
-ghost use Rattle.reading.specs.Inner.{made, storeAfter, beginning, outerOf, contentsReading, Reads, counted, GivesIn, readOptions, readCryptogram};
+ghost use Rattle.reading.specs.Inner.{made, beginning, outerOf, contentsReading, storeAfter, GivesIn, readOptions, readCryptogram};
+ghost use Rattle.reading.specs.Inner.{Reads, counted};
 ghost use Rattle.reading.specs.Answer.{Gives, numberOf, answerBit, templateTag, primitive, issuerPart, readTree, readBody, isRead, goodStatus, readAnswer};
 
 // A record's file.

@@ -427,6 +427,47 @@ fn padding() {
     record("77 07 00 9F08020002 00", 2, 2, &[]);
 }
 
+/// Rows of the whole dictionary (document 02, Item 11).
+#[test]
+fn whole_dictionary() {
+    // The template directly around, one of up to five.
+    record("70 04 50024142", 3, 2, &[]);
+    record("70 06 A504 50024142", 0, 3, &["50 4142"]);
+    record("70 08 A506 E104 50024142", 3, 4, &[]);
+    record("70 09 6F07 8405A000000004", 0, 3, &["84 A000000004"]);
+    record("70 08 9F6E050840000102", 0, 2, &["9F6E 0840000102"]);
+    record("70 0B BF0C08 9F6E050840000102", 0, 3, &["9F6E 0840000102"]);
+    record("70 0A A508 9F6E050840000102", 3, 3, &[]);
+    body(OPTIONS, "77 08 9F6E050840000102", 3, 2, &[]);
+    record("70 07 9F6E0408400001", 3, 2, &[]);
+    body(OPTIONS, "77 06 DF4B03000100", 0, 2, &["DF4B 000100"]);
+    record("70 06 DF4B03000100", 3, 2, &[]);
+    body(OPTIONS, "77 03 8F0105", 0, 2, &["8F 05"]);
+    record("70 03 8F0105", 0, 2, &["8F 05"]);
+    let again = hex("70 03 8F0105 9000");
+    reads(RECORD, 1, &["8F 05"], &again, 3, 2, &[]);
+    for awaited in [OPTIONS, CRYPTOGRAM, CHECKSUM] {
+        body(awaited, "77 05 9F6002FFFF", 0, 2, &["9F60 FFFF"]);
+        body(awaited, "77 05 9F08020002", 3, 2, &[]);
+        body(awaited, "77 05 9F42020978", 3, 2, &[]);
+    }
+    // Of the card without a template; of start or session, private and not; without a row.
+    record("70 04 80020000", 3, 2, &[]);
+    record("70 08 DF83020401020304", 3, 2, &[]);
+    record("70 05 9F70020102", 3, 2, &[]);
+    record("70 05 DF81170100", 0, 2, &[]);
+    record("70 0B DF6008 0000000000000000", 0, 2, &[]);
+    record("70 05 9F15021234", 3, 2, &[]);
+    record("70 04 9F530152", 3, 2, &[]);
+    record("70 0E 9202AABB 9F4B01AA DF811202 9F02", 0, 4, &[]);
+    // Lengths and digits.
+    record("70 05 9F47020003", 0, 2, &["9F47 0003"]);
+    record("70 03 9F4700", 3, 2, &[]);
+    record("70 07 9F470400010001", 3, 2, &[]);
+    record("70 05 9F2002123F", 0, 2, &["9F20 123F"]);
+    record("70 05 9F200212F3", 3, 2, &[]);
+}
+
 #[test]
 fn not_read() {
     let card = hex("70 05 9F08020002 9000");
