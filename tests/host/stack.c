@@ -54,7 +54,7 @@ static void call_stop(void) { word = emv_stop(session, sizeof session, command, 
 static void call_count(void) { word = emv_count(session, sizeof session); }
 static void call_object(void) { word = emv_object(session, sizeof session, 0x9F26, value, sizeof value); }
 static void call_explain(void) { word = emv_explain(session, sizeof session); }
-static void call_find(void) { word = (uint32_t)emv_find(lent, lent_len, 0x9F7F); }
+static void call_find(void) { word = (uint32_t)emv_find(lent, lent_len, 0x5F60); }
 static void call_wipe(void) { word = emv_wipe(session, sizeof session); }
 
 /* Makes a call, prints its depth and holds the word to what is expected. */
@@ -82,7 +82,7 @@ static void measure(const char *name, void (*call)(void), const uint8_t *bytes, 
     "\x9F\x33\x03\xE0\xF8\xC8\xDF\x81\x26\x06\x00\x00\x00\x00\x25\x00\xDF\x81\x25\x06\x99\x99\x99\x99\x99\x99\xDF\x81\x1B\x01\x20" \
     "\x9F\x6A\x04\x00\x00\x34\x56"
 #define OPTIONS "\x80\x06\x10\x80\x08\x01\x02\x00\x90\x00"
-#define FOUR_LEVELS "\x70\x0B\xE1\x09\xE1\x07\xE1\x05\x9F\x7F\x02\x00\x02\x90\x00"
+#define FOUR_LEVELS "\x70\x0B\xE1\x09\xE1\x07\xE1\x05\x5F\x60\x02\x00\x02\x90\x00"
 #define RECORD \
     "\x70\x22\x5F\x24\x03\x30\x12\x31\x5A\x08\x47\x61\x73\x90\x01\x01\x00\x10\x8C\x02\x95\x05" \
     "\x8E\x0C\x00\x00\x00\x00\x00\x00\x00\x00\x42\x09\x5E\x03\x90\x00" /* a PIN over 0 in the card's currency, else a signature */
