@@ -1,5 +1,5 @@
-# Installs the library for a host in C: the headers, the archives and a pkg-config file. The archive of the card's side stands
-# beside the kernel's; who links it adds -lpersonalise.
+# Installs the library for a host in C: the headers, the archives and a pkg-config file. The archives of the card's side and of the
+# vending cabinet stand beside the kernel's; who links them adds -lpersonalise and -lcabinet.
 #
 #     make install [PREFIX=/usr/local] [DESTDIR=]
 #     make uninstall
@@ -14,6 +14,8 @@ header = include/tripodmoon.h
 flat_archive = target/staticlib/libhost_flat.a
 card_archive = target/staticlib/libpersonalise.a
 card_header = include/tripodmoon_personalise.h
+cabinet_archive = target/staticlib/libcabinet.a
+cabinet_header = include/tripodmoon_cabinet.h
 
 # The three parts of the library's version, from the header.
 word = $(shell sed -n 's/^.define EMV_VERSION \(0x[0-9A-Fa-f]*\)u$$/\1/p' $(header))
@@ -22,7 +24,8 @@ version = $(shell echo $$(($(word) >> 24)).$$(($(word) >> 16 & 255)).$$(($(word)
 headers = $(DESTDIR)$(PREFIX)/include
 folder = $(DESTDIR)$(PREFIX)/lib/tripodmoon
 package = $(DESTDIR)$(PREFIX)/lib/pkgconfig/tripodmoon.pc
-installed = '$(headers)/tripodmoon.h' '$(headers)/tripodmoon_personalise.h' '$(folder)/libhost.a' '$(folder)/libpersonalise.a' '$(package)'
+installed = '$(headers)/tripodmoon.h' '$(headers)/tripodmoon_personalise.h' '$(headers)/tripodmoon_cabinet.h' \
+    '$(folder)/libhost.a' '$(folder)/libpersonalise.a' '$(folder)/libcabinet.a' '$(package)'
 
 # The files of an archive's crates.
 crates = $(wildcard $(addprefix crates/,$(1) $(shell sed -n 's/^$(1)://p' crates.txt)))
@@ -30,7 +33,7 @@ sources = crates.txt $(shell find $(call crates,$(1)) -type f -not -path '*/must
 
 .PHONY: all flat install uninstall
 
-all: $(archive) $(card_archive)
+all: $(archive) $(card_archive) $(cabinet_archive)
 
 flat: $(flat_archive)
 
@@ -43,12 +46,17 @@ $(flat_archive): bin/host-flat tests/calls $(call sources,host)
 $(card_archive): $(call sources,personalise)
 	rt staticlib personalise
 
-install: $(archive) $(card_archive)
+$(cabinet_archive): $(call sources,cabinet)
+	rt staticlib cabinet
+
+install: $(archive) $(card_archive) $(cabinet_archive)
 	mkdir -p '$(headers)' '$(folder)' '$(dir $(package))'
 	cp $(header) '$(headers)/tripodmoon.h'
 	cp $(card_header) '$(headers)/tripodmoon_personalise.h'
+	cp $(cabinet_header) '$(headers)/tripodmoon_cabinet.h'
 	cp $(archive) '$(folder)/libhost.a'
 	cp $(card_archive) '$(folder)/libpersonalise.a'
+	cp $(cabinet_archive) '$(folder)/libcabinet.a'
 	printf '%s\n' 'prefix=$(PREFIX)' 'includedir=$${prefix}/include' 'libdir=$${prefix}/lib/tripodmoon' '' \
 	    'Name: tripodmoon' 'Description: One contactless payment session in EMV mode, proved' 'Version: $(version)' \
 	    'Cflags: -I$${includedir}' 'Libs: -L$${libdir} -lhost' >'$(package)'

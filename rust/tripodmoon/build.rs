@@ -1,5 +1,5 @@
-//! Links libhost.a, from target/staticlib at the repository's root or from where TRIPODMOON_LIB says; with the feature
-//! `personalise` libpersonalise.a too, from the same folder.
+//! Links libhost.a, from target/staticlib at the repository's root or from where TRIPODMOON_LIB says; with the features
+//! `personalise` and `cabinet` libpersonalise.a and libcabinet.a too, from the same folder.
 
 use std::path::{Path, PathBuf};
 use std::{env, process};
@@ -17,6 +17,9 @@ fn main() {
     let library = link(&folder, "host");
     if env::var_os("CARGO_FEATURE_PERSONALISE").is_some() {
         link(&folder, "personalise");
+    }
+    if env::var_os("CARGO_FEATURE_CABINET").is_some() {
+        link(&folder, "cabinet");
     }
     // DEP_HOST_LIBRARY for the crates that depend on this one.
     println!("cargo:library={}", library.display());

@@ -10,11 +10,15 @@ use reading::{Awaited, Readings};
 use record::Session;
 use run::Said;
 
+// The bytes of a cabinet's state.
+const STATE_SIZE: usize = RECORD_SIZE + 16;
+
 fn main() {
     statements();
     parts();
     readers();
     calls();
+    cabinet();
     card();
     judge();
 }
@@ -27,6 +31,7 @@ fn statements() {
     line(b"laws::most_contents", laws::most_contents());
     word(b"explain_calls::refusal_word", explain_calls::refusal_word());
     line(b"rank::rank, of offline", basics::wide(rank_of(Choice::Offline)));
+    found(b"cabinet_calls::most_approved", cabinet_calls::most_approved());
     let rows = dictionary::used_rows();
     line(b"dictionary::used_rows, the last", rows[45]);
 }
@@ -163,6 +168,55 @@ fn test_journal(bytes: &[u8], first: usize, part: usize) -> u32 {
 
 fn test_wanted(bytes: &[u8], out: &mut [u8]) -> usize {
     journal_test::emv_test_wanted(bytes, out)
+}
+
+// ---- the cabinet's calls
+
+fn cabinet() {
+    let mut state = [0u8; STATE_SIZE];
+    let mut command = [0u8; 261];
+    line(b"cabinet_size", cabinet::cabinet_size());
+    word(b"cabinet_open", cabinet_open(&mut state, 1000));
+    found(b"cabinet_left", cabinet_left(&state));
+    word(b"cabinet_start", cabinet_start(&mut state, b"", &mut command));
+    word(b"cabinet_answer", cabinet_answer(&mut state, b"\x90\x00", &mut command));
+    word(b"cabinet_link_failed", cabinet_link_failed(&mut state, &mut command));
+    word(b"cabinet_stop", cabinet_stop(&mut state, &mut command));
+    found(b"cabinet_find", cabinet_find(b"\x9C\x01\x00", b"\x9F\x35\x01\x22", 0x9F35));
+    line(b"cabinet_lookup::lookup, its length", looked_up(b"\x9C\x01\x00", b"\x9F\x35\x01\x22", 0x9F35));
+}
+
+fn cabinet_open(state: &mut [u8], cap: u64) -> u32 {
+    cabinet::cabinet_open(state, cap)
+}
+
+fn cabinet_start(state: &mut [u8], terminal: &[u8], command: &mut [u8]) -> u32 {
+    cabinet::cabinet_start(state, terminal, command)
+}
+
+fn cabinet_answer(state: &mut [u8], card: &[u8], command: &mut [u8]) -> u32 {
+    cabinet::cabinet_answer(state, card, command)
+}
+
+fn cabinet_link_failed(state: &mut [u8], command: &mut [u8]) -> u32 {
+    cabinet::cabinet_link_failed(state, command)
+}
+
+fn cabinet_stop(state: &mut [u8], command: &mut [u8]) -> u32 {
+    cabinet::cabinet_stop(state, command)
+}
+
+fn cabinet_left(state: &[u8]) -> u64 {
+    cabinet::cabinet_left(state)
+}
+
+fn cabinet_find(site: &[u8], defaults: &[u8], tag: u32) -> u64 {
+    cabinet::cabinet_find(site, defaults, tag)
+}
+
+fn looked_up<'a>(site: &'a [u8], defaults: &'a [u8], tag: u32) -> usize {
+    let value = cabinet_lookup::lookup(site, defaults, tag);
+    value.len()
 }
 
 fn card() {

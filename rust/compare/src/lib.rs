@@ -6,16 +6,21 @@
 //! decided, `stripe` what cards without EMV mode reached, `rows` which rows of the dictionary and `padding` where runs of 00 stood. `reading` compares single readings, with the object count that no call hands out,
 //! `find` the search for a tag in a card's bytes, and `explain` the explanations of records that no call may have left.
 //! `layout` draws lists of objects and layouts of the card's side, and `personalise` compares what is written for them.
+//! `customers` draws the calls of a vending cabinet, `cabinet` compares them and holds the sum, and `lookup` compares the
+//! lookup of its start objects.
 
 #![forbid(unsafe_code)]
 
+pub mod cabinet;
 pub mod card;
+pub mod customers;
 pub mod damage;
 pub mod explain;
 pub mod find;
 pub mod journal;
 pub mod layout;
 pub mod limit;
+pub mod lookup;
 pub mod objects;
 pub mod padding;
 pub mod personalise;

@@ -228,7 +228,7 @@ fn cvm_list(rng: &mut Rng) -> Vec<u8> {
 }
 
 /// Digits of an amount.
-fn amount(mut number: u64) -> Vec<u8> {
+pub fn amount(mut number: u64) -> Vec<u8> {
     let mut digits = vec![0; 6];
     for byte in digits.iter_mut().rev() {
         *byte = (number % 10 + number / 10 % 10 * 16) as u8;

@@ -562,7 +562,7 @@ fn make(side: &impl Side, step: &Step, session: &mut [u8], buffer: &mut [u8]) ->
 }
 
 /// Compares bytes; an error names the first that differs.
-fn same(what: &str, model: &[u8], other: &[u8]) -> Result<(), String> {
+pub(crate) fn same(what: &str, model: &[u8], other: &[u8]) -> Result<(), String> {
     if model == other {
         return Ok(());
     }

@@ -7,7 +7,23 @@ use model::dictionary::{Object, Row, REQUIRED_AT_START};
 
 /// Start bytes; with `faults` they mostly break a rule, some of them two.
 pub fn start(rng: &mut Rng, faults: bool) -> Vec<u8> {
+    let list = good_objects(rng);
+    encoded(rng, list, faults)
+}
+
+/// Start bytes of an amount; with `faults` they mostly break a rule, and may bring another amount.
+pub fn start_of(rng: &mut Rng, amount: u64, faults: bool) -> Vec<u8> {
     let mut list = good_objects(rng);
+    for (tag, value) in &mut list {
+        if *tag == Object::AmountAuthorised.row().tag {
+            *value = objects::amount(amount);
+        }
+    }
+    encoded(rng, list, faults)
+}
+
+/// The bytes of some objects, with faults or without.
+fn encoded(rng: &mut Rng, mut list: Vec<(u32, Vec<u8>)>, faults: bool) -> Vec<u8> {
     let faults = if faults {
         1 + usize::from(rng.one_in(3))
     } else {

@@ -15,6 +15,7 @@
 //! - `explain`: why a session made its choice
 //! - `journal`: the journal of a session, written from its calls and checked
 //! - `lookup`: a start object out of a site's bytes, else out of the defaults
+//! - `cabinet`: a vending cabinet's calls, with a cap on what is approved offline
 //! - `personalise`: the card's side, records and locator written from a list of objects
 
 #![no_std]
@@ -23,6 +24,7 @@
 extern crate alloc;
 
 pub mod analysis;
+pub mod cabinet;
 pub mod data_list;
 pub mod dictionary;
 pub mod explain;

@@ -23,7 +23,7 @@ pub const COMMAND_SIZE: usize = 261;
 /// Version of the record's layout.
 const VERSION: u8 = 5;
 
-/// A call that is refused changes nothing (document 01, refusals 20 to 25).
+/// A call that is refused changes nothing (document 01, refusals 20 to 25; document 02, Item 14, refusals 30 and 31).
 #[derive(Clone, Copy, Debug, PartialEq, Eq)]
 #[repr(u8)]
 pub enum Refusal {
@@ -39,6 +39,10 @@ pub enum Refusal {
     StartMissing = 24,
     /// The bytes hold no session record within its ranges.
     Record = 25,
+    /// Less is left of a cabinet's cap than the amount.
+    NotEnough = 30,
+    /// A cabinet's cap of more than twelve digits.
+    Cap = 31,
 }
 
 /// What a call hands back when it is not refused.
@@ -83,6 +87,13 @@ pub(crate) enum Phase {
     Checksum {
         limit: u64,
     },
+}
+
+impl Phase {
+    /// Whether the session has begun and not ended.
+    pub(crate) fn is_running(self) -> bool {
+        !matches!(self, Phase::Fresh | Phase::Ended { .. })
+    }
 }
 
 /// What the session does after the last record.

@@ -38,10 +38,13 @@
 //! of the session in docs/SPEC-MAP.md.
 //!
 //! With the feature `personalise` the module of that name writes a card's records and file locator, by
-//! a second archive.
+//! a second archive; with the feature `cabinet` the module of that name is a vending cabinet with a cap on
+//! offline approvals, by a third.
 
 #![no_std]
 
+#[cfg(feature = "cabinet")]
+pub mod cabinet;
 pub mod calls;
 #[cfg(feature = "personalise")]
 pub mod personalise;
@@ -155,7 +158,7 @@ pub enum Reply<'b> {
         /// The method of cardholder verification.
         method: Method,
     },
-    /// The call was refused, 20 to 25 (see [`refusal_text`]); session and buffer are as before.
+    /// The call was refused, 20 to 25, and by a cabinet 30 (see [`refusal_text`]); session and buffer are as before.
     Refused(u8),
 }
 
@@ -317,7 +320,7 @@ pub fn reason_text(reason: u8) -> &'static str {
     }
 }
 
-/// What a refusal means, in the same words as `replay`.
+/// What a refusal means, in the same words as `replay`; 30 and 31 are a cabinet's.
 pub fn refusal_text(number: u8) -> &'static str {
     match number {
         20 => "more than 1,024 start bytes, or other than whole primitive objects",
@@ -326,6 +329,8 @@ pub fn refusal_text(number: u8) -> &'static str {
         23 => "start object not allowed",
         24 => "mandatory start object missing",
         25 => "session record out of its ranges",
+        30 => "less left of the cap than the amount",
+        31 => "cap over 999,999,999,999",
         _ => "unknown refusal",
     }
 }

@@ -1,0 +1,392 @@
+// A vending cabinet over the kernel, for a host in C: one session at a time, and a cap on what is approved offline.
+//
+// The state lies in bytes that the host lends to every call: the session's record, then what is left of the cap, then the amount that the
+// running session sets aside. A start sets its amount aside; an approval spends it, and every other end gives it back. `cabinet_find` looks
+// a start object up in a site's list and the maker's defaults. docs/HOST.md has the state and the words.
+use dictionary::{ROW_9F02, SIZE};
+use layout::{Held, HEAD, RECORD_SIZE};
+use record::{Answer, Outcome, Phase, Turn};
+use session::LEAST_BUFFER;
+ghost use mathlib.Core.Path.{_≡_};
+ghost use Prim.Native.Nat.{_+_, _*_, _≤_, _<_};
+ghost use lib.Dec.{leb};
+ghost use lib.ListN.{length};
+ghost use Rattle.basics.specs.Number.{number as numberOf};
+ghost use Rattle.session.specs.Steps.{leastBuffer};
+ghost use Rattle.layout.specs.Word.{wordOf};
+ghost use Rattle.trace.specs.Claim.{isRunning};
+ghost use Rattle.cabinet_lookup.specs.Word.{placeWord};
+ghost use Rattle.cabinet.specs.State.{mostAmount, stateSize, amountBytes, amountIn, dueIn, cabinetIn};
+ghost use Rattle.cabinet.specs.Calls.{Did, Opened, leftAfter, leftWord, startHeld, startOver, answerOver, linkOver, stopOver};
+ghost use Rattle.cabinet.specs.Inner.{holdingIn, admissionOf, cabinetOf, ranged, freshStart, sizeIn, handedOver, withAmounts, settledOf, finished};
+
+// Refusals beside the kernel's: less is left than the amount of a start; a cap over the greatest amount.
+pub const REFUSED_LEFT: u8 = 30;
+pub const REFUSED_CAP: u8 = 31;
+
+// The greatest amount of twelve digits.
+const MOST_AMOUNT: u64 = 999999999999;
+
+// Where the two amounts stand behind the record, and how many bytes a state takes.
+const LEFT: usize = RECORD_SIZE;
+const ASIDE: usize = RECORD_SIZE + 8;
+const STATE_SIZE: usize = RECORD_SIZE + 16;
+
+// What is told to be left where every call but opening is refused with 25.
+const NO_AMOUNT: u64 = 0xFFFFFFFFFFFFFFFF;
+
+// What is left of the cap, and what is set aside.
+pub struct Amounts {
+    pub left: u64,
+    pub aside: u64,
+}
+
+// What a state says beside the session's store.
+pub struct Holding {
+    pub phase: Phase,
+    pub count: u8,
+    pub amounts: Amounts,
+}
+
+// Whether a call is taken, on what the state says, or the word of its refusal.
+pub enum Admission {
+    Taken(Holding),
+    Refused(u32),
+}
+
+// How many bytes a host lends for a cabinet.
+#[no_mangle]
+pub extern "C" fn cabinet_size() -> usize
+    ensures { λ r. ⌜ r ≡ stateSize ⌝ }
+{
+    STATE_SIZE
+}
+
+// Opens the cabinet with a cap, whatever the bytes held: 0, or refusal 25 where they are too few, then 31.
+#[no_mangle]
+pub extern "C" fn cabinet_open(state: &mut [u8], cap: u64) -> u32
+    ensures { λ r. ⌜ Opened cap r (now (state .entry)) (now (state .exit)) ⌝ }
+{
+    if state.len() < STATE_SIZE {
+        return layout::refusal_word(basics::REFUSED_RANGES);
+    }
+    if MOST_AMOUNT < cap {
+        return layout::refusal_word(REFUSED_CAP);
+    }
+    let store = store::empty();
+    layout::encode(Phase::Fresh, 0, &store.bytes, state);
+    put_amounts(Amounts { left: cap, aside: 0 }, state);
+    0
+}
+
+// Starts a session with the objects that the terminal brings, a fresh one after an end, and sets its amount aside.
+#[no_mangle]
+pub extern "C" fn cabinet_start(state: &mut [u8], terminal: &[u8], command: &mut [u8]) -> u32
+    ensures { λ r. ⌜ Did r (now (state .exit)) (now (command .exit))
+        (startOver (now (terminal .entry)) (now (state .entry)) (now (command .entry))) ⌝ }
+{
+    let admission = admit(state, command.len());
+    match admission {
+        Admission::Refused(word) => word,
+        Admission::Taken(holding) => start_held(holding, state, terminal, command),
+    }
+}
+
+// Takes the card's answer to the command that was handed out last, status bytes included.
+#[no_mangle]
+pub extern "C" fn cabinet_answer(state: &mut [u8], card: &[u8], command: &mut [u8]) -> u32
+    ensures { λ r. ⌜ Did r (now (state .exit)) (now (command .exit))
+        (answerOver (now (card .entry)) (now (state .entry)) (now (command .entry))) ⌝ }
+{
+    let admission = admit(state, command.len());
+    match admission {
+        Admission::Refused(word) => word,
+        Admission::Taken(holding) => {
+            let phase = holding.phase;
+            let amounts = holding.amounts;
+            let turn = session::answer_in(phase, holding.count, &mut state[HEAD..RECORD_SIZE], card, command);
+            finish(turn, amounts, state)
+        }
+    }
+}
+
+// The link to the card failed.
+#[no_mangle]
+pub extern "C" fn cabinet_link_failed(state: &mut [u8], command: &mut [u8]) -> u32
+    ensures { λ r. ⌜ Did r (now (state .exit)) (now (command .exit)) (linkOver (now (state .entry)) (now (command .entry))) ⌝ }
+{
+    let admission = admit(state, command.len());
+    match admission {
+        Admission::Refused(word) => word,
+        Admission::Taken(holding) => {
+            let phase = holding.phase;
+            let amounts = holding.amounts;
+            let turn = session::link_failed_in(phase, holding.count, &state[HEAD..RECORD_SIZE], command);
+            finish(turn, amounts, state)
+        }
+    }
+}
+
+// The terminal stops the session.
+#[no_mangle]
+pub extern "C" fn cabinet_stop(state: &mut [u8], command: &mut [u8]) -> u32
+    ensures { λ r. ⌜ Did r (now (state .exit)) (now (command .exit)) (stopOver (now (state .entry)) (now (command .entry))) ⌝ }
+{
+    let admission = admit(state, command.len());
+    match admission {
+        Admission::Refused(word) => word,
+        Admission::Taken(holding) => {
+            let phase = holding.phase;
+            let amounts = holding.amounts;
+            let turn = session::stop_in(phase, holding.count, &state[HEAD..RECORD_SIZE], command);
+            finish(turn, amounts, state)
+        }
+    }
+}
+
+// What is left of the cap; NO_AMOUNT where every call but opening is refused with 25.
+#[no_mangle]
+pub extern "C" fn cabinet_left(state: &[u8]) -> u64
+    ensures { λ r. ⌜ r ≡ leftWord (cabinetIn (now (state .entry))) ⌝ }
+{
+    let admission = holding_in(state);
+    let Admission::Taken(holding) = admission else {
+        return NO_AMOUNT;
+    };
+    let phase = holding.phase;
+    if !record::keeps(phase, holding.count, &state[HEAD..RECORD_SIZE]) {
+        return NO_AMOUNT;
+    }
+    holding.amounts.left
+}
+
+// Where the value of a tag lies, counted over the site's bytes and then the defaults': the start in bits 32 to 63, the length in bits 0 to 31.
+// In neither list: no bytes behind the site's, as of an empty value that ends them. All ones where both have 2^32 bytes or more.
+#[no_mangle]
+pub extern "C" fn cabinet_find(site: &[u8], defaults: &[u8], tag: u32) -> u64
+    ensures { λ r. ⌜ r ≡ placeWord tag (now (site .entry)) (now (defaults .entry)) ⌝ }
+{
+    cabinet_lookup::place(site, defaults, tag)
+}
+
+// A buffer that is too short is refused before a state that is not in order.
+fn admit(state: &[u8], size: usize) -> Admission
+    ensures { λ r. ⌜ r ≡ admissionOf (now (state .entry)) size ⌝ }
+{
+    if size < LEAST_BUFFER {
+        return Admission::Refused(layout::refusal_word(basics::REFUSED_BUFFER));
+    }
+    holding_in(state)
+}
+
+// What a state says, or refusal 25: all of its tests but the session's ranges, which the kernel's call makes.
+fn holding_in(state: &[u8]) -> Admission
+    ensures { λ r. ⌜ r ≡ holdingIn (now (state .entry)) ⌝ }
+{
+    let refused = Admission::Refused(layout::refusal_word(basics::REFUSED_RANGES));
+    if state.len() < STATE_SIZE {
+        return refused;
+    }
+    let held = layout::head_in(state);
+    let Held::Record(head) = held else {
+        return refused;
+    };
+    let phase = head.phase;
+    let left = eight(&state[LEFT..ASIDE]);
+    let aside = eight(&state[ASIDE..STATE_SIZE]);
+    if aside != due(phase, &state[HEAD..RECORD_SIZE]) {
+        return refused;
+    }
+    if !is_within(left, aside) {
+        return refused;
+    }
+    Admission::Taken(Holding { phase, count: head.count, amounts: Amounts { left, aside } })
+}
+
+// Whether two amounts together are at most the greatest amount.
+fn is_within(left: u64, aside: u64) -> bool
+    ensures { λ r. ⌜ r ≡ leb (left + aside) mostAmount ⌝ }
+{
+    if MOST_AMOUNT < aside {
+        return false;
+    }
+    left <= MOST_AMOUNT - aside
+}
+
+// What has to be set aside: the running session's amount.
+fn due(phase: Phase, bytes: &[u8]) -> u64
+    ensures { λ r. ⌜ r ≡ dueIn phase (now (bytes .entry)) ⌝ }
+{
+    if is_running(phase) {
+        return amount_in(bytes);
+    }
+    0
+}
+
+// Whether a session waits on an answer.
+fn is_running(phase: Phase) -> bool
+    ensures { λ r. ⌜ r ≡ isRunning phase ⌝ }
+{
+    match phase {
+        Phase::Fresh => false,
+        Phase::Options => true,
+        Phase::Record(_) => true,
+        Phase::Cryptogram(_) => true,
+        Phase::Checksum(_) => true,
+        Phase::Ended(_) => false,
+    }
+}
+
+// The amount of a store.
+fn amount_in(bytes: &[u8]) -> u64
+    ensures { λ r. ⌜ r ≡ amountIn (now (bytes .entry)) ⌝ }
+{
+    analysis::digits::amount_of(store::value(bytes, ROW_9F02))
+}
+
+// A start past the first tests: 25 where the session breaks its ranges, 21 where it runs.
+fn start_held(holding: Holding, state: &mut [u8], terminal: &[u8], command: &mut [u8]) -> u32
+    requires { ⌜ stateSize ≤ length (now state) ⌝ }
+    requires { ⌜ leastBuffer ≤ length (now command) ⌝ }
+    requires { ⌜ holding .amounts .left ≤ mostAmount ⌝ }
+    ensures { λ r. ⌜ Did r (now (state .exit)) (now (command .exit))
+        (ranged (startHeld (now (terminal .entry)) (now (state .entry)) (now (command .entry)))
+        (now (state .entry)) (now (command .entry)) (cabinetOf holding (now (state .entry)))) ⌝ }
+{
+    let phase = holding.phase;
+    if !record::keeps(phase, holding.count, &state[HEAD..RECORD_SIZE]) {
+        return layout::refusal_word(basics::REFUSED_RANGES);
+    }
+    if is_running(phase) {
+        return layout::refusal_word(basics::REFUSED_PHASE);
+    }
+    let amounts = holding.amounts;
+    start_fresh(amounts.left, state, terminal, command)
+}
+
+// A start on a fresh session and a command buffer of its own, which are copied over only where it is not refused: a refusal leaves an
+// ended session as it was.
+fn start_fresh(left: u64, state: &mut [u8], terminal: &[u8], command: &mut [u8]) -> u32
+    requires { ⌜ stateSize ≤ length (now state) ⌝ }
+    requires { ⌜ leastBuffer ≤ length (now command) ⌝ }
+    requires { ⌜ left ≤ mostAmount ⌝ }
+    ensures { λ r. ⌜ Did r (now (state .exit)) (now (command .exit))
+        (freshStart (now (terminal .entry)) left (now (state .entry)) (now (command .entry))) ⌝ }
+{
+    let mut store = [0u8; SIZE];
+    let mut first = [0u8; LEAST_BUFFER];
+    let turn = session::start_in(Phase::Fresh, 0, &mut store, terminal, &mut first);
+    let answer = turn.answer;
+    if let Answer::Refused(refusal) = answer {
+        return layout::refusal_word(refusal.number);
+    }
+    let amount = amount_in(&store);
+    if left < amount {
+        return layout::refusal_word(REFUSED_LEFT);
+    }
+    hand_over(answer, &first, command);
+    bytes::copy(&store, &mut state[HEAD..RECORD_SIZE]);
+    finish(turn, Amounts { left: left - amount, aside: amount }, state)
+}
+
+// Copies a command from the front of one buffer to the front of another; without a command nothing.
+fn hand_over(answer: Answer, first: &[u8], command: &mut [u8])
+    requires { ⌜ (sizeIn answer ≤ length (now first)) × (sizeIn answer ≤ length (now command)) ⌝ }
+    ensures { λ _. ⌜ now (command .exit) ≡ handedOver answer (now (first .entry)) (now (command .entry)) ⌝ }
+{
+    let Answer::Command(issued) = answer else {
+        return;
+    };
+    let size = issued.size;
+    bytes::copy(&first[..size], command);
+}
+
+// Writes the head and the amounts of a turn, whose store lies in its place, and gives the word of its answer. A refusal writes nothing.
+fn finish(turn: Turn, amounts: Amounts, state: &mut [u8]) -> u32
+    requires { ⌜ stateSize ≤ length (now state) ⌝ }
+    requires { ⌜ amounts .left + amounts .aside ≤ mostAmount ⌝ }
+    ensures { λ r. ⌜ (r ≡ wordOf (turn .answer)) × (now (state .exit) ≡ finished turn amounts (now (state .entry))) ⌝ }
+{
+    let answer = turn.answer;
+    if let Answer::Refused(_) = answer {
+        return layout::word(answer);
+    }
+    let phase = turn.phase;
+    layout::put_head(phase, turn.count, state);
+    put_amounts(settled(answer, amounts), state);
+    layout::word(answer)
+}
+
+// The amounts after an answer: an end leaves nothing set aside.
+fn settled(answer: Answer, amounts: Amounts) -> Amounts
+    requires { ⌜ amounts .left + amounts .aside ≤ mostAmount ⌝ }
+    ensures { λ r. ⌜ r ≡ settledOf answer amounts ⌝ }
+{
+    match answer {
+        Answer::Command(_) => amounts,
+        Answer::Outcome(end) => {
+            let outcome = end.outcome;
+            Amounts { left: left_after(outcome, amounts), aside: 0 }
+        }
+        Answer::Refused(_) => amounts,
+    }
+}
+
+// What is left after an end: an approval spends what is set aside, every other outcome gives it back.
+fn left_after(outcome: Outcome, amounts: Amounts) -> u64
+    requires { ⌜ amounts .left + amounts .aside ≤ mostAmount ⌝ }
+    ensures { λ r. ⌜ r ≡ leftAfter outcome (amounts .left) (amounts .aside) ⌝ }
+{
+    match outcome {
+        Outcome::Approved => amounts.left,
+        Outcome::OnlineRequest => amounts.left + amounts.aside,
+        Outcome::Declined => amounts.left + amounts.aside,
+        Outcome::Ended => amounts.left + amounts.aside,
+        Outcome::SelectNext => amounts.left + amounts.aside,
+    }
+}
+
+// Writes the two amounts behind the record.
+fn put_amounts(amounts: Amounts, state: &mut [u8])
+    requires { ⌜ stateSize ≤ length (now state) ⌝ }
+    ensures { λ _. ⌜ now (state .exit) ≡ withAmounts amounts (now (state .entry)) ⌝ }
+{
+    let left = amount_bytes(amounts.left);
+    bytes::copy(&left, &mut state[LEFT..ASIDE]);
+    let aside = amount_bytes(amounts.aside);
+    bytes::copy(&aside, &mut state[ASIDE..STATE_SIZE]);
+}
+
+// An amount as eight bytes, high byte first.
+fn amount_bytes(amount: u64) -> [u8; 8]
+    ensures { λ r. ⌜ r ≡ amountBytes amount ⌝ }
+{
+    [
+        (amount / 0x100000000000000) as u8,
+        (amount / 0x1000000000000 % 256) as u8,
+        (amount / 0x10000000000 % 256) as u8,
+        (amount / 0x100000000 % 256) as u8,
+        (amount / 0x1000000 % 256) as u8,
+        (amount / 0x10000 % 256) as u8,
+        (amount / 0x100 % 256) as u8,
+        (amount % 256) as u8,
+    ]
+}
+
+// Eight bytes as a number, high byte first.
+fn eight(s: &[u8]) -> u64
+    requires { ⌜ length (now s) ≡ 8 ⌝ }
+    ensures { λ r. ⌜ r ≡ numberOf (now (s .entry)) ⌝ }
+{
+    let high = four(s[0], s[1], s[2], s[3]);
+    let low = four(s[4], s[5], s[6], s[7]);
+    high * 0x100000000 + low
+}
+
+// Four bytes as a number, high byte first.
+fn four(a: u8, b: u8, c: u8, d: u8) -> u64
+    ensures { λ r. ⌜ (r ≡ ((a * 256 + b) * 256 + c) * 256 + d) × (r < 0x100000000) ⌝ }
+{
+    let n = basics::wide32(a) * 0x1000000 + basics::wide32(b) * 0x10000 + basics::wide32(c) * 0x100 + basics::wide32(d);
+    n as u64
+}

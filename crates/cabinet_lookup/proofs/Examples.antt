@@ -1,0 +1,80 @@
+-- Worked lookups, by computation: each rule on both sides of its edge, as the value and as the word that a host gets (start, then length).
+-- Assumes nothing.
+use mathlib.Core.Path.{_≡_, refl}
+use mathlib.Core.List.{List, [], _∷_, map}
+use Prim.Native.Nat.{ℕ}
+use Rattle.basics.specs.Choice.{if}
+use Rattle.basics.specs.Number.{numberFrom}
+use Rattle.basics.specs.Recursion.{recurseBy, recurse}
+use Rattle.tlv.specs.Tag.{tagSize, secondByte, thirdByte, tagAt, firstByte, isTemplate, isPrivate}
+use Rattle.tlv.specs.Length.{lengthAt, oneByte}
+use Rattle.tlv.specs.Object.{headerOf}
+use Rattle.tlv.specs.Primitives.{primitiveOf}
+use Rattle.cabinet_lookup.specs.Value.{held, firstValue, orElse, valueOf}
+use Rattle.cabinet_lookup.specs.Place.{shifted, firstAt, inBoth}
+use Rattle.cabinet_lookup.specs.Word.{placeWord}
+
+-- ---- the site's list has 9A and 9C, the defaults 9C and 9F1A; 9F35 is in neither
+
+abbrev site : List ℕ
+site = 0x9A ∷ 0x03 ∷ 0x25 ∷ 0x06 ∷ 0x15 ∷ 0x9C ∷ 0x01 ∷ 0x00 ∷ []
+
+abbrev defaults : List ℕ
+defaults = 0x9C ∷ 0x01 ∷ 0x20 ∷ 0x9F ∷ 0x1A ∷ 0x02 ∷ 0x00 ∷ 0x56 ∷ []
+
+abbrev tags : List ℕ
+tags = 0x9C ∷ 0x9F1A ∷ 0x9F35 ∷ []
+
+values : map (λ t. valueOf t site defaults) tags ≡ (0x00 ∷ []) ∷ (0x00 ∷ 0x56 ∷ []) ∷ [] ∷ []
+unfolding held firstValue orElse recurse recurseBy primitiveOf headerOf tagAt tagSize secondByte lengthAt firstByte isTemplate isPrivate numberFrom if
+values = refl
+
+-- at 7 of the site; at 6 of the defaults, which is 14 over both; no bytes at the front of the defaults
+places : map (λ t. placeWord t site defaults) tags ≡ 0x0000000700000001 ∷ 0x0000000E00000002 ∷ 0x0000000800000000 ∷ []
+unfolding placeWord firstAt shifted inBoth recurse recurseBy primitiveOf headerOf tagAt tagSize secondByte lengthAt firstByte isTemplate isPrivate numberFrom if
+places = refl
+
+-- ---- 9C by the site's list: empty there; behind a template; behind 00; twice; no list
+
+abbrev sites : List (List ℕ)
+sites =
+    (0x9C ∷ 0x00 ∷ [])
+    ∷ (0x9F ∷ 0x1A ∷ 0x02 ∷ 0x08 ∷ 0x40 ∷ 0x70 ∷ 0x00 ∷ 0x9C ∷ 0x01 ∷ 0x01 ∷ [])
+    ∷ (0x00 ∷ 0x9C ∷ 0x01 ∷ 0x01 ∷ [])
+    ∷ (0x9C ∷ 0x01 ∷ 0x01 ∷ 0x9C ∷ 0x01 ∷ 0x02 ∷ [])
+    ∷ []
+    ∷ []
+
+site-values : map (λ s. valueOf 0x9C s defaults) sites ≡ [] ∷ (0x20 ∷ []) ∷ (0x20 ∷ []) ∷ (0x01 ∷ []) ∷ (0x20 ∷ []) ∷ []
+unfolding held firstValue orElse recurse recurseBy primitiveOf headerOf tagAt tagSize secondByte lengthAt firstByte isTemplate isPrivate numberFrom if
+site-values = refl
+
+site-places : map (λ s. placeWord 0x9C s defaults) sites
+    ≡ 0x0000000200000000 ∷ 0x0000000C00000001 ∷ 0x0000000600000001 ∷ 0x0000000200000001 ∷ 0x0000000200000001 ∷ []
+unfolding placeWord firstAt shifted inBoth recurse recurseBy primitiveOf headerOf tagAt tagSize secondByte lengthAt firstByte isTemplate isPrivate numberFrom if
+site-places = refl
+
+-- ---- a list that is cut: objects in front of the broken one still count, the broken one is that of the defaults
+
+abbrev cut : List ℕ
+cut = 0x9C ∷ 0x01 ∷ 0x01 ∷ 0x9F ∷ 0x02 ∷ 0x06 ∷ 0x00 ∷ 0x00 ∷ []
+
+abbrev amounts : List ℕ
+amounts = 0x9C ∷ 0x01 ∷ 0x20 ∷ 0x9F ∷ 0x02 ∷ 0x06 ∷ 0x00 ∷ 0x00 ∷ 0x00 ∷ 0x00 ∷ 0x12 ∷ 0x34 ∷ []
+
+cut-values : map (λ t. valueOf t cut amounts) (0x9C ∷ 0x9F02 ∷ []) ≡ (0x01 ∷ []) ∷ (0x00 ∷ 0x00 ∷ 0x00 ∷ 0x00 ∷ 0x12 ∷ 0x34 ∷ []) ∷ []
+unfolding held firstValue orElse recurse recurseBy primitiveOf headerOf tagAt tagSize secondByte lengthAt firstByte isTemplate isPrivate numberFrom if
+cut-values = refl
+
+cut-places : map (λ t. placeWord t cut amounts) (0x9C ∷ 0x9F02 ∷ []) ≡ 0x0000000200000001 ∷ 0x0000000E00000006 ∷ []
+unfolding placeWord firstAt shifted inBoth recurse recurseBy primitiveOf headerOf tagAt tagSize secondByte lengthAt firstByte isTemplate isPrivate numberFrom if
+cut-places = refl
+
+-- ---- a template of the tag is no object; tags of three bytes and lengths behind 81; numbers that are no tag
+
+abbrev odd : List ℕ
+odd = 0xDF ∷ 0x81 ∷ 0x1B ∷ 0x81 ∷ 0x01 ∷ 0x7F ∷ 0x70 ∷ 0x03 ∷ 0x9C ∷ 0x01 ∷ 0x01 ∷ []
+
+odd-values : map (λ t. valueOf t odd defaults) (0xDF811B ∷ 0x70 ∷ 0x9C ∷ 0 ∷ 0x1DF811B ∷ []) ≡ (0x7F ∷ []) ∷ [] ∷ (0x20 ∷ []) ∷ [] ∷ [] ∷ []
+unfolding held firstValue orElse recurse recurseBy primitiveOf headerOf tagAt tagSize secondByte thirdByte lengthAt oneByte firstByte isTemplate isPrivate numberFrom if
+odd-values = refl

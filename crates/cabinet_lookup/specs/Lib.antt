@@ -1,0 +1,4 @@
+pub mod Value
+pub mod Place
+pub mod Address
+pub mod Word
