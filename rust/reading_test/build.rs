@@ -1,20 +1,22 @@
-//! Links libreading_test.a, from the folder in which tripodmoon found libhost.a.
+//! Links libreading_test.a and libreading_flat_test.a, from the folder in which tripodmoon found libhost.a.
 
 use std::path::PathBuf;
 use std::{env, process};
 
 fn main() {
     let host = env::var_os("DEP_HOST_LIBRARY").expect("tripodmoon hands on where libhost.a is");
-    let library = PathBuf::from(host).with_file_name("libreading_test.a");
     println!("cargo:rerun-if-env-changed=DEP_HOST_LIBRARY");
-    println!("cargo:rerun-if-changed={}", library.display());
-    let Some(folder) = library.parent().filter(|_| library.is_file()) else {
-        eprintln!(
-            "{} is not there: run `rt staticlib reading_test` at the repository's root",
-            library.display()
-        );
-        process::exit(1);
-    };
-    println!("cargo:rustc-link-search=native={}", folder.display());
-    println!("cargo:rustc-link-lib=static=reading_test");
+    for name in ["reading_test", "reading_flat_test"] {
+        let library = PathBuf::from(&host).with_file_name(format!("lib{name}.a"));
+        println!("cargo:rerun-if-changed={}", library.display());
+        let Some(folder) = library.parent().filter(|_| library.is_file()) else {
+            eprintln!(
+                "{} is not there: run `rt staticlib {name}` at the repository's root",
+                library.display()
+            );
+            process::exit(1);
+        };
+        println!("cargo:rustc-link-search=native={}", folder.display());
+        println!("cargo:rustc-link-lib=static={name}");
+    }
 }

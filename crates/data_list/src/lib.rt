@@ -11,7 +11,6 @@ ghost use Prim.Native.Nat.{_+_, _-_, _≤_, _<_};
 ghost use lib.ListN.{length, take, drop, replicate};
 ghost use Rattle.dictionary.specs.Rows.{rows};
 ghost use Rattle.dictionary.specs.Lent.{Lent};
-ghost use Rattle.store.specs.Place.{placesOf};
 ghost use Rattle.data_list.specs.Entries.{entryAt, listEntries};
 ghost use Rattle.data_list.specs.Filling.{cut, padding, padded, fitted, entryBytes, filled};
 ghost use Rattle.data_list.specs.Commands.{commandWith, optionsHead, processingOptions, generateAc, checksumWith, computeChecksum, handed, writtenOf, writtenNumber, listReason, bufferWith};
@@ -177,8 +176,7 @@ fn fill(list: &[u8], store: &[u8], buffer: &mut [u8], at: usize)
 {
     let tags = dictionary::tags();
     let codes = dictionary::codes();
-    let places = store::row_places();
-    fill_entries(list, store, buffer, at, &tags, &codes, &places);
+    fill_entries(list, store, buffer, at, &tags, &codes);
 }
 
 // The same with the table lent: entry by entry.
@@ -189,11 +187,9 @@ fn fill_entries(
     at: usize,
     tags: &[u32; ROWS],
     codes: &[u32; ROWS],
-    places: &[u32; ROWS],
 )
     requires { ⌜ Room (listEntries (now list)) at (length (now buffer)) ⌝ }
     requires { ⌜ Lent (now tags) (now codes) ⌝ }
-    requires { ⌜ now places ≡ placesOf rows ⌝ }
     ensures { λ _. ⌜ now (buffer .exit) ≡ overFilled (now (buffer .entry)) at (filled rows (now (store .entry)) (now (list .entry))) ⌝ }
 {
     let mut rest = list;
@@ -203,7 +199,7 @@ fn fill_entries(
         let EntryFront::Asked(entry, size) = front else {
             return;
         };
-        write_entry(entry, store, buffer, to, tags, codes, places);
+        write_entry(entry, store, buffer, to, tags, codes);
         to += basics::wide(entry.asked);
         rest = &rest[size..];
     }
@@ -238,11 +234,9 @@ fn write_entry(
     at: usize,
     tags: &[u32; ROWS],
     codes: &[u32; ROWS],
-    places: &[u32; ROWS],
 )
     requires { ⌜ at + entry .asked ≤ length (now buffer) ⌝ }
     requires { ⌜ Lent (now tags) (now codes) ⌝ }
-    requires { ⌜ now places ≡ placesOf rows ⌝ }
     ensures { λ _. ⌜ now (buffer .exit) ≡ over (now (buffer .entry)) at (entryBytes rows (now (store .entry)) entry) ⌝ }
 {
     let n = basics::wide(entry.asked);
@@ -255,7 +249,7 @@ fn write_entry(
         repeat(0, n, buffer, at);
         return;
     };
-    if !store::is_there_in(store, row, places) {
+    if !store::is_there(store, row) {
         repeat(0, n, buffer, at);
         return;
     }

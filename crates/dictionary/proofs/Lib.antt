@@ -2,6 +2,7 @@ pub mod Table
 pub mod Find
 pub mod Rule
 pub mod Halving
+pub mod Part
 pub mod Digits
 pub mod Fit
 pub mod Packing

@@ -3,7 +3,7 @@ use mathlib.Core.Path.{_≡_, refl}
 use Rattle.basics.specs.Choice.{if}
 use Rattle.dictionary.specs.declared.Found.the-variants.{At}
 use Rattle.dictionary.specs.Rows.{rows, past, find}
-use Rattle.dictionary.specs.Named.{row5A, row82, row8C, row8E, row94, row95, row9A, row9C, row5F24, row5F25, row5F28, row5F2A, row9F02, row9F03, row9F07, row9F08, row9F09, row9F0D, row9F0E, row9F0F, row9F10, row9F1A, row9F26, row9F27, row9F33, row9F34, row9F35, row9F36, row9F38, row9F40, row9F42, row9F61, row9F65, row9F66, row9F67, row9F69, row9F6A, row9F6B, rowDF811B, rowDF8120, rowDF8121, rowDF8122, rowDF8123, rowDF8124, rowDF8125, rowDF8126}
+use Rattle.dictionary.specs.Named.{row5A, row82, row8C, row8E, row94, row95, row9A, row9C, row5F24, row5F25, row5F28, row5F2A, row9F02, row9F03, row9F07, row9F08, row9F09, row9F0D, row9F0E, row9F0F, row9F10, row9F1A, row9F26, row9F27, row9F33, row9F34, row9F35, row9F36, row9F37, row9F38, row9F40, row9F42, row9F61, row9F65, row9F66, row9F67, row9F69, row9F6A, row9F6B, rowDF811B, rowDF8120, rowDF8121, rowDF8122, rowDF8123, rowDF8124, rowDF8125, rowDF8126}
 
 pub at-5A : find rows 0x5A ≡ At row5A
 unfolding if rows past find
@@ -116,6 +116,10 @@ at-9F35 = refl
 pub at-9F36 : find rows 0x9F36 ≡ At row9F36
 unfolding if rows past find
 at-9F36 = refl
+
+pub at-9F37 : find rows 0x9F37 ≡ At row9F37
+unfolding if rows past find
+at-9F37 = refl
 
 pub at-9F38 : find rows 0x9F38 ≡ At row9F38
 unfolding if rows past find

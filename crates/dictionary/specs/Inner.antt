@@ -1,11 +1,15 @@
--- What private functions promise, for their callers' proofs: digits byte by byte.
+-- What private functions promise, for their callers' proofs: digits byte by byte, and the part of the table that a tag
+-- can stand in.
 -- No rule of document 01 stands here: a reader of the rules can pass it over. proofs/Digits ties it to specs/Form:
--- `numeric-is` to `numeric`; `all-digits`, `is-ff`, `is-half` and `is-wrong` to `compressed`.
+-- `numeric-is` to `numeric`; `all-digits`, `is-ff`, `is-half` and `is-wrong` to `compressed`. proofs/Part ties `partOf`
+-- to `find`.
 -- Assumes nothing.
 use mathlib.Core.Bool.{Bool}
 use mathlib.Core.List.{List, [], _∷_}
 use Prim.Native.Nat.{ℕ, suc, _/_, _%_}
-use Rattle.basics.specs.Choice.{if_then_else_, _and_, _=?_, every}
+use Rattle.basics.specs.Choice.{if_then_else_, _and_, _<?_, _=?_, every}
+use Rattle.dictionary.specs.declared.Range.{Range}
+use Rattle.dictionary.specs.Rows.{rowCount}
 use Rattle.dictionary.specs.Form.{isDigit}
 
 -- both digits of a byte are decimal
@@ -22,3 +26,16 @@ digitBytes (b ∷ v) =
 -- every byte is FF
 unfoldable pub onlyFs : List ℕ → Bool
 onlyFs v = every (λ b. b =? 0xFF) v
+
+-- some rows of the table: from one on, up to one that is no more among them
+abbrev pub range : ℕ → ℕ → Range
+range from to = record { from = from; to = to }
+
+-- the rows among which a tag stands if it is known, by how many bytes it has and by its first one
+unfoldable pub partOf : ℕ → Range
+partOf t =
+    if t <? 0x100 then range 0 16
+    else if t <? 0x9F00 then range 16 25
+    else if t <? 0xDF00 then range 25 101
+    else if t <? 0x10000 then range 101 106
+    else range 106 rowCount

@@ -9,11 +9,11 @@ ghost use mathlib.Core.Bool.{true};
 ghost use mathlib.Core.List.{List, map};
 ghost use Prim.Native.Nat.{ℕ, _+_, _^_, _≤_, _<_};
 ghost use lib.ListN.{length, drop};
-ghost use Rattle.dictionary.specs.Rows.{Row, rows, rowAt, find};
+ghost use Rattle.dictionary.specs.Rows.{Row, rows, rowAt, rowCount, find};
 ghost use Rattle.dictionary.specs.Rule.{rising, proper};
 ghost use Rattle.dictionary.specs.Search.{searchOf, tagsOf, LooksCounted};
 ghost use Rattle.dictionary.specs.Form.{numeric, compressed, digitsFit, fitting};
-ghost use Rattle.dictionary.specs.Inner.{isDigits, digitBytes, onlyFs};
+ghost use Rattle.dictionary.specs.Inner.{partOf, isDigits, digitBytes, onlyFs};
 ghost use Rattle.dictionary.specs.Packing.{attributesOf, rowOf, codeOf, attributesIn};
 ghost use Rattle.dictionary.specs.Named.{placeOf, usedTags};
 ghost use Rattle.dictionary.specs.TerminalType.{listed};
@@ -114,6 +114,8 @@ pub const ROW_9F34: usize = 51;
 pub const ROW_9F35: usize = 52;
 
 pub const ROW_9F36: usize = 53;
+
+pub const ROW_9F37: usize = 54;
 
 pub const ROW_9F38: usize = 55;
 
@@ -392,6 +394,12 @@ pub struct Searched {
     pub looks: usize,
 }
 
+// Some rows of the table: from one on, up to one that is no more among them.
+pub struct Range {
+    pub from: usize,
+    pub to: usize,
+}
+
 // The row of a tag. The table it searches keeps its rule: rising, well-formed tags, lengths in order.
 pub fn lookup(tag: u32) -> Found
     ensures found { λ r. ⌜ r ≡ find rows tag ⌝ }
@@ -433,8 +441,53 @@ pub fn search(tags: &[u32], tag: u32) -> Searched
     }
 }
 
+// The row of a tag with the tags lent: the search goes over the part of the table that a tag of this many bytes, with this first
+// byte, can stand in.
+pub fn row_of(tags: &[u32], tag: u32) -> Searched
+    requires { ⌜ now tags ≡ tagsOf rows ⌝ }
+    ensures found { λ r. ⌜ r .found ≡ find rows tag ⌝ }
+    ensures few { λ r. ⌜ ((k : ℕ) → rowCount < 2 ^ k → r .looks ≤ k) ⌝ }
+{
+    let part = part_of(tag);
+    let from = part.from;
+    let to = part.to;
+    let searched = search(&tags[from..to], tag);
+    let looks = searched.looks;
+    let found = searched.found;
+    match found {
+        Found::At(k) => Searched {
+            found: Found::At(from + k),
+            looks,
+        },
+        Found::Unknown => Searched {
+            found: Found::Unknown,
+            looks,
+        },
+    }
+}
+
+// The rows of a tag's part: tags of one byte, of two from 5F on, from 9F on and from DF on, and of three.
+fn part_of(tag: u32) -> Range
+    ensures { λ r. ⌜ r ≡ partOf tag ⌝ }
+    ensures { λ r. ⌜ (r .from ≤ r .to) × (r .to ≤ rowCount) ⌝ }
+{
+    if tag < 0x100 {
+        return Range { from: 0, to: 16 };
+    }
+    if tag < 0x9F00 {
+        return Range { from: 16, to: 25 };
+    }
+    if tag < 0xDF00 {
+        return Range { from: 25, to: 101 };
+    }
+    if tag < 0x10000 {
+        return Range { from: 101, to: 106 };
+    }
+    Range { from: 106, to: ROWS }
+}
+
 // The rows of the tags that code uses, in the order of their constants.
-pub fn used_rows() -> [usize; 46]
+pub fn used_rows() -> [usize; 47]
     ensures { λ r. ⌜ r ≡ map placeOf usedTags ⌝ }
 {
     [
@@ -466,6 +519,7 @@ pub fn used_rows() -> [usize; 46]
         ROW_9F34,
         ROW_9F35,
         ROW_9F36,
+        ROW_9F37,
         ROW_9F38,
         ROW_9F40,
         ROW_9F42,

@@ -1,5 +1,5 @@
 -- Worked explanations, by computation: a record's word, with the objects that the row names put over one record that waits on the
--- cryptogram or has ended.
+-- cryptogram or has ended. The ranges are judged by one walk over the store, which Along ties to the rule.
 -- Assumes nothing.
 use mathlib.Core.Path.{_≡_, refl}
 use mathlib.Core.List.{List, [], _∷_, _++_, map}
@@ -12,8 +12,7 @@ use Rattle.dictionary.specs.Named.{placeOf}
 use Rattle.dictionary.specs.Rows.{rows, past, find, storeSize}
 use Rattle.dictionary.specs.Form.{numeric, digitsThenFs, compressed, digitsFit, fitting}
 use Rattle.dictionary.specs.TerminalType.{listed}
-use Rattle.store.specs.Place.{offsetIn, placeAt, held, valueAt, lengthByte, putAt, valueIn}
-use Rattle.store.specs.Held.{lengthIn}
+use Rattle.store.specs.Place.{offsetIn, placeAt, held, valueAt, putAt, valueIn}
 use Rattle.locator.specs.Entry.{keeps}
 use Rattle.locator.specs.Records.{entries, wholeEntries, sumOf, accepts}
 use Rattle.analysis.specs.Bits.{bit}
@@ -26,15 +25,19 @@ use Rattle.analysis.specs.declared.choice.Choice.{Choice}
 use Rattle.analysis.specs.declared.verification.Method.{Method}
 use Rattle.record.specs.declared.Outcome.{Outcome}
 use Rattle.record.specs.declared.Phase.{Phase}
+use Rattle.record.specs.declared.Session.{Session}
+use Rattle.record.specs.Inner.{placeFits}
 use Rattle.record.specs.Numbers.{goesWith}
 use Rattle.record.specs.Session.{sessionOf, endOf}
-use Rattle.record.specs.Ranges.{objectFits, allFit, isBrought, brought, lastAbsent, running, completed, freshRanges, optionsRanges, recordRanges, cryptogramRanges, endedRanges, inRanges}
+use Rattle.record.specs.Ranges.{isBrought, brought, lastAbsent, running, completed, freshRanges, optionsRanges, recordRanges, cryptogramRanges, endedRanges}
+use Rattle.record.proofs.Along.{fitAlong}
 use Rattle.session.specs.Answer.{decision}
 use Rattle.explain.specs.declared.Stage.{Stage}
 use Rattle.explain.specs.declared.Holder.{Holder}
 use Rattle.explain.specs.declared.Explanation.{Explanation}
-use Rattle.explain.specs.Explain.{stageIn, decidingIn, holderOf, pairAt, reasonAt, rankOf, endedIn, endedBy, explained}
+use Rattle.explain.specs.Explain.{stageIn, decidingIn, holderOf, pairAt, reasonAt, rankOf, endedIn, endedBy}
 use Rattle.explain.specs.Word.{noBit, choiceWord, wordOf}
+use Rattle.explain.proofs.Along.{told, told-along}
 
 -- ---- numbers
 
@@ -86,15 +89,14 @@ usual = five 0x80 0 0 0 0
 abbrev zero5 : List ℕ
 zero5 = five 0 0 0 0 0
 
--- the word of a record that waits on the cryptogram with a choice
-abbrev waiting : Choice → ℕ → List ℕ → List Object → ℕ
+-- a record that waits on the cryptogram with a choice
+abbrev waiting : Choice → ℕ → List ℕ → List Object → Session
 waiting c type results more =
-    wordOf (explained (sessionOf (Phase.Cryptogram (record { choice = c; method = Method.NoCvm; limit = 10000 })) 4 (without 0 (more ++ complete type results))))
+    sessionOf (Phase.Cryptogram (record { choice = c; method = Method.NoCvm; limit = 10000 })) 4 (without 0 (more ++ complete type results))
 
--- the word of one that ended with an outcome and reason 0, without an object
-abbrev ended : ℕ → Outcome → ℕ → List Object → ℕ
-ended lacking o information more =
-    wordOf (explained (sessionOf (Phase.Ended (endOf o 0)) 4 (without lacking (more ++ answered information ++ complete 0x22 usual))))
+-- one that ended with an outcome and reason 0, without an object
+abbrev ended : ℕ → Outcome → ℕ → List Object → Session
+ended lacking o information more = sessionOf (Phase.Ended (endOf o 0)) 4 (without lacking (more ++ answered information ++ complete 0x22 usual))
 
 -- the word of a refusal, of no choice and of a lower cryptogram
 abbrev refused : ℕ
@@ -110,97 +112,98 @@ lower = wordOf Explanation.LowerCryptogram
 
 -- an absent online code is ones: the card asks for bit 0; with a code of zeros no bit forces anything, and a choice that does not fit
 -- is refused
-waiting-online : waiting Choice.Online 0x22 usual [] ∷ waiting Choice.Offline 0x22 usual ((0x9F0F, zero5) ∷ []) ∷ waiting Choice.Offline 0x22 usual []
-    ∷ waiting Choice.Online 0x22 (five 0x80 0x40 0 0 0) ((0x9F0F, zero5) ∷ (0xDF8122, five 0 0x40 0 0 0) ∷ []) ∷ []
+waiting-online : told (waiting Choice.Online 0x22 usual [] ∷ waiting Choice.Offline 0x22 usual ((0x9F0F, zero5) ∷ []) ∷ waiting Choice.Offline 0x22 usual []
+    ∷ waiting Choice.Online 0x22 (five 0x80 0x40 0 0 0) ((0x9F0F, zero5) ∷ (0xDF8122, five 0 0x40 0 0 0) ∷ []) ∷ [])
     ≡ choiceWord Stage.Online Holder.Card 0 ∷ choiceWord Stage.Online Holder.Nobody noBit ∷ refused ∷ choiceWord Stage.Online Holder.Terminal 9 ∷ []
-unfolding explained stageIn decidingIn holderOf pairAt reasonAt bit front holdsBit lowestFrom lowestBit cardCode heldAt capabilityAt choiceOf codesOf chosen
-    inRanges allFit objectFits lengthIn lengthByte fitting digitsFit numeric compressed digitsThenFs nibbles putAt placeOf valueIn valueAt placeAt held offsetIn find past rows
+unfolding stageIn decidingIn holderOf pairAt reasonAt bit front holdsBit lowestFrom lowestBit cardCode heldAt capabilityAt choiceOf codesOf chosen
+    fitAlong placeFits fitting digitsFit numeric compressed digitsThenFs nibbles putAt placeOf valueIn valueAt placeAt held offsetIn find past rows
     cryptogramRanges limitOf phoneIn onDevice amountOf decimalFrom running brought isBrought lastAbsent completed listed accepts wholeEntries entries keeps sumOf every both either if
-waiting-online = refl
+waiting-online = told-along _ _ refl
 
 -- the lowest bit of the denial codes alone, by the terminal, and by both where the lower one is not set; at type 21 too
-waiting-denial : waiting Choice.Decline 0x22 (five 0x80 0x40 0 0x80 0) ((0x9F0E, five 0 0 0 0x80 0) ∷ (0xDF8121, five 0 0x40 0 0x80 0) ∷ [])
+waiting-denial : told (waiting Choice.Decline 0x22 (five 0x80 0x40 0 0x80 0) ((0x9F0E, five 0 0 0 0x80 0) ∷ (0xDF8121, five 0 0x40 0 0x80 0) ∷ [])
     ∷ waiting Choice.Decline 0x22 (five 0x80 0 0 0x80 0) ((0x9F0E, five 0 0 0 0x80 0) ∷ (0xDF8121, five 0 0x40 0 0x80 0) ∷ [])
-    ∷ waiting Choice.Decline 0x21 (five 0x80 0 0 0x80 0) ((0x9F0E, five 0 0 0 0x80 0) ∷ []) ∷ []
+    ∷ waiting Choice.Decline 0x21 (five 0x80 0 0 0x80 0) ((0x9F0E, five 0 0 0 0x80 0) ∷ []) ∷ [])
     ≡ choiceWord Stage.Denial Holder.Terminal 9 ∷ choiceWord Stage.Denial Holder.Both 24 ∷ choiceWord Stage.Denial Holder.Card 24 ∷ []
-unfolding explained stageIn decidingIn holderOf pairAt reasonAt bit front holdsBit lowestFrom lowestBit cardCode heldAt capabilityAt choiceOf codesOf chosen
-    inRanges allFit objectFits lengthIn lengthByte fitting digitsFit numeric compressed digitsThenFs nibbles putAt placeOf valueIn valueAt placeAt held offsetIn find past rows
+unfolding stageIn decidingIn holderOf pairAt reasonAt bit front holdsBit lowestFrom lowestBit cardCode heldAt capabilityAt choiceOf codesOf chosen
+    fitAlong placeFits fitting digitsFit numeric compressed digitsThenFs nibbles putAt placeOf valueIn valueAt placeAt held offsetIn find past rows
     cryptogramRanges limitOf phoneIn onDevice amountOf decimalFrom running brought isBrought lastAbsent completed listed accepts wholeEntries entries keeps sumOf every both either if
-waiting-denial = refl
+waiting-denial = told-along _ _ refl
 
 -- the online-only type; the default stage with an absent code, with its last bit, and with none
-waiting-types : waiting Choice.Online 0x21 usual [] ∷ waiting Choice.Decline 0x23 usual []
+waiting-types : told (waiting Choice.Online 0x21 usual [] ∷ waiting Choice.Decline 0x23 usual []
     ∷ waiting Choice.Decline 0x26 (five 0x80 0 0 0 1) ((0x9F0D, five 0 0 0 0 1) ∷ (0xDF8120, five 0 0 0 0 1) ∷ [])
-    ∷ waiting Choice.Offline 0x36 usual ((0x9F0D, five 0x7F 0xFF 0xFF 0xFF 0xFF) ∷ []) ∷ []
+    ∷ waiting Choice.Offline 0x36 usual ((0x9F0D, five 0x7F 0xFF 0xFF 0xFF 0xFF) ∷ []) ∷ [])
     ≡ choiceWord Stage.OnlineOnly Holder.Nobody noBit ∷ choiceWord Stage.Default Holder.Card 0 ∷ choiceWord Stage.Default Holder.Both 39
     ∷ choiceWord Stage.Default Holder.Nobody noBit ∷ []
-unfolding explained stageIn decidingIn holderOf pairAt reasonAt bit front holdsBit lowestFrom lowestBit cardCode heldAt capabilityAt choiceOf codesOf chosen
-    inRanges allFit objectFits lengthIn lengthByte fitting digitsFit numeric compressed digitsThenFs nibbles putAt placeOf valueIn valueAt placeAt held offsetIn find past rows
+unfolding stageIn decidingIn holderOf pairAt reasonAt bit front holdsBit lowestFrom lowestBit cardCode heldAt capabilityAt choiceOf codesOf chosen
+    fitAlong placeFits fitting digitsFit numeric compressed digitsThenFs nibbles putAt placeOf valueIn valueAt placeAt held offsetIn find past rows
     cryptogramRanges limitOf phoneIn onDevice amountOf decimalFrom running brought isBrought lastAbsent completed listed accepts wholeEntries entries keeps sumOf every both either if
-waiting-types = refl
+waiting-types = told-along _ _ refl
 
 -- ---- ended with reason 0
 
 -- the cryptogram that was asked for, and a lower one
-ended-given : ended 0 Outcome.OnlineRequest 0x80 [] ∷ ended 0 Outcome.Declined 0x00 [] ∷ ended 0 Outcome.OnlineRequest 0x80 ((0x9F0F, zero5) ∷ [])
-    ∷ ended 0 Outcome.Approved 0x40 ((0x9F0F, zero5) ∷ []) ∷ []
+ended-given : told (ended 0 Outcome.OnlineRequest 0x80 [] ∷ ended 0 Outcome.Declined 0x00 [] ∷ ended 0 Outcome.OnlineRequest 0x80 ((0x9F0F, zero5) ∷ [])
+    ∷ ended 0 Outcome.Approved 0x40 ((0x9F0F, zero5) ∷ []) ∷ [])
     ≡ choiceWord Stage.Online Holder.Card 0 ∷ lower ∷ lower ∷ choiceWord Stage.Online Holder.Nobody noBit ∷ []
-unfolding explained endedBy endedIn rankOf decision stageIn decidingIn holderOf pairAt reasonAt bit front holdsBit lowestFrom lowestBit cardCode heldAt capabilityAt choiceOf codesOf chosen
-    inRanges allFit objectFits lengthIn lengthByte fitting digitsFit numeric compressed digitsThenFs nibbles putAt placeOf valueIn valueAt placeAt held offsetIn find past rows
+unfolding endedBy endedIn rankOf decision stageIn decidingIn holderOf pairAt reasonAt bit front holdsBit lowestFrom lowestBit cardCode heldAt capabilityAt choiceOf codesOf chosen
+    fitAlong placeFits fitting digitsFit numeric compressed digitsThenFs nibbles putAt placeOf valueIn valueAt placeAt held offsetIn find past rows
     endedRanges goesWith every both either if
-ended-given = refl
+ended-given = told-along _ _ refl
 
 -- an approval of an online choice; a decline with an ARQC; no 9F27, DF8122 or 95
-ended-refused : ended 0 Outcome.Approved 0x40 [] ∷ ended 0 Outcome.Declined 0x80 [] ∷ map (λ t. ended t Outcome.OnlineRequest 0x80 []) (0x9F27 ∷ 0xDF8122 ∷ 0x95 ∷ [])
+ended-refused : told (ended 0 Outcome.Approved 0x40 [] ∷ ended 0 Outcome.Declined 0x80 [] ∷ map (λ t. ended t Outcome.OnlineRequest 0x80 []) (0x9F27 ∷ 0xDF8122 ∷ 0x95 ∷ []))
     ≡ replicate 5 refused
-unfolding explained endedBy endedIn rankOf decision stageIn decidingIn holderOf pairAt reasonAt bit front holdsBit lowestFrom lowestBit cardCode heldAt capabilityAt choiceOf codesOf chosen
-    inRanges allFit objectFits lengthIn lengthByte fitting digitsFit numeric compressed digitsThenFs nibbles putAt placeOf valueIn valueAt placeAt held offsetIn find past rows
+unfolding endedBy endedIn rankOf decision stageIn decidingIn holderOf pairAt reasonAt bit front holdsBit lowestFrom lowestBit cardCode heldAt capabilityAt choiceOf codesOf chosen
+    fitAlong placeFits fitting digitsFit numeric compressed digitsThenFs nibbles putAt placeOf valueIn valueAt placeAt held offsetIn find past rows
     endedRanges goesWith every both either if
-ended-refused = refl
+ended-refused = told-along _ _ refl
 
 -- the terminal's denial code and its type are needed; a code of a stage that is not consulted is not, and where denial decides the
 -- type is not
-ended-needs : map (λ t. ended t Outcome.OnlineRequest 0x80 []) (0xDF8121 ∷ 0x9F35 ∷ 0xDF8120 ∷ [])
-    ++ (ended 0x9F35 Outcome.Declined 0x00 ((0x9F0E, usual) ∷ []) ∷ [])
+ended-needs : told (map (λ t. ended t Outcome.OnlineRequest 0x80 []) (0xDF8121 ∷ 0x9F35 ∷ 0xDF8120 ∷ [])
+    ++ (ended 0x9F35 Outcome.Declined 0x00 ((0x9F0E, usual) ∷ []) ∷ []))
     ≡ refused ∷ refused ∷ choiceWord Stage.Online Holder.Card 0 ∷ choiceWord Stage.Denial Holder.Card 0 ∷ []
-unfolding explained endedBy endedIn rankOf decision stageIn decidingIn holderOf pairAt reasonAt bit front holdsBit lowestFrom lowestBit cardCode heldAt capabilityAt choiceOf codesOf chosen
-    inRanges allFit objectFits lengthIn lengthByte fitting digitsFit numeric compressed digitsThenFs nibbles putAt placeOf valueIn valueAt placeAt held offsetIn find past rows
+unfolding endedBy endedIn rankOf decision stageIn decidingIn holderOf pairAt reasonAt bit front holdsBit lowestFrom lowestBit cardCode heldAt capabilityAt choiceOf codesOf chosen
+    fitAlong placeFits fitting digitsFit numeric compressed digitsThenFs nibbles putAt placeOf valueIn valueAt placeAt held offsetIn find past rows
     endedRanges goesWith every both either if
-ended-needs = refl
+ended-needs = told-along _ _ refl
 
 -- ---- no choice, a reason
 
-abbrev inPhase : Phase → ℕ → List Object → ℕ
-inPhase p n objects = wordOf (explained (sessionOf p n (without 0 objects)))
+abbrev inPhase : Phase → ℕ → List Object → Session
+inPhase p n objects = sessionOf p n (without 0 objects)
 
-before-choice : inPhase Phase.Fresh 0 [] ∷ inPhase Phase.Options 1 (started 0x22 zero5)
-    ∷ inPhase (Phase.Record (record { number = 1; limit = 10000 })) 2 (opened 0x22 zero5) ∷ [] ≡ replicate 3 noChoice
-unfolding explained inRanges allFit objectFits lengthIn lengthByte fitting digitsFit numeric nibbles putAt placeOf valueIn valueAt placeAt held offsetIn find past rows
+before-choice : told (inPhase Phase.Fresh 0 [] ∷ inPhase Phase.Options 1 (started 0x22 zero5)
+    ∷ inPhase (Phase.Record (record { number = 1; limit = 10000 })) 2 (opened 0x22 zero5) ∷ []) ≡ replicate 3 noChoice
+unfolding fitAlong placeFits fitting digitsFit numeric nibbles putAt placeOf valueIn valueAt placeAt held offsetIn find past rows
     freshRanges optionsRanges recordRanges limitOf phoneIn onDevice amountOf decimalFrom front bit running brought isBrought lastAbsent listed accepts wholeEntries entries keeps sumOf every both either if
-before-choice = refl
+before-choice = told-along _ _ refl
 
 -- 6 goes with select next alone
-with-reason : inPhase (Phase.Ended (endOf Outcome.SelectNext 6)) 3 [] ∷ inPhase (Phase.Ended (endOf Outcome.Ended 8)) 4 []
-    ∷ inPhase (Phase.Ended (endOf Outcome.Ended 9)) 1 [] ∷ inPhase (Phase.Ended (endOf Outcome.Ended 6)) 3 [] ∷ []
+with-reason : told (inPhase (Phase.Ended (endOf Outcome.SelectNext 6)) 3 [] ∷ inPhase (Phase.Ended (endOf Outcome.Ended 8)) 4 []
+    ∷ inPhase (Phase.Ended (endOf Outcome.Ended 9)) 1 [] ∷ inPhase (Phase.Ended (endOf Outcome.Ended 6)) 3 [] ∷ [])
     ≡ map (λ n. wordOf (Explanation.Reason n)) (6 ∷ 8 ∷ 9 ∷ []) ++ (refused ∷ [])
-unfolding explained endedBy endedIn inRanges allFit objectFits lengthIn lengthByte valueIn valueAt placeAt held offsetIn find past rows endedRanges goesWith every both either if
-with-reason = refl
+unfolding endedBy endedIn fitAlong placeFits valueIn valueAt placeAt held offsetIn find past rows endedRanges goesWith every both either if
+with-reason = told-along _ _ refl
 
 -- in mag-stripe mode: every outcome of reason 0, whatever else is stored; a reason is told; without 82, and with byte 2 b8 set, it is
 -- explained by what is there
-abbrev endedWith : Outcome → ℕ → List Object → ℕ
+abbrev endedWith : Outcome → ℕ → List Object → Session
 endedWith o n objects = inPhase (Phase.Ended (endOf o n)) 3 objects
 
 in-stripe-mode :
-    endedWith Outcome.OnlineRequest 0 ((0x82, 0x00 ∷ 0x00 ∷ []) ∷ started 0x22 zero5)
+    told
+    (endedWith Outcome.OnlineRequest 0 ((0x82, 0x00 ∷ 0x00 ∷ []) ∷ started 0x22 zero5)
     ∷ endedWith Outcome.Declined 0 ((0x82, 0xFF ∷ 0x7F ∷ []) ∷ (0xDF811B, 0x80 ∷ []) ∷ [])
     ∷ endedWith Outcome.Approved 0 ((0x82, 0x00 ∷ 0x00 ∷ []) ∷ answered 0x40 ++ complete 0x22 usual)
     ∷ endedWith Outcome.Ended 4 ((0x82, 0x00 ∷ 0x00 ∷ []) ∷ [])
     ∷ endedWith Outcome.OnlineRequest 0 (started 0x22 zero5)
     ∷ endedWith Outcome.OnlineRequest 0 ((0x82, 0x00 ∷ 0x80 ∷ []) ∷ started 0x22 zero5)
-    ∷ []
+    ∷ [])
     ≡ noChoice ∷ noChoice ∷ noChoice ∷ wordOf (Explanation.Reason 4) ∷ refused ∷ refused ∷ []
-unfolding explained endedBy endedIn rankOf decision stageIn decidingIn holderOf pairAt reasonAt bit front holdsBit lowestFrom lowestBit cardCode heldAt capabilityAt choiceOf codesOf chosen
-    inRanges allFit objectFits lengthIn lengthByte fitting digitsFit numeric compressed digitsThenFs nibbles putAt placeOf valueIn valueAt placeAt held offsetIn find past rows
+unfolding endedBy endedIn rankOf decision stageIn decidingIn holderOf pairAt reasonAt bit front holdsBit lowestFrom lowestBit cardCode heldAt capabilityAt choiceOf codesOf chosen
+    fitAlong placeFits fitting digitsFit numeric compressed digitsThenFs nibbles putAt placeOf valueIn valueAt placeAt held offsetIn find past rows
     endedRanges goesWith every both either if
-in-stripe-mode = refl
+in-stripe-mode = told-along _ _ refl

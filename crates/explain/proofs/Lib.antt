@@ -1,3 +1,4 @@
 pub mod Laws
 pub mod Complete
+pub mod Along
 pub mod Examples

@@ -76,7 +76,7 @@ fn walk(bytes: &[u8], tag: u32) -> Found
     let mut end = bytes.len();
     let mut found = Found::Absent;
     loop {
-        let following = tlv::next(&bytes[at..end]);
+        let following = tlv::behind_padding(&bytes[at..end]);
         match following {
             Following::Malformed => return Found::Malformed,
             Following::End => {

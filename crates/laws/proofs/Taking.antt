@@ -10,19 +10,19 @@ use Prim.Native.Nat.{ℕ, _≤_, _<_}
 use native.Mathlib.Omega.{arith}
 use lib.Dec.{eqb}
 use lib.ListN.{length}
-use Rattle.basics.specs.Choice.{both}
-use Rattle.basics.proofs.Laws.{if-yes, bool-cases}
+use Rattle.basics.specs.Choice.{if, both}
+use Rattle.basics.proofs.Laws.{if-yes, if-no, bool-cases}
 use Rattle.tlv.specs.Tag.{isPrivate}
 use Rattle.dictionary.specs.declared.Found.{Found}
 use Rattle.dictionary.specs.declared.Found.the-variants.{At, Unknown}
 use Rattle.dictionary.specs.Rows.{rows, rowAt, find, rowCount, storeSize}
 use Rattle.dictionary.proofs.Find.{found}
 use Rattle.dictionary.proofs.Fit.{fits-length}
-use Rattle.store.specs.Place.{Value, bytesOf, isFree, putAt, putIf}
+use Rattle.store.specs.Place.{Value, bytesOf, isFree, putAt}
 use Rattle.store.proofs.Laws.{Fits, put-length, put-other, put-put}
 use Rattle.store.proofs.Rows.{rows-length, fits-row}
 use Rattle.reading.specs.Taking.{Item, byCard, mayCome, Work, work, takeItem, takeAll}
-use Rattle.reading.proofs.Laws.{item-unknown, item-skipped, item-barred, item-put, may-come-fits, next-good, next-bad}
+use Rattle.reading.proofs.Laws.{item-unknown, item-skipped, item-barred, item-put, item-again, may-come-fits, next-good, next-bad}
 use Rattle.reading.proofs.Kept.{All}
 
 module _ (answer : ℕ) where
@@ -33,7 +33,7 @@ module _ (answer : ℕ) where
     row : k < rowCount
     tag : rowAt k .tag ≡ i .tag
     short : length (i .value) ≤ rowAt k .greatest
-    puts : (b : List ℕ) → takeItem answer b i ≡ work (isFree rows b k) (putIf (isFree rows b k) rows b k (i .value))
+    puts : (b : List ℕ) → takeItem answer b i ≡ work (isFree rows b k) (if (isFree rows b k) (putAt rows b k (i .value)) b)
 
   data Effect (i : Item) : Type 0 where
     skipped : ((b : List ℕ) → takeItem answer b i ≡ work true b) → Effect i
@@ -54,7 +54,11 @@ module _ (answer : ℕ) where
                 row = omega (arith, rows-length);
                 tag = f .1;
                 short = l .1;
-                puts = λ b. item-put answer b i (find rows (i .tag)) refl k e s m (isFree rows b k) refl;
+                puts = λ b.
+                    elim (bool-cases (isFree rows b k))
+                    [ inl t ↦ item-put answer b i (find rows (i .tag)) refl k e s m t ∙ sym (ap₂ work t (if-yes _ _ t))
+                    | inr t ↦ item-again answer b i (find rows (i .tag)) refl k e s m t ∙ sym (ap₂ work t (if-no _ _ t))
+                    ];
               })
           | inr m ↦ barred (λ b. item-barred answer b i (find rows (i .tag)) refl k e s m)
         ]
@@ -75,7 +79,7 @@ module _ (answer : ℕ) where
     fit : Fits rows b k (i .value)
     fit = fits-row b k (i .value) (t .size) (s .row) (s .short)
 
-    same : work (isFree rows b k) (putIf (isFree rows b k) rows b k (i .value)) ≡ work true c
+    same : work (isFree rows b k) (if (isFree rows b k) (putAt rows b k (i .value)) b) ≡ work true c
     same = sym (s .puts b) ∙ t .is
 
     free : isFree rows b k ≡ true

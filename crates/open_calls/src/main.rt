@@ -33,7 +33,7 @@ fn statements() {
     line(b"rank::rank, of offline", basics::wide(rank_of(Choice::Offline)));
     found(b"cabinet_calls::most_approved", cabinet_calls::most_approved());
     let rows = dictionary::used_rows();
-    line(b"dictionary::used_rows, the last", rows[45]);
+    line(b"dictionary::used_rows, the last", rows[46]);
 }
 
 fn rank_of(choice: Choice) -> u8 {
@@ -97,7 +97,7 @@ fn test_read(store: &mut [u8], awaited: u32, file: u8, card: &[u8]) -> u32 {
 }
 
 fn test_read_flat(store: &mut [u8], awaited: u32, file: u8, card: &[u8]) -> u32 {
-    reading_test::emv_test_read_flat(store, awaited, file, card)
+    reading_flat_test::emv_test_read_flat(store, awaited, file, card)
 }
 
 // ---- the exported calls

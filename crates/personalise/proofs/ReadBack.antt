@@ -71,8 +71,8 @@ take-one b o s f =
     let k = known o s in
     let e = known-place o k in
     item-put cardRecord b (item recordTemplate (o .tag) (o .value)) (find rows (o .tag)) refl (k .place) (k .found)
-    (both-no-right _ _ (ap not (both-left _ _ (k .comes)))) (k .comes) true (sym f ∙ ap (isFree rows b) e)
-    ∙ ap (work true) (if-yes _ _ refl ∙ ap (λ (i : ℕ). putAt rows b i (o .value)) (sym e))
+    (both-no-right _ _ (ap not (both-left _ _ (k .comes)))) (k .comes) (sym (ap (isFree rows b) e) ∙ f)
+    ∙ ap (λ (i : ℕ). work true (putAt rows b i (o .value))) (sym e)
 
 take-leaves : (b : List ℕ) (os : List Object) → every settable os ≡ true → distinct os ≡ true → length b ≡ storeSize → FreeIn b os
     → takeAll cardRecord (work true b) (items recordTemplate (leaves os)) ≡ work true (putObjects b os)

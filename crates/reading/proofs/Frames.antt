@@ -9,7 +9,7 @@ use Prim.Native.Nat.{ℕ, zero, suc, _+_, _-_, _*_, _≤_, _<_}
 use native.Mathlib.Numerals.{add-one}
 use native.Mathlib.Omega.{arith}
 use lib.ListN.{length, take, drop, getD, set, length-take, length-drop, length-set}
-use lib.Seq.{take-take, take-nil, drop-drop, take-all, getD-set-same, getD-set-other}
+use lib.Seq.{take-take, drop-drop, take-all, getD-set-same, getD-set-other}
 use Rattle.tlv.specs.declared.Header.{Header}
 use Rattle.tlv.specs.declared.Following.the-variants.{End, Inner, Malformed}
 use Rattle.tlv.specs.Object.{valueIn, behind}
@@ -23,6 +23,8 @@ use Rattle.reading.specs.declared.Contents.the-variants.{Whole, Broken}
 use Rattle.reading.specs.Taking.{Work, work, item, items, takeNext, takeAll}
 use Rattle.reading.specs.Inner.{tally, Has, Then, Leaves}
 use Rattle.reading.proofs.Laws.{take-join}
+use Rattle.reading.specs.Listing.{Within}
+use Rattle.reading.proofs.Listing.{drop-take, within-part}
 use Rattle.reading.proofs.Walk.{on-leaf}
 
 -- ---- what the open templates still hold
@@ -91,12 +93,6 @@ module _ (answer : ℕ) (r : Contents) (b : List ℕ) where
 
 abbrev pub part : List ℕ → ℕ → ℕ → List ℕ
 part s a e = take (e - a) (drop a s)
-
-drop-take : (m n : ℕ) (l : List ℕ) → drop m (take n l) ≡ take (n - m) (drop m l)
-drop-take zero n l = let e : n ≡ n - 0 = omega arith in ap (λ (k : ℕ). take k l) e
-drop-take (suc m) zero l = let e : 0 ≡ 0 - suc m = omega arith in ap (λ (k : ℕ). take k (drop (suc m) l)) e
-drop-take (suc m) (suc n) [] = sym (take-nil (suc n - suc m))
-drop-take (suc m) (suc n) (x ∷ l) = let e : n - m ≡ suc n - suc m = omega arith in drop-take m n l ∙ ap (λ (k : ℕ). take k (drop m l)) e
 
 module _ (s : List ℕ) (a e : ℕ) (h : Header) (x : nextOf (part s a e) ≡ Inner h) where
   -- its value starts two bytes on at least, and ends where its part ends at the latest
@@ -172,7 +168,7 @@ module _ (ends tags : List ℕ) (i e t : ℕ) where
 
 -- ---- the invariant, and each turn of the walk
 
--- after n objects: the working store b, which was c at the front, whether all were allowed, and what is left of the innermost template
+-- after n objects: the store b with what was listed, which was c at the front, whether all were allowed, and what is left of the innermost template
 pub record Reached (s : List ℕ) (tag answer : ℕ) (c b ends around : List ℕ) (depth : ℕ) (rest : List ℕ) (n : ℕ) (g : Bool) : Type 0 where
   pub ends-four : length ends ≡ 4
   pub around-four : length around ≡ 4
@@ -185,9 +181,13 @@ pub record Reached (s : List ℕ) (tag answer : ℕ) (c b ends around : List ℕ
   pub same : (r : Contents) (d : List ℕ) → Left answer r d (frame rest (getD around depth 0) ∷ opened s ends around depth (getD ends depth 0)) n (work g b)
     → Leaves answer tag 1 (work true c) (parse 3 s) r d
 
+-- what is left of the bytes: of the innermost template and of those around it
+abbrev pub unread : List ℕ → List ℕ → ℕ → List ℕ → ℕ
+unread s ends depth rest = length rest + (length s - getD ends depth 0)
+
 -- the measure of the walk: what is left of the bytes, twice, and the open levels
 abbrev pub ahead : List ℕ → List ℕ → ℕ → List ℕ → ℕ
-ahead s ends depth rest = 2 * (length rest + (length s - getD ends depth 0)) + depth
+ahead s ends depth rest = 2 * unread s ends depth rest + depth
 
 -- at the front the outer template is open, and it is the one object
 pub begin : (s : List ℕ) (tag answer : ℕ) (c ends around : List ℕ) → length ends ≡ 4 → length around ≡ 4 → getD ends 0 0 ≡ length s → getD around 0 0 ≡ tag
@@ -272,6 +272,12 @@ module _ {s : List ℕ} {tag answer : ℕ} {c b ends around : List ℕ} {depth :
           let l = part-length s stop next (o .0) (o .1) in
           omega arith
 
+      pub close-unread : unread s ends (depth - 1) (part s stop next) ≤ unread s ends depth rest
+      close-unread =
+          let o = outer-end in
+          let l = part-length s stop next (o .0) (o .1) in
+          omega arith
+
   module _ (h : Header) (q : nextOf rest ≡ Inner h) where
     -- an object's value starts two bytes on at least, and ends inside what is left
     pub bounds : (2 ≤ h .start) × ((h .start + h .len ≤ length rest) × (length rest ≤ length s))
@@ -333,7 +339,10 @@ module _ {s : List ℕ} {tag answer : ℕ} {c b ends around : List ℕ} {depth :
     pub leaf-less : ahead s ends depth after < ahead s ends depth rest
     leaf-less = let i = bounds in let l = after-length in omega arith
 
-    -- the end of a template that is opened
+    pub leaf-unread : 2 + unread s ends depth after ≤ unread s ends depth rest
+    leaf-unread = let i = bounds in let l = after-length in omega arith
+
+    -- the end of a template that is opened, and of an object's value
     abbrev inner-end : ℕ
     inner-end = stop - length after
 
@@ -342,6 +351,20 @@ module _ {s : List ℕ} {tag answer : ℕ} {c b ends around : List ℕ} {depth :
 
     end-beyond : inner-end ≡ beyond
     end-beyond = let i = bounds in let l = after-length in omega (arith, w .fits)
+
+    -- where a value ends, and where it stands in a body in which the bytes stand
+    pub value-ends : h .len ≤ inner-end
+    value-ends = omega (arith, end-beyond)
+
+    pub value-within : {body : List ℕ} {a : ℕ} → Within body a s → Within body (a + inner-end - h .len) (contents rest (h .start) (h .len))
+    value-within {body} {a} v =
+        let i = bounds in
+        let j = inside in
+        let n : beyond - (at + h .start) ≡ h .len = omega arith in
+        let p : a + (at + h .start) ≡ a + inner-end - h .len = omega (arith, end-beyond) in
+        subst (λ (x : ℕ). Within body x (contents rest (h .start) (h .len))) p
+        (subst (Within body (a + (at + h .start))) (ap (λ (k : ℕ). take k (drop (at + h .start) s)) (sym n) ∙ sym value-at)
+        (within-part (at + h .start) (h .len) v (omega (arith, w .fits))))
 
     module _ (z : depth + 1 ≡ 4 → ⊥) where
       abbrev ends′ : List ℕ
@@ -397,3 +420,6 @@ module _ {s : List ℕ} {tag answer : ℕ} {c b ends around : List ℕ} {depth :
 
       pub push-less : ahead s ends′ (depth + 1) (contents rest (h .start) (h .len)) < ahead s ends depth rest
       push-less = let i = bounds in let j = inside in let l = value-length in rw end-is (omega (arith, w .fits))
+
+      pub push-unread : unread s ends′ (depth + 1) (contents rest (h .start) (h .len)) ≤ unread s ends depth rest
+      push-unread = let i = bounds in let j = inside in let l = value-length in rw end-is (omega (arith, w .fits))

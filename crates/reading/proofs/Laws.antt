@@ -1,19 +1,18 @@
 -- The laws of taking objects: one for each way an object goes, and objects one after the other. Assumes nothing.
-use mathlib.Core.Path.{_≡_, refl, sym, ap, ap₂, _∙_}
+use mathlib.Core.Path.{_≡_, refl, sym, ap, _∙_}
 use mathlib.Core.Bool.{Bool, true, false, not}
 use mathlib.Core.List.{List, [], _∷_, _++_}
 use Prim.Native.Nat.{ℕ, _+_}
-use lib.ListN.{length}
 use Rattle.basics.specs.Choice.{both}
 use Rattle.basics.proofs.Laws.{if-yes, if-no, both-true, both-right, both-no-left}
 use Rattle.tlv.specs.Tag.{isPrivate}
 use Rattle.dictionary.specs.declared.Found.{Found}
 use Rattle.dictionary.specs.declared.Found.the-variants.{At, Unknown}
 use Rattle.dictionary.specs.declared.Attributes.{Attributes}
-use Rattle.dictionary.specs.Rows.{Row, rows, rowAt, find, storeSize}
+use Rattle.dictionary.specs.Rows.{Row, rows, rowAt, find}
 use Rattle.dictionary.specs.Packing.{attributesOf, rowOf}
 use Rattle.dictionary.specs.Form.{fitting}
-use Rattle.store.specs.Place.{isFree, putIf}
+use Rattle.store.specs.Place.{isFree, putAt}
 use Rattle.reading.specs.Taking.{Item, mayStand, byCard, mayCome, allowed, Work, work, takeKnown, takeFound, takeItem, takeNext, takeAll}
 
 -- ---- one object
@@ -38,10 +37,14 @@ module _ (answer : ℕ) (b : List ℕ) (i : Item) (x : Found) (p : x ≡ find ro
 
     -- an object that may come is put where no bytes are there yet
     pub item-put : both (isPrivate (i .tag)) (not (byCard (rowAt k))) ≡ false → mayCome answer (rowAt k) (i .around) (i .value) ≡ true
-        → (r : Bool) → r ≡ isFree rows b k → takeItem answer b i ≡ work r (putIf r rows b k (i .value))
+        → isFree rows b k ≡ true → takeItem answer b i ≡ work true (putAt rows b k (i .value))
     unfolding allowed
-    item-put s a true e = known ∙ if-no _ _ s ∙ if-yes _ _ (both-true _ a ∙ sym e) ∙ ap (work true) (sym (if-yes _ _ refl))
-    item-put s a false e = known ∙ if-no _ _ s ∙ if-no _ _ (both-true _ a ∙ sym e) ∙ ap (work false) (sym (if-no _ _ refl))
+    item-put s a e = known ∙ if-no _ _ s ∙ if-yes _ _ (both-true _ a ∙ e)
+
+    pub item-again : both (isPrivate (i .tag)) (not (byCard (rowAt k))) ≡ false → mayCome answer (rowAt k) (i .around) (i .value) ≡ true
+        → isFree rows b k ≡ false → takeItem answer b i ≡ work false b
+    unfolding allowed
+    item-again s a e = known ∙ if-no _ _ s ∙ if-no _ _ (both-true _ a ∙ e)
 
 -- attributes of a row: what is skipped and what may come by them
 pub row-skipped : (t : ℕ) (x : Row) {r : Bool} {a : Attributes} → r ≡ both (isPrivate t) (not (byCard (rowOf a))) → a ≡ attributesOf x
@@ -81,11 +84,3 @@ took answer w i is e = ap (λ (z : Work). takeAll answer z is) (sym e)
 pub took-all : (answer : ℕ) (w : Work) → takeAll answer w [] ≡ w
 unfolding takeAll
 took-all answer w = refl
-
--- what a function says and leaves, from the work that it did
-pub gave : {w : Work} {r : Bool} {b : List ℕ} → w ≡ work r b → length b ≡ storeSize → (r ≡ w .good) × ((b ≡ w .store) × (length b ≡ storeSize))
-gave e l = (ap (λ (x : Work). x .good) (sym e), (ap (λ (x : Work). x .store) (sym e), l))
-
--- the work that a function did, from what it said and left
-pub did : {w : Work} {r : Bool} {b : List ℕ} → r ≡ w .good → b ≡ w .store → work r b ≡ w
-did e f = ap₂ work e f

@@ -1,4 +1,5 @@
 pub mod Laws
+pub mod Listing
 pub mod Walk
 pub mod Frames
 pub mod Parts

@@ -19,9 +19,10 @@ use Rattle.reading.specs.declared.Verdict.{Verdict}
 use Rattle.reading.specs.declared.Reading.{Reading}
 use Rattle.reading.specs.declared.Tally.{Tally}
 use Rattle.reading.specs.declared.Contents.the-variants as contents
-use Rattle.reading.specs.Taking.{item, items, Work, work, takeAll}
+use Rattle.reading.specs.Taking.{item, items, Work, work, takeNext, takeAll}
 use Rattle.reading.specs.Inner.{made, tally, Leaves}
 use Rattle.reading.specs.Answer.{numberOf, Outcome, outcome, Gives, Body, primitive, template, templateBody, frontBody, bodyOf, answerBit, templateTag, optionsParts, issuerPart, cryptogramParts, primitiveParts, templateParts, judged, takenParts, readTree, readBody}
+use Rattle.reading.proofs.Laws.{took, took-all}
 use Rattle.reading.proofs.Walk.{whole-broken}
 
 -- a reading that is made of parts gives the outcome of those parts, with the store that its verdict leaves
@@ -81,6 +82,17 @@ module _ (v : List ℕ) where
   cryptogram-whole a b =
       if-yes _ _ (both-yes _ _ (le-leb _ _ a) (le-leb _ _ b))
       ∙ ap (λ (z : List ℕ). some (item 0x77 0x9F27 (take 1 v) ∷ item 0x77 0x9F36 (take 2 (drop 1 v)) ∷ item 0x77 0x9F26 (take 8 (drop 3 v)) ∷ issuerPart z)) (sym (tail-is v 11))
+
+-- a primitive body whose parts are taken one after the other
+pub options-taken : (b v : List ℕ) → 6 ≤ length v → length v ≤ 250 → (length v - 2) % 4 ≡ 0 → {w u : Work}
+    → w ≡ takeNext 1 (work true b) (item 0x77 0x82 (take 2 v)) → u ≡ takeNext 1 w (item 0x77 0x94 (tail v 2)) → takenParts Options b 1 (optionsParts v) ≡ judged b 1 u
+options-taken b v l m n p q = ap (takenParts Options b 1) (options-whole v l m n) ∙ ap (judged b 1) (took 1 _ _ _ p ∙ took 1 _ _ _ q ∙ took-all 1 _)
+
+pub cryptogram-taken : (b v : List ℕ) → 11 ≤ length v → length v ≤ 43 → {w u x y : Work}
+    → w ≡ takeNext 4 (work true b) (item 0x77 0x9F27 (take 1 v)) → u ≡ takeNext 4 w (item 0x77 0x9F36 (take 2 (drop 1 v)))
+    → x ≡ takeNext 4 u (item 0x77 0x9F26 (take 8 (drop 3 v))) → y ≡ takeAll 4 x (issuerPart (tail v 11))
+    → takenParts Cryptogram b 1 (cryptogramParts v) ≡ judged b 1 y
+cryptogram-taken b v l m p q r e = ap (takenParts Cryptogram b 1) (cryptogram-whole v l m) ∙ ap (judged b 1) (took 4 _ _ _ p ∙ took 4 _ _ _ q ∙ took 4 _ _ _ r ∙ sym e)
 
 module _ (t : ℕ) (v : List ℕ) where
   pub wrong-tag : (a : Awaited) → (t ≡ 0x80 → ⊥) → primitiveParts a t v ≡ none

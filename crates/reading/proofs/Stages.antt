@@ -1,5 +1,5 @@
 -- The stages of a reading, which both readers share, are those of its definition: how it begins (`answer-begun`), the body's one object
--- (`outer-object`), a template's contents (`contents-judged`), and the working copy. Below each stage stands what a function that is at
+-- (`outer-object`), a template's contents (`contents-judged`), and the store with what was listed. Below each stage stands what a function that is at
 -- that stage promises, so that both readers' proofs cite it. Assumes nothing.
 use mathlib.Core.Path.{_≡_, refl, sym, ap, subst, subst⁻¹, _∙_}
 use mathlib.Core.Bool.{Bool, true, false}
@@ -9,9 +9,9 @@ use Prim.Native.Nat.{ℕ, _+_, _-_, _*_, _≤_, _<_}
 use native.Mathlib.Omega.{arith}
 use lib.ListN.{length, take, length-take, length-drop}
 use lib.Dec.{eqb}
-use borrow.Author.Tests.{eqb-true, eqb-false, le-leb, lt-leb}
+use borrow.Author.Tests.{eqb-true, eqb-false, le-leb, lt-leb, leb-true}
 use Rattle.basics.specs.Choice.{if}
-use Rattle.basics.proofs.Laws.{if-yes, if-no, if-ind, both-yes, both-no-left, both-no-right}
+use Rattle.basics.proofs.Laws.{if-yes, if-no, if-ind, both-yes, both-no-left, both-no-right, both-right}
 use Rattle.tlv.specs.declared.Header.{Header}
 use Rattle.tlv.specs.declared.Front.{Front}
 use Rattle.tlv.specs.declared.Front.the-variants.{Object, Broken}
@@ -30,11 +30,13 @@ use Rattle.reading.specs.declared.Outer.the-variants as outer
 use Rattle.reading.specs.declared.Contents.{Contents}
 use Rattle.reading.specs.declared.Contents.the-variants as said
 use Rattle.reading.specs.Taking.{work}
+use Rattle.reading.specs.Listing.{laid, Listing}
 use Rattle.reading.specs.Answer.{numberOf, Outcome, outcome, Gives, primitive, templateBody, frontBody, bodyOf, answerBit, readTree, readBody, isRead, goodStatus, goodLength, readAnswer}
 use Rattle.reading.specs.Count.{bodyObjects, answerObjects}
 use Rattle.reading.specs.Inner.{storeAfter, GivesIn, readTemplate, made, beginning, outerFront, outerOf, contentsReading, Leaves, counted}
 use Rattle.reading.proofs.Parts.{gives, regive, restore, broken-contents, whole-contents, tree-wrong, tree-refused, tree-taken}
 use Rattle.reading.proofs.Count.{answer-tree, body-tree}
+use Rattle.reading.proofs.Listing.{noneListed, laid-none}
 
 -- ---- the beginning: one law for each way out, and what is read from there
 
@@ -64,15 +66,16 @@ module _ (a : Awaited) (s : List ℕ) where
     unfolding beginning
     begin-body e f = if-yes _ _ good-length ∙ if-yes _ _ e ∙ if-yes _ _ f
 
-  -- a body is the answer's first bytes
-  pub begin-size : (n : ℕ) → beginning a s ≡ begins.Body n → n ≤ length s
-  unfolding beginning
+  -- a body is the answer's first bytes, 256 at most
+  pub begin-size : (n : ℕ) → beginning a s ≡ begins.Body n → (n ≤ length s) × (n ≤ 256)
+  unfolding beginning goodLength
   begin-size n =
-      let P : Beginning → Type 0 = λ x. x ≡ begins.Body n → n ≤ length s in
+      let P : Beginning → Type 0 = λ x. x ≡ begins.Body n → (n ≤ length s) × (n ≤ 256) in
       if-ind P _ _ _
-      (λ t. if-ind P _ _ _ (λ u. if-ind P _ _ _ (λ v e. let z : length s - 2 ≡ n = cc in omega arith) (λ v e. none-here Accepted e)) (λ u e. none-here BadStatus e)) (λ t e. none-here Malformed e)
+      (λ t. if-ind P _ _ _ (λ u. if-ind P _ _ _ (λ v e. let z : length s - 2 ≡ n = cc in let m : length s ≤ 258 = leb-true _ _ (both-right _ _ t) in (omega arith, omega arith)) (λ v e. none-here Accepted e)) (λ u e. none-here BadStatus e))
+      (λ t e. none-here Malformed e)
     where
-      none-here : (v : Verdict) → begins.Decided v ≡ begins.Body n → n ≤ length s
+      none-here : (v : Verdict) → begins.Decided v ≡ begins.Body n → (n ≤ length s) × (n ≤ 256)
       none-here v e = let z : _≡_ {A = ℕ} 0 1 = cc in absurd (omega arith)
 
   -- what a beginning leads to, into the store b
@@ -112,6 +115,14 @@ module _ (a : Awaited) (s b : List ℕ) {r : Reading} where
       let g : Gives r c (readAnswer a b s) = regive (sym (answer-begun a s b ∙ ap (begun a s b) q)) e in
       let m = simp length-take at h in
       (g, (l, (omega arith, answer-tree a b s g)))
+
+-- what is said of a whole reading, by how it begins
+module _ (a : Awaited) (s b : List ℕ) where
+  pub decided-judged : (v : Verdict) → beginning a s ≡ begins.Decided v → numberOf v ≡ readAnswer a b s .reason
+  decided-judged v q = ap (λ (o : Outcome). o .reason) (sym (answer-begun a s b ∙ ap (begun a s b) q))
+
+  pub body-reason : (n : ℕ) {k : ℕ} → beginning a s ≡ begins.Body n → k ≡ readBody a b (take n s) .reason → k ≡ readAnswer a b s .reason
+  body-reason n q e = e ∙ ap (λ (o : Outcome). o .reason) (sym (answer-begun a s b ∙ ap (begun a s b) q))
 
 -- ---- the body's one object
 
@@ -184,26 +195,26 @@ contents-counted a t (said.Whole u) =
     let P : Reading → Type 0 = λ r. r .objects ≡ u .objects in
     if-ind P _ _ _ (λ e. if-ind P _ _ _ (λ g. refl) (λ g. refl)) (λ e. refl)
 
--- what the reading of one object promises, into a working copy that was b and is w
-abbrev One : Awaited → List ℕ → List ℕ → Reading → List ℕ → Type 0
-One a s b r w = GivesIn r b w (readBody a b s) × ((length w ≡ storeSize) × (2 * r .objects ≤ length s))
+-- what the reading of one object promises, where the store with what was listed was b and is w, and K holds of the list
+abbrev One : Awaited → List ℕ → List ℕ → Reading → List ℕ → Type 0 → Type 0
+One a s b r w K = GivesIn r b w (readBody a b s) × (K × (2 * r .objects ≤ length s))
 
-module _ (a : Awaited) (s b : List ℕ) {x : Outer} (p : x ≡ outerOf s) where
-  pub broken-object : {r : Reading} → x ≡ outer.Broken → r ≡ made Malformed 0 → length b ≡ storeSize → One a s b r b
+module _ (a : Awaited) (s b : List ℕ) {K : Type 0} {x : Outer} (p : x ≡ outerOf s) where
+  pub broken-object : {r : Reading} → x ≡ outer.Broken → r ≡ made Malformed 0 → K → One a s b r b K
   broken-object {r} q e l =
       let n : r .objects ≡ 0 = ap (λ (x : Reading). x .objects) e in
       (gives Malformed 0 (storeAfter b b) e (object-read s a b outer.Broken p q), (l, omega arith))
 
   pub primitive-object : {r : Reading} (h : Header) (w : List ℕ) → x ≡ outer.Primitive h → GivesIn r b w (readTree a b (some (primitive (h .tag) (contents s (h .start) (h .len)))))
-      → length w ≡ storeSize → r .objects ≡ 1 → One a s b r w
+      → K → r .objects ≡ 1 → One a s b r w K
   primitive-object {r} h w q g l n =
       let f = outer-fits s p q in
       let e = ap (λ (v : List ℕ). readTree a b (some (primitive (h .tag) v))) (contents-is s (h .start) (h .len)) in
       (regive (e ∙ sym (object-read s a b (outer.Primitive h) p q)) g, (l, omega arith))
 
   pub template-object : {r : Reading} (h : Header) (w : List ℕ) (c : Contents) → x ≡ outer.Template h
-      → Leaves (answerBit a) (h .tag) 1 (work true b) (parse 3 (contents s (h .start) (h .len))) c w → length w ≡ storeSize
-      → 2 * counted c ≤ 2 + length (contents s (h .start) (h .len)) → r ≡ contentsReading a (h .tag) c → One a s b r w
+      → Leaves (answerBit a) (h .tag) 1 (work true b) (parse 3 (contents s (h .start) (h .len))) c w → K
+      → 2 * counted c ≤ 2 + length (contents s (h .start) (h .len)) → r ≡ contentsReading a (h .tag) c → One a s b r w K
   template-object {r} h w c q g l k e =
       let f = outer-fits s p q in
       let v = contents s (h .start) (h .len) in
@@ -212,7 +223,7 @@ module _ (a : Awaited) (s b : List ℕ) {x : Outer} (p : x ≡ outerOf s) where
       let d = subst⁻¹ (λ (y : Reading). GivesIn y b w (readTemplate a b (h .tag) v)) e (contents-judged a (h .tag) b v w c g) in
       (regive (ap (readTemplate a b (h .tag)) (contents-is s (h .start) (h .len)) ∙ sym (object-read s a b (outer.Template h) p q)) d, (l, omega arith))
 
--- ---- the working copy
+-- ---- the store with what was listed
 
 after-length : (b w : List ℕ) (v : Verdict) → length b ≡ storeSize → length w ≡ storeSize → length (storeAfter b w v) ≡ storeSize
 after-length b w Accepted l m = m
@@ -220,9 +231,14 @@ after-length b w BadStatus l m = l
 after-length b w Malformed l m = l
 after-length b w NotAllowed l m = l
 
--- what the reading of a body promises, from a working copy u that was the store, and w when it was read
-pub body-kept : (a : Awaited) (b u w c s : List ℕ) {r : Reading} → length b ≡ storeSize → u ≡ b → One a s u r w
-    → c ≡ storeAfter b w (r .verdict) → Gives r c (readBody a b s) × ((length c ≡ storeSize) × ((2 * r .objects ≤ length s) × (r .objects ≡ bodyObjects s)))
-body-kept a b u w c s {r} l e o k =
-    let g : GivesIn r b w (readBody a b s) = rw e at (o .0) in
-    (restore k g, (ap length k ∙ after-length b w (r .verdict) l (o .1 .0), (o .1 .1, body-tree a b s g)))
+-- what the reading of a body promises: at first nothing is listed, and then l, which is put by the verdict
+pub body-kept : (a : Awaited) (b l f c s : List ℕ) {r : Reading} → One a s (laid s b noneListed) r (laid s b l) (Listing s b l f)
+    → c ≡ storeAfter b (laid s b l) (r .verdict) → Gives r c (readBody a b s) × ((length c ≡ storeSize) × ((2 * r .objects ≤ length s) × (r .objects ≡ bodyObjects s)))
+body-kept a b l f c s {r} o k =
+    let h = o .1 .0 in
+    let g : GivesIn r b (laid s b l) (readBody a b s) = rw (laid-none s b) at (o .0) in
+    (restore k g, (ap length k ∙ after-length b (laid s b l) (r .verdict) (h .sized) (h .laid-sized), (o .1 .1, body-tree a b s g)))
+
+pub body-judged : (a : Awaited) (b l f s : List ℕ) {r : Reading} → One a s (laid s b noneListed) r (laid s b l) (Listing s b l f)
+    → numberOf (r .verdict) ≡ readBody a b s .reason
+body-judged a b l f s o = o .0 .reason ∙ ap (λ (x : List ℕ). readBody a x s .reason) (laid-none s b)

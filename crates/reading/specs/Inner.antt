@@ -1,5 +1,5 @@
 -- What private functions promise, for their callers' proofs: the stages of a reading that both readers share, what the
--- reading of a run of objects says and leaves, by their tree, and the working copy of the store.
+-- reading of a run of objects says and leaves, by their tree, and the store with what was listed in it.
 -- No rule of document 01 stands here: a reader of the rules can pass it over. proofs/Parts and proofs/Stages tie it to
 -- specs/Answer: `broken-contents` and `whole-contents` to the tree of a template's contents, `gives` and `restore` to
 -- `Gives`; `answer-begun`, `outer-object` and `contents-judged` say that the stages are those of `readAnswer`.
@@ -11,6 +11,8 @@ use mathlib.Core.Option.{Option, some, none}
 use Prim.Native.Nat.{ℕ, _+_, _-_}
 use lib.ListN.{length}
 use Rattle.basics.specs.Choice.{if_then_else_, _=?_}
+use Rattle.dictionary.specs.Rows.{rows}
+use Rattle.store.specs.Place.{putAt}
 use Rattle.tlv.specs.declared.Front.{Front}
 use Rattle.tlv.specs.declared.Front.the-variants as front
 use Rattle.tlv.specs.Object.{headerOf}
@@ -24,22 +26,27 @@ use Rattle.reading.specs.declared.Outer.{Outer}
 use Rattle.reading.specs.declared.Tally.{Tally}
 use Rattle.reading.specs.declared.Contents.{Contents}
 use Rattle.reading.specs.declared.Contents.the-variants.{Whole, Broken}
-use Rattle.reading.specs.Taking.{Work, work, items, takeAll}
+use Rattle.reading.specs.Taking.{Item, Work, work, items, takeNext, takeAll}
+use Rattle.reading.specs.Listing.{laid}
 use Rattle.reading.specs.Answer.{Outcome, Gives, templateBody, templateTag, optionsParts, cryptogramParts}
 use Rattle.reading.specs.Answer.{takenParts, readTree, goodLength, goodStatus, isRead}
 
--- ---- the working copy
+-- ---- the store with what was listed
 
--- the store by the verdict: the working copy w where all was accepted, else b as it was
+-- the store by the verdict: w, with what was listed in it, where all was accepted, else b as it was
 abbrev pub storeAfter : List ℕ → List ℕ → Verdict → List ℕ
 storeAfter b w Accepted = w
 storeAfter b w BadStatus = b
 storeAfter b w Malformed = b
 storeAfter b w NotAllowed = b
 
--- the reading r, with the working copy w that it left of the store b, gives o
+-- the reading r, where w is the store b with what it listed, gives o
 abbrev pub GivesIn : Reading → List ℕ → List ℕ → Outcome → Type 0
 GivesIn r b w o = Gives r (storeAfter b w (r .verdict)) o
+
+-- the reading r, which found the list l of values of the body s for the store b and left l′, gives what f gives
+abbrev pub GivesFrom : Reading → (List ℕ → Outcome) → List ℕ → List ℕ → List ℕ → List ℕ → Type 0
+GivesFrom r f s b l l′ = GivesIn r (laid s b l) (laid s b l′) (f (laid s b l))
 
 -- what three private functions give on the store b: a template by its tag and contents, and the two bodies under 80
 abbrev pub readTemplate : Awaited → List ℕ → ℕ → List ℕ → Outcome
@@ -104,14 +111,30 @@ abbrev pub Then : ℕ → ℕ → Option Forest → Contents → (ℕ → Work �
 Then answer around none r k n w = r ≡ Broken
 Then answer around (some f) r k n w = k (n + count f) (takeAll answer w (items around f))
 
--- the same with nothing behind it: r is what is said and b the working store that is left; malformed bytes leave the
--- working store free
+-- the same with nothing behind it: r is what is said and b the store with what is listed then; malformed bytes leave the
+-- list free
 abbrev pub Leaves : ℕ → ℕ → ℕ → Work → Option Forest → Contents → List ℕ → Type 0
 Leaves answer around n w f r b = Then answer around f r (λ m v. Has m v r b) n w
 
 -- the same after the objects of a tally, into the store b
 abbrev pub Reads : ℕ → ℕ → Tally → List ℕ → Option Forest → Contents → List ℕ → Type 0
 Reads answer around t b f r b′ = Leaves answer around (t .objects) (work (t .good) b) f r b′
+
+-- the same where the values l of the body s were listed for the store b, and l′ are
+abbrev pub ReadsFrom : ℕ → ℕ → Tally → Option Forest → Contents → List ℕ → List ℕ → List ℕ → List ℕ → Type 0
+ReadsFrom answer around t f r s b l l′ = Reads answer around t (laid s b l) f r (laid s b l′)
+
+-- one object, all before it allowed where g says so: r is said
+abbrev pub Takes : ℕ → Item → Bool → Bool → List ℕ → List ℕ → List ℕ → List ℕ → Type 0
+Takes answer i g r s b l l′ = work r (laid s b l′) ≡ takeNext answer (work g (laid s b l)) i
+
+-- one after the other
+abbrev pub TakesAll : ℕ → List Item → Bool → Bool → List ℕ → List ℕ → List ℕ → List ℕ → Type 0
+TakesAll answer is g r s b l l′ = work r (laid s b l′) ≡ takeAll answer (work g (laid s b l)) is
+
+-- a value that is put into row k
+abbrev pub Puts : ℕ → List ℕ → List ℕ → List ℕ → List ℕ → List ℕ → Type 0
+Puts k v s b l l′ = laid s b l′ ≡ putAt rows (laid s b l) k v
 
 -- how many objects are said
 abbrev pub counted : Contents → ℕ

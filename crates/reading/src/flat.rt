@@ -1,22 +1,22 @@
 // The same reading of an answer without recursion: the open templates stand in an array, and one loop goes
 // over all objects.
 //
-// `read_answer`, `judge_answer` and `read_body` promise what the crate's functions of these names promise,
+// `read_answer` and `judge_answer` promise what the crate's functions of these names promise,
 // word for word, so a caller goes from one reader to the other by one line. The walk over the objects
 // is this module's own; all else is the crate's.
-use crate::{Awaited, Beginning, Contents, Outer, Reading, Tally, Verdict};
-use dictionary::{ROWS, SIZE};
+use crate::{Awaited, Beginning, Contents, Outer, Reading, Tally, Verdict, LIST};
+use dictionary::ROWS;
 use tlv::Following;
 ghost use mathlib.Core.Path.{_≡_};
 ghost use mathlib.Core.Bool.{true};
 ghost use Prim.Native.Nat.{_+_, _*_, _^_, _≤_, _<_};
 ghost use lib.ListN.{length};
-ghost use Rattle.dictionary.specs.Rows.{rows, storeSize};
+ghost use Rattle.dictionary.specs.Rows.{storeSize};
 ghost use Rattle.dictionary.specs.Lent.{Lent};
-ghost use Rattle.store.specs.Place.{placesOf};
 ghost use Rattle.tlv.specs.Tree.{parse};
 ghost use Rattle.reading.specs.Count.{bodyObjects, answerObjects};
-ghost use Rattle.reading.specs.Inner.{tally, Reads, counted, GivesIn};
+ghost use Rattle.reading.specs.Inner.{tally, counted, GivesFrom, ReadsFrom};
+ghost use Rattle.reading.specs.Listing.{Within, Listing, countIn};
 ghost use Rattle.reading.specs.Answer.{Gives, numberOf, readBody, readAnswer};
 
 // How many templates may be open at once, the outer one counted.
@@ -42,44 +42,59 @@ pub fn judge_answer(store: &[u8], awaited: Awaited, answer: &[u8]) -> Verdict
     requires { ⌜ length (now store) ≡ storeSize ⌝ }
     ensures { λ r. ⌜ numberOf r ≡ readAnswer awaited (now (store .entry)) (now (answer .entry)) .reason ⌝ }
 {
-    let mut work = [0u8; SIZE];
-    bytes::copy(store, &mut work);
-    read_answer(&mut work, awaited, answer).verdict
+    let beginning = crate::begin(awaited, answer);
+    match beginning {
+        Beginning::Decided(verdict) => verdict,
+        Beginning::Body(n) => judge_body(store, awaited, &answer[..n]),
+    }
 }
 
-// The body of an answer, read into a working copy, which is the store where all was accepted.
-pub fn read_body(store: &mut [u8], awaited: Awaited, body: &[u8]) -> Reading
-    requires { ⌜ length (now store) ≡ storeSize ⌝ }
+// The body of an answer: its values are listed, and put into the store where all was accepted.
+fn read_body(store: &mut [u8], awaited: Awaited, body: &[u8]) -> Reading
+    requires { ⌜ (length (now store) ≡ storeSize) × (length (now body) ≤ 256) ⌝ }
     ensures given { λ r. ⌜ Gives r (now (store .exit)) (readBody awaited (now (store .entry)) (now (body .entry))) ⌝ }
     ensures sized { λ _. ⌜ length (now (store .exit)) ≡ storeSize ⌝ }
     ensures half { λ r. ⌜ 2 * r .objects ≤ length (now (body .entry)) ⌝ }
     ensures tree { λ r. ⌜ r .objects ≡ bodyObjects (now (body .entry)) ⌝ }
 {
-    let mut work = [0u8; SIZE];
-    store::copy_whole(store, &mut work);
+    let mut listed = [0u32; LIST];
+    let mut filled = [0u8; ROWS];
     let tags = dictionary::tags();
     let codes = dictionary::codes();
-    let places = store::row_places();
-    let reading = read_object(&mut work, awaited, body, &tags, &codes, &places);
+    let reading = read_object(store, awaited, body, &mut listed, &mut filled, &tags, &codes);
     let verdict = reading.verdict;
-    crate::keep(store, &work, verdict);
+    crate::keep(store, body, &listed, verdict);
     reading
 }
 
-// The body's one object into a working copy, a template by its contents.
+// What a reading says of the body of an answer.
+fn judge_body(store: &[u8], awaited: Awaited, body: &[u8]) -> Verdict
+    requires { ⌜ (length (now store) ≡ storeSize) × (length (now body) ≤ 256) ⌝ }
+    ensures { λ r. ⌜ numberOf r ≡ readBody awaited (now (store .entry)) (now (body .entry)) .reason ⌝ }
+{
+    let mut listed = [0u32; LIST];
+    let mut filled = [0u8; ROWS];
+    let tags = dictionary::tags();
+    let codes = dictionary::codes();
+    read_object(store, awaited, body, &mut listed, &mut filled, &tags, &codes).verdict
+}
+
+// The body's one object: its values are listed, a template's by its contents.
 fn read_object(
-    work: &mut [u8; SIZE],
+    store: &[u8],
     awaited: Awaited,
     body: &[u8],
+    listed: &mut [u32; LIST],
+    filled: &mut [u8; ROWS],
     tags: &[u32; ROWS],
     codes: &[u32; ROWS],
-    places: &[u32; ROWS],
 ) -> Reading
-    requires { ⌜ length (now work) ≡ storeSize ⌝ }
+    requires { ⌜ Listing (now body) (now store) (now listed) (now filled) ⌝ }
+    requires { ⌜ countIn (now listed) ≡ 0 ⌝ }
     requires { ⌜ Lent (now tags) (now codes) ⌝ }
-    requires { ⌜ now places ≡ placesOf rows ⌝ }
-    ensures given { λ r. ⌜ GivesIn r (now (work .entry)) (now (work .exit)) (readBody awaited (now (work .entry)) (now (body .entry))) ⌝ }
-    ensures sized { λ _. ⌜ length (now (work .exit)) ≡ storeSize ⌝ }
+    ensures given { λ r. ⌜ GivesFrom r (λ b. readBody awaited b (now (body .entry)))
+      (now (body .entry)) (now (store .entry)) (now (listed .entry)) (now (listed .exit)) ⌝ }
+    ensures kept { λ _. ⌜ Listing (now (body .entry)) (now (store .entry)) (now (listed .exit)) (now (filled .exit)) ⌝ }
     ensures half { λ r. ⌜ 2 * r .objects ≤ length (now (body .entry)) ⌝ }
 {
     let outer = crate::outer_of(body);
@@ -88,38 +103,42 @@ fn read_object(
         Outer::Primitive(h) => {
             let start = h.start;
             let e = start + h.len;
-            crate::read_primitive(work, awaited, h.tag, &body[start..e], codes, places)
+            crate::read_primitive(awaited, h.tag, &body[start..e], start, body, store, listed, filled, codes)
         }
         Outer::Template(h) => {
             let start = h.start;
             let e = start + h.len;
             let bit = crate::answer_bit(awaited);
-            let contents = read(&body[start..e], h.tag, bit, work, tags, codes, places);
+            let contents = read(&body[start..e], start, h.tag, bit, body, store, listed, filled, tags, codes);
             crate::judge_contents(awaited, h.tag, contents)
         }
     }
 }
 
-// The contents of the outer template, whose tag this is. `ends` and `around` have the end and the tag of each open
-// template, the outer one first and the innermost at `depth`; `s` is what is left of the innermost. The primitive
-// objects are taken into the store, each with the tag of the template directly around it.
+// The contents of the outer template, whose tag this is, from a place of the body on. `ends` and `around` have the end and
+// the tag of each open template, the outer one first and the innermost at `depth`; `s` is what is left of the innermost. The
+// values of the primitive objects are listed, each by the tag of the template directly around it.
 fn read(
     bytes: &[u8],
+    start: usize,
     tag: u32,
     answer: u8,
-    store: &mut [u8; SIZE],
+    body: &[u8],
+    store: &[u8],
+    listed: &mut [u32; LIST],
+    filled: &mut [u8; ROWS],
     tags: &[u32; ROWS],
     codes: &[u32; ROWS],
-    places: &[u32; ROWS],
 ) -> Contents
-    requires { ⌜ length (now store) ≡ storeSize ⌝ }
-    requires { ⌜ 2 + length (now bytes) < 2 ^ 64 ⌝ }
+    requires { ⌜ Listing (now body) (now store) (now listed) (now filled) ⌝ }
+    requires { ⌜ Within (now body) start (now bytes) ⌝ }
+    requires { ⌜ countIn (now listed) ≡ 0 ⌝ }
     requires { ⌜ 0 < answer ⌝ }
     requires { ⌜ Lent (now tags) (now codes) ⌝ }
-    requires { ⌜ now places ≡ placesOf rows ⌝ }
-    ensures left { λ r. ⌜ Reads answer tag (tally 1 true) (now (store .entry)) (parse 3 (now (bytes .entry))) r (now (store .exit)) ⌝ }
+    ensures left { λ r. ⌜ ReadsFrom answer tag (tally 1 true) (parse 3 (now (bytes .entry))) r
+      (now (body .entry)) (now (store .entry)) (now (listed .entry)) (now (listed .exit)) ⌝ }
     ensures half { λ r. ⌜ 2 * counted r ≤ 2 + length (now (bytes .entry)) ⌝ }
-    ensures sized { λ _. ⌜ length (now (store .exit)) ≡ storeSize ⌝ }
+    ensures kept { λ _. ⌜ Listing (now (body .entry)) (now (store .entry)) (now (listed .exit)) (now (filled .exit)) ⌝ }
 {
     let mut ends = [bytes.len(); LEVELS];
     let mut around = [tag; LEVELS];
@@ -135,26 +154,29 @@ fn read(
                 if depth == 0 {
                     return Contents::Whole(Tally { objects: n, good });
                 }
-                let start = ends[depth];
+                let from = ends[depth];
                 depth -= 1;
-                s = &bytes[start..ends[depth]];
+                s = &bytes[from..ends[depth]];
             }
             Following::Inner(h) => {
-                let start = h.start;
-                let e = start + h.len;
-                let value = &s[start..e];
+                let from = h.start;
+                let e = from + h.len;
+                let value = &s[from..e];
                 let rest = &s[e..];
+                let end = ends[depth] - rest.len();
                 n += 1;
                 if h.template {
                     if depth + 1 == LEVELS {
                         return Contents::Broken;
                     }
-                    ends[depth + 1] = ends[depth] - rest.len();
+                    ends[depth + 1] = end;
                     around[depth + 1] = h.tag;
                     depth += 1;
                     s = value;
                 } else {
-                    good = crate::take_next(good, h.tag, around[depth], answer, value, store, tags, codes, places);
+                    let place = start + end - h.len;
+                    let inmost = around[depth];
+                    good = crate::take_next(good, h.tag, inmost, answer, value, place, body, store, listed, filled, tags, codes);
                     s = rest;
                 }
             }

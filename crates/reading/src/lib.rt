@@ -1,8 +1,9 @@
 // Reading a card's answer into a store, whole or not at all.
 //
-// `read_answer` takes the whole answer with its status bytes, `read_body` the body alone. Inside, the
-// objects go into one working copy that is lent down the templates, with the table's tags, its
-// rows' numbers and places; the store is written only where every object was allowed.
+// `read_answer` takes the whole answer with its status bytes; `judge_answer` only says what it would give. Inside, the store
+// is only read: a value that an object brings is listed by its row and its place in the body, and the rows that have
+// bytes listed are marked. Both arrays are lent down the templates, with the table's tags and its rows' numbers. The listed
+// values are put into the store where the answer is accepted.
 //
 // Here a template's contents are read by `read`, which calls itself. The module `flat` has the same open
 // functions with the same promises and no recursion: it shares all but the walk over the objects.
@@ -10,28 +11,36 @@
 pub mod flat;
 use dictionary::Attributes;
 use dictionary::Found;
-use dictionary::{ROWS, ROW_82, ROW_94, ROW_9F10, ROW_9F26, ROW_9F27, ROW_9F36, SIZE};
+use dictionary::{ROWS, ROW_82, ROW_94, ROW_9F10, ROW_9F26, ROW_9F27, ROW_9F36};
 use tlv::{Following, Front, Header};
 ghost use mathlib.Core.Path.{_≡_};
-ghost use mathlib.Core.Bool.{not};
+ghost use mathlib.Core.Bool.{true, not};
 ghost use mathlib.Core.Option.{some};
-ghost use Prim.Native.Nat.{_+_, _*_, _^_, _≤_, _<_};
-ghost use lib.ListN.{length};
+ghost use Prim.Native.Nat.{_+_, _*_, _/_, _%_, _^_, _≤_, _<_};
+ghost use lib.ListN.{length, getD};
 ghost use Rattle.basics.specs.Choice.{both};
 ghost use Rattle.basics.specs.Number.{hasBit};
 ghost use Rattle.dictionary.specs.declared.Found.{Found};
-ghost use Rattle.dictionary.specs.Rows.{rows, find, storeSize, cryptogram};
+ghost use Rattle.dictionary.specs.Rows.{rows, rowAt, rowCount, find, storeSize, cryptogram};
 ghost use Rattle.dictionary.specs.Packing.{rowOf};
 ghost use Rattle.dictionary.specs.Lent.{Lent, codesOf};
-ghost use Rattle.store.specs.Place.{placesOf};
+ghost use Rattle.store.specs.Place.{isFree};
 ghost use Rattle.tlv.specs.Tag.{isPrivate};
 ghost use Rattle.tlv.specs.Tree.{parse};
-ghost use Rattle.reading.specs.Taking.{item, mayCome, byCard, standsIn, work, takeItem, takeNext, takeAll};
+ghost use Rattle.reading.specs.Taking.{item, mayCome, byCard, standsIn};
 ghost use Rattle.reading.specs.Count.{bodyObjects, answerObjects};
 ghost use Rattle.reading.specs.Both.{Answered, Agree};
-ghost use Rattle.reading.specs.Inner.{made, beginning, outerOf, contentsReading, storeAfter, GivesIn, readOptions, readCryptogram};
-ghost use Rattle.reading.specs.Inner.{Reads, counted};
+ghost use Rattle.reading.specs.Inner.{made, beginning, outerOf, contentsReading, storeAfter, readOptions, readCryptogram, counted};
+ghost use Rattle.reading.specs.Inner.{GivesFrom, ReadsFrom, Takes, TakesAll, Puts};
+ghost use Rattle.reading.specs.Listing.{Within, Listed, Listing, laid, countIn, mostListed};
 ghost use Rattle.reading.specs.Answer.{Gives, numberOf, answerBit, templateTag, primitive, issuerPart, readTree, readBody, isRead, goodStatus, readAnswer};
+
+// The values that are listed, behind their count: room for more than the longest body can have.
+const LIST: usize = 130;
+
+// A listed value in one number: its row, its place in the body, its length.
+const ROW: u32 = 0x40000;
+const PLACE: u32 = 0x100;
 
 // A record's file.
 pub struct File {
@@ -112,28 +121,11 @@ pub fn judge_answer(store: &[u8], awaited: Awaited, answer: &[u8]) -> Verdict
     requires { ⌜ length (now store) ≡ storeSize ⌝ }
     ensures { λ r. ⌜ numberOf r ≡ readAnswer awaited (now (store .entry)) (now (answer .entry)) .reason ⌝ }
 {
-    let mut work = [0u8; SIZE];
-    bytes::copy(store, &mut work);
-    read_answer(&mut work, awaited, answer).verdict
-}
-
-// The body of an answer, read into a working copy, which is the store where all was accepted.
-pub fn read_body(store: &mut [u8], awaited: Awaited, body: &[u8]) -> Reading
-    requires { ⌜ length (now store) ≡ storeSize ⌝ }
-    ensures given { λ r. ⌜ Gives r (now (store .exit)) (readBody awaited (now (store .entry)) (now (body .entry))) ⌝ }
-    ensures sized { λ _. ⌜ length (now (store .exit)) ≡ storeSize ⌝ }
-    ensures half { λ r. ⌜ 2 * r .objects ≤ length (now (body .entry)) ⌝ }
-    ensures tree { λ r. ⌜ r .objects ≡ bodyObjects (now (body .entry)) ⌝ }
-{
-    let mut work = [0u8; SIZE];
-    store::copy_whole(store, &mut work);
-    let tags = dictionary::tags();
-    let codes = dictionary::codes();
-    let places = store::row_places();
-    let reading = read_object(&mut work, awaited, body, &tags, &codes, &places);
-    let verdict = reading.verdict;
-    keep(store, &work, verdict);
-    reading
+    let beginning = begin(awaited, answer);
+    match beginning {
+        Beginning::Decided(verdict) => verdict,
+        Beginning::Body(n) => judge_body(store, awaited, &answer[..n]),
+    }
 }
 
 // The answer by both readers, each with a store of its own; where the stores are equal, so are the readings and
@@ -165,6 +157,36 @@ pub fn number(verdict: Verdict) -> u8
     }
 }
 
+// The body of an answer: its values are listed, and put into the store where all was accepted.
+fn read_body(store: &mut [u8], awaited: Awaited, body: &[u8]) -> Reading
+    requires { ⌜ (length (now store) ≡ storeSize) × (length (now body) ≤ 256) ⌝ }
+    ensures given { λ r. ⌜ Gives r (now (store .exit)) (readBody awaited (now (store .entry)) (now (body .entry))) ⌝ }
+    ensures sized { λ _. ⌜ length (now (store .exit)) ≡ storeSize ⌝ }
+    ensures half { λ r. ⌜ 2 * r .objects ≤ length (now (body .entry)) ⌝ }
+    ensures tree { λ r. ⌜ r .objects ≡ bodyObjects (now (body .entry)) ⌝ }
+{
+    let mut listed = [0u32; LIST];
+    let mut filled = [0u8; ROWS];
+    let tags = dictionary::tags();
+    let codes = dictionary::codes();
+    let reading = read_object(store, awaited, body, &mut listed, &mut filled, &tags, &codes);
+    let verdict = reading.verdict;
+    keep(store, body, &listed, verdict);
+    reading
+}
+
+// What a reading says of the body of an answer.
+fn judge_body(store: &[u8], awaited: Awaited, body: &[u8]) -> Verdict
+    requires { ⌜ (length (now store) ≡ storeSize) × (length (now body) ≤ 256) ⌝ }
+    ensures { λ r. ⌜ numberOf r ≡ readBody awaited (now (store .entry)) (now (body .entry)) .reason ⌝ }
+{
+    let mut listed = [0u32; LIST];
+    let mut filled = [0u8; ROWS];
+    let tags = dictionary::tags();
+    let codes = dictionary::codes();
+    read_object(store, awaited, body, &mut listed, &mut filled, &tags, &codes).verdict
+}
+
 // A reading of these parts.
 fn made(verdict: Verdict, objects: usize) -> Reading
     ensures { λ r. ⌜ r ≡ made verdict objects ⌝ }
@@ -192,15 +214,58 @@ fn begin(awaited: Awaited, answer: &[u8]) -> Beginning
     Beginning::Body(n - 2)
 }
 
-// The store after a reading: its working copy where all was accepted, else as it was.
-fn keep(store: &mut [u8], work: &[u8; SIZE], verdict: Verdict)
-    requires { ⌜ length (now store) ≡ storeSize ⌝ }
-    requires { ⌜ length (now work) ≡ storeSize ⌝ }
-    ensures { λ _. ⌜ now (store .exit) ≡ storeAfter (now (store .entry)) (now (work .entry)) verdict ⌝ }
+// The store after a reading: with the listed values where all was accepted, else as it was.
+fn keep(store: &mut [u8], body: &[u8], listed: &[u32; LIST], verdict: Verdict)
+    requires { ⌜ (length (now store) ≡ storeSize) × Listed (now body) (now listed) ⌝ }
+    ensures { λ _. ⌜ now (store .exit) ≡ storeAfter (now (store .entry)) (laid (now (body .entry)) (now (store .entry)) (now (listed .entry))) verdict ⌝ }
 {
     if let Verdict::Accepted = verdict {
-        bytes::copy(work, store);
+        put_listed(store, body, listed);
     }
+}
+
+// Puts the listed values into the store, one after the other.
+fn put_listed(store: &mut [u8], body: &[u8], listed: &[u32; LIST])
+    requires { ⌜ (length (now store) ≡ storeSize) × Listed (now body) (now listed) ⌝ }
+    ensures { λ _. ⌜ now (store .exit) ≡ laid (now (body .entry)) (now (store .entry)) (now (listed .entry)) ⌝ }
+{
+    let n = count_of(listed);
+    let mut i = 0;
+    while i < n {
+        i += 1;
+        let value = listed[i];
+        let row = row_in(value);
+        let start = place_in(value);
+        let e = start + size_in(value);
+        store::put(store, row, &body[start..e]);
+    }
+}
+
+// How many values are listed.
+fn count_of(listed: &[u32; LIST]) -> usize
+    requires { ⌜ (length (now listed) ≡ mostListed + 1) × (countIn (now listed) ≤ mostListed) ⌝ }
+    ensures { λ r. ⌜ r ≡ countIn (now (listed .entry)) ⌝ }
+{
+    listed[0] as usize
+}
+
+// The row of a listed value, its place in the body, and its length.
+fn row_in(value: u32) -> usize
+    ensures { λ r. ⌜ r ≡ value / 0x40000 ⌝ }
+{
+    (value / ROW) as usize
+}
+
+fn place_in(value: u32) -> usize
+    ensures { λ r. ⌜ (r ≡ value / 256 % 1024) × (r < 1024) ⌝ }
+{
+    (value / PLACE % (ROW / PLACE)) as usize
+}
+
+fn size_in(value: u32) -> usize
+    ensures { λ r. ⌜ (r ≡ value % 256) × (r < 256) ⌝ }
+{
+    (value % PLACE) as usize
 }
 
 // Whether the two bytes at the end are 90 00.
@@ -269,20 +334,22 @@ fn outer_of(body: &[u8]) -> Outer
     Outer::Primitive(h)
 }
 
-// The body's one object into a working copy, a template by its contents.
+// The body's one object: its values are listed, a template's by its contents.
 fn read_object(
-    work: &mut [u8; SIZE],
+    store: &[u8],
     awaited: Awaited,
     body: &[u8],
+    listed: &mut [u32; LIST],
+    filled: &mut [u8; ROWS],
     tags: &[u32; ROWS],
     codes: &[u32; ROWS],
-    places: &[u32; ROWS],
 ) -> Reading
-    requires { ⌜ length (now work) ≡ storeSize ⌝ }
+    requires { ⌜ Listing (now body) (now store) (now listed) (now filled) ⌝ }
+    requires { ⌜ countIn (now listed) ≡ 0 ⌝ }
     requires { ⌜ Lent (now tags) (now codes) ⌝ }
-    requires { ⌜ now places ≡ placesOf rows ⌝ }
-    ensures given { λ r. ⌜ GivesIn r (now (work .entry)) (now (work .exit)) (readBody awaited (now (work .entry)) (now (body .entry))) ⌝ }
-    ensures sized { λ _. ⌜ length (now (work .exit)) ≡ storeSize ⌝ }
+    ensures given { λ r. ⌜ GivesFrom r (λ b. readBody awaited b (now (body .entry)))
+      (now (body .entry)) (now (store .entry)) (now (listed .entry)) (now (listed .exit)) ⌝ }
+    ensures kept { λ _. ⌜ Listing (now (body .entry)) (now (store .entry)) (now (listed .exit)) (now (filled .exit)) ⌝ }
     ensures half { λ r. ⌜ 2 * r .objects ≤ length (now (body .entry)) ⌝ }
 {
     let outer = outer_of(body);
@@ -291,7 +358,7 @@ fn read_object(
         Outer::Primitive(h) => {
             let start = h.start;
             let e = start + h.len;
-            read_primitive(work, awaited, h.tag, &body[start..e], codes, places)
+            read_primitive(awaited, h.tag, &body[start..e], start, body, store, listed, filled, codes)
         }
         Outer::Template(h) => {
             let start = h.start;
@@ -301,7 +368,7 @@ fn read_object(
                 objects: 1,
                 good: true,
             };
-            let contents = read(&body[start..e], h.tag, 3, bit, first, work, tags, codes, places);
+            let contents = read(&body[start..e], start, h.tag, 3, bit, first, body, store, listed, filled, tags, codes);
             judge_contents(awaited, h.tag, contents)
         }
     }
@@ -324,45 +391,55 @@ fn judge_contents(awaited: Awaited, tag: u32, contents: Contents) -> Reading
     made(Verdict::Accepted, n)
 }
 
-// An answer that is a primitive object: 80, with its parts one behind the other.
+// An answer that is a primitive object: 80, with its parts one behind the other. Its value starts at a place of the body.
 fn read_primitive(
-    work: &mut [u8; SIZE],
     awaited: Awaited,
     tag: u32,
     value: &[u8],
+    at: usize,
+    body: &[u8],
+    store: &[u8],
+    listed: &mut [u32; LIST],
+    filled: &mut [u8; ROWS],
     codes: &[u32; ROWS],
-    places: &[u32; ROWS],
 ) -> Reading
-    requires { ⌜ length (now work) ≡ storeSize ⌝ }
+    requires { ⌜ Listing (now body) (now store) (now listed) (now filled) ⌝ }
+    requires { ⌜ Within (now body) at (now value) ⌝ }
+    requires { ⌜ countIn (now listed) ≡ 0 ⌝ }
     requires { ⌜ now codes ≡ codesOf rows ⌝ }
-    requires { ⌜ now places ≡ placesOf rows ⌝ }
-    ensures given { λ r. ⌜ GivesIn r (now (work .entry)) (now (work .exit)) (readTree awaited (now (work .entry)) (some (primitive tag (now (value .entry))))) ⌝ }
-    ensures sized { λ _. ⌜ length (now (work .exit)) ≡ storeSize ⌝ }
+    ensures given { λ r. ⌜ GivesFrom r (λ b. readTree awaited b (some (primitive tag (now (value .entry)))))
+      (now (body .entry)) (now (store .entry)) (now (listed .entry)) (now (listed .exit)) ⌝ }
+    ensures kept { λ _. ⌜ Listing (now (body .entry)) (now (store .entry)) (now (listed .exit)) (now (filled .exit)) ⌝ }
     ensures one { λ r. ⌜ r .objects ≡ 1 ⌝ }
 {
     if tag != 0x80 {
         return made(Verdict::Malformed, 1);
     }
     match awaited {
-        Awaited::Options => read_options(work, value, codes, places),
+        Awaited::Options => read_options(value, at, body, store, listed, filled, codes),
         Awaited::Record(_) => made(Verdict::Malformed, 1),
-        Awaited::Cryptogram => read_cryptogram(work, value, codes, places),
+        Awaited::Cryptogram => read_cryptogram(value, at, body, store, listed, filled, codes),
         Awaited::Checksum => made(Verdict::Malformed, 1),
     }
 }
 
 // The parts of a body under 80: the interchange profile, then the locator.
 fn read_options(
-    work: &mut [u8; SIZE],
     value: &[u8],
+    at: usize,
+    body: &[u8],
+    store: &[u8],
+    listed: &mut [u32; LIST],
+    filled: &mut [u8; ROWS],
     codes: &[u32; ROWS],
-    places: &[u32; ROWS],
 ) -> Reading
-    requires { ⌜ length (now work) ≡ storeSize ⌝ }
+    requires { ⌜ Listing (now body) (now store) (now listed) (now filled) ⌝ }
+    requires { ⌜ Within (now body) at (now value) ⌝ }
+    requires { ⌜ countIn (now listed) ≡ 0 ⌝ }
     requires { ⌜ now codes ≡ codesOf rows ⌝ }
-    requires { ⌜ now places ≡ placesOf rows ⌝ }
-    ensures given { λ r. ⌜ GivesIn r (now (work .entry)) (now (work .exit)) (readOptions (now (work .entry)) (now (value .entry))) ⌝ }
-    ensures sized { λ _. ⌜ length (now (work .exit)) ≡ storeSize ⌝ }
+    ensures given { λ r. ⌜ GivesFrom r (λ b. readOptions b (now (value .entry)))
+      (now (body .entry)) (now (store .entry)) (now (listed .entry)) (now (listed .exit)) ⌝ }
+    ensures kept { λ _. ⌜ Listing (now (body .entry)) (now (store .entry)) (now (listed .exit)) (now (filled .exit)) ⌝ }
     ensures one { λ r. ⌜ r .objects ≡ 1 ⌝ }
 {
     let n = value.len();
@@ -376,8 +453,8 @@ fn read_options(
         return made(Verdict::Malformed, 1);
     }
     let bit = dictionary::OPTIONS;
-    let profile = take_part(true, ROW_82, 0x82, bit, &value[..2], work, codes, places);
-    let locator = take_part(profile, ROW_94, 0x94, bit, &value[2..], work, codes, places);
+    let profile = take_part(true, ROW_82, 0x82, bit, &value[..2], at, body, store, listed, filled, codes);
+    let locator = take_part(profile, ROW_94, 0x94, bit, &value[2..], at + 2, body, store, listed, filled, codes);
     if !locator {
         return made(Verdict::NotAllowed, 1);
     }
@@ -386,16 +463,21 @@ fn read_options(
 
 // 9F27, 9F36 and 9F26, and 9F10 if any bytes are left.
 fn read_cryptogram(
-    work: &mut [u8; SIZE],
     value: &[u8],
+    at: usize,
+    body: &[u8],
+    store: &[u8],
+    listed: &mut [u32; LIST],
+    filled: &mut [u8; ROWS],
     codes: &[u32; ROWS],
-    places: &[u32; ROWS],
 ) -> Reading
-    requires { ⌜ length (now work) ≡ storeSize ⌝ }
+    requires { ⌜ Listing (now body) (now store) (now listed) (now filled) ⌝ }
+    requires { ⌜ Within (now body) at (now value) ⌝ }
+    requires { ⌜ countIn (now listed) ≡ 0 ⌝ }
     requires { ⌜ now codes ≡ codesOf rows ⌝ }
-    requires { ⌜ now places ≡ placesOf rows ⌝ }
-    ensures given { λ r. ⌜ GivesIn r (now (work .entry)) (now (work .exit)) (readCryptogram (now (work .entry)) (now (value .entry))) ⌝ }
-    ensures sized { λ _. ⌜ length (now (work .exit)) ≡ storeSize ⌝ }
+    ensures given { λ r. ⌜ GivesFrom r (λ b. readCryptogram b (now (value .entry)))
+      (now (body .entry)) (now (store .entry)) (now (listed .entry)) (now (listed .exit)) ⌝ }
+    ensures kept { λ _. ⌜ Listing (now (body .entry)) (now (store .entry)) (now (listed .exit)) (now (filled .exit)) ⌝ }
     ensures one { λ r. ⌜ r .objects ≡ 1 ⌝ }
 {
     let n = value.len();
@@ -406,10 +488,10 @@ fn read_cryptogram(
         return made(Verdict::Malformed, 1);
     }
     let bit = dictionary::CRYPTOGRAM;
-    let kind = take_part(true, ROW_9F27, 0x9F27, bit, &value[..1], work, codes, places);
-    let counter = take_part(kind, ROW_9F36, 0x9F36, bit, &value[1..3], work, codes, places);
-    let cryptogram = take_part(counter, ROW_9F26, 0x9F26, bit, &value[3..11], work, codes, places);
-    let issuer = take_rest(cryptogram, &value[11..], work, codes, places);
+    let kind = take_part(true, ROW_9F27, 0x9F27, bit, &value[..1], at, body, store, listed, filled, codes);
+    let counter = take_part(kind, ROW_9F36, 0x9F36, bit, &value[1..3], at + 1, body, store, listed, filled, codes);
+    let cryptogram = take_part(counter, ROW_9F26, 0x9F26, bit, &value[3..11], at + 3, body, store, listed, filled, codes);
+    let issuer = take_rest(cryptogram, &value[11..], at + 11, body, store, listed, filled, codes);
     if !issuer {
         return made(Verdict::NotAllowed, 1);
     }
@@ -420,46 +502,57 @@ fn read_cryptogram(
 fn take_rest(
     good: bool,
     rest: &[u8],
-    store: &mut [u8; SIZE],
+    at: usize,
+    body: &[u8],
+    store: &[u8],
+    listed: &mut [u32; LIST],
+    filled: &mut [u8; ROWS],
     codes: &[u32; ROWS],
-    places: &[u32; ROWS],
 ) -> bool
-    requires { ⌜ length (now store) ≡ storeSize ⌝ }
+    requires { ⌜ Listing (now body) (now store) (now listed) (now filled) ⌝ }
+    requires { ⌜ Within (now body) at (now rest) ⌝ }
+    requires { ⌜ countIn (now listed) < mostListed ⌝ }
     requires { ⌜ now codes ≡ codesOf rows ⌝ }
-    requires { ⌜ now places ≡ placesOf rows ⌝ }
-    ensures said { λ r. ⌜ r ≡ takeAll cryptogram (work good (now (store .entry))) (issuerPart (now (rest .entry))) .good ⌝ }
-    ensures kept { λ _. ⌜ now (store .exit) ≡ takeAll cryptogram (work good (now (store .entry))) (issuerPart (now (rest .entry))) .store ⌝ }
-    ensures sized { λ _. ⌜ length (now (store .exit)) ≡ storeSize ⌝ }
+    ensures taken { λ r. ⌜ TakesAll cryptogram (issuerPart (now (rest .entry))) good r
+      (now (body .entry)) (now (store .entry)) (now (listed .entry)) (now (listed .exit)) ⌝ }
+    ensures kept { λ _. ⌜ Listing (now (body .entry)) (now (store .entry)) (now (listed .exit)) (now (filled .exit)) ⌝ }
 {
     if rest.len() == 0 {
         return good;
     }
-    take_part(good, ROW_9F10, 0x9F10, dictionary::CRYPTOGRAM, rest, store, codes, places)
+    take_part(good, ROW_9F10, 0x9F10, dictionary::CRYPTOGRAM, rest, at, body, store, listed, filled, codes)
 }
 
-// A run of objects directly inside the template `around`, with so many levels of templates still
-// allowed, after the objects of the tally. The primitive ones are taken into the store.
+// A run of objects directly inside the template `around`, from a place of the body on, with so many levels of templates
+// still allowed, after the objects of the tally. The values of the primitive ones are listed.
 fn read(
     bytes: &[u8],
+    start: usize,
     around: u32,
     levels: usize,
     answer: u8,
     tally: Tally,
-    store: &mut [u8; SIZE],
+    body: &[u8],
+    store: &[u8],
+    listed: &mut [u32; LIST],
+    filled: &mut [u8; ROWS],
     tags: &[u32; ROWS],
     codes: &[u32; ROWS],
-    places: &[u32; ROWS],
 ) -> Contents
-    requires { ⌜ length (now store) ≡ storeSize ⌝ }
+    requires { ⌜ Listing (now body) (now store) (now listed) (now filled) ⌝ }
+    requires { ⌜ Within (now body) start (now bytes) ⌝ }
+    requires { ⌜ 2 * countIn (now listed) + length (now bytes) ≤ 256 ⌝ }
     requires { ⌜ 2 * tally .objects + length (now bytes) < 2 ^ 64 ⌝ }
     requires { ⌜ 0 < answer ⌝ }
     requires { ⌜ Lent (now tags) (now codes) ⌝ }
-    requires { ⌜ now places ≡ placesOf rows ⌝ }
-    ensures left { λ r. ⌜ Reads answer around tally (now (store .entry)) (parse levels (now (bytes .entry))) r (now (store .exit)) ⌝ }
+    ensures left { λ r. ⌜ ReadsFrom answer around tally (parse levels (now (bytes .entry))) r
+      (now (body .entry)) (now (store .entry)) (now (listed .entry)) (now (listed .exit)) ⌝ }
     ensures half { λ r. ⌜ 2 * counted r ≤ 2 * tally .objects + length (now (bytes .entry)) ⌝ }
-    ensures sized { λ _. ⌜ length (now (store .exit)) ≡ storeSize ⌝ }
+    ensures kept { λ _. ⌜ Listing (now (body .entry)) (now (store .entry)) (now (listed .exit)) (now (filled .exit)) ⌝ }
+    ensures few { λ _. ⌜ 2 * countIn (now (listed .exit)) ≤ 2 * countIn (now (listed .entry)) + length (now (bytes .entry)) ⌝ }
 {
     let mut s = bytes;
+    let mut at = start;
     let mut n = tally.objects;
     let mut good = tally.good;
     loop {
@@ -468,36 +561,30 @@ fn read(
             Following::End => return Contents::Whole(Tally { objects: n, good }),
             Following::Malformed => return Contents::Broken,
             Following::Inner(h) => {
-                let start = h.start;
-                let e = start + h.len;
-                let value = &s[start..e];
+                let from = h.start;
+                let e = from + h.len;
+                let value = &s[from..e];
                 let rest = &s[e..];
+                let place = at + from;
+                let behind = at + e;
                 let one = n + 1;
                 if h.template {
                     if levels == 0 {
                         return Contents::Broken;
                     }
-                    let inside = read(
-                        value,
-                        h.tag,
-                        levels - 1,
-                        answer,
-                        Tally { objects: one, good },
-                        store,
-                        tags,
-                        codes,
-                        places,
-                    );
+                    let so_far = Tally { objects: one, good };
+                    let inside = read(value, place, h.tag, levels - 1, answer, so_far, body, store, listed, filled, tags, codes);
                     let Contents::Whole(t) = inside else {
                         return Contents::Broken;
                     };
                     n = t.objects;
                     good = t.good;
                 } else {
-                    good = take_next(good, h.tag, around, answer, value, store, tags, codes, places);
+                    good = take_next(good, h.tag, around, answer, value, place, body, store, listed, filled, tags, codes);
                     n = one;
                 }
                 s = rest;
+                at = behind;
             }
         }
     }
@@ -510,27 +597,32 @@ fn take_next(
     around: u32,
     answer: u8,
     v: &[u8],
-    store: &mut [u8; SIZE],
+    at: usize,
+    body: &[u8],
+    store: &[u8],
+    listed: &mut [u32; LIST],
+    filled: &mut [u8; ROWS],
     tags: &[u32; ROWS],
     codes: &[u32; ROWS],
-    places: &[u32; ROWS],
 ) -> bool
-    requires { ⌜ length (now store) ≡ storeSize ⌝ }
+    requires { ⌜ Listing (now body) (now store) (now listed) (now filled) ⌝ }
+    requires { ⌜ Within (now body) at (now v) ⌝ }
+    requires { ⌜ countIn (now listed) < mostListed ⌝ }
     requires { ⌜ 0 < answer ⌝ }
     requires { ⌜ Lent (now tags) (now codes) ⌝ }
-    requires { ⌜ now places ≡ placesOf rows ⌝ }
-    ensures said { λ r. ⌜ r ≡ takeNext answer (work good (now (store .entry))) (item around tag (now (v .entry))) .good ⌝ }
-    ensures kept { λ _. ⌜ now (store .exit) ≡ takeNext answer (work good (now (store .entry))) (item around tag (now (v .entry))) .store ⌝ }
-    ensures sized { λ _. ⌜ length (now (store .exit)) ≡ storeSize ⌝ }
+    ensures taken { λ r. ⌜ Takes answer (item around tag (now (v .entry))) good r
+      (now (body .entry)) (now (store .entry)) (now (listed .entry)) (now (listed .exit)) ⌝ }
+    ensures kept { λ _. ⌜ Listing (now (body .entry)) (now (store .entry)) (now (listed .exit)) (now (filled .exit)) ⌝ }
+    ensures one { λ _. ⌜ countIn (now (listed .exit)) ≤ countIn (now (listed .entry)) + 1 ⌝ }
 {
     if !good {
         return false;
     }
-    let found = dictionary::search(tags, tag).found;
+    let found = dictionary::row_of(tags, tag).found;
     let Found::At(row) = found else {
         return true;
     };
-    take_row(codes, row, tag, around, answer, v, store, places)
+    take_row(codes, row, tag, around, answer, v, at, body, store, listed, filled)
 }
 
 // A part of a body under 80, whose tag's row is known, unless one before it was not allowed.
@@ -540,26 +632,31 @@ fn take_part(
     tag: u32,
     answer: u8,
     v: &[u8],
-    store: &mut [u8; SIZE],
+    at: usize,
+    body: &[u8],
+    store: &[u8],
+    listed: &mut [u32; LIST],
+    filled: &mut [u8; ROWS],
     codes: &[u32; ROWS],
-    places: &[u32; ROWS],
 ) -> bool
-    requires { ⌜ length (now store) ≡ storeSize ⌝ }
+    requires { ⌜ Listing (now body) (now store) (now listed) (now filled) ⌝ }
+    requires { ⌜ Within (now body) at (now v) ⌝ }
+    requires { ⌜ countIn (now listed) < mostListed ⌝ }
     requires { ⌜ 0 < answer ⌝ }
     requires { ⌜ find rows tag ≡ Found.At row ⌝ }
     requires { ⌜ now codes ≡ codesOf rows ⌝ }
-    requires { ⌜ now places ≡ placesOf rows ⌝ }
-    ensures said { λ r. ⌜ r ≡ takeNext answer (work good (now (store .entry))) (item 0x77 tag (now (v .entry))) .good ⌝ }
-    ensures kept { λ _. ⌜ now (store .exit) ≡ takeNext answer (work good (now (store .entry))) (item 0x77 tag (now (v .entry))) .store ⌝ }
-    ensures sized { λ _. ⌜ length (now (store .exit)) ≡ storeSize ⌝ }
+    ensures taken { λ r. ⌜ Takes answer (item 0x77 tag (now (v .entry))) good r
+      (now (body .entry)) (now (store .entry)) (now (listed .entry)) (now (listed .exit)) ⌝ }
+    ensures kept { λ _. ⌜ Listing (now (body .entry)) (now (store .entry)) (now (listed .exit)) (now (filled .exit)) ⌝ }
+    ensures one { λ _. ⌜ countIn (now (listed .exit)) ≤ countIn (now (listed .entry)) + 1 ⌝ }
 {
     if !good {
         return false;
     }
-    take_row(codes, row, tag, 0x77, answer, v, store, places)
+    take_row(codes, row, tag, 0x77, answer, v, at, body, store, listed, filled)
 }
 
-// One primitive object of a known tag: skipped, stored, or not allowed.
+// One primitive object of a known tag: skipped, listed, or not allowed.
 fn take_row(
     codes: &[u32; ROWS],
     row: usize,
@@ -567,17 +664,22 @@ fn take_row(
     around: u32,
     answer: u8,
     v: &[u8],
-    store: &mut [u8; SIZE],
-    places: &[u32; ROWS],
+    at: usize,
+    body: &[u8],
+    store: &[u8],
+    listed: &mut [u32; LIST],
+    filled: &mut [u8; ROWS],
 ) -> bool
-    requires { ⌜ length (now store) ≡ storeSize ⌝ }
+    requires { ⌜ Listing (now body) (now store) (now listed) (now filled) ⌝ }
+    requires { ⌜ Within (now body) at (now v) ⌝ }
+    requires { ⌜ countIn (now listed) < mostListed ⌝ }
     requires { ⌜ 0 < answer ⌝ }
     requires { ⌜ find rows tag ≡ Found.At row ⌝ }
     requires { ⌜ now codes ≡ codesOf rows ⌝ }
-    requires { ⌜ now places ≡ placesOf rows ⌝ }
-    ensures said { λ r. ⌜ r ≡ takeItem answer (now (store .entry)) (item around tag (now (v .entry))) .good ⌝ }
-    ensures kept { λ _. ⌜ now (store .exit) ≡ takeItem answer (now (store .entry)) (item around tag (now (v .entry))) .store ⌝ }
-    ensures sized { λ _. ⌜ length (now (store .exit)) ≡ storeSize ⌝ }
+    ensures taken { λ r. ⌜ Takes answer (item around tag (now (v .entry))) true r
+      (now (body .entry)) (now (store .entry)) (now (listed .entry)) (now (listed .exit)) ⌝ }
+    ensures kept { λ _. ⌜ Listing (now (body .entry)) (now (store .entry)) (now (listed .exit)) (now (filled .exit)) ⌝ }
+    ensures one { λ _. ⌜ countIn (now (listed .exit)) ≤ countIn (now (listed .entry)) + 1 ⌝ }
 {
     let attributes = dictionary::unpacked(codes[row]);
     if is_skipped(tag, attributes) {
@@ -586,7 +688,51 @@ fn take_row(
     if !may_come(attributes, around, answer, v) {
         return false;
     }
-    store::put_free_in(store, row, v, places)
+    if !is_free(row, body, store, listed, filled) {
+        return false;
+    }
+    list(row, v, at, body, store, listed, filled);
+    true
+}
+
+// Whether no bytes are in a row's place of the store and none are listed for it.
+fn is_free(row: usize, body: &[u8], store: &[u8], listed: &[u32; LIST], filled: &[u8; ROWS]) -> bool
+    requires { ⌜ Listing (now body) (now store) (now listed) (now filled) ⌝ }
+    requires { ⌜ row < rowCount ⌝ }
+    ensures { λ r. ⌜ r ≡ isFree rows (laid (now (body .entry)) (now (store .entry)) (now (listed .entry))) row ⌝ }
+{
+    if filled[row] != 0 {
+        return false;
+    }
+    store::length_byte(store, row) <= 1
+}
+
+// Lists a value of the body for a row that is free.
+fn list(
+    row: usize,
+    v: &[u8],
+    at: usize,
+    body: &[u8],
+    store: &[u8],
+    listed: &mut [u32; LIST],
+    filled: &mut [u8; ROWS],
+)
+    requires { ⌜ Listing (now body) (now store) (now listed) (now filled) ⌝ }
+    requires { ⌜ Within (now body) at (now v) ⌝ }
+    requires { ⌜ countIn (now listed) < mostListed ⌝ }
+    requires { ⌜ (row < rowCount) × (length (now v) ≤ rowAt row .greatest) ⌝ }
+    requires { ⌜ isFree rows (laid (now body) (now store) (now listed)) row ≡ true ⌝ }
+    ensures put { λ _. ⌜ Puts row (now (v .entry))
+      (now (body .entry)) (now (store .entry)) (now (listed .entry)) (now (listed .exit)) ⌝ }
+    ensures kept { λ _. ⌜ Listing (now (body .entry)) (now (store .entry)) (now (listed .exit)) (now (filled .exit)) ⌝ }
+    ensures one { λ _. ⌜ countIn (now (listed .exit)) ≤ countIn (now (listed .entry)) + 1 ⌝ }
+{
+    let next = count_of(listed) + 1;
+    listed[next] = row as u32 * ROW + at as u32 * PLACE + v.len() as u32;
+    listed[0] = next as u32;
+    if v.len() != 0 {
+        filled[row] = 1;
+    }
 }
 
 // Whether a known object is passed over: of the private class, and not the card's to set.

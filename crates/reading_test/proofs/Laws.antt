@@ -3,7 +3,7 @@
 use mathlib.Core.Path.{_≡_, refl, ap, subst⁻¹, _∙_}
 use mathlib.Core.Logic.{inl, inr}
 use mathlib.Core.List.{List}
-use Prim.Native.Nat.{ℕ, _+_, _*_, _≤_, _<_}
+use Prim.Native.Nat.{ℕ, _+_, _*_, _%_, _≤_, _<_}
 use native.Mathlib.Omega.{arith}
 use lib.Dec.{ltb}
 use lib.ListN.{length}
@@ -23,6 +23,14 @@ unfolding askedOf
 asked-sized size n file a =
     if-ind (λ (x : Wanted). x ≡ Wanted.Answer a → size ≡ storeSize) _ _ _ (λ t e. eqb-true _ _ t) (λ t e. let z : _≡_ {A = ℕ} 0 1 = cc in absurd (omega arith))
 
+-- an answer that is too long counts no objects, and the others have few bytes
+count-small : (a : Awaited) (b s c : List ℕ) (r : Reading) → Gives r c (readAnswer a b s) → 2 * r .objects ≤ length s → r .objects < countLimit
+count-small a b s c r g h =
+    elim (bool-cases (ltb 258 (length s))) [
+      inl w ↦ let z : r .objects ≡ 0 = g .objects ∙ ap (λ (o : Outcome). o .objects) (answer-long a s b (ltb-true _ _ w)) in omega arith
+    | inr w ↦ let m = ltb-false 258 (length s) w in omega arith
+    ]
+
 module _ (n file : ℕ) (b s : List ℕ) where
   reads : (x : Wanted) → askedOf (length b) n file ≡ x → readOver n file b s ≡ readWanted x b s
   unfolding readOver
@@ -32,17 +40,11 @@ module _ (n file : ℕ) (b s : List ℕ) where
   pub unread : askedOf (length b) n file ≡ Wanted.Nothing → DidRead 0xFFFFFFFF b (readOver n file b s)
   unread e = subst⁻¹ (DidRead 0xFFFFFFFF b) (reads Wanted.Nothing e) (record { word = refl; store = refl })
 
-  -- an answer
+  -- an answer, whose count is small
   pub read : (a : Awaited) (w : ℕ) (c : List ℕ) (r : Reading) → askedOf (length b) n file ≡ Wanted.Answer a
-      → Gives r c (readAnswer a b s) → w ≡ numberOf (r .verdict) * countLimit + r .objects → DidRead w c (readOver n file b s)
-  read a w c r e g k =
+      → Gives r c (readAnswer a b s) → 2 * r .objects ≤ length s → w ≡ numberOf (r .verdict) * countLimit + r .objects % countLimit → DidRead w c (readOver n file b s)
+  read a w c r e g h k =
+      let m = count-small a b s c r g h in
+      let z : r .objects % countLimit ≡ r .objects = omega arith in
       subst⁻¹ (DidRead w c) (reads (Wanted.Answer a) e)
-      (record { word = k ∙ λ i. g .reason i * countLimit + g .objects i; store = g .store })
-
--- an answer that is too long counts no objects, and the others have few bytes
-pub count-small : (a : Awaited) (b s c : List ℕ) (r : Reading) → Gives r c (readAnswer a b s) → 2 * r .objects ≤ length s → r .objects < countLimit
-count-small a b s c r g h =
-    elim (bool-cases (ltb 258 (length s))) [
-      inl w ↦ let z : r .objects ≡ 0 = g .objects ∙ ap (λ (o : Outcome). o .objects) (answer-long a s b (ltb-true _ _ w)) in omega arith
-    | inr w ↦ let m = ltb-false 258 (length s) w in omega arith
-    ]
+      (record { word = k ∙ ap (λ (x : ℕ). numberOf (r .verdict) * countLimit + x) z ∙ λ i. g .reason i * countLimit + g .objects i; store = g .store })

@@ -1,12 +1,12 @@
-// One reading of a card's answer over a lent store, by either reader, for tests that compare it with another
-// implementation and with each other.
+// One reading of a card's answer over a lent store, for tests that compare it with another implementation and with the reader
+// without recursion, which `reading_flat_test` has.
 //
-// The sessions' calls do not hand out how many objects a reading counted, so these do. They are in an
-// archive of its own, which no host links.
+// The sessions' calls do not hand out how many objects a reading counted, so these do. Each reader is in an
+// archive of its own, which no host links: so it is compiled as in the library that has it alone.
 use dictionary::SIZE;
 use reading::{Awaited, File, Reading};
 ghost use mathlib.Core.Path.{_≡_};
-ghost use Prim.Native.Nat.{_+_, _*_, _<_};
+ghost use Prim.Native.Nat.{_+_, _*_, _%_};
 ghost use Rattle.reading.specs.Answer.{numberOf};
 ghost use Rattle.reading_test.specs.Read.{DidRead, readOver, askedOf, wantedOf, countLimit};
 
@@ -17,7 +17,7 @@ pub enum Wanted {
 }
 
 // What is given where no answer was read.
-const NOT_READ: u32 = 0xFFFFFFFF;
+pub const NOT_READ: u32 = 0xFFFFFFFF;
 
 // The reason stands above the 16 bits of the count.
 const REASON: u32 = 0x10000;
@@ -37,21 +37,8 @@ pub extern "C" fn emv_test_read(store: &mut [u8], awaited: u32, file: u8, card: 
     word(reading)
 }
 
-// The same by the reader without recursion.
-#[no_mangle]
-pub extern "C" fn emv_test_read_flat(store: &mut [u8], awaited: u32, file: u8, card: &[u8]) -> u32
-    ensures { λ r. ⌜ DidRead r (now (store .exit)) (readOver awaited file (now (store .entry)) (now (card .entry))) ⌝ }
-{
-    let answer = asked(store.len(), awaited, file);
-    let Wanted::Answer(a) = answer else {
-        return NOT_READ;
-    };
-    let reading = reading::flat::read_answer(store, a, card);
-    word(reading)
-}
-
 // The answer of a number, for a store of its size.
-fn asked(size: usize, awaited: u32, file: u8) -> Wanted
+pub fn asked(size: usize, awaited: u32, file: u8) -> Wanted
     ensures { λ r. ⌜ r ≡ askedOf size awaited file ⌝ }
 {
     if size != SIZE {
@@ -79,11 +66,10 @@ fn wanted_of(awaited: u32, file: u8) -> Wanted
     Wanted::Nothing
 }
 
-// A reading as one number.
-fn word(reading: Reading) -> u32
-    requires { ⌜ reading .objects < countLimit ⌝ }
-    ensures { λ r. ⌜ r ≡ numberOf (reading .verdict) * countLimit + reading .objects ⌝ }
+// A reading as one number; of a count the lower 16 bits.
+pub fn word(reading: Reading) -> u32
+    ensures { λ r. ⌜ r ≡ numberOf (reading .verdict) * countLimit + reading .objects % countLimit ⌝ }
 {
     let verdict = reading.verdict;
-    REASON * basics::wide32(reading::number(verdict)) + reading.objects as u32
+    REASON * basics::wide32(reading::number(verdict)) + (reading.objects % 0x10000) as u32
 }

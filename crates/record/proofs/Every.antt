@@ -1,5 +1,5 @@
--- A test over a list, entry by entry as a loop goes, from its entries back to the whole, and joined with others. Assumes nothing.
-use mathlib.Core.Path.{_≡_, refl, ap, _∙_}
+-- A test over a list, entry by entry as a loop goes, and from its entries back to the whole. Assumes nothing.
+use mathlib.Core.Path.{_≡_, refl}
 use mathlib.Core.Bool.{Bool, true, false}
 use mathlib.Core.List.{List, [], _∷_}
 use Prim.Native.Nat.{ℕ, suc, _+_, _≤_, _<_}
@@ -7,9 +7,8 @@ use native.Mathlib.Numerals.{add-one}
 use native.Mathlib.Omega.{arith}
 use lib.ListN.{length, getD, drop, drop-of-length-le}
 use lib.Seq.{drop-cons}
-use Rattle.basics.specs.Choice.{both, either, every}
+use Rattle.basics.specs.Choice.{every}
 use Rattle.basics.proofs.Laws.{both-yes, both-no-left, both-true}
-use Rattle.record.proofs.Tests.{both-cross}
 
 module _ {A : Type 0} (f : A → Bool) (xs : List A) (d : A) (i : ℕ) where
   -- the next entry decides, or the rest does
@@ -30,16 +29,3 @@ pub every-all : {A : Type 0} (f : A → Bool) (xs : List A) (d : A) → ((k : �
 unfolding every
 every-all f [] d h = refl
 every-all f (x ∷ xs) d h = both-yes _ _ (h 0 (omega arith)) (every-all f xs d (λ k l. h (suc k) (omega arith)))
-
--- two tests at every entry are the one at every entry and the other at every entry
-pub every-both : {A : Type 0} (f g : A → Bool) (xs : List A) → every (λ x. both (f x) (g x)) xs ≡ both (every f xs) (every g xs)
-unfolding every both
-every-both f g [] = refl
-every-both f g (x ∷ xs) = ap (both (both (f x) (g x))) (every-both f g xs) ∙ both-cross (f x) (g x) (every f xs) (every g xs)
-
--- a test that does not look at the entry stands before the list
-pub every-either : {A : Type 0} (c : Bool) (f : A → Bool) (xs : List A) → every (λ x. either c (f x)) xs ≡ either c (every f xs)
-unfolding every either
-every-either true f [] = refl
-every-either true f (x ∷ xs) = both-true _ refl ∙ every-either true f xs
-every-either false f xs = refl

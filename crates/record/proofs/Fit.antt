@@ -1,31 +1,32 @@
 -- The object of a row fits by what stands in its place: an absent one always, a length byte that is too large never, else by its length
 -- and its digits. Assumes nothing.
 use mathlib.Core.Path.{_≡_, refl, sym, ap, ap₂, _∙_}
-use mathlib.Core.Bool.{Bool, true, false, not}
+use mathlib.Core.Bool.{Bool, true, false}
 use mathlib.Core.List.{List, [], _∷_, map}
 use Prim.Native.Nat.{ℕ, _+_, _-_, _≤_, _<_}
 use native.Mathlib.Omega.{arith}
+use native.Mathlib.Nat.{add-zero}
 use native.Mathlib.Numerals.{add-one}
 use borrow.Author.Tests.{le-leb, lt-leb}
-use lib.Dec.{leb, eqb}
+use lib.Dec.{leb}
 use lib.ListN.{length, getD, take, drop, length-take, length-drop}
-use Rattle.basics.specs.Choice.{both, either, every}
+use lib.Seq.{getD-take, getD-drop}
+use Rattle.basics.specs.Choice.{both}
 use Rattle.basics.proofs.Laws.{both-yes, both-true, both-no-left}
 use Rattle.dictionary.specs.declared.Attributes.{Attributes}
-use Rattle.dictionary.specs.Rows.{Row, rows, rowAt, rowCount, storeSize, optional}
+use Rattle.dictionary.specs.Rows.{Row, rows, rowAt, rowCount, storeSize}
 use Rattle.dictionary.specs.Packing.{attributesOf, rowOf, codeOf, attributesIn}
 use Rattle.dictionary.specs.Form.{fitting, digitsFit}
 use Rattle.dictionary.proofs.Fit.{too-short, by-form}
 use Rattle.dictionary.proofs.Table.{column}
 use Rattle.dictionary.proofs.Packing.{code-unpacks}
 use Rattle.store.specs.Place.{Value, absent, present, room, offsetIn, placeAt, held, valueAt, lengthByte}
-use Rattle.store.proofs.Laws.{zero-absent, held-bytes, there-is, length-byte-at}
+use Rattle.store.proofs.Laws.{zero-absent, held-bytes}
 use Rattle.store.proofs.Places.{offset-next}
 use Rattle.store.proofs.Rows.{rows-length, row-inside}
-use Rattle.record.specs.Ranges.{valueFits, objectFits, allFit, isBrought, brought}
-use Rattle.record.specs.Inner.{placeFits, broughtBy, placeKeeps, allKeep}
-use Rattle.record.proofs.Every.{every-both, every-either}
-use Rattle.record.proofs.Tags.{row-found, value-is, held-is, length-is}
+use Rattle.record.specs.Ranges.{valueFits, objectFits}
+use Rattle.record.specs.Inner.{placeFits}
+use Rattle.record.proofs.Tags.{row-found, value-is, length-is}
 
 -- the value in a place that is not empty
 abbrev pub placed : List ℕ → List ℕ
@@ -40,11 +41,11 @@ place-value x (n ∷ v) ne l = both-true _ (le-leb _ _ l) ∙ ap (valueFits x) (
 placed-length : (p : List ℕ) → getD p 0 0 ≤ length p → length (placed p) ≡ getD p 0 0 - 1
 placed-length p h = simp (length-take, length-drop) (omega arith)
 
-module _ (x : Row) (p : List ℕ) (er : room x ≡ length p) where
-  pub place-absent : getD p 0 0 ≡ 0 → placeFits x p ≡ true
-  unfolding placeFits
-  place-absent e = both-yes _ _ (le-leb (getD p 0 0) (room x) (omega arith)) (ap (valueFits x) (zero-absent p e))
+pub place-absent : (x : Row) (p : List ℕ) → getD p 0 0 ≡ 0 → placeFits x p ≡ true
+unfolding placeFits
+place-absent x p e = both-yes _ _ (le-leb (getD p 0 0) (room x) (omega arith)) (ap (valueFits x) (zero-absent p e))
 
+module _ (x : Row) (p : List ℕ) (er : room x ≡ length p) where
   pub place-long : length p < getD p 0 0 → placeFits x p ≡ false
   unfolding placeFits
   place-long l = both-no-left _ _ (lt-leb (getD p 0 0) (room x) (omega arith))
@@ -66,25 +67,6 @@ object-place b k h =
     let f = row-found k h in
     sym (ap₂ (λ (n : ℕ) (y : Bool). both (leb n (room (rowAt k))) y) (length-is b _ k f) (ap (valueFits (rowAt k)) (value-is b _ k f)))
 
--- the object of row k is brought by its place's first byte
-object-there : (b : List ℕ) (k : ℕ) → k < rowCount
-    → isBrought b (rowAt k) ≡ broughtBy (rowAt k .must) (getD (placeAt rows b k) 0 0)
-unfolding isBrought lengthByte
-object-there b k h = ap (either (eqb (rowAt k .must) optional)) (held-is b _ k (row-found k h) refl refl ∙ there-is rows b k)
-
--- and by the byte where its place starts
-pub object-brought : (b : List ℕ) (k : ℕ) → k < rowCount
-    → isBrought b (rowAt k) ≡ broughtBy (rowAt k .must) (getD b (offsetIn rows k) 0)
-unfolding lengthByte
-object-brought b k h =
-    object-there b k h ∙ ap (broughtBy (rowAt k .must)) (length-byte-at rows b k)
-
--- ---- both tests at once
-
--- the object of a row fits, and is there where that is asked
-abbrev pub objectKeeps : Bool → List ℕ → Row → Bool
-objectKeeps asked b r = both (objectFits b r) (either (not asked) (isBrought b r))
-
 -- a place fits by what its row says beside the tag
 untagged : (r : Row) (p : List ℕ) → placeFits r p ≡ placeFits (rowOf (attributesOf r)) p
 unfolding placeFits fitting
@@ -93,17 +75,6 @@ untagged r p = ap (both (leb (getD p 0 0) (room r))) (same (held p))
     same : (v : Value) → valueFits r v ≡ valueFits (rowOf (attributesOf r)) v
     same absent = refl
     same (present w) = refl
-
--- the same of what stands in its place
-pub object-keeps : (asked : Bool) (b : List ℕ) (k : ℕ) → k < rowCount → objectKeeps asked b (rowAt k) ≡ placeKeeps asked (attributesOf (rowAt k)) (placeAt rows b k)
-object-keeps asked b k h =
-    ap₂ both (object-place b k h ∙ untagged (rowAt k) (placeAt rows b k)) (ap (either (not asked)) (object-there b k h))
-
-pub all-keeps : (asked : Bool) (b : List ℕ) → allKeep asked b ≡ every (objectKeeps asked b) rows
-unfolding allFit brought
-all-keeps asked b =
-    sym (every-both (objectFits b) (λ r. either (not asked) (isBrought b r)) rows
-    ∙ ap (both (every (objectFits b) rows)) (every-either (not asked) (isBrought b) rows))
 
 -- ---- a walk over the rows and their places
 
@@ -126,9 +97,14 @@ stands k at a h e r =
     ap (offsetIn rows) (add-one k) ∙ offset-next rows k (omega (arith, rows-length)) in
     record { inside = omega arith; next = omega arith; whole = omega arith }
 
--- the part of a store that is row k's place
-pub place-part : (b : List ℕ) (k at w : ℕ) → at ≡ offsetIn rows k → Stands k at w → take (at + w + 1 - at) (drop at b) ≡ placeAt rows b k
+-- the part of a store that is row k's place: its first byte, and whether the row's object fits by it
+pub part-first : (b : List ℕ) (at w : ℕ) → getD (take (at + w + 1 - at) (drop at b)) 0 0 ≡ getD b at 0
+part-first b at w = getD-take (at + w + 1 - at) (drop at b) 0 0 (omega arith) ∙ getD-drop at b 0 0 ∙ rw add-zero
+
+pub object-part : (b : List ℕ) (k at : ℕ) (a : Attributes) → k < rowCount → at ≡ offsetIn rows k → a ≡ attributesOf (rowAt k)
+    → objectFits b (rowAt k) ≡ placeFits (rowOf a) (take (at + a .greatest + 1 - at) (drop at b))
 unfolding placeAt
-place-part b k at w e s =
-    let n : at + w + 1 - at ≡ room (rowAt k) = omega (arith, s .whole) in
-    ap₂ (λ (i j : ℕ). take i (drop j b)) n e
+object-part b k at a h e r =
+    let n : at + a .greatest + 1 - at ≡ room (rowAt k) = omega (arith, stands k at a h e r .whole) in
+    object-place b k h ∙ untagged (rowAt k) (placeAt rows b k)
+    ∙ sym (ap₂ (λ (x : Attributes) (p : List ℕ). placeFits (rowOf x) p) r (ap₂ (λ (i j : ℕ). take i (drop j b)) n e))

@@ -3,6 +3,8 @@ pub mod Every
 pub mod Tags
 pub mod Fit
 pub mod Along
+pub mod Walk
+pub mod Required
 pub mod Stores
 pub mod Values
 pub mod Laws

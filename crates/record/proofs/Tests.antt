@@ -6,7 +6,7 @@ use Prim.Native.Nat.{ℕ, zero, suc, _+_, _-_, _≤_}
 use native.Mathlib.Omega.{arith}
 use lib.Dec.{eqb, ltb}
 use borrow.Author.Tests.{eq-eqb, ne-eqb, eqb-true, eqb-false, lt-ltb, le-ltb}
-use Rattle.basics.specs.Choice.{both, either}
+use Rattle.basics.specs.Choice.{both}
 use Rattle.basics.proofs.Laws.{bool-cases}
 
 pub both-right-true : {b : Bool} (a : Bool) → b ≡ true → both a b ≡ a
@@ -20,11 +20,6 @@ unfolding both
 both-implied true b h = refl
 both-implied false true h = h refl
 both-implied false false h = refl
-
-pub either-right-false : {b : Bool} (a : Bool) → b ≡ false → either a b ≡ a
-unfolding either
-either-right-false true e = refl
-either-right-false false e = e
 
 -- two pairs of tests, joined crosswise
 pub both-cross : (a b x y : Bool) → both (both a b) (both x y) ≡ both (both a x) (both b y)

@@ -7,24 +7,29 @@
 use analysis::choice::Choice;
 use analysis::verification::Method;
 use dictionary::{
-    Attributes, ROWS, ROW_5A, ROW_5F24, ROW_82, ROW_8C, ROW_94, ROW_95, ROW_9F10, ROW_9F26, ROW_9F27, ROW_9F34, ROW_9F35, ROW_9F36,
-    ROW_9F61, ROW_9F65, ROW_9F66, ROW_9F67, ROW_9F6B, ROW_DF811B, SIZE,
+    Attributes, ROWS, ROW_5A, ROW_5F24, ROW_82, ROW_8C, ROW_94, ROW_95, ROW_9A, ROW_9C, ROW_9F02, ROW_9F09, ROW_9F10, ROW_9F1A,
+    ROW_9F26, ROW_9F27, ROW_9F33, ROW_9F34, ROW_9F35, ROW_9F36, ROW_9F37, ROW_9F61, ROW_9F65, ROW_9F66, ROW_9F67, ROW_9F6A, ROW_9F6B,
+    ROW_DF811B, ROW_DF8120, ROW_DF8121, ROW_DF8122, ROW_DF8123, ROW_DF8124, ROW_DF8125, ROW_DF8126, SIZE,
 };
 use locator::Checked;
 use store::Store;
 ghost use mathlib.Core.Path.{_≡_};
+ghost use mathlib.Core.Bool.{not};
+ghost use Prim.Native.Nat.{_≤_, _<_};
+ghost use lib.Dec.{eqb};
 ghost use lib.ListN.{length, getD};
-ghost use Rattle.basics.specs.Choice.{both, every};
-ghost use Rattle.dictionary.specs.Rows.{storeSize};
+ghost use Rattle.basics.specs.Choice.{both, either, every};
+ghost use Rattle.dictionary.specs.Rows.{rows, rowCount, storeSize};
 ghost use Rattle.dictionary.specs.Packing.{rowOf};
-ghost use Rattle.store.specs.Place.{room};
+ghost use Rattle.dictionary.specs.Lent.{codesOf};
+ghost use Rattle.store.specs.Place.{room, offsetIn};
 ghost use Rattle.record.specs.Numbers.{outcomeNumber, goesWith, outcomeFor};
 ghost use Rattle.record.specs.Session.{sessionOf, freshSession, waitingSession, replyOf, refusedTurn, endsTurn, failsTurn, commandsTurn};
 ghost use Rattle.store.specs.Held.{isZero};
 ghost use Rattle.record.specs.Ranges.{allFit, brought, lastAbsent, emvMode, stripeMode, eitherMode, completed, trackCompleted, running};
 ghost use Rattle.record.specs.Ranges.{freshRanges, optionsRanges, recordRanges, cryptogramRanges, checksumRanges, endedRanges};
 ghost use Rattle.record.specs.Clauses.{Tells};
-ghost use Rattle.record.specs.Inner.{broughtBy, placeKeeps, allKeep};
+ghost use Rattle.record.specs.Inner.{placeFits, requiredCount, NextHeld, allKeep};
 
 // How a session ends.
 pub enum Outcome {
@@ -103,6 +108,12 @@ pub struct Reply {
     pub answer: Answer,
 }
 
+// Where a walk over the store stands: at a row, and at the byte where its place starts.
+pub struct Spot {
+    pub row: usize,
+    pub at: usize,
+}
+
 // What a call hands back beside the store.
 pub struct Turn {
     pub phase: Phase,
@@ -112,6 +123,15 @@ pub struct Turn {
 
 // The most commands that a session hands out.
 const MOST: u8 = 130;
+
+// How many objects a start must bring.
+const REQUIRED: usize = 17;
+
+// Their rows.
+const REQUIRED_ROWS: [usize; REQUIRED] = [
+    ROW_9A, ROW_9C, ROW_9F02, ROW_9F09, ROW_9F1A, ROW_9F33, ROW_9F35, ROW_9F37,
+    ROW_9F6A, ROW_DF811B, ROW_DF8120, ROW_DF8121, ROW_DF8122, ROW_DF8123, ROW_DF8124, ROW_DF8125, ROW_DF8126,
+];
 
 // The number of an outcome.
 pub fn outcome_number(outcome: Outcome) -> u8
@@ -511,39 +531,71 @@ pub fn is_complete(bytes: &[u8]) -> bool
     store::value(bytes, ROW_8C).len() != 0
 }
 
-// Every stored object fits its row; where `asked`, what a start must bring is there too. One walk for both.
+// Every stored object fits its row; where `asked`, what a start must bring is there too. One walk for both, from one
+// object that is there to the next; it counts those that a start must bring.
 fn all_keep(bytes: &[u8], asked: bool) -> bool
     requires { ⌜ length (now bytes) ≡ storeSize ⌝ }
     ensures { λ r. ⌜ r ≡ allKeep asked (now (bytes .entry)) ⌝ }
 {
     let codes = dictionary::codes();
-    let mut at = 0;
     let mut row = 0;
-    while row < ROWS {
-        let a = dictionary::unpacked(codes[row]);
-        let next = at + a.greatest + 1;
-        if !place_keeps(&bytes[at..next], a, asked) {
+    let mut at = 0;
+    let mut brought = 0;
+    loop {
+        let held = next_held(bytes, &codes, row, at);
+        let k = held.row;
+        let first = held.at;
+        if k == ROWS {
+            return is_enough(asked, brought);
+        }
+        let a = dictionary::unpacked(codes[k]);
+        let next = first + a.greatest + 1;
+        if !place_keeps(&bytes[first..next], a) {
             return false;
         }
+        brought += basics::wide(a.must);
+        row = k + 1;
         at = next;
+    }
+}
+
+// The first row from a row on whose object is there, and where its place starts; the end where there is none.
+fn next_held(bytes: &[u8], codes: &[u32; ROWS], from: usize, start: usize) -> Spot
+    requires { ⌜ length (now bytes) ≡ storeSize ⌝ }
+    requires { ⌜ now codes ≡ codesOf rows ⌝ }
+    requires { ⌜ (from ≤ rowCount) × (start ≡ offsetIn rows from) ⌝ }
+    ensures { λ r. ⌜ NextHeld (now (bytes .entry)) from r ⌝ }
+{
+    let mut row = from;
+    let mut at = start;
+    while row < ROWS {
+        if bytes[at] != 0 {
+            return Spot { row, at };
+        }
+        at = at + dictionary::unpacked(codes[row]).greatest + 1;
         row += 1;
+    }
+    Spot { row, at }
+}
+
+// Whether so many objects that a start must bring are all of them, where that is asked.
+fn is_enough(asked: bool, brought: usize) -> bool
+    ensures { λ r. ⌜ r ≡ either (not asked) (eqb brought requiredCount) ⌝ }
+{
+    if asked {
+        return brought == REQUIRED;
     }
     true
 }
 
-// Whether a row's place is in order: empty, where `asked` only if no start must bring the object; or with a
-// length byte in its room, a value that is long enough and digits that fit.
-fn place_keeps(place: &[u8], a: Attributes, asked: bool) -> bool
+// Whether the place of an object that is there is in order: a length byte in its room, a value that is long enough and
+// digits that fit.
+fn place_keeps(place: &[u8], a: Attributes) -> bool
     requires { ⌜ length (now place) ≡ room (rowOf a) ⌝ }
-    ensures { λ r. ⌜ r ≡ placeKeeps asked a (now (place .entry)) ⌝ }
+    requires { ⌜ 0 < getD (now place) 0 0 ⌝ }
+    ensures { λ r. ⌜ r ≡ placeFits (rowOf a) (now (place .entry)) ⌝ }
 {
     let stored = basics::wide(place[0]);
-    if stored == 0 {
-        if asked {
-            return a.must == 0;
-        }
-        return true;
-    }
     if place.len() < stored {
         return false;
     }
@@ -553,32 +605,20 @@ fn place_keeps(place: &[u8], a: Attributes, asked: bool) -> bool
     dictionary::digits_fit(a.form, &place[1..stored])
 }
 
-// Every object that a start must bring is there.
+// Every object that a start must bring is there. The rows are bound before the loop, and its bound is a constant: the compiler
+// makes a test of one byte for each, and no table.
 pub fn all_brought(bytes: &[u8]) -> bool
     ensures { λ r. ⌜ r ≡ brought (now (bytes .entry)) ⌝ }
 {
-    let codes = dictionary::codes();
-    let mut at = 0;
-    let mut row = 0;
-    while row < ROWS {
-        let a = dictionary::unpacked(codes[row]);
-        if !is_brought(a.must, bytes, at) {
+    let rows = REQUIRED_ROWS;
+    let mut i = 0;
+    while i < REQUIRED {
+        if !store::is_there(bytes, rows[i]) {
             return false;
         }
-        at = at + a.greatest + 1;
-        row += 1;
+        i += 1;
     }
     true
-}
-
-// A row's object is there, by the length byte of the place at `at`, if a start must bring it.
-fn is_brought(must: u8, bytes: &[u8], at: usize) -> bool
-    ensures { λ r. ⌜ r ≡ broughtBy must (getD (now (bytes .entry)) at 0) ⌝ }
-{
-    if must == 0 {
-        return true;
-    }
-    basics::byte_at(bytes, at) != 0
 }
 
 // Every byte is zero: the greatest is. All are looked at, so that the compiler takes many at once.

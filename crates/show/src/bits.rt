@@ -1,4 +1,5 @@
 // The bits that are set in 82, 95, 9F07 and DF811B, a line each, in words (Book C-2, A.1.16, A.1.170, A.1.23 and A.1.91).
+use crate::table::words;
 use crate::{margin, number, text};
 
 // The bits of an object that has words for them; of any other object nothing.
@@ -57,34 +58,38 @@ fn meaning(tag: u32, byte: usize, bit: usize) {
     }
 }
 
+// The words of a bit, from a table whose numbers have the byte for the first digit and the bit for the second.
+fn bit_words(byte: usize, bit: usize, table: &[u8]) {
+    words(two_digits(byte, bit), table, b"RFU");
+}
+
+// The number of two hexadecimal digits; 0 where one of them is none.
+fn two_digits(high: usize, low: usize) -> u32 {
+    if 15 < high {
+        return 0;
+    }
+    if 15 < low {
+        return 0;
+    }
+    (high * 16 + low) as u32
+}
+
 // Application Interchange Profile.
 fn profile(byte: usize, bit: usize) {
-    match byte {
-        1 => profile_1(bit),
-        2 => profile_2(bit),
-        _ => text(b"RFU"),
-    }
-}
-
-fn profile_1(bit: usize) {
-    match bit {
-        7 => text(b"SDA supported"),
-        6 => text(b"DDA supported"),
-        5 => text(b"cardholder verification supported"),
-        4 => text(b"terminal risk management to be performed"),
-        3 => text(b"issuer authentication supported"),
-        2 => text(b"on-device cardholder verification supported"),
-        1 => text(b"CDA supported"),
-        _ => text(b"RFU"),
-    }
-}
-
-fn profile_2(bit: usize) {
-    match bit {
-        8 => text(b"EMV mode supported"),
-        1 => text(b"relay resistance protocol supported"),
-        _ => text(b"RFU"),
-    }
+    bit_words(
+        byte,
+        bit,
+        b"
+    17 SDA supported
+    16 DDA supported
+    15 cardholder verification supported
+    14 terminal risk management to be performed
+    13 issuer authentication supported
+    12 on-device cardholder verification supported
+    11 CDA supported
+    28 EMV mode supported
+    21 relay resistance protocol supported",
+    );
 }
 
 // The name of a bit of the Terminal Verification Results, by its number: 0 is byte 1 b8, 39 is byte 5 b1.
@@ -94,114 +99,73 @@ pub fn result_name(bit: usize) {
 
 // Terminal Verification Results, by the Book's names.
 fn result(byte: usize, bit: usize) {
-    match byte {
-        1 => result_1(bit),
-        2 => result_2(bit),
-        3 => result_3(bit),
-        4 => result_4(bit),
-        5 => result_5(bit),
-        _ => text(b"RFU"),
-    }
-}
-
-fn result_1(bit: usize) {
-    match bit {
-        8 => text(b"offline data authentication was not performed"),
-        7 => text(b"SDA failed"),
-        6 => text(b"ICC data missing"),
-        5 => text(b"card appears on terminal exception file"),
-        4 => text(b"DDA failed"),
-        3 => text(b"CDA failed"),
-        _ => text(b"RFU"),
-    }
-}
-
-fn result_2(bit: usize) {
-    match bit {
-        8 => text(b"ICC and terminal have different application versions"),
-        7 => text(b"expired application"),
-        6 => text(b"application not yet effective"),
-        5 => text(b"requested service not allowed for card product"),
-        4 => text(b"new card"),
-        _ => text(b"RFU"),
-    }
-}
-
-fn result_3(bit: usize) {
-    match bit {
-        8 => text(b"cardholder verification was not successful"),
-        7 => text(b"unrecognised CVM"),
-        6 => text(b"PIN Try Limit exceeded"),
-        5 => text(b"PIN entry required and PIN pad not present or not working"),
-        4 => text(b"PIN entry required, PIN pad present, but PIN was not entered"),
-        3 => text(b"online PIN entered"),
-        _ => text(b"RFU"),
-    }
-}
-
-fn result_4(bit: usize) {
-    match bit {
-        8 => text(b"transaction exceeds floor limit"),
-        7 => text(b"lower consecutive offline limit exceeded"),
-        6 => text(b"upper consecutive offline limit exceeded"),
-        5 => text(b"transaction selected randomly for online processing"),
-        4 => text(b"merchant forced transaction online"),
-        _ => text(b"RFU"),
-    }
-}
-
-fn result_5(bit: usize) {
-    match bit {
-        8 => text(b"default TDOL used"),
-        7 => text(b"issuer authentication failed"),
-        6 => text(b"script processing failed before final GENERATE AC"),
-        5 => text(b"script processing failed after final GENERATE AC"),
-        4 => text(b"relay resistance threshold exceeded"),
-        3 => text(b"relay resistance time limits exceeded"),
-        2 => text(b"relay resistance protocol performed"),
-        _ => text(b"relay resistance protocol not performed"),
-    }
+    bit_words(
+        byte,
+        bit,
+        b"
+    18 offline data authentication was not performed
+    17 SDA failed
+    16 ICC data missing
+    15 card appears on terminal exception file
+    14 DDA failed
+    13 CDA failed
+    28 ICC and terminal have different application versions
+    27 expired application
+    26 application not yet effective
+    25 requested service not allowed for card product
+    24 new card
+    38 cardholder verification was not successful
+    37 unrecognised CVM
+    36 PIN Try Limit exceeded
+    35 PIN entry required and PIN pad not present or not working
+    34 PIN entry required, PIN pad present, but PIN was not entered
+    33 online PIN entered
+    48 transaction exceeds floor limit
+    47 lower consecutive offline limit exceeded
+    46 upper consecutive offline limit exceeded
+    45 transaction selected randomly for online processing
+    44 merchant forced transaction online
+    58 default TDOL used
+    57 issuer authentication failed
+    56 script processing failed before final GENERATE AC
+    55 script processing failed after final GENERATE AC
+    54 relay resistance threshold exceeded
+    53 relay resistance time limits exceeded
+    52 relay resistance protocol performed
+    51 relay resistance protocol not performed",
+    );
 }
 
 // Application Usage Control.
 fn usage(byte: usize, bit: usize) {
-    match byte {
-        1 => usage_1(bit),
-        2 => usage_2(bit),
-        _ => text(b"RFU"),
-    }
-}
-
-fn usage_1(bit: usize) {
-    match bit {
-        8 => text(b"domestic cash allowed"),
-        7 => text(b"international cash allowed"),
-        6 => text(b"domestic goods allowed"),
-        5 => text(b"international goods allowed"),
-        4 => text(b"domestic services allowed"),
-        3 => text(b"international services allowed"),
-        2 => text(b"valid at ATMs"),
-        _ => text(b"valid at terminals other than ATMs"),
-    }
-}
-
-fn usage_2(bit: usize) {
-    match bit {
-        8 => text(b"domestic cashback allowed"),
-        7 => text(b"international cashback allowed"),
-        _ => text(b"RFU"),
-    }
+    bit_words(
+        byte,
+        bit,
+        b"
+    18 domestic cash allowed
+    17 international cash allowed
+    16 domestic goods allowed
+    15 international goods allowed
+    14 domestic services allowed
+    13 international services allowed
+    12 valid at ATMs
+    11 valid at terminals other than ATMs
+    28 domestic cashback allowed
+    27 international cashback allowed",
+    );
 }
 
 // Kernel Configuration, of one byte.
 fn configuration(bit: usize) {
-    match bit {
-        8 => text(b"mag-stripe mode not supported"),
-        7 => text(b"EMV mode not supported"),
-        6 => text(b"on-device cardholder verification supported"),
-        5 => text(b"relay resistance protocol supported"),
-        4 => text(b"reserved for the payment system"),
-        3 => text(b"all records read even without CDA"),
-        _ => text(b"RFU"),
-    }
+    bit_words(
+        1,
+        bit,
+        b"
+    18 mag-stripe mode not supported
+    17 EMV mode not supported
+    16 on-device cardholder verification supported
+    15 relay resistance protocol supported
+    14 reserved for the payment system
+    13 all records read even without CDA",
+    );
 }

@@ -1,15 +1,29 @@
 // Writes what the programs show to standard output: bytes in hexadecimal, numbers, replies and data objects.
 //
-// `tree` shows the objects of a card's answer, `bits` the bits of an object in words; `names` has the names of data objects.
+// `tree` shows the objects of a card's answer, `bits` the bits of an object in words; `names` has the names of data objects,
+// and `table` finds words in a table.
 pub mod bits;
 mod names;
+mod table;
 pub mod tree;
 
+use crate::table::decimal_words;
 use record::{Answer, Outcome, OutcomeParameters, Phase, Reply};
 
 // Text, as it is.
 pub fn text(s: &[u8]) {
     io::write_all(1, s);
+}
+
+// The bytes from one place to another; none where there is no such part.
+fn part(s: &[u8], from: usize, to: usize) -> &[u8] {
+    if to < from {
+        return &s[..0];
+    }
+    if s.len() < to {
+        return &s[..0];
+    }
+    &s[from..to]
 }
 
 // A number in decimal digits.
@@ -203,57 +217,62 @@ fn numbered(n: u8) {
 }
 
 fn outcome_words(outcome: Outcome) {
-    match outcome {
-        Outcome::Approved => text(b"approved"),
-        Outcome::OnlineRequest => text(b"online request"),
-        Outcome::Declined => text(b"declined"),
-        Outcome::Ended => text(b"ended"),
-        Outcome::SelectNext => text(b"select next"),
-    }
+    decimal_words(
+        record::outcome_number(outcome),
+        b"
+     0 approved
+     1 online request
+     2 declined
+     3 ended
+     4 select next",
+    );
 }
 
 // A reason in words.
 pub fn reason_words(reason: u8) {
-    match reason {
-        0 => text(b"none"),
-        1 => text(b"status of the card is not 90 00"),
-        2 => text(b"answer is malformed"),
-        3 => text(b"object that the card may not set so"),
-        4 => text(b"mandatory object not sent by the card"),
-        5 => text(b"Application File Locator breaks a rule"),
-        6 => text(b"amount over the reader's transaction limit"),
-        7 => text(b"PDOL, CDOL1 or UDOL cannot be filled"),
-        8 => text(b"cryptogram of a type not asked for"),
-        9 => text(b"no link to the card"),
-        10 => text(b"stopped by the terminal"),
-        11 => text(b"card without EMV mode, and mag-stripe mode is off"),
-        _ => text(b"unknown"),
-    }
+    decimal_words(
+        reason,
+        b"
+     0 none
+     1 status of the card is not 90 00
+     2 answer is malformed
+     3 object that the card may not set so
+     4 mandatory object not sent by the card
+     5 Application File Locator breaks a rule
+     6 amount over the reader's transaction limit
+     7 PDOL, CDOL1 or UDOL cannot be filled
+     8 cryptogram of a type not asked for
+     9 no link to the card
+    10 stopped by the terminal
+    11 card without EMV mode, and mag-stripe mode is off",
+    );
 }
 
 // The methods of cardholder verification by their numbers (Book C-2, A.1.117; 4 is the kernel's own).
 fn method_words(number: u8) {
-    match number {
-        0 => text(b"no CVM"),
-        1 => text(b"signature"),
-        2 => text(b"online PIN"),
-        3 => text(b"confirmation code verified"),
-        4 => text(b"offline PIN"),
-        15 => text(b"not applicable"),
-        _ => text(b"unknown"),
-    }
+    decimal_words(
+        number,
+        b"
+     0 no CVM
+     1 signature
+     2 online PIN
+     3 confirmation code verified
+     4 offline PIN
+    15 not applicable",
+    );
 }
 
 fn refusal_words(number: u8) {
-    match number {
-        20 => text(b"more than 1,024 start bytes, or other than whole primitive objects"),
-        21 => text(b"wrong phase"),
-        22 => text(b"command buffer shorter than 261 bytes"),
-        23 => text(b"start object not allowed"),
-        24 => text(b"mandatory start object missing"),
-        25 => text(b"session record out of its ranges"),
-        _ => text(b"unknown"),
-    }
+    decimal_words(
+        number,
+        b"
+    20 more than 1,024 start bytes, or other than whole primitive objects
+    21 wrong phase
+    22 command buffer shorter than 261 bytes
+    23 start object not allowed
+    24 mandatory start object missing
+    25 session record out of its ranges",
+    );
 }
 
 // ---- objects

@@ -1,310 +1,210 @@
 // The names of data objects and of templates (Book C-2, annex A). A function has the tags up to the number in its name.
-use crate::text;
+use crate::table::words;
 
 // The name of a tag.
 pub fn name(tag: u32) {
-    if tag < 0x10000 {
-        if tag < 0x9F40 {
-            low(tag);
-        } else {
-            high(tag);
-        }
+    if tag < 0x6000 {
+        to_5fff(tag);
+    } else if tag < 0x9F40 {
+        to_9f3f(tag);
+    } else if tag < 0x10000 {
+        to_ffff(tag);
     } else {
         private(tag);
     }
 }
 
-fn low(tag: u32) {
-    if tag < 0x80 {
-        to_7f(tag);
-    } else if tag < 0x100 {
-        to_ff(tag);
-    } else if tag < 0x6000 {
-        to_5fff(tag);
-    } else if tag < 0x9F10 {
-        to_9f0f(tag);
-    } else if tag < 0x9F20 {
-        to_9f1f(tag);
-    } else {
-        to_9f3f(tag);
-    }
-}
-
-fn high(tag: u32) {
-    if tag < 0x9F50 {
-        to_9f4f(tag);
-    } else if tag < 0x9F60 {
-        to_9f5f(tag);
-    } else if tag < 0x9F70 {
-        to_9f6f(tag);
-    } else if tag < 0x9F80 {
-        to_9f7f(tag);
-    } else {
-        to_ffff(tag);
-    }
-}
-
-fn private(tag: u32) {
-    if tag < 0xDF8110 {
-        to_df810f(tag);
-    } else if tag < 0xDF8120 {
-        to_df811f(tag);
-    } else if tag < 0xDF8130 {
-        to_df812f(tag);
-    } else {
-        above(tag);
-    }
-}
-
-fn to_7f(tag: u32) {
-    match tag {
-        0x50 => text(b"Application Label"),
-        0x56 => text(b"Track 1 Data"),
-        0x57 => text(b"Track 2 Equivalent Data"),
-        0x5A => text(b"Application PAN"),
-        0x6F => text(b"File Control Information Template"),
-        0x70 => text(b"READ RECORD Response Message Template"),
-        0x77 => text(b"Response Message Template Format 2"),
-        _ => text(b"unknown"),
-    }
-}
-
-fn to_ff(tag: u32) {
-    match tag {
-        0x80 => text(b"Response Message Template Format 1"),
-        0x82 => text(b"Application Interchange Profile"),
-        0x84 => text(b"DF Name"),
-        0x87 => text(b"Application Priority Indicator"),
-        0x8C => text(b"CDOL1"),
-        0x8E => text(b"CVM List"),
-        0x8F => text(b"CA Public Key Index (Card)"),
-        0x90 => text(b"Issuer Public Key Certificate"),
-        0x94 => text(b"Application File Locator"),
-        0x95 => text(b"Terminal Verification Results"),
-        0x9A => text(b"Transaction Date"),
-        0x9C => text(b"Transaction Type"),
-        0xA5 => text(b"File Control Information Proprietary Template"),
-        _ => text(b"unknown"),
-    }
-}
-
 fn to_5fff(tag: u32) {
-    match tag {
-        0x5F24 => text(b"Application Expiration Date"),
-        0x5F25 => text(b"Application Effective Date"),
-        0x5F28 => text(b"Issuer Country Code"),
-        0x5F2A => text(b"Transaction Currency Code"),
-        0x5F2D => text(b"Language Preference"),
-        0x5F30 => text(b"Service Code"),
-        0x5F34 => text(b"Application PAN Sequence Number"),
-        0x5F36 => text(b"Transaction Currency Exponent"),
-        0x5F57 => text(b"Account Type"),
-        _ => text(b"unknown"),
-    }
-}
-
-fn to_9f0f(tag: u32) {
-    match tag {
-        0x9F01 => text(b"Acquirer Identifier"),
-        0x9F02 => text(b"Amount, Authorized (Numeric)"),
-        0x9F03 => text(b"Amount, Other (Numeric)"),
-        0x9F07 => text(b"Application Usage Control"),
-        0x9F08 => text(b"Application Version Number (Card)"),
-        0x9F09 => text(b"Application Version Number (Reader)"),
-        0x9F0D => text(b"Issuer Action Code - Default"),
-        0x9F0E => text(b"Issuer Action Code - Denial"),
-        0x9F0F => text(b"Issuer Action Code - Online"),
-        _ => text(b"unknown"),
-    }
-}
-
-fn to_9f1f(tag: u32) {
-    match tag {
-        0x9F10 => text(b"Issuer Application Data"),
-        0x9F11 => text(b"Issuer Code Table Index"),
-        0x9F12 => text(b"Application Preferred Name"),
-        0x9F15 => text(b"Merchant Category Code"),
-        0x9F16 => text(b"Merchant Identifier"),
-        0x9F1A => text(b"Terminal Country Code"),
-        0x9F1C => text(b"Terminal Identification"),
-        0x9F1D => text(b"Terminal Risk Management Data"),
-        0x9F1E => text(b"Interface Device Serial Number"),
-        0x9F1F => text(b"Track 1 Discretionary Data"),
-        _ => text(b"unknown"),
-    }
+    words(
+        tag,
+        b"
+    50 Application Label
+    56 Track 1 Data
+    57 Track 2 Equivalent Data
+    5A Application PAN
+    6F File Control Information Template
+    70 READ RECORD Response Message Template
+    77 Response Message Template Format 2
+    80 Response Message Template Format 1
+    82 Application Interchange Profile
+    84 DF Name
+    87 Application Priority Indicator
+    8C CDOL1
+    8E CVM List
+    8F CA Public Key Index (Card)
+    90 Issuer Public Key Certificate
+    94 Application File Locator
+    95 Terminal Verification Results
+    9A Transaction Date
+    9C Transaction Type
+    A5 File Control Information Proprietary Template
+  5F24 Application Expiration Date
+  5F25 Application Effective Date
+  5F28 Issuer Country Code
+  5F2A Transaction Currency Code
+  5F2D Language Preference
+  5F30 Service Code
+  5F34 Application PAN Sequence Number
+  5F36 Transaction Currency Exponent
+  5F57 Account Type",
+        b"unknown",
+    );
 }
 
 fn to_9f3f(tag: u32) {
-    match tag {
-        0x9F20 => text(b"Track 2 Discretionary Data"),
-        0x9F21 => text(b"Transaction Time"),
-        0x9F24 => text(b"Payment Account Reference"),
-        0x9F26 => text(b"Application Cryptogram"),
-        0x9F27 => text(b"Cryptogram Information Data"),
-        0x9F32 => text(b"Issuer Public Key Exponent"),
-        0x9F33 => text(b"Terminal Capabilities"),
-        0x9F34 => text(b"CVM Results"),
-        0x9F35 => text(b"Terminal Type"),
-        0x9F36 => text(b"Application Transaction Counter"),
-        0x9F37 => text(b"Unpredictable Number"),
-        0x9F38 => text(b"PDOL"),
-        _ => text(b"unknown"),
-    }
-}
-
-fn to_9f4f(tag: u32) {
-    match tag {
-        0x9F40 => text(b"Additional Terminal Capabilities"),
-        0x9F42 => text(b"Application Currency Code"),
-        0x9F44 => text(b"Application Currency Exponent"),
-        0x9F46 => text(b"ICC Public Key Certificate"),
-        0x9F47 => text(b"ICC Public Key Exponent"),
-        0x9F4A => text(b"Static Data Authentication Tag List"),
-        0x9F4C => text(b"ICC Dynamic Number"),
-        0x9F4D => text(b"Log Entry"),
-        _ => text(b"unknown"),
-    }
-}
-
-fn to_9f5f(tag: u32) {
-    match tag {
-        0x9F50 => text(b"Offline Accumulator Balance"),
-        0x9F51 => text(b"DRDOL"),
-        0x9F53 => text(b"Transaction Category Code"),
-        0x9F54 => text(b"DS ODS Card"),
-        0x9F5B => text(b"DSDOL"),
-        0x9F5C => text(b"DS Requested Operator ID"),
-        0x9F5D => text(b"Application Capabilities Information"),
-        0x9F5E => text(b"DS ID"),
-        0x9F5F => text(b"DS Slot Availability"),
-        _ => text(b"unknown"),
-    }
-}
-
-fn to_9f6f(tag: u32) {
-    match tag {
-        0x9F60 => text(b"CVC3 (Track1)"),
-        0x9F61 => text(b"CVC3 (Track2)"),
-        0x9F62 => text(b"PCVC3(Track1)"),
-        0x9F63 => text(b"PUNATC(Track1)"),
-        0x9F64 => text(b"NATC(Track1)"),
-        0x9F65 => text(b"PCVC3(Track2)"),
-        0x9F66 => text(b"PUNATC(Track2)"),
-        0x9F67 => text(b"NATC(Track2)"),
-        0x9F69 => text(b"UDOL"),
-        0x9F6A => text(b"Unpredictable Number (Numeric)"),
-        0x9F6B => text(b"Track 2 Data"),
-        0x9F6D => text(b"Mag-stripe Application Version Number (Reader)"),
-        0x9F6E => text(b"Third Party Data"),
-        0x9F6F => text(b"DS Slot Management Control"),
-        _ => text(b"unknown"),
-    }
-}
-
-fn to_9f7f(tag: u32) {
-    match tag {
-        0x9F70 => text(b"Protected Data Envelope 1"),
-        0x9F71 => text(b"Protected Data Envelope 2"),
-        0x9F72 => text(b"Protected Data Envelope 3"),
-        0x9F73 => text(b"Protected Data Envelope 4"),
-        0x9F74 => text(b"Protected Data Envelope 5"),
-        0x9F75 => text(b"Unprotected Data Envelope 1"),
-        0x9F76 => text(b"Unprotected Data Envelope 2"),
-        0x9F77 => text(b"Unprotected Data Envelope 3"),
-        0x9F78 => text(b"Unprotected Data Envelope 4"),
-        0x9F79 => text(b"Unprotected Data Envelope 5"),
-        0x9F7C => text(b"Merchant Custom Data"),
-        0x9F7D => text(b"DS Summary 1"),
-        0x9F7E => text(b"Mobile Support Indicator"),
-        0x9F7F => text(b"DS Unpredictable Number"),
-        _ => text(b"unknown"),
-    }
+    words(
+        tag,
+        b"
+  9F01 Acquirer Identifier
+  9F02 Amount, Authorized (Numeric)
+  9F03 Amount, Other (Numeric)
+  9F07 Application Usage Control
+  9F08 Application Version Number (Card)
+  9F09 Application Version Number (Reader)
+  9F0D Issuer Action Code - Default
+  9F0E Issuer Action Code - Denial
+  9F0F Issuer Action Code - Online
+  9F10 Issuer Application Data
+  9F11 Issuer Code Table Index
+  9F12 Application Preferred Name
+  9F15 Merchant Category Code
+  9F16 Merchant Identifier
+  9F1A Terminal Country Code
+  9F1C Terminal Identification
+  9F1D Terminal Risk Management Data
+  9F1E Interface Device Serial Number
+  9F1F Track 1 Discretionary Data
+  9F20 Track 2 Discretionary Data
+  9F21 Transaction Time
+  9F24 Payment Account Reference
+  9F26 Application Cryptogram
+  9F27 Cryptogram Information Data
+  9F32 Issuer Public Key Exponent
+  9F33 Terminal Capabilities
+  9F34 CVM Results
+  9F35 Terminal Type
+  9F36 Application Transaction Counter
+  9F37 Unpredictable Number
+  9F38 PDOL",
+        b"unknown",
+    );
 }
 
 fn to_ffff(tag: u32) {
-    match tag {
-        0xBF0C => text(b"File Control Information Issuer Discretionary Data"),
-        0xDF4B => text(b"POS Cardholder Interaction Information"),
-        0xDF60 => text(b"DS Input (Card)"),
-        0xDF61 => text(b"DS Digest H"),
-        0xDF62 => text(b"DS ODS Info"),
-        0xDF63 => text(b"DS ODS Term"),
-        _ => text(b"unknown"),
-    }
+    words(
+        tag,
+        b"
+  9F40 Additional Terminal Capabilities
+  9F42 Application Currency Code
+  9F44 Application Currency Exponent
+  9F46 ICC Public Key Certificate
+  9F47 ICC Public Key Exponent
+  9F4A Static Data Authentication Tag List
+  9F4C ICC Dynamic Number
+  9F4D Log Entry
+  9F50 Offline Accumulator Balance
+  9F51 DRDOL
+  9F53 Transaction Category Code
+  9F54 DS ODS Card
+  9F5B DSDOL
+  9F5C DS Requested Operator ID
+  9F5D Application Capabilities Information
+  9F5E DS ID
+  9F5F DS Slot Availability
+  9F60 CVC3 (Track1)
+  9F61 CVC3 (Track2)
+  9F62 PCVC3(Track1)
+  9F63 PUNATC(Track1)
+  9F64 NATC(Track1)
+  9F65 PCVC3(Track2)
+  9F66 PUNATC(Track2)
+  9F67 NATC(Track2)
+  9F69 UDOL
+  9F6A Unpredictable Number (Numeric)
+  9F6B Track 2 Data
+  9F6D Mag-stripe Application Version Number (Reader)
+  9F6E Third Party Data
+  9F6F DS Slot Management Control
+  9F70 Protected Data Envelope 1
+  9F71 Protected Data Envelope 2
+  9F72 Protected Data Envelope 3
+  9F73 Protected Data Envelope 4
+  9F74 Protected Data Envelope 5
+  9F75 Unprotected Data Envelope 1
+  9F76 Unprotected Data Envelope 2
+  9F77 Unprotected Data Envelope 3
+  9F78 Unprotected Data Envelope 4
+  9F79 Unprotected Data Envelope 5
+  9F7C Merchant Custom Data
+  9F7D DS Summary 1
+  9F7E Mobile Support Indicator
+  9F7F DS Unpredictable Number
+  BF0C File Control Information Issuer Discretionary Data
+  DF4B POS Cardholder Interaction Information
+  DF60 DS Input (Card)
+  DF61 DS Digest H
+  DF62 DS ODS Info
+  DF63 DS ODS Term",
+        b"unknown",
+    );
 }
 
-fn to_df810f(tag: u32) {
-    match tag {
-        0xDF8101 => text(b"DS Summary 2"),
-        0xDF8102 => text(b"DS Summary 3"),
-        0xDF8104 => text(b"Balance Read Before Gen AC"),
-        0xDF8105 => text(b"Balance Read After Gen AC"),
-        0xDF8108 => text(b"DS AC Type"),
-        0xDF8109 => text(b"DS Input (Term)"),
-        0xDF810A => text(b"DS ODS Info For Reader"),
-        0xDF810B => text(b"DS Summary Status"),
-        0xDF810C => text(b"Kernel ID"),
-        0xDF810E => text(b"Post-Gen AC Put Data Status"),
-        0xDF810F => text(b"Pre-Gen AC Put Data Status"),
-        _ => text(b"unknown"),
-    }
-}
-
-fn to_df811f(tag: u32) {
-    match tag {
-        0xDF8110 => text(b"Proceed To First Write Flag"),
-        0xDF8114 => text(b"Reference Control Parameter"),
-        0xDF8115 => text(b"Error Indication"),
-        0xDF8116 => text(b"User Interface Request Data"),
-        0xDF8117 => text(b"Card Data Input Capability"),
-        0xDF8118 => text(b"CVM Capability - CVM Required"),
-        0xDF8119 => text(b"CVM Capability - No CVM Required"),
-        0xDF811A => text(b"Default UDOL"),
-        0xDF811B => text(b"Kernel Configuration"),
-        0xDF811C => text(b"Max Lifetime of Torn Transaction Log Record"),
-        0xDF811D => text(b"Max Number of Torn Transaction Log Records"),
-        0xDF811E => text(b"Mag-stripe CVM Capability - CVM Required"),
-        0xDF811F => text(b"Security Capability"),
-        _ => text(b"unknown"),
-    }
-}
-
-fn to_df812f(tag: u32) {
-    match tag {
-        0xDF8120 => text(b"Terminal Action Code - Default"),
-        0xDF8121 => text(b"Terminal Action Code - Denial"),
-        0xDF8122 => text(b"Terminal Action Code - Online"),
-        0xDF8123 => text(b"Reader Contactless Floor Limit"),
-        0xDF8124 => text(b"Reader Contactless Transaction Limit (No On-device CVM)"),
-        0xDF8125 => text(b"Reader Contactless Transaction Limit (On-device CVM)"),
-        0xDF8126 => text(b"Reader CVM Required Limit"),
-        0xDF8127 => text(b"Time Out Value"),
-        0xDF8128 => text(b"IDS Status"),
-        0xDF8129 => text(b"Outcome Parameter Set"),
-        0xDF812A => text(b"DD Card (Track1)"),
-        0xDF812B => text(b"DD Card (Track2)"),
-        0xDF812C => text(b"Mag-stripe CVM Capability - No CVM Required"),
-        0xDF812D => text(b"Message Hold Time"),
-        _ => text(b"unknown"),
-    }
-}
-
-fn above(tag: u32) {
-    match tag {
-        0xDF8130 => text(b"Hold Time Value"),
-        0xDF8132 => text(b"Minimum Relay Resistance Grace Period"),
-        0xDF8133 => text(b"Maximum Relay Resistance Grace Period"),
-        0xDF8134 => text(b"Terminal Expected Transmission Time For Relay Resistance C-APDU"),
-        0xDF8135 => text(b"Terminal Expected Transmission Time For Relay Resistance R-APDU"),
-        0xDF8136 => text(b"Relay Resistance Accuracy Threshold"),
-        0xDF8137 => text(b"Relay Resistance Transmission Time Mismatch Threshold"),
-        0xDF8301 => text(b"Terminal Relay Resistance Entropy"),
-        0xDF8302 => text(b"Device Relay Resistance Entropy"),
-        0xDF8303 => text(b"Min Time For Processing Relay Resistance APDU"),
-        0xDF8304 => text(b"Max Time For Processing Relay Resistance APDU"),
-        0xDF8305 => text(b"Device Estimated Transmission Time For Relay Resistance R-APDU"),
-        0xDF8306 => text(b"Measured Relay Resistance Processing Time"),
-        0xDF8307 => text(b"RRP Counter"),
-        _ => text(b"unknown"),
-    }
+fn private(tag: u32) {
+    words(
+        tag,
+        b"
+DF8101 DS Summary 2
+DF8102 DS Summary 3
+DF8104 Balance Read Before Gen AC
+DF8105 Balance Read After Gen AC
+DF8108 DS AC Type
+DF8109 DS Input (Term)
+DF810A DS ODS Info For Reader
+DF810B DS Summary Status
+DF810C Kernel ID
+DF810E Post-Gen AC Put Data Status
+DF810F Pre-Gen AC Put Data Status
+DF8110 Proceed To First Write Flag
+DF8114 Reference Control Parameter
+DF8115 Error Indication
+DF8116 User Interface Request Data
+DF8117 Card Data Input Capability
+DF8118 CVM Capability - CVM Required
+DF8119 CVM Capability - No CVM Required
+DF811A Default UDOL
+DF811B Kernel Configuration
+DF811C Max Lifetime of Torn Transaction Log Record
+DF811D Max Number of Torn Transaction Log Records
+DF811E Mag-stripe CVM Capability - CVM Required
+DF811F Security Capability
+DF8120 Terminal Action Code - Default
+DF8121 Terminal Action Code - Denial
+DF8122 Terminal Action Code - Online
+DF8123 Reader Contactless Floor Limit
+DF8124 Reader Contactless Transaction Limit (No On-device CVM)
+DF8125 Reader Contactless Transaction Limit (On-device CVM)
+DF8126 Reader CVM Required Limit
+DF8127 Time Out Value
+DF8128 IDS Status
+DF8129 Outcome Parameter Set
+DF812A DD Card (Track1)
+DF812B DD Card (Track2)
+DF812C Mag-stripe CVM Capability - No CVM Required
+DF812D Message Hold Time
+DF8130 Hold Time Value
+DF8132 Minimum Relay Resistance Grace Period
+DF8133 Maximum Relay Resistance Grace Period
+DF8134 Terminal Expected Transmission Time For Relay Resistance C-APDU
+DF8135 Terminal Expected Transmission Time For Relay Resistance R-APDU
+DF8136 Relay Resistance Accuracy Threshold
+DF8137 Relay Resistance Transmission Time Mismatch Threshold
+DF8301 Terminal Relay Resistance Entropy
+DF8302 Device Relay Resistance Entropy
+DF8303 Min Time For Processing Relay Resistance APDU
+DF8304 Max Time For Processing Relay Resistance APDU
+DF8305 Device Estimated Transmission Time For Relay Resistance R-APDU
+DF8306 Measured Relay Resistance Processing Time
+DF8307 RRP Counter",
+        b"unknown",
+    );
 }

@@ -3,7 +3,7 @@
 //
 // `walked` goes through the bytes in order. What stands next is `tlv::next`'s matter; the ends of the templates that
 // are open stand in an array. Within a template a 00 where a tag would start is passed over (document 02, Item 6).
-use crate::{bits, bytes, margin, named, object, text};
+use crate::{bits, bytes, margin, named, object, part, text};
 use tlv::{Following, Front, Header};
 
 // What is shown: the tree, and the bits of its objects in words.
@@ -100,17 +100,6 @@ fn end_of(w: Walk, all: usize) -> usize {
         return all;
     }
     ends[open - 1]
-}
-
-// The bytes from one place to another; none where there is no such part.
-fn part(s: &[u8], from: usize, to: usize) -> &[u8] {
-    if to < from {
-        return &s[..0];
-    }
-    if s.len() < to {
-        return &s[..0];
-    }
-    &s[from..to]
 }
 
 // Behind the outer object no byte may stand.

@@ -3,15 +3,15 @@
 use mathlib.Core.Path.{_≡_, refl, ap}
 use mathlib.Core.Bool.{Bool, true}
 use mathlib.Core.List.{List, [], _∷_}
-use Prim.Native.Nat.{ℕ, zero, suc, _+_, _*_, _≤_, _<_}
+use Prim.Native.Nat.{ℕ, zero, suc, _+_, _≤_, _<_}
 use native.Mathlib.Omega.{arith}
 use lib.Dec.{leb}
-use lib.ListN.{length, getD}
+use lib.ListN.{length}
 use borrow.Author.Tests.{leb-true}
 use Rattle.basics.specs.Choice.{every}
 use Rattle.basics.proofs.Table.{at}
 use Rattle.dictionary.specs.Rows.{Row, rows, blank, rowIn}
-use Rattle.store.specs.Place.{room, offsetIn, sizeOf, placesFrom}
+use Rattle.store.specs.Place.{room, offsetIn, sizeOf}
 
 -- a row's place lies inside the store
 pub inside : (table : List Row) (k : ℕ) → k < length table → offsetIn table k + room (rowIn table k) ≤ sizeOf table
@@ -43,13 +43,6 @@ apart (r ∷ rs) zero zero h i = absurd (omega arith)
 apart (r ∷ rs) zero (suc k) h i = omega arith
 apart (r ∷ rs) (suc j) zero h i = absurd (omega arith)
 apart (r ∷ rs) (suc j) (suc k) h i = let ih = apart rs j k (omega arith) (omega arith) in omega arith
-
--- a row's number among the places
-pub span-at : (n : ℕ) (table : List Row) (k : ℕ) → k < length table → getD (placesFrom n table) k 0 ≡ (n + offsetIn table k) * 256 + rowIn table k .greatest
-unfolding offsetIn
-span-at n [] k h = absurd (omega arith)
-span-at n (r ∷ rs) zero h = omega arith
-span-at n (r ∷ rs) (suc k) h = let ih = span-at (n + room r) rs k (omega arith) in omega arith
 
 -- the test of a table: every length + 1 fits a byte
 unfoldable pub storable : List Row → Bool

@@ -2,6 +2,7 @@
 use mathlib.Core.Path.{_≡_, refl, sym, ap, _∙_}
 use mathlib.Core.Bool.{true, false}
 use mathlib.Core.List.{List}
+use mathlib.Core.Logic.{inl, inr}
 use Prim.Native.Nat.{ℕ, _+_, _-_, _*_, _/_, _%_, _≤_, _<_, min}
 use native.Mathlib.Omega.{arith}
 use lib.Dec.{leb}
@@ -10,11 +11,12 @@ use lib.Seq.{length-take-le, getD-take, getD-drop}
 use borrow.Author.Tests.{eq-eqb, ne-eqb, leb-true}
 use Rattle.basics.specs.Choice.{both, every}
 use Rattle.basics.proofs.Table.{at}
+use Rattle.basics.proofs.Order.{le-or-gt}
 use Rattle.dictionary.specs.Rows.{rows, blank, rowAt, rowCount, storeSize}
 use Rattle.dictionary.proofs.Table.{beyond}
 use Rattle.store.specs.declared.Span.{Span}
-use Rattle.store.specs.Place.{offsetIn, sizeOf, placesOf, spanOf, spanIn, bytesOf, valueAt, isFree}
-use Rattle.store.proofs.Places.{inside, ends, storable, short, span-at}
+use Rattle.store.specs.Place.{offsetIn, sizeOf, placeNumber, spanOf, spanIn, bytesOf, valueAt, isFree}
+use Rattle.store.proofs.Places.{inside, ends, storable, short}
 use Rattle.store.proofs.Laws.{Fits, storedLength, value-bytes, length-byte-at}
 
 pub rows-size : sizeOf rows ≡ storeSize
@@ -38,30 +40,28 @@ row-inside k h =
 pub rows-end : (k : ℕ) → rowCount ≤ k → offsetIn rows k ≡ storeSize
 rows-end k h = omega (arith, ends rows k (omega (arith, rows-length)), rows-size)
 
-pub row-span : (k : ℕ) → k < rowCount → getD (placesOf rows) k 0 ≡ offsetIn rows k * 256 + rowAt k .greatest
-row-span k h = omega (arith, span-at 0 rows k (omega (arith, rows-length)))
-
 span : {a b c d : ℕ} → a ≡ c → b ≡ d → _≡_ {A = Span} (record { at = a; most = b }) (record { at = c; most = d })
 span p q = rw (p, q)
 
--- a row's number taken apart: its place, which starts inside the store
-pub row-placed : (k n : ℕ) (s : Span) → k < rowCount → n ≡ getD (placesOf rows) k 0 → s ≡ spanIn n → (s ≡ spanOf k) × (s .at ≤ storeSize)
-row-placed k n s h e u =
-    let i = row-inside k h in
-    let q = e ∙ row-span k h in
+-- a row's place starts inside the store, or at its end, and its greatest length fits a byte
+place-range : (k : ℕ) → (offsetIn rows k ≤ storeSize) × (rowAt k .greatest ≤ 254)
+place-range k =
+    elim (le-or-gt rowCount k)
+    [ inl h ↦ (omega (arith, rows-end k h), omega (arith, beyond (λ r. r .greatest) k h))
+    | inr h ↦ let i = row-inside k h in (omega arith, i .1)
+    ]
+
+-- a row's number taken apart: its place
+pub row-placed : (k n : ℕ) (s : Span) → n ≡ placeNumber k → s ≡ spanIn n → (s ≡ spanOf k) × (s .at ≤ storeSize)
+row-placed k n s e u =
+    let i = place-range k in
     let w : s ≡ spanOf k = u ∙ span (omega arith) (omega arith) in
     let o = ap (λ (p : Span). p .at) w in
     (w, omega arith)
 
 -- past the last row it is the store's end
-pub past-last : (k : ℕ) → rowCount ≤ k → (_≡_ {A = Span} (record { at = storeSize; most = 0 }) (spanOf k)) × (storeSize ≤ storeSize)
-past-last k h = (span (sym (rows-end k h)) (beyond (λ r. r .greatest) k h), omega arith)
-
--- a number among a part of the places, those from row a on
-pub part-number : (a m i k : ℕ) {part : List ℕ} → part ≡ take m (drop a (placesOf rows)) → i < m → a + i ≡ k → getD part i 0 ≡ getD (placesOf rows) k 0
-part-number a m i k e h j =
-    ap (λ (l : List ℕ). getD l i 0) e ∙ getD-take m (drop a (placesOf rows)) i 0 h ∙ getD-drop a (placesOf rows) i 0
-    ∙ ap (λ (x : ℕ). getD (placesOf rows) x 0) j
+pub past-last : (k : ℕ) → rowCount ≤ k → storeSize * 256 ≡ placeNumber k
+past-last k h = omega (arith, rows-end k h, beyond (λ r. r .greatest) k h)
 
 -- a value that fits its row, in a store of the dictionary's size
 pub fits-row : (b : List ℕ) (k : ℕ) (v : List ℕ) → length b ≡ storeSize → k < rowCount → length v ≤ rowAt k .greatest → Fits rows b k v

@@ -43,15 +43,6 @@ unfoldable pub sizeOf : List Row → ℕ
 sizeOf [] = 0
 sizeOf (r ∷ rs) = room r + sizeOf rs
 
--- the places as the source has them, from an offset on: a row's is one number, 256 times where it starts and its
--- greatest length
-abbrev pub placesFrom : ℕ → List Row → List ℕ
-placesFrom n [] = []
-placesFrom n (r ∷ rs) = (n * 256 + r .greatest) ∷ placesFrom (n + room r) rs
-
-abbrev pub placesOf : List Row → List ℕ
-placesOf table = placesFrom 0 table
-
 -- row k's place
 unfoldable pub placeAt : List Row → List ℕ → ℕ → List ℕ
 placeAt table b k = take (room (rowIn table k)) (drop (offsetIn table k) b)
@@ -83,17 +74,15 @@ writtenAt b o v = take o b ++ ((length v + 1) ∷ (v ++ drop (o + 1 + length v) 
 unfoldable pub putAt : List Row → List ℕ → ℕ → List ℕ → List ℕ
 putAt table b k v = writtenAt b (offsetIn table k) v
 
--- the same where a test passes, else the store as it was
-abbrev pub putIf : Bool → List Row → List ℕ → ℕ → List ℕ → List ℕ
-putIf t table b k v =
-    if t then putAt table b k v
-    else b
-
 -- a row's place in the dictionary's store, and the greatest length of its value
 abbrev pub spanOf : ℕ → Span
 spanOf k = record { at = offsetIn rows k; most = rowAt k .greatest }
 
--- a place's number taken apart
+-- a row's place in one number, as the source has it: 256 times where it starts, and the greatest length of its value
+abbrev pub placeNumber : ℕ → ℕ
+placeNumber k = offsetIn rows k * 256 + rowAt k .greatest
+
+-- such a number taken apart
 abbrev pub spanIn : ℕ → Span
 spanIn n = record { at = n / 256; most = n % 256 }
 

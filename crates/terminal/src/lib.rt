@@ -13,7 +13,6 @@ ghost use Prim.Native.Nat.{_<_};
 ghost use lib.ListN.{length};
 ghost use Rattle.dictionary.specs.Rows.{rows, rowCount, storeSize};
 ghost use Rattle.dictionary.specs.Lent.{Lent, codesOf};
-ghost use Rattle.store.specs.Place.{placesOf};
 ghost use Rattle.tlv.specs.Primitives.{object, primitives};
 ghost use Rattle.terminal.specs.Terminal.{typeListed, settable, setObject, setRun, Sets, load as loadOf, Loads};
 
@@ -39,11 +38,10 @@ pub fn load(store: &mut [u8], terminal: &[u8]) -> Said
         return refused(basics::REFUSED_BYTES);
     }
     let mut work = [0u8; SIZE];
-    bytes::copy(store, &mut work);
+    store::copy_whole(store, &mut work);
     let tags = dictionary::tags();
     let codes = dictionary::codes();
-    let places = store::row_places();
-    if !set_objects(terminal, &mut work, &tags, &codes, &places) {
+    if !set_objects(terminal, &mut work, &tags, &codes) {
         return refused(basics::REFUSED_OBJECT);
     }
     if !record::all_brought(&work) {
@@ -66,11 +64,9 @@ fn set_objects(
     store: &mut [u8; SIZE],
     tags: &[u32; ROWS],
     codes: &[u32; ROWS],
-    places: &[u32; ROWS],
 ) -> bool
     requires { ⌜ length (now store) ≡ storeSize ⌝ }
     requires { ⌜ Lent (now tags) (now codes) ⌝ }
-    requires { ⌜ now places ≡ placesOf rows ⌝ }
     ensures set { λ r. ⌜ Sets r (now (store .exit)) (setRun (now (store .entry)) (primitives (now (terminal .entry)))) ⌝ }
     ensures sized { λ _. ⌜ length (now (store .exit)) ≡ storeSize ⌝ }
 {
@@ -84,7 +80,7 @@ fn set_objects(
         let e = start + h.len;
         let value = &s[start..e];
         let rest = &s[e..];
-        if !set_object(h.tag, value, store, tags, codes, places) {
+        if !set_object(h.tag, value, store, tags, codes) {
             return false;
         }
         s = rest;
@@ -99,11 +95,9 @@ fn set_object(
     store: &mut [u8; SIZE],
     tags: &[u32; ROWS],
     codes: &[u32; ROWS],
-    places: &[u32; ROWS],
 ) -> bool
     requires { ⌜ length (now store) ≡ storeSize ⌝ }
     requires { ⌜ Lent (now tags) (now codes) ⌝ }
-    requires { ⌜ now places ≡ placesOf rows ⌝ }
     ensures set { λ r. ⌜ Sets r (now (store .exit)) (setObject (now (store .entry)) (object tag (now (v .entry)))) ⌝ }
     ensures sized { λ _. ⌜ length (now (store .exit)) ≡ storeSize ⌝ }
 {
@@ -112,24 +106,16 @@ fn set_object(
         return true;
     };
     let all = &store[..];
-    if !is_settable(all, row, tag, v, codes, places) {
+    if !is_settable(all, row, tag, v, codes) {
         return false;
     }
-    store::put_in(store, row, v, places);
+    store::put(store, row, v);
     true
 }
 
 // Whether a start may set a row's object, with this value.
-fn is_settable(
-    bytes: &[u8],
-    row: usize,
-    tag: u32,
-    v: &[u8],
-    codes: &[u32; ROWS],
-    places: &[u32; ROWS],
-) -> bool
+fn is_settable(bytes: &[u8], row: usize, tag: u32, v: &[u8], codes: &[u32; ROWS]) -> bool
     requires { ⌜ (row < rowCount) × (now codes ≡ codesOf rows) ⌝ }
-    requires { ⌜ now places ≡ placesOf rows ⌝ }
     ensures { λ r. ⌜ r ≡ settable (now (bytes .entry)) row (object tag (now (v .entry))) ⌝ }
 {
     let attributes = dictionary::unpacked(codes[row]);
@@ -139,7 +125,7 @@ fn is_settable(
     if !dictionary::fits(attributes, v) {
         return false;
     }
-    if store::is_there_in(bytes, row, places) {
+    if store::is_there(bytes, row) {
         return false;
     }
     is_type_listed(tag, v)

@@ -53,11 +53,6 @@ unfolding nextOf
 next-empty [] e = refl
 next-empty (b ∷ s) e = absurd (omega arith)
 
--- the object at the front is next where the first byte is no padding
-pub next-front : (s : List ℕ) (x y : Front) → (length s ≡ 0 → ⊥) → (getD s 0 0 ≡ 0 → ⊥) → x ≡ headerOf s → x ≡ y → nextOf s ≡ frontNext y
-next-front [] x y l n e q = absurd (l refl)
-next-front (b ∷ s) x y l n e q = next-first b s n ∙ ap frontNext (sym e ∙ q)
-
 -- ---- as the code reads it: a place up to which all bytes are padding
 
 module _ (s : List ℕ) (i : ℕ) where

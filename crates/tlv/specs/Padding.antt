@@ -5,8 +5,8 @@ use mathlib.Core.Path.{_≡_}
 use mathlib.Core.List.{List, [], _∷_, _++_}
 use mathlib.Core.Option.{some}
 use Prim.Native.Nat.{ℕ, _*_, _≤_, _<_}
-use lib.ListN.{length, replicate}
-use Rattle.tlv.specs.Tree.{Forest, end, leaf, node, count, parse}
+use lib.ListN.{length, replicate, getD, drop}
+use Rattle.tlv.specs.Tree.{Forest, end, leaf, node, count, movedNext, nextOf, parse}
 use Rattle.tlv.specs.Encoding.{objectBytes, Encodable}
 
 -- so many bytes of padding
@@ -38,3 +38,11 @@ pub record PassesOver (s : List ℕ) : Type 0 where
 
 -- ---- what holds of it, promised by `next`, proved in proofs/Tree and proofs/Encoding for all lists
 --   passes-over    PassesOver s
+
+-- ---- a private promise, on the way to `nextOf`
+
+-- what is next in s is what is next from `at` on, so many bytes further on, and no 00 stands there
+pub record Leads (s : List ℕ) (at : ℕ) : Type 0 where
+  pub inside : at ≤ length s
+  pub next : nextOf s ≡ movedNext at (nextOf (drop at s))
+  pub stops : at < length s → getD s at 0 ≡ 0 → ⊥

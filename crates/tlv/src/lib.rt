@@ -1,8 +1,8 @@
 // One data object at the front of some bytes: its tag, where its value starts and how long it is.
 //
 // `tag_at` reads a tag alone, as a data object list needs it; `head` reads a whole object's header;
-// `next` is what stands next within a template's contents. `primitive` and `is_run` are for bytes that
-// hold primitive objects alone. The tree of an encoding, its count and its laws are in specs/.
+// `next` is what stands next within a template's contents, and `behind_padding` the same. `primitive` and `is_run`
+// are for bytes that hold primitive objects alone. The tree of an encoding, its count and its laws are in specs/.
 ghost use mathlib.Core.Path.{_≡_};
 ghost use Prim.Native.Nat.{_+_, _≤_, _<_};
 ghost use lib.ListN.{length, take, drop};
@@ -11,7 +11,7 @@ ghost use Rattle.tlv.specs.Tag.{tagSize, tagAt, firstByte, isTemplate, i
 ghost use Rattle.tlv.specs.Length.{lengthAt};
 ghost use Rattle.tlv.specs.Object.{headerOf};
 ghost use Rattle.tlv.specs.Tree.{frontNext, movedNext, nextOf};
-ghost use Rattle.tlv.specs.Padding.{PassesOver};
+ghost use Rattle.tlv.specs.Padding.{PassesOver, Leads};
 ghost use Rattle.tlv.specs.Primitives.{primitiveOf, primitives, isRun};
 
 // A tag: its bytes read as one number, and how many they are.
@@ -214,31 +214,55 @@ pub fn next(s: &[u8]) -> Following
     ensures next { λ r. ⌜ r ≡ nextOf (now (s .entry)) ⌝ }
     ensures padding { λ _. ⌜ PassesOver (now (s .entry)) ⌝ }
 {
-    if s.len() == 0 {
-        return Following::End;
-    }
-    if s[0] == 0 {
-        return behind_padding(s);
-    }
-    let front = head(s);
-    match front {
-        Front::Object(h) => Following::Inner(h),
-        Front::Broken => Following::Malformed,
-    }
+    let at = padding_in_front(s);
+    object_behind(s, at)
 }
 
-// The same, byte after byte, where padding may stand in front.
-fn behind_padding(s: &[u8]) -> Following
+// The same, for a search of a single object: so the library calls `next` in one place, its reader, and the compiler puts
+// it inline there.
+pub fn behind_padding(s: &[u8]) -> Following
     ensures { λ r. ⌜ r ≡ nextOf (now (s .entry)) ⌝ }
+{
+    let at = padding(s);
+    object_behind(s, at)
+}
+
+// How many bytes of 00 stand in front; most often none.
+fn padding_in_front(s: &[u8]) -> usize
+    ensures { λ r. ⌜ Leads (now (s .entry)) r ⌝ }
+{
+    if s.len() == 0 {
+        return 0;
+    }
+    if s[0] != 0 {
+        return 0;
+    }
+    padding(s)
+}
+
+// The same, byte after byte.
+fn padding(s: &[u8]) -> usize
+    ensures { λ r. ⌜ Leads (now (s .entry)) r ⌝ }
 {
     let mut at = 0;
     while at < s.len() {
         if s[at] != 0 {
-            return object_at(s, at);
+            return at;
         }
         at += 1;
     }
-    Following::End
+    at
+}
+
+// What stands behind the padding, whose bytes are counted.
+fn object_behind(s: &[u8], at: usize) -> Following
+    requires { ⌜ Leads (now s) at ⌝ }
+    ensures { λ r. ⌜ r ≡ nextOf (now (s .entry)) ⌝ }
+{
+    if at == s.len() {
+        return Following::End;
+    }
+    object_at(s, at)
 }
 
 // The object at a place, its value's start counted from the front.

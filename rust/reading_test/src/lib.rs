@@ -1,5 +1,5 @@
-//! One reading of a card's answer by each of the proved library's two readers, for tests: the crate `reading_test` of the
-//! repository's root. [`stack`] tells how deep a call's stack is.
+//! One reading of a card's answer by each of the proved library's two readers, for tests: the crates `reading_test` and
+//! `reading_flat_test` of the repository's root. [`stack`] tells how deep a call's stack is.
 
 #![no_std]
 #![allow(unsafe_code)]

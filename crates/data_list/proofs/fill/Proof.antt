@@ -5,13 +5,12 @@ use Rattle.data_list.proofs.fill.Statement.{statement}
 use Rattle.data_list.proofs.fill.Tie as tie
 
 fill-entries-requires : tie.Need-fill-entries-requires
-fill-entries-requires c κs = (c .before .before .before .before .before .before .before .before .before .before .pre, (record { tags = c .before .before .before .before .before .before .tags .ensures; codes = c .before .before .before .before .before .codes .ensures }, c .before .before .before .before .row-places .ensures))
+fill-entries-requires c κs = (c .before .before .before .before .before .before .before .before .pre, record { tags = c .before .before .before .before .tags .ensures; codes = c .before .before .before .codes .ensures })
 
 pub fill-spec : {M : Type 1} → statement M
 fill-spec =
     tie.close
     (tie.spec
-    (λ c κs. search needs)
     (λ c κs. search needs)
     (λ c κs. search needs)
     fill-entries-requires

@@ -16,12 +16,12 @@ use Rattle.data_list.proofs.fill_entries.Statement.{statement}
 use Rattle.data_list.proofs.fill_entries.Tie as tie
 
 abbrev Inv-loop : tie.InvT-loop
-Inv-loop list store buffer₀ at tags codes places rest₀ to₀ buffer rest to =
+Inv-loop list store buffer₀ at tags codes rest₀ to₀ buffer rest to =
     (overFilled buffer₀ at (filled rows store list) ≡ overFilled buffer to (filled rows store rest)) × (length buffer ≡ length buffer₀)
     × Room (listEntries rest) to (length buffer)
 
 abbrev μ-loop : tie.MeasureT-loop
-μ-loop list store buffer₀ at tags codes places rest₀ to₀ buffer rest to = length rest
+μ-loop list store buffer₀ at tags codes rest₀ to₀ buffer rest to = length rest
 
 -- where the entry is taken apart: it lies inside the rest, and has room
 fits : (c : tie.After-front Inv-loop μ-loop) →

@@ -31,7 +31,7 @@ returns-2 c =
     let st = c .before .before .before .before .before .before .before .before .before .before .before .before .before in
     let a = st .args in
     let t = sym (c .before .before .before .before .before .before .before .before .before .is-template .ensures) ∙ c .before .before .before .before .before .before .before .before .if1 .left in
-    let f = sym (lent-found (a .entry .tag) (st .pre .1 .0 .tags) (c .before .before .before .before .before .before .search .ensures .1 .0)) ∙ c .before .before .before .before .enum-told .given .1 in
+    let f = sym (lent-found (a .entry .tag) (st .pre .1 .tags) (c .before .before .before .before .before .before .search .ensures .1 .0)) ∙ c .before .before .before .before .enum-told .given .1 in
     zeros-of _ _ _ _ _ _ (c .before .before .repeat2 .ensures) (c .before .before .before .before .before .before .before .before .before .before .wide .ensures .0) (of-unknown rows (a .store .now) (a .entry) t f)
 
 returns-3 : tie.Need-returns-3
@@ -39,8 +39,8 @@ returns-3 c =
     let st = c .before .before .before .before .before .before .before .before .before .before .before .before .before .before .before .before in
     let a = st .args in
     let t = sym (c .before .before .before .before .before .before .before .before .before .before .before .before .is-template .ensures) ∙ c .before .before .before .before .before .before .before .before .before .before .before .if1 .left in
-    let f = sym (lent-found (a .entry .tag) (st .pre .1 .0 .tags) (c .before .before .before .before .before .before .before .before .before .search .ensures .1 .0)) ∙ c .before .before .before .before .before .before .before .found .given .1 in
-    let i = sym (c .before .before .before .before .before .is-there-in .ensures) ∙ not-true _ (c .before .before .before .before .if2 .taken) in
+    let f = sym (lent-found (a .entry .tag) (st .pre .1 .tags) (c .before .before .before .before .before .before .before .before .before .search .ensures .1 .0)) ∙ c .before .before .before .before .before .before .before .found .given .1 in
+    let i = sym (c .before .before .before .before .before .is-there .ensures) ∙ not-true _ (c .before .before .before .before .if2 .taken) in
     zeros-of _ _ _ _ _ _ (c .before .before .repeat3 .ensures) (c .before .before .before .before .before .before .before .before .before .before .before .before .before .wide .ensures .0) (of-absent rows (a .store .now) (a .entry) _ t f i)
 
 -- where the row's number is read
@@ -48,7 +48,7 @@ abbrev At-row : Type 0
 At-row = tie.Else2
 
 row-at : (c : At-row) → find rows (c .before .before .before .before .before .before .before .before .before .before .before .before .args .entry .tag) ≡ At (c .before .before .before .found .given .0 .0)
-row-at c = sym (lent-found (c .before .before .before .before .before .before .before .before .before .before .before .before .args .entry .tag) (c .before .before .before .before .before .before .before .before .before .before .before .before .pre .1 .0 .tags) (c .before .before .before .before .before .search .ensures .1 .0)) ∙ c .before .before .before .found .given .1
+row-at c = sym (lent-found (c .before .before .before .before .before .before .before .before .before .before .before .before .args .entry .tag) (c .before .before .before .before .before .before .before .before .before .before .before .before .pre .1 .tags) (c .before .before .before .before .before .search .ensures .1 .0)) ∙ c .before .before .before .found .given .1
 
 in-table : (c : At-row) → c .before .before .before .found .given .0 .0 < rowCount
 in-table c = row-found (c .before .before .before .before .before .before .before .before .before .before .before .before .args .entry .tag) (row-at c)
@@ -59,8 +59,8 @@ returns-4 c =
     let a = st .args in
     let e = c .before .before .before .before .before .before .before in
     let t = sym (c .before .before .before .before .before .before .before .before .before .before .before .before .before .before .before .is-template .ensures) ∙ c .before .before .before .before .before .before .before .before .before .before .before .before .before .before .if1 .left in
-    let i = sym (c .before .before .before .before .before .before .before .before .is-there-in .ensures) ∙ not-false _ (e .if2 .left) in
-    let row = c .before .before .before .before .before .unpacked .ensures ∙ lent-row (st .pre .1 .0 .codes) (in-table e) in
+    let i = sym (c .before .before .before .before .before .before .before .before .is-there .ensures) ∙ not-false _ (e .if2 .left) in
+    let row = c .before .before .before .before .before .unpacked .ensures ∙ lent-row (st .pre .1 .codes) (in-table e) in
     c .before .before .write-value .ensures
     ∙ ap (over (a .buffer .now) (a .at))
     (rw (ap (λ (x : Attributes). x .form) row, c .before .before .before .before .before .before .before .before .before .before .before .before .before .before .before .before .wide .ensures .0, c .before .before .before .before .value .ensures) (sym (of-present rows (a .store .now) (a .entry) _ t (row-at e) i)))

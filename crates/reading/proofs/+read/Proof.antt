@@ -1,5 +1,5 @@
 -- `reading::read` meets its contract. The recursion falls with the levels, the loop with the length of what is left. The loop's
--- invariant: whatever the objects that are left say and leave is what all of them say and leave.
+-- invariant: whatever the objects that are left say and leave is what all of them say and leave, and the list has room for them.
 -- Assumes nothing.
 use borrow.Author.Needs.{needs}
 use mathlib.Core.Path.{_≡_, sym, _∙_}
@@ -11,10 +11,10 @@ use Rattle.tlv.specs.Tree.{parse}
 use Rattle.tlv.proofs.Laws.{HeaderFits}
 use Rattle.tlv.proofs.NextObject.{next-fits}
 use Rattle.reading.specs.declared.Contents.{Contents}
-use Rattle.dictionary.specs.Rows.{storeSize}
 use Rattle.reading.specs.Taking.{work}
 use Rattle.reading.specs.Inner.{Leaves}
-use Rattle.reading.proofs.Laws.{did}
+use Rattle.reading.specs.Listing.{Within, Listing, laid, countIn}
+use Rattle.reading.proofs.Listing.{within-contents, within-tail}
 use Rattle.reading.proofs.Walk.{at-end, at-malformed, at-deep, at-leaf, at-node, at-broken, after-leaf, after-node}
 use borrow.Fn.Kinds.{In, Out}
 use borrow.Fn.PlainCycle.{Measures, is, falls, and}
@@ -26,25 +26,26 @@ use Rattle.tlv.proofs.next.Reads as next-reads
 use Rattle.reading.proofs.+read.{statement}
 use Rattle.reading.proofs.+read.Tie.{close}
 
-abbrev μ-read : Measures 5 read-kinds.ps ℕ
-μ-read κs a = a .1 .1 .0
+abbrev μ-read : Measures 7 read-kinds.ps ℕ
+μ-read κs a = a .1 .1 .1 .0
 
-abbrev read-at : ℕ → In 5 read-kinds.ps
-read-at t = and 5 read-kinds.ps (is 5 read-kinds.ps μ-read t) read.Pre
+abbrev read-at : ℕ → In 7 read-kinds.ps
+read-at t = and 7 read-kinds.ps (is 7 read-kinds.ps μ-read t) read.Pre
 
-abbrev read-below : ℕ → In 5 read-kinds.ps
-read-below t = and 5 read-kinds.ps (falls 5 read-kinds.ps _<_ μ-read t) read.Pre
+abbrev read-below : ℕ → In 7 read-kinds.ps
+read-below t = and 7 read-kinds.ps (falls 7 read-kinds.ps _<_ μ-read t) read.Pre
 
 abbrev read-Inv-loop : read-lts.InvT-loop
-read-Inv-loop bytes around levels answer store₀ tags codes places s₀ n₀ good₀ store s n good =
-    ((r : Contents) (b : List ℕ) → Leaves answer around n (work good store) (parse levels s) r b
-    → Leaves answer around n₀ (work good₀ store₀) (parse levels s₀) r b)
-    × ((length store ≡ storeSize) × (2 * n + length s ≤ 2 * n₀ + length s₀))
+read-Inv-loop bytes start around levels answer body store listed₀ filled₀ tags codes s₀ at₀ n₀ good₀ listed filled s at n good =
+    ((r : Contents) (b : List ℕ) → Leaves answer around n (work good (laid body store listed)) (parse levels s) r b
+    → Leaves answer around n₀ (work good₀ (laid body store listed₀)) (parse levels s₀) r b)
+    × (Listing body store listed filled × (Within body at s
+    × ((2 * countIn listed + length s ≤ 2 * countIn listed₀ + length s₀) × (2 * n + length s ≤ 2 * n₀ + length s₀))))
 
 abbrev read-μ-loop : read-lts.MeasureT-loop
-read-μ-loop bytes around levels answer store₀ tags codes places s₀ n₀ good₀ store s n good = length s
+read-μ-loop bytes start around levels answer body store listed₀ filled₀ tags codes s₀ at₀ n₀ good₀ listed filled s at n good = length s
 
-abbrev at : ℕ → (read-lts.Claims → In 5 read-kinds.ps → Out 5 read-kinds.ps read-kinds.r → read-lts.InvT-loop → read-lts.MeasureT-loop → Type 0) → Type 0
+abbrev at : ℕ → (read-lts.Claims → In 7 read-kinds.ps → Out 7 read-kinds.ps read-kinds.r → read-lts.InvT-loop → read-lts.MeasureT-loop → Type 0) → Type 0
 at t f = f (next-reads.Asked, next-reads.Learnt, read-below t, read.Post, take-next-reads.Asked, take-next-reads.Learnt) (read-at t) read.Post read-Inv-loop read-μ-loop
 
 -- where an object is next: its header lies inside what is left
@@ -54,77 +55,93 @@ fits-at t c = next-fits _ _ (sym (c .before .before .next .ensures .0) ∙ c .fo
 read-returns : (t : ℕ) → at t read-lts.Need-returns
 read-returns t c =
     let lp = c .before .before .before .loop in
-    let a = c .before .before .before .before .before .args in
+    let a = c .before .before .before .before .before .before .before .args in
     let e = sym (c .before .before .next .ensures .0) ∙ c .enum-told .given .1 in
-    (lp .inv .0 _ _ (at-end (a .answer) (a .around) (a .levels) (lp .s .now) (lp .n) (work (lp .good) (lp .store)) e), (omega arith, lp .inv .1 .0))
+    (lp .inv .0 _ _ (at-end (a .answer) (a .around) (a .levels) (lp .s .now) (lp .n) (work (lp .good) (laid (a .body .now) (a .store .now) (lp .listed))) e), (omega arith, (lp .inv .1 .0, omega arith)))
 
 read-returns-2 : (t : ℕ) → at t read-lts.Need-returns-2
 read-returns-2 t c =
     let lp = c .before .before .before .loop in
-    let a = c .before .before .before .before .before .args in
+    let a = c .before .before .before .before .before .before .before .args in
     let e = sym (c .before .before .next .ensures .0) ∙ c .enum-told2 .given .1 in
-    (lp .inv .0 _ _ (at-malformed (a .answer) (a .around) (a .levels) (lp .s .now) (lp .n) (work (lp .good) (lp .store)) e (lp .store)), (omega arith, lp .inv .1 .0))
+    (lp .inv .0 _ _ (at-malformed (a .answer) (a .around) (a .levels) (lp .s .now) (lp .n) (work (lp .good) (laid (a .body .now) (a .store .now) (lp .listed))) e _), (omega arith, (lp .inv .1 .0, omega arith)))
 
 read-returns-3 : (t : ℕ) → at t read-lts.Need-returns-3
 read-returns-3 t c =
     let f = c .before .before .before .before .before .before .following .given in
     let lp = c .before .before .before .before .before .before .before .before .before .loop in
-    let a = c .before .before .before .before .before .before .before .before .before .before .before .args in
+    let a = c .before .before .before .before .before .before .before .before .before .before .before .before .before .args in
     let e = sym (c .before .before .before .before .before .before .before .before .next .ensures .0) ∙ f .1 in
-    (lp .inv .0 _ _ (at-deep (a .answer) (a .around) (a .levels) (lp .s .now) (lp .n) (work (lp .good) (lp .store)) (f .0 .0) e (c .before .if1 .taken) (c .if2 .taken) (lp .store)), (omega arith, lp .inv .1 .0))
+    (lp .inv .0 _ _ (at-deep (a .answer) (a .around) (a .levels) (lp .s .now) (lp .n) (work (lp .good) (laid (a .body .now) (a .store .now) (lp .listed))) (f .0 .0) e (c .before .if1 .taken) (c .if2 .taken) _), (omega arith, (lp .inv .1 .0, omega arith)))
 
 read-read-requires : (t : ℕ) → at t read-lts.Need-read-requires
 read-read-requires t c κs =
-    let lp = c .before .before .before .before .before .before .before .before .before .before .loop in
-    let h = fits-at t (c .before .before .before .before .before .before .before) in
-    (omega arith, (lp .inv .1 .0, (simp (length-take, length-drop) (omega arith), c .before .before .before .before .before .before .before .before .before .before .before .before .pre .1 .1 .1)))
+    let lp = c .before .before .before .before .before .before .before .before .before .before .before .loop in
+    let p = c .before .before .before .before .before .before .before .before .before .before .before .before .before .before .before .pre in
+    let h = fits-at t (c .before .before .before .before .before .before .before .before) in
+    (omega arith, (lp .inv .1 .0, (within-contents _ _ (lp .inv .1 .1 .0) (h .inside), (simp (length-take, length-drop) (omega (arith, p .1 .1 .1 .0)), (simp (length-take, length-drop) (omega (arith, p .1 .1 .1 .1 .0)), p .1 .1 .1 .1 .1)))))
 
 read-returns-4 : (t : ℕ) → at t read-lts.Need-returns-4
 read-returns-4 t c =
-    let f = c .before .before .before .before .before .before .before .before .before .before .following .given in
-    let lp = c .before .before .before .before .before .before .before .before .before .before .before .before .before .loop in
-    let a = c .before .before .before .before .before .before .before .before .before .before .before .before .before .before .before .args in
+    let f = c .before .before .before .before .before .before .before .before .before .before .before .following .given in
+    let lp = c .before .before .before .before .before .before .before .before .before .before .before .before .before .before .loop in
+    let a = c .before .before .before .before .before .before .before .before .before .before .before .before .before .before .before .before .before .before .args in
     let rd = c .before .before .read in
-    let b = rd .last .1 .1 .1 .1 .1 .0 in
-    let e = sym (c .before .before .before .before .before .before .before .before .before .before .before .before .next .ensures .0) ∙ f .1 in
+    let h = fits-at t (c .before .before .before .before .before .before .before .before .before .before .before) in
+    let e = sym (c .before .before .before .before .before .before .before .before .before .before .before .before .before .next .ensures .0) ∙ f .1 in
     let q = rw (c .enum-told3 .given .1) at (rd .ensures .0) in
-    (lp .inv .0 _ _ (at-broken (a .answer) (a .around) (a .levels) (lp .s .now) (lp .n) (work (lp .good) (lp .store)) (f .0 .0) e (c .before .before .before .before .before .if1 .taken) (c .before .before .before .before .if2 .left) b q b), (omega arith, rd .ensures .1 .1))
+    let m = simp (length-take, length-drop) at (rd .ensures .1 .1 .1) in
+    (lp .inv .0 _ _ (at-broken (a .answer) (a .around) (a .levels) (lp .s .now) (lp .n) (work (lp .good) (laid (a .body .now) (a .store .now) (lp .listed))) (f .0 .0) e (c .before .before .before .before .before .before .if1 .taken) (c .before .before .before .before .before .if2 .left) _ q _), (omega arith, (rd .ensures .1 .1 .0, omega arith)))
 
 read-loop-less : (t : ℕ) → at t read-lts.Need-loop-less
 read-loop-less t c =
-    let h = fits-at t (c .before .before .before .before .before .before .before .before .before .before .before) in
+    let h = fits-at t (c .before .before .before .before .before .before .before .before .before .before .before .before) in
     simp (length-take, length-drop) (omega arith)
 
 read-loop-again : (t : ℕ) → at t read-lts.Need-loop-again
 read-loop-again t c =
-    let f = c .before .before .before .before .before .before .before .before .before .before .before .following .given in
-    let lp = c .before .before .before .before .before .before .before .before .before .before .before .before .before .before .loop in
-    let a = c .before .before .before .before .before .before .before .before .before .before .before .before .before .before .before .before .args in
+    let f = c .before .before .before .before .before .before .before .before .before .before .before .before .following .given in
+    let lp = c .before .before .before .before .before .before .before .before .before .before .before .before .before .before .before .loop in
+    let a = c .before .before .before .before .before .before .before .before .before .before .before .before .before .before .before .before .before .before .before .args in
     let rd = c .before .before .before .read in
     let i = c .before .inside .given in
-    let b = rd .last .1 .1 .1 .1 .1 .0 in
-    let e = sym (c .before .before .before .before .before .before .before .before .before .before .before .before .before .next .ensures .0) ∙ f .1 in
+    let h = fits-at t (c .before .before .before .before .before .before .before .before .before .before .before .before) in
+    let e = sym (c .before .before .before .before .before .before .before .before .before .before .before .before .before .before .next .ensures .0) ∙ f .1 in
     let q = rw (i .1) at (rd .ensures .0) in
     let m = rw (i .1) at (rd .ensures .1 .0) in (
-      λ r d g. lp .inv .0 r d (at-node (a .answer) (a .around) (a .levels) (lp .s .now) (lp .n) (work (lp .good) (lp .store)) (f .0 .0) e (c .before .before .before .before .before .before .if1 .taken) (c .before .before .before .before .before .if2 .left) (i .0 .0) b q r d g),
-      (rd .ensures .1 .1, after-node (lp .s .now) (f .0 .0) (fits-at t (c .before .before .before .before .before .before .before .before .before .before .before)) (lp .n) (i .0 .0 .objects) _ m (lp .inv .1 .1)),
+      λ r d g. lp .inv .0 r d (at-node (a .answer) (a .around) (a .levels) (lp .s .now) (lp .n) (work (lp .good) (laid (a .body .now) (a .store .now) (lp .listed))) (f .0 .0) e (c .before .before .before .before .before .before .before .if1 .taken) (c .before .before .before .before .before .before .if2 .left) (i .0 .0) _ q r d g),
+      (rd .ensures .1 .1 .0,
+      (within-tail _ (lp .inv .1 .1 .0) (h .inside),
+      (after-node (lp .s .now) (f .0 .0) h (countIn (lp .listed)) _ _ (omega (arith, rd .ensures .1 .1 .1)) (lp .inv .1 .1 .1 .0),
+      after-node (lp .s .now) (f .0 .0) h (lp .n) (i .0 .0 .objects) _ m (lp .inv .1 .1 .1 .1)))),
     )
 
 read-loop-less-2 : (t : ℕ) → at t read-lts.Need-loop-less-2
 read-loop-less-2 t c =
-    let h = fits-at t (c .before .before .before .before .before .before .before) in
+    let h = fits-at t (c .before .before .before .before .before .before .before .before) in
     simp (length-take, length-drop) (omega arith)
+
+read-take-next-requires : (t : ℕ) → at t read-lts.Need-take-next-requires
+read-take-next-requires t c κs =
+    let lp = c .before .before .before .before .before .before .before .before .before .before .loop in
+    let p = c .before .before .before .before .before .before .before .before .before .before .before .before .before .before .pre in
+    let h = fits-at t (c .before .before .before .before .before .before .before) in
+    (lp .inv .1 .0, (within-contents _ _ (lp .inv .1 .1 .0) (h .inside), (omega (arith, h .two, h .inside, lp .inv .1 .1 .1 .0, p .1 .1 .1 .0), p .1 .1 .1 .1 .1)))
 
 read-loop-again-2 : (t : ℕ) → at t read-lts.Need-loop-again-2
 read-loop-again-2 t c =
-    let f = c .before .before .before .before .before .before .before .following .given in
-    let lp = c .before .before .before .before .before .before .before .before .before .before .loop in
-    let a = c .before .before .before .before .before .before .before .before .before .before .before .before .args in
-    let tk = c .take-next in
-    let b = tk .last .1 .1 .1 .1 .1 .0 in
-    let e = sym (c .before .before .before .before .before .before .before .before .before .next .ensures .0) ∙ f .1 in (
-      λ r d g. lp .inv .0 r d (at-leaf (a .answer) (a .around) (a .levels) (lp .s .now) (lp .n) (work (lp .good) (lp .store)) (f .0 .0) e (c .before .before .if1 .left) (work (tk .result) b) (did (tk .ensures .0) (tk .ensures .1 .0)) r d g),
-      (tk .ensures .1 .1, after-leaf (lp .s .now) (f .0 .0) (fits-at t (c .before .before .before .before .before .before .before)) (lp .n) _ (lp .inv .1 .1)),
+    let f = c .before .before .before .before .before .before .before .before .following .given in
+    let lp = c .before .before .before .before .before .before .before .before .before .before .before .loop in
+    let a = c .before .before .before .before .before .before .before .before .before .before .before .before .before .before .before .args in
+    let tk = c .take-next .ensures in
+    let h = fits-at t (c .before .before .before .before .before .before .before .before) in
+    let e = sym (c .before .before .before .before .before .before .before .before .before .before .next .ensures .0) ∙ f .1 in
+    let m = after-leaf (lp .s .now) (f .0 .0) h (countIn (lp .listed)) _ (lp .inv .1 .1 .1 .0) in (
+      λ r d g. lp .inv .0 r d (at-leaf (a .answer) (a .around) (a .levels) (lp .s .now) (lp .n) (work (lp .good) (laid (a .body .now) (a .store .now) (lp .listed))) (f .0 .0) e (c .before .before .before .if1 .left) _ (tk .0) r d g),
+      (tk .1 .0,
+      (within-tail _ (lp .inv .1 .1 .0) (h .inside),
+      (omega (arith, m, tk .1 .1),
+      after-leaf (lp .s .now) (f .0 .0) h (lp .n) _ (lp .inv .1 .1 .1 .1)))),
     )
 
 pub +read-spec : {M : Type 1} → statement M
@@ -140,7 +157,7 @@ pub +read-spec : {M : Type 1} → statement M
     read.Post
     read-Inv-loop
     read-μ-loop
-    (λ c. (λ r b h. h, (c .before .pre .1 .0, omega arith)))
+    (λ c. let p = c .before .before .before .pre in (λ r b h. h, (p .1 .0, (p .1 .1 .0, (omega arith, omega arith)))))
     (λ c κs. search needs)
     (λ c. search needs)
     (read-returns t)
@@ -154,14 +171,16 @@ pub +read-spec : {M : Type 1} → statement M
     (λ c. let h = fits-at t (c .before .before .before) in omega arith)
     (λ c. let h = fits-at t (c .before .before .before) in omega arith)
     (λ c. let h = fits-at t (c .before .before .before) in omega arith)
-    (λ c. let h = fits-at t (c .before .before .before .before) in omega arith)
+    (λ c. let h = fits-at t (c .before .before .before .before) in let i = c .before .before .before .before .before .before .before .loop .inv .1 in omega (arith, h .inside, i .1 .0 .ends, i .0 .listed .short))
+    (λ c. let h = fits-at t (c .before .before .before .before) in let i = c .before .before .before .before .before .before .before .loop .inv .1 in omega (arith, h .inside, i .1 .0 .ends, i .0 .listed .short))
+    (λ c. let h = fits-at t (c .before .before .before .before) in omega (arith, c .before .before .before .before .before .before .before .before .before .before .before .pre .1 .1 .1 .1 .0))
     (read-returns-3 t)
     (λ c. omega arith)
     (read-read-requires t)
     (λ c. search needs)
     (λ c. search needs)
     (read-returns-4 t)
-    (λ c κs. (c .before .before .before .before .before .before .before .before .before .loop .inv .1 .0, c .before .before .before .before .before .before .before .before .before .before .before .pre .1 .1 .1))
+    (read-take-next-requires t)
     (read-loop-less t)
     (read-loop-again t)
     (read-loop-less-2 t)

@@ -1,33 +1,37 @@
--- `reading::judge_answer` meets its contract: the answer is read into a copy of the store.
+-- `reading::judge_answer` meets its contract: how the reading begins decides (`decided-judged`), or leads to the body (`body-reason`).
 -- Assumes nothing.
-use mathlib.Core.Path.{ap, _∙_}
-use mathlib.Core.List.{List}
-use Prim.Native.Nat.{ℕ}
-use lib.ListN.{length}
 use borrow.Author.Needs.{needs}
-use Rattle.store.proofs.Laws.{copied}
-use Rattle.reading.specs.Answer.{readAnswer}
+use mathlib.Core.Path.{sym, _∙_}
+use native.Mathlib.Omega.{arith}
+use lib.ListN.{length-take}
+use Rattle.reading.proofs.Stages.{begin-size, decided-judged, body-reason}
 use Rattle.reading.proofs.judge_answer.Statement.{statement}
 use Rattle.reading.proofs.judge_answer.Tie as tie
 
-read-answer-requires : tie.Need-read-answer-requires
-read-answer-requires c κs =
-    let st = c .before .before .before .before .before .before in
-    ap length (copied (st .args .store .now) _ _ (st .pre) (c .before .before .copy .ensures .1)) ∙ st .pre
+slice-aggregate-judge-body : tie.Need-slice-aggregate-judge-body
+slice-aggregate-judge-body c =
+    let l = begin-size _ _ _ (sym (c .before .before .before .before .begin .ensures) ∙ c .before .before .beginning2 .given .1) in
+    simp length-take (omega arith)
+
+judge-body-requires : tie.Need-judge-body-requires
+judge-body-requires c κs =
+    let l = begin-size _ _ _ (sym (c .before .before .before .before .begin .ensures) ∙ c .before .before .beginning2 .given .1) in
+    (c .before .before .before .before .before .before .before .pre, simp length-take (omega arith))
 
 returns : tie.Need-returns
-returns c =
-    let st = c .before .before .before .before .before .before .before .before in
-    let e = copied (st .args .store .now) _ _ (st .pre) (c .before .before .before .before .copy .ensures .1) in
-    c .before .read-answer .ensures .0 .reason
-    ∙ ap (λ (b : List ℕ). readAnswer (st .args .awaited) b (st .args .answer .now) .reason) e
+returns c = decided-judged _ _ _ _ (sym (c .before .before .before .begin .ensures) ∙ c .before .beginning .given .1)
+
+returns-2 : tie.Need-returns-2
+returns-2 c = body-reason _ _ _ _ (sym (c .before .before .before .before .before .begin .ensures) ∙ c .before .before .before .beginning2 .given .1) (c .judge-body .ensures)
 
 pub judge-answer-spec : {M : Type 1} → statement M
 judge-answer-spec =
     tie.close
     (tie.spec
-    (λ c. search needs)
     (λ c κs. search needs)
     (λ c. search needs)
-    read-answer-requires
-    returns)
+    (λ c. search needs)
+    slice-aggregate-judge-body
+    judge-body-requires
+    returns
+    returns-2)

@@ -1,4 +1,4 @@
--- `reading::keep` meets its contract: the working copy is copied where all was accepted, and nothing is done else.
+-- `reading::keep` meets its contract: the listed values are put where all was accepted, and nothing is done else.
 -- Assumes nothing.
 use borrow.Author.Needs.{needs}
 use mathlib.Core.Path.{_≡_, refl, sym, ap, _∙_}
@@ -8,7 +8,6 @@ use Prim.Native.Nat.{ℕ}
 use native.Mathlib.Omega.{arith}
 use types.Run.{OneOf}
 use denote.Enum.Declared.{tagOf}
-use Rattle.store.proofs.Laws.{copied}
 use Rattle.reading.specs.declared.Verdict.{Verdict}
 use Rattle.reading.specs.declared.Verdict.the-variants.{Accepted, BadStatus, Malformed, NotAllowed}
 use Rattle.reading.specs.Inner.{storeAfter}
@@ -23,13 +22,10 @@ as-it-was b w Malformed h = refl
 as-it-was b w NotAllowed h = refl
 
 returns : tie.Need-returns
-returns c =
-    let st = c .before .before .before .before .before .before .before .before in
-    copied (st .args .work .now) _ _ (st .pre .1 ∙ sym (st .pre .0)) (c .before .before .copy .ensures .1)
-    ∙ sym (ap (storeAfter _ _) (c .before .before .before .before .before .enum-told .given .1))
+returns c = c .before .before .put-listed .ensures ∙ sym (ap (storeAfter _ _) (c .before .before .before .before .enum-told .given .1))
 
 returns-2 : tie.Need-returns-2
-returns-2 c = let a = c .before .before .args in as-it-was (a .store .now) (a .work .now) (a .verdict) (c .match .keys2)
+returns-2 c = let a = c .before .before .before .args in as-it-was (a .store .now) _ (a .verdict) (c .match .keys2)
 
 pub keep-spec : {M : Type 1} → statement M
 keep-spec = tie.close (tie.spec (λ c. search needs) (λ c κs. search needs) (λ c. search needs) returns returns-2)

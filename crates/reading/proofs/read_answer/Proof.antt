@@ -13,6 +13,11 @@ slice-aggregate-read-body c =
     let l = begin-size _ _ _ (sym (c .before .before .before .before .before .begin .ensures) ∙ c .before .before .before .beginning2 .given .1) in
     simp length-take (omega arith)
 
+read-body-requires : tie.Need-read-body-requires
+read-body-requires c κs =
+    let l = begin-size _ _ _ (sym (c .before .before .before .before .before .begin .ensures) ∙ c .before .before .before .beginning2 .given .1) in
+    (c .before .before .before .before .before .before .before .before .pre, simp length-take (omega arith))
+
 returns : tie.Need-returns
 returns c = decided _ _ _ _ (sym (c .before .before .before .before .begin .ensures) ∙ c .before .before .beginning .given .1) (c .made .ensures) (c .before .before .before .before .before .before .before .pre)
 
@@ -30,7 +35,7 @@ read-answer-spec =
     (λ c κs. search needs)
     (λ c. search needs)
     slice-aggregate-read-body
-    (λ c κs. search needs)
+    read-body-requires
     returns
     (λ c. search needs)
     returns-2)

@@ -1,19 +1,20 @@
--- `reading::read_body` meets its contract: the object is read into a copy, which is kept by the verdict (`body-kept`).
+-- `reading::read_body` meets its contract: the values are listed, from none on, and put by the verdict (`body-kept`).
 -- Assumes nothing.
-use mathlib.Core.Path.{ap, _∙_}
-use lib.ListN.{length}
 use borrow.Author.Needs.{needs}
+use mathlib.Core.Path.{refl}
+use Rattle.reading.proofs.Listing.{none-listed}
 use Rattle.reading.proofs.Stages.{body-kept}
 use Rattle.reading.proofs.read_body.Statement.{statement}
 use Rattle.reading.proofs.read_body.Tie as tie
 
 read-object-requires : tie.Need-read-object-requires
-read-object-requires c κs = (ap length (c .before .before .before .before .before .before .before .copy-whole .ensures) ∙ c .before .before .before .before .before .before .before .before .before .before .before .before .pre, search needs)
+read-object-requires c κs = let p = c .before .before .before .before .before .before .before .before .before .pre in (none-listed _ _ (p .1) (p .0), (refl, search needs))
+
+keep-requires : tie.Need-keep-requires
+keep-requires c κs = let o = c .before .before .read-object .ensures in (c .before .before .before .before .before .before .before .before .before .before .before .before .pre .0, o .1 .0 .listed)
 
 returns : tie.Need-returns
-returns c =
-    let st = c .before .before .before .before .before .before .before .before .before .before .before .before .before .before .before .before .before .before in
-    body-kept _ _ _ _ _ _ (st .pre) (c .before .before .before .before .before .before .before .before .before .before .before .before .before .copy-whole .ensures) (c .before .before .before .before .before .read-object .ensures) (c .before .before .keep .ensures)
+returns c = body-kept _ _ _ _ _ _ (c .before .before .before .before .before .read-object .ensures) (c .before .before .keep .ensures)
 
 pub read-body-spec : {M : Type 1} → statement M
 read-body-spec =
@@ -21,9 +22,7 @@ read-body-spec =
     (tie.spec
     (λ c κs. search needs)
     (λ c κs. search needs)
-    (λ c κs. search needs)
-    (λ c κs. search needs)
     read-object-requires
-    (λ c κs. search needs)
+    keep-requires
     (λ c. search needs)
     returns)

@@ -1,70 +1,69 @@
 -- `reading::read_options` meets its contract. The length decides; then the two parts are taken one after the other.
 -- Assumes nothing.
 use mathlib.Core.Path.{_≡_, refl, ap, _∙_}
-use mathlib.Core.Bool.{true}
 use native.Mathlib.Omega.{arith}
 use lib.ListN.{length-take}
+use borrow.Author.Needs.{needs}
 use borrow.Author.Tests.{not-true, not-false}
 use Rattle.dictionary.proofs.Named.{at-82, at-94}
 use Rattle.reading.specs.declared.Awaited.the-variants.{Options}
 use Rattle.reading.specs.declared.Reading.{Reading}
 use Rattle.reading.specs.declared.Verdict.the-variants.{Accepted, Malformed, NotAllowed}
-use Rattle.reading.specs.Taking.{work}
-use Rattle.reading.specs.Answer.{optionsParts, judged, takenParts}
+use Rattle.reading.specs.Answer.{takenParts}
 use Rattle.reading.specs.Inner.{storeAfter}
-use Rattle.reading.proofs.Laws.{took, took-all, did}
-use Rattle.reading.proofs.Parts.{gives, judged-yes, judged-no, options-short, options-long, options-uneven, options-whole}
-use borrow.Author.Needs.{needs}
+use Rattle.reading.specs.Listing.{laid}
+use Rattle.reading.proofs.Listing.{within-front, within-tail}
+use Rattle.reading.proofs.Parts.{gives, judged-yes, judged-no, options-short, options-long, options-uneven, options-taken}
 use Rattle.reading.proofs.read_options.Statement.{statement}
 use Rattle.reading.proofs.read_options.Tie as tie
-use Rattle.reading.proofs.read_options.Reads as reads
-use Rattle.reading.proofs.read_options.Lts as lts
-use Rattle.reading.proofs.made.Reads as made-reads
-use Rattle.reading.proofs.take_part.Reads as take-part-reads
 
 returns : tie.Need-returns
 returns c =
-    let st = c .before .before .before in
-    let a = st .args in
-    (gives Malformed 1 (storeAfter (a .work .now) _) (c .made .ensures) (ap (takenParts Options (a .work .now) 1) (options-short (a .value .now) (c .before .if1 .taken))), (st .pre .0, ap (λ (x : Reading). x .objects) (c .made .ensures)))
+    let st = c .before .before .before .before .before in
+    let b = (laid (st .args .body .now) (st .args .store .now) (st .args .listed .now)) in
+    (gives Malformed 1 (storeAfter b b) (c .made .ensures) (ap (takenParts Options b 1) (options-short (st .args .value .now) (c .before .if1 .taken))), (st .pre .0, ap (λ (x : Reading). x .objects) (c .made .ensures)))
 
 returns-2 : tie.Need-returns-2
 returns-2 c =
-    let st = c .before .before .before .before in
-    let a = st .args in
-    (gives Malformed 1 (storeAfter (a .work .now) _) (c .made2 .ensures) (ap (takenParts Options (a .work .now) 1) (options-long (a .value .now) (c .before .if2 .taken))), (st .pre .0, ap (λ (x : Reading). x .objects) (c .made2 .ensures)))
+    let st = c .before .before .before .before .before .before in
+    let b = (laid (st .args .body .now) (st .args .store .now) (st .args .listed .now)) in
+    (gives Malformed 1 (storeAfter b b) (c .made2 .ensures) (ap (takenParts Options b 1) (options-long (st .args .value .now) (c .before .if2 .taken))), (st .pre .0, ap (λ (x : Reading). x .objects) (c .made2 .ensures)))
 
 returns-3 : tie.Need-returns-3
 returns-3 c =
-    let st = c .before .before .before .before .before in
-    let a = st .args in
-    (gives Malformed 1 (storeAfter (a .work .now) _) (c .made3 .ensures) (ap (takenParts Options (a .work .now) 1) (options-uneven (a .value .now) (c .before .if3 .taken))), (st .pre .0, ap (λ (x : Reading). x .objects) (c .made3 .ensures)))
+    let st = c .before .before .before .before .before .before .before in
+    let b = (laid (st .args .body .now) (st .args .store .now) (st .args .listed .now)) in
+    (gives Malformed 1 (storeAfter b b) (c .made3 .ensures) (ap (takenParts Options b 1) (options-uneven (st .args .value .now) (c .before .if3 .taken))), (st .pre .0, ap (λ (x : Reading). x .objects) (c .made3 .ensures)))
 
-slice-aggregate-take-part : tie.Need-slice-aggregate-take-part
-slice-aggregate-take-part c = simp length-take (omega arith)
+take-part-requires : tie.Need-take-part-requires
+take-part-requires c κs = let p = c .before .before .before .before .before .before .before .before .before .pre in (p .0, (within-front 2 (p .1 .0) (omega arith), (omega (arith, p .1 .1 .0), (omega arith, (at-82, p .1 .1 .1)))))
 
--- where both parts were taken
-abbrev Both : Type 0
-Both = lts.After-take-part2 (made-reads.Asked, made-reads.Learnt, take-part-reads.Asked, take-part-reads.Learnt) reads.Pre reads.Post
+add-take-part : tie.Need-add-take-part
+add-take-part c = let p = c .before .before .before .before .before .before .before .before .before .before .before .pre in omega (arith, p .1 .0 .ends, p .0 .listed .short)
 
-both-taken : (c : Both) → takenParts Options (c .before .before .before .before .before .before .before .before .before .before .args .work .now) 1 (optionsParts (c .before .before .before .before .before .before .before .before .before .before .args .value .now))
-    ≡ judged (c .before .before .before .before .before .before .before .before .before .before .args .work .now) 1 (work (c .take-part2 .result) (c .take-part2 .last .1 .1 .1 .1 .1 .0))
-both-taken c =
-    let a = c .before .before .before .before .before .before .before .before .before .before .args in
-    let t = c .before .before .before .take-part in
-    let u = c .take-part2 in
-    ap (takenParts Options (a .work .now) 1) (options-whole (a .value .now) (c .before .before .before .before .before .before .before .before .if1 .left) (c .before .before .before .before .before .before .before .if2 .left) (c .before .before .before .before .before .before .if3 .left))
-    ∙ ap (judged (a .work .now) 1) (took 1 (work true (a .work .now)) _ _ (did (t .ensures .0) (t .ensures .1 .0)) ∙ took 1 _ _ _ (did (u .ensures .0) (u .ensures .1 .0)) ∙ took-all 1 _)
+take-part-requires-2 : tie.Need-take-part-requires-2
+take-part-requires-2 c κs =
+    let p = c .before .before .before .before .before .before .before .before .before .before .before .before .before .pre in
+    let t = c .before .before .before .take-part .ensures in
+    (t .1 .0, (within-tail 2 (p .1 .0) (omega arith), (omega (arith, p .1 .1 .0, t .1 .1), (omega arith, (at-94, p .1 .1 .1)))))
 
 returns-4 : tie.Need-returns-4
 returns-4 c =
-    let b = c .before .before .before .before .before .before .before .before .before .before .before .before .args .work .now in
-    (gives NotAllowed 1 (storeAfter b _) (c .made4 .ensures) (both-taken (c .before .before) ∙ judged-no b 1 refl (not-true _ (c .before .if4 .taken))), (c .before .before .take-part2 .ensures .1 .1, ap (λ (x : Reading). x .objects) (c .made4 .ensures)))
+    let st = c .before .before .before .before .before .before .before .before .before .before .before .before .before .before .before .before in
+    let b = (laid (st .args .body .now) (st .args .store .now) (st .args .listed .now)) in
+    let u = c .before .before .take-part2 .ensures in
+    (gives NotAllowed 1 (storeAfter b _) (c .made4 .ensures)
+    (options-taken b (st .args .value .now) (c .before .before .before .before .before .before .before .before .before .before .before .before .if1 .left) (c .before .before .before .before .before .before .before .before .before .before .before .if2 .left) (c .before .before .before .before .before .before .before .before .before .before .if3 .left) (c .before .before .before .before .before .before .take-part .ensures .0) (u .0) ∙ judged-no b 1 refl (not-true _ (c .before .if4 .taken))),
+    (u .1 .0, ap (λ (x : Reading). x .objects) (c .made4 .ensures)))
 
 returns-5 : tie.Need-returns-5
 returns-5 c =
-    let b = c .before .before .before .before .before .before .before .before .before .before .before .before .args .work .now in
-    (gives Accepted 1 (storeAfter b _) (c .made5 .ensures) (both-taken (c .before .before) ∙ judged-yes b 1 refl (not-false _ (c .before .if4 .left))), (c .before .before .take-part2 .ensures .1 .1, ap (λ (x : Reading). x .objects) (c .made5 .ensures)))
+    let st = c .before .before .before .before .before .before .before .before .before .before .before .before .before .before .before .before in
+    let b = (laid (st .args .body .now) (st .args .store .now) (st .args .listed .now)) in
+    let u = c .before .before .take-part2 .ensures in
+    (gives Accepted 1 (storeAfter b _) (c .made5 .ensures)
+    (options-taken b (st .args .value .now) (c .before .before .before .before .before .before .before .before .before .before .before .before .if1 .left) (c .before .before .before .before .before .before .before .before .before .before .before .if2 .left) (c .before .before .before .before .before .before .before .before .before .before .if3 .left) (c .before .before .before .before .before .before .take-part .ensures .0) (u .0) ∙ judged-yes b 1 refl (not-false _ (c .before .if4 .left))),
+    (u .1 .0, ap (λ (x : Reading). x .objects) (c .made5 .ensures)))
 
 pub read-options-spec : {M : Type 1} → statement M
 read-options-spec =
@@ -77,12 +76,13 @@ read-options-spec =
     (λ c. search needs)
     (λ c κs. search needs)
     returns-3
-    slice-aggregate-take-part
-    (λ c κs. (search needs, (search needs, (at-82, (search needs, search needs)))))
+    (λ c. simp length-take (omega arith))
+    take-part-requires
     (λ c. search needs)
     (λ c. search needs)
     (λ c. search needs)
-    (λ c κs. (search needs, (search needs, (at-94, (search needs, search needs)))))
+    add-take-part
+    take-part-requires-2
     (λ c κs. search needs)
     returns-4
     (λ c κs. search needs)

@@ -2,47 +2,51 @@
 -- Assumes nothing.
 use borrow.Author.Needs.{needs}
 use mathlib.Core.Path.{_≡_, sym, ap, _∙_}
+use mathlib.Core.Bool.{Bool}
+use native.Mathlib.Omega.{arith}
 use borrow.Author.Tests.{not-true, not-false}
-use Rattle.dictionary.proofs.Lent.{lent-found}
-use Rattle.reading.specs.Taking.{item, work}
-use Rattle.reading.proofs.Laws.{item-unknown, next-good, next-bad, gave, did}
+use Rattle.reading.specs.Taking.{item, work, takeNext}
+use Rattle.reading.specs.Listing.{laid}
+use Rattle.reading.proofs.Laws.{item-unknown, next-good, next-bad}
 use Rattle.reading.proofs.take_next.Statement.{statement}
 use Rattle.reading.proofs.take_next.Tie as tie
 
 returns : tie.Need-returns
 returns c =
-    let a = c .before .before .args in
+    let st = c .before .before .before .before in
+    let a = st .args in
+    let b = (laid (a .body .now) (a .store .now) (a .listed .now)) in
     let bad = not-true _ (c .if1 .taken) in
-    gave (next-bad (a .answer) (a .store .now) (item (a .around) (a .tag) (a .v .now)) bad ∙ ap (λ g. work g (a .store .now)) bad) (c .before .before .pre .0)
+    (ap (λ (g : Bool). work g b) (sym bad) ∙ sym (next-bad (a .answer) b (item (a .around) (a .tag) (a .v .now)) bad), (st .pre .0, omega arith))
 
 returns-2 : tie.Need-returns-2
 returns-2 c =
-    let st = c .before .before .before .before .before .before in
+    let st = c .before .before .before .before .before .before .before .before in
     let a = st .args in
-    let i = item (a .around) (a .tag) (a .v .now) in
-    let s = c .before .before .search in
-    let e = lent-found (a .tag) (st .pre .1 .1 .0 .tags) (s .ensures .1 .0) in
-    gave (next-good (a .answer) (a .store .now) i (not-false _ (c .before .before .before .before .if1 .left)) ∙ item-unknown (a .answer) (a .store .now) i (s .result .found) e (c .enum-told .given .1)) (st .pre .0)
+    let b = (laid (a .body .now) (a .store .now) (a .listed .now)) in
+    let i = (item (a .around) (a .tag) (a .v .now)) in
+    let s = c .before .before .row-of in
+    (sym (next-good (a .answer) b i (not-false _ (c .before .before .before .before .if1 .left)) ∙ item-unknown (a .answer) b i (s .result .found) (s .ensures .0) (c .enum-told .given .1)), (st .pre .0, omega arith))
 
 take-row-requires : tie.Need-take-row-requires
 take-row-requires c κs =
-    let st = c .before .before .before .before .before .before .before .before in
-    let e = lent-found (st .args .tag) (st .pre .1 .1 .0 .tags) (c .before .before .before .before .search .ensures .1 .0) in
-    (st .pre .0, (st .pre .1 .0, (sym e ∙ c .before .before .found .given .1, (st .pre .1 .1 .0 .codes, st .pre .1 .1 .1))))
+    let st = c .before .before .before .before .before .before .before .before .before .before .before in
+    let p = st .pre in
+    let e = c .before .before .before .before .before .row-of .ensures .0 in
+    (p .0, (p .1 .0, (p .1 .1 .0, (p .1 .1 .1 .0, (sym e ∙ c .before .before .before .found .given .1, p .1 .1 .1 .1 .codes)))))
 
 returns-3 : tie.Need-returns-3
 returns-3 c =
-    let st = c .before .before .before .before .before .before .before .before .before in
-    let a = st .args in
-    let t = c .take-row in
-    gave (next-good (a .answer) (a .store .now) (item (a .around) (a .tag) (a .v .now)) (not-false _ (c .before .before .before .before .before .before .before .if1 .left)) ∙ sym (did (t .ensures .0) (t .ensures .1 .0))) (t .ensures .1 .1)
+    let a = c .before .before .before .before .before .before .before .before .before .before .before .before .args in
+    let t = c .take-row .ensures in
+    (t .0 ∙ ap (λ (g : Bool). takeNext (a .answer) (work g (laid (a .body .now) (a .store .now) (a .listed .now))) (item (a .around) (a .tag) (a .v .now))) (sym (not-false _ (c .before .before .before .before .before .before .before .before .if1 .left))), t .1)
 
 pub take-next-spec : {M : Type 1} → statement M
 take-next-spec =
     tie.close
     (tie.spec
     returns
-    (λ c κs. search needs)
+    (λ c κs. c .before .before .before .before .before .pre .1 .1 .1 .1 .tags)
     (λ c. search needs)
     (λ c. search needs)
     returns-2

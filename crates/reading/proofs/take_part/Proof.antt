@@ -2,23 +2,28 @@
 -- Assumes nothing.
 use borrow.Author.Needs.{needs}
 use mathlib.Core.Path.{_≡_, sym, ap, _∙_}
+use mathlib.Core.Bool.{Bool}
+use native.Mathlib.Omega.{arith}
 use borrow.Author.Tests.{not-true, not-false}
-use Rattle.reading.specs.Taking.{item, work}
-use Rattle.reading.proofs.Laws.{next-good, next-bad, gave, did}
+use Rattle.reading.specs.Taking.{item, work, takeNext}
+use Rattle.reading.specs.Listing.{laid}
+use Rattle.reading.proofs.Laws.{next-bad}
 use Rattle.reading.proofs.take_part.Statement.{statement}
 use Rattle.reading.proofs.take_part.Tie as tie
 
 returns : tie.Need-returns
 returns c =
-    let a = c .before .before .args in
+    let st = c .before .before .before .before in
+    let a = st .args in
+    let b = (laid (a .body .now) (a .store .now) (a .listed .now)) in
     let bad = not-true _ (c .if1 .taken) in
-    gave (next-bad (a .answer) (a .store .now) (item 0x77 (a .tag) (a .v .now)) bad ∙ ap (λ g. work g (a .store .now)) bad) (c .before .before .pre .0)
+    (ap (λ (g : Bool). work g b) (sym bad) ∙ sym (next-bad (a .answer) b (item 0x77 (a .tag) (a .v .now)) bad), (st .pre .0, omega arith))
 
 returns-2 : tie.Need-returns-2
 returns-2 c =
-    let a = c .before .before .before .before .args in
-    let t = c .take-row in
-    gave (next-good (a .answer) (a .store .now) (item 0x77 (a .tag) (a .v .now)) (not-false _ (c .before .before .if1 .left)) ∙ sym (did (t .ensures .0) (t .ensures .1 .0))) (t .ensures .1 .1)
+    let a = c .before .before .before .before .before .before .before .args in
+    let t = c .take-row .ensures in
+    (t .0 ∙ ap (λ (g : Bool). takeNext (a .answer) (work g (laid (a .body .now) (a .store .now) (a .listed .now))) (item 0x77 (a .tag) (a .v .now))) (sym (not-false _ (c .before .before .before .if1 .left))), t .1)
 
 pub take-part-spec : {M : Type 1} → statement M
-take-part-spec = tie.close (tie.spec returns (λ c κs. search needs) returns-2)
+take-part-spec = tie.close (tie.spec returns (λ c κs. c .before .before .before .before .before .before .pre) returns-2)

@@ -1,7 +1,7 @@
 -- `reading::take_rest` meets its contract. No bytes bring no object.
 -- Assumes nothing.
 use borrow.Author.Needs.{needs}
-use mathlib.Core.Path.{_≡_, refl, sym, ap, _∙_}
+use mathlib.Core.Path.{_≡_, refl, sym, _∙_}
 use mathlib.Core.List.{List, [], _∷_}
 use Prim.Native.Nat.{ℕ}
 use native.Mathlib.Omega.{arith}
@@ -9,7 +9,7 @@ use lib.ListN.{length}
 use Rattle.dictionary.proofs.Named.{at-9F10}
 use Rattle.reading.specs.Taking.{Work, item, work, takeAll, takeNext}
 use Rattle.reading.specs.Answer.{issuerPart}
-use Rattle.reading.proofs.Laws.{gave, did}
+use Rattle.reading.specs.Listing.{laid}
 use Rattle.reading.proofs.take_rest.Statement.{statement}
 use Rattle.reading.proofs.take_rest.Tie as tie
 
@@ -25,14 +25,18 @@ some-left w (a ∷ v) e = refl
 
 returns : tie.Need-returns
 returns c =
-    let a = c .before .before .args in
-    gave (none-left (work (a .good) (a .store .now)) (a .rest .now) (c .if1 .taken)) (c .before .before .pre .0)
+    let st = c .before .before .before .before in
+    let a = st .args in
+    (sym (none-left (work (a .good) (laid (a .body .now) (a .store .now) (a .listed .now))) (a .rest .now) (c .if1 .taken)), st .pre .0)
+
+take-part-requires : tie.Need-take-part-requires
+take-part-requires c κs = let p = c .before .before .before .before .before .before .pre in (p .0, (p .1 .0, (p .1 .1 .0, (omega arith, (at-9F10, p .1 .1 .1)))))
 
 returns-2 : tie.Need-returns-2
 returns-2 c =
-    let a = c .before .before .before .before .args in
-    let t = c .take-part in
-    gave (some-left (work (a .good) (a .store .now)) (a .rest .now) (c .before .before .if1 .left) ∙ sym (did (t .ensures .0) (t .ensures .1 .0))) (t .ensures .1 .1)
+    let a = c .before .before .before .before .before .before .before .args in
+    let t = c .take-part .ensures in
+    (t .0 ∙ sym (some-left (work (a .good) (laid (a .body .now) (a .store .now) (a .listed .now))) (a .rest .now) (c .before .before .before .if1 .left)), t .1 .0)
 
 pub take-rest-spec : {M : Type 1} → statement M
-take-rest-spec = tie.close (tie.spec returns (λ c κs. (search needs, (search needs, (at-9F10, (search needs, search needs))))) returns-2)
+take-rest-spec = tie.close (tie.spec returns take-part-requires returns-2)

@@ -2,7 +2,7 @@
 -- Assumes nothing.
 use borrow.Author.Needs.{needs}
 use mathlib.Core.Path.{sym, _∙_}
-use Rattle.reading_test.proofs.Laws.{asked-sized, unread, read, count-small}
+use Rattle.reading_test.proofs.Laws.{asked-sized, unread, read}
 use Rattle.reading_test.proofs.emv_test_read.Statement.{statement}
 use Rattle.reading_test.proofs.emv_test_read.Tie as tie
 
@@ -12,12 +12,9 @@ returns c = unread _ _ _ _ (sym (c .before .before .asked .ensures) ∙ c .enum-
 read-answer-requires : tie.Need-read-answer-requires
 read-answer-requires c κs = asked-sized _ _ _ _ (sym (c .before .before .before .before .asked .ensures) ∙ c .before .before .answer .given .1)
 
-word-requires : tie.Need-word-requires
-word-requires c κs = let e = c .before .before .read-answer .ensures in count-small _ _ _ _ _ (e .0) (e .1 .1 .0)
-
 returns-2 : tie.Need-returns-2
 returns-2 c =
-    read _ _ _ _ _ _ _ _ (sym (c .before .before .before .before .before .before .before .before .asked .ensures) ∙ c .before .before .before .before .before .before .answer .given .1) (c .before .before .before .read-answer .ensures .0) (c .word .ensures)
+    read _ _ _ _ _ _ _ _ (sym (c .before .before .before .before .before .before .before .before .asked .ensures) ∙ c .before .before .before .before .before .before .answer .given .1) (c .before .before .before .read-answer .ensures .0) (c .before .before .before .read-answer .ensures .1 .1 .0) (c .word .ensures)
 
 pub emv-test-read-spec : {M : Type 1} → statement M
 emv-test-read-spec =
@@ -28,6 +25,6 @@ emv-test-read-spec =
     (λ c. search needs)
     returns
     read-answer-requires
-    word-requires
+    (λ c κs. search needs)
     (λ c. search needs)
     returns-2)

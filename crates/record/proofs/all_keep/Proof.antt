@@ -1,81 +1,123 @@
--- `record::all_keep` meets its contract. The invariant: the next row's place starts at `at`, and the rows from here on decide.
+-- `record::all_keep` meets its contract. The invariant: the next row's place starts at `at`, and the walk stands at that row with `brought` counted.
 -- Assumes nothing.
 use borrow.Author.Tests.{not-true, not-false}
-use mathlib.Core.Path.{_≡_, refl, sym, ap₂, _∙_}
-use Prim.Native.Nat.{_-_}
+use mathlib.Core.Path.{_≡_, refl, sym, ap, _∙_}
+use Prim.Native.Nat.{_-_, _≤_}
 use native.Mathlib.Omega.{arith}
-use lib.ListN.{drop, length-take, length-drop}
-use Rattle.basics.specs.Choice.{every}
-use Rattle.dictionary.specs.Rows.{rows, blank, rowAt, rowCount}
+use lib.ListN.{length-take, length-drop}
+use Rattle.dictionary.specs.declared.Attributes.{Attributes}
+use Rattle.dictionary.specs.Rows.{rows, rowAt, rowCount}
 use Rattle.dictionary.specs.Packing.{attributesOf}
 use Rattle.store.specs.Place.{offsetIn}
-use Rattle.record.specs.Inner.{placeKeeps, allKeep}
-use Rattle.record.proofs.Every.{every-no, every-yes, every-done}
-use Rattle.store.proofs.Rows.{rows-length}
-use Rattle.record.proofs.Fit.{row-read, Stands, stands, place-part, objectKeeps, object-keeps, all-keeps}
+use Rattle.record.specs.Ranges.{objectFits}
+use Rattle.record.proofs.Fit.{row-read, Stands, stands, part-first, object-part}
+use Rattle.record.proofs.Walk.{Walk, walk-start, walk-most, walk-on, walk-held, walk-no, walk-end}
 use Rattle.record.proofs.all_keep.Statement.{statement}
 use Rattle.record.proofs.all_keep.Tie as tie
 use Rattle.record.proofs.all_keep.Reads as reads
 use Rattle.record.proofs.all_keep.Lts as lts
-use Rattle.record.proofs.place_keeps.Reads as place-keeps
+use Rattle.basics.proofs.wide.Reads as wide
 use Rattle.dictionary.proofs.codes.Reads as codes
 use Rattle.dictionary.proofs.unpacked.Reads as unpacked
+use Rattle.record.proofs.is_enough.Reads as is-enough
+use Rattle.record.proofs.next_held.Reads as next-held
+use Rattle.record.proofs.place_keeps.Reads as place-keeps
 
 abbrev Inv-loop : tie.InvT-loop
-Inv-loop bytes asked codes at₀ row₀ at row =
-    (at ≡ offsetIn rows row) × (allKeep asked bytes ≡ every (objectKeeps asked bytes) (drop row rows))
+Inv-loop bytes asked codes row₀ at₀ brought₀ row at brought = (row ≤ rowCount) × (at ≡ offsetIn rows row) × Walk bytes row brought
 
 abbrev μ-loop : tie.MeasureT-loop
-μ-loop bytes asked codes at₀ row₀ at row = rowCount - row
+μ-loop bytes asked codes row₀ at₀ brought₀ row at brought = rowCount - row
 
 loop-holds : tie.Need-loop-holds Inv-loop μ-loop
 unfolding offsetIn rows
-loop-holds c = let a = c .before .before .args in (refl, all-keeps (a .asked) (a .bytes .now))
+loop-holds c = (omega arith, refl, walk-start _)
 
 abbrev Claims : lts.Claims
-Claims = (codes.Asked, codes.Learnt, unpacked.Asked, unpacked.Learnt, place-keeps.Asked, place-keeps.Learnt)
+Claims = (
+  codes.Asked,
+  codes.Learnt,
+  next-held.Asked,
+  next-held.Learnt,
+  is-enough.Asked,
+  is-enough.Learnt,
+  unpacked.Asked,
+  unpacked.Learnt,
+  place-keeps.Asked,
+  place-keeps.Learnt,
+  wide.Asked,
+  wide.Learnt,
+)
+
+next-held-requires : tie.Need-next-held-requires Inv-loop μ-loop
+next-held-requires c κs =
+    let lp = c .before .loop in
+    (c .before .before .before .before .pre, (c .before .before .codes .ensures, (lp .inv .0, lp .inv .1)))
+
+-- the walk comes to the next object that is there
+come : (c : lts.After-next-held Claims reads.Pre reads.Post Inv-loop μ-loop)
+    → Walk (c .before .before .before .before .before .args .bytes .now) (c .next-held .result .row) (c .before .before .loop .brought)
+come c = walk-on _ (c .before .before .loop .row) _ _ _ (c .before .before .loop .inv .2) (c .next-held .ensures .passed)
+
+-- or to the end, and the count decides
+returns : tie.Need-returns Inv-loop μ-loop
+returns c =
+    let n = c .before .before in
+    c .is-enough .ensures ∙ sym (walk-end (n .before .before .before .before .before .args .asked) _ (n .next-held .result .row) _ (come n) (omega arith))
 
 -- what the row at hand says, and where its place stands
-read : (c : lts.After-unpacked Claims reads.Pre reads.Post Inv-loop μ-loop) → c .unpacked .result ≡ attributesOf (rowAt (c .before .before .loop .row))
-read c = row-read _ (c .before .before .loop .row) _ (omega arith) (c .before .before .before .codes .ensures) (c .unpacked .ensures)
+read : (c : lts.After-unpacked Claims reads.Pre reads.Post Inv-loop μ-loop) → c .unpacked .result ≡ attributesOf (rowAt (c .before .before .next-held .result .row))
+read c =
+    let n = c .before .before in
+    row-read _ (n .next-held .result .row) _ (omega arith) (n .before .before .before .codes .ensures) (c .unpacked .ensures)
 
 stood : (c : lts.After-unpacked Claims reads.Pre reads.Post Inv-loop μ-loop)
-    → Stands (c .before .before .loop .row) (c .before .before .loop .at) (c .unpacked .result .greatest)
-stood c = stands (c .before .before .loop .row) _ _ (omega arith) (c .before .before .loop .inv .0) (read c)
+    → let h = c .before .before .next-held .result in
+    Stands (h .row) (h .at) (c .unpacked .result .greatest)
+stood c =
+    let n = c .before .before .next-held in
+    stands (n .result .row) _ _ (omega arith) (n .ensures .passed .place) (read c)
+
+place-keeps-requires : tie.Need-place-keeps-requires Inv-loop μ-loop
+place-keeps-requires c κs =
+    let u = c .before .before in
+    let n = u .before .before in
+    let s = stood u in
+    let t = n .next-held .ensures .there (omega arith) in
+    let f = part-first (n .before .before .before .before .before .args .bytes .now) (n .next-held .result .at) (u .unpacked .result .greatest) in
+    (simp (length-take, length-drop) (omega arith), omega arith)
 
 -- what is said of the place is said of the row's object
 told : (c : lts.After-place-keeps Claims reads.Pre reads.Post Inv-loop μ-loop)
-    → let a = c .before .before .before .before .before .before .before .before .args in
-    objectKeeps (a .asked) (a .bytes .now) (rowAt (c .before .before .before .before .before .loop .row)) ≡ c .place-keeps .result
+    → let n = c .before .before .before .before .before in
+    objectFits (n .before .before .before .before .before .args .bytes .now) (rowAt (n .next-held .result .row)) ≡ c .place-keeps .result
 told c =
     let u = c .before .before .before in
-    let lp = u .before .before .loop in
-    let a = u .before .before .before .before .before .args in
-    let g = u .unpacked .result .greatest in
-    let s = stood u in
-    object-keeps (a .asked) (a .bytes .now) (lp .row) (omega arith)
-    ∙ ap₂ (placeKeeps (a .asked)) (sym (read u)) (sym (place-part (a .bytes .now) (lp .row) (lp .at) g (lp .inv .0) s))
-    ∙ sym (c .place-keeps .ensures)
-
-returns : tie.Need-returns Inv-loop μ-loop
-returns c =
-    let l = c .before .before .before .before .before .before in
-    let lp = l .loop in
-    sym (lp .inv .1 ∙ every-no (objectKeeps (l .before .before .before .args .asked) _) rows blank (lp .row) (omega (arith, rows-length)) (told (c .before) ∙ not-true _ (c .if1 .taken)))
-
-loop-again : tie.Need-loop-again Inv-loop μ-loop
-loop-again c =
-    let l = c .before .before .before .before .before .before in
-    let lp = l .loop in (
-      stood (c .before .before .before .before) .next,
-      lp .inv .1 ∙ every-yes (objectKeeps (l .before .before .before .args .asked) _) rows blank (lp .row) (omega (arith, rows-length)) (told (c .before) ∙ not-false _ (c .if1 .left)),
-    )
+    let n = u .before .before .next-held in
+    object-part _ (n .result .row) (n .result .at) _ (omega arith) (n .ensures .passed .place) (read u) ∙ sym (c .place-keeps .ensures)
 
 returns-2 : tie.Need-returns-2 Inv-loop μ-loop
 returns-2 c =
-    let l = c .before in
-    let lp = l .loop in
-    sym (lp .inv .1 ∙ every-done (objectKeeps (l .before .before .before .args .asked) _) rows blank (lp .row) (omega (arith, rows-length)))
+    let n = c .before .before .before .before .before .before in
+    sym (walk-no _ (n .next-held .result .row) _ (come n) (omega arith) (n .before .before .before .before .before .args .asked) (told (c .before) ∙ not-true _ (c .if2 .taken)))
+
+add-brought : tie.Need-add-brought Inv-loop μ-loop
+add-brought c =
+    let lp = c .before .before .before .before .before .before .before .before .before .loop in
+    omega (arith, walk-most _ (lp .row) (lp .brought) (lp .inv .2), c .wide .ensures .1)
+
+-- the object is counted if a start must bring it
+loop-again : tie.Need-loop-again Inv-loop μ-loop
+loop-again c =
+    let p = c .before .before in
+    let u = p .before .before .before in
+    let n = u .before .before in
+    let h = n .next-held in
+    let m = c .wide .ensures .0 ∙ ap (λ (a : Attributes). a .must) (read u) in (
+      omega arith,
+      stood u .next,
+      walk-held _ (h .result .row) _ (come n) (omega arith) (h .result .at) _ (h .ensures .passed .place) (h .ensures .there (omega arith)) m (told p ∙ not-false _ (c .before .if2 .left)),
+    )
 
 pub all-keep-spec : {M : Type 1} → statement M
 all-keep-spec =
@@ -85,6 +127,9 @@ all-keep-spec =
     μ-loop
     (λ c κs. tt)
     loop-holds
+    next-held-requires
+    (λ c κs. tt)
+    returns
     (λ c. omega arith)
     (λ c. omega arith)
     (λ c κs. tt)
@@ -93,9 +138,10 @@ all-keep-spec =
     (λ c. omega arith)
     (λ c. let s = stood (c .before) in omega arith)
     (λ c. let s = stood (c .before) in omega arith)
-    (λ c κs. let s = stood (c .before .before) in simp (length-take, length-drop) (omega arith))
-    returns
+    place-keeps-requires
+    returns-2
+    (λ c κs. tt)
+    add-brought
     (λ c. omega arith)
     (λ c. omega arith)
-    loop-again
-    returns-2)
+    loop-again)

@@ -20,14 +20,14 @@ start-bit = ap (λ (x : Attributes). hasBit (x .setters) 1)
 
 returns : tie.Need-returns
 unfolding settable
-returns c = sym (both-no-left _ _ (sym (start-bit (c .before .before .unpacked .ensures ∙ lent-row (c .before .before .before .before .before .before .pre .0 .1) (c .before .before .before .before .before .before .pre .0 .0))) ∙ ne-eqb _ _ (c .if1 .taken)))
+returns c = sym (both-no-left _ _ (sym (start-bit (c .before .before .unpacked .ensures ∙ lent-row (c .before .before .before .before .before .before .pre .1) (c .before .before .before .before .before .before .pre .0))) ∙ ne-eqb _ _ (c .if1 .taken)))
 
 returns-2 : tie.Need-returns-2
 unfolding settable
 returns-2 c =
     let f = c .before in
     let m = f .before in
-    let e = m .before .before .unpacked .ensures ∙ lent-row (m .before .before .before .before .before .before .pre .0 .1) (m .before .before .before .before .before .before .pre .0 .0) in
+    let e = m .before .before .unpacked .ensures ∙ lent-row (m .before .before .before .before .before .before .pre .1) (m .before .before .before .before .before .before .pre .0) in
     sym (both-true _ (sym (start-bit e) ∙ eq-eqb _ _ (m .if1 .left)) ∙ both-no-left _ _ (sym (row-fits _ _ (f .fits2 .ensures) e) ∙ not-true _ (c .if2 .taken)))
 
 returns-3 : tie.Need-returns-3
@@ -35,21 +35,21 @@ unfolding settable
 returns-3 c =
     let f = c .before .before .before in
     let m = f .before in
-    let e = m .before .before .unpacked .ensures ∙ lent-row (m .before .before .before .before .before .before .pre .0 .1) (m .before .before .before .before .before .before .pre .0 .0) in
+    let e = m .before .before .unpacked .ensures ∙ lent-row (m .before .before .before .before .before .before .pre .1) (m .before .before .before .before .before .before .pre .0) in
     sym (both-true _ (sym (start-bit e) ∙ eq-eqb _ _ (m .if1 .left))
     ∙ both-true _ (sym (row-fits _ _ (f .fits2 .ensures) e) ∙ not-false _ (c .before .before .if2 .left))
-    ∙ both-no-left _ _ (ap not (sym (c .before .is-there-in .ensures) ∙ c .if3 .taken)))
+    ∙ both-no-left _ _ (ap not (sym (c .before .is-there .ensures) ∙ c .if3 .taken)))
 
 returns-4 : tie.Need-returns-4
 unfolding settable
 returns-4 c =
     let f = c .before .before .before .before in
     let m = f .before in
-    let e = m .before .before .unpacked .ensures ∙ lent-row (m .before .before .before .before .before .before .pre .0 .1) (m .before .before .before .before .before .before .pre .0 .0) in
+    let e = m .before .before .unpacked .ensures ∙ lent-row (m .before .before .before .before .before .before .pre .1) (m .before .before .before .before .before .before .pre .0) in
     c .is-type-listed .ensures
     ∙ sym (both-true _ (sym (start-bit e) ∙ eq-eqb _ _ (m .if1 .left))
     ∙ both-true _ (sym (row-fits _ _ (f .fits2 .ensures) e) ∙ not-false _ (c .before .before .before .if2 .left))
-    ∙ both-true _ (ap not (sym (c .before .before .is-there-in .ensures) ∙ c .before .if3 .left)))
+    ∙ both-true _ (ap not (sym (c .before .before .is-there .ensures) ∙ c .before .if3 .left)))
 
 pub is-settable-spec : {M : Type 1} → statement M
 is-settable-spec =

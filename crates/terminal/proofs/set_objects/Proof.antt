@@ -21,10 +21,10 @@ use Rattle.tlv.proofs.primitive.Reads as primitive
 use Rattle.terminal.proofs.set_object.Reads as set-object
 
 abbrev Inv-loop : tie.InvT-loop
-Inv-loop terminal store₀ tags codes places s₀ store s = (setRun store₀ (primitives s₀) ≡ setRun store (primitives s)) × ((length store ≡ storeSize) × (length s ≤ length s₀))
+Inv-loop terminal store₀ tags codes s₀ store s = (setRun store₀ (primitives s₀) ≡ setRun store (primitives s)) × ((length store ≡ storeSize) × (length s ≤ length s₀))
 
 abbrev μ-loop : tie.MeasureT-loop
-μ-loop terminal store₀ tags codes places s₀ store s = length s
+μ-loop terminal store₀ tags codes s₀ store s = length s
 
 -- where an object is next
 abbrev At-object : Type 0

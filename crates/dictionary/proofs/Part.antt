@@ -1,0 +1,142 @@
+-- The part of the table that a tag can stand in: rows before it have smaller tags, rows behind it greater ones, so a search of the part finds
+-- what `find` finds in the whole. What the parts ask of the table is computed, one test each.
+-- Assumes nothing.
+use mathlib.Core.Path.{_≡_, refl, sym, ap, subst, _∙_}
+use mathlib.Core.Bool.{Bool, true}
+use mathlib.Core.List.{List, [], _∷_}
+use Prim.Native.Nat.{ℕ, zero, suc, _+_, _-_, _≤_, _<_}
+use native.Mathlib.Omega.{arith}
+use lib.Dec.{eqb, leb, ltb}
+use lib.ListN.{length, take, drop}
+use borrow.Author.Tests.{ne-eqb, leb-true, ltb-true, ltb-false, lt-ltb, le-ltb}
+use Rattle.basics.specs.Choice.{if, both, every}
+use Rattle.basics.proofs.Laws.{if-yes, if-no, if-ind, both-left, both-right}
+use Rattle.dictionary.specs.declared.Found.{Found}
+use Rattle.dictionary.specs.declared.Found.the-variants.{At, Unknown}
+use Rattle.dictionary.specs.declared.Range.{Range}
+use Rattle.dictionary.specs.Rows.{Row, rows, rowCount, past, find}
+use Rattle.dictionary.specs.Rule.{rising}
+use Rattle.dictionary.specs.Search.{tagsOf}
+use Rattle.dictionary.specs.Inner.{range, partOf}
+
+past-none : (x : Found) → past 0 x ≡ x
+unfolding past
+past-none Unknown = refl
+past-none (At k) = let e : 0 + k ≡ k = omega arith in ap At e
+
+past-more : (a : ℕ) (x : Found) → past 1 (past a x) ≡ past (suc a) x
+unfolding past
+past-more a Unknown = refl
+past-more a (At k) = let e : 1 + (a + k) ≡ suc a + k = omega arith in ap At e
+
+-- rows of smaller tags in front are passed over
+abbrev below : ℕ → Row → Bool
+below low r = ltb (r .tag) low
+
+find-behind : (a : ℕ) (table : List Row) (low t : ℕ) → every (below low) (take a table) ≡ true → low ≤ t → find table t ≡ past a (find (drop a table) t)
+unfolding every find past
+find-behind zero table low t h l = sym (past-none (find table t))
+find-behind (suc a) [] low t h l = refl
+find-behind (suc a) (r ∷ rs) low t h l =
+    let n : r .tag ≡ t → ⊥ = λ e. let s = ltb-true (r .tag) low (both-left _ _ h) in omega arith in
+    if-no _ _ (ne-eqb _ _ n) ∙ ap (past 1) (find-behind a rs low t (both-right _ _ h) l) ∙ past-more a (find (drop a rs) t)
+
+-- rows of greater tags behind have it not
+abbrev above : ℕ → Row → Bool
+above high r = leb high (r .tag)
+
+none-above : (table : List Row) (high t : ℕ) → every (above high) table ≡ true → t < high → find table t ≡ Unknown
+unfolding every find past
+none-above [] high t h l = refl
+none-above (r ∷ rs) high t h l =
+    let n : r .tag ≡ t → ⊥ = λ e. let s = leb-true high (r .tag) (both-left _ _ h) in omega arith in
+    if-no _ _ (ne-eqb _ _ n) ∙ ap (past 1) (none-above rs high t (both-right _ _ h) l)
+
+find-before : (n : ℕ) (table : List Row) (high t : ℕ) → every (above high) (drop n table) ≡ true → t < high → find table t ≡ find (take n table) t
+unfolding find
+find-before zero table high t h l = none-above table high t h l
+find-before (suc n) [] high t h l = refl
+find-before (suc n) (r ∷ rs) high t h l = ap (λ (x : Found). if (eqb (r .tag) t) (At 0) (past 1 x)) (find-before n rs high t h l)
+
+-- ---- the dictionary's parts
+
+abbrev pub partRows : Range → List Row
+partRows p = take (p .to - p .from) (drop (p .from) rows)
+
+-- what a search of a part gives for a tag
+pub record Stands (t : ℕ) (p : Range) : Type 0 where
+  pub tags : tagsOf (partRows p) ≡ take (p .to - p .from) (drop (p .from) (tagsOf rows))
+  pub rises : rising (partRows p) ≡ true
+  pub finds : find rows t ≡ past (p .from) (find (partRows p) t)
+
+-- of a part between two tags
+between : (a n low high t : ℕ) → every (below low) (take a rows) ≡ true → every (above high) (drop n (drop a rows)) ≡ true → low ≤ t → t < high
+    → find rows t ≡ past a (find (take n (drop a rows)) t)
+between a n low high t h i l m = find-behind a rows low t h l ∙ ap (past a) (find-before n (drop a rows) high t i m)
+
+pub part-stands : (t : ℕ) → Stands t (partOf t)
+unfolding partOf rows rising every both
+part-stands t =
+    if-ind (Stands t) _ _ _
+    (λ a. record { tags = refl; rises = refl; finds = between 0 16 0 0x100 t refl refl (omega arith) (ltb-true _ _ a) })
+    (λ a. if-ind (Stands t) _ _ _
+    (λ b. record { tags = refl; rises = refl; finds = between 16 9 0x100 0x9F00 t refl refl (ltb-false _ _ a) (ltb-true _ _ b) })
+    (λ b. if-ind (Stands t) _ _ _
+    (λ c. record { tags = refl; rises = refl; finds = between 25 76 0x9F00 0xDF00 t refl refl (ltb-false _ _ b) (ltb-true _ _ c) })
+    (λ c. if-ind (Stands t) _ _ _
+    (λ d. record { tags = refl; rises = refl; finds = between 101 5 0xDF00 0x10000 t refl refl (ltb-false _ _ c) (ltb-true _ _ d) })
+    (λ d. record { tags = refl; rises = refl; finds = find-behind 106 rows 0x10000 t refl (ltb-false _ _ d) ∙ ap (past 106) (sym all-left) }))))
+  where
+    all-left : find (take 52 (drop 106 rows)) t ≡ find (drop 106 rows) t
+    all-left = refl
+
+pub tags-length : length (tagsOf rows) ≡ rowCount
+unfolding rows
+tags-length = refl
+
+-- ---- which part, by the tag
+
+module _ (t : ℕ) where
+  pub one-byte : t < 0x100 → range 0 16 ≡ partOf t
+  unfolding partOf
+  one-byte a = sym (if-yes _ _ (lt-ltb _ _ a))
+
+  module _ (a : 0x100 ≤ t) where
+    pub from-5F : t < 0x9F00 → range 16 25 ≡ partOf t
+    unfolding partOf
+    from-5F b = sym (if-no _ _ (le-ltb _ _ a) ∙ if-yes _ _ (lt-ltb _ _ b))
+
+    module _ (b : 0x9F00 ≤ t) where
+      pub from-9F : t < 0xDF00 → range 25 101 ≡ partOf t
+      unfolding partOf
+      from-9F c = sym (if-no _ _ (le-ltb _ _ a) ∙ if-no _ _ (le-ltb _ _ b) ∙ if-yes _ _ (lt-ltb _ _ c))
+
+      module _ (c : 0xDF00 ≤ t) where
+        pub from-DF : t < 0x10000 → range 101 106 ≡ partOf t
+        unfolding partOf
+        from-DF d = sym (if-no _ _ (le-ltb _ _ a) ∙ if-no _ _ (le-ltb _ _ b) ∙ if-no _ _ (le-ltb _ _ c) ∙ if-yes _ _ (lt-ltb _ _ d))
+
+        pub three-bytes : 0x10000 ≤ t → range 106 rowCount ≡ partOf t
+        unfolding partOf
+        three-bytes d = sym (if-no _ _ (le-ltb _ _ a) ∙ if-no _ _ (le-ltb _ _ b) ∙ if-no _ _ (le-ltb _ _ c) ∙ if-no _ _ (le-ltb _ _ d))
+
+-- ---- a search of a part
+
+module _ (t : ℕ) {p : Range} (e : p ≡ partOf t) where
+  stands : Stands t p
+  stands = subst (Stands t) (sym e) (part-stands t)
+
+  -- from what `search` promises of every rising table
+  in-part : {x : Found} → ((table : List Row) → tagsOf table ≡ take (p .to - p .from) (drop (p .from) (tagsOf rows)) → rising table ≡ true → x ≡ find table t)
+      → past (p .from) x ≡ find rows t
+  in-part h = ap (past (p .from)) (h (partRows p) (stands .tags) (stands .rises)) ∙ sym (stands .finds)
+
+  pub part-known : {x : Found} {k : ℕ} → ((table : List Row) → tagsOf table ≡ take (p .to - p .from) (drop (p .from) (tagsOf rows)) → rising table ≡ true → x ≡ find table t)
+      → x ≡ At k → At (p .from + k) ≡ find rows t
+  unfolding past
+  part-known h q = sym (ap (past (p .from)) q) ∙ in-part h
+
+  pub part-unknown : {x : Found} → ((table : List Row) → tagsOf table ≡ take (p .to - p .from) (drop (p .from) (tagsOf rows)) → rising table ≡ true → x ≡ find table t)
+      → x ≡ Unknown → Unknown ≡ find rows t
+  unfolding past
+  part-unknown h q = sym (ap (past (p .from)) q) ∙ in-part h
