@@ -22,7 +22,7 @@ use terminal::Said;
 ghost use mathlib.Core.Path.{_≡_};
 ghost use mathlib.Core.Bool.{false, not};
 ghost use Prim.Native.Nat.{_+_, _≤_, _<_};
-ghost use lib.ListN.{length};
+ghost use lib.ListN.{length, replicate};
 ghost use Rattle.basics.specs.Front.{inFront};
 ghost use Rattle.basics.specs.Reason.{reasonNotAllowed, reasonMissing, reasonAboveLimit, reasonMode, unless};
 ghost use Rattle.dictionary.specs.Rows.{storeSize};
@@ -198,7 +198,7 @@ fn broken_off(phase: Phase, count: u8, bytes: &[u8], reason: u8, command: &mut [
 // The terminal's objects are stored, and 95 with them, all zero.
 fn load_objects(count: u8, store: &mut [u8], terminal: &[u8], command: &mut [u8]) -> Turn
     requires { ⌜ (leastBuffer ≤ length (now command)) × (count < 255) ⌝ }
-    requires { ⌜ length (now store) ≡ storeSize ⌝ }
+    requires { ⌜ now store ≡ replicate storeSize 0 ⌝ }
     ensures { λ r. ⌜ DidIn r (now (store .exit)) (now (command .exit))
         (loadOn count (now (store .entry)) (now (terminal .entry)) (now (command .entry))) ⌝ }
 {

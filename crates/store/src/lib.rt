@@ -30,16 +30,14 @@ pub fn empty() -> Store
     Store { bytes: [0u8; SIZE] }
 }
 
-// All of a store's bytes into a working copy. The loop runs to a constant, so that a copy that is zeros before it need not be
-// written twice.
-pub fn copy_whole(bytes: &[u8], work: &mut [u8; SIZE])
+// Writes 0 over all of a store's bytes: the empty store.
+pub fn clear(bytes: &mut [u8])
     requires { ⌜ length (now bytes) ≡ storeSize ⌝ }
-    requires { ⌜ length (now work) ≡ storeSize ⌝ }
-    ensures { λ _. ⌜ now (work .exit) ≡ now (bytes .entry) ⌝ }
+    ensures { λ _. ⌜ now (bytes .exit) ≡ replicate storeSize 0 ⌝ }
 {
     let mut i = 0;
-    while i < SIZE {
-        work[i] = bytes[i];
+    while i < bytes.len() {
+        bytes[i] = 0;
         i += 1;
     }
 }
@@ -50,6 +48,13 @@ fn span_of(row: usize) -> Span
     ensures { λ r. ⌜ r .at ≤ storeSize ⌝ }
 {
     unpacked(place_at(row))
+}
+
+// Where a row's place starts.
+fn start_of(row: usize) -> usize
+    ensures { λ r. ⌜ r ≡ spanOf row .at ⌝ }
+{
+    unpacked(place_at(row)).at
 }
 
 // A place's number taken apart.
@@ -66,7 +71,7 @@ fn unpacked(place: u32) -> Span
 pub fn length_byte(bytes: &[u8], row: usize) -> u8
     ensures { λ r. ⌜ r ≡ lengthByte rows (now (bytes .entry)) row ⌝ }
 {
-    basics::byte_at(bytes, span_of(row).at)
+    basics::byte_at(bytes, start_of(row))
 }
 
 // Whether a row's object is there.
@@ -117,7 +122,7 @@ pub fn put(bytes: &mut [u8], row: usize, v: &[u8])
     ensures stored { λ _. ⌜ now (bytes .exit) ≡ putAt rows (now (bytes .entry)) row (now (v .entry)) ⌝ }
     ensures sized { λ _. ⌜ length (now (bytes .exit)) ≡ storeSize ⌝ }
 {
-    let at = span_of(row).at;
+    let at = start_of(row);
     write(bytes, at, v);
 }
 

@@ -1,5 +1,4 @@
--- The ways out of a loading, one law for each, in the order of the refusals; what the answer of the call says of them; and the working
--- copy, which is the store.
+-- The ways out of a loading, one law for each, in the order of the refusals; and what the answer of the call says of them.
 -- Assumes nothing.
 use mathlib.Core.Path.{_≡_, refl, sym, ap, subst, _∙_}
 use mathlib.Core.Bool.{true, false}
@@ -70,8 +69,6 @@ refuses {r} b e f = subst (Loads r b b) (sym f) (record { said = e; store = refl
 pub loads : {b c : List ℕ} {x : Loaded} → x ≡ loaded c → Loads Said.Taken c b x
 loads {b} f = subst (Loads _ _ b) (sym f) (record { said = refl; store = refl })
 
--- ---- the working copy
-
--- what a run sets in a copy it sets in the store
-pub in-copy : {b d : List ℕ} (s : List ℕ) {x : Option (List ℕ)} → d ≡ b → setRun d (primitives s) ≡ x → setRun b (primitives s) ≡ x
-in-copy s e f = ap (λ (y : List ℕ). setRun y (primitives s)) (sym e) ∙ f
+-- a store that is cleared again is as it came
+pub refuses-as : {r : Said} {n : ℕ} (b c : List ℕ) {x : Loaded} → c ≡ b → r ≡ Said.Refused (record { number = n }) → x ≡ refusal n → Loads r c b x
+refuses-as {r} b c {x} s e f = subst (λ (y : List ℕ). Loads r y b x) (sym s) (refuses b e f)

@@ -1,16 +1,15 @@
 // The start bytes of a session into a store, or the refusal that they meet.
 //
 // `load` first finds whether the bytes are a run of whole primitive objects, then sets the objects one
-// after the other in a working copy, then sees that all that a start must bring is there. The store is
-// written only where every step passed.
+// after the other, then sees that all that a start must bring is there. The store is empty before, so a
+// refusal leaves it by clearing it.
 use dictionary::Found;
 use dictionary::ROWS;
-use dictionary::SIZE;
 use record::Refusal;
 use tlv::Front;
 ghost use mathlib.Core.Path.{_≡_};
 ghost use Prim.Native.Nat.{_<_};
-ghost use lib.ListN.{length};
+ghost use lib.ListN.{length, replicate};
 ghost use Rattle.dictionary.specs.Rows.{rows, rowCount, storeSize};
 ghost use Rattle.dictionary.specs.Lent.{Lent, codesOf};
 ghost use Rattle.tlv.specs.Primitives.{object, primitives};
@@ -25,9 +24,9 @@ pub enum Said {
 // The most start bytes.
 const MOST: usize = 1024;
 
-// The start bytes into a store.
+// The start bytes into an empty store.
 pub fn load(store: &mut [u8], terminal: &[u8]) -> Said
-    requires { ⌜ length (now store) ≡ storeSize ⌝ }
+    requires { ⌜ now store ≡ replicate storeSize 0 ⌝ }
     ensures given { λ r. ⌜ Loads r (now (store .exit)) (now (store .entry)) (loadOf (now (store .entry)) (now (terminal .entry))) ⌝ }
     ensures sized { λ _. ⌜ length (now (store .exit)) ≡ storeSize ⌝ }
 {
@@ -37,17 +36,16 @@ pub fn load(store: &mut [u8], terminal: &[u8]) -> Said
     if !tlv::is_run(terminal) {
         return refused(basics::REFUSED_BYTES);
     }
-    let mut work = [0u8; SIZE];
-    store::copy_whole(store, &mut work);
     let tags = dictionary::tags();
     let codes = dictionary::codes();
-    if !set_objects(terminal, &mut work, &tags, &codes) {
+    if !set_objects(terminal, store, &tags, &codes) {
+        store::clear(store);
         return refused(basics::REFUSED_OBJECT);
     }
-    if !record::all_brought(&work) {
+    if !record::all_brought(&store[..]) {
+        store::clear(store);
         return refused(basics::REFUSED_ABSENT);
     }
-    bytes::copy(&work, store);
     Said::Taken
 }
 
@@ -61,7 +59,7 @@ fn refused(number: u8) -> Said
 // Sets the objects of a run one after the other: whether each of them may be set.
 fn set_objects(
     terminal: &[u8],
-    store: &mut [u8; SIZE],
+    store: &mut [u8],
     tags: &[u32; ROWS],
     codes: &[u32; ROWS],
 ) -> bool
@@ -92,7 +90,7 @@ fn set_objects(
 fn set_object(
     tag: u32,
     v: &[u8],
-    store: &mut [u8; SIZE],
+    store: &mut [u8],
     tags: &[u32; ROWS],
     codes: &[u32; ROWS],
 ) -> bool

@@ -8,7 +8,7 @@ use native.Mathlib.Omega.{arith}
 use Rattle.record.specs.declared.Phase.{Phase}
 use Rattle.record.specs.Session.{sessionOf}
 use Rattle.record.specs.Ranges.{inRanges}
-use Rattle.record.proofs.Phases.{count-most, store-size}
+use Rattle.record.proofs.Phases.{count-most, on-fresh}
 use Rattle.session.specs.Start.{startIn, startStep}
 use Rattle.session.proofs.Laws.{did-as, did-without-command, admitted-short, admitted-ranges, admitted-in, not-fresh}
 use Rattle.session.proofs.start_in.Statement.{statement}
@@ -37,7 +37,7 @@ returns-3 c =
     did-without-command _ (c .refused3 .ensures) (by-phase (c .before .before) _ refl ∙ not-fresh (a .phase) _ _ _ (c .before .match .keys2))
 
 load-objects-requires : tie.Need-load-objects-requires
-load-objects-requires c κs = ((search needs, omega (arith, count-most _ (ranged (c .before .before .before .before)))), store-size _ (ranged (c .before .before .before .before)))
+load-objects-requires c κs = ((search needs, omega (arith, count-most _ (ranged (c .before .before .before .before)))), on-fresh _ (ranged (c .before .before .before .before)) (c .before .before .enum-told .given .1) .store)
 
 returns-4 : tie.Need-returns-4
 returns-4 c =

@@ -2,10 +2,10 @@
 -- Assumes nothing.
 use borrow.Author.Needs.{needs}
 use mathlib.Core.Path.{ap, _∙_}
+use Prim.Native.Nat.{ℕ}
 use native.Mathlib.Omega.{arith}
 use lib.ListN.{length}
 use Rattle.dictionary.specs.Rows.{rows}
-use Rattle.store.specs.declared.Span.{Span}
 use Rattle.store.specs.Place.{writtenAt, putAt}
 use Rattle.store.proofs.Laws.{put-length}
 use Rattle.store.proofs.Rows.{row-inside, fits-row}
@@ -15,7 +15,7 @@ use Rattle.store.proofs.put.Tie as tie
 write-requires : tie.Need-write-requires
 write-requires c κs =
     let st = c .before .before .before .before in
-    let at = ap (λ (p : Span). p .at) (c .before .span-of .ensures .0) in
+    let at = c .before .start-of .ensures in
     let i = row-inside (st .args .row) (st .pre .1 .0) in
     (omega arith, omega arith)
 
@@ -25,7 +25,7 @@ returns c =
     let st = c .before .before .before .before .before .before .before in
     let a = st .args in
     let f = fits-row (a .bytes .now) (a .row) (a .v .now) (st .pre .0) (st .pre .1 .0) (st .pre .1 .1) in
-    let p = c .before .before .write .ensures ∙ ap (λ (p : Span). writtenAt (a .bytes .now) (p .at) (a .v .now)) (c .before .before .before .before .span-of .ensures .0) in
+    let p = c .before .before .write .ensures ∙ ap (λ (n : ℕ). writtenAt (a .bytes .now) n (a .v .now)) (c .before .before .before .before .start-of .ensures) in
     (p, ap length p ∙ put-length rows (a .bytes .now) (a .row) (a .v .now) f ∙ st .pre .0)
 
 pub put-spec : {M : Type 1} → statement M

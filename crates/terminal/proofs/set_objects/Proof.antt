@@ -44,16 +44,16 @@ returns c =
 
 returns-2 : tie.Need-returns-2 Inv-loop μ-loop
 returns-2 c =
-    let o = c .before .before .before .before .before .before .before in
-    let set = c .before .set-object .ensures in (
+    let o = c .before .before .before .before .before .before .before .before .before in
+    let set = c .before .before .before .set-object .ensures in (
       says-not _ (o .before .before .before .before .loop .inv .0 ∙ set-stopped _ (o .before .before .before .loop-test .taken) _ (next-at o) _ (was-not _ _ (set .0) (not-true _ (c .if1 .taken)))) refl,
       set .1,
     )
 
 loop-again : tie.Need-loop-again Inv-loop μ-loop
 loop-again c =
-    let o = c .before .before .before .before .before .before .before in
-    let set = c .before .set-object .ensures in
+    let o = c .before .before .before .before .before .before .before .before .before in
+    let set = c .before .before .before .set-object .ensures in
     let h = fits-at o in (
       o .before .before .before .before .loop .inv .0 ∙ set-on _ (o .before .before .before .loop-test .taken) _ (next-at o) _ _ (was-set _ (set .0) (not-false _ (c .if1 .left))),
       (set .1, simp (length-take, length-drop) (omega arith)),
@@ -70,10 +70,11 @@ set-objects-spec =
     (tie.spec
     Inv-loop
     μ-loop
-    (λ c. (refl, (c .before .pre .0, omega arith)))
+    (λ c. (refl, (c .before .before .pre .0, omega arith)))
     (λ c κs. search needs)
     (λ c. search needs)
     (λ c. search needs)
+    (λ c. c .before .before .before .before .loop .inv .1 .0 ∙ sym (c .before .before .before .before .before .before .before .pre .0))
     returns
     (λ c. let h = fits-at (c .before .before) in omega arith)
     (λ c. omega arith)
@@ -82,8 +83,10 @@ set-objects-spec =
     (λ c. let h = fits-at (c .before .before .before) in omega arith)
     (λ c. let h = fits-at (c .before .before .before) in omega arith)
     (λ c. omega arith)
-    (λ c κs. (c .before .before .before .before .before .before .before .before .before .loop .inv .1 .0, c .before .before .before .before .before .before .before .before .before .before .before .pre .1))
+    (λ c κs. (c .before .before .before .before .before .before .before .before .before .loop .inv .1 .0, c .before .before .before .before .before .before .before .before .before .before .before .before .pre .1))
+    (λ c. c .before .before .before .set-object .ensures .1 ∙ sym (c .before .before .before .before .before .before .before .before .before .before .before .before .before .before .before .before .pre .0))
     returns-2
-    (λ c. let h = fits-at (c .before .before .before .before .before .before .before) in simp (length-take, length-drop) (omega arith))
+    (λ c. let h = fits-at (c .before .before .before .before .before .before .before .before .before) in simp (length-take, length-drop) (omega arith))
     loop-again
+    (λ c. c .before .loop .inv .1 .0 ∙ sym (c .before .before .before .before .pre .0))
     returns-3)
