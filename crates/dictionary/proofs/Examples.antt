@@ -9,8 +9,8 @@ use Rattle.basics.specs.Number.{nibbles}
 use Rattle.dictionary.specs.declared.Found.{Found}
 use Rattle.dictionary.specs.declared.Found.the-variants.{At, Unknown}
 use Rattle.dictionary.specs.declared.Searched.{Searched}
-use Rattle.dictionary.specs.Rows.{rows, rowAt, formB, formN, formCn}
-use Rattle.dictionary.specs.Search.{halve, halvingOf, lookedAt, searchOf, tagsOf}
+use Rattle.dictionary.specs.Rows.{rows, rowAt, past, formB, formN, formCn}
+use Rattle.dictionary.specs.Search.{halve, halvingOf, lookedAt, searchOf, tagsOf, partNumber, filter, partSearchOf}
 use Rattle.dictionary.specs.Form.{numeric, digitsThenFs, compressed, digitsFit, fitting}
 use Rattle.dictionary.specs.Named.{row5A, row8E, row9F02, row9F67, row9F6A, row9F6B, rowDF811B, rowDF8125}
 use Rattle.dictionary.specs.TerminalType.{listed}
@@ -141,3 +141,21 @@ of-no-row = refl
 places-of-last : lookedAt (tagsOf rows) 0xDF8307 ≡ 79 ∷ 119 ∷ 139 ∷ 149 ∷ 154 ∷ 156 ∷ 157 ∷ []
 unfolding rows halvingOf halve if
 places-of-last = refl
+
+-- the parts, on both sides of each edge
+parts : map partNumber (0 ∷ 0xFF ∷ 0x100 ∷ 0x9EFF ∷ 0x9F00 ∷ 0xDEFF ∷ 0xDF00 ∷ 0xFFFF ∷ 0x10000 ∷ 0xFFFFFFFF ∷ [])
+    ≡ 0 ∷ 0 ∷ 1 ∷ 1 ∷ 2 ∷ 2 ∷ 3 ∷ 3 ∷ 4 ∷ 4 ∷ []
+unfolding partNumber if
+parts = refl
+
+-- the dictionary by its parts, of 16, 9, 76, 5 and 52 rows: a tag in the middle of three, the first of one and the last of one; then a tag
+-- at an edge of each that no row has
+of-parts : map (partSearchOf (tagsOf rows)) (0x8C ∷ 0x5F24 ∷ 0x9F4D ∷ 0xDF61 ∷ 0xDF8307 ∷ [])
+    ≡ said (At 8) 1 ∷ said (At 16) 4 ∷ said (At 63) 1 ∷ said (At 103) 1 ∷ said (At 157) 5 ∷ []
+unfolding rows partSearchOf partNumber filter searchOf halvingOf halve past if
+of-parts = refl
+
+in-no-part : map (partSearchOf (tagsOf rows)) (0xFF ∷ 0x100 ∷ 0xDEFF ∷ 0xDF00 ∷ 0x10000 ∷ [])
+    ≡ said Unknown 4 ∷ said Unknown 4 ∷ said Unknown 6 ∷ said Unknown 3 ∷ said Unknown 6 ∷ []
+unfolding rows partSearchOf partNumber filter searchOf halvingOf halve past if
+in-no-part = refl

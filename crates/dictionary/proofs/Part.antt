@@ -1,8 +1,8 @@
 -- The part of the table that a tag can stand in: rows before it have smaller tags, rows behind it greater ones, so a search of the part finds
--- what `find` finds in the whole. What the parts ask of the table is computed, one test each.
+-- what `find` finds in the whole. What the parts ask of the table is computed, one test each; so is which tags each of them has.
 -- Assumes nothing.
 use mathlib.Core.Path.{_≡_, refl, sym, ap, subst, _∙_}
-use mathlib.Core.Bool.{Bool, true}
+use mathlib.Core.Bool.{Bool, true, false}
 use mathlib.Core.List.{List, [], _∷_}
 use Prim.Native.Nat.{ℕ, zero, suc, _+_, _-_, _≤_, _<_}
 use native.Mathlib.Omega.{arith}
@@ -14,9 +14,10 @@ use Rattle.basics.proofs.Laws.{if-yes, if-no, if-ind, both-left, both-right}
 use Rattle.dictionary.specs.declared.Found.{Found}
 use Rattle.dictionary.specs.declared.Found.the-variants.{At, Unknown}
 use Rattle.dictionary.specs.declared.Range.{Range}
+use Rattle.dictionary.specs.declared.Searched.{Searched}
 use Rattle.dictionary.specs.Rows.{Row, rows, rowCount, past, find}
 use Rattle.dictionary.specs.Rule.{rising}
-use Rattle.dictionary.specs.Search.{tagsOf}
+use Rattle.dictionary.specs.Search.{searchOf, tagsOf, partNumber, filter, tagsInPart, partSearchOf}
 use Rattle.dictionary.specs.Inner.{range, partOf}
 
 past-none : (x : Found) → past 0 x ≡ x
@@ -63,29 +64,84 @@ find-before (suc n) (r ∷ rs) high t h l = ap (λ (x : Found). if (eqb (r .tag)
 abbrev pub partRows : Range → List Row
 partRows p = take (p .to - p .from) (drop (p .from) rows)
 
+abbrev pub partTags : Range → List ℕ
+partTags p = take (p .to - p .from) (drop (p .from) (tagsOf rows))
+
+-- the tags of the part of a number, and how many are before it
+pub record Numbered (n : ℕ) (p : Range) : Type 0 where
+  pub tags : filter (λ u. eqb (partNumber u) n) (tagsOf rows) ≡ partTags p
+  pub start : length (filter (λ u. ltb (partNumber u) n) (tagsOf rows)) ≡ p .from
+
 -- what a search of a part gives for a tag
 pub record Stands (t : ℕ) (p : Range) : Type 0 where
-  pub tags : tagsOf (partRows p) ≡ take (p .to - p .from) (drop (p .from) (tagsOf rows))
+  pub tags : tagsOf (partRows p) ≡ partTags p
   pub rises : rising (partRows p) ≡ true
   pub finds : find rows t ≡ past (p .from) (find (partRows p) t)
+  pub numbered : Numbered (partNumber t) p
 
 -- of a part between two tags
 between : (a n low high t : ℕ) → every (below low) (take a rows) ≡ true → every (above high) (drop n (drop a rows)) ≡ true → low ≤ t → t < high
     → find rows t ≡ past a (find (take n (drop a rows)) t)
 between a n low high t h i l m = find-behind a rows low t h l ∙ ap (past a) (find-before n (drop a rows) high t i m)
 
+-- of the part of a number
+numbered : (t : ℕ) {n : ℕ} {p : Range} → partNumber t ≡ n → Numbered n p → Numbered (partNumber t) p
+numbered t {n} {p} e = subst (λ (m : ℕ). Numbered m p) (sym e)
+
+part-0 : Numbered 0 (range 0 16)
+unfolding rows filter partNumber if
+part-0 = record { tags = refl; start = refl }
+
+part-1 : Numbered 1 (range 16 25)
+unfolding rows filter partNumber if
+part-1 = record { tags = refl; start = refl }
+
+part-2 : Numbered 2 (range 25 101)
+unfolding rows filter partNumber if
+part-2 = record { tags = refl; start = refl }
+
+part-3 : Numbered 3 (range 101 106)
+unfolding rows filter partNumber if
+part-3 = record { tags = refl; start = refl }
+
+part-4 : Numbered 4 (range 106 rowCount)
+unfolding rows filter partNumber if
+part-4 = record { tags = refl; start = refl }
+
+-- the number of a tag's part
+module _ (t : ℕ) where
+  number-0 : ltb t 0x100 ≡ true → partNumber t ≡ 0
+  unfolding partNumber
+  number-0 a = if-yes _ _ a
+
+  number-1 : ltb t 0x100 ≡ false → ltb t 0x9F00 ≡ true → partNumber t ≡ 1
+  unfolding partNumber
+  number-1 a b = if-no _ _ a ∙ if-yes _ _ b
+
+  number-2 : ltb t 0x100 ≡ false → ltb t 0x9F00 ≡ false → ltb t 0xDF00 ≡ true → partNumber t ≡ 2
+  unfolding partNumber
+  number-2 a b c = if-no _ _ a ∙ if-no _ _ b ∙ if-yes _ _ c
+
+  number-3 : ltb t 0x100 ≡ false → ltb t 0x9F00 ≡ false → ltb t 0xDF00 ≡ false → ltb t 0x10000 ≡ true → partNumber t ≡ 3
+  unfolding partNumber
+  number-3 a b c d = if-no _ _ a ∙ if-no _ _ b ∙ if-no _ _ c ∙ if-yes _ _ d
+
+  number-4 : ltb t 0x100 ≡ false → ltb t 0x9F00 ≡ false → ltb t 0xDF00 ≡ false → ltb t 0x10000 ≡ false → partNumber t ≡ 4
+  unfolding partNumber
+  number-4 a b c d = if-no _ _ a ∙ if-no _ _ b ∙ if-no _ _ c ∙ if-no _ _ d
+
 pub part-stands : (t : ℕ) → Stands t (partOf t)
 unfolding partOf rows rising every both
 part-stands t =
     if-ind (Stands t) _ _ _
-    (λ a. record { tags = refl; rises = refl; finds = between 0 16 0 0x100 t refl refl (omega arith) (ltb-true _ _ a) })
+    (λ a. record { tags = refl; rises = refl; finds = between 0 16 0 0x100 t refl refl (omega arith) (ltb-true _ _ a); numbered = numbered t (number-0 t a) part-0 })
     (λ a. if-ind (Stands t) _ _ _
-    (λ b. record { tags = refl; rises = refl; finds = between 16 9 0x100 0x9F00 t refl refl (ltb-false _ _ a) (ltb-true _ _ b) })
+    (λ b. record { tags = refl; rises = refl; finds = between 16 9 0x100 0x9F00 t refl refl (ltb-false _ _ a) (ltb-true _ _ b); numbered = numbered t (number-1 t a b) part-1 })
     (λ b. if-ind (Stands t) _ _ _
-    (λ c. record { tags = refl; rises = refl; finds = between 25 76 0x9F00 0xDF00 t refl refl (ltb-false _ _ b) (ltb-true _ _ c) })
+    (λ c. record { tags = refl; rises = refl; finds = between 25 76 0x9F00 0xDF00 t refl refl (ltb-false _ _ b) (ltb-true _ _ c); numbered = numbered t (number-2 t a b c) part-2 })
     (λ c. if-ind (Stands t) _ _ _
-    (λ d. record { tags = refl; rises = refl; finds = between 101 5 0xDF00 0x10000 t refl refl (ltb-false _ _ c) (ltb-true _ _ d) })
-    (λ d. record { tags = refl; rises = refl; finds = find-behind 106 rows 0x10000 t refl (ltb-false _ _ d) ∙ ap (past 106) (sym all-left) }))))
+    (λ d. record { tags = refl; rises = refl; finds = between 101 5 0xDF00 0x10000 t refl refl (ltb-false _ _ c) (ltb-true _ _ d); numbered = numbered t (number-3 t a b c d) part-3 })
+    (λ d. record { tags = refl; rises = refl; finds = find-behind 106 rows 0x10000 t refl (ltb-false _ _ d) ∙ ap (past 106) (sym all-left); numbered = numbered t (number-4 t a b c d) part-4 }))))
   where
     all-left : find (take 52 (drop 106 rows)) t ≡ find (drop 106 rows) t
     all-left = refl
@@ -127,16 +183,34 @@ module _ (t : ℕ) {p : Range} (e : p ≡ partOf t) where
   stands = subst (Stands t) (sym e) (part-stands t)
 
   -- from what `search` promises of every rising table
-  in-part : {x : Found} → ((table : List Row) → tagsOf table ≡ take (p .to - p .from) (drop (p .from) (tagsOf rows)) → rising table ≡ true → x ≡ find table t)
+  in-part : {x : Found} → ((table : List Row) → tagsOf table ≡ partTags p → rising table ≡ true → x ≡ find table t)
       → past (p .from) x ≡ find rows t
   in-part h = ap (past (p .from)) (h (partRows p) (stands .tags) (stands .rises)) ∙ sym (stands .finds)
 
-  pub part-known : {x : Found} {k : ℕ} → ((table : List Row) → tagsOf table ≡ take (p .to - p .from) (drop (p .from) (tagsOf rows)) → rising table ≡ true → x ≡ find table t)
+  pub part-known : {x : Found} {k : ℕ} → ((table : List Row) → tagsOf table ≡ partTags p → rising table ≡ true → x ≡ find table t)
       → x ≡ At k → At (p .from + k) ≡ find rows t
   unfolding past
   part-known h q = sym (ap (past (p .from)) q) ∙ in-part h
 
-  pub part-unknown : {x : Found} → ((table : List Row) → tagsOf table ≡ take (p .to - p .from) (drop (p .from) (tagsOf rows)) → rising table ≡ true → x ≡ find table t)
+  pub part-unknown : {x : Found} → ((table : List Row) → tagsOf table ≡ partTags p → rising table ≡ true → x ≡ find table t)
       → x ≡ Unknown → Unknown ≡ find rows t
   unfolding past
   part-unknown h q = sym (ap (past (p .from)) q) ∙ in-part h
+
+  -- from the equation that it promises: the search of the part, with the places of the whole table
+  shifted : {s : Searched} → s ≡ searchOf (partTags p) t → record { found = past (p .from) (s .found); looks = s .looks } ≡ partSearchOf (tagsOf rows) t
+  unfolding partSearchOf
+  shifted q =
+      let n = stands .numbered in
+      ap (λ (r : Searched). record { found = past (p .from) (r .found); looks = r .looks }) (q ∙ ap (λ (l : List ℕ). searchOf l t) (sym (n .tags)))
+      ∙ ap (λ (a : ℕ). record { found = past a (searchOf (tagsInPart (tagsOf rows) t) t .found); looks = searchOf (tagsInPart (tagsOf rows) t) t .looks }) (sym (n .start))
+
+  pub halved-known : {s : Searched} {k : ℕ} → s ≡ searchOf (partTags p) t → s .found ≡ At k
+      → record { found = At (p .from + k); looks = s .looks } ≡ partSearchOf (tagsOf rows) t
+  unfolding past
+  halved-known {s} q f = ap (λ (x : Found). record { found = past (p .from) x; looks = s .looks }) (sym f) ∙ shifted q
+
+  pub halved-unknown : {s : Searched} → s ≡ searchOf (partTags p) t → s .found ≡ Unknown
+      → record { found = Unknown; looks = s .looks } ≡ partSearchOf (tagsOf rows) t
+  unfolding past
+  halved-unknown {s} q f = ap (λ (x : Found). record { found = past (p .from) x; looks = s .looks }) (sym f) ∙ shifted q

@@ -2,7 +2,7 @@
 -- can stand in.
 -- No rule of document 01 stands here: a reader of the rules can pass it over. proofs/Digits ties it to specs/Form:
 -- `numeric-is` to `numeric`; `all-digits`, `is-ff`, `is-half` and `is-wrong` to `compressed`. proofs/Part ties `partOf`
--- to `find`.
+-- to `find` and to `partSearchOf`.
 -- Assumes nothing.
 use mathlib.Core.Bool.{Bool}
 use mathlib.Core.List.{List, [], _∷_}
@@ -31,7 +31,7 @@ onlyFs v = every (λ b. b =? 0xFF) v
 abbrev pub range : ℕ → ℕ → Range
 range from to = record { from = from; to = to }
 
--- the rows among which a tag stands if it is known, by how many bytes it has and by its first one
+-- the rows of the part that a tag can stand in (`partNumber`, specs/Search)
 unfoldable pub partOf : ℕ → Range
 partOf t =
     if t <? 0x100 then range 0 16

@@ -2,9 +2,11 @@
 -- is the wanted one; or it is smaller, and the part behind it is left; or greater, and the part before it is left.
 -- Defined for every list of tags, in whatever order. What `search` promises of it beside: where tags rise it finds
 -- what `find` finds, and of fewer than 2 to the k tags it looks at k at most (proofs/Halving).
+-- A card's tag is searched in the part of the table that it can stand in (`partSearchOf`), with the same answer for
+-- every tag and no more looks (promises of `row_of`; proofs/Part).
 -- Assumes nothing.
 use mathlib.Core.Path.{_≡_}
-use mathlib.Core.Bool.{true}
+use mathlib.Core.Bool.{Bool, true}
 use mathlib.Core.List.{List, [], _∷_, map}
 use Prim.Native.Nat.{ℕ, zero, suc, _+_, _/_}
 use lib.ListN.{length, getD}
@@ -12,7 +14,7 @@ use Rattle.basics.specs.Choice.{if_then_else_, _≤?_, _<?_, _=?_, every}
 use Rattle.dictionary.specs.declared.Found.{Found}
 use Rattle.dictionary.specs.declared.Found.the-variants.{At, Unknown}
 use Rattle.dictionary.specs.declared.Searched.{Searched}
-use Rattle.dictionary.specs.Rows.{Row}
+use Rattle.dictionary.specs.Rows.{Row, past}
 
 -- ---- what is left to search
 
@@ -91,3 +93,35 @@ pub record LooksCounted (tags : List ℕ) (wanted : ℕ) (r : Searched) : Type 0
   pub within : every (λ place. place <? length tags) (lookedAt tags wanted) ≡ true
   pub enough : (other : List ℕ) → length other ≡ length tags
       → tagsAt other (lookedAt tags wanted) ≡ tagsAt tags (lookedAt tags wanted) → searchOf other wanted ≡ r
+
+-- ---- the search of a part of a table
+
+-- the part that a tag can stand in, by the count of its bytes and, of two bytes, by the first one: one byte; two bytes
+-- before 9F, from 9F on and from DF on; three bytes
+unfoldable pub partNumber : ℕ → ℕ
+partNumber tag =
+    if tag <? 0x100 then 0
+    else if tag <? 0x9F00 then 1
+    else if tag <? 0xDF00 then 2
+    else if tag <? 0x10000 then 3
+    else 4
+
+-- the tags that pass a test, in their order
+unfoldable pub filter : (ℕ → Bool) → List ℕ → List ℕ
+filter f [] = []
+filter f (tag ∷ tags) =
+    if f tag then tag ∷ filter f tags
+    else filter f tags
+
+-- the tags of the part that a wanted one can stand in, and how many tags belong to a part before it
+abbrev pub tagsInPart : List ℕ → ℕ → List ℕ
+tagsInPart tags wanted = filter (λ tag. partNumber tag =? partNumber wanted) tags
+
+abbrev pub partStart : List ℕ → ℕ → ℕ
+partStart tags wanted = length (filter (λ tag. partNumber tag <? partNumber wanted) tags)
+
+-- a search of that part alone: its looks, and the place counted from the front of all tags
+unfoldable pub partSearchOf : List ℕ → ℕ → Searched
+partSearchOf tags wanted =
+    let searched = searchOf (tagsInPart tags wanted) wanted in
+    record { found = past (partStart tags wanted) (searched .found); looks = searched .looks }

@@ -11,7 +11,7 @@ ghost use Prim.Native.Nat.{ℕ, _+_, _^_, _≤_, _<_};
 ghost use lib.ListN.{length, drop};
 ghost use Rattle.dictionary.specs.Rows.{Row, rows, rowAt, rowCount, find};
 ghost use Rattle.dictionary.specs.Rule.{rising, proper};
-ghost use Rattle.dictionary.specs.Search.{searchOf, tagsOf, LooksCounted};
+ghost use Rattle.dictionary.specs.Search.{searchOf, tagsOf, LooksCounted, partSearchOf};
 ghost use Rattle.dictionary.specs.Form.{numeric, compressed, digitsFit, fitting};
 ghost use Rattle.dictionary.specs.Inner.{partOf, isDigits, digitBytes, onlyFs};
 ghost use Rattle.dictionary.specs.Packing.{attributesOf, rowOf, codeOf, attributesIn};
@@ -400,13 +400,16 @@ pub struct Range {
     pub to: usize,
 }
 
-// The row of a tag. The table it searches keeps its rule: rising, well-formed tags, lengths in order.
-pub fn lookup(tag: u32) -> Found
-    ensures found { λ r. ⌜ r ≡ find rows tag ⌝ }
+// The row of a tag, and the looks of its search. The table it searches keeps its rule: rising, well-formed tags, lengths
+// in order.
+pub fn lookup(tag: u32) -> Searched
+    ensures found { λ r. ⌜ r .found ≡ find rows tag ⌝ }
+    ensures halving { λ r. ⌜ r ≡ searchOf (tagsOf rows) tag ⌝ }
+    ensures few { λ r. ⌜ ((k : ℕ) → rowCount < 2 ^ k → r .looks ≤ k) ⌝ }
     ensures table { λ _. ⌜ proper rows ≡ true ⌝ }
 {
     let tags = TAGS;
-    search(&tags, tag).found
+    search(&tags, tag)
 }
 
 // A search by halving in any list of tags: each turn looks at the middle one of those that are left.
@@ -441,11 +444,12 @@ pub fn search(tags: &[u32], tag: u32) -> Searched
     }
 }
 
-// The row of a tag with the tags lent: the search goes over the part of the table that a tag of this many bytes, with this first
-// byte, can stand in.
+// The row of a tag with the tags lent: the search goes over the part of the table that a tag of this many bytes, with this
+// first byte, can stand in.
 pub fn row_of(tags: &[u32], tag: u32) -> Searched
     requires { ⌜ now tags ≡ tagsOf rows ⌝ }
     ensures found { λ r. ⌜ r .found ≡ find rows tag ⌝ }
+    ensures halving { λ r. ⌜ r ≡ partSearchOf (tagsOf rows) tag ⌝ }
     ensures few { λ r. ⌜ ((k : ℕ) → rowCount < 2 ^ k → r .looks ≤ k) ⌝ }
 {
     let part = part_of(tag);

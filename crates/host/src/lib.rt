@@ -231,7 +231,7 @@ fn finish(turn: Turn, session: &mut [u8]) -> u32
 fn object_in(bytes: &[u8], tag: u32, value: &mut [u8]) -> u32
     ensures { λ r. ⌜ DidCopy r (now (value .exit)) (objectIn (now (bytes .entry)) tag (now (value .entry))) ⌝ }
 {
-    let found = dictionary::lookup(tag);
+    let found = dictionary::lookup(tag).found;
     let Found::At(row) = found else {
         return UNKNOWN;
     };

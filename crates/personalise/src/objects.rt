@@ -88,7 +88,7 @@ fn lacks_tag(objects: &[u8], tag: u32) -> bool
 fn is_settable(tag: u32, v: &[u8]) -> bool
     ensures { λ r. ⌜ r ≡ settable (object tag (now (v .entry))) ⌝ }
 {
-    let found = dictionary::lookup(tag);
+    let found = dictionary::lookup(tag).found;
     let Found::At(row) = found else {
         return false;
     };

@@ -9,7 +9,9 @@ use Rattle.dictionary.proofs.lookup.Tie as tie
 
 returns : tie.Need-returns
 unfolding rows
-returns c = (c .search .ensures .1 .0 rows refl (proper-rising rows rows-proper), rows-proper)
+returns c =
+    let s = c .search .ensures in
+    (s .1 .0 rows refl (proper-rising rows rows-proper), (s .0, (s .1 .1 .0, rows-proper)))
 
 pub lookup-spec : {M : Type 1} → statement M
 lookup-spec = tie.close (tie.spec (λ c. search needs) (λ c κs. search needs) returns)

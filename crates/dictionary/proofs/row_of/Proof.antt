@@ -1,4 +1,4 @@
--- `dictionary::row_of` meets its contract: a search of the tag's part finds what `find` finds in the table.
+-- `dictionary::row_of` meets its contract: a search of the tag's part finds what `find` finds in the table; its looks are those of the part's search.
 -- Assumes nothing.
 use borrow.Author.Needs.{needs}
 use mathlib.Core.Path.{_≡_, sym, ap, _∙_}
@@ -10,9 +10,9 @@ use lib.ListN.{length, take, drop, length-take}
 use Rattle.dictionary.specs.declared.Found.{Found}
 use Rattle.dictionary.specs.Rows.{Row, rows, rowCount, find}
 use Rattle.dictionary.specs.Rule.{rising}
-use Rattle.dictionary.specs.Search.{tagsOf}
+use Rattle.dictionary.specs.Search.{searchOf, tagsOf}
 use Rattle.dictionary.proofs.Lent.{row-found}
-use Rattle.dictionary.proofs.Part.{tags-length, part-known, part-unknown}
+use Rattle.dictionary.proofs.Part.{tags-length, part-known, part-unknown, halved-known, halved-unknown}
 use Rattle.dictionary.proofs.row_of.Statement.{statement}
 use Rattle.dictionary.proofs.row_of.Tie as tie
 
@@ -21,6 +21,9 @@ in-table : (t n a : ℕ) {ts : List ℕ} {x : Found} → ts ≡ tagsOf rows
     → ((table : List Row) → tagsOf table ≡ take n (drop a ts) → rising table ≡ true → x ≡ find table t)
     → (table : List Row) → tagsOf table ≡ take n (drop a (tagsOf rows)) → rising table ≡ true → x ≡ find table t
 in-table t n a e h table q = h table (q ∙ ap (λ (l : List ℕ). take n (drop a l)) (sym e))
+
+same-part : (t n a : ℕ) {ts : List ℕ} → ts ≡ tagsOf rows → searchOf (take n (drop a ts)) t ≡ searchOf (take n (drop a (tagsOf rows))) t
+same-part t n a e = ap (λ (l : List ℕ). searchOf (take n (drop a l)) t) e
 
 part-search-end : tie.Need-part-search-end
 part-search-end c = let e = ap length (c .before .before .pre) ∙ tags-length in omega (arith, c .part-of .ensures .1 .1)
@@ -31,20 +34,34 @@ few ts a n looks l h k m = let e : length (take n (drop a ts)) ≤ n = simp leng
 
 returns : tie.Need-returns
 returns c =
-    let p = c .before .before .before .before .before .part-of in
+    let l = c .before .before .before .before .before in
+    let pre = l .before .before .pre in
+    let p = l .part-of in
     let s = c .before .before .before .search .ensures in
-    (part-known _ (p .ensures .0) (in-table _ (p .result .to - p .result .from) (p .result .from) (c .before .before .before .before .before .before .before .pre) (s .1 .0)) (c .before .found .given .1),
-    few _ (p .result .from) (p .result .to - p .result .from) _ (omega (arith, p .ensures .1 .1)) (s .1 .1 .0))
+    let known = c .before .found .given .1 in (
+      part-known _ (p .ensures .0) (in-table _ (p .result .to - p .result .from) (p .result .from) pre (s .1 .0)) known,
+      (
+        halved-known _ (p .ensures .0) (s .0 ∙ same-part _ (p .result .to - p .result .from) (p .result .from) pre) known,
+        few _ (p .result .from) (p .result .to - p .result .from) _ (omega (arith, p .ensures .1 .1)) (s .1 .1 .0),
+      ),
+    )
 
 add : tie.Need-add-t16
 add c = let k = row-found _ (sym (returns c .0)) in omega arith
 
 returns-2 : tie.Need-returns-2
 returns-2 c =
-    let p = c .before .before .before .before .part-of in
+    let l = c .before .before .before .before in
+    let pre = l .before .before .pre in
+    let p = l .part-of in
     let s = c .before .before .search .ensures in
-    (part-unknown _ (p .ensures .0) (in-table _ (p .result .to - p .result .from) (p .result .from) (c .before .before .before .before .before .before .pre) (s .1 .0)) (c .enum-told .given .1),
-    few _ (p .result .from) (p .result .to - p .result .from) _ (omega (arith, p .ensures .1 .1)) (s .1 .1 .0))
+    let unknown = c .enum-told .given .1 in (
+      part-unknown _ (p .ensures .0) (in-table _ (p .result .to - p .result .from) (p .result .from) pre (s .1 .0)) unknown,
+      (
+        halved-unknown _ (p .ensures .0) (s .0 ∙ same-part _ (p .result .to - p .result .from) (p .result .from) pre) unknown,
+        few _ (p .result .from) (p .result .to - p .result .from) _ (omega (arith, p .ensures .1 .1)) (s .1 .1 .0),
+      ),
+    )
 
 pub row-of-spec : {M : Type 1} → statement M
 row-of-spec =

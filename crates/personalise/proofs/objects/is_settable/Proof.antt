@@ -14,7 +14,7 @@ returns : tie.Need-returns
 returns c =
     let l = c .before .before in
     let a = l .before .before .args in
-    sym (settable-unknown (object (a .tag) (a .v .now)) (l .lookup .result) (l .lookup .ensures .0) (c .enum-told .given .1))
+    sym (settable-unknown (object (a .tag) (a .v .now)) (l .lookup .result .found) (l .lookup .ensures .0) (c .enum-told .given .1))
 
 returns-2 : tie.Need-returns-2
 returns-2 c =
@@ -24,7 +24,7 @@ returns-2 c =
     let a = l .before .before .args in
     let g = f .found .given in
     row-comes cardRecord (rowAt (g .0 .0)) recordTemplate (a .v .now) (c .may-come .ensures) (k .attributes-of .ensures)
-    ∙ sym (settable-at (object (a .tag) (a .v .now)) (l .lookup .result) (l .lookup .ensures .0) (g .0 .0) (g .1))
+    ∙ sym (settable-at (object (a .tag) (a .v .now)) (l .lookup .result .found) (l .lookup .ensures .0) (g .0 .0) (g .1))
 
 pub is-settable-spec : {M : Type 1} → statement M
 is-settable-spec =
