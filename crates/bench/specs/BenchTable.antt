@@ -11,7 +11,7 @@ use Rattle.dictionary.specs.Rows.{rows}
 use Rattle.dictionary.specs.Named.{placeOf}
 use Rattle.store.specs.Place.{absent, present, valueOf, putAt}
 use Rattle.reading.specs.declared.Awaited.{Awaited}
-use Rattle.reading.specs.Answer.{Outcome, outcome, readBody}
+use Rattle.reading.specs.Answer.{Outcome, outcome, readAnswer}
 use Rattle.data_list.specs.Filling.{filled}
 use Rattle.analysis.specs.declared.choice.Choice.{Choice}
 use Rattle.analysis.specs.Action.{chosen}
@@ -27,9 +27,9 @@ use Rattle.session.specs.Answer.{answerStep}
 abbrev pub nothing : List ℕ
 nothing = stored freshSession
 
--- the body of an answer to a record command of file 1, read into it
-abbrev pub recordBody : List ℕ → Outcome
-recordBody s = readBody (Awaited.Record (record { number = 1 })) nothing s
+-- the answer to a record command of file 1, with this body and 90 00 behind it as a card sends it, read into it
+abbrev pub recordAnswer : List ℕ → Outcome
+recordAnswer body = readAnswer (Awaited.Record (record { number = 1 })) nothing (body ++ (0x90 ∷ 0x00 ∷ []))
 
 -- a version of the card's application, and the store that holds it alone
 abbrev pub cardVersion : List ℕ
@@ -133,17 +133,17 @@ markedRows = 9
 -- all marked rows
 pub record BenchTable : Type 0 where
   -- one object
-  pub empty : recordBody (0x70 ∷ 0x00 ∷ []) ≡ outcome 0 1 nothing
+  pub empty : recordAnswer (0x70 ∷ 0x00 ∷ []) ≡ outcome 0 1 nothing
   -- two objects, stored
-  pub version : Stored (recordBody (0x70 ∷ 0x05 ∷ 0x9F ∷ 0x08 ∷ 0x02 ∷ 0x00 ∷ 0x02 ∷ []))
+  pub version : Stored (recordAnswer (0x70 ∷ 0x05 ∷ 0x9F ∷ 0x08 ∷ 0x02 ∷ 0x00 ∷ 0x02 ∷ []))
   -- reason 3: result bits are not the card's to set
-  pub results-sent : recordBody (0x70 ∷ 0x03 ∷ 0x95 ∷ 0x01 ∷ 0x00 ∷ []) ≡ outcome 3 2 nothing
+  pub results-sent : recordAnswer (0x70 ∷ 0x03 ∷ 0x95 ∷ 0x01 ∷ 0x00 ∷ []) ≡ outcome 3 2 nothing
   -- accepted, nothing stored: a terminal's private object
-  pub private : recordBody (0x70 ∷ 0x05 ∷ 0xDF ∷ 0x81 ∷ 0x23 ∷ 0x01 ∷ 0x00 ∷ []) ≡ outcome 0 2 nothing
+  pub private : recordAnswer (0x70 ∷ 0x05 ∷ 0xDF ∷ 0x81 ∷ 0x23 ∷ 0x01 ∷ 0x00 ∷ []) ≡ outcome 0 2 nothing
   -- four levels, four objects
-  pub four-levels : recordBody (0x70 ∷ 0x06 ∷ 0xE1 ∷ 0x04 ∷ 0xE1 ∷ 0x02 ∷ 0xE1 ∷ 0x00 ∷ []) ≡ outcome 0 4 nothing
+  pub four-levels : recordAnswer (0x70 ∷ 0x06 ∷ 0xE1 ∷ 0x04 ∷ 0xE1 ∷ 0x02 ∷ 0xE1 ∷ 0x00 ∷ []) ≡ outcome 0 4 nothing
   -- reason 2: a fifth level
-  pub five-levels : recordBody (0x70 ∷ 0x08 ∷ 0xE1 ∷ 0x06 ∷ 0xE1 ∷ 0x04 ∷ 0xE1 ∷ 0x02 ∷ 0xE1 ∷ 0x00 ∷ [])
+  pub five-levels : recordAnswer (0x70 ∷ 0x08 ∷ 0xE1 ∷ 0x06 ∷ 0xE1 ∷ 0x04 ∷ 0xE1 ∷ 0x02 ∷ 0xE1 ∷ 0x00 ∷ [])
     ≡ outcome 2 0 nothing
   -- no 9F38, and the first record
   pub begins : (first second : List ℕ) → leastBuffer ≤ length first → leastBuffer ≤ length second → Begins first second

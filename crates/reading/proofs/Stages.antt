@@ -66,16 +66,16 @@ module _ (a : Awaited) (s : List ℕ) where
     unfolding beginning
     begin-body e f = if-yes _ _ good-length ∙ if-yes _ _ e ∙ if-yes _ _ f
 
-  -- a body is the answer's first bytes, 256 at most
-  pub begin-size : (n : ℕ) → beginning a s ≡ begins.Body n → (n ≤ length s) × (n ≤ 256)
+  -- a body is the answer's bytes before the status, 256 at most
+  pub begin-size : (n : ℕ) → beginning a s ≡ begins.Body n → (n ≡ length s - 2) × (n ≤ 256)
   unfolding beginning goodLength
   begin-size n =
-      let P : Beginning → Type 0 = λ x. x ≡ begins.Body n → (n ≤ length s) × (n ≤ 256) in
+      let P : Beginning → Type 0 = λ x. x ≡ begins.Body n → (n ≡ length s - 2) × (n ≤ 256) in
       if-ind P _ _ _
       (λ t. if-ind P _ _ _ (λ u. if-ind P _ _ _ (λ v e. let z : length s - 2 ≡ n = cc in let m : length s ≤ 258 = leb-true _ _ (both-right _ _ t) in (omega arith, omega arith)) (λ v e. none-here Accepted e)) (λ u e. none-here BadStatus e))
       (λ t e. none-here Malformed e)
     where
-      none-here : (v : Verdict) → begins.Decided v ≡ begins.Body n → (n ≤ length s) × (n ≤ 256)
+      none-here : (v : Verdict) → begins.Decided v ≡ begins.Body n → (n ≡ length s - 2) × (n ≤ 256)
       none-here v e = let z : _≡_ {A = ℕ} 0 1 = cc in absurd (omega arith)
 
   -- what a beginning leads to, into the store b
@@ -101,7 +101,7 @@ module _ (a : Awaited) (s : List ℕ) where
 
 -- what a whole reading promises: the reading r, and the store c that it leaves of b
 abbrev pub Whole : Awaited → List ℕ → List ℕ → Reading → List ℕ → Type 0
-Whole a s b r c = Gives r c (readAnswer a b s) × ((length c ≡ storeSize) × ((2 * r .objects ≤ length s) × (r .objects ≡ answerObjects a s)))
+Whole a s b r c = Gives r c (readAnswer a b s) × ((length c ≡ storeSize) × ((2 * r .objects ≤ length s - 2) × (r .objects ≡ answerObjects a s)))
 
 module _ (a : Awaited) (s b : List ℕ) {r : Reading} where
   pub decided : (v : Verdict) → beginning a s ≡ begins.Decided v → r ≡ made v 0 → length b ≡ storeSize → Whole a s b r b
@@ -113,6 +113,7 @@ module _ (a : Awaited) (s b : List ℕ) {r : Reading} where
   pub with-body : (n : ℕ) {c : List ℕ} → beginning a s ≡ begins.Body n → Gives r c (readBody a b (take n s)) → length c ≡ storeSize → 2 * r .objects ≤ length (take n s) → Whole a s b r c
   with-body n {c} q e l h =
       let g : Gives r c (readAnswer a b s) = regive (sym (answer-begun a s b ∙ ap (begun a s b) q)) e in
+      let z = begin-size a s n q .0 in
       let m = simp length-take at h in
       (g, (l, (omega arith, answer-tree a b s g)))
 

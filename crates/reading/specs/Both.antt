@@ -3,7 +3,7 @@
 -- Assumes nothing.
 use mathlib.Core.Path.{_≡_}
 use mathlib.Core.List.{List}
-use Prim.Native.Nat.{ℕ, _*_, _≤_}
+use Prim.Native.Nat.{ℕ, _-_, _*_, _≤_}
 use lib.ListN.{length}
 use Rattle.dictionary.specs.Rows.{storeSize}
 use Rattle.reading.specs.declared.Awaited.{Awaited}
@@ -12,11 +12,12 @@ use Rattle.reading.specs.declared.Readings.{Readings}
 use Rattle.reading.specs.Answer.{Gives, readAnswer}
 use Rattle.reading.specs.Count.{answerObjects}
 
--- the reading r of an answer s and the store c that it leaves of the store b: the four promises of `read_answer`
+-- the reading r of an answer s and the store c that it leaves of the store b: the four promises of `read_answer`; an
+-- object has two bytes at least, and the two status bytes belong to none (of an answer under two bytes, 0 are left)
 pub record Answered (a : Awaited) (s b : List ℕ) (r : Reading) (c : List ℕ) : Type 0 where
   pub given : Gives r c (readAnswer a b s)
   pub sized : length c ≡ storeSize
-  pub half : 2 * r .objects ≤ length s
+  pub half : 2 * r .objects ≤ length s - 2
   pub tree : r .objects ≡ answerObjects a s
 
 -- both readings have the same reason and count, and the stores that they leave are the same

@@ -16,7 +16,7 @@ use tlv::{Following, Front, Header};
 ghost use mathlib.Core.Path.{_≡_};
 ghost use mathlib.Core.Bool.{true, not};
 ghost use mathlib.Core.Option.{some};
-ghost use Prim.Native.Nat.{_+_, _*_, _/_, _%_, _^_, _≤_, _<_};
+ghost use Prim.Native.Nat.{_+_, _-_, _*_, _/_, _%_, _^_, _≤_, _<_};
 ghost use lib.ListN.{length, getD};
 ghost use Rattle.basics.specs.Choice.{both};
 ghost use Rattle.basics.specs.Number.{hasBit};
@@ -106,7 +106,7 @@ pub fn read_answer(store: &mut [u8], awaited: Awaited, answer: &[u8]) -> Reading
     requires { ⌜ length (now store) ≡ storeSize ⌝ }
     ensures given { λ r. ⌜ Gives r (now (store .exit)) (readAnswer awaited (now (store .entry)) (now (answer .entry))) ⌝ }
     ensures sized { λ _. ⌜ length (now (store .exit)) ≡ storeSize ⌝ }
-    ensures half { λ r. ⌜ 2 * r .objects ≤ length (now (answer .entry)) ⌝ }
+    ensures half { λ r. ⌜ 2 * r .objects ≤ length (now (answer .entry)) - 2 ⌝ }
     ensures tree { λ r. ⌜ r .objects ≡ answerObjects awaited (now (answer .entry)) ⌝ }
 {
     let beginning = begin(awaited, answer);

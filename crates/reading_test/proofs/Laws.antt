@@ -3,7 +3,7 @@
 use mathlib.Core.Path.{_≡_, refl, ap, subst⁻¹, _∙_}
 use mathlib.Core.Logic.{inl, inr}
 use mathlib.Core.List.{List}
-use Prim.Native.Nat.{ℕ, _+_, _*_, _%_, _≤_, _<_}
+use Prim.Native.Nat.{ℕ, _+_, _-_, _*_, _%_, _≤_, _<_}
 use native.Mathlib.Omega.{arith}
 use lib.Dec.{ltb}
 use lib.ListN.{length}
@@ -24,7 +24,7 @@ asked-sized size n file a =
     if-ind (λ (x : Wanted). x ≡ Wanted.Answer a → size ≡ storeSize) _ _ _ (λ t e. eqb-true _ _ t) (λ t e. let z : _≡_ {A = ℕ} 0 1 = cc in absurd (omega arith))
 
 -- an answer that is too long counts no objects, and the others have few bytes
-count-small : (a : Awaited) (b s c : List ℕ) (r : Reading) → Gives r c (readAnswer a b s) → 2 * r .objects ≤ length s → r .objects < countLimit
+count-small : (a : Awaited) (b s c : List ℕ) (r : Reading) → Gives r c (readAnswer a b s) → 2 * r .objects ≤ length s - 2 → r .objects < countLimit
 count-small a b s c r g h =
     elim (bool-cases (ltb 258 (length s))) [
       inl w ↦ let z : r .objects ≡ 0 = g .objects ∙ ap (λ (o : Outcome). o .objects) (answer-long a s b (ltb-true _ _ w)) in omega arith
@@ -42,7 +42,7 @@ module _ (n file : ℕ) (b s : List ℕ) where
 
   -- an answer, whose count is small
   pub read : (a : Awaited) (w : ℕ) (c : List ℕ) (r : Reading) → askedOf (length b) n file ≡ Wanted.Answer a
-      → Gives r c (readAnswer a b s) → 2 * r .objects ≤ length s → w ≡ numberOf (r .verdict) * countLimit + r .objects % countLimit → DidRead w c (readOver n file b s)
+      → Gives r c (readAnswer a b s) → 2 * r .objects ≤ length s - 2 → w ≡ numberOf (r .verdict) * countLimit + r .objects % countLimit → DidRead w c (readOver n file b s)
   read a w c r e g h k =
       let m = count-small a b s c r g h in
       let z : r .objects % countLimit ≡ r .objects = omega arith in
