@@ -10,7 +10,7 @@ use native.Mathlib.Omega.{arith}
 use lib.Dec.{eqb}
 use lib.ListN.{length, take, drop, length-drop}
 use lib.Seq.{drop-drop, take-append-le, drop-append-le, drop-append-add}
-use borrow.Author.Tests.{eq-eqb, ne-eqb, lt-ltb, le-ltb}
+use borrow.Author.Tests.{eq-eqb, ne-eqb, le-leb, lt-leb}
 use Rattle.basics.specs.Choice.{if}
 use Rattle.basics.proofs.Laws.{if-yes, if-no}
 use Rattle.basics.proofs.Order.{equal-or-not}
@@ -99,9 +99,10 @@ Stands s (At p) v = (p .start + p .len ≤ length s) × (v ≡ some (bytesAt s p
 stands-behind : (s : List ℕ) (n : ℕ) (r : Found) (v : Option (List ℕ)) → n ≤ length s → Stands (drop n s) r v → Stands s (shifted n r) v
 unfolding shifted
 stands-behind s n Absent v h w = w
-stands-behind s n (At p) v h w =
-    (let l = length-drop n s in omega arith,
-    w .1 ∙ ap (λ (t : List ℕ). some (take (p .len) t)) (drop-drop (p .start) n s))
+stands-behind s n (At p) v h w = (
+  let l = length-drop n s in omega arith,
+  w .1 ∙ ap (λ (t : List ℕ). some (take (p .len) t)) (drop-drop (p .start) n s),
+)
 
 pub stands : (tag : ℕ) (s : List ℕ) → Stands s (firstAt tag s) (firstValue tag (held s))
 stands tag = shorter-first (λ s. Stands s (firstAt tag s) (firstValue tag (held s))) step
@@ -275,7 +276,8 @@ module _ (tag : ℕ) (bytes : List ℕ) where
 -- ---- the source of the value, by what is found in each list
 
 module _ (tag : ℕ) (site defaults : List ℕ) where
-  source-by : (v w : Option (List ℕ)) → firstValue tag (held site) ≡ v → firstValue tag (held defaults) ≡ w → sourceOf tag site defaults ≡ sourceBy v w
+  source-by : (v w : Option (List ℕ)) → firstValue tag (held site) ≡ v → firstValue tag (held defaults) ≡ w
+      → sourceOf tag site defaults ≡ sourceBy v w
   source-by v w e f = ap₂ sourceBy e f
 
   pub source-site : (p : Span) → firstAt tag site ≡ At p → sourceOf tag site defaults ≡ fromSite
@@ -307,12 +309,13 @@ word-fits a k n f h = omega arith
 module _ (tag : ℕ) (site defaults : List ℕ) where
   pub word-long : 0x100000000 ≤ length site + length defaults → placeWord tag site defaults ≡ 0xFFFFFFFFFFFFFFFF
   unfolding placeWord
-  word-long h = if-no _ _ (le-ltb (length site + length defaults) 0x100000000 h)
+  word-long h = if-yes _ _ (le-leb 0x100000000 (length site + length defaults) h)
 
   module _ (short : length site + length defaults < 0x100000000) where
-    pub word-is : (k : ℕ) (p : Span) → sourceOf tag site defaults ≡ k → placeOf tag site defaults ≡ p → spanWord k p ≡ placeWord tag site defaults
+    pub word-is : (k : ℕ) (p : Span) → sourceOf tag site defaults ≡ k → placeOf tag site defaults ≡ p
+        → spanWord k p ≡ placeWord tag site defaults
     unfolding placeWord
-    word-is k p f e = sym (if-yes _ _ (lt-ltb (length site + length defaults) 0x100000000 short) ∙ ap₂ spanWord f e)
+    word-is k p f e = sym (if-no _ _ (lt-leb 0x100000000 (length site + length defaults) short) ∙ ap₂ spanWord f e)
 
     -- the word of a place is never all ones
     pub word-below : placeWord tag site defaults < 0xFFFFFFFFFFFFFFFF
@@ -326,7 +329,8 @@ module _ (tag : ℕ) (site defaults : List ℕ) where
     module _ (n : firstAt tag site ≡ Absent) where
       pub word-default : (p : Span) → firstAt tag defaults ≡ At p
           → spanWord fromDefaults (span (length site + p .start) (p .len)) ≡ placeWord tag site defaults
-      word-default p e = word-is fromDefaults _ (source-default tag site defaults n p e) (default-place tag site defaults n p e)
+      word-default p e =
+          word-is fromDefaults _ (source-default tag site defaults n p e) (default-place tag site defaults n p e)
 
       pub word-neither : firstAt tag defaults ≡ Absent → length site * 0x100000000 ≡ placeWord tag site defaults
       word-neither e =

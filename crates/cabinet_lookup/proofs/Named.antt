@@ -1,5 +1,6 @@
--- The word of a tag names the part that a lookup returns (`named`). A length is below 2^16 (`place-small`) and a source below 4, so the
--- word has each of its parts back; the address goes by what is found in each list (`address-both`).
+-- The word of a tag names the part that a lookup returns (`named`). A length is below 2^16 (`place-small`) and a source
+-- is at most 2, so a word has its parts back (`word-start`, `word-source`, `word-length`); the address goes by what is
+-- found in each list (`address-both`).
 -- Assumes nothing.
 use mathlib.Core.Path.{_≡_, refl, sym, ap, ap₂, _∙_}
 use mathlib.Core.List.{List, _++_}
@@ -17,14 +18,15 @@ use Rattle.cabinet_lookup.specs.declared.Found.the-variants.{At, Absent}
 use Rattle.cabinet_lookup.specs.Value.{held, firstValue, valueOf}
 use Rattle.cabinet_lookup.specs.Place.{span, bytesAt, firstAt, inBoth, placeOf}
 use Rattle.cabinet_lookup.specs.Address.{onward, inPlace, addressOf}
-use Rattle.cabinet_lookup.specs.Word.{fromSite, sourceBy, sourceOf, spanWord, placeWord, startIn, sourceIn, lengthIn}
+use Rattle.cabinet_lookup.specs.Word.{fromSite, sourceBy, sourceOf, spanWord, placeWord}
+use Rattle.cabinet_lookup.specs.Word.{startIn, sourceIn, lengthIn}
 use Rattle.cabinet_lookup.specs.Named.{addressNamed, Names, Named}
 use Rattle.cabinet_lookup.proofs.Laws.{Stands, stands, place-inside, Handed, source-few, word-is}
 use Rattle.cabinet_lookup.proofs.Small.{place-small}
 
--- ---- a word has its parts back
+-- ---- the word has its parts back
 
-module _ (a k n : ℕ) (f : k ≤ 2) (h : n < 0x10000) where
+module _ (a k n : ℕ) (few : k ≤ 2) (small : n < 0x10000) where
   start-back : startIn (a * 0x100000000 + k * 0x10000 + n) ≡ a
   start-back = omega arith
 
@@ -34,9 +36,29 @@ module _ (a k n : ℕ) (f : k ≤ 2) (h : n < 0x10000) where
   length-back : lengthIn (a * 0x100000000 + k * 0x10000 + n) ≡ n
   length-back = omega arith
 
+module _ (tag : ℕ) (site defaults : List ℕ) where
+  abbrev word : ℕ
+  word = placeWord tag site defaults
+
+  abbrev place : Span
+  place = placeOf tag site defaults
+
+  module _ (b : Bytes site) (d : Bytes defaults) (short : length site + length defaults < 0x100000000) where
+    of-word : (f : ℕ → ℕ) (n : ℕ) → f (spanWord (sourceOf tag site defaults) place) ≡ n → f word ≡ n
+    of-word f n e = ap f (sym (word-is tag site defaults short _ _ refl refl)) ∙ e
+
+    pub word-start : startIn word ≡ place .start
+    word-start = of-word startIn _ (start-back _ _ _ (source-few _ _) (place-small tag site defaults b d))
+
+    pub word-source : sourceIn word ≡ sourceOf tag site defaults
+    word-source = of-word sourceIn _ (source-back _ _ _ (source-few _ _) (place-small tag site defaults b d))
+
+    pub word-length : lengthIn word ≡ place .len
+    word-length = of-word lengthIn _ (length-back _ _ _ (source-few _ _) (place-small tag site defaults b d))
+
 -- ---- the address, by what is found in each list
 
--- an address by the source and the start
+-- an address by the source and the start, of a site's list of n bytes
 abbrev addressBy : ℕ → ℕ × ℕ → ℕ × ℕ → ℕ → ℕ → ℕ × ℕ
 addressBy n s d k a = if (eqb k fromSite) (onward a s) (onward (a - n) d)
 
@@ -55,53 +77,39 @@ module _ (site defaults : List ℕ) (s d : ℕ × ℕ) where
 -- ---- the part
 
 part-length : (l : List ℕ) (p : Span) → p .start + p .len ≤ length l → length (bytesAt l p) ≡ p .len
-part-length l p h = let e = length-take (p .len) (drop (p .start) l) in let f = length-drop (p .start) l in omega arith
+part-length l p h =
+    let e = length-take (p .len) (drop (p .start) l) in
+    let f = length-drop (p .start) l in
+    omega arith
 
 module _ (tag : ℕ) (site defaults part : RefT (List ℕ)) (b : Bytes (site .now)) (d : Bytes (defaults .now)) where
+  abbrev Part : Type 0
+  Part = Handed tag (site .now) (defaults .now) (part .now)
+
   -- a part with the bytes and the address of the tag's value is the one that the word names
-  named : part .now ≡ bytesAt (site .now ++ defaults .now) (placeOf tag (site .now) (defaults .now)) → part .ptr ≡ addressOf tag site defaults
-      → Named tag site defaults part
-  named e a short = record {
+  named : Part → part .ptr ≡ addressOf tag site defaults → Named tag site defaults part
+  named h a short =
+      let start = word-start tag (site .now) (defaults .now) b d short in
+      let source = word-source tag (site .now) (defaults .now) b d short in
+      let len = word-length tag (site .now) (defaults .now) b d short in
+      let i = place-inside (site .now) (defaults .now) tag (placeOf tag (site .now) (defaults .now)) refl in
+      let l = length-append (site .now) (defaults .now) in
+      record {
         source = source;
         address =
-            a ∙ address-both (site .now) (defaults .now) (site .ptr) (defaults .ptr) (firstAt tag (site .now)) (firstAt tag (defaults .now)) _ _
-                (stands tag (site .now)) (stands tag (defaults .now))
+            a
+            ∙ address-both (site .now) (defaults .now) _ _ _ _ _ _ (stands tag (site .now)) (stands tag (defaults .now))
             ∙ sym (ap₂ (addressBy (length (site .now)) (site .ptr) (defaults .ptr)) source start);
         len =
-            ap length e
-            ∙ part-length (site .now ++ defaults .now) p
-                (let i = place-inside (site .now) (defaults .now) tag p refl in let l = length-append (site .now) (defaults .now) in omega arith)
+            ap length (h .1)
+            ∙ part-length (site .now ++ defaults .now) (placeOf tag (site .now) (defaults .now)) (omega arith)
             ∙ sym len;
-        bytes = e ∙ sym (ap₂ (λ (m n : ℕ). bytesAt (site .now ++ defaults .now) (span m n)) start len);
+        bytes = h .1 ∙ sym (ap₂ (λ (m n : ℕ). bytesAt (site .now ++ defaults .now) (span m n)) start len);
       }
-    where
-      p : Span
-      p = placeOf tag (site .now) (defaults .now)
-
-      k : ℕ
-      k = sourceOf tag (site .now) (defaults .now)
-
-      few : k ≤ 2
-      few = source-few _ _
-
-      small : p .len < 0x10000
-      small = place-small tag (site .now) (defaults .now) b d
-
-      is : placeWord tag (site .now) (defaults .now) ≡ spanWord k p
-      is = sym (word-is tag (site .now) (defaults .now) short k p refl refl)
-
-      start : startIn (placeWord tag (site .now) (defaults .now)) ≡ p .start
-      start = ap startIn is ∙ start-back (p .start) k (p .len) few small
-
-      source : sourceIn (placeWord tag (site .now) (defaults .now)) ≡ k
-      source = ap sourceIn is ∙ source-back (p .start) k (p .len) few small
-
-      len : lengthIn (placeWord tag (site .now) (defaults .now)) ≡ p .len
-      len = ap lengthIn is ∙ length-back (p .start) k (p .len) few small
 
   -- the promises of a lookup, by the bytes and the address that it returns
-  pub returned : Handed tag (site .now) (defaults .now) (part .now) → part .ptr ≡ addressOf tag site defaults
+  pub returned : Part → part .ptr ≡ addressOf tag site defaults
       → (part .now ≡ valueOf tag (site .now) (defaults .now))
-        × ((part .now ≡ bytesAt (site .now ++ defaults .now) (placeOf tag (site .now) (defaults .now)))
-        × ((part .ptr ≡ addressOf tag site defaults) × Named tag site defaults part))
-  returned h a = (h .0, (h .1, (a, named (h .1) a)))
+      × ((part .now ≡ bytesAt (site .now ++ defaults .now) (placeOf tag (site .now) (defaults .now)))
+      × ((part .ptr ≡ addressOf tag site defaults) × Named tag site defaults part))
+  returned h a = (h .0, (h .1, (a, named h a)))

@@ -1,5 +1,5 @@
--- A value in a list of bytes has at most 65,535 of them, since a length has two bytes at most: of an object at the front, then of the
--- first object of a tag, by induction on the bytes.
+-- A value in a list of bytes has at most 65,535 of them, since a length has two bytes at most: of an object at the
+-- front, then of the first object of a tag, by induction on the bytes.
 -- Assumes nothing.
 use mathlib.Core.Path.{_≡_, refl}
 use mathlib.Core.Logic.{inl, inr}
@@ -40,7 +40,8 @@ abbrev SmallFront : Front → Type 0
 SmallFront front.Broken = Unit {0}
 SmallFront (front.Object h) = h .len < 0x10000
 
-with-length-small : (s : List ℕ) (t : Tag) → Bytes s → (x : LengthFront) → lengthAt (drop (t .size) s) ≡ x → SmallFront (withLength s t x)
+with-length-small : (s : List ℕ) (t : Tag) → Bytes s
+    → (x : LengthFront) → lengthAt (drop (t .size) s) ≡ x → SmallFront (withLength s t x)
 with-length-small s t b Unsized e = tt
 with-length-small s t b (Sized n) e =
     if-ind SmallFront _ _ _ (λ _. length-small (drop (t .size) s) n (bytes-drop (t .size) s b) e) (λ _. tt)
@@ -67,7 +68,8 @@ small-shifted n (At p) w = w
 found-small : (tag : ℕ) (s : List ℕ) → Bytes s → Small (firstAt tag s)
 found-small tag = shorter-first (λ s. Bytes s → Small (firstAt tag s)) step
   where
-    step : (s : List ℕ) → ((v : List ℕ) → length v < length s → Bytes v → Small (firstAt tag v)) → Bytes s → Small (firstAt tag s)
+    step : (s : List ℕ) → ((v : List ℕ) → length v < length s → Bytes v → Small (firstAt tag v))
+        → Bytes s → Small (firstAt tag s)
     step s ih b = go (primitiveOf s) refl
       where
         go : (x : Front) → primitiveOf s ≡ x → Small (firstAt tag s)
@@ -87,6 +89,8 @@ small-both n (At p) y f g = f
 small-both n Absent (At p) f g = g
 small-both n Absent Absent f g = omega arith
 
-pub place-small : (tag : ℕ) (site defaults : List ℕ) → Bytes site → Bytes defaults → placeOf tag site defaults .len < 0x10000
+pub place-small : (tag : ℕ) (site defaults : List ℕ) → Bytes site → Bytes defaults
+    → placeOf tag site defaults .len < 0x10000
 place-small tag site defaults b d =
-    small-both (length site) (firstAt tag site) (firstAt tag defaults) (found-small tag site b) (found-small tag defaults d)
+    small-both (length site) (firstAt tag site) (firstAt tag defaults)
+    (found-small tag site b) (found-small tag defaults d)

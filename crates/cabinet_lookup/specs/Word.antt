@@ -4,7 +4,7 @@ use mathlib.Core.List.{List}
 use mathlib.Core.Option.{Option, some, none}
 use Prim.Native.Nat.{ℕ, _+_, _*_, _/_, _%_}
 use lib.ListN.{length}
-use Rattle.basics.specs.Choice.{if_then_else_, _<?_}
+use Rattle.basics.specs.Choice.{if_then_else_, _≤?_}
 use Rattle.cabinet_lookup.specs.declared.Span.{Span}
 use Rattle.cabinet_lookup.specs.Value.{held, firstValue}
 use Rattle.cabinet_lookup.specs.Place.{placeOf}
@@ -42,9 +42,8 @@ spanWord source p = p .start * 0x100000000 + source * 0x10000 + p .len
 -- all ones where both lists together have 2^32 bytes or more
 unfoldable pub placeWord : ℕ → List ℕ → List ℕ → ℕ
 placeWord tag site defaults =
-    if length site + length defaults <? 0x100000000 then
-        spanWord (sourceOf tag site defaults) (placeOf tag site defaults)
-    else 0xFFFFFFFFFFFFFFFF
+    if 0x100000000 ≤? length site + length defaults then 0xFFFFFFFFFFFFFFFF
+    else spanWord (sourceOf tag site defaults) (placeOf tag site defaults)
 
 -- ---- the word as a host takes it apart
 
@@ -60,5 +59,6 @@ sourceIn w = w / 0x10000 % 4
 abbrev pub lengthIn : ℕ → ℕ
 lengthIn w = w % 0x10000
 
--- ---- what holds of it, proved in proofs/Laws
---   word-below    the word of a place is never all ones
+-- ---- what holds of it, proved in proofs/Laws and proofs/Named, where both lists together have fewer than 2^32 bytes
+--   word-below     the word of a place is never all ones
+--   word-start     the word's start, source and length are those of the tag's value (`word-source`, `word-length`)

@@ -18,8 +18,10 @@ pub const MOST: usize = 0xFFFFFFFF;
 // The word of longer lists.
 pub const TOO_LONG: u64 = 0xFFFFFFFFFFFFFFFF;
 
-// Bits 16 and 17 of a word where the site's list has the tag, and where the defaults have it; 0 where no list has it.
+// The source in bits 16 and 17 of a word, which is 0 where neither list has the tag: the site's list has it.
 const SITE: u64 = 0x10000;
+
+// The source in bits 16 and 17 of a word: the defaults have the tag, and the site's list does not.
 const DEFAULTS: u64 = 0x20000;
 
 // Where a value lies: its first byte, counted from 0, and how many there are.
@@ -56,8 +58,8 @@ pub fn lookup<'a>(site: &'a [u8], defaults: &'a [u8], tag: u32) -> &'a [u8]
     &defaults[0..0]
 }
 
-// Where that part lies, counted over the site's bytes and then the defaults': the start in bits 32 to 63, the list that has
-// the tag in bits 16 and 17, the length in bits 0 to 15.
+// Where that part lies, counted over the site's bytes and then the defaults': the start in bits 32 to 63, the source in
+// bits 16 and 17, the length in bits 0 to 15.
 pub fn place(site: &[u8], defaults: &[u8], tag: u32) -> u64
     ensures { λ r. ⌜ r ≡ placeWord tag (now (site .entry)) (now (defaults .entry)) ⌝ }
 {

@@ -40,7 +40,8 @@ At-first = lts.After-first (first-reads.Asked, first-reads.Learnt) reads.Pre rea
 
 bytes-at : (c : At-first) → let a = c .before .before .before .args in Bytes (a .site .now) × Bytes (a .defaults .now)
 bytes-at c =
-    (λ i. omega (arith, c .before .before .shared-slice-known .given i), λ i. omega (arith, c .before .shared-slice-known2 .given i))
+    let k = c .before in
+    (λ i. omega (arith, k .before .shared-slice-known .given i), λ i. omega (arith, k .shared-slice-known2 .given i))
 
 returns : tie.Need-returns
 returns c =
