@@ -162,7 +162,9 @@ fn looked_up_in_place() {
 #[test]
 fn source_of_the_value() {
     let site = [0x9C, 0x01, 0x00, 0x9A, 0x00];
-    let defaults = [0x9C, 0x01, 0x20, 0x9F, 0x1A, 0x01, 0x56, 0x9A, 0x00, 0x50, 0x00];
+    let defaults = [
+        0x9C, 0x01, 0x20, 0x9F, 0x1A, 0x01, 0x56, 0x9A, 0x00, 0x50, 0x00,
+    ];
     // A value of each list, empty ones at their ends, and a tag in neither.
     for (tag, word, found) in [
         (0x9C, 0x0000_0002_0001_0001, Found::Site(&site[2..3])),
@@ -172,7 +174,11 @@ fn source_of_the_value() {
             0x0000_000B_0002_0001,
             Found::Defaults(&defaults[6..7]),
         ),
-        (0x50, 0x0000_0010_0002_0000, Found::Defaults(&defaults[11..])),
+        (
+            0x50,
+            0x0000_0010_0002_0000,
+            Found::Defaults(&defaults[11..]),
+        ),
         (0x9F35, 0x0000_0005_0000_0000, Found::Nowhere),
     ] {
         assert_eq!(calls::find(&site, &defaults, tag), word, "{tag:X}");
@@ -188,5 +194,8 @@ fn source_of_the_value() {
     let mut long = vec![0x9F, 0x38, 0x82, 0xFF, 0xFF];
     long.resize(5 + 65_535, 0x5A);
     assert_eq!(find(&long, &site, 0x9F38), Some(Found::Site(&long[5..])));
-    assert_eq!(find(&site, &long, 0x9F38), Some(Found::Defaults(&long[5..])));
+    assert_eq!(
+        find(&site, &long, 0x9F38),
+        Some(Found::Defaults(&long[5..]))
+    );
 }
