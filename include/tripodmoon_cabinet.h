@@ -32,16 +32,24 @@ extern "C" {
 /* What cabinet_left gives where the bytes hold no state. */
 #define CABINET_NO_LEFT UINT64_MAX
 
-/* What cabinet_find gives for too many bytes; and another word taken apart: where the value starts, counted over the site's bytes and
- * then the defaults', and its length. */
+/* What cabinet_find gives for too many bytes; every other word is taken apart by the macros below. */
 #define CABINET_FIND_TOO_MANY UINT64_MAX
-#define CABINET_FOUND_START(found) ((size_t)((found) >> 32))
-#define CABINET_FOUND_LENGTH(found) ((size_t)((found) & 0xFFFFFFFFu))
 
-/* Where the value stands, as a pointer into one of the two slices. */
-#define CABINET_FOUND_VALUE(found, site, site_len, defaults)                     \
-    (CABINET_FOUND_START(found) < (site_len) ? (site) + CABINET_FOUND_START(found) \
-                                             : (defaults) + (CABINET_FOUND_START(found) - (site_len)))
+/* Which list has the tag: bits 16 and 17. */
+#define CABINET_SOURCE_NOWHERE 0u  /* neither list */
+#define CABINET_SOURCE_SITE 1u     /* the site's list */
+#define CABINET_SOURCE_DEFAULTS 2u /* the defaults, and not the site's list */
+#define CABINET_FOUND_SOURCE(found) ((unsigned)((found) >> 16 & 3u))
+
+/* Where the value starts, counted over the site's bytes and then the defaults': bits 32 to 63; and its length, at most 65,535: bits 0
+ * to 15. */
+#define CABINET_FOUND_START(found) ((size_t)((found) >> 32))
+#define CABINET_FOUND_LENGTH(found) ((size_t)((found) & 0xFFFFu))
+
+/* Where the value stands, as a pointer into the list that has the tag; nowhere, to the front of the defaults. */
+#define CABINET_FOUND_VALUE(found, site, site_len, defaults)                                  \
+    (CABINET_FOUND_SOURCE(found) == CABINET_SOURCE_SITE ? (site) + CABINET_FOUND_START(found) \
+                                                        : (defaults) + (CABINET_FOUND_START(found) - (site_len)))
 
 /* How many bytes to lend for a state. */
 size_t cabinet_size(void);
@@ -76,9 +84,9 @@ uint64_t cabinet_left(const uint8_t *state, size_t state_len);
 
 /* The value of a start object, by its tag as 0x9F1A: the site's where the site has one, an empty one too, else the defaults'. Each is a
  * list of whole primitive objects without padding; bytes from a broken object or a template on hold nothing, and the first of a tag
- * counts. Gives the value's start in bits 32 to 63 and its length in bits 0 to 31. A tag in neither has length 0 at the front of the
- * defaults, the same word as an empty value at the very end of the site. CABINET_FIND_TOO_MANY, and nothing is looked at, where both
- * have 2 to the 32 bytes or more together. */
+ * counts. Gives the value's start in bits 32 to 63, its source in bits 16 and 17, and its length in bits 0 to 15; bits 18 to 31 are 0.
+ * A tag in neither has source 0 and length 0 at the front of the defaults; an empty value has the source of its list.
+ * CABINET_FIND_TOO_MANY, and nothing is looked at, where both have 2 to the 32 bytes or more together. */
 uint64_t cabinet_find(const uint8_t *site, size_t site_len, const uint8_t *defaults, size_t defaults_len, uint32_t tag);
 
 #ifdef __cplusplus

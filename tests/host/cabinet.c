@@ -368,29 +368,62 @@ static void lent_bytes(void)
 /* ---- looking up a start object */
 #define DEFAULTS "\x9C\x01\x20\x9F\x1A\x02\x00\x56"
 
-/* The value starts there, counted over site and defaults, and has these bytes. */
-static int finds(const uint8_t *site, size_t n, const uint8_t *defaults, size_t m, uint32_t tag, size_t at, const uint8_t *value, size_t len)
+/* The word has this source; the value starts there, counted over site and defaults, and has these bytes, in the list of the source. */
+static int finds(const uint8_t *site, size_t n, const uint8_t *defaults, size_t m, uint32_t tag, unsigned source, size_t at,
+                 const uint8_t *value, size_t len)
 {
     uint64_t found = cabinet_find(site, n, defaults, m, tag);
-    return CABINET_FOUND_START(found) == at && CABINET_FOUND_LENGTH(found) == len &&
-           memcmp(CABINET_FOUND_VALUE(found, site, n, defaults), value, len) == 0;
+    const uint8_t *part = CABINET_FOUND_VALUE(found, site, n, defaults);
+    return found == ((uint64_t)at << 32 | (uint64_t)source << 16 | len) && CABINET_FOUND_SOURCE(found) == source &&
+           CABINET_FOUND_START(found) == at && CABINET_FOUND_LENGTH(found) == len &&
+           part == (source == CABINET_SOURCE_SITE ? site + at : defaults + (at - n)) && memcmp(part, value, len) == 0;
 }
+
+#define SITE CABINET_SOURCE_SITE
+#define MAKER CABINET_SOURCE_DEFAULTS
+#define NOWHERE CABINET_SOURCE_NOWHERE
 
 static void lookups(void)
 {
-    CHECK(finds(BYTES("\x9A\x03\x25\x06\x15\x9C\x01\x00"), BYTES(DEFAULTS), 0x9C, 7, BYTES("\x00")));
-    CHECK(finds(BYTES("\x9A\x03\x25\x06\x15\x9C\x01\x00"), BYTES(DEFAULTS), 0x9F1A, 8 + 6, BYTES("\x00\x56")));
-    CHECK(finds(BYTES("\x9A\x03\x25\x06\x15\x9C\x01\x00"), BYTES(DEFAULTS), 0x9F35, 8, BYTES("")));
-    CHECK(finds(BYTES("\x9C\x00"), BYTES(DEFAULTS), 0x9C, 2, BYTES(""))); /* there, and empty */
-    CHECK(finds(BYTES("\x9F\x1A\x02\x08\x40\x70\x00\x9C\x01\x01"), BYTES(DEFAULTS), 0x9C, 10 + 2, BYTES("\x20"))); /* behind a template */
-    CHECK(finds(BYTES("\x00\x9C\x01\x01"), BYTES(DEFAULTS), 0x9C, 4 + 2, BYTES("\x20")));
-    CHECK(finds(BYTES("\x9C\x01\x01\x9C\x01\x02"), BYTES(DEFAULTS), 0x9C, 2, BYTES("\x01"))); /* the first of two */
-    CHECK(finds(BYTES("\x9C\x01\x01\x9F\x02\x06\x00\x00"), BYTES("\x9C\x01\x20\x9F\x02\x06\x00\x00\x00\x00\x12\x34"), 0x9C, 2, BYTES("\x01")));
-    CHECK(finds(BYTES("\x9C\x01\x01\x9F\x02\x06\x00\x00"), BYTES("\x9C\x01\x20\x9F\x02\x06\x00\x00\x00\x00\x12\x34"), 0x9F02, 8 + 6,
+    CHECK(finds(BYTES("\x9A\x03\x25\x06\x15\x9C\x01\x00"), BYTES(DEFAULTS), 0x9C, SITE, 7, BYTES("\x00")));
+    CHECK(finds(BYTES("\x9A\x03\x25\x06\x15\x9C\x01\x00"), BYTES(DEFAULTS), 0x9F1A, MAKER, 8 + 6, BYTES("\x00\x56")));
+    CHECK(finds(BYTES("\x9A\x03\x25\x06\x15\x9C\x01\x00"), BYTES(DEFAULTS), 0x9F35, NOWHERE, 8, BYTES("")));
+    CHECK(finds(BYTES("\x9F\x1A\x02\x08\x40\x70\x00\x9C\x01\x01"), BYTES(DEFAULTS), 0x9C, MAKER, 10 + 2,
+                BYTES("\x20"))); /* behind a template */
+    CHECK(finds(BYTES("\x00\x9C\x01\x01"), BYTES(DEFAULTS), 0x9C, MAKER, 4 + 2, BYTES("\x20")));
+    CHECK(finds(BYTES("\x9C\x01\x01\x9C\x01\x02"), BYTES(DEFAULTS), 0x9C, SITE, 2, BYTES("\x01"))); /* the first of two */
+    CHECK(finds(BYTES("\x9C\x01\x01\x9F\x02\x06\x00\x00"), BYTES("\x9C\x01\x20\x9F\x02\x06\x00\x00\x00\x00\x12\x34"), 0x9C, SITE, 2,
+                BYTES("\x01")));
+    CHECK(finds(BYTES("\x9C\x01\x01\x9F\x02\x06\x00\x00"), BYTES("\x9C\x01\x20\x9F\x02\x06\x00\x00\x00\x00\x12\x34"), 0x9F02, MAKER, 8 + 6,
                 BYTES("\x00\x00\x00\x00\x12\x34")));
-    CHECK(finds(BYTES(""), BYTES(""), 0x9C, 0, BYTES("")) && finds(BYTES(""), BYTES(DEFAULTS), 0x9C, 2, BYTES("\x20")));
-    CHECK(finds(BYTES("\x70\x03\x9C\x01\x01"), BYTES("\x70\x00"), 0x70, 5, BYTES(""))); /* no template is found */
-    CHECK(finds(BYTES("\xDF\x01\x81\x01\x41\x9F\x7F\x82\x00\x01\x42"), BYTES(""), 0x9F7F, 10, BYTES("\x42"))); /* unknown tags, long lengths */
+    CHECK(finds(BYTES(""), BYTES(""), 0x9C, NOWHERE, 0, BYTES("")) && finds(BYTES(""), BYTES(DEFAULTS), 0x9C, MAKER, 2, BYTES("\x20")));
+    CHECK(finds(BYTES("\x70\x03\x9C\x01\x01"), BYTES("\x70\x00"), 0x70, NOWHERE, 5, BYTES(""))); /* no template is found */
+    CHECK(finds(BYTES("\xDF\x01\x81\x01\x41\x9F\x7F\x82\x00\x01\x42"), BYTES(""), 0x9F7F, SITE, 10,
+                BYTES("\x42"))); /* unknown tags, long lengths */
+}
+
+/* An empty value is there: at the end of either list its word differs from that of a tag in neither. */
+static void empty_values(void)
+{
+    CHECK(finds(BYTES("\x9C\x00"), BYTES(DEFAULTS), 0x9C, SITE, 2, BYTES("")));
+    CHECK(finds(BYTES("\x9C\x00"), BYTES(DEFAULTS), 0x9F35, NOWHERE, 2, BYTES("")));
+    CHECK(finds(BYTES("\x9C\x00"), BYTES("\x9F\x1A\x00"), 0x9F1A, MAKER, 2 + 3, BYTES("")));
+    CHECK(finds(BYTES("\x9C\x00"), BYTES(""), 0x9C, SITE, 2, BYTES("")) && finds(BYTES("\x9C\x00"), BYTES(""), 0x9A, NOWHERE, 2, BYTES("")));
+    CHECK(finds(BYTES(""), BYTES("\x9C\x00"), 0x9C, MAKER, 2, BYTES("")) && finds(BYTES(""), BYTES("\x9C\x00"), 0x9A, NOWHERE, 0, BYTES("")));
+    CHECK(finds(BYTES("\x9C\x00\x9A\x00"), BYTES(DEFAULTS), 0x9C, SITE, 2, BYTES(""))); /* in front of another */
+}
+
+/* The longest value, of 65,535 bytes, fills the length's bits and no others; in either list, with an empty value behind it. */
+static void long_values(void)
+{
+    static uint8_t list[5 + 65535 + 2] = {0x9F, 0x38, 0x82, 0xFF, 0xFF};
+    memset(list + 5, 0x5A, 65535);
+    list[5 + 65535] = 0x9C;
+    CHECK(finds(list, sizeof list, BYTES(DEFAULTS), 0x9F38, SITE, 5, list + 5, 65535));
+    CHECK(finds(BYTES(DEFAULTS), list, sizeof list, 0x9F38, MAKER, 8 + 5, list + 5, 65535));
+    CHECK(finds(list, sizeof list, BYTES(DEFAULTS), 0x9C, SITE, sizeof list, BYTES("")));
+    CHECK(finds(BYTES(""), list, sizeof list, 0x9C, MAKER, sizeof list, BYTES("")));
+    CHECK(finds(list, sizeof list, BYTES(DEFAULTS), 0x9A, NOWHERE, sizeof list, BYTES("")));
 }
 
 /* Bytes that are too many are not looked at, so that few behind a pointer do; and one less than too many, where the machine lends them. */
@@ -406,9 +439,9 @@ static void many_bytes(void)
     zeros = calloc(1, limit - 1); /* the first byte is no object */
     if (zeros == NULL)
         return;
-    CHECK(finds(zeros, limit - 1, few, 0, 0x9C, limit - 1, BYTES("")));
-    CHECK(finds(zeros, limit - 4, few, 3, 0x9C, limit - 2, BYTES("\x01")));
-    CHECK(finds(few, 3, zeros, limit - 4, 0x9C, 2, BYTES("\x01")));
+    CHECK(finds(zeros, limit - 1, few, 0, 0x9C, NOWHERE, limit - 1, BYTES("")));
+    CHECK(finds(zeros, limit - 4, few, 3, 0x9C, MAKER, limit - 2, BYTES("\x01")));
+    CHECK(finds(few, 3, zeros, limit - 4, 0x9C, SITE, 2, BYTES("\x01")));
     free(zeros);
 }
 
@@ -422,6 +455,8 @@ int main(void)
     beside_the_kernel();
     lent_bytes();
     lookups();
+    empty_values();
+    long_values();
     many_bytes();
     printf("ok\n");
     return 0;

@@ -36,6 +36,17 @@ static size_t put(uint8_t *start, size_t n, uint32_t tag, const uint8_t *value, 
     return n + len;
 }
 
+/* Prints how many of the wanted objects each list has; 1 where neither list has one of them, which is a fault of the set-up. */
+static int set_up(void)
+{
+    size_t i, count[4] = {0};
+    for (i = 0; i < sizeof wanted / sizeof *wanted; i++)
+        count[CABINET_FOUND_SOURCE(cabinet_find(site, sizeof site, defaults, sizeof defaults, wanted[i]))]++;
+    printf("start objects: %u of the site, %u of the defaults, %u nowhere\n", (unsigned)count[CABINET_SOURCE_SITE],
+           (unsigned)count[CABINET_SOURCE_DEFAULTS], (unsigned)count[CABINET_SOURCE_NOWHERE]);
+    return count[CABINET_SOURCE_NOWHERE] > 0;
+}
+
 /* The start bytes of a sale: what the lists have, the site's before the defaults', and the sale's own date, amount and numbers. */
 static size_t start_bytes(uint8_t *start, unsigned long cents, uint8_t number)
 {
@@ -100,7 +111,7 @@ int main(void)
     static uint8_t state[CABINET_STATE_SIZE], command[EMV_LEAST_BUFFER], card[258], start[EMV_MOST_TERMINAL], cryptogram[8];
     size_t i, n;
     uint64_t left;
-    if (cabinet_open(state, sizeof state, CAP) != 0)
+    if (set_up() != 0 || cabinet_open(state, sizeof state, CAP) != 0)
         return 1;
     print_amount("opened with ", cabinet_left(state, sizeof state));
     printf("\n");

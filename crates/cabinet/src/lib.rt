@@ -160,8 +160,10 @@ pub extern "C" fn cabinet_left(state: &[u8]) -> u64
     holding.amounts.left
 }
 
-// Where the value of a tag lies, counted over the site's bytes and then the defaults': the start in bits 32 to 63, the length in bits 0 to 31.
-// In neither list: no bytes behind the site's, as of an empty value that ends them. All ones where both have 2^32 bytes or more.
+// Where the value of a tag lies, counted over the site's bytes and then the defaults': the start in bits 32 to 63, the
+// source in bits 16 and 17, the length in bits 0 to 15. The source is 1 where the site's list has the tag, 2 where only
+// the defaults have it, and 0 where neither has it: length 0 at the front of the defaults. All ones where both have 2^32
+// bytes or more.
 #[no_mangle]
 pub extern "C" fn cabinet_find(site: &[u8], defaults: &[u8], tag: u32) -> u64
     ensures { λ r. ⌜ r ≡ placeWord tag (now (site .entry)) (now (defaults .entry)) ⌝ }

@@ -1,6 +1,7 @@
--- Worked lookups, by computation: each rule on both sides of its edge, as the value and as the word that a host gets (start, then length).
+-- Worked lookups, by computation: each rule on both sides of its edge, as the value and as the word that a host gets
+-- (start, source, length).
 -- Assumes nothing.
-use mathlib.Core.Path.{_≡_, refl}
+use mathlib.Core.Path.{_≡_, refl, ap}
 use mathlib.Core.List.{List, [], _∷_, map}
 use Prim.Native.Nat.{ℕ}
 use Rattle.basics.specs.Choice.{if}
@@ -12,7 +13,7 @@ use Rattle.tlv.specs.Object.{headerOf}
 use Rattle.tlv.specs.Primitives.{primitiveOf}
 use Rattle.cabinet_lookup.specs.Value.{held, firstValue, orElse, valueOf}
 use Rattle.cabinet_lookup.specs.Place.{shifted, firstAt, inBoth}
-use Rattle.cabinet_lookup.specs.Word.{placeWord}
+use Rattle.cabinet_lookup.specs.Word.{sourceBy, placeWord, startIn, sourceIn, lengthIn}
 
 -- ---- the site's list has 9A and 9C, the defaults 9C and 9F1A; 9F35 is in neither
 
@@ -30,8 +31,8 @@ unfolding held firstValue orElse recurse recurseBy primitiveOf headerOf tagAt ta
 values = refl
 
 -- at 7 of the site; at 6 of the defaults, which is 14 over both; no bytes at the front of the defaults
-places : map (λ t. placeWord t site defaults) tags ≡ 0x0000000700000001 ∷ 0x0000000E00000002 ∷ 0x0000000800000000 ∷ []
-unfolding placeWord firstAt shifted inBoth recurse recurseBy primitiveOf headerOf tagAt tagSize secondByte lengthAt firstByte isTemplate isPrivate numberFrom if
+places : map (λ t. placeWord t site defaults) tags ≡ 0x0000000700010001 ∷ 0x0000000E00020002 ∷ 0x0000000800000000 ∷ []
+unfolding placeWord sourceBy held firstValue firstAt shifted inBoth recurse recurseBy primitiveOf headerOf tagAt tagSize secondByte lengthAt firstByte isTemplate isPrivate numberFrom if
 places = refl
 
 -- ---- 9C by the site's list: empty there; behind a template; behind 00; twice; no list
@@ -50,9 +51,28 @@ unfolding held firstValue orElse recurse recurseBy primitiveOf headerOf tagAt ta
 site-values = refl
 
 site-places : map (λ s. placeWord 0x9C s defaults) sites
-    ≡ 0x0000000200000000 ∷ 0x0000000C00000001 ∷ 0x0000000600000001 ∷ 0x0000000200000001 ∷ 0x0000000200000001 ∷ []
-unfolding placeWord firstAt shifted inBoth recurse recurseBy primitiveOf headerOf tagAt tagSize secondByte lengthAt firstByte isTemplate isPrivate numberFrom if
+    ≡ 0x0000000200010000 ∷ 0x0000000C00020001 ∷ 0x0000000600020001 ∷ 0x0000000200010001 ∷ 0x0000000200020001 ∷ []
+unfolding placeWord sourceBy held firstValue firstAt shifted inBoth recurse recurseBy primitiveOf headerOf tagAt tagSize secondByte lengthAt firstByte isTemplate isPrivate numberFrom if
 site-places = refl
+
+-- ---- empty values at the end of each list, and a tag in neither: 9C, 9F1A and 9F35
+
+abbrev ends : List ℕ
+ends = map (λ t. placeWord t (0x9C ∷ 0x00 ∷ []) (0x9F ∷ 0x1A ∷ 0x00 ∷ [])) tags
+
+ends-words : ends ≡ 0x0000000200010000 ∷ 0x0000000500020000 ∷ 0x0000000200000000 ∷ []
+unfolding placeWord sourceBy held firstValue firstAt shifted inBoth recurse recurseBy primitiveOf headerOf tagAt tagSize secondByte lengthAt firstByte isTemplate isPrivate numberFrom if
+ends-words = refl
+
+-- a word taken apart
+word-apart : map startIn ends ≡ 2 ∷ 5 ∷ 2 ∷ []
+word-apart = ap (map startIn) ends-words
+
+sources-apart : map sourceIn ends ≡ 1 ∷ 2 ∷ 0 ∷ []
+sources-apart = ap (map sourceIn) ends-words
+
+lengths-apart : map lengthIn (0x0000000500010000 ∷ 0x000000050002FFFF ∷ []) ≡ 0 ∷ 65535 ∷ []
+lengths-apart = refl
 
 -- ---- a list that is cut: objects in front of the broken one still count, the broken one is that of the defaults
 
@@ -66,8 +86,8 @@ cut-values : map (λ t. valueOf t cut amounts) (0x9C ∷ 0x9F02 ∷ []) ≡ (0x0
 unfolding held firstValue orElse recurse recurseBy primitiveOf headerOf tagAt tagSize secondByte lengthAt firstByte isTemplate isPrivate numberFrom if
 cut-values = refl
 
-cut-places : map (λ t. placeWord t cut amounts) (0x9C ∷ 0x9F02 ∷ []) ≡ 0x0000000200000001 ∷ 0x0000000E00000006 ∷ []
-unfolding placeWord firstAt shifted inBoth recurse recurseBy primitiveOf headerOf tagAt tagSize secondByte lengthAt firstByte isTemplate isPrivate numberFrom if
+cut-places : map (λ t. placeWord t cut amounts) (0x9C ∷ 0x9F02 ∷ []) ≡ 0x0000000200010001 ∷ 0x0000000E00020006 ∷ []
+unfolding placeWord sourceBy held firstValue firstAt shifted inBoth recurse recurseBy primitiveOf headerOf tagAt tagSize secondByte lengthAt firstByte isTemplate isPrivate numberFrom if
 cut-places = refl
 
 -- ---- a template of the tag is no object; tags of three bytes and lengths behind 81; numbers that are no tag

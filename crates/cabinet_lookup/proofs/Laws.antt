@@ -1,7 +1,7 @@
 -- The laws of the lookup. An object is shorter than its list, so both recursions end by themselves (`held-unroll`, `place-unroll`) and go the
 -- same way: by induction on the bytes a place has the value of the first object (`stands`), in one list and then in both (`value-at`).
 -- Assumes nothing.
-use mathlib.Core.Path.{_≡_, refl, sym, ap, _∙_}
+use mathlib.Core.Path.{_≡_, refl, sym, ap, ap₂, _∙_}
 use mathlib.Core.Logic.{inl, inr}
 use mathlib.Core.List.{List, [], _∷_, _++_}
 use mathlib.Core.Option.{Option, some, none}
@@ -10,7 +10,7 @@ use native.Mathlib.Omega.{arith}
 use lib.Dec.{eqb}
 use lib.ListN.{length, take, drop, length-drop}
 use lib.Seq.{drop-drop, take-append-le, drop-append-le, drop-append-add}
-use borrow.Author.Tests.{eq-eqb, ne-eqb, lt-ltb, le-ltb}
+use borrow.Author.Tests.{eq-eqb, ne-eqb, le-leb, lt-leb}
 use Rattle.basics.specs.Choice.{if}
 use Rattle.basics.proofs.Laws.{if-yes, if-no}
 use Rattle.basics.proofs.Order.{equal-or-not}
@@ -29,7 +29,7 @@ use Rattle.cabinet_lookup.specs.declared.Found.the-variants.{At, Absent}
 use Rattle.cabinet_lookup.specs.Value.{fromFront, nextHeld, held, firstValue, orElse, valueOf}
 use Rattle.cabinet_lookup.specs.Place.{span, bytesAt, shifted, placeFront, nextPlace, firstAt, inBoth, placeOf}
 use Rattle.cabinet_lookup.specs.Address.{onward, inPlace}
-use Rattle.cabinet_lookup.specs.Word.{spanWord, placeWord}
+use Rattle.cabinet_lookup.specs.Word.{nowhere, fromSite, fromDefaults, sourceBy, sourceOf, spanWord, placeWord}
 
 -- ---- the recursions end by themselves
 
@@ -92,16 +92,17 @@ module _ (tag : ℕ) where
 -- ---- a place has the value of the first object
 
 -- what is found of a value
-abbrev Stands : List ℕ → Found → Option (List ℕ) → Type 0
+abbrev pub Stands : List ℕ → Found → Option (List ℕ) → Type 0
 Stands s Absent v = v ≡ none
 Stands s (At p) v = (p .start + p .len ≤ length s) × (v ≡ some (bytesAt s p))
 
 stands-behind : (s : List ℕ) (n : ℕ) (r : Found) (v : Option (List ℕ)) → n ≤ length s → Stands (drop n s) r v → Stands s (shifted n r) v
 unfolding shifted
 stands-behind s n Absent v h w = w
-stands-behind s n (At p) v h w =
-    (let l = length-drop n s in omega arith,
-    w .1 ∙ ap (λ (t : List ℕ). some (take (p .len) t)) (drop-drop (p .start) n s))
+stands-behind s n (At p) v h w = (
+  let l = length-drop n s in omega arith,
+  w .1 ∙ ap (λ (t : List ℕ). some (take (p .len) t)) (drop-drop (p .start) n s),
+)
 
 pub stands : (tag : ℕ) (s : List ℕ) → Stands s (firstAt tag s) (firstValue tag (held s))
 stands tag = shorter-first (λ s. Stands s (firstAt tag s) (firstValue tag (held s))) step
@@ -272,34 +273,66 @@ module _ (tag : ℕ) (bytes : List ℕ) where
                 ∙ ap (λ (s : List ℕ). shifted (at + h .start + h .len) (firstAt tag s)) rest;
           }
 
+-- ---- the source of the value, by what is found in each list
+
+module _ (tag : ℕ) (site defaults : List ℕ) where
+  source-by : (v w : Option (List ℕ)) → firstValue tag (held site) ≡ v → firstValue tag (held defaults) ≡ w
+      → sourceOf tag site defaults ≡ sourceBy v w
+  source-by v w e f = ap₂ sourceBy e f
+
+  pub source-site : (p : Span) → firstAt tag site ≡ At p → sourceOf tag site defaults ≡ fromSite
+  unfolding sourceBy
+  source-site p e = source-by _ _ ((rw e at (stands tag site)) .1) refl
+
+  module _ (n : firstAt tag site ≡ Absent) where
+    pub source-default : (p : Span) → firstAt tag defaults ≡ At p → sourceOf tag site defaults ≡ fromDefaults
+    unfolding sourceBy
+    source-default p e = source-by _ _ (rw n at (stands tag site)) ((rw e at (stands tag defaults)) .1)
+
+    pub source-neither : firstAt tag defaults ≡ Absent → sourceOf tag site defaults ≡ nowhere
+    unfolding sourceBy
+    source-neither e = source-by _ _ (rw n at (stands tag site)) (rw e at (stands tag defaults))
+
+-- a source is one of three
+pub source-few : (v w : Option (List ℕ)) → sourceBy v w ≤ 2
+unfolding sourceBy
+source-few (some v) w = omega arith
+source-few none (some w) = omega arith
+source-few none none = omega arith
+
 -- ---- the word
 
--- a place inside fewer than 2^32 bytes has a word of 64 bits
-pub word-fits : (a n : ℕ) → a + n < 0x100000000 → a * 0x100000000 + n < 0x10000000000000000
-word-fits a n h = omega arith
+-- a place inside fewer than 2^32 bytes has a word of 64 bits, whatever its source
+pub word-fits : (a k n : ℕ) → k ≤ 2 → a + n < 0x100000000 → a * 0x100000000 + k * 0x10000 + n < 0xFFFFFFFFFFFFFFFF
+word-fits a k n f h = omega arith
 
 module _ (tag : ℕ) (site defaults : List ℕ) where
   pub word-long : 0x100000000 ≤ length site + length defaults → placeWord tag site defaults ≡ 0xFFFFFFFFFFFFFFFF
   unfolding placeWord
-  word-long h = if-no _ _ (le-ltb (length site + length defaults) 0x100000000 h)
+  word-long h = if-yes _ _ (le-leb 0x100000000 (length site + length defaults) h)
 
   module _ (short : length site + length defaults < 0x100000000) where
-    word-is : (p : Span) → placeOf tag site defaults ≡ p → spanWord p ≡ placeWord tag site defaults
+    pub word-is : (k : ℕ) (p : Span) → sourceOf tag site defaults ≡ k → placeOf tag site defaults ≡ p
+        → spanWord k p ≡ placeWord tag site defaults
     unfolding placeWord
-    word-is p e = sym (if-yes _ _ (lt-ltb (length site + length defaults) 0x100000000 short) ∙ ap spanWord e)
+    word-is k p f e = sym (if-no _ _ (lt-leb 0x100000000 (length site + length defaults) short) ∙ ap₂ spanWord f e)
 
     -- the word of a place is never all ones
     pub word-below : placeWord tag site defaults < 0xFFFFFFFFFFFFFFFF
-    word-below = let i = place-inside site defaults tag _ refl in rw (← (word-is _ refl)) (omega arith)
+    word-below =
+        let i = place-inside site defaults tag _ refl in
+        rw (← (word-is _ _ refl refl)) (word-fits _ _ _ (source-few _ _) (omega arith))
 
-    pub word-site : (p : Span) → firstAt tag site ≡ At p → spanWord p ≡ placeWord tag site defaults
-    word-site p e = word-is p (site-place tag site defaults p e)
+    pub word-site : (p : Span) → firstAt tag site ≡ At p → spanWord fromSite p ≡ placeWord tag site defaults
+    word-site p e = word-is fromSite p (source-site tag site defaults p e) (site-place tag site defaults p e)
 
     module _ (n : firstAt tag site ≡ Absent) where
-      pub word-default : (p : Span) → firstAt tag defaults ≡ At p → spanWord (span (length site + p .start) (p .len)) ≡ placeWord tag site defaults
-      word-default p e = word-is _ (default-place tag site defaults n p e)
+      pub word-default : (p : Span) → firstAt tag defaults ≡ At p
+          → spanWord fromDefaults (span (length site + p .start) (p .len)) ≡ placeWord tag site defaults
+      word-default p e =
+          word-is fromDefaults _ (source-default tag site defaults n p e) (default-place tag site defaults n p e)
 
       pub word-neither : firstAt tag defaults ≡ Absent → length site * 0x100000000 ≡ placeWord tag site defaults
       word-neither e =
-          let z : length site * 0x100000000 ≡ length site * 0x100000000 + 0 = omega arith in
-          z ∙ word-is _ (no-place tag site defaults n e)
+          let z : length site * 0x100000000 ≡ length site * 0x100000000 + nowhere * 0x10000 + 0 = omega arith in
+          z ∙ word-is nowhere _ (source-neither tag site defaults n e) (no-place tag site defaults n e)

@@ -1,2 +1,4 @@
 pub mod Laws
+pub mod Small
+pub mod Named
 pub mod Examples

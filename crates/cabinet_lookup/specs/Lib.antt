@@ -2,3 +2,4 @@ pub mod Value
 pub mod Place
 pub mod Address
 pub mod Word
+pub mod Named

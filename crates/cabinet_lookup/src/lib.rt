@@ -1,7 +1,8 @@
 // The value of a tag in a site's list of start objects, or else in the maker's list of defaults.
 //
-// `lookup` hands back the value in place: a part of one of the two lists. `place` says where that part lies, as one word,
-// for a host in C. A list is read from its front up to the first bytes that are no whole primitive object.
+// `lookup` hands back the value in place: a part of one of the two lists. `place` says which list has the tag and where
+// that part lies, as one word, for a host in C. A list is read from its front up to the first bytes that are no whole
+// primitive object.
 use tlv::Front;
 ghost use mathlib.Core.Path.{_≡_};
 ghost use mathlib.Core.List.{_++_};
@@ -9,12 +10,19 @@ ghost use Rattle.cabinet_lookup.specs.Value.{valueOf};
 ghost use Rattle.cabinet_lookup.specs.Place.{firstAt, placeOf, bytesAt};
 ghost use Rattle.cabinet_lookup.specs.Address.{addressOf};
 ghost use Rattle.cabinet_lookup.specs.Word.{placeWord};
+ghost use Rattle.cabinet_lookup.specs.Named.{Named};
 
 // The most bytes that both lists together may have for a place to be a word.
 pub const MOST: usize = 0xFFFFFFFF;
 
 // The word of longer lists.
 pub const TOO_LONG: u64 = 0xFFFFFFFFFFFFFFFF;
+
+// The source in bits 16 and 17 of a word, which is 0 where neither list has the tag: the site's list has it.
+const SITE: u64 = 0x10000;
+
+// The source in bits 16 and 17 of a word: the defaults have the tag, and the site's list does not.
+const DEFAULTS: u64 = 0x20000;
 
 // Where a value lies: its first byte, counted from 0, and how many there are.
 pub struct Span {
@@ -33,6 +41,7 @@ pub fn lookup<'a>(site: &'a [u8], defaults: &'a [u8], tag: u32) -> &'a [u8]
     ensures value { λ r. ⌜ now r ≡ valueOf tag (now (site .entry)) (now (defaults .entry)) ⌝ }
     ensures place { λ r. ⌜ now r ≡ bytesAt (now (site .entry) ++ now (defaults .entry)) (placeOf tag (now (site .entry)) (now (defaults .entry))) ⌝ }
     ensures in_place { λ r. ⌜ r .ptr ≡ addressOf tag (site .entry) (defaults .entry) ⌝ }
+    ensures named { λ r. ⌜ Named tag (site .entry) (defaults .entry) r ⌝ }
 {
     let own = first(site, tag);
     if let Found::At(p) = own {
@@ -49,8 +58,8 @@ pub fn lookup<'a>(site: &'a [u8], defaults: &'a [u8], tag: u32) -> &'a [u8]
     &defaults[0..0]
 }
 
-// Where that part lies, counted over the site's bytes and then the defaults': the start in bits 32 to 63, the length in
-// bits 0 to 31.
+// Where that part lies, counted over the site's bytes and then the defaults': the start in bits 32 to 63, the source in
+// bits 16 and 17, the length in bits 0 to 15.
 pub fn place(site: &[u8], defaults: &[u8], tag: u32) -> u64
     ensures { λ r. ⌜ r ≡ placeWord tag (now (site .entry)) (now (defaults .entry)) ⌝ }
 {
@@ -63,12 +72,12 @@ pub fn place(site: &[u8], defaults: &[u8], tag: u32) -> u64
     }
     let own = first(site, tag);
     if let Found::At(p) = own {
-        return p.start as u64 * 0x100000000 + p.len as u64;
+        return p.start as u64 * 0x100000000 + SITE + p.len as u64;
     }
     let default = first(defaults, tag);
     if let Found::At(p) = default {
         let start = count + p.start;
-        return start as u64 * 0x100000000 + p.len as u64;
+        return start as u64 * 0x100000000 + DEFAULTS + p.len as u64;
     }
     count as u64 * 0x100000000
 }

@@ -5,16 +5,42 @@ use crate::rng::Rng;
 use crate::step::Hex;
 use crate::{damage, never};
 use model::dictionary::{Object, REQUIRED_AT_START, ROWS};
-use model::lookup::{self, lookup};
+use model::lookup::{self, lookup, Source};
 use model::tlv;
 
-/// The side that is compared with the model: the library's word of one lookup.
+/// The side that is compared with the model: the library's word of one lookup, and what the wrapper makes of it.
 #[cfg(feature = "cabinet")]
-use tripodmoon::cabinet::calls::find as other;
+mod other {
+    use model::lookup::Source;
+    use tripodmoon::cabinet::{self, Found};
+
+    pub use tripodmoon::cabinet::calls::find;
+
+    /// The source and the part that the wrapper gives, if it gives any.
+    pub fn part<'a>(site: &'a [u8], defaults: &'a [u8], tag: u32) -> Option<(Source, &'a [u8])> {
+        let (source, value) = match cabinet::find(site, defaults, tag)? {
+            Found::Site(value) => (Source::Site, Some(value)),
+            Found::Defaults(value) => (Source::Defaults, Some(value)),
+            Found::Nowhere => (Source::Nowhere, None),
+        };
+        let part = cabinet::lookup(site, defaults, tag)?;
+        let agrees = value.map_or(true, |value| super::is_same(value, part));
+        agrees.then_some((source, part))
+    }
+}
 
 /// Without the library the model is compared with itself.
 #[cfg(not(feature = "cabinet"))]
-use model::lookup::find as other;
+mod other {
+    use model::lookup::{self, Source};
+
+    pub use model::lookup::find;
+
+    pub fn part<'a>(site: &'a [u8], defaults: &'a [u8], tag: u32) -> Option<(Source, &'a [u8])> {
+        let source = lookup::source(site, defaults, tag);
+        Some((source, lookup::lookup(site, defaults, tag)))
+    }
+}
 
 /// What some lookups reached.
 #[derive(Clone, Debug, Default, PartialEq, Eq)]
@@ -37,8 +63,8 @@ pub struct Reached {
     pub templates: u64,
     /// Values found of 0, 1 to 127, 128 to 255 and more bytes.
     pub lengths: [u64; 4],
-    /// Empty values at the very end of the site.
-    pub empty_at_end: u64,
+    /// Empty values at the very end of the site, and of the defaults; tags in neither where the site ends with an empty value.
+    pub empty_at_end: [u64; 3],
     /// No site, no defaults, neither.
     pub no_bytes: [u64; 3],
     /// Starts above 65,535.
@@ -58,7 +84,7 @@ impl Reached {
         need(&self.tags, "tag");
         need(&[self.templates], "template");
         need(&self.lengths, "length");
-        need(&[self.empty_at_end], "empty at the end");
+        need(&self.empty_at_end, "empty at the end");
         need(&self.no_bytes, "no bytes");
         need(&[self.far], "far");
         missing
@@ -101,7 +127,12 @@ impl Reached {
         self.no_bytes[1] += u64::from(defaults.is_empty());
         self.no_bytes[2] += u64::from(site.is_empty() && defaults.is_empty());
         let start = (lookup::find(site, defaults, *tag) >> 32) as usize;
-        self.empty_at_end += u64::from(found == Some(0) && start == site.len());
+        let at_end = match found {
+            Some(0) => start == site.len(),
+            Some(_) => start == site.len() + defaults.len(),
+            None => ends_empty(site),
+        };
+        self.empty_at_end[found.unwrap_or(2)] += u64::from(at_end);
         self.far += u64::from(start > 65_535);
     }
 }
@@ -160,6 +191,26 @@ impl Walk {
     }
 }
 
+/// Whether a list of whole primitive objects ends with an empty value.
+fn ends_empty(list: &[u8]) -> bool {
+    let mut rest = list;
+    while let Some((found, value, behind)) = tlv::split_object(rest) {
+        if found.is_template() {
+            return false;
+        }
+        if behind.is_empty() {
+            return value.is_empty();
+        }
+        rest = behind;
+    }
+    false
+}
+
+/// Whether two parts are one: the same bytes in the same place.
+fn is_same(part: &[u8], other: &[u8]) -> bool {
+    part.as_ptr() == other.as_ptr() && part.len() == other.len()
+}
+
 /// Whether some bytes begin with a whole object of a tag.
 fn is_object(bytes: &[u8], tag: u32) -> bool {
     tlv::split_object(bytes).is_some_and(|(found, _, _)| found.number == tag)
@@ -194,18 +245,29 @@ impl Drawn {
         }
     }
 
-    /// Looks the tag up on both sides; an error says what differs, or that another part is at the place.
+    /// Looks the tag up on both sides; an error says what differs, or that the word or the other side names another part.
     fn compare(&self) -> Result<(), String> {
-        let word = lookup::find(&self.site, &self.defaults, self.tag);
-        let word_other = other(&self.site, &self.defaults, self.tag);
+        let (site, defaults) = (&self.site[..], &self.defaults[..]);
+        let word = lookup::find(site, defaults, self.tag);
+        let word_other = other::find(site, defaults, self.tag);
         if word != word_other {
             return Err(format!("model {word:016X}, other {word_other:016X}"));
         }
-        let (start, length) = ((word >> 32) as usize, word as u32 as usize);
-        let joined = [&self.site[..], &self.defaults].concat();
-        let part = lookup(&self.site, &self.defaults, self.tag);
-        if joined.get(start..start + length) != Some(part) {
+        let (start, length) = ((word >> 32) as usize, word as u16 as usize);
+        let (source, list, at) = match word >> 16 & 0xFFFF {
+            0 => (Source::Nowhere, defaults, start.checked_sub(site.len())),
+            1 => (Source::Site, site, Some(start)),
+            2 => (Source::Defaults, defaults, start.checked_sub(site.len())),
+            _ => return Err(format!("{word:016X} has no source")),
+        };
+        let part = lookup(site, defaults, self.tag);
+        let named = at.and_then(|at| list.get(at..at + length));
+        if !named.is_some_and(|named| is_same(named, part)) {
             return Err(format!("{word:016X} is not where the value stands"));
+        }
+        let of_other = other::part(site, defaults, self.tag);
+        if !of_other.is_some_and(|(from, other)| from == source && is_same(other, part)) {
+            return Err(format!("{word:016X}: the other side has {of_other:?}"));
         }
         Ok(())
     }

@@ -20,8 +20,28 @@ pub fn lookup<'a>(site: &'a [u8], defaults: &'a [u8], tag: u32) -> &'a [u8] {
     }
 }
 
-/// Where that value lies, as a word: its start, counted over the site's bytes and then the defaults', in bits 32 to 63, and its
-/// length in bits 0 to 31. A tag in neither has length 0 at the front of the defaults.
+/// Which list has a tag: the number that a word has for it.
+#[derive(Clone, Copy, Debug, PartialEq, Eq)]
+pub enum Source {
+    /// Neither list.
+    Nowhere = 0,
+    /// The site's list.
+    Site = 1,
+    /// The defaults, and not the site's list.
+    Defaults = 2,
+}
+
+/// Which list a value comes out of: the site's if the tag is there, though its value be empty, else the defaults.
+pub fn source(site: &[u8], defaults: &[u8], tag: u32) -> Source {
+    match (place(site, tag), place(defaults, tag)) {
+        (Some(_), _) => Source::Site,
+        (None, Some(_)) => Source::Defaults,
+        (None, None) => Source::Nowhere,
+    }
+}
+
+/// Where that value lies, as a word: its start, counted over the site's bytes and then the defaults', in bits 32 to 63, its source
+/// in bits 16 and 17, and its length in bits 0 to 15. A tag in neither has length 0 at the front of the defaults.
 pub fn find(site: &[u8], defaults: &[u8], tag: u32) -> u64 {
     if too_many(site.len(), defaults.len()) {
         return TOO_MANY;
@@ -30,7 +50,8 @@ pub fn find(site: &[u8], defaults: &[u8], tag: u32) -> u64 {
     let place = place(site, tag)
         .or_else(|| place(defaults, tag).map(in_defaults))
         .unwrap_or(site.len()..site.len());
-    (place.start as u64) << 32 | place.len() as u64
+    let source = source(site, defaults, tag) as u64;
+    (place.start as u64) << 32 | source << 16 | place.len() as u64
 }
 
 /// Whether so many bytes of a site and of defaults are not looked at: 2 to the 32 or more together.

@@ -3,76 +3,82 @@
 mod common;
 
 use common::{hex, Draw};
-use model::lookup::{find, lookup, too_many};
+use model::lookup::Source::{self, Defaults, Nowhere, Site};
+use model::lookup::{find, lookup, source, too_many};
 
 const SITE: &str = "9A03250615 9C0100";
 const DEFAULTS: &str = "9C0120 9F1A020056";
 
 /// The word of a place.
-fn word(start: u64, length: u64) -> u64 {
-    start << 32 | length
+fn word(start: u64, source: Source, length: u64) -> u64 {
+    let source = match source {
+        Nowhere => 0,
+        Site => 0x1_0000,
+        Defaults => 0x2_0000,
+    };
+    start * 0x1_0000_0000 + source + length
 }
 
-/// Looks a tag up: where its value lies in site and defaults joined, and whether in the site. The bytes must be in place.
+/// Looks a tag up: the word of its value, and the value. The part must be in place, in the list that the word names.
 fn found(site: &str, defaults: &str, tag: u32) -> (u64, String) {
     let (site, defaults) = (hex(site), hex(defaults));
     let part = lookup(&site, &defaults, tag);
     let place = find(&site, &defaults, tag);
-    let (start, length) = ((place >> 32) as usize, place as u32 as usize);
-    let joined = [&site[..], &defaults].concat();
-    assert_eq!(part, &joined[start..start + length]);
-    let home = match start.checked_sub(site.len()) {
-        // A value at the very end of the site starts where the defaults do.
-        Some(at) if !(length == 0 && is_inside(part, &site)) => defaults[at..].as_ptr(),
-        _ => site[start..].as_ptr(),
+    let (start, length) = ((place >> 32) as usize, place as u16 as usize);
+    assert_eq!(place >> 18 & 0x3FFF, 0, "bits 18 to 31");
+    let home = match place >> 16 & 3 {
+        1 => &site[start..],
+        _ => &defaults[start - site.len()..],
     };
-    assert_eq!(part.as_ptr(), home);
+    assert_eq!(part, &home[..length]);
+    assert_eq!(part.as_ptr(), home.as_ptr());
     (
         place,
         part.iter().map(|byte| format!("{byte:02X}")).collect(),
     )
 }
 
-/// Whether a part starts in some bytes, or at their end.
-fn is_inside(part: &[u8], bytes: &[u8]) -> bool {
-    bytes.as_ptr_range().contains(&part.as_ptr()) || bytes.as_ptr_range().end == part.as_ptr()
-}
-
 #[test]
 fn examples() {
     for (site, defaults, tag, place, value) in [
-        (SITE, DEFAULTS, 0x9C, word(7, 1), "00"),
-        (SITE, DEFAULTS, 0x9F1A, word(8 + 6, 2), "0056"),
-        (SITE, DEFAULTS, 0x9F35, word(8, 0), ""),
-        ("9C00", DEFAULTS, 0x9C, word(2, 0), ""),
+        (SITE, DEFAULTS, 0x9C, word(7, Site, 1), "00"),
+        (SITE, DEFAULTS, 0x9F1A, word(8 + 6, Defaults, 2), "0056"),
+        (SITE, DEFAULTS, 0x9F35, word(8, Nowhere, 0), ""),
+        // Empty values at the end of each list, and a tag in neither.
+        ("9C00", DEFAULTS, 0x9C, word(2, Site, 0), ""),
+        ("9C00", "9F1A00", 0x9F1A, word(2 + 3, Defaults, 0), ""),
+        ("9C00", "9F1A00", 0x9F35, word(2, Nowhere, 0), ""),
+        ("", "9C00", 0x9C, word(2, Defaults, 0), ""),
+        ("9C00", "", 0x9C, word(2, Site, 0), ""),
+        ("9C00", "", 0x9F35, word(2, Nowhere, 0), ""),
         (
             "9F1A020840 7000 9C0101",
             DEFAULTS,
             0x9C,
-            word(10 + 2, 1),
+            word(10 + 2, Defaults, 1),
             "20",
         ),
         (
             "9F1A020840 7000 9C0101",
             DEFAULTS,
             0x9F1A,
-            word(3, 2),
+            word(3, Site, 2),
             "0840",
         ),
-        ("00 9C0101", DEFAULTS, 0x9C, word(4 + 2, 1), "20"),
-        ("9C0101 9C0102", DEFAULTS, 0x9C, word(2, 1), "01"),
+        ("00 9C0101", DEFAULTS, 0x9C, word(4 + 2, Defaults, 1), "20"),
+        ("9C0101 9C0102", DEFAULTS, 0x9C, word(2, Site, 1), "01"),
         (
             "9C0101 9F02060000",
             "9C0120 9F0206000000001234",
             0x9C,
-            word(2, 1),
+            word(2, Site, 1),
             "01",
         ),
         (
             "9C0101 9F02060000",
             "9C0120 9F0206000000001234",
             0x9F02,
-            word(8 + 6, 6),
+            word(8 + 6, Defaults, 6),
             "000000001234",
         ),
     ] {
@@ -82,7 +88,7 @@ fn examples() {
     // The empty part is the site's where the site has the tag, and the defaults' where neither has it.
     let (site, defaults) = (hex("9C00 50"), hex(DEFAULTS));
     assert_eq!(lookup(&site, &defaults, 0x9C).as_ptr(), site[2..].as_ptr());
-    assert_eq!(find(&site, &defaults, 0x9C), word(2, 0));
+    assert_eq!(find(&site, &defaults, 0x9C), word(2, Site, 0));
     assert_eq!(lookup(&site, &defaults, 0x9A).as_ptr(), defaults.as_ptr());
 }
 
@@ -116,18 +122,21 @@ fn what_ends_the_walk() {
         assert_eq!(found("51 01 00", site, 0x50).1, alone, "{site}");
     }
     for tag in [0x70, 0xE1, 0x00, 0x5000, 0x0050_0000, 0xFFFF_FFFF] {
-        let nothing = (word(5, 0), String::new());
+        let nothing = (word(5, Nowhere, 0), String::new());
         assert_eq!(found("E1 00 50 01 41", "70 00", tag), nothing, "{tag:X}");
     }
-    assert_eq!(found("", "", 0x50), (word(0, 0), String::new()));
+    assert_eq!(found("", "", 0x50), (word(0, Nowhere, 0), String::new()));
 }
 
 #[test]
 fn long_values() {
     let long = [&hex("9F38 82 FFFF")[..], &[0x5A; 65_535], &hex("50 01 41")].concat();
-    assert_eq!(find(&long, &[], 0x9F38), word(5, 65_535));
-    assert_eq!(find(&[], &long, 0x50), word(5 + 65_535 + 2, 1));
-    assert_eq!(find(&long, &long, 0x51), word(long.len() as u64, 0));
+    assert_eq!(find(&long, &[], 0x9F38), word(5, Site, 65_535));
+    assert_eq!(find(&[], &long, 0x9F38), word(5, Defaults, 65_535));
+    let behind = word(5 + 65_535 + 2, Defaults, 1);
+    assert_eq!(find(&[], &long, 0x50), behind);
+    let nowhere = word(long.len() as u64, Nowhere, 0);
+    assert_eq!(find(&long, &long, 0x51), nowhere);
 }
 
 #[test]
@@ -190,11 +199,14 @@ fn drawn_lists() {
         let (_, value) = found(&site, &defaults, tag);
         let of_site = first(&hex(&site), tag);
         let of_defaults = first(&hex(&defaults), tag);
-        seen[match (&of_site, &of_defaults) {
-            (Some(_), _) => 0,
-            (None, Some(_)) => 1,
-            (None, None) => 2,
-        }] += 1;
+        let expected = match (&of_site, &of_defaults) {
+            (Some(_), _) => Site,
+            (None, Some(_)) => Defaults,
+            (None, None) => Nowhere,
+        };
+        let of = source(&hex(&site), &hex(&defaults), tag);
+        assert_eq!(of, expected, "{site} | {defaults} | {tag:X}");
+        seen[expected as usize] += 1;
         let expected = of_site.or(of_defaults).unwrap_or_default();
         assert_eq!(hex(&value), expected, "{site} | {defaults} | {tag:X}");
     }

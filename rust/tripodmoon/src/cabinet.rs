@@ -4,7 +4,7 @@
 //! A [`Cabinet`] owns the bytes of one state. The start objects come out of two lists, the site's and the maker's defaults:
 //!
 //! ```
-//! use tripodmoon::cabinet::{lookup, Cabinet};
+//! use tripodmoon::cabinet::{find, lookup, Cabinet, Found};
 //! use tripodmoon::{Reply, COMMAND_SIZE};
 //!
 //! let mut cabinet = Cabinet::open(1000).unwrap();
@@ -18,6 +18,9 @@
 //! assert_eq!(lookup(&site, &defaults, 0x9C), Some(&[0x00][..]));
 //! assert_eq!(lookup(&site, &defaults, 0x9F1A), Some(&[0x00, 0x56][..]));
 //! assert_eq!(lookup(&site, &defaults, 0x9F35), Some(&[][..]));
+//! // The same, with the list that has the tag.
+//! assert_eq!(find(&site, &defaults, 0x9C), Some(Found::Site(&[0x00])));
+//! assert_eq!(find(&site, &defaults, 0x9F35), Some(Found::Nowhere));
 //! ```
 //!
 //! A refused call changes neither state nor buffer. An offline approval spends what the start set aside; every other end gives
@@ -46,6 +49,15 @@ pub mod calls {
 
     /// What [`find`] gives for too many bytes.
     pub const TOO_MANY: u64 = u64::MAX;
+
+    /// The source where neither list has the tag: bits 16 and 17 of what [`find`] gives.
+    pub const NOWHERE: u64 = 0;
+
+    /// The source where the site's list has the tag.
+    pub const SITE: u64 = 1;
+
+    /// The source where the defaults have the tag and the site's list does not.
+    pub const DEFAULTS: u64 = 2;
 
     extern "C" {
         fn cabinet_size() -> usize;
@@ -162,7 +174,9 @@ pub mod calls {
         unsafe { cabinet_left(state.as_ptr(), state.len()) }
     }
 
-    /// The value of a start object: its start, counted over the site's bytes and then the defaults', and its length; or [`TOO_MANY`].
+    /// The value of a start object: its start, counted over the site's bytes and then the defaults', in bits 32 to 63, its
+    /// source in bits 16 and 17 and its length in bits 0 to 15; or [`TOO_MANY`]. The source is [`NOWHERE`], [`SITE`] or
+    /// [`DEFAULTS`].
     pub fn find(site: &[u8], defaults: &[u8], tag: u32) -> u64 {
         // SAFETY: each pointer and length are those of one slice, which the call only reads.
         unsafe {
@@ -177,17 +191,39 @@ pub mod calls {
     }
 }
 
-/// The value of a start object, in place: the site's if the site has one, an empty one too, else that of the defaults. A tag in
-/// neither gives an empty part. None where both have 2 to the 32 bytes or more together, which are not looked at.
-pub fn lookup<'a>(site: &'a [u8], defaults: &'a [u8], tag: u32) -> Option<&'a [u8]> {
+/// What a lookup finds: the list that has the tag, with the value in place, which may be empty.
+#[derive(Clone, Copy, Debug, PartialEq, Eq)]
+pub enum Found<'a> {
+    /// The site's list has the tag.
+    Site(&'a [u8]),
+    /// The defaults have the tag, and the site's list does not.
+    Defaults(&'a [u8]),
+    /// Neither list has the tag.
+    Nowhere,
+}
+
+/// The value of a start object and the list that has it: the site's if the site has one, an empty one too, else that of the
+/// defaults. None where both have 2 to the 32 bytes or more together, which are not looked at.
+pub fn find<'a>(site: &'a [u8], defaults: &'a [u8], tag: u32) -> Option<Found<'a>> {
     let word = calls::find(site, defaults, tag);
     if word == calls::TOO_MANY {
         return None;
     }
-    let [start, length] = [word >> 32, word & 0xFFFF_FFFF].map(|half| half as usize);
-    Some(match start.checked_sub(site.len()) {
-        None => &site[start..start + length],
-        Some(start) => &defaults[start..start + length],
+    let [start, length] = [word >> 32, word & 0xFFFF].map(|part| part as usize);
+    Some(match word >> 16 & 3 {
+        calls::SITE => Found::Site(&site[start..][..length]),
+        calls::DEFAULTS => Found::Defaults(&defaults[start - site.len()..][..length]),
+        _ => Found::Nowhere,
+    })
+}
+
+/// The value of a start object, in place: the site's if the site has one, an empty one too, else that of the defaults. A tag in
+/// neither gives an empty part of the defaults; [`find`] tells it from an empty value. None where both have 2 to the 32 bytes or
+/// more together, which are not looked at.
+pub fn lookup<'a>(site: &'a [u8], defaults: &'a [u8], tag: u32) -> Option<&'a [u8]> {
+    Some(match find(site, defaults, tag)? {
+        Found::Site(value) | Found::Defaults(value) => value,
+        Found::Nowhere => &defaults[..0],
     })
 }
 

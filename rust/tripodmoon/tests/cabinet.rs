@@ -1,7 +1,8 @@
 //! The wrapper of the vending cabinet over the linked library.
 #![cfg(feature = "cabinet")]
 
-use tripodmoon::cabinet::{calls, lookup, Cabinet, AMOUNTS_SIZE, MOST_CAP, STATE_SIZE};
+use tripodmoon::cabinet::{calls, find, lookup, Cabinet, Found};
+use tripodmoon::cabinet::{AMOUNTS_SIZE, MOST_CAP, STATE_SIZE};
 use tripodmoon::{refusal_text, Method, Object, Outcome, Reply, COMMAND_SIZE, SESSION_SIZE};
 
 /// The objects that a start must bring, but the amount.
@@ -156,4 +157,45 @@ fn looked_up_in_place() {
     );
     assert_eq!(found(&[], 0x9C), Some(&[0x20][..]));
     assert_eq!(lookup(&[], &[], 0x9C), Some(&[][..]));
+}
+
+#[test]
+fn source_of_the_value() {
+    let site = [0x9C, 0x01, 0x00, 0x9A, 0x00];
+    let defaults = [
+        0x9C, 0x01, 0x20, 0x9F, 0x1A, 0x01, 0x56, 0x9A, 0x00, 0x50, 0x00,
+    ];
+    // A value of each list, empty ones at their ends, and a tag in neither.
+    for (tag, word, found) in [
+        (0x9C, 0x0000_0002_0001_0001, Found::Site(&site[2..3])),
+        (0x9A, 0x0000_0005_0001_0000, Found::Site(&site[5..])),
+        (
+            0x9F1A,
+            0x0000_000B_0002_0001,
+            Found::Defaults(&defaults[6..7]),
+        ),
+        (
+            0x50,
+            0x0000_0010_0002_0000,
+            Found::Defaults(&defaults[11..]),
+        ),
+        (0x9F35, 0x0000_0005_0000_0000, Found::Nowhere),
+    ] {
+        assert_eq!(calls::find(&site, &defaults, tag), word, "{tag:X}");
+        assert_eq!(find(&site, &defaults, tag), Some(found), "{tag:X}");
+        let part = lookup(&site, &defaults, tag).expect("few bytes");
+        let home = match found {
+            Found::Site(value) | Found::Defaults(value) => value.as_ptr(),
+            Found::Nowhere => defaults.as_ptr(),
+        };
+        assert_eq!(part.as_ptr(), home, "{tag:X}");
+    }
+    // The longest value fills the bits of the length and no others.
+    let mut long = vec![0x9F, 0x38, 0x82, 0xFF, 0xFF];
+    long.resize(5 + 65_535, 0x5A);
+    assert_eq!(find(&long, &site, 0x9F38), Some(Found::Site(&long[5..])));
+    assert_eq!(
+        find(&site, &long, 0x9F38),
+        Some(Found::Defaults(&long[5..]))
+    );
 }

@@ -1,12 +1,14 @@
 -- `cabinet_lookup::lookup` meets its contract: by what `first` finds in each list, the bytes (`site-part`, `default-part`, `no-part`)
--- and the address (`site-address`, `default-address`, `no-address`).
+-- and the address (`site-address`, `default-address`, `no-address`); by these the word names the part (`returned`).
 -- Assumes nothing.
 use borrow.Author.Needs.{needs}
 use mathlib.Core.Path.{_≡_, sym, _∙_}
 use native.Mathlib.Omega.{arith}
+use Rattle.tlv.proofs.Laws.{Bytes}
 use Rattle.cabinet_lookup.specs.declared.Found.the-variants.{At, Absent}
 use Rattle.cabinet_lookup.specs.Place.{firstAt}
 use Rattle.cabinet_lookup.proofs.Laws.{found-inside, site-part, default-part, no-part, site-address, default-address, no-address}
+use Rattle.cabinet_lookup.proofs.Named.{returned}
 use Rattle.cabinet_lookup.proofs.lookup.Statement.{statement}
 use Rattle.cabinet_lookup.proofs.lookup.Tie as tie
 use Rattle.cabinet_lookup.proofs.lookup.Reads as reads
@@ -32,26 +34,35 @@ absent-at c = sym (c .before .before .first .ensures) ∙ c .enum-told .given .1
 default-at : (c : At-default) → let a = c .before .before .before .before .before .before .before .before .args in firstAt (a .tag) (a .defaults .now) ≡ At (c .default .given .0 .0)
 default-at c = sym (c .before .before .first2 .ensures) ∙ c .default .given .1
 
+-- both lists are of bytes
+abbrev At-first : Type 0
+At-first = lts.After-first (first-reads.Asked, first-reads.Learnt) reads.Pre reads.Post
+
+bytes-at : (c : At-first) → let a = c .before .before .before .args in Bytes (a .site .now) × Bytes (a .defaults .now)
+bytes-at c =
+    let k = c .before in
+    (λ i. omega (arith, k .before .shared-slice-known .given i), λ i. omega (arith, k .shared-slice-known2 .given i))
+
 returns : tie.Need-returns
 returns c =
-    let e = own-at (c .before .before .before) in
-    let h = site-part _ _ _ _ e in
-    (h .0, (h .1, site-address _ _ _ _ _ e))
+    let o = c .before .before .before in
+    let b = bytes-at (o .before .before) in
+    returned _ _ _ _ (b .0) (b .1) (site-part _ _ _ _ (own-at o)) (site-address _ _ _ _ _ (own-at o))
 
 returns-2 : tie.Need-returns-2
 returns-2 c =
     let o = c .before .before .before in
     let n = absent-at (o .before .before .before) in
-    let h = default-part _ _ _ n _ (default-at o) in
-    (h .0, (h .1, default-address _ _ _ _ n _ (default-at o)))
+    let b = bytes-at (o .before .before .before .before .before) in
+    returned _ _ _ _ (b .0) (b .1) (default-part _ _ _ n _ (default-at o)) (default-address _ _ _ _ n _ (default-at o))
 
 returns-3 : tie.Need-returns-3
 returns-3 c =
     let o = c .before .before .before in
     let n = absent-at (o .before) in
     let e = sym (o .first2 .ensures) ∙ c .before .enum-told2 .given .1 in
-    let h = no-part _ _ _ n e in
-    (h .0, (h .1, no-address _ _ _ _ n e))
+    let b = bytes-at (o .before .before .before) in
+    returned _ _ _ _ (b .0) (b .1) (no-part _ _ _ n e) (no-address _ _ _ _ n e)
 
 pub lookup-spec : {M : Type 1} → statement M
 lookup-spec =

@@ -8,6 +8,7 @@ use native.Mathlib.Omega.{arith}
 use lib.ListN.{length}
 use Rattle.cabinet_lookup.specs.declared.Found.the-variants.{At, Absent}
 use Rattle.cabinet_lookup.specs.Place.{firstAt}
+use Rattle.cabinet_lookup.specs.Word.{fromDefaults}
 use Rattle.cabinet_lookup.proofs.Laws.{found-inside, word-long, word-fits, word-site, word-default, word-neither}
 use Rattle.cabinet_lookup.proofs.place.Statement.{statement}
 use Rattle.cabinet_lookup.proofs.place.Tie as tie
@@ -37,13 +38,14 @@ default-at c = sym (c .before .before .first2 .ensures) ∙ c .default .given .1
 returns-3 : tie.Need-returns-3
 returns-3 c = word-site _ _ _ (omega arith) _ (own-at (c .before))
 
-add-result-2 : tie.Need-add-result-2
-add-result-2 c =
+add-result-4 : tie.Need-add-result-4
+add-result-4 c =
     let o = c .before .before in
     let a = o .before .before .before .before .before .before .before .before .before .before .args in
     let p = o .default .given .0 .0 in
     let i = found-inside (a .tag) (a .defaults .now) p (default-at o) in
-    record { fits = word-fits (length (a .site .now) + p .start) (p .len) (omega arith) }
+    let f = word-fits (length (a .site .now) + p .start) fromDefaults (p .len) (omega arith) (omega arith) in
+    record { fits = omega arith }
 
 returns-4 : tie.Need-returns-4
 returns-4 c =
@@ -65,13 +67,15 @@ place-spec =
     (λ c. search needs)
     (λ c. let i = found-inside _ _ _ (own-at (c .before)) in omega arith)
     (λ c. let i = found-inside _ _ _ (own-at (c .before)) in omega arith)
+    (λ c. let i = found-inside _ _ _ (own-at (c .before)) in omega arith)
     returns-3
     (λ c. search needs)
     (λ c κs. search needs)
     (λ c. search needs)
     (λ c. let i = found-inside _ _ _ (default-at (c .before .before)) in omega arith)
     (λ c. let i = found-inside _ _ _ (default-at (c .before .before)) in omega arith)
-    add-result-2
+    (λ c. let i = found-inside _ _ _ (default-at (c .before .before)) in omega arith)
+    add-result-4
     returns-4
     (λ c. search needs)
     (λ c. search needs)

@@ -1,0 +1,31 @@
+-- The part of two lists that a word names, and that it is the one that a lookup returns (document 02, Item 14).
+-- Assumes nothing.
+use mathlib.Core.Path.{_≡_}
+use mathlib.Core.List.{List, _++_}
+use Prim.Native.Nat.{ℕ, _+_, _-_, _<_}
+use lib.ListN.{length}
+use denote.Ref.{RefT}
+use Rattle.basics.specs.Choice.{if_then_else_, _=?_}
+use Rattle.cabinet_lookup.specs.Place.{span, bytesAt}
+use Rattle.cabinet_lookup.specs.Address.{onward}
+use Rattle.cabinet_lookup.specs.Word.{fromSite, sourceOf, placeWord, startIn, sourceIn, lengthIn}
+
+-- where the part begins: in the site's list at the start; else in the defaults, the site's bytes not counted
+abbrev pub addressNamed : ℕ → RefT (List ℕ) → RefT (List ℕ) → ℕ × ℕ
+addressNamed w site defaults =
+    if sourceIn w =? fromSite then onward (startIn w) (site .ptr)
+    else onward (startIn w - length (site .now)) (defaults .ptr)
+
+-- source, start and length of a word are those of a part of the two lists
+pub record Names (w tag : ℕ) (site defaults part : RefT (List ℕ)) : Type 0 where
+  -- the list that has the tag, or nowhere
+  pub source : sourceIn w ≡ sourceOf tag (site .now) (defaults .now)
+  pub address : part .ptr ≡ addressNamed w site defaults
+  pub len : length (part .now) ≡ lengthIn w
+  pub bytes : part .now ≡ bytesAt (site .now ++ defaults .now) (span (startIn w) (lengthIn w))
+
+-- the word of the tag names the part, where both lists together have fewer than 2^32 bytes
+abbrev pub Named : ℕ → RefT (List ℕ) → RefT (List ℕ) → RefT (List ℕ) → Type 0
+Named tag site defaults part =
+    length (site .now) + length (defaults .now) < 0x100000000
+    → Names (placeWord tag (site .now) (defaults .now)) tag site defaults part
