@@ -35,7 +35,7 @@ use Rattle.session.specs.Answer.{decision}
 use Rattle.explain.specs.declared.Stage.{Stage}
 use Rattle.explain.specs.declared.Holder.{Holder}
 use Rattle.explain.specs.declared.Explanation.{Explanation}
-use Rattle.explain.specs.Explain.{stageIn, decidingIn, holderOf, pairAt, reasonAt, rankOf, endedIn, endedBy}
+use Rattle.explain.specs.Explain.{stageIn, decidingIn, holderOf, pairAt, reasonAt, cryptogramRank, endedIn, endedBy}
 use Rattle.explain.specs.Word.{noBit, choiceWord, wordOf}
 use Rattle.explain.proofs.Along.{told, told-along}
 
@@ -147,7 +147,7 @@ waiting-types = told-along _ _ refl
 ended-given : told (ended 0 Outcome.OnlineRequest 0x80 [] ∷ ended 0 Outcome.Declined 0x00 [] ∷ ended 0 Outcome.OnlineRequest 0x80 ((0x9F0F, zero5) ∷ [])
     ∷ ended 0 Outcome.Approved 0x40 ((0x9F0F, zero5) ∷ []) ∷ [])
     ≡ choiceWord Stage.Online Holder.Card 0 ∷ lower ∷ lower ∷ choiceWord Stage.Online Holder.Nobody noBit ∷ []
-unfolding endedBy endedIn rankOf decision stageIn decidingIn holderOf pairAt reasonAt bit front holdsBit lowestFrom lowestBit cardCode heldAt capabilityAt choiceOf codesOf chosen
+unfolding endedBy endedIn cryptogramRank decision stageIn decidingIn holderOf pairAt reasonAt bit front holdsBit lowestFrom lowestBit cardCode heldAt capabilityAt choiceOf codesOf chosen
     fitAlong placeFits fitting digitsFit numeric compressed digitsThenFs nibbles putAt placeOf valueIn valueAt placeAt held offsetIn find past rows
     endedRanges goesWith every both either if
 ended-given = told-along _ _ refl
@@ -155,7 +155,7 @@ ended-given = told-along _ _ refl
 -- an approval of an online choice; a decline with an ARQC; no 9F27, DF8122 or 95
 ended-refused : told (ended 0 Outcome.Approved 0x40 [] ∷ ended 0 Outcome.Declined 0x80 [] ∷ map (λ t. ended t Outcome.OnlineRequest 0x80 []) (0x9F27 ∷ 0xDF8122 ∷ 0x95 ∷ []))
     ≡ replicate 5 refused
-unfolding endedBy endedIn rankOf decision stageIn decidingIn holderOf pairAt reasonAt bit front holdsBit lowestFrom lowestBit cardCode heldAt capabilityAt choiceOf codesOf chosen
+unfolding endedBy endedIn cryptogramRank decision stageIn decidingIn holderOf pairAt reasonAt bit front holdsBit lowestFrom lowestBit cardCode heldAt capabilityAt choiceOf codesOf chosen
     fitAlong placeFits fitting digitsFit numeric compressed digitsThenFs nibbles putAt placeOf valueIn valueAt placeAt held offsetIn find past rows
     endedRanges goesWith every both either if
 ended-refused = told-along _ _ refl
@@ -165,7 +165,7 @@ ended-refused = told-along _ _ refl
 ended-needs : told (map (λ t. ended t Outcome.OnlineRequest 0x80 []) (0xDF8121 ∷ 0x9F35 ∷ 0xDF8120 ∷ [])
     ++ (ended 0x9F35 Outcome.Declined 0x00 ((0x9F0E, usual) ∷ []) ∷ []))
     ≡ refused ∷ refused ∷ choiceWord Stage.Online Holder.Card 0 ∷ choiceWord Stage.Denial Holder.Card 0 ∷ []
-unfolding endedBy endedIn rankOf decision stageIn decidingIn holderOf pairAt reasonAt bit front holdsBit lowestFrom lowestBit cardCode heldAt capabilityAt choiceOf codesOf chosen
+unfolding endedBy endedIn cryptogramRank decision stageIn decidingIn holderOf pairAt reasonAt bit front holdsBit lowestFrom lowestBit cardCode heldAt capabilityAt choiceOf codesOf chosen
     fitAlong placeFits fitting digitsFit numeric compressed digitsThenFs nibbles putAt placeOf valueIn valueAt placeAt held offsetIn find past rows
     endedRanges goesWith every both either if
 ended-needs = told-along _ _ refl
@@ -203,7 +203,7 @@ in-stripe-mode :
     ∷ endedWith Outcome.OnlineRequest 0 ((0x82, 0x00 ∷ 0x80 ∷ []) ∷ started 0x22 zero5)
     ∷ [])
     ≡ noChoice ∷ noChoice ∷ noChoice ∷ wordOf (Explanation.Reason 4) ∷ refused ∷ refused ∷ []
-unfolding endedBy endedIn rankOf decision stageIn decidingIn holderOf pairAt reasonAt bit front holdsBit lowestFrom lowestBit cardCode heldAt capabilityAt choiceOf codesOf chosen
+unfolding endedBy endedIn cryptogramRank decision stageIn decidingIn holderOf pairAt reasonAt bit front holdsBit lowestFrom lowestBit cardCode heldAt capabilityAt choiceOf codesOf chosen
     fitAlong placeFits fitting digitsFit numeric compressed digitsThenFs nibbles putAt placeOf valueIn valueAt placeAt held offsetIn find past rows
     endedRanges goesWith every both either if
 in-stripe-mode = told-along _ _ refl

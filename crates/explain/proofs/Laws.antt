@@ -14,9 +14,9 @@ use lib.Dec.{eqb}
 use borrow.Author.Tests.{eq-eqb, ne-eqb, eqb-true, ltb-true, lt-ltb, le-ltb, not-false}
 use Rattle.basics.specs.Choice.{if, both, either, every}
 use Rattle.basics.specs.Reason.{reasonNone}
-use Rattle.basics.proofs.Laws.{bool-cases, if-ind, if-yes, if-no, both-yes, both-left, both-right, both-no-left, both-no-right, either-no}
-use Rattle.store.specs.Held.{holds, lacks}
-use Rattle.analysis.specs.Bits.{bit}
+use Rattle.basics.proofs.Laws.{bool-cases, if-ind, if-yes, if-no, both-yes, both-left, both-right, both-no-left, both-no-right, both-assoc, either-no}
+use Rattle.store.specs.Held.{holds, lacks, bytesIn}
+use Rattle.analysis.specs.Bits.{bit, has}
 use Rattle.analysis.specs.Choice.{noBits, holdsBit, lowestBit, someBit, heldAt, denial, online, default, capabilityOf, choiceBy, choiceOf, p1Of}
 use Rattle.analysis.specs.Action.{terminalType, codesOf, chosen}
 use Rattle.analysis.specs.declared.choice.Capability.{Capability}
@@ -32,13 +32,13 @@ use Rattle.record.specs.declared.Phase.{Phase}
 use Rattle.record.specs.declared.Session.{Session}
 use Rattle.record.specs.Numbers.{outcomeNumber}
 use Rattle.record.specs.Session.{stored}
-use Rattle.record.specs.Ranges.{inRanges}
+use Rattle.record.specs.Ranges.{stripeMode, inRanges}
 use Rattle.session.specs.Answer.{decision}
 use Rattle.explain.specs.declared.Stage.{Stage}
 use Rattle.explain.specs.declared.Deciding.{Deciding}
 use Rattle.explain.specs.declared.Cause.{Cause}
 use Rattle.explain.specs.declared.Explanation.{Explanation}
-use Rattle.explain.specs.Explain.{resultIn, choiceIn, stageBy, stageIn, neededAt, completed, decidingIn, holderOf, pairAt, byBit, reasonAt, waitingAt, rankOf, typeIn, typeAsked, gives, decidedAt, endedIn, isStripe, endedBy, inPhase, explained}
+use Rattle.explain.specs.Explain.{resultIn, choiceIn, stageBy, stageIn, neededAt, completed, decidingIn, holderOf, pairAt, byBit, reasonAt, waitingAt, cryptogramRank, typeIn, typeAsked, gives, decidedAt, endedIn, cardAsksMagStripe, endedBy, inPhase, explained}
 use Rattle.explain.specs.Told.{forcedBy, unforcedBy, Named, Unnamed, Lower, Decides, Told}
 
 -- ---- the stage that decided
@@ -275,8 +275,12 @@ module _ (x : End) (b : List ℕ) where
           pub ended-lower : Lower b → endedIn x b ≡ Explanation.LowerCryptogram
           ended-lower k = decided e ∙ if-no _ _ (ap not h) ∙ if-no _ _ (ap not g) ∙ if-yes _ _ (lt-ltb _ _ k)
 
-          pub ended-stage : rankOf (typeAsked (choiceIn b)) ≤ rankOf (typeIn b) → endedIn x b ≡ reasonAt b stage
+          pub ended-stage : cryptogramRank (typeAsked (choiceIn b)) ≤ cryptogramRank (typeIn b) → endedIn x b ≡ reasonAt b stage
           ended-stage k = decided e ∙ if-no _ _ (ap not h) ∙ if-no _ _ (ap not g) ∙ if-no _ _ (le-ltb _ _ k)
+
+-- record's mag-stripe mode: the card asks for it, and the terminal's configuration does not say that it is off
+pub stripe-mode-is : (b : List ℕ) → stripeMode b ≡ both (cardAsksMagStripe b) (not (has (bytesIn b 0xDF811B) 1 8))
+stripe-mode-is b = both-assoc _ _ _
 
 -- ended, by the mode
 module _ (x : End) (b : List ℕ) where
@@ -284,17 +288,17 @@ module _ (x : End) (b : List ℕ) where
   unfolding endedBy
   by-reason n = if-no _ _ (both-no-left _ _ (ne-eqb _ _ n))
 
-  pub by-stripe : x .reason ≡ reasonNone → isStripe b ≡ true → endedBy x b ≡ Explanation.NoChoice
+  pub by-stripe : x .reason ≡ reasonNone → cardAsksMagStripe b ≡ true → endedBy x b ≡ Explanation.NoChoice
   unfolding endedBy
   by-stripe z e = if-yes _ _ (both-yes _ _ (eq-eqb _ _ z) e)
 
-  pub by-choice : isStripe b ≡ false → endedBy x b ≡ endedIn x b
+  pub by-choice : cardAsksMagStripe b ≡ false → endedBy x b ≡ endedIn x b
   unfolding endedBy
   by-choice e = if-no _ _ (both-no-right _ _ e)
 
 -- ---- the choice that is held, and the outcome
 
-same-p1 : (c d : Choice) → p1Of c ≡ p1Of d → c ≡ d
+pub same-p1 : (c d : Choice) → p1Of c ≡ p1Of d → c ≡ d
 same-p1 Choice.Decline Choice.Decline e = refl
 same-p1 Choice.Decline Choice.Online e = absurd (omega arith)
 same-p1 Choice.Decline Choice.Offline e = absurd (omega arith)
@@ -345,7 +349,7 @@ module _ (b : List ℕ) where
   ended-given x e n = decided-given x (decidingIn b) (λ z. n (if-yes _ _ (eq-eqb _ _ e) ∙ z))
 
   -- outside mag-stripe mode
-  chosen-given : (x : End) → x .reason ≡ reasonNone → (endedBy x b ≡ Explanation.Refused → ⊥) → isStripe b ≡ false → Decides b (x .outcome)
+  chosen-given : (x : End) → x .reason ≡ reasonNone → (endedBy x b ≡ Explanation.Refused → ⊥) → cardAsksMagStripe b ≡ false → Decides b (x .outcome)
   chosen-given x e n m = ended-given x e (λ z. n (by-choice x b m ∙ z))
 
   -- a choice is told of
@@ -375,8 +379,8 @@ module _ (b : List ℕ) where
   ended-tells x = if-ind Tells _ _ _ (λ t. decided-tells x (decidingIn b)) (λ t. tt)
 
   -- so no choice is told of in mag-stripe mode alone
-  no-choice-stripe : (x : End) → endedBy x b ≡ Explanation.NoChoice → isStripe b ≡ true
-  no-choice-stripe x e = elim (bool-cases (isStripe b)) [ inl y ↦ y | inr n ↦ absurd (subst Tells (sym (by-choice x b n) ∙ e) (ended-tells x)) ]
+  no-choice-stripe : (x : End) → endedBy x b ≡ Explanation.NoChoice → cardAsksMagStripe b ≡ true
+  no-choice-stripe x e = elim (bool-cases (cardAsksMagStripe b)) [ inl y ↦ y | inr n ↦ absurd (subst Tells (sym (by-choice x b n) ∙ e) (ended-tells x)) ]
 
 -- ---- the promise
 

@@ -118,9 +118,11 @@ waitingAt a b (Deciding.At stage) =
 
 -- ---- ended
 
--- the rank of a cryptogram's type, two bits: AAC (00), then ARQC (10), then TC (01); P1 asks for one by the same bits
-unfoldable pub rankOf : ℕ → ℕ
-rankOf kind =
+-- the rank of a cryptogram's type, two bits: AAC (00), then ARQC (10), then TC (01); P1 asks for one by the same bits.
+-- 9F27 may have a fourth type, which no decision takes; a choice ranks as the type that it asks for (`rankOf` of rank;
+-- that the two agree is promised in explain_calls)
+unfoldable pub cryptogramRank : ℕ → ℕ
+cryptogramRank kind =
     if kind =? 1 then 2
     else if kind =? 2 then 1
     else 0
@@ -144,7 +146,7 @@ decidedAt e b Deciding.Nothing = Explanation.Refused
 decidedAt e b (Deciding.At stage) =
     if lacks b 0x9F27 then Explanation.Refused
     else if not (gives (decision (choiceIn b) (typeIn b)) (e .outcome)) then Explanation.Refused
-    else if rankOf (typeIn b) <? rankOf (typeAsked (choiceIn b)) then Explanation.LowerCryptogram
+    else if cryptogramRank (typeIn b) <? cryptogramRank (typeAsked (choiceIn b)) then Explanation.LowerCryptogram
     else reasonAt b stage
 
 -- a reason other than 0 is the answer itself
@@ -153,14 +155,16 @@ endedIn e b =
     if e .reason =? reasonNone then decidedAt e b (decidingIn b)
     else Explanation.Reason (e .reason)
 
--- in mag-stripe mode no choice is made (document 02, Item 9): 82 is there with byte 2 b8 clear
-abbrev pub isStripe : List ℕ → Bool
-isStripe b = holds b 0x82 and not (emvMode b)
+-- in mag-stripe mode no choice is made (document 02, Item 9). Here the card's side alone: 82 is there with byte 2 b8
+-- clear. `stripeMode` of record is this and that the terminal's DF811B does not say by b8 that the mode is off
+-- (`stripe-mode-is` in proofs/Laws); where calls reached a decision the two are the same (`mode` in explain_calls)
+abbrev pub cardAsksMagStripe : List ℕ → Bool
+cardAsksMagStripe b = holds b 0x82 and not (emvMode b)
 
 -- ended so with reason 0, nothing else of the record is looked at
 unfoldable pub endedBy : End → List ℕ → Explanation
 endedBy e b =
-    if e .reason =? reasonNone and isStripe b then Explanation.NoChoice
+    if e .reason =? reasonNone and cardAsksMagStripe b then Explanation.NoChoice
     else endedIn e b
 
 -- ---- the answer

@@ -22,8 +22,8 @@ use Rattle.explain.specs.declared.Stage.{Stage}
 use Rattle.explain.specs.declared.Deciding.{Deciding}
 use Rattle.explain.specs.declared.Cause.{Cause}
 use Rattle.explain.specs.declared.Explanation.{Explanation}
-use Rattle.explain.specs.Explain.{resultIn, choiceIn, decidingIn, holderOf, pairAt, rankOf, typeIn, typeAsked}
-use Rattle.explain.specs.Explain.{isStripe, explained}
+use Rattle.explain.specs.Explain.{resultIn, choiceIn, decidingIn, holderOf, pairAt, cryptogramRank, typeIn}
+use Rattle.explain.specs.Explain.{typeAsked, cardAsksMagStripe, explained}
 
 -- the choice that a bit held at a stage forces
 abbrev pub forcedBy : Stage → Choice
@@ -58,7 +58,7 @@ pub record Unnamed (b : List ℕ) (stage : Stage) : Type 0 where
 
 -- a lower cryptogram: its type ranks below the one that the choice asks for
 abbrev pub Lower : List ℕ → Type 0
-Lower b = rankOf (typeIn b) < rankOf (typeAsked (choiceIn b))
+Lower b = cryptogramRank (typeIn b) < cryptogramRank (typeAsked (choiceIn b))
 
 -- the decision on the stored cryptogram, by the choice, is the outcome
 abbrev pub Decides : List ℕ → Outcome → Type 0
@@ -75,6 +75,6 @@ pub record Told (s : Session) (r : Explanation) : Type 0 where
   pub held : (a : Asked) → s .phase ≡ Phase.Cryptogram a → (r ≡ Explanation.Refused → ⊥)
       → a .choice ≡ choiceIn (stored s)
   pub decided : (e : End) → s .phase ≡ Phase.Ended e → e .reason ≡ reasonNone → (r ≡ Explanation.Refused → ⊥)
-      → isStripe (stored s) ≡ false → Decides (stored s) (e .outcome)
+      → cardAsksMagStripe (stored s) ≡ false → Decides (stored s) (e .outcome)
   pub without : (e : End) → s .phase ≡ Phase.Ended e → e .reason ≡ reasonNone → r ≡ Explanation.NoChoice
-      → isStripe (stored s) ≡ true
+      → cardAsksMagStripe (stored s) ≡ true

@@ -15,7 +15,7 @@ ghost use Rattle.analysis.specs.Bits.{bit as bitOf};
 ghost use Rattle.record.specs.Session.{sessionOf};
 ghost use Rattle.session.specs.Answer.{decision};
 ghost use Rattle.explain.specs.Explain.{resultIn, choiceIn, stageBy, stageIn, neededAt, decidingIn, holderBy, holderOf, pairAt, reasonAt};
-ghost use Rattle.explain.specs.Explain.{waitingAt, rankOf, gives, endedIn, isStripe, endedBy};
+ghost use Rattle.explain.specs.Explain.{waitingAt, cryptogramRank, gives, endedIn, cardAsksMagStripe, endedBy};
 ghost use Rattle.explain.specs.Told.{Told};
 ghost use Rattle.explain.specs.Word.{stageNumber, holderNumber, choiceWord, wordOf};
 
@@ -114,15 +114,15 @@ fn ended_by(end: End, bytes: &[u8]) -> Explanation
     if end.reason != basics::REASON_NONE {
         return ended(end, bytes);
     }
-    if is_stripe(bytes) {
+    if card_asks_mag_stripe(bytes) {
         return Explanation::NoChoice;
     }
     ended(end, bytes)
 }
 
 // 82 is there with byte 2 b8 clear.
-fn is_stripe(bytes: &[u8]) -> bool
-    ensures { λ r. ⌜ r ≡ isStripe (now (bytes .entry)) ⌝ }
+fn card_asks_mag_stripe(bytes: &[u8]) -> bool
+    ensures { λ r. ⌜ r ≡ cardAsksMagStripe (now (bytes .entry)) ⌝ }
 {
     if !store::is_there(bytes, ROW_82) {
         return false;
@@ -149,7 +149,7 @@ fn ended(end: End, bytes: &[u8]) -> Explanation
     if !decides(choice, kind, outcome) {
         return Explanation::Refused;
     }
-    if rank(kind) < rank(analysis::choice::p1(choice) / 64) {
+    if cryptogram_rank(kind) < cryptogram_rank(analysis::choice::p1(choice) / 64) {
         return Explanation::LowerCryptogram;
     }
     reason_at(stage, bytes)
@@ -167,8 +167,8 @@ fn decides(choice: Choice, kind: u8, outcome: Outcome) -> bool
 }
 
 // The rank of a cryptogram's type, the top two bits of 9F27 and of P1: AAC, then ARQC, then TC.
-fn rank(kind: u8) -> u8
-    ensures { λ r. ⌜ r ≡ rankOf kind ⌝ }
+fn cryptogram_rank(kind: u8) -> u8
+    ensures { λ r. ⌜ r ≡ cryptogramRank kind ⌝ }
 {
     match kind {
         1 => 2,

@@ -1,27 +1,32 @@
--- From a fresh session on no list of calls leads to a refusal. What every call keeps: while the cryptogram is awaited, the choice that is
--- held is the one of the store. So a decision is explained unless its answer brought a code; one induction over the calls carries both.
+-- From a fresh session on no list of calls leads to a refusal, and what is explained is the choice that was handed out. What every call
+-- keeps: while the cryptogram is awaited, the choice that is held is the one of the store, and what it goes by is as it was. So a decision
+-- is explained unless its answer brought a code; two inductions over the calls, each by the same cases, carry both.
 -- Assumes nothing.
 use mathlib.Core.Path.{_≡_, refl, sym, ap, ap₂, subst, _∙_}
 use mathlib.Core.Bool.{Bool, true, false, not}
 use mathlib.Core.Logic.{_⊎_, inl, inr}
-use mathlib.Core.List.{List, [], _∷_}
+use mathlib.Core.List.{List, [], _∷_, _++_, map}
 use mathlib.Core.Option.{Option, some, none}
 use Prim.Native.Nat.{ℕ, _+_}
 use native.Mathlib.Omega.{arith}
-use lib.ListN.{length}
+use lib.ListN.{length, getD}
+use lib.Dec.{eqb}
 use borrow.Author.Tests.{eqb-true, eqb-false, not-false}
 use Rattle.basics.specs.Choice.{if, both}
 use Rattle.basics.specs.Reason.{reasonNone, reasonMissing, reasonDataList, reasonLink, reasonStopped}
 use Rattle.dictionary.specs.Rows.{storeSize}
-use Rattle.dictionary.specs.Named.{row82}
-use Rattle.dictionary.proofs.Named.{at-82}
-use Rattle.basics.proofs.Laws.{if-ind, if-yes, if-no, both-yes, both-left, both-right, both-no-right, both-true, either-left, either-right}
+use Rattle.dictionary.specs.Named.{row82, rowDF811B}
+use Rattle.dictionary.proofs.Named.{at-82, at-DF811B}
+use Rattle.basics.proofs.Laws.{if-ind, if-yes, if-no, both-yes, both-left, both-right, both-no-left, both-no-right, both-true, either-left, either-right}
 use Rattle.store.specs.Place.{Value, bytesOf, isThere, valueOf}
 use Rattle.analysis.specs.Bits.{has}
 use Rattle.locator.specs.Command.{readRecord}
 use Rattle.reading.specs.declared.Awaited.{Awaited}
 use Rattle.reading.specs.Answer as reading
+use Rattle.data_list.specs.Commands.{generateAc}
+use Rattle.data_list.proofs.Commands as list
 use Rattle.analysis.specs.declared.choice.Choice.{Choice}
+use Rattle.analysis.specs.Choice.{p1Of}
 use Rattle.analysis.specs.Action.{limitOf, findingsOf}
 use Rattle.analysis.specs.Verification.{methodNumber, notApplicable}
 use Rattle.record.specs.declared.Asked.{Asked}
@@ -33,28 +38,28 @@ use Rattle.record.specs.declared.Place.{Place}
 use Rattle.record.specs.declared.Reply.{Reply}
 use Rattle.record.specs.declared.Session.{Session}
 use Rattle.record.specs.Session.{stored, sessionOf, endOf}
-use Rattle.record.specs.Ranges.{eitherMode, inRanges}
+use Rattle.record.specs.Ranges.{stripeMode, eitherMode, inRanges}
 use Rattle.record.proofs.Phases.{store-size, store-fits, on-cryptogram, on-checksum}
 use Rattle.session.specs.Steps.{Step, withoutCommand, ended, endBy, commands, withFindings, admitted, brokenOff}
 use Rattle.session.specs.Start.{startStep}
 use Rattle.session.specs.Stripe.{checksumPhase, withDigits}
 use Rattle.session.specs.Answer.{recordPhase, askedIn, decision, endFor, cryptogramThere, cryptogramEnd, cryptogramReply, answerIn, answerStep}
-use Rattle.trace.specs.Calls.{Call, start, answer, link-failed, stop, step, Made, made, play, final, isRefusal, taken, lastOf}
+use Rattle.trace.specs.Calls.{Call, start, answer, link-failed, stop, step, Made, made, play, final, isRefusal, taken, lastOf, commands as commandsOf}
+use Rattle.trace.specs.Order.{isFront}
 use Rattle.trace.proofs.Kept.{read-size, read-fits, read-mode, digits-other}
 use Rattle.trace.proofs.Trace.{by, by-front, call-keeps}
 use Rattle.trace.proofs.Ways as ways
 use Rattle.trace.proofs.Ways.{Reason, unread-reason, OptionsWay, RecordsWay, StripeWay, RecordWay, ChecksumWay, AnswerWay, answer-way, StartWay, start-way, BrokenWay, broken-way}
 use Rattle.explain.specs.declared.Explanation.{Explanation}
-use Rattle.explain.specs.Explain.{choiceIn, typeIn, isStripe, inPhase, explained}
+use Rattle.explain.specs.Explain.{choiceIn, typeIn, cardAsksMagStripe, inPhase, explained}
 use Rattle.explain.specs.Told.{Decides}
+use Rattle.explain.proofs.Laws.{stripe-mode-is}
 use Rattle.explain.proofs.Complete.{Complete, running-complete, waiting-answers, ended-answers, reason-answers, stripe-answers, phase-answers}
-use Rattle.explain_calls.specs.Explained.{onCryptogram, isDecided, bringsCode, codeBrought, codeLast, Explained}
-use Rattle.explain_calls.proofs.Kept.{SameTerminal, same-choice, same-complete, read-results, read-terminal, read-card, asked-choice}
+use Rattle.explain_calls.specs.Explained.{onCryptogram, isDecided, bringsCode, codeBrought, codeLast, endsWithCode, p1s, choiceStores, Explained}
+use Rattle.explain_calls.proofs.Kept.{SameTerminal, SameCard, same-choice, same-complete, read-results, read-terminal, read-configuration, read-card, asked-choice}
+use Rattle.explain_calls.proofs.Chosen.{apart, not-asked, is-asked, other-instruction, record-command, generate-sent, KeptChoice, kept-on, chosen-now, isEarly, Traced, fresh-traced, sentBy, storesBy, Traces, none-added, none-traced, refused-traced, joined, explains-clause, p1-clause, stage-clause, bit-clause, no-bit-clause, holder-clause, lower-clause, not-lower-clause}
 
--- a phase that is not the cryptogram's, and an explanation that is no refusal
-apart : {P : Type 0} → _≡_ {A = Bool} false true → P
-apart e = let z : _≡_ {A = ℕ} 0 1 = cc in absurd (omega arith)
-
+-- an explanation that is no refusal
 no-refusal : {P : Type 0} → Explanation.NoChoice ≡ Explanation.Refused → P
 no-refusal e = let z : _≡_ {A = ℕ} 0 1 = cc in absurd (omega arith)
 
@@ -73,6 +78,7 @@ record After (s : Session) (c : Call) (st : Step) : Type 0 where
   taken-on : isRefusal (st .reply .answer) ≡ false
   held : Held (st .reply .session)
   answers : Answers (codeBrought (made s c st)) (st .reply .session)
+  traces : Traces s st (codeBrought (made s c st))
 
 -- a refusal leaves the session
 record Left (s : Session) (st : Step) : Type 0 where
@@ -94,15 +100,34 @@ module _ (s : Session) (c : Call) (buf : List ℕ) where
         taken-on = refl;
         held = λ a q. (let z : _≡_ {A = ℕ} 0 1 = cc in absurd (omega arith));
         answers = λ x. phase-answers _ (Phase.Ended (endBy n)) i refl (reason-answers (endBy n) b (λ z. omega (arith, r .least)));
+        traces = λ ps qs d t. record {
+          early = λ e. apart e;
+          waiting = λ e. apart e;
+          decided = λ x e. no e;
+          mode = λ e. no e;
+        };
       })
+    where
+      no : {P : Type 0} → eqb n reasonNone ≡ true → P
+      no e = absurd (omega (arith, r .least, eqb-true n reasonNone e))
 
   -- it waits, and no choice was made
-  early : (p : Phase) (b x : List ℕ) → ((a : Asked) → p ≡ Phase.Cryptogram a → ⊥) → (inPhase p b ≡ Explanation.Refused → ⊥) → Leaves s c (commands (s .count) b p x buf)
-  early p b x n e i =
+  early : (p : Phase) (b x : List ℕ) → onCryptogram p ≡ false → isDecided p ≡ false → (isEarly p ≡ true → isEarly (s .phase) ≡ true)
+      → isFront 0x80 0xAE x ≡ false → (inPhase p b ≡ Explanation.Refused → ⊥) → Leaves s c (commands (s .count) b p x buf)
+  early p b x n u w f e i =
       inr (record {
         taken-on = refl;
-        held = λ a q. absurd (n a q);
+        held = λ a q. apart (sym n ∙ ap onCryptogram q);
         answers = λ z. phase-answers _ p i refl e;
+        traces = λ ps qs d t. record {
+          early = λ z. (
+            ap₂ (λ (l : List ℕ) (xs : List (List ℕ)). l ++ map (λ (y : List ℕ). getD y 2 0) xs) (t .early (w z) .0) (not-asked x buf f),
+            ap₂ (λ (l xs : List (List ℕ)). l ++ map (λ (y : List ℕ). b) xs) (t .early (w z) .1) (not-asked x buf f),
+          );
+          waiting = λ z. apart (sym n ∙ z);
+          decided = λ y z. apart (sym u ∙ z);
+          mode = λ z. apart (sym u ∙ z);
+        };
       })
 
 -- ---- start, link failed and stop
@@ -113,7 +138,9 @@ start-leaves s bytes buf = go (start-way s bytes buf)
     go : {st : Step} → StartWay s bytes buf st → Leaves s (start bytes buf) st
     go (StartWay.refused n l) = left s refl refl
     go (StartWay.unlisted b i q e) = failed s (start bytes buf) buf _ reasonDataList _ (record { least = omega arith; most = omega arith })
-    go (StartWay.asked b c i q e f) = early s (start bytes buf) buf Phase.Options _ c (λ a z. apart (ap onCryptogram z)) (λ z. no-refusal z)
+    go (StartWay.asked b c i q e f) =
+        early s (start bytes buf) buf Phase.Options _ c refl refl (λ z. ap isEarly q)
+        (other-instruction 0xA8 c (λ z. omega arith) (list.options-proper _ c f)) (λ z. no-refusal z)
 
 broken-leaves : (s : Session) (c : Call) (n : ℕ) (buf : List ℕ) → Reason n → Leaves s c (brokenOff s n buf)
 broken-leaves s c n buf r = go (broken-way s n buf)
@@ -139,10 +166,16 @@ module _ (s : Session) (a : Asked) (card buf : List ℕ) (i : inRanges s ≡ tru
         answers = λ n. phase-answers _ (Phase.Ended (endOf x reasonNone)) k refl
             (ended-answers (o .store) (same-complete (stored s) (o .store) terminal results (running-complete (stored s) (on-cryptogram s i a q .runs)))
             (endOf x reasonNone) refl not-stripe (both-left _ _ t) (ap (λ (y : Choice). decision y (typeIn (o .store))) (choice n) ∙ e));
+        traces = λ ps qs d y. none-added ps qs (record {
+          early = λ z. apart z;
+          waiting = λ z. apart z;
+          decided = λ n z m. kept (y .waiting (ap onCryptogram q)) n;
+          mode = λ z. not-stripe ∙ sym (stripe-mode-is (o .store) ∙ both-no-left _ _ not-stripe);
+        });
       })
     where
       -- the reading leaves the mode
-      not-stripe : isStripe (o .store) ≡ false
+      not-stripe : cardAsksMagStripe (o .store) ≡ false
       not-stripe =
           let m = on-cryptogram s i a q .mode in
           both-no-right _ _
@@ -154,12 +187,17 @@ module _ (s : Session) (a : Asked) (card buf : List ℕ) (i : inRanges s ≡ tru
       results : valueOf (o .store) 0x95 ≡ valueOf (stored s) 0x95
       results = read-results Awaited.Cryptogram (stored s) card (store-size s i)
 
-      choice : codeBrought (made s (answer card buf) (withoutCommand (ended (methodNumber (a .method)) (s .count) (o .store) (endOf x reasonNone)) buf)) ≡ false
-          → choiceIn (o .store) ≡ a .choice
-      choice n =
-          same-choice (stored s) (o .store) terminal
-          (read-card Awaited.Cryptogram (stored s) card (store-size s i) (store-fits s i) (sym (both-true _ (ap onCryptogram q) ∙ both-true _ refl) ∙ n)) results
-          ∙ sym h
+      NoCode : Type 0
+      NoCode = codeBrought (made s (answer card buf) (withoutCommand (ended (methodNumber (a .method)) (s .count) (o .store) (endOf x reasonNone)) buf)) ≡ false
+
+      codes : NoCode → SameCard (stored s) (o .store)
+      codes n = read-card Awaited.Cryptogram (stored s) card (store-size s i) (store-fits s i) (sym (both-true _ (ap onCryptogram q) ∙ both-true _ refl) ∙ n)
+
+      choice : NoCode → choiceIn (o .store) ≡ a .choice
+      choice n = same-choice (stored s) (o .store) terminal (codes n) results ∙ sym h
+
+      kept : {ps : List ℕ} {qs : List (List ℕ)} → KeptChoice ps qs (stored s) → NoCode → KeptChoice ps qs (o .store)
+      kept k n = kept-on k terminal (codes n) results
 
   -- the decision, or a reason
   end-answers : (x : Option Outcome) → cryptogramThere (o .store) ≡ true → decision (a .choice) (typeIn (o .store)) ≡ x
@@ -194,46 +232,74 @@ module _ (s : Session) (card buf : List ℕ) (i : inRanges s ≡ true) where
   abbrev c : Call
   c = answer card buf
 
-  options-leaves : {st : Step} (b : List ℕ) → OptionsWay (ways.withStore s b) buf st → Leaves s c st
-  options-leaves b (OptionsWay.failed n r) = failed s c buf _ n b r
-  options-leaves b (OptionsWay.first r m a e) = early s c buf (recordPhase (limitOf b) 1) b (readRecord r) (λ a z. apart (ap onCryptogram z)) (λ z. no-refusal z)
+  options-leaves : {st : Step} (b : List ℕ) → isEarly (s .phase) ≡ true → OptionsWay (ways.withStore s b) buf st → Leaves s c st
+  options-leaves b y (OptionsWay.failed n r) = failed s c buf _ n b r
+  options-leaves b y (OptionsWay.first r m a e) =
+      early s c buf (recordPhase (limitOf b) 1) b (readRecord r) refl refl (λ z. y) (record-command r) (λ z. no-refusal z)
 
   -- the cryptogram is asked for: the choice is the one of the store that the analysis leaves
-  asked-leaves : (m : ℕ) (b x : List ℕ) → length b ≡ storeSize → Leaves s c (commands (s .count) (withFindings b (findingsOf b)) (Phase.Cryptogram (askedIn m b)) x buf)
-  asked-leaves m b x l k =
+  asked-leaves : (m : ℕ) (b x : List ℕ) → length b ≡ storeSize → isEarly (s .phase) ≡ true → generateAc (p1Of (askedIn m b .choice)) (withFindings b (findingsOf b)) ≡ some x
+      → Leaves s c (commands (s .count) (withFindings b (findingsOf b)) (Phase.Cryptogram (askedIn m b)) x buf)
+  asked-leaves m b x l y g k =
       inr (record {
         taken-on = refl;
         held = λ a q. (let z : askedIn m b ≡ a = cc in subst (λ (y : Asked). y .choice ≡ choiceIn (withFindings b (findingsOf b))) z (asked-choice b l m));
         answers = λ n. phase-answers _ (Phase.Cryptogram (askedIn m b)) k refl
             (waiting-answers (withFindings b (findingsOf b)) (running-complete _ (on-cryptogram _ k (askedIn m b) refl .runs)) (askedIn m b) (asked-choice b l m));
+        traces = λ ps qs d t. record {
+          early = λ z. apart z;
+          waiting = λ z. chosen-now (withFindings b (findingsOf b))
+              (ap₂ (λ (u : List ℕ) (xs : List (List ℕ)). u ++ map (λ (w : List ℕ). getD w 2 0) xs) (t .early y .0) (is-asked x buf (sent .0))
+              ∙ ap (λ (n : ℕ). n ∷ []) (sent .1 ∙ ap p1Of (asked-choice b l m)))
+              (ap₂ (λ (u xs : List (List ℕ)). u ++ map (λ (w : List ℕ). withFindings b (findingsOf b)) xs) (t .early y .1) (is-asked x buf (sent .0)));
+          decided = λ n z. apart z;
+          mode = λ z. apart z;
+        };
       })
+    where
+      sent : (isFront 0x80 0xAE x ≡ true) × (getD x 2 0 ≡ p1Of (askedIn m b .choice))
+      sent = generate-sent (p1Of (askedIn m b .choice)) (withFindings b (findingsOf b)) x g
 
-  records-leaves : {st : Step} (m : ℕ) (b : List ℕ) → length b ≡ storeSize → RecordsWay m (ways.withStore s b) buf st → Leaves s c st
-  records-leaves m b l (RecordsWay.failed n r x) = failed s c buf _ n b r
-  records-leaves m b l RecordsWay.unlisted = failed s c buf _ reasonDataList _ (record { least = omega arith; most = omega arith })
-  records-leaves m b l (RecordsWay.asked x f g) = asked-leaves m b x l
+  records-leaves : {st : Step} (m : ℕ) (b : List ℕ) → length b ≡ storeSize → isEarly (s .phase) ≡ true → RecordsWay m (ways.withStore s b) buf st → Leaves s c st
+  records-leaves m b l y (RecordsWay.failed n r x) = failed s c buf _ n b r
+  records-leaves m b l y RecordsWay.unlisted = failed s c buf _ reasonDataList _ (record { least = omega arith; most = omega arith })
+  records-leaves m b l y (RecordsWay.asked x f g) = asked-leaves m b x l y g
 
   -- the checksum is asked for: no choice is made
   stripe-leaves : {st : Step} (m : ℕ) (b : List ℕ) → StripeWay m (ways.withStore s b) buf st → Leaves s c st
   stripe-leaves m b (StripeWay.failed n r) = failed s c buf _ n b r
-  stripe-leaves m b (StripeWay.asked x f g) = early s c buf (checksumPhase m) b x (λ a z. apart (ap onCryptogram z)) (λ z. no-refusal z)
+  stripe-leaves m b (StripeWay.asked x f g) =
+      early s c buf (checksumPhase m) b x refl refl (λ z. apart z) (other-instruction 0x2A x (λ z. omega arith) (list.checksum-proper b x g)) (λ z. no-refusal z)
 
-  record-leaves : {st : Step} (p : Place) (b : List ℕ) → length b ≡ storeSize → RecordWay p (ways.withStore s b) buf st → Leaves s c st
-  record-leaves p b l (RecordWay.next r e) = early s c buf (recordPhase (p .limit) (p .number + 1)) b (readRecord r) (λ a z. apart (ap onCryptogram z)) (λ z. no-refusal z)
-  record-leaves p b l (RecordWay.last e m w) = records-leaves (p .limit) b l w
-  record-leaves p b l (RecordWay.striped e m w) = stripe-leaves (p .limit) b w
+  record-leaves : {st : Step} (p : Place) (b : List ℕ) → length b ≡ storeSize → isEarly (s .phase) ≡ true → RecordWay p (ways.withStore s b) buf st → Leaves s c st
+  record-leaves p b l y (RecordWay.next r e) =
+      early s c buf (recordPhase (p .limit) (p .number + 1)) b (readRecord r) refl refl (λ z. y) (record-command r) (λ z. no-refusal z)
+  record-leaves p b l y (RecordWay.last e m w) = records-leaves (p .limit) b l y w
+  record-leaves p b l y (RecordWay.striped e m w) = stripe-leaves (p .limit) b w
 
   -- the answer to the checksum: an end with reason 0 says that no choice was made
   module _ (k : Checksum) (q : s .phase ≡ Phase.Checksum k) where
-    ends : (x : Outcome) (d : List ℕ) → valueOf d 0x82 ≡ valueOf (stored s) 0x82 → Leaves s c (withoutCommand (ended notApplicable (s .count) d (endOf x reasonNone)) buf)
-    ends x d e j =
+    ends : (x : Outcome) (d : List ℕ) → valueOf d 0x82 ≡ valueOf (stored s) 0x82 → valueOf d 0xDF811B ≡ valueOf (stored s) 0xDF811B
+        → Leaves s c (withoutCommand (ended notApplicable (s .count) d (endOf x reasonNone)) buf)
+    ends x d e g j =
         inr (record {
           taken-on = refl;
           held = λ y z. absurd (apart (ap onCryptogram z));
           answers = λ n. phase-answers _ (Phase.Ended (endOf x reasonNone)) j refl (stripe-answers (endOf x reasonNone) d refl stripe);
+          traces = λ ps qs f t. none-added ps qs (record {
+            early = λ z. apart z;
+            waiting = λ z. apart z;
+            decided = λ n z m. apart (sym m ∙ stripe);
+            mode = λ z. stripe ∙ sym in-mode;
+          });
         })
       where
-        stripe : isStripe d ≡ true
+        in-mode : stripeMode d ≡ true
+        in-mode =
+            ap₂ (λ (y w : Value). both (isThere y) (both (not (has (bytesOf y) 2 8)) (not (has (bytesOf w) 1 8)))) e g
+            ∙ on-checksum s i k q .mode
+
+        stripe : cardAsksMagStripe d ≡ true
         stripe =
             let m = on-checksum s i k q .mode in
             ap (λ (y : Value). both (isThere y) (not (has (bytesOf y) 2 8))) e ∙ both-yes _ _ (both-left _ _ m) (both-left _ _ (both-right _ _ m))
@@ -241,12 +307,16 @@ module _ (s : Session) (card buf : List ℕ) (i : inRanges s ≡ true) where
     same-82 : valueOf (stored (ways.taken Awaited.Checksum s card)) 0x82 ≡ valueOf (stored s) 0x82
     same-82 = read-mode Awaited.Checksum (stored s) card (store-size s i) (store-fits s i) (either-right _ _ (on-checksum s i k q .mode))
 
+    same-configuration : valueOf (stored (ways.taken Awaited.Checksum s card)) 0xDF811B ≡ valueOf (stored s) 0xDF811B
+    same-configuration = read-configuration Awaited.Checksum (stored s) card (store-size s i)
+
     checksum-leaves : {y : Reply} → ChecksumWay (ways.taken Awaited.Checksum s card) y → Leaves s c (withoutCommand y buf)
     checksum-leaves ChecksumWay.failed = failed s c buf _ reasonMissing _ (record { least = omega arith; most = omega arith })
-    checksum-leaves ChecksumWay.declined = ends Outcome.Declined _ same-82
+    checksum-leaves ChecksumWay.declined = ends Outcome.Declined _ same-82 same-configuration
     checksum-leaves ChecksumWay.online =
         let w = read-fits Awaited.Checksum (stored s) card (store-size s i) (store-fits s i) in
         ends Outcome.OnlineRequest _ (digits-other (stored (ways.taken Awaited.Checksum s card)) (w .0) (w .1) 0x82 row82 at-82 (λ z. omega arith) ∙ same-82)
+        (digits-other (stored (ways.taken Awaited.Checksum s card)) (w .0) (w .1) 0xDF811B rowDF811B at-DF811B (λ z. omega arith) ∙ same-configuration)
 
   answer-leaves : Held s → Leaves s c (answerStep s card buf)
   answer-leaves h = go (answer-way s card buf) refl
@@ -254,9 +324,9 @@ module _ (s : Session) (card buf : List ℕ) (i : inRanges s ≡ true) where
       go : {st : Step} → AnswerWay s card buf st → st ≡ answerStep s card buf → Leaves s c st
       go (AnswerWay.refused n l) e = left s refl refl
       go (AnswerWay.unread m n k r z x) e = failed s c buf m n (stored s) r
-      go (AnswerWay.options k q z w) e = options-leaves _ w
+      go (AnswerWay.options k q z w) e = options-leaves _ (ap isEarly q) w
       go (AnswerWay.recorded p r k q f w) e =
-          record-leaves p _ (read-size (Awaited.Record (record { number = r .file })) (stored s) card (store-size s i)) w
+          record-leaves p _ (read-size (Awaited.Record (record { number = r .file })) (stored s) card (store-size s i)) (ap isEarly q) w
       go (AnswerWay.cryptogram a k q w) e = subst (Leaves s c) (sym e) (cryptogram-leaves s a card buf i q (h a q))
       go (AnswerWay.checksum x k q w) e = checksum-leaves x q w
 
@@ -282,6 +352,16 @@ one-call s c d (inr a) h f tk t more =
     m : Made
     m = made s c (step s c)
 
+-- what is held after a call
+held-after : (s : Session) (c : Call) → Left s (step s c) ⊎ After s c (step s c) → Held s → Held (step s c .reply .session)
+held-after s c (inl r) h = subst Held (sym (r .same)) h
+held-after s c (inr a) h = a .held
+
+all-keep : (s : Session) (cs : List Call) → inRanges s ≡ true → inRanges (final s cs) ≡ true
+unfolding final
+all-keep s [] i = i
+all-keep s (c ∷ cs) i = all-keep (step s c .reply .session) cs (call-keeps s c i)
+
 on : (s : Session) (cs : List Call) (d : Bool) → inRanges s ≡ true → Held s → Answers d s → Answers (by d codeBrought (lastOf (taken (play s cs)))) (final s cs)
 unfolding play final taken lastOf
 on s [] d i h f = f
@@ -292,9 +372,65 @@ by-last-is : (x : Option Made) → by false codeBrought x ≡ codeLast x
 by-last-is none = refl
 by-last-is (some m) = refl
 
+-- one call, and what is traced of it and of the calls behind it
+one-trace : (s : Session) (c : Call) (d : Bool) → Left s (step s c) ⊎ After s c (step s c) → (ps : List ℕ) (qs : List (List ℕ)) → Traced ps qs d s
+    → (tk : List Made) (xs : List (List ℕ)) (us : List (List ℕ)) (f : Session)
+    → ((x : Bool) → Traced (ps ++ p1s (sentBy (step s c))) (qs ++ storesBy (step s c)) x (step s c .reply .session)
+    → Traced ((ps ++ p1s (sentBy (step s c))) ++ p1s xs) ((qs ++ storesBy (step s c)) ++ us) (by x codeBrought (lastOf tk)) f)
+    → Traced (ps ++ p1s (sentBy (step s c) ++ xs)) (qs ++ (storesBy (step s c) ++ us))
+    (by d codeBrought (lastOf (if (isRefusal (step s c .reply .answer)) tk (made s c (step s c) ∷ tk)))) f
+one-trace s c d (inl r) ps qs t tk xs us f more =
+    joined ps qs (sentBy (step s c)) xs (storesBy (step s c)) us
+    (subst (λ (ms : List Made). Traced ((ps ++ p1s (sentBy (step s c))) ++ p1s xs) ((qs ++ storesBy (step s c)) ++ us) (by d codeBrought (lastOf ms)) f)
+    (sym (if-yes _ _ (r .refused))) (more d (refused-traced ps qs s (step s c) (r .refused) (r .same) t)))
+one-trace s c d (inr a) ps qs t tk xs us f more =
+    joined ps qs (sentBy (step s c)) xs (storesBy (step s c)) us
+    (subst (λ (ms : List Made). Traced ((ps ++ p1s (sentBy (step s c))) ++ p1s xs) ((qs ++ storesBy (step s c)) ++ us) (by d codeBrought (lastOf ms)) f)
+    (sym (if-no _ _ (a .taken-on)))
+    (subst (λ (x : Bool). Traced ((ps ++ p1s (sentBy (step s c))) ++ p1s xs) ((qs ++ storesBy (step s c)) ++ us) x f)
+    (by-front d (codeBrought m) codeBrought m tk refl) (more (codeBrought m) (a .traces ps qs d t))))
+  where
+    m : Made
+    m = made s c (step s c)
+
+traced-on : (s : Session) (cs : List Call) (d : Bool) → inRanges s ≡ true → Held s → (ps : List ℕ) (qs : List (List ℕ)) → Traced ps qs d s
+    → Traced (ps ++ p1s (commandsOf (play s cs))) (qs ++ choiceStores (play s cs)) (by d codeBrought (lastOf (taken (play s cs)))) (final s cs)
+unfolding play final taken lastOf commandsOf choiceStores
+traced-on s [] d i h ps qs t = none-traced ps qs t
+traced-on s (c ∷ cs) d i h ps qs t =
+    one-trace s c d (call-leaves s c i h (call-keeps s c i)) ps qs t _ _ _ _
+    (λ x e. traced-on (step s c .reply .session) cs x (call-keeps s c i) (held-after s c (call-leaves s c i h (call-keeps s c i)) h) _ _ e)
+
 pub always : (s : Session) (cs : List Call) → s .phase ≡ Phase.Fresh → inRanges s ≡ true → Explained (play s cs) (final s cs)
 always s cs q i =
     record {
-      never-25 = subst (λ (x : Bool). Answers x (final s cs)) (by-last-is (lastOf (taken (play s cs))))
-          (on s cs false i (λ a z. absurd (apart (ap onCryptogram (sym q ∙ z)))) (λ n. phase-answers s Phase.Fresh i q (λ z. no-refusal z)));
+      never-25 = answered;
+      explains = λ n. explains-clause ms (final s cs) in-ranges traced n (answered n);
+      p1 = λ n. p1-clause ms (final s cs) in-ranges traced n;
+      stage = λ n. stage-clause ms (final s cs) in-ranges traced n;
+      bit = λ n. bit-clause ms (final s cs) in-ranges traced n;
+      no-bit = λ n. no-bit-clause ms (final s cs) in-ranges traced n;
+      holder = λ n. holder-clause ms (final s cs) in-ranges traced n;
+      lower = λ n. lower-clause ms (final s cs) in-ranges traced n;
+      not-lower = λ n. not-lower-clause ms (final s cs) in-ranges traced n;
+      mode = traced .mode;
     }
+  where
+    ms : List Made
+    ms = play s cs
+
+    no-choice : Held s
+    no-choice a z = apart (ap onCryptogram (sym q ∙ z))
+
+    answered : Answers (endsWithCode ms) (final s cs)
+    answered =
+        subst (λ (x : Bool). Answers x (final s cs)) (by-last-is (lastOf (taken ms)))
+        (on s cs false i no-choice (λ n. phase-answers s Phase.Fresh i q (λ z. no-refusal z)))
+
+    in-ranges : inRanges (final s cs) ≡ true
+    in-ranges = all-keep s cs i
+
+    traced : Traced (p1s (commandsOf ms)) (choiceStores ms) (endsWithCode ms) (final s cs)
+    traced =
+        subst (λ (x : Bool). Traced (p1s (commandsOf ms)) (choiceStores ms) x (final s cs)) (by-last-is (lastOf (taken ms)))
+        (traced-on s cs false i no-choice [] [] (fresh-traced s q))

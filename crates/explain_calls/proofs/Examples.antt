@@ -1,5 +1,6 @@
 -- A purchase whose answer to GENERATE AC brings a denial code that was absent, computed from a fresh session on: it is approved with
--- reason 0, the code that came asks for a decline, and so the final store does not give the outcome. Without the code it is explained.
+-- reason 0, the code that came asks for a decline, and so the final store does not give the outcome. Without the code it is explained. P1 40
+-- was handed out both times.
 -- Assumes nothing.
 use mathlib.Core.Path.{_≡_, ap, _∙_}
 use mathlib.Core.Bool.{true}
@@ -49,13 +50,13 @@ use Rattle.terminal.specs.Terminal.{typeListed, settable, setObject, setAll, lo
 use Rattle.session.specs.Steps.{withResults, withFindings}
 use Rattle.session.specs.Start.{askOptions}
 use Rattle.session.specs.Answer.{storedReason, optionsRead, optionsStep, optionsReason, recordStep, recordRead, lastRead, recordsRead, analysed, askedIn, askCryptogram, decision, cryptogramEnd, cryptogramReply}
-use Rattle.trace.specs.Calls.{Call, start, answer, Made, play, final, taken, lastOf}
+use Rattle.trace.specs.Calls.{Call, start, answer, Made, play, final, commands, taken, lastOf}
 use Rattle.trace.proofs.Trace.{call-keeps}
 use Rattle.trace.proofs.InRanges.{playIn, finalIn, play-in, final-in}
 use Rattle.explain.specs.declared.Stage.{Stage}
 use Rattle.explain.specs.declared.Explanation.{Explanation}
-use Rattle.explain.specs.Explain.{stageIn, decidingIn, holderOf, pairAt, reasonAt, rankOf, endedIn, endedBy, inPhase, explained}
-use Rattle.explain_calls.specs.Explained.{bringsCode, codeBrought, codeLast}
+use Rattle.explain.specs.Explain.{stageIn, decidingIn, holderOf, pairAt, reasonAt, cryptogramRank, endedIn, endedBy, inPhase, explained}
+use Rattle.explain_calls.specs.Explained.{bringsCode, codeBrought, codeLast, generateAcs, p1s}
 
 -- the terminal's objects of a purchase at type 22
 abbrev startBytes : List ℕ
@@ -100,6 +101,7 @@ pub record Worked : Type 0 where
   brought : explained (final freshSession (purchase (cryptogramAnswer 0x1E denialCode))) ≡ Explanation.Refused
   last : codeLast (lastOf (taken (play freshSession (purchase (cryptogramAnswer 0x1E denialCode))))) ≡ true
   plain : explained (final freshSession (purchase (cryptogramAnswer 0x14 []))) ≡ Explanation.Unforced Stage.Online
+  handed-out : p1s (commands (play freshSession (purchase (cryptogramAnswer 0x14 [])))) ≡ 0x40 ∷ []
 
 -- a session that calls lead to is in its ranges, and is explained by its phase
 kept : (s : Session) → inRanges s ≡ true → (cs : List Call) → inRanges (final s cs) ≡ true
@@ -112,7 +114,7 @@ unfolding explained
 by-phase cs = if-yes _ _ (kept freshSession fresh-keeps cs) ∙ ap (λ (s : Session). inPhase (s .phase) (stored s)) (final-in freshSession fresh-keeps cs)
 
 pub worked : Worked
-unfolding playIn finalIn taken lastOf codeBrought bringsCode goesWith outcomeFor
+unfolding playIn finalIn taken lastOf commands generateAcs codeBrought bringsCode goesWith outcomeFor
     completed askOptions processingOptions optionsOf filledBy fillingOf listEntries recurse recurseBy along lengthBytes withLength entryAt withEntry cut padding padded
     fitted entryBytes cryptogramOf generateAc optionsStep storedReason optionsRead recordAt kth nth accepts wholeEntries entriesOf keeps sumOf recordsOf runOf readAnswer goodLength goodStatus
     isRead readBody bodyOf primitiveParts optionsParts templateParts parse nextOf withLeaf withNode count items takeAll takeNext takeItem allowed mayCome mayStand withResults withFindings placeOf
@@ -121,11 +123,12 @@ unfolding playIn finalIn taken lastOf codeBrought bringsCode goesWith outcomeFor
     askedIn askCryptogram phoneIn onDevice limitOf aboveLimit usageIn restrictionsOf resultOf sameCurrency termsIn verifiedIn fullResult findingsOf codesOf chosen bit front decimalFrom yearOf dateOf laterThan
     amountOf amountAbove otherVersion notYetEffective atAtm countryOf cashback usageBroken withBits holdsBit lowestFrom lowestBit cardCode heldAt capabilityAt choiceOf rulesFrom recognised
     supported amountMet met takenBy unsuccessful byRules verification alike decision cryptogramEnd cryptogramReply
-    stageIn decidingIn holderOf pairAt reasonAt rankOf endedIn endedBy lengthByte
+    stageIn decidingIn holderOf pairAt reasonAt cryptogramRank endedIn endedBy lengthByte
 worked =
     record {
       brought-end = ap (λ (s : Session). s .phase) (final-in freshSession fresh-keeps (purchase (cryptogramAnswer 0x1E denialCode)));
       brought = by-phase (purchase (cryptogramAnswer 0x1E denialCode));
       last = ap (λ (ms : List Made). codeLast (lastOf (taken ms))) (play-in freshSession fresh-keeps (purchase (cryptogramAnswer 0x1E denialCode)));
       plain = by-phase (purchase (cryptogramAnswer 0x14 []));
+      handed-out = ap (λ (ms : List Made). p1s (commands ms)) (play-in freshSession fresh-keeps (purchase (cryptogramAnswer 0x14 [])));
     }

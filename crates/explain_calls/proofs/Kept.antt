@@ -11,12 +11,12 @@ use native.Mathlib.Omega.{arith}
 use lib.ListN.{length, getD}
 use Rattle.basics.specs.Choice.{both, either}
 use Rattle.basics.proofs.Laws.{bool-cases, both-true}
-use Rattle.dictionary.specs.Named.{row95, row9F0D, row9F0E, row9F0F, row9F34, row9F35, rowDF8120, rowDF8121, rowDF8122}
+use Rattle.dictionary.specs.Named.{row95, row9F0D, row9F0E, row9F0F, row9F34, row9F35, rowDF811B, rowDF8120, rowDF8121, rowDF8122}
 use Rattle.dictionary.specs.Rows.{rows, rowAt, find, storeSize}
 use Rattle.dictionary.specs.TerminalType.{listed}
 use Rattle.dictionary.specs.declared.Found.the-variants.{At}
 use Rattle.dictionary.proofs.Fit.{fits-length}
-use Rattle.dictionary.proofs.Named.{at-95, at-9F0D, at-9F0E, at-9F0F, at-9F35, at-DF8120, at-DF8121, at-DF8122}
+use Rattle.dictionary.proofs.Named.{at-95, at-9F0D, at-9F0E, at-9F0F, at-9F35, at-DF811B, at-DF8120, at-DF8121, at-DF8122}
 use Rattle.store.specs.Place.{Value, absent, present, bytesOf, isThere, valueAt, valueOf, putAt}
 use Rattle.store.specs.Held.{holds, lacks, bytesIn}
 use Rattle.store.proofs.Laws.{by-row, put-other}
@@ -99,9 +99,9 @@ read-own a b s l k n = read-holds P a step b s (l, refl) .1
         (λ z. (let y : _≡_ {A = Bool} false true = sym n ∙ ap (λ (x : ℕ). byCard (rowAt x)) z ∙ p .card in let w : _≡_ {A = ℕ} 0 1 = cc in omega arith)) ∙ h
 
 -- the session's 95 and what a start sets alone
-not-card : (byCard (rowAt row95) ≡ false) × (byCard (rowAt row9F35) ≡ false) × (byCard (rowAt rowDF8120) ≡ false) × (byCard (rowAt rowDF8121) ≡ false) × (byCard (rowAt rowDF8122) ≡ false)
+not-card : (byCard (rowAt row95) ≡ false) × (byCard (rowAt row9F35) ≡ false) × (byCard (rowAt rowDF8120) ≡ false) × (byCard (rowAt rowDF8121) ≡ false) × (byCard (rowAt rowDF8122) ≡ false) × (byCard (rowAt rowDF811B) ≡ false)
 unfolding rows
-not-card = (refl, refl, refl, refl, refl)
+not-card = (refl, refl, refl, refl, refl, refl)
 
 module _ (a : Awaited) (b s : List ℕ) (l : length b ≡ storeSize) where
   abbrev read : List ℕ
@@ -121,6 +121,9 @@ module _ (a : Awaited) (b s : List ℕ) (l : length b ≡ storeSize) where
         default-code = own-value 0xDF8120 rowDF8120 at-DF8120 (not-card .2);
         online-code = own-value 0xDF8122 rowDF8122 at-DF8122 (not-card .4);
       }
+
+  pub read-configuration : valueOf read 0xDF811B ≡ valueOf b 0xDF811B
+  read-configuration = own-value 0xDF811B rowDF811B at-DF811B (not-card .5)
 
   -- an object of the card with bytes stays, and one that is absent stays absent unless the answer brings it
   code-kept : Fits b → (t k : ℕ) → find rows t ≡ At k → 1 ≤ rowAt k .least → brings b read t ≡ false → valueOf read t ≡ valueOf b t

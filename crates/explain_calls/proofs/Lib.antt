@@ -1,3 +1,4 @@
 pub mod Kept
+pub mod Chosen
 pub mod Calls
 pub mod Examples

@@ -10,12 +10,13 @@ ghost use Rattle.record.specs.Ranges.{inRanges};
 ghost use Rattle.trace.specs.Calls.{Call, play, final};
 ghost use Rattle.explain.specs.declared.Explanation.{Explanation as Why};
 ghost use Rattle.explain.specs.Word.{wordOf};
-ghost use Rattle.explain_calls.specs.Explained.{Explained};
+ghost use Rattle.explain_calls.specs.Explained.{Explained, OneRank};
 
 // The word of a refusal, which no list of calls leads to but by that exception.
 pub fn refusal_word() -> u32
     ensures word { λ r. ⌜ r ≡ wordOf Why.Refused ⌝ }
     ensures claim { λ _. ⌜ ((s : Session) (cs : List Call) → s .phase ≡ Phase.Fresh → inRanges s ≡ true → Explained (play s cs) (final s cs)) ⌝ }
+    ensures rank { λ _. ⌜ OneRank ⌝ }
 {
     explain::word(Explanation::Refused)
 }

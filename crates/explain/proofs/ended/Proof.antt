@@ -15,7 +15,7 @@ use Rattle.analysis.specs.Choice.{p1Of}
 use Rattle.analysis.specs.declared.choice.Choice.{Choice}
 use Rattle.session.specs.Answer.{decision}
 use Rattle.explain.specs.declared.Deciding.{Deciding}
-use Rattle.explain.specs.Explain.{choiceIn, decidingIn, rankOf, typeIn, typeAsked, gives}
+use Rattle.explain.specs.Explain.{choiceIn, decidingIn, cryptogramRank, typeIn, typeAsked, gives}
 use Rattle.explain.proofs.Laws.{ended-reason, ended-nothing, ended-lacks, ended-other, ended-lower, ended-stage}
 use Rattle.explain.proofs.ended.Statement.{statement}
 use Rattle.explain.proofs.ended.Tie as tie
@@ -44,12 +44,12 @@ decides-is c =
     ∙ ap₂ (λ (x : Choice) (n : ℕ). gives (decision x n) (a .end .outcome)) (c .before .choice-in .ensures) (type-is (c .before .before))
 
 -- the ranks that were compared
-ranks : (c : tie.After-rank2) → let a = c .before .before .before .before .before .before .before .before .before .before .before .before .before .before .before .before .before .args in
-    (c .before .before .rank .result ≡ rankOf (typeIn (a .bytes .now))) × (c .rank2 .result ≡ rankOf (typeAsked (choiceIn (a .bytes .now))))
+ranks : (c : tie.After-cryptogram-rank2) → let a = c .before .before .before .before .before .before .before .before .before .before .before .before .before .before .before .before .before .args in
+    (c .before .before .cryptogram-rank .result ≡ cryptogramRank (typeIn (a .bytes .now))) × (c .cryptogram-rank2 .result ≡ cryptogramRank (typeAsked (choiceIn (a .bytes .now))))
 ranks c =
     let d = c .before .before .before .before in (
-      c .before .before .rank .ensures ∙ ap rankOf (type-is (d .before .before)),
-      c .rank2 .ensures ∙ ap (λ (n : ℕ). rankOf (n / 64)) (c .before .p1 .ensures ∙ ap p1Of (d .before .choice-in .ensures)),
+      c .before .before .cryptogram-rank .ensures ∙ ap cryptogramRank (type-is (d .before .before)),
+      c .cryptogram-rank2 .ensures ∙ ap (λ (n : ℕ). cryptogramRank (n / 64)) (c .before .p1 .ensures ∙ ap p1Of (d .before .choice-in .ensures)),
     )
 
 returns : tie.Need-returns
