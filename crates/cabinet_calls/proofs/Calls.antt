@@ -44,6 +44,8 @@ use Rattle.trace.specs.Claim.{isRunning}
 use Rattle.trace.proofs.Kept.{bits-other}
 use Rattle.trace.proofs.EveryCall.{Came, answer-came, link-came, stop-came}
 use Rattle.trace.proofs.Ranges.{start-keeps, answer-keeps, link-keeps, stop-keeps}
+use Rattle.trace.proofs.Refusals.{answer-goes, answer-idle, broken-goes, broken-idle}
+use Rattle.trace.proofs.Ways.{load-most}
 use Rattle.cabinet.specs.State.{Cabinet, cabinet, mostAmount, stateSize, withState, amountIn, dueIn, cabinetIn}
 use Rattle.cabinet.specs.Calls.{Done, refusedLeft, refusedCap, refuses, onHeld, admitted, leftAfter, settles, stepOn, setsAside, startTaken, startHeld, openWord, openState}
 use Rattle.cabinet.specs.Inner.{freshStart}
@@ -52,7 +54,7 @@ use Rattle.cabinet.proofs.Laws.{start-running, start-idle}
 use Rattle.cabinet_calls.specs.Account.{Call, opening, start, answer, link-failed, stop, wordBy, stateBy, made, play, final, Account, account, opened, broughtAmount, approves, accepted, entered, accountAfter, isRefused, isApproved, notRanges, Balanced}
 use Rattle.cabinet_calls.proofs.Brought.{brought-amount}
 use Rattle.cabinet_calls.proofs.Held.{Ordered, held-ordered, in-order}
-use Rattle.cabinet_calls.proofs.Kernel.{Stays, stays-amount, answer-stays, link-stays, stop-stays, answer-goes, answer-idle, broken-goes, broken-idle, load-number}
+use Rattle.cabinet_calls.proofs.Kernel.{Stays, stays-amount, answer-stays, link-stays, stop-stays}
 use Rattle.cabinet_calls.proofs.Words.{Other, refused-told, refused-other, command-told, command-unapproved, command-other, outcome-told, outcome-approved, outcome-unapproved, outcome-other}
 
 -- ---- what goes through every call
@@ -240,7 +242,7 @@ module _ (a : Account) (l : List ℕ) (h : Holds a l) (bytes buf : List ℕ) whe
     loaded-start : (x : Loaded) → load (stored freshSession) bytes ≡ x → inRanges (startLoaded freshSession buf x .reply .session) ≡ true
         → (let st = startLoaded freshSession buf x in NextOf a k (startTaken (st .reply .answer) st (now .left) l buf))
     unfolding askOptions
-    loaded-start (refusal n) e i = let m = load-number (stored freshSession) bytes n e in refused-next a k n l h (omega arith) (λ z. omega arith)
+    loaded-start (refusal n) e i = let m = load-most (stored freshSession) bytes n e in refused-next a k n l h (omega arith) (λ z. omega arith)
     loaded-start (loaded b) e i = handed-start (withResults b noResults) brought (processingOptions (withResults b noResults)) i
       where
         brought : amountIn (withResults b noResults) ≡ broughtAmount bytes

@@ -1,51 +1,35 @@
 -- What the kernel's calls leave of a session that a cabinet holds: an answer leaves the amount 9F02, which no card sets; a command leaves the
--- session running; and a session that runs is refused nothing past the first tests, one that does not run every call but a start (21).
+-- session running.
 -- Assumes nothing.
-use mathlib.Core.Path.{_≡_, refl, sym, ap, _∙_}
-use mathlib.Core.Bool.{Bool, true, false}
+use mathlib.Core.Path.{_≡_, refl, ap, _∙_}
+use mathlib.Core.Bool.{true, false}
 use mathlib.Core.List.{List}
-use mathlib.Core.Option.{Option, some, none}
-use Prim.Native.Nat.{ℕ, _≤_}
+use Prim.Native.Nat.{ℕ}
 use native.Mathlib.Omega.{arith}
 use lib.ListN.{length}
 use Rattle.basics.specs.Number.{hasBit}
-use Rattle.basics.specs.Reason.{refusedBytes, refusedObject, refusedAbsent, refusedPhase, reasonLink, reasonStopped}
-use Rattle.basics.proofs.Laws.{if-ind}
-use Rattle.tlv.specs.Primitives.{Object, primitives}
+use Rattle.basics.specs.Reason.{reasonLink, reasonStopped}
 use Rattle.dictionary.specs.Named.{row9F02}
 use Rattle.dictionary.specs.Rows.{rows, rowAt, storeSize, card}
 use Rattle.dictionary.proofs.Named.{at-9F02}
 use Rattle.store.specs.Place.{Value, bytesOf, valueOf}
-use Rattle.locator.specs.declared.Found.{Found}
-use Rattle.locator.specs.Records.{recordAt}
 use Rattle.reading.specs.declared.Awaited.{Awaited}
 use Rattle.analysis.specs.Action.{findingsOf}
 use Rattle.analysis.specs.Digits.{amountOf}
 use Rattle.analysis.proofs.Laws.{found-length, bits-length}
 use Rattle.record.specs.declared.Answer.{Answer}
-use Rattle.record.specs.declared.Asked.{Asked}
 use Rattle.record.specs.declared.Issued.{Issued}
-use Rattle.record.specs.declared.Phase.{Phase}
 use Rattle.record.specs.declared.Place.{Place}
 use Rattle.record.specs.declared.Reply.{Reply}
 use Rattle.record.specs.declared.Session.{Session}
 use Rattle.record.specs.Session.{stored}
-use Rattle.record.specs.Ranges.{locatorIn, inRanges}
 use Rattle.record.proofs.Phases.{store-size, store-fits}
-use Rattle.terminal.specs.Terminal.{setAll, Loaded, refusal, afterSetting, afterRun, load}
-use Rattle.session.specs.Steps.{Step, withoutCommand, refuses, withFindings, leastBuffer, endsIn, brokenOff, linkStep, stopStep}
-use Rattle.session.specs.Answer.{optionsStep, recordFound, recordStep, cryptogramReply, answerIn, answerStep}
-use Rattle.session.specs.Stripe.{checksumRead, checksumTaken, checksumReply}
-use Rattle.session.proofs.Laws.{admitted-in}
-use Rattle.trace.specs.Calls.{isRefusal}
+use Rattle.session.specs.Steps.{Step, withoutCommand, withFindings, brokenOff, linkStep, stopStep}
+use Rattle.session.specs.Answer.{answerStep}
 use Rattle.trace.specs.Claim.{isRunning}
 use Rattle.trace.proofs.Kept.{read-size, read-fits, read-start, found-other, digits-other}
-use Rattle.trace.proofs.Ways.{Admitted, taken, OptionsWay, options-way, RecordsWay, StripeWay, RecordWay, record-way, CryptogramWay, ChecksumWay, AnswerWay, answer-way, BrokenWay, broken-way}
+use Rattle.trace.proofs.Ways.{Admitted, taken, OptionsWay, RecordsWay, StripeWay, RecordWay, CryptogramWay, ChecksumWay, AnswerWay, answer-way, BrokenWay, broken-way}
 use Rattle.cabinet.specs.State.{amountIn}
-
--- no number is 0 and 1, no test passes and fails
-apart : {A : Type 0} → _≡_ {A = Bool} true false → A
-apart e = let z : _≡_ {A = ℕ} 0 1 = cc in absurd (omega arith)
 
 -- ---- what a step leaves
 
@@ -132,117 +116,3 @@ link-stays s buf = broken-stays s reasonLink buf
 
 pub stop-stays : (s : Session) (buf : List ℕ) → Stays s (stopStep s buf)
 stop-stays s buf = broken-stays s reasonStopped buf
-
--- ---- a session that does not run is refused (21), one that runs is not
-
-abbrev Goes : Step → Type 0
-Goes st = isRefusal (st .reply .answer) ≡ false
-
-module _ (s : Session) (card buf : List ℕ) where
-  goes-options : {st : Step} {t : Session} → OptionsWay t buf st → Goes st
-  goes-options (OptionsWay.failed m r) = refl
-  goes-options (OptionsWay.first r m a e) = refl
-
-  goes-records : {st : Step} {k : ℕ} {t : Session} → RecordsWay k t buf st → Goes st
-  goes-records (RecordsWay.failed m r x) = refl
-  goes-records RecordsWay.unlisted = refl
-  goes-records (RecordsWay.asked c f g) = refl
-
-  goes-stripe : {st : Step} {k : ℕ} {t : Session} → StripeWay k t buf st → Goes st
-  goes-stripe (StripeWay.failed m r) = refl
-  goes-stripe (StripeWay.asked c f g) = refl
-
-  goes-record : {st : Step} {p : Place} {t : Session} → RecordWay p t buf st → Goes st
-  goes-record (RecordWay.next r e) = refl
-  goes-record (RecordWay.last e m w) = goes-records w
-  goes-record (RecordWay.striped e m w) = goes-stripe w
-
-  options-goes : Goes (optionsStep (s .count) (stored s) card buf)
-  unfolding optionsStep
-  options-goes = if-ind Goes _ _ _ (λ e. goes-options (options-way (taken Awaited.Options s card) buf)) (λ e. refl)
-
-  record-goes : (p : Place) → Goes (recordStep p (s .count) (stored s) card buf)
-  unfolding recordStep
-  record-goes p = go (recordAt (locatorIn (stored s)) (p .number))
-    where
-      go : (x : Found) → Goes (recordFound p (s .count) (stored s) card buf x)
-      go Found.Nothing = refl
-      go (Found.At r) = if-ind Goes _ _ _ (λ e. goes-record (record-way p (taken (Awaited.Record (record { number = r .file })) s card) buf)) (λ e. refl)
-
-  abbrev Ends : Reply → Type 0
-  Ends r = Goes (withoutCommand r buf)
-
-  cryptogram-goes : (a : Asked) → Ends (cryptogramReply a (s .count) (stored s) card)
-  unfolding cryptogramReply
-  cryptogram-goes a = if-ind Ends _ _ _ (λ e. refl) (λ e. refl)
-
-  checksum-goes : Ends (checksumReply (s .count) (stored s) card)
-  unfolding checksumReply checksumTaken checksumRead
-  checksum-goes =
-      if-ind Ends _ _ _ (λ e. if-ind Ends _ _ _ (λ f. if-ind Ends _ _ _ (λ g. refl) (λ g. if-ind Ends _ _ _ (λ h. refl) (λ h. refl))) (λ f. refl)) (λ e. refl)
-
-  in-phase : (p : Phase) → isRunning p ≡ true → Goes (answerIn p s card buf)
-  in-phase Phase.Fresh e = apart (sym e)
-  in-phase Phase.Options e = options-goes
-  in-phase (Phase.Record p) e = record-goes p
-  in-phase (Phase.Cryptogram a) e = cryptogram-goes a
-  in-phase (Phase.Checksum c) e = checksum-goes
-  in-phase (Phase.Ended x) e = apart (sym e)
-
-  idle-phase : (p : Phase) → isRunning p ≡ false → answerIn p s card buf ≡ refuses s refusedPhase buf
-  idle-phase Phase.Fresh e = refl
-  idle-phase Phase.Options e = apart e
-  idle-phase (Phase.Record p) e = apart e
-  idle-phase (Phase.Cryptogram a) e = apart e
-  idle-phase (Phase.Checksum c) e = apart e
-  idle-phase (Phase.Ended x) e = refl
-
-  module _ (r : leastBuffer ≤ length buf) (i : inRanges s ≡ true) where
-    pub answer-goes : isRunning (s .phase) ≡ true → Goes (answerStep s card buf)
-    answer-goes e = ap (λ (st : Step). isRefusal (st .reply .answer)) (admitted-in s buf _ r i) ∙ in-phase (s .phase) e
-
-    pub answer-idle : isRunning (s .phase) ≡ false → answerStep s card buf ≡ refuses s refusedPhase buf
-    answer-idle e = admitted-in s buf _ r i ∙ idle-phase (s .phase) e
-
-module _ (s : Session) (n : ℕ) (buf : List ℕ) (r : leastBuffer ≤ length buf) (i : inRanges s ≡ true) where
-  ends-goes : (p : Phase) → isRunning p ≡ true → Goes (endsIn p s n buf)
-  ends-goes Phase.Fresh e = apart (sym e)
-  ends-goes Phase.Options e = refl
-  ends-goes (Phase.Record p) e = refl
-  ends-goes (Phase.Cryptogram a) e = refl
-  ends-goes (Phase.Checksum c) e = refl
-  ends-goes (Phase.Ended x) e = apart (sym e)
-
-  ends-idle : (p : Phase) → isRunning p ≡ false → endsIn p s n buf ≡ refuses s refusedPhase buf
-  ends-idle Phase.Fresh e = refl
-  ends-idle Phase.Options e = apart e
-  ends-idle (Phase.Record p) e = apart e
-  ends-idle (Phase.Cryptogram a) e = apart e
-  ends-idle (Phase.Checksum c) e = apart e
-  ends-idle (Phase.Ended x) e = refl
-
-  pub broken-goes : isRunning (s .phase) ≡ true → Goes (brokenOff s n buf)
-  broken-goes e = ap (λ (st : Step). isRefusal (st .reply .answer)) (admitted-in s buf _ r i) ∙ ends-goes (s .phase) e
-
-  pub broken-idle : isRunning (s .phase) ≡ false → brokenOff s n buf ≡ refuses s refusedPhase buf
-  broken-idle e = admitted-in s buf _ r i ∙ ends-idle (s .phase) e
-
--- ---- a loading is refused by 20, 23 or 24
-
-pub load-number : (b bytes : List ℕ) (n : ℕ) → load b bytes ≡ refusal n → n ≤ refusedAbsent
-unfolding load
-load-number b bytes n = if-ind P _ _ _ (λ e. by-run (primitives bytes)) (λ e. few refusedBytes (omega arith))
-  where
-    P : Loaded → Type 0
-    P x = x ≡ refusal n → n ≤ refusedAbsent
-
-    few : (m : ℕ) → m ≤ refusedAbsent → P (refusal m)
-    few m h e = let z : m ≡ n = cc in omega arith
-
-    by-set : (x : Option (List ℕ)) → P (afterSetting x)
-    by-set none = few refusedObject (omega arith)
-    by-set (some c) = if-ind P _ _ _ (λ t e. let z : _≡_ {A = ℕ} 0 1 = cc in absurd (omega arith)) (λ t. few refusedAbsent (omega arith))
-
-    by-run : (x : Option (List Object)) → P (afterRun b x)
-    by-run none = few refusedBytes (omega arith)
-    by-run (some os) = by-set (setAll b os)

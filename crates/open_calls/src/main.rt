@@ -32,6 +32,7 @@ fn statements() {
     word(b"explain_calls::refusal_word", explain_calls::refusal_word());
     line(b"rank::rank, of offline", basics::wide(rank_of(Choice::Offline)));
     found(b"cabinet_calls::most_approved", cabinet_calls::most_approved());
+    host_claim::demand_3_over_host_calls();
     let rows = dictionary::used_rows();
     line(b"dictionary::used_rows, the last", rows[46]);
 }

@@ -3,6 +3,7 @@ pub mod Kept
 pub mod Ranges
 pub mod EveryCall
 pub mod Rules
+pub mod Refusals
 pub mod Long
 pub mod Brought
 pub mod Trace

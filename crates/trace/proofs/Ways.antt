@@ -333,14 +333,14 @@ answer-way s card buf = admitted-ind (AnswerWay s card buf) s buf _ refused (λ 
 -- ---- the call start
 
 -- a loading is refused by 20, 23 or 24
-load-most : (b bytes : List ℕ) (n : ℕ) → load b bytes ≡ refusal n → n ≤ refusedRanges
+pub load-most : (b bytes : List ℕ) (n : ℕ) → load b bytes ≡ refusal n → n ≤ refusedAbsent
 unfolding load
 load-most b bytes n = if-ind P _ _ _ (λ e. by-run (primitives bytes)) (λ e. few refusedBytes (omega arith))
   where
     P : Loaded → Type 0
-    P x = x ≡ refusal n → n ≤ refusedRanges
+    P x = x ≡ refusal n → n ≤ refusedAbsent
 
-    few : (m : ℕ) → m ≤ refusedRanges → P (refusal m)
+    few : (m : ℕ) → m ≤ refusedAbsent → P (refusal m)
     few m h e = let z : m ≡ n = cc in omega arith
 
     by-set : (x : Option (List ℕ)) → P (afterSetting x)
@@ -374,7 +374,7 @@ start-way s bytes buf = admitted-ind P s buf _ refused (λ i. go i (s .phase) re
     sent b i q e (some c) f = asked b c i q e f
 
     by : Admitted s (length buf) → s .phase ≡ Phase.Fresh → (x : Loaded) → load (stored s) bytes ≡ x → P (startLoaded s buf x)
-    by i q (refusal n) e = refused n (load-most (stored s) bytes n e)
+    by i q (refusal n) e = refused n (omega (arith, load-most (stored s) bytes n e))
     by i q (loaded b) e = sent b i q e (processingOptions (stored (loadedSession s b))) refl
 
     go : Admitted s (length buf) → (p : Phase) → s .phase ≡ p → P (startIn p s bytes buf)

@@ -1,0 +1,82 @@
+-- One call over bytes that hold a session is the session's call: the record of the session that it leaves lies in front of the same bytes, and
+-- is read back by the next call. A record over a record leaves what one record leaves.
+-- Assumes nothing.
+use mathlib.Core.Path.{_≡_, sym, ap, _∙_}
+use mathlib.Core.Bool.{true}
+use mathlib.Core.Logic.{inl, inr}
+use mathlib.Core.List.{List, _++_}
+use mathlib.Core.Option.{some}
+use Prim.Native.Nat.{ℕ, _≤_}
+use native.Mathlib.Omega.{arith}
+use lib.Dec.{ltb}
+use lib.ListN.{length, drop, length-append}
+use lib.Seq.{drop-at}
+use borrow.Author.Tests.{le-leb}
+use Rattle.basics.specs.Reason.{refusedBuffer}
+use Rattle.basics.proofs.Laws.{if-yes, if-no, bool-cases}
+use Rattle.record.specs.declared.Session.{Session}
+use Rattle.record.specs.Ranges.{inRanges}
+use Rattle.record.proofs.Phases.{store-size}
+use Rattle.session.specs.Steps as steps
+use Rattle.session.specs.Steps.{Step, leastBuffer, admitted, linkStep, stopStep}
+use Rattle.session.specs.Start.{startStep}
+use Rattle.session.specs.Answer.{answerStep}
+use Rattle.layout.specs.Layout.{recordSize, encoded, withRecord, decoded}
+use Rattle.layout.specs.Word.{refusalWord}
+use Rattle.layout.proofs.Laws.{decode-encode, written-back, written-length}
+use Rattle.trace.specs.Calls.{Call, start, answer, link-failed, stop, step}
+use Rattle.host.specs.Hosted.{carries, stepped, hosted}
+use Rattle.host_claim.specs.Calls.{callOver}
+
+-- ---- a record in front of bytes that are enough
+
+written : (s : Session) (l : List ℕ) → recordSize ≤ length l → withRecord s l ≡ encoded s ++ drop recordSize l
+unfolding withRecord
+written s l h = if-yes _ _ (le-leb recordSize (length l) h)
+
+module _ (s : Session) (i : inRanges s ≡ true) (l : List ℕ) (h : recordSize ≤ length l) where
+  size : length (encoded s) ≡ recordSize
+  unfolding encoded
+  size = let z = store-size s i in simp length-append (omega arith)
+
+  -- it is read back
+  pub record-held : decoded (withRecord s l) ≡ some s
+  record-held = ap decoded (written s l h) ∙ decode-encode s (drop recordSize l) (store-size s i)
+
+  -- the bytes behind it stay, and all are enough as before
+  pub record-behind : drop recordSize (withRecord s l) ≡ drop recordSize l
+  record-behind = ap (drop recordSize) (written s l h) ∙ drop-at (encoded s) (drop recordSize l) recordSize size
+
+  pub record-enough : recordSize ≤ length (withRecord s l)
+  record-enough = omega (arith, written-length l s (store-size s i))
+
+  -- another record over it
+  pub record-over : (t : Session) → withRecord t (withRecord s l) ≡ withRecord t l
+  record-over t = written t (withRecord s l) record-enough ∙ ap (λ (x : List ℕ). encoded t ++ x) record-behind ∙ sym (written t l h)
+
+-- ---- a call
+
+-- a buffer that is too short is refused with 22 by both
+short : (s : Session) (buf : List ℕ) (st : Step) → ltb (length buf) leastBuffer ≡ true → admitted s buf st ≡ steps.refuses s refusedBuffer buf
+unfolding admitted
+short s buf st t = if-yes _ _ t
+
+module _ (l : List ℕ) (s : Session) (e : decoded l ≡ some s) where
+  call-is : (f : Session → List ℕ → Step) (buf : List ℕ) → (ltb (length buf) leastBuffer ≡ true → f s buf ≡ steps.refuses s refusedBuffer buf)
+      → hosted f l buf ≡ carries l (f s buf)
+  unfolding hosted
+  call-is f buf u = elim (bool-cases (ltb (length buf) leastBuffer)) [
+    | inl t ↦
+        if-yes _ _ t ∙ (λ i. record { word = refusalWord refusedBuffer; session = sym (written-back l s e) i; buffer = buf })
+        ∙ ap (carries l) (sym (u t))
+    | inr t ↦ if-no _ _ t ∙ ap (stepped f l buf) e
+  ]
+
+  over-session : (c : Call) → callOver l c ≡ carries l (step s c)
+  over-session (start bytes buf) = call-is (λ s b. startStep s bytes b) buf (short s buf _)
+  over-session (answer card buf) = call-is (λ s b. answerStep s card b) buf (short s buf _)
+  over-session (link-failed buf) = call-is linkStep buf (short s buf _)
+  over-session (stop buf) = call-is stopStep buf (short s buf _)
+
+pub as-session : (l : List ℕ) (s : Session) (c : Call) → decoded l ≡ some s → callOver l c ≡ carries l (step s c)
+as-session l s c e = over-session l s e c

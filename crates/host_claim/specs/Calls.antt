@@ -1,0 +1,55 @@
+-- The calls that a host makes on the bytes of one session: `emv_open` and the four calls of a session (document 01,
+-- "Calls and their numbers"), each on the bytes that the call before it left. What a call does is what its exported
+-- function promises (host/specs/Hosted). Bytes are any numbers: what holds of all lists of numbers holds of lists of
+-- bytes. `emv_wipe` writes, too: after it an `emv_open` comes first.
+-- Assumes nothing.
+use mathlib.Core.List.{List, [], _∷_}
+use Prim.Native.Nat.{ℕ}
+use Rattle.record.specs.Session.{freshSession}
+use Rattle.session.specs.Steps.{linkStep, stopStep}
+use Rattle.layout.specs.Layout.{withRecord}
+use Rattle.trace.specs.Calls.{Call, start, answer, link-failed, stop}
+use Rattle.host.specs.Hosted.{Hosted, hosted, startOver, answerOver, openWord}
+
+-- ---- the calls
+
+-- `emv_open`; or `emv_start`, `emv_answer`, `emv_link_failed`, `emv_stop`, with the bytes that come in and the caller's
+-- command buffer, as a session's call has them
+pub data HostCall : Type 0 where
+  opening : HostCall
+  on-session : Call → HostCall
+
+-- what one of the four does on the session's bytes l: the promises of the exported functions
+abbrev pub callOver : List ℕ → Call → Hosted
+callOver l (start bytes buf) = startOver bytes l buf
+callOver l (answer card buf) = answerOver card l buf
+callOver l (link-failed buf) = hosted linkStep l buf
+callOver l (stop buf) = hosted stopStep l buf
+
+-- what a call does; `emv_open` has no command buffer
+abbrev pub hostStep : List ℕ → HostCall → Hosted
+hostStep l opening = record { word = openWord l; session = withRecord freshSession l; buffer = [] }
+hostStep l (on-session c) = callOver l c
+
+-- ---- a list of calls
+
+-- a call that was made, with its result word and the command buffer after it
+pub record CompletedCall : Type 0 where
+  pub call : HostCall
+  pub word : ℕ
+  pub buffer : List ℕ
+
+-- the same as a function of the three
+abbrev pub completedCall : HostCall → ℕ → List ℕ → CompletedCall
+completedCall c w buf = record { call = c; word = w; buffer = buf }
+
+-- the calls of a list, each on the bytes that the call before it left
+unfoldable pub completedCalls : List ℕ → List HostCall → List CompletedCall
+completedCalls l [] = []
+completedCalls l (c ∷ cs) =
+    completedCall c (hostStep l c .word) (hostStep l c .buffer) ∷ completedCalls (hostStep l c .session) cs
+
+-- the bytes that the last call left
+unfoldable pub bytesAfter : List ℕ → List HostCall → List ℕ
+bytesAfter l [] = l
+bytesAfter l (c ∷ cs) = bytesAfter (hostStep l c .session) cs

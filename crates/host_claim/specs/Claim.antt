@@ -1,0 +1,98 @@
+-- Demand 3 at the C boundary (document 01, "What demand 3 counts"): the claim of trace/specs/Claim over the result
+-- words, the command buffers and the session's bytes of a host's calls, and that it is that claim of session's calls.
+-- Assumes nothing.
+use mathlib.Core.Path.{_≡_}
+use mathlib.Core.Bool.{true}
+use mathlib.Core.List.{List, [], _∷_, _++_, map}
+use mathlib.Core.Option.{some}
+use Prim.Native.Nat.{ℕ, _+_, _≤_}
+use lib.ListN.{length, take, drop}
+use Rattle.basics.specs.Choice.{every}
+use Rattle.record.specs.declared.Session.{Session}
+use Rattle.record.specs.Session.{freshSession}
+use Rattle.layout.specs.Layout.{recordSize, withRecord, decoded}
+use Rattle.layout.specs.Word.{wordOf}
+use Rattle.trace.specs.Calls.{Call, Made, said, play, final, commands, taken, unanswered, lastOf}
+use Rattle.trace.specs.Order.{kindOf, published, lastKind, acceptedLocator}
+use Rattle.trace.specs.Claim.{isFresh, isRunning, isEnded, most, oneIf, Proper}
+use Rattle.host.specs.Hosted.{countWord}
+use Rattle.host_claim.specs.Calls.{HostCall, opening, on-session, CompletedCall, completedCall}
+use Rattle.host_claim.specs.Words.{isNotRanges, sinceOpening, hostCommands, notRefused, hostUnanswered}
+use Rattle.host_claim.specs.Words.{hostAfl, hostLastKind, isNone, isLastCommand, isLastOutcome}
+
+-- ---- demand 3, read off words and buffers
+
+-- ms are the calls since the last accepted opening, and l are the session's bytes after them
+pub record HostDemand3 (ms : List CompletedCall) (l : List ℕ) : Type 0 where
+  -- the bytes hold a session
+  pub session : Session
+  pub held : decoded l ≡ some session
+  -- the N commands handed out are the first N of the published order
+  pub order : map kindOf (hostCommands ms)
+      ≡ take (length (hostCommands ms)) (published (hostLastKind ms) (hostAfl ms))
+  -- N is the word of `emv_count`
+  pub count : countWord (decoded l) ≡ length (hostCommands ms)
+  -- N is at most 1 while no AFL is accepted, and at most 2 + R from then on
+  pub bound : length (hostCommands ms) ≤ most (hostAfl ms)
+  -- N is never over 130
+  pub never-over : length (hostCommands ms) ≤ 130
+  -- the session is fresh where no call was taken, runs where the last call not refused handed back a command, and has
+  -- ended where it handed back an outcome
+  pub fresh : isFresh (session .phase) ≡ isNone (lastOf (notRefused ms))
+  pub running : isRunning (session .phase) ≡ isLastCommand (lastOf (notRefused ms))
+  pub ended : isEnded (session .phase) ≡ isLastOutcome (lastOf (notRefused ms))
+  -- while it runs exactly one command is unanswered, the last one handed out
+  pub one-unanswered : isRunning (session .phase) ≡ true → length (hostUnanswered ms) ≡ 1
+  pub last-unanswered : isRunning (session .phase) ≡ true → lastOf (hostUnanswered ms) ≡ lastOf (hostCommands ms)
+  -- the calls not refused are N, and one more once the session has ended; so they are never over 131
+  pub calls : length (notRefused ms) ≡ length (hostCommands ms) + oneIf (isEnded (session .phase))
+  pub never-over-131 : length (notRefused ms) ≤ 131
+
+-- ---- the same calls on a session
+
+-- the session's call that a call is; an opening is none
+abbrev pub sessionCall : HostCall → List Call
+sessionCall opening = []
+sessionCall (on-session c) = c ∷ []
+
+-- those of a list
+unfoldable pub sessionCalls : List CompletedCall → List Call
+sessionCalls [] = []
+sessionCalls (m ∷ ms) = sessionCall (m .call) ++ sessionCalls ms
+
+-- they are played from a fresh session
+abbrev pub sessionPlay : List CompletedCall → List Made
+sessionPlay ms = play freshSession (sessionCalls ms)
+
+abbrev pub sessionAfter : List CompletedCall → Session
+sessionAfter ms = final freshSession (sessionCalls ms)
+
+-- a session's call as the host sees it: the word of its reply, and its buffer
+abbrev pub asCompleted : Made → CompletedCall
+asCompleted m = completedCall (on-session (m .call)) (wordOf (said m)) (m .step .buffer)
+
+-- ms are the calls since the last accepted opening, l are the bytes after them, and before are those that were opened
+pub record SameAsSession (before : List ℕ) (ms : List CompletedCall) (l : List ℕ) : Type 0 where
+  -- every word is that of the session's reply, and every buffer is the session's
+  pub words : ms ≡ map asCompleted (sessionPlay ms)
+  -- the bytes are the record of the session after these calls, and those behind the record stay
+  pub record-after : l ≡ withRecord (sessionAfter ms) before
+  pub behind : drop recordSize l ≡ drop recordSize before
+  -- demand 3 of these calls as session's own, and that what is read off the words and the buffers is what it speaks of
+  pub proper : Proper (sessionPlay ms) (sessionAfter ms)
+  pub same-commands : hostCommands ms ≡ commands (sessionPlay ms)
+  pub same-taken : notRefused ms ≡ map asCompleted (taken (sessionPlay ms))
+  pub same-unanswered : hostUnanswered ms ≡ unanswered (sessionPlay ms)
+  pub same-afl : hostAfl ms ≡ acceptedLocator (sessionPlay ms)
+  pub same-last-kind : hostLastKind ms ≡ lastKind (sessionPlay ms)
+
+-- ---- the claim
+
+-- ms are the calls of a list made since an opening of the bytes `before` was accepted (`completedCalls`), and l are the
+-- bytes that the last of them left (`bytesAfter`), those of the opening where there are none. A later opening that is
+-- accepted begins anew
+pub record HostClaim (before : List ℕ) (ms : List CompletedCall) (l : List ℕ) : Type 0 where
+  pub demand-3 : HostDemand3 (sinceOpening ms) l
+  pub as-session : SameAsSession before (sinceOpening ms) l
+  -- none of all the calls was refused with 25, an opening neither
+  pub never-25 : every isNotRanges ms ≡ true

@@ -1,0 +1,154 @@
+-- What a host reads off the result words and the command buffers of its calls (document 01, "What demand 3 counts";
+-- docs/HOST.md has the words). Nothing here reads the session's bytes.
+-- Assumes nothing.
+use mathlib.Core.Bool.{Bool, true, false, not}
+use mathlib.Core.List.{List, [], _∷_, _++_}
+use mathlib.Core.Option.{Option, some, none}
+use Prim.Native.Nat.{ℕ}
+use lib.ListN.{take}
+use Rattle.basics.specs.Choice.{if_then_else_, _and_, _or_, _=?_}
+use Rattle.basics.specs.Reason.{refusedRanges}
+use Rattle.layout.specs.Word.{kindOf, ofCommand, ofOutcome, ofRefusal, refusalWord}
+use Rattle.trace.specs.Calls.{start, answer, link-failed, stop, isAnswer}
+use Rattle.trace.specs.Order.{broughtLocator, Kind, cryptogram, lastBy}
+use Rattle.host_claim.specs.Calls.{HostCall, opening, on-session, CompletedCall}
+
+-- ---- a result word
+
+-- its kind says whether the call handed back a command, an outcome or a refusal
+abbrev pub isCommandWord : ℕ → Bool
+isCommandWord w = kindOf w =? ofCommand
+
+abbrev pub isOutcomeWord : ℕ → Bool
+isOutcomeWord w = kindOf w =? ofOutcome
+
+abbrev pub isRefusalWord : ℕ → Bool
+isRefusalWord w = kindOf w =? ofRefusal
+
+-- the call was not refused with 25
+abbrev pub isNotRanges : CompletedCall → Bool
+isNotRanges m = not (m .word =? refusalWord refusedRanges)
+
+-- ---- the calls since the last accepted opening
+
+abbrev pub isOpening : HostCall → Bool
+isOpening opening = true
+isOpening (on-session c) = false
+
+-- an opening that was not refused
+abbrev pub beginsAnew : CompletedCall → Bool
+beginsAnew m = isOpening (m .call) and not (isRefusalWord (m .word))
+
+-- one is among these calls
+unfoldable pub openingAmong : List CompletedCall → Bool
+openingAmong [] = false
+openingAmong (m ∷ ms) = beginsAnew m or openingAmong ms
+
+-- the calls behind the last one; all where there is none
+unfoldable pub sinceOpening : List CompletedCall → List CompletedCall
+sinceOpening [] = []
+sinceOpening (m ∷ ms) =
+    if openingAmong ms then sinceOpening ms
+    else if beginsAnew m then ms
+    else m ∷ ms
+
+-- ---- what these calls handed out
+
+-- a command is the front of its call's buffer, of the length that the word says, as it stands after the call
+abbrev pub commandOf : CompletedCall → List (List ℕ)
+commandOf m =
+    if isCommandWord (m .word) then take (m .word) (m .buffer) ∷ []
+    else []
+
+-- the commands handed out, in order
+unfoldable pub hostCommands : List CompletedCall → List (List ℕ)
+hostCommands [] = []
+hostCommands (m ∷ ms) = commandOf m ++ hostCommands ms
+
+-- the calls that were not refused
+unfoldable pub notRefused : List CompletedCall → List CompletedCall
+notRefused [] = []
+notRefused (m ∷ ms) =
+    if isRefusalWord (m .word) then notRefused ms
+    else m ∷ notRefused ms
+
+-- ---- unanswered: a command after which no answer that is not refused has come
+
+-- the call `emv_answer`
+abbrev pub isAnswerCall : HostCall → Bool
+isAnswerCall opening = false
+isAnswerCall (on-session c) = isAnswer c
+
+-- one is among these calls
+unfoldable pub answerAmong : List CompletedCall → Bool
+answerAmong [] = false
+answerAmong (m ∷ ms) = isAnswerCall (m .call) or answerAmong ms
+
+-- of calls that were not refused, the commands that no answer comes after
+unfoldable pub withoutAnswer : List CompletedCall → List (List ℕ)
+withoutAnswer [] = []
+withoutAnswer (m ∷ ms) =
+    if answerAmong ms then withoutAnswer ms
+    else commandOf m ++ withoutAnswer ms
+
+-- refused calls answer nothing
+unfoldable pub hostUnanswered : List CompletedCall → List (List ℕ)
+hostUnanswered ms = withoutAnswer (notRefused ms)
+
+-- ---- the accepted AFL (document 01: accepted locator), and the last command of the published order
+
+-- the first answer among calls
+unfoldable pub firstAnswerCall : List CompletedCall → Option CompletedCall
+firstAnswerCall [] = none
+firstAnswerCall (m ∷ ms) =
+    if isAnswerCall (m .call) then some m
+    else firstAnswerCall ms
+
+-- the AFL that the card bytes of a call bring: only an answer has card bytes
+abbrev pub cardAfl : HostCall → Option (List ℕ)
+cardAfl opening = none
+cardAfl (on-session (start bytes buf)) = none
+cardAfl (on-session (answer card buf)) = broughtLocator card
+cardAfl (on-session (link-failed buf)) = none
+cardAfl (on-session (stop buf)) = none
+
+-- the first answer has no reason exactly where its word is that of a command. That this is the accepted AFL by the rules
+-- is `same-afl` of the claim
+abbrev pub aflRead : Option CompletedCall → Option (List ℕ)
+aflRead none = none
+aflRead (some m) =
+    if isCommandWord (m .word) then cardAfl (m .call)
+    else none
+
+-- refused calls are skipped
+unfoldable pub hostAfl : List CompletedCall → Option (List ℕ)
+hostAfl ms = aflRead (firstAnswerCall (notRefused ms))
+
+-- the last command by the AIP that the first answer brings
+abbrev pub lastByCall : HostCall → Kind
+lastByCall opening = cryptogram
+lastByCall (on-session c) = lastBy c
+
+abbrev pub lastKindRead : Option CompletedCall → Kind
+lastKindRead none = cryptogram
+lastKindRead (some m) = lastByCall (m .call)
+
+unfoldable pub hostLastKind : List CompletedCall → Kind
+hostLastKind ms = lastKindRead (firstAnswerCall (notRefused ms))
+
+-- ---- what the last call that was not refused says
+
+-- there is none
+abbrev pub isNone : Option CompletedCall → Bool
+isNone none = true
+isNone (some m) = false
+
+-- it handed back a command
+abbrev pub isLastCommand : Option CompletedCall → Bool
+isLastCommand none = false
+isLastCommand (some m) = isCommandWord (m .word)
+
+-- it handed back an outcome
+abbrev pub isLastOutcome : Option CompletedCall → Bool
+isLastOutcome none = false
+isLastOutcome (some m) = isOutcomeWord (m .word)
