@@ -4,6 +4,7 @@
 #     make install [PREFIX=/usr/local] [DESTDIR=]
 #     make uninstall
 #     make flat          target/staticlib/libhost_flat.a, the kernel's without recursion (docs/HOST.md); it is not installed
+#     make tests         the archives that the Rust tests and benchmarks link beside; they are not installed
 #
 # An archive is proved and built by `rt staticlib NAME` where it is missing or older than a crate that it has.
 PREFIX = /usr/local
@@ -16,6 +17,7 @@ card_archive = target/staticlib/libpersonalise.a
 card_header = include/tripodmoon_personalise.h
 cabinet_archive = target/staticlib/libcabinet.a
 cabinet_header = include/tripodmoon_cabinet.h
+test_archives = target/staticlib/libreading_test.a target/staticlib/libreading_flat_test.a target/staticlib/libjournal_test.a
 
 # The three parts of the library's version, from the header.
 word = $(shell sed -n 's/^.define EMV_VERSION \(0x[0-9A-Fa-f]*\)u$$/\1/p' $(header))
@@ -31,11 +33,13 @@ installed = '$(headers)/tripodmoon.h' '$(headers)/tripodmoon_personalise.h' '$(h
 crates = $(wildcard $(addprefix crates/,$(1) $(shell sed -n 's/^$(1)://p' crates.txt)))
 sources = crates.txt $(shell find $(call crates,$(1)) -type f -not -path '*/must-fail/*')
 
-.PHONY: all flat install uninstall
+.PHONY: all flat tests install uninstall
 
 all: $(archive) $(card_archive) $(cabinet_archive)
 
 flat: $(flat_archive)
+
+tests: $(test_archives)
 
 $(archive): $(call sources,host)
 	rt staticlib host
@@ -48,6 +52,15 @@ $(card_archive): $(call sources,personalise)
 
 $(cabinet_archive): $(call sources,cabinet)
 	rt staticlib cabinet
+
+target/staticlib/libreading_test.a: $(call sources,reading_test)
+	rt staticlib reading_test
+
+target/staticlib/libreading_flat_test.a: $(call sources,reading_flat_test)
+	rt staticlib reading_flat_test
+
+target/staticlib/libjournal_test.a: $(call sources,journal_test)
+	rt staticlib journal_test
 
 install: $(archive) $(card_archive) $(cabinet_archive)
 	mkdir -p '$(headers)' '$(folder)' '$(dir $(package))'

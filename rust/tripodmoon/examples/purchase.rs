@@ -1,7 +1,7 @@
-//! A whole purchase with a simulated card.
+//! A whole purchase with a simulated card. It links libhost.a alone. In the folder rust/:
 //!
-//!     cargo run --example purchase        a card of three records
-//!     cargo run --example purchase one    a card of one record
+//!     cargo run --offline -p tripodmoon --example purchase        a card of three records: approved
+//!     cargo run --offline -p tripodmoon --example purchase one    a card of one record: an online request
 //!
 //! Prints each command, each answer and the outcome. After the first record the session's bytes are
 //! kept and taken up again, as after a loss of power.
@@ -45,7 +45,7 @@ const TERMINAL: &str = "
     9A 03 250615   9C 01 00   9F02 06 000000001234   9F09 02 0002   9F1A 02 0056   9F35 01 22
     9F37 04 5A3C96E1   9F6A 04 00003456   DF8120 05 0000000000   DF8121 05 0000000000   DF8122 05 0000000000
     DF8123 06 000000010000   DF8124 06 000000100000   DF8125 06 000000200000   DF8126 06 000000002500
-    DF811B 01 00   9F6A 04 00003456   9F33 03 E0F8C8   5F2A 02 0978   9F38 05 9F0206 9A03";
+    DF811B 01 00   9F33 03 E0F8C8   5F2A 02 0978   9F38 05 9F0206 9A03";
 
 impl Card {
     /// The card's answer to a command, status bytes included.
