@@ -400,8 +400,8 @@ pub struct Range {
     pub to: usize,
 }
 
-// The row of a tag, and the looks of its search. The table it searches keeps its rule: rising, well-formed tags, lengths
-// in order.
+// The row of a tag, and the looks of its search. The table it searches keeps its rule: rising, well-formed tags,
+// lengths in order.
 pub fn lookup(tag: u32) -> Searched
     ensures found { λ r. ⌜ r .found ≡ find rows tag ⌝ }
     ensures halving { λ r. ⌜ r ≡ searchOf (tagsOf rows) tag ⌝ }
@@ -444,8 +444,8 @@ pub fn search(tags: &[u32], tag: u32) -> Searched
     }
 }
 
-// The row of a tag with the tags lent: the search goes over the part of the table that a tag of this many bytes, with this
-// first byte, can stand in.
+// The row of a tag with the tags lent: the search goes over the part of the table that a tag of this many bytes, with
+// this first byte, can stand in.
 pub fn row_of(tags: &[u32], tag: u32) -> Searched
     requires { ⌜ now tags ≡ tagsOf rows ⌝ }
     ensures found { λ r. ⌜ r .found ≡ find rows tag ⌝ }

@@ -32,8 +32,7 @@ pub fn empty() -> Store
 
 // Writes 0 over all of a store's bytes: the empty store.
 pub fn clear(bytes: &mut [u8])
-    requires { ⌜ length (now bytes) ≡ storeSize ⌝ }
-    ensures { λ _. ⌜ now (bytes .exit) ≡ replicate storeSize 0 ⌝ }
+    ensures { λ _. ⌜ now (bytes .exit) ≡ replicate (length (now (bytes .entry))) 0 ⌝ }
 {
     let mut i = 0;
     while i < bytes.len() {

@@ -60,7 +60,7 @@ unfoldable pub setRun : List ℕ → Option (List Object) → Option (List ℕ)
 setRun b none = none
 setRun b (some os) = setAll b os
 
--- what is said and left of a working store: all were set, or one may not be and the working store is given up
+-- what is said and left of a store: all were set; or one may not be set, and the store is given up
 abbrev pub Sets : Bool → List ℕ → Option (List ℕ) → Type 0
 Sets r c none = r ≡ false
 Sets r c (some d) = (r ≡ true) × (c ≡ d)

@@ -1,8 +1,8 @@
 // The start bytes of a session into a store, or the refusal that they meet.
 //
 // `load` first finds whether the bytes are a run of whole primitive objects, then sets the objects one
-// after the other, then sees that all that a start must bring is there. The store is empty before, so a
-// refusal leaves it by clearing it.
+// after the other, then sees that all that a start must bring is there. The store is empty before the call,
+// and a refusal clears it again.
 use dictionary::Found;
 use dictionary::ROWS;
 use record::Refusal;
@@ -39,14 +39,21 @@ pub fn load(store: &mut [u8], terminal: &[u8]) -> Said
     let tags = dictionary::tags();
     let codes = dictionary::codes();
     if !set_objects(terminal, store, &tags, &codes) {
-        store::clear(store);
-        return refused(basics::REFUSED_OBJECT);
+        return cleared(store, basics::REFUSED_OBJECT);
     }
     if !record::all_brought(&store[..]) {
-        store::clear(store);
-        return refused(basics::REFUSED_ABSENT);
+        return cleared(store, basics::REFUSED_ABSENT);
     }
     Said::Taken
+}
+
+// A refusal by its number, once objects were set: the store is cleared of them.
+fn cleared(store: &mut [u8], number: u8) -> Said
+    ensures said { λ r. ⌜ r ≡ Said.Refused (record { number = number }) ⌝ }
+    ensures empty { λ _. ⌜ now (store .exit) ≡ replicate (length (now (store .entry))) 0 ⌝ }
+{
+    store::clear(store);
+    refused(number)
 }
 
 // A refusal by its number.

@@ -1,10 +1,9 @@
 -- `store::clear` meets its contract. The loop's invariant: the length stays, and the bytes passed are zeros.
 -- Assumes nothing.
-use mathlib.Core.Path.{_≡_, refl, _∙_}
+use mathlib.Core.Path.{_≡_, refl}
 use Prim.Native.Nat.{_≤_, _-_}
 use native.Mathlib.Omega.{arith}
 use lib.ListN.{length, take, replicate, length-set}
-use Rattle.dictionary.specs.Rows.{storeSize}
 use Rattle.store.proofs.Cleared.{clear-next, clear-all}
 use Rattle.store.proofs.clear.Statement.{statement}
 use Rattle.store.proofs.clear.Tie as tie
@@ -23,7 +22,7 @@ loop-again c =
 returns : tie.Need-returns Inv-loop μ-loop
 returns c =
     let g = c .before .loop in
-    clear-all (g .bytes) (g .i) _ (g .inv .0 ∙ c .before .before .pre) (g .inv .1) (c .loop-test .left) (g .inv .2)
+    clear-all (g .bytes) (g .i) _ (g .inv .0) (g .inv .1) (c .loop-test .left) (g .inv .2)
 
 pub clear-spec : {M : Type 1} → statement M
 clear-spec =

@@ -12,7 +12,10 @@ use Rattle.terminal.proofs.Setting.{was-set, was-not}
 use Rattle.terminal.proofs.load.Statement.{statement}
 use Rattle.terminal.proofs.load.Tie as tie
 
--- the empty store has its size
+-- a store of its size that is cleared is empty, and the empty store has its size
+empty : {n : ℕ} {c : List ℕ} → n ≡ storeSize → c ≡ replicate n 0 → c ≡ replicate storeSize 0
+empty l e = e ∙ ap (λ (m : ℕ). replicate m 0) l
+
 sized : (b : List ℕ) → b ≡ replicate storeSize 0 → length b ≡ storeSize
 sized b e = ap length e ∙ length-replicate {A = ℕ} storeSize 0
 
@@ -37,27 +40,34 @@ set-objects-requires c κs = (sized _ (c .before .before .before .before .before
 
 returns-3 : tie.Need-returns-3
 returns-3 c =
-    let so = c .before .before .before .before .before .before .before .before in
-    let r = c .before .before .before .before .before .before .before .before .before .before .before .before .before .before .before in
-    let st = c .before .before .before .before .before .before .before .before .before .before .before .before .before .before .before .before .before .before .before in
+    let k = c .before .before in
+    let t = k .before .before in
+    let so = t .before .before .before in
+    let run = so .before .before .before .before .before .before in
+    let r = run .before in
+    let st = r .before .before .before .before in
     let a = st .args in
-    let e = c .before .before .before .clear .ensures in (
-      refuses-as (a .store .now) _ (e ∙ sym (st .pre)) (c .refused3 .ensures)
-          (load-object (a .store .now) (a .terminal .now) (r .before .if1 .left) (sym (r .is-run .ensures) ∙ not-false _ (c .before .before .before .before .before .before .before .before .before .before .before .before .before .before .if2 .left))
-          (was-not _ _ (so .set-objects .ensures .0) (not-true _ (c .before .before .before .before .before .if3 .taken)))),
+    let e = empty (so .set-objects .ensures .1) (k .cleared .ensures .1) in (
+      refuses-as (a .store .now) _ (e ∙ sym (st .pre)) (k .cleared .ensures .0)
+          (load-object (a .store .now) (a .terminal .now) (r .before .if1 .left) (sym (r .is-run .ensures) ∙ not-false _ (run .if2 .left))
+          (was-not _ _ (so .set-objects .ensures .0) (not-true _ (t .if3 .taken)))),
       sized _ e,
     )
 
 returns-4 : tie.Need-returns-4
 returns-4 c =
-    let so = c .before .before .before .before .before .before .before .before .before .before .before in
-    let st = c .before .before .before .before .before .before .before .before .before .before .before .before .before .before .before .before .before .before .before .before .before .before in
+    let k = c .before .before in
+    let t = k .before .before in
+    let b = t .before in
+    let so = b .before .before .before .before .before in
+    let r = so .before .before .before .before .before .before .before in
+    let st = r .before .before .before .before in
     let a = st .args in
-    let e = c .before .before .before .clear2 .ensures in (
-      refuses-as (a .store .now) _ (e ∙ sym (st .pre)) (c .refused4 .ensures)
-          (load-absent (a .store .now) (a .terminal .now) (c .before .before .before .before .before .before .before .before .before .before .before .before .before .before .before .before .before .before .before .if1 .left) _
-          (was-set _ (so .set-objects .ensures .0) (not-false _ (c .before .before .before .before .before .before .before .before .if3 .left)))
-          (sym (c .before .before .before .before .before .before .all-brought .ensures) ∙ not-true _ (c .before .before .before .before .before .if4 .taken))),
+    let e = empty (so .set-objects .ensures .1) (k .cleared2 .ensures .1) in (
+      refuses-as (a .store .now) _ (e ∙ sym (st .pre)) (k .cleared2 .ensures .0)
+          (load-absent (a .store .now) (a .terminal .now) (r .before .if1 .left) _
+          (was-set _ (so .set-objects .ensures .0) (not-false _ (b .before .before .if3 .left)))
+          (sym (b .all-brought .ensures) ∙ not-true _ (t .if4 .taken))),
       sized _ e,
     )
 
@@ -84,14 +94,12 @@ load-spec =
     (λ c κs. search needs)
     (λ c κs. search needs)
     set-objects-requires
-    (λ c κs. c .before .before .before .before .set-objects .ensures .1)
     (λ c κs. search needs)
-    (λ c. ap length (c .before .before .before .clear .ensures ∙ sym (c .before .before .before .before .before .before .before .before .before .before .before .before .before .before .before .before .before .before .before .pre)))
+    (λ c. ap length (empty (c .before .before .before .before .before .before .before .set-objects .ensures .1) (c .before .before .cleared .ensures .1) ∙ sym (c .before .before .before .before .before .before .before .before .before .before .before .before .before .before .before .before .before .before .pre)))
     returns-3
     (λ c κs. search needs)
-    (λ c κs. c .before .before .before .before .before .before .before .set-objects .ensures .1)
     (λ c κs. search needs)
-    (λ c. ap length (c .before .before .before .clear2 .ensures ∙ sym (c .before .before .before .before .before .before .before .before .before .before .before .before .before .before .before .before .before .before .before .before .before .before .pre)))
+    (λ c. ap length (empty (c .before .before .before .before .before .before .before .before .before .before .set-objects .ensures .1) (c .before .before .cleared2 .ensures .1) ∙ sym (c .before .before .before .before .before .before .before .before .before .before .before .before .before .before .before .before .before .before .before .before .before .pre)))
     returns-4
     (λ c. c .before .before .before .before .before .before .set-objects .ensures .1 ∙ sym (sized _ (c .before .before .before .before .before .before .before .before .before .before .before .before .before .before .before .before .before .pre)))
     returns-5)
