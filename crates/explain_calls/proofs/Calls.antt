@@ -57,7 +57,7 @@ use Rattle.explain.proofs.Laws.{stripe-mode-is}
 use Rattle.explain.proofs.Complete.{Complete, running-complete, waiting-answers, ended-answers, reason-answers, stripe-answers, phase-answers}
 use Rattle.explain_calls.specs.Explained.{onCryptogram, isDecided, bringsCode, codeBrought, codeLast, endsWithCode, p1s, choiceStores, Explained}
 use Rattle.explain_calls.proofs.Kept.{SameTerminal, SameCard, same-choice, same-complete, read-results, read-terminal, read-configuration, read-card, asked-choice}
-use Rattle.explain_calls.proofs.Chosen.{apart, not-asked, is-asked, other-instruction, record-command, generate-sent, KeptChoice, kept-on, chosen-now, isEarly, Traced, fresh-traced, sentBy, storesBy, Traces, none-added, none-traced, refused-traced, joined, explains-clause, p1-clause, stage-clause, bit-clause, no-bit-clause, holder-clause, lower-clause, not-lower-clause}
+use Rattle.explain_calls.proofs.Chosen.{apart, not-asked, is-asked, other-instruction, record-command, Asks, generate-sent, KeptChoice, kept-on, chosen-now, isEarly, Traced, TracedBy, fresh-traced, sentBy, storesBy, Traces, none-added, none-traced, refused-traced, joined, explains-clause, p1-clause, stage-clause, bit-clause, no-bit-clause, holder-clause, lower-clause, not-lower-clause}
 
 -- an explanation that is no refusal
 no-refusal : {P : Type 0} → Explanation.NoChoice ≡ Explanation.Refused → P
@@ -257,7 +257,7 @@ module _ (s : Session) (card buf : List ℕ) (i : inRanges s ≡ true) where
         };
       })
     where
-      sent : (isFront 0x80 0xAE x ≡ true) × (getD x 2 0 ≡ p1Of (askedIn m b .choice))
+      sent : Asks (p1Of (askedIn m b .choice)) x
       sent = generate-sent (p1Of (askedIn m b .choice)) (withFindings b (findingsOf b)) x g
 
   records-leaves : {st : Step} (m : ℕ) (b : List ℕ) → length b ≡ storeSize → isEarly (s .phase) ≡ true → RecordsWay m (ways.withStore s b) buf st → Leaves s c st
@@ -430,7 +430,7 @@ always s cs q i =
     in-ranges : inRanges (final s cs) ≡ true
     in-ranges = all-keep s cs i
 
-    traced : Traced (p1s (commandsOf ms)) (choiceStores ms) (endsWithCode ms) (final s cs)
+    traced : TracedBy ms (final s cs)
     traced =
         subst (λ (x : Bool). Traced (p1s (commandsOf ms)) (choiceStores ms) x (final s cs)) (by-last-is (lastOf (taken ms)))
         (traced-on s cs false i no-choice [] [] (fresh-traced s q))

@@ -1,5 +1,6 @@
--- What calls keep of a choice: P1 of the GENERATE AC that was handed out, the store that it left, and that since then what the choice goes
--- by has not changed. So what explain says of the final store it says of that one, and each clause on the choice follows.
+-- What calls keep of a choice: P1 of the GENERATE AC that was handed out, the store that it left, and that since then
+-- what the choice goes by has not changed. So what explain says of the final store it says of that one, and each clause
+-- on the choice follows.
 -- Assumes nothing.
 use mathlib.Core.Path.{_≡_, refl, sym, ap, ap₂, subst, _∙_}
 use mathlib.Core.Bool.{Bool, true, false, not}
@@ -14,7 +15,8 @@ use lib.Dec.{eqb}
 use borrow.Author.Tests.{eq-eqb, ne-eqb, eqb-true, eqb-false, ltb-false, not-true}
 use Rattle.basics.specs.Choice.{if, both, either}
 use Rattle.basics.specs.Reason.{reasonNone}
-use Rattle.basics.proofs.Laws.{bool-cases, if-ind, if-yes, if-no, both-yes, both-left, both-right, both-no-left, both-no-right}
+use Rattle.basics.proofs.Laws.{bool-cases, if-ind, if-yes, if-no}
+use Rattle.basics.proofs.Laws.{both-yes, both-left, both-right, both-no-left, both-no-right}
 use Rattle.store.specs.Place.{Value, bytesOf, valueOf}
 use Rattle.locator.specs.declared.CardRecord.{CardRecord}
 use Rattle.locator.specs.Command.{readRecord}
@@ -44,11 +46,15 @@ use Rattle.explain.specs.declared.Deciding.{Deciding}
 use Rattle.explain.specs.declared.Explanation.{Explanation}
 use Rattle.explain.specs.declared.Holder.{Holder}
 use Rattle.explain.specs.declared.Stage.{Stage}
-use Rattle.explain.specs.Explain.{resultIn, choiceIn, stageBy, stageIn, decidingIn, holderBy, holderOf, pairAt, byBit, reasonAt, waitingAt}
-use Rattle.explain.specs.Explain.{cryptogramRank, typeIn, typeAsked, decidedAt, endedIn, cardAsksMagStripe, inPhase, explained}
+use Rattle.explain.specs.Explain.{resultIn, choiceIn, stageBy, stageIn, decidingIn, holderBy, holderOf, pairAt, byBit}
+use Rattle.explain.specs.Explain.{reasonAt, waitingAt, cryptogramRank, typeIn, typeAsked, decidedAt, endedIn}
+use Rattle.explain.specs.Explain.{cardAsksMagStripe, inPhase, explained}
 use Rattle.explain.specs.Told.{forcedBy, unforcedBy, Named, Unnamed, Told}
 use Rattle.explain.proofs.Laws.{deciding-stage, ended-reason, by-reason, by-stripe, by-choice, same-p1, told}
-use Rattle.explain_calls.specs.Explained.{onCryptogram, isDecided, hasChoice, endsWithCode, generateAcs, p1s, choiceStores, AtChoice, tvrIn, consulted, holdsAt, isDenied, capabilityIn, DecidedAt, LowestAt, NoneAt, isCard, isTerminal, HeldBy, explainedChoice, explainedStage, OneRank}
+use Rattle.explain_calls.specs.Explained.{onCryptogram, isDecided, hasChoice, endsWithCode, generateAcs, p1s}
+use Rattle.explain_calls.specs.Explained.{choiceStores, AtChoice, tvrIn, consulted, holdsAt, isDenied}
+use Rattle.explain_calls.specs.Explained.{capabilityIn, DecidedAt, LowestAt, NoneAt, isCard, isTerminal, HeldBy}
+use Rattle.explain_calls.specs.Explained.{explainedChoice, explainedStage, OneRank}
 use Rattle.explain_calls.proofs.Kept.{SameTerminal, SameCard, same-choice}
 
 -- a test does not both fail and pass
@@ -73,12 +79,15 @@ generate-append (c ∷ xs) ys =
       | inl t ↦
           if-yes _ _ t ∙ ap (λ (l : List (List ℕ)). c ∷ l) (generate-append xs ys)
           ∙ sym (ap (λ (l : List (List ℕ)). l ++ generateAcs ys) (if-yes _ _ t))
-      | inr t ↦ if-no _ _ t ∙ generate-append xs ys ∙ sym (ap (λ (l : List (List ℕ)). l ++ generateAcs ys) (if-no _ _ t))
+      | inr t ↦
+          if-no _ _ t ∙ generate-append xs ys ∙ sym (ap (λ (l : List (List ℕ)). l ++ generateAcs ys) (if-no _ _ t))
     ]
 
 p1s-append : (xs ys : List (List ℕ)) → p1s (xs ++ ys) ≡ p1s xs ++ p1s ys
-p1s-append xs ys =
-    ap (map (λ (c : List ℕ). getD c 2 0)) (generate-append xs ys) ∙ map-append (λ (c : List ℕ). getD c 2 0) (generateAcs xs) (generateAcs ys)
+p1s-append xs ys = ap (map third) (generate-append xs ys) ∙ map-append third (generateAcs xs) (generateAcs ys)
+  where
+    third : List ℕ → ℕ
+    third c = getD c 2 0
 
 -- what stands in the front of a buffer, where a command x was put there
 put-in : (x buf : List ℕ) → take (length x) (x ++ drop (length x) buf) ≡ x
@@ -101,13 +110,17 @@ second (x ∷ y ∷ c) a b e = ap (λ (l : List ℕ). getD l 1 0) e
 
 -- of another instruction
 pub other-instruction : (ins : ℕ) (c : List ℕ) → (ins ≡ 0xAE → ⊥) → list.Proper ins c → isFront 0x80 0xAE c ≡ false
-other-instruction ins c n p = both-no-right _ _ (ne-eqb (getD c 1 0) 0xAE (λ z. n (sym (second c 0x80 ins (p .starts)) ∙ z)))
+other-instruction ins c n p =
+    both-no-right _ _ (ne-eqb (getD c 1 0) 0xAE (λ z. n (sym (second c 0x80 ins (p .starts)) ∙ z)))
 
 pub record-command : (r : CardRecord) → isFront 0x80 0xAE (readRecord r) ≡ false
 record-command r = both-no-left _ _ (ne-eqb 0 0x80 (λ z. omega arith))
 
 -- GENERATE AC, with its P1
-sent-is : (p1 : ℕ) (x : Option (List ℕ)) (c : List ℕ) → cryptogramOf p1 x ≡ some c → (isFront 0x80 0xAE c ≡ true) × (getD c 2 0 ≡ p1)
+abbrev pub Asks : ℕ → List ℕ → Type 0
+Asks p1 c = (isFront 0x80 0xAE c ≡ true) × (getD c 2 0 ≡ p1)
+
+sent-is : (p1 : ℕ) (x : Option (List ℕ)) (c : List ℕ) → cryptogramOf p1 x ≡ some c → Asks p1 c
 unfolding cryptogramOf
 sent-is p1 none c = λ e. let z : _≡_ {A = ℕ} 0 1 = cc in absurd (omega arith)
 sent-is p1 (some v) c =
@@ -119,16 +132,16 @@ sent-is p1 (some v) c =
     (λ t e. let z : _≡_ {A = ℕ} 0 1 = cc in absurd (omega arith))
   where
     P : Option (List ℕ) → Type 0
-    P y = y ≡ some c → (isFront 0x80 0xAE c ≡ true) × (getD c 2 0 ≡ p1)
+    P y = y ≡ some c → Asks p1 c
 
-pub generate-sent : (p1 : ℕ) (store c : List ℕ) → generateAc p1 store ≡ some c → (isFront 0x80 0xAE c ≡ true) × (getD c 2 0 ≡ p1)
+pub generate-sent : (p1 : ℕ) (store c : List ℕ) → generateAc p1 store ≡ some c → Asks p1 c
 unfolding generateAc
 generate-sent p1 store c e = sent-is p1 _ c e
 
 -- ---- what is kept of a choice
 
--- ps are the P1s handed out, qs the stores of the choices, b is the store now: there was one choice, it is the one that b gives, and what
--- it goes by is as it was
+-- ps are the P1s handed out, qs the stores of the choices, b is the store now: there was one choice, it is the one that
+-- b gives, and what it goes by is as it was
 pub record KeptChoice (ps : List ℕ) (qs : List (List ℕ)) (b : List ℕ) : Type 0 where
   pub p1 : ps ≡ p1Of (choiceIn b) ∷ []
   pub store : List ℕ
@@ -138,7 +151,8 @@ pub record KeptChoice (ps : List ℕ) (qs : List (List ℕ)) (b : List ℕ) : Ty
   pub results : valueOf b 0x95 ≡ valueOf store 0x95
 
 -- it is made now
-pub chosen-now : {ps : List ℕ} {qs : List (List ℕ)} (b : List ℕ) → ps ≡ p1Of (choiceIn b) ∷ [] → qs ≡ b ∷ [] → KeptChoice ps qs b
+pub chosen-now : {ps : List ℕ} {qs : List (List ℕ)} (b : List ℕ) → ps ≡ p1Of (choiceIn b) ∷ [] → qs ≡ b ∷ []
+    → KeptChoice ps qs b
 chosen-now b p o =
     record {
       p1 = p;
@@ -180,11 +194,13 @@ isEarly (Phase.Cryptogram a) = false
 isEarly (Phase.Checksum c)   = false
 isEarly (Phase.Ended e)      = false
 
--- what holds of a session after calls that handed out ps, with the stores qs; code is whether the last of them brought a code
+-- what holds of a session after calls that handed out ps, with the stores qs; code is whether the last of them brought
+-- a code
 pub record Traced (ps : List ℕ) (qs : List (List ℕ)) (code : Bool) (s : Session) : Type 0 where
   pub early : isEarly (s .phase) ≡ true → (ps ≡ []) × (qs ≡ [])
   pub waiting : onCryptogram (s .phase) ≡ true → KeptChoice ps qs (stored s)
-  pub decided : code ≡ false → isDecided (s .phase) ≡ true → cardAsksMagStripe (stored s) ≡ false → KeptChoice ps qs (stored s)
+  pub decided : code ≡ false → isDecided (s .phase) ≡ true → cardAsksMagStripe (stored s) ≡ false
+      → KeptChoice ps qs (stored s)
   pub mode : isDecided (s .phase) ≡ true → cardAsksMagStripe (stored s) ≡ stripeMode (stored s)
 
 -- a fresh session
@@ -229,15 +245,21 @@ module _ (ps : List ℕ) (qs : List (List ℕ)) where
   unfolding generateAcs
   none-added {code} {s} t = none-traced t
 
-  pub refused-traced : {d : Bool} (s : Session) (st : Step) → isRefusal (st .reply .answer) ≡ true → st .reply .session ≡ s
-      → Traced ps qs d s → Traced (ps ++ p1s (sentBy st)) (qs ++ storesBy st) d (st .reply .session)
+  pub refused-traced : {d : Bool} (s : Session) (st : Step) → isRefusal (st .reply .answer) ≡ true
+      → st .reply .session ≡ s → Traced ps qs d s
+      → Traced (ps ++ p1s (sentBy st)) (qs ++ storesBy st) d (st .reply .session)
   refused-traced {d} s st r e t =
-      subst (λ (cs : List (List ℕ)). Traced (ps ++ p1s cs) (qs ++ map (λ (c : List ℕ). stored (st .reply .session)) (generateAcs cs)) d (st .reply .session))
-      (sym (nothing-sent (st .reply .answer) (st .buffer) r)) (none-added (subst (Traced ps qs d) (sym e) t))
+      subst P (sym (nothing-sent (st .reply .answer) (st .buffer) r)) (none-added (subst (Traced ps qs d) (sym e) t))
+    where
+      P : List (List ℕ) → Type 0
+      P cs =
+          Traced (ps ++ p1s cs) (qs ++ map (λ (c : List ℕ). stored (st .reply .session)) (generateAcs cs)) d
+          (st .reply .session)
 
   -- the commands of one call, and of those behind it
   pub joined : (xs ys : List (List ℕ)) (us vs : List (List ℕ)) {code : Bool} {s : Session}
-      → Traced ((ps ++ p1s xs) ++ p1s ys) ((qs ++ us) ++ vs) code s → Traced (ps ++ p1s (xs ++ ys)) (qs ++ (us ++ vs)) code s
+      → Traced ((ps ++ p1s xs) ++ p1s ys) ((qs ++ us) ++ vs) code s
+      → Traced (ps ++ p1s (xs ++ ys)) (qs ++ (us ++ vs)) code s
   joined xs ys us vs {code} {s} t =
       subst (λ (l : List ℕ). Traced l (qs ++ (us ++ vs)) code s)
       (append-assoc ps (p1s xs) (p1s ys) ∙ ap (λ (l : List ℕ). ps ++ l) (sym (p1s-append xs ys)))
@@ -265,7 +287,9 @@ module _ {ps : List ℕ} {qs : List (List ℕ)} (b : List ℕ) (k : KeptChoice p
   codes-same : codesOf b ≡ codesOf (k .store)
   unfolding codesOf
   codes-same =
-      rw (k .card .denial-code, k .terminal .denial-code, k .card .online-code, k .terminal .online-code, k .card .default-code, k .terminal .default-code)
+      let c = k .card in
+      let t = k .terminal in
+      rw (c .denial-code, t .denial-code, c .online-code, t .online-code, c .default-code, t .default-code)
 
   type-same : terminalType b ≡ terminalType (k .store)
   type-same = ap (λ (v : Value). getD (bytesOf v) 0 0) (k .terminal .type)
@@ -287,15 +311,19 @@ module _ {ps : List ℕ} {qs : List (List ℕ)} (b : List ℕ) (k : KeptChoice p
     where
       given : stageBy (capabilityIn (k .store)) (isDenied (k .store)) ≡ Deciding.At stage
       given =
-          sym (ap₂ stageBy (ap capabilityOf type-same) (ap₂ (λ (r : List ℕ) (l : List Pair). heldAt r l denial) tvr-same codes-same))
+          sym (ap₂ stageBy (ap capabilityOf type-same)
+          (ap₂ (λ (r : List ℕ) (l : List Pair). heldAt r l denial) tvr-same codes-same))
           ∙ deciding-stage b stage e
 
-      go : (r : Capability) (h : Bool) → capabilityIn (k .store) ≡ r → isDenied (k .store) ≡ h → stageBy r h ≡ Deciding.At stage
-          → DecidedAt stage (k .store)
-      go r true c h f = let z : Stage.Denial ≡ stage = cc in subst (λ (g : Stage). DecidedAt g (k .store)) z h
-      go Capability.OnlineOnly false c h f = let z : Stage.OnlineOnly ≡ stage = cc in subst (λ (g : Stage). DecidedAt g (k .store)) z (h, c)
-      go Capability.OfflineOnly false c h f = let z : Stage.Default ≡ stage = cc in subst (λ (g : Stage). DecidedAt g (k .store)) z (h, c)
-      go Capability.OnlineCapable false c h f = let z : Stage.Online ≡ stage = cc in subst (λ (g : Stage). DecidedAt g (k .store)) z (h, c)
+      is : (g : Stage) → g ≡ stage → DecidedAt g (k .store) → DecidedAt stage (k .store)
+      is g z d = subst (λ (x : Stage). DecidedAt x (k .store)) z d
+
+      go : (r : Capability) (h : Bool) → capabilityIn (k .store) ≡ r → isDenied (k .store) ≡ h
+          → stageBy r h ≡ Deciding.At stage → DecidedAt stage (k .store)
+      go r true c h f = let z : Stage.Denial ≡ stage = cc in is Stage.Denial z h
+      go Capability.OnlineOnly false c h f = let z : Stage.OnlineOnly ≡ stage = cc in is Stage.OnlineOnly z (h, c)
+      go Capability.OfflineOnly false c h f = let z : Stage.Default ≡ stage = cc in is Stage.Default z (h, c)
+      go Capability.OnlineCapable false c h f = let z : Stage.Online ≡ stage = cc in is Stage.Online z (h, c)
       go Capability.Unlisted false c h f = let z : _≡_ {A = ℕ} 0 1 = cc in absurd (omega arith)
 
   then-lowest : (c : Cause) → Named b c → LowestAt (c .stage) (c .bit) (k .store)
@@ -314,12 +342,19 @@ module _ {ps : List ℕ} {qs : List (List ℕ)} (b : List ℕ) (k : KeptChoice p
   unfolding holderOf
   then-held c n =
       record {
-        card = ap (λ (p : Pair). bit (p .card) (c .bit)) (sym (pair-same (c .stage))) ∙ sym (card-of own (bit (pairAt b (c .stage) .terminal) (c .bit))) ∙ sym (ap isCard (n .holder));
-        terminal = ap (λ (p : Pair). bit (p .terminal) (c .bit)) (sym (pair-same (c .stage))) ∙ sym (terminal-of own _) ∙ sym (ap isTerminal (n .holder));
+        card = ap (λ (p : Pair). bit (p .card) (c .bit)) pair ∙ sym (ap isCard (n .holder) ∙ card-of x y);
+        terminal =
+            ap (λ (p : Pair). bit (p .terminal) (c .bit)) pair ∙ sym (ap isTerminal (n .holder) ∙ terminal-of x y);
       }
     where
-      own : Bool
-      own = bit (pairAt b (c .stage) .card) (c .bit)
+      pair : consulted (k .store) (c .stage) ≡ pairAt b (c .stage)
+      pair = sym (pair-same (c .stage))
+
+      x : Bool
+      x = bit (pairAt b (c .stage) .card) (c .bit)
+
+      y : Bool
+      y = bit (pairAt b (c .stage) .terminal) (c .bit)
 
 -- ---- every explanation, as explain comes to it
 
@@ -351,17 +386,21 @@ module _ (b : List ℕ) where
   decided-explains x Deciding.Nothing = λ n e. n refl
   decided-explains x (Deciding.At stage) =
       if-ind Explains _ _ _ (λ t n e. n refl)
-      (λ t. if-ind Explains _ _ _ (λ u n e. n refl) (λ u. if-ind Explains _ _ _ (λ v n e. some-none e) (λ v. stage-explains stage)))
+      (λ t. if-ind Explains _ _ _ (λ u n e. n refl)
+      (λ u. if-ind Explains _ _ _ (λ v n e. some-none e) (λ v. stage-explains stage)))
 
   -- a stage is named only where the cryptogram is no lower
   abbrev NotLower : Explanation → Type 0
-  NotLower r = (stage : Stage) → explainedStage r ≡ some stage → cryptogramRank (typeAsked (choiceIn b)) ≤ cryptogramRank (typeIn b)
+  NotLower r =
+      (stage : Stage) → explainedStage r ≡ some stage
+      → cryptogramRank (typeAsked (choiceIn b)) ≤ cryptogramRank (typeIn b)
 
   decided-rank : (x : End) (d : Deciding) → NotLower (decidedAt x b d)
   decided-rank x Deciding.Nothing = λ g e. none-some e
   decided-rank x (Deciding.At stage) =
       if-ind NotLower _ _ _ (λ t g e. none-some e)
-      (λ t. if-ind NotLower _ _ _ (λ u g e. none-some e) (λ u. if-ind NotLower _ _ _ (λ v g e. none-some e) (λ v g e. ltb-false _ _ v)))
+      (λ t. if-ind NotLower _ _ _ (λ u g e. none-some e)
+      (λ u. if-ind NotLower _ _ _ (λ v g e. none-some e) (λ v g e. ltb-false _ _ v)))
 
 -- ---- the clauses
 
@@ -374,14 +413,20 @@ ofChoice Explanation.LowerCryptogram  = true
 ofChoice (Explanation.Forced c)       = true
 ofChoice (Explanation.Unforced stage) = true
 
-module _ (ms : List Made) (s : Session) (i : inRanges s ≡ true) (t : Traced (p1s (commands ms)) (choiceStores ms) (endsWithCode ms) s)
-    (n : endsWithCode ms ≡ false) where
+-- what is traced of a list of calls, and what is kept of its choice
+abbrev pub TracedBy : List Made → Session → Type 0
+TracedBy ms s = Traced (p1s (commands ms)) (choiceStores ms) (endsWithCode ms) s
+
+abbrev KeptBy : List Made → Session → Type 0
+KeptBy ms s = KeptChoice (p1s (commands ms)) (choiceStores ms) (stored s)
+
+module _ (ms : List Made) (s : Session) (i : inRanges s ≡ true) (t : TracedBy ms s) (n : endsWithCode ms ≡ false) where
   -- so a choice is kept
-  kept : ofChoice (explained s) ≡ true → KeptChoice (p1s (commands ms)) (choiceStores ms) (stored s)
+  kept : ofChoice (explained s) ≡ true → KeptBy ms s
   unfolding explained
   kept e = go (s .phase) refl (sym (ap ofChoice (if-yes _ _ i)) ∙ e)
     where
-      go : (p : Phase) → s .phase ≡ p → ofChoice (inPhase p (stored s)) ≡ true → KeptChoice (p1s (commands ms)) (choiceStores ms) (stored s)
+      go : (p : Phase) → s .phase ≡ p → ofChoice (inPhase p (stored s)) ≡ true → KeptBy ms s
       go Phase.Fresh q e = apart e
       go Phase.Options q e = apart e
       go (Phase.Record p) q e = apart e
@@ -394,7 +439,9 @@ module _ (ms : List Made) (s : Session) (i : inRanges s ≡ true) (t : Traced (p
                   | inl m ↦ apart (sym (ap ofChoice (by-stripe x (stored s) (eqb-true _ _ z) m)) ∙ e)
                   | inr m ↦ t .decided n (ap isDecided q ∙ z) m
                 ]
-            | inr z ↦ apart (sym (ap ofChoice (by-reason x (stored s) (eqb-false _ _ z) ∙ ended-reason x (stored s) (eqb-false _ _ z))) ∙ e)
+            | inr z ↦
+                let w = eqb-false _ _ z in
+                apart (sym (ap ofChoice (by-reason x (stored s) w ∙ ended-reason x (stored s) w)) ∙ e)
           ]
 
   says : Told s (explained s)
@@ -405,30 +452,34 @@ module _ (ms : List Made) (s : Session) (i : inRanges s ≡ true) (t : Traced (p
   unfolding explained
   phase-says p q = if-yes _ _ i ∙ ap (λ (x : Phase). inPhase x (stored s)) q
 
-  decided-says : (x : End) → s .phase ≡ Phase.Ended x → eqb (x .reason) reasonNone ≡ true → cardAsksMagStripe (stored s) ≡ false
-      → explained s ≡ decidedAt x (stored s) (decidingIn (stored s))
+  decided-says : (x : End) → s .phase ≡ Phase.Ended x → eqb (x .reason) reasonNone ≡ true
+      → cardAsksMagStripe (stored s) ≡ false → explained s ≡ decidedAt x (stored s) (decidingIn (stored s))
   unfolding endedIn
   decided-says x q z m = phase-says (Phase.Ended x) q ∙ by-choice x (stored s) m ∙ if-yes _ _ z
 
-  pub explains-clause : (explained s ≡ Explanation.Refused → ⊥) → hasChoice s ≡ true → explainedChoice (stored s) (explained s) ≡ none → ⊥
+  pub explains-clause : (explained s ≡ Explanation.Refused → ⊥) → hasChoice s ≡ true
+      → explainedChoice (stored s) (explained s) ≡ none → ⊥
   unfolding either both
   explains-clause r h e = go (s .phase) refl h
     where
       by-explained : {x : Explanation} → explained s ≡ x → Explains (stored s) x → ⊥
       by-explained z f = f (λ y. r (z ∙ y)) (sym (ap (explainedChoice (stored s)) z) ∙ e)
 
-      go : (p : Phase) → s .phase ≡ p → either (onCryptogram p) (both (isDecided p) (not (stripeMode (stored s)))) ≡ true → ⊥
+      go : (p : Phase) → s .phase ≡ p
+          → either (onCryptogram p) (both (isDecided p) (not (stripeMode (stored s)))) ≡ true → ⊥
       go Phase.Fresh q w = apart w
       go Phase.Options q w = apart w
       go (Phase.Record p) q w = apart w
-      go (Phase.Cryptogram a) q w = by-explained (phase-says (Phase.Cryptogram a) q) (waiting-explains (stored s) a (decidingIn (stored s)))
+      go (Phase.Cryptogram a) q w =
+          by-explained (phase-says (Phase.Cryptogram a) q) (waiting-explains (stored s) a (decidingIn (stored s)))
       go (Phase.Checksum k) q w = apart w
       go (Phase.Ended x) q w =
           let z = both-left (eqb (x .reason) reasonNone) _ w in
           let m = t .mode (ap isDecided q ∙ z) ∙ not-true _ (both-right (eqb (x .reason) reasonNone) _ w) in
           by-explained (decided-says x q z m) (decided-explains (stored s) x (decidingIn (stored s)))
 
-  pub p1-clause : (choice : Choice) → explainedChoice (stored s) (explained s) ≡ some choice → p1s (commands ms) ≡ p1Of choice ∷ []
+  pub p1-clause : (choice : Choice) → explainedChoice (stored s) (explained s) ≡ some choice
+      → p1s (commands ms) ≡ p1Of choice ∷ []
   p1-clause choice = go (explained s) refl
     where
       P1 : Type 0
@@ -442,25 +493,30 @@ module _ (ms : List Made) (s : Session) (i : inRanges s ≡ true) (t : Traced (p
       go (Explanation.Reason m) q e = let z : _≡_ {A = ℕ} 0 1 = cc in absurd (omega arith)
       go Explanation.NoChoice q e = let z : _≡_ {A = ℕ} 0 1 = cc in absurd (omega arith)
       go Explanation.LowerCryptogram q e = let z : choiceIn (stored s) ≡ choice = cc in is z (ap ofChoice q)
-      go (Explanation.Forced c) q e = let z : forcedBy (c .stage) ≡ choice = cc in is (says .named c q .choice ∙ z) (ap ofChoice q)
-      go (Explanation.Unforced g) q e = let z : unforcedBy g ≡ choice = cc in is (says .unnamed g q .choice ∙ z) (ap ofChoice q)
+      go (Explanation.Forced c) q e =
+          let z : forcedBy (c .stage) ≡ choice = cc in is (says .named c q .choice ∙ z) (ap ofChoice q)
+      go (Explanation.Unforced g) q e =
+          let z : unforcedBy g ≡ choice = cc in is (says .unnamed g q .choice ∙ z) (ap ofChoice q)
 
   -- a fact of the store at the time of the choice
-  at : {P : List ℕ → Type 0} (k : KeptChoice (p1s (commands ms)) (choiceStores ms) (stored s)) → P (k .store) → AtChoice ms P
+  at : {P : List ℕ → Type 0} (k : KeptBy ms s) → P (k .store) → AtChoice ms P
   at k p = record { store = k .store; only = k .only; fact = p }
 
   pub stage-clause : (stage : Stage) → explainedStage (explained s) ≡ some stage → AtChoice ms (DecidedAt stage)
   stage-clause stage = go (explained s) refl
     where
-      is : (g : Stage) → g ≡ stage → decidingIn (stored s) ≡ Deciding.At g → ofChoice (explained s) ≡ true → AtChoice ms (DecidedAt stage)
-      is g z d e = let k = kept e in at k (subst (λ (x : Stage). DecidedAt x (k .store)) z (then-decided (stored s) k g d))
+      is : (g : Stage) → g ≡ stage → decidingIn (stored s) ≡ Deciding.At g → ofChoice (explained s) ≡ true
+          → AtChoice ms (DecidedAt stage)
+      is g z d e =
+          let k = kept e in at k (subst (λ (x : Stage). DecidedAt x (k .store)) z (then-decided (stored s) k g d))
 
       go : (r : Explanation) → explained s ≡ r → explainedStage r ≡ some stage → AtChoice ms (DecidedAt stage)
       go Explanation.Refused q e = let z : _≡_ {A = ℕ} 0 1 = cc in absurd (omega arith)
       go (Explanation.Reason m) q e = let z : _≡_ {A = ℕ} 0 1 = cc in absurd (omega arith)
       go Explanation.NoChoice q e = let z : _≡_ {A = ℕ} 0 1 = cc in absurd (omega arith)
       go Explanation.LowerCryptogram q e = let z : _≡_ {A = ℕ} 0 1 = cc in absurd (omega arith)
-      go (Explanation.Forced c) q e = let z : c .stage ≡ stage = cc in is (c .stage) z (says .named c q .decides) (ap ofChoice q)
+      go (Explanation.Forced c) q e =
+          let z : c .stage ≡ stage = cc in is (c .stage) z (says .named c q .decides) (ap ofChoice q)
       go (Explanation.Unforced g) q e = let z : g ≡ stage = cc in is g z (says .unnamed g q .decides) (ap ofChoice q)
 
   pub bit-clause : (c : Cause) → explained s ≡ Explanation.Forced c → AtChoice ms (LowestAt (c .stage) (c .bit))
@@ -472,22 +528,22 @@ module _ (ms : List Made) (s : Session) (i : inRanges s ≡ true) (t : Traced (p
   pub holder-clause : (c : Cause) → explained s ≡ Explanation.Forced c → AtChoice ms (HeldBy c)
   holder-clause c q = let k = kept (ap ofChoice q) in at k (then-held (stored s) k c (says .named c q))
 
-  -- the choice whose P1 was handed out is the one that the store gives
-  same : (choice : Choice) → p1s (commands ms) ≡ p1Of choice ∷ [] → ofChoice (explained s) ≡ true → choiceIn (stored s) ≡ choice
-  same choice e o = same-p1 _ _ (ap (λ (l : List ℕ). getD l 0 0) (sym (kept o .p1) ∙ e))
-
+  -- the choice whose P1 was handed out is the one that the store gives, and so is its rank
   rank-same : (choice : Choice) → p1s (commands ms) ≡ p1Of choice ∷ [] → ofChoice (explained s) ≡ true
       → cryptogramRank (typeAsked (choiceIn (stored s))) ≡ rankOf choice
-  rank-same choice e o = ap (λ (c : Choice). cryptogramRank (typeAsked c)) (same choice e o) ∙ one-rank choice
+  rank-same choice e o = ap (λ (c : Choice). cryptogramRank (typeAsked c)) same ∙ one-rank choice
+    where
+      same : choiceIn (stored s) ≡ choice
+      same = same-p1 _ _ (ap (λ (l : List ℕ). getD l 0 0) (sym (kept o .p1) ∙ e))
 
-  pub lower-clause : explained s ≡ Explanation.LowerCryptogram → (choice : Choice) → p1s (commands ms) ≡ p1Of choice ∷ []
-      → cryptogramRank (typeIn (stored s)) < rankOf choice
-  lower-clause q choice e = subst (λ (m : ℕ). cryptogramRank (typeIn (stored s)) < m) (rank-same choice e (ap ofChoice q)) (says .lower q)
+  pub lower-clause : explained s ≡ Explanation.LowerCryptogram → (choice : Choice)
+      → p1s (commands ms) ≡ p1Of choice ∷ [] → cryptogramRank (typeIn (stored s)) < rankOf choice
+  lower-clause q choice e = let r = rank-same choice e (ap ofChoice q) in omega (arith, r, says .lower q)
 
   pub not-lower-clause : isDecided (s .phase) ≡ true → (stage : Stage) → explainedStage (explained s) ≡ some stage
       → (choice : Choice) → p1s (commands ms) ≡ p1Of choice ∷ [] → rankOf choice ≤ cryptogramRank (typeIn (stored s))
   not-lower-clause d stage f choice e =
-      subst (λ (m : ℕ). m ≤ cryptogramRank (typeIn (stored s))) (rank-same choice e (of-stage (explained s) f)) (go (s .phase) refl d)
+      let r = rank-same choice e (of-stage (explained s) f) in omega (arith, r, go (s .phase) refl d)
     where
       of-stage : (r : Explanation) → explainedStage r ≡ some stage → ofChoice r ≡ true
       of-stage Explanation.Refused z = none-some z
@@ -497,7 +553,8 @@ module _ (ms : List Made) (s : Session) (i : inRanges s ≡ true) (t : Traced (p
       of-stage (Explanation.Forced c) z = refl
       of-stage (Explanation.Unforced g) z = refl
 
-      go : (p : Phase) → s .phase ≡ p → isDecided p ≡ true → cryptogramRank (typeAsked (choiceIn (stored s))) ≤ cryptogramRank (typeIn (stored s))
+      go : (p : Phase) → s .phase ≡ p → isDecided p ≡ true
+          → cryptogramRank (typeAsked (choiceIn (stored s))) ≤ cryptogramRank (typeIn (stored s))
       go Phase.Fresh q w = apart w
       go Phase.Options q w = apart w
       go (Phase.Record p) q w = apart w
@@ -505,7 +562,10 @@ module _ (ms : List Made) (s : Session) (i : inRanges s ≡ true) (t : Traced (p
       go (Phase.Checksum k) q w = apart w
       go (Phase.Ended x) q w =
           elim (bool-cases (cardAsksMagStripe (stored s))) [
-            | inl m ↦ none-some (sym (ap explainedStage (phase-says (Phase.Ended x) q ∙ by-stripe x (stored s) (eqb-true _ _ w) m)) ∙ f)
+            | inl m ↦
+                let y = phase-says (Phase.Ended x) q ∙ by-stripe x (stored s) (eqb-true _ _ w) m in
+                none-some (sym (ap explainedStage y) ∙ f)
             | inr m ↦
-                decided-rank (stored s) x (decidingIn (stored s)) stage (sym (ap explainedStage (decided-says x q w m)) ∙ f)
+                let y = sym (ap explainedStage (decided-says x q w m)) ∙ f in
+                decided-rank (stored s) x (decidingIn (stored s)) stage y
           ]

@@ -1,6 +1,5 @@
 -- A purchase whose answer to GENERATE AC brings a denial code that was absent, computed from a fresh session on: it is approved with
--- reason 0, the code that came asks for a decline, and so the final store does not give the outcome. Without the code it is explained. P1 40
--- was handed out both times.
+-- reason 0, the code that came asks for a decline, and so the final store does not give the outcome. Without the code it is explained.
 -- Assumes nothing.
 use mathlib.Core.Path.{_≡_, ap, _∙_}
 use mathlib.Core.Bool.{true}
