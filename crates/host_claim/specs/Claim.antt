@@ -36,7 +36,7 @@ pub record HostDemand3 (ms : List CompletedCall) (l : List ℕ) : Type 0 where
   pub bound : length (hostCommands ms) ≤ most (hostAfl ms)
   -- N is never over 130
   pub never-over : length (hostCommands ms) ≤ 130
-  -- the session is fresh where no call was taken, runs where the last call not refused handed back a command, and has
+  -- the session is fresh where every call was refused, runs where the last call not refused handed back a command, and has
   -- ended where it handed back an outcome
   pub fresh : isFresh (session .phase) ≡ isNone (lastOf (notRefused ms))
   pub running : isRunning (session .phase) ≡ isLastCommand (lastOf (notRefused ms))
@@ -73,7 +73,7 @@ asCompleted m = completedCall (on-session (m .call)) (wordOf (said m)) (m .step 
 
 -- ms are the calls since the last accepted opening, l are the bytes after them, and before are those that were opened
 pub record SameAsSession (before : List ℕ) (ms : List CompletedCall) (l : List ℕ) : Type 0 where
-  -- every word is that of the session's reply, and every buffer is the session's
+  -- every word is that of the session's reply, and every buffer is the session's; no opening is among them
   pub words : ms ≡ map asCompleted (sessionPlay ms)
   -- the bytes are the record of the session after these calls, and those behind the record stay
   pub record-after : l ≡ withRecord (sessionAfter ms) before
@@ -94,5 +94,5 @@ pub record SameAsSession (before : List ℕ) (ms : List CompletedCall) (l : List
 pub record HostClaim (before : List ℕ) (ms : List CompletedCall) (l : List ℕ) : Type 0 where
   pub demand-3 : HostDemand3 (sinceOpening ms) l
   pub as-session : SameAsSession before (sinceOpening ms) l
-  -- none of all the calls was refused with 25, an opening neither
+  -- none of all the calls was refused with 25; so every opening among them was accepted
   pub never-25 : every isNotRanges ms ≡ true
