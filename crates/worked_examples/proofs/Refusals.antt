@@ -9,11 +9,17 @@ use Rattle.tlv.specs.Object.{headerOf}
 use Rattle.tlv.specs.Primitives.{withObject, primitiveOf, primitives}
 use Rattle.tlv.specs.Encoding.{tagBytes, lengthBytes}
 use Rattle.dictionary.specs.Rows.{rows, past, find}
+use Rattle.dictionary.specs.Named.{placeOf}
 use Rattle.dictionary.specs.Form.{numeric, digitsThenFs, compressed, digitsFit, fitting}
 use Rattle.dictionary.specs.TerminalType.{listed}
 use Rattle.store.specs.Place.{offsetIn, placeAt, held, valueAt, putAt, valueIn}
+use Rattle.data_list.specs.Entries.{withLength, entryAt, withEntry, along, listEntries}
+use Rattle.data_list.specs.Filling.{cut, padding, padded, fitted, entryBytes, fillingOf, filledBy}
+use Rattle.data_list.specs.Commands.{optionsOf, processingOptions, cryptogramOf, generateAc, checksumList, checksumOf, checksumWith, computeChecksum}
+use Rattle.record.specs.Numbers.{outcomeFor}
 use Rattle.record.specs.Ranges.{isBrought, brought, completed, trackCompleted}
 use Rattle.terminal.specs.Terminal.{typeListed, settable, setObject, setAll, load}
+use Rattle.session.specs.Steps.{withResults, withFindings}
 use Rattle.session.specs.Start.{askOptions}
 use Rattle.record.specs.Session.{freshSession}
 use Rattle.record.proofs.Phases.{fresh-keeps}
@@ -24,8 +30,9 @@ use Rattle.worked_examples.proofs.Ranges.{kept}
 
 pub refusals : Refusals
 unfolding recurse recurseBy if both either every numberFrom nibbles tagSize secondByte thirdByte tagAt firstByte isTemplate isPrivate oneByte twoBytes lengthAt headerOf withObject
-    primitiveOf primitives tagBytes lengthBytes rows past find numeric digitsThenFs compressed digitsFit fitting listed offsetIn placeAt held valueAt putAt valueIn isBrought brought
-    completed trackCompleted typeListed settable setObject setAll load askOptions
+    primitiveOf primitives tagBytes lengthBytes rows past find placeOf numeric digitsThenFs compressed digitsFit fitting listed offsetIn placeAt held valueAt putAt valueIn withLength entryAt
+    withEntry along listEntries cut padding padded fitted entryBytes fillingOf filledBy optionsOf processingOptions cryptogramOf generateAc checksumList checksumOf checksumWith
+    computeChecksum outcomeFor isBrought brought completed trackCompleted typeListed settable setObject setAll load withResults withFindings askOptions
 refusals = record {
   buffer-ranges = start-short brokenFresh _;
   buffer-phase = start-short onOptions _;
@@ -43,6 +50,8 @@ refusals = record {
   run-absent = start-in freshSession fresh-keeps _ refl;
   object-absent = start-in freshSession fresh-keeps _ refl;
   absent-alone = start-in freshSession fresh-keeps _ refl;
+  absent-list = start-in freshSession fresh-keeps _ refl;
+  list-alone = start-in freshSession fresh-keeps _ refl;
   answer-buffer-ranges = answer-short brokenOptions _;
   answer-buffer-phase = answer-short freshSession _;
   answer-ranges-phase = answer-out brokenFresh (kept .broken-fresh) _;

@@ -41,7 +41,9 @@ pub record CallLists : Type 0 where
   pub calls-written : map encodedCall someCalls ≡ inBytes
   pub calls-read : map callsOf inBytes ≡ map (λ c. some (c ∷ [])) someCalls
   -- kind 0, kind 5, and a link failure that brings a byte
-  pub no-calls : map callsOf ((0 ∷ eight 0 ++ eight 0) ∷ (5 ∷ eight 0 ++ eight 0) ∷ (3 ∷ eight 1 ++ eight 0 ++ (0x07 ∷ [])) ∷ [])
+  pub no-calls :
+      map callsOf
+      ((0 ∷ eight 0 ++ eight 0) ∷ (5 ∷ eight 0 ++ eight 0) ∷ (3 ∷ eight 1 ++ eight 0 ++ (0x07 ∷ [])) ∷ [])
       ≡ none ∷ none ∷ none ∷ []
   pub replies : map answerBytes (command 261 ∷ outcome Outcome.Ended 8 2 ∷ refused 25 ∷ [])
       ≡ (0 ∷ 0x01 ∷ 0x05 ∷ []) ∷ (1 ∷ 3 ∷ 8 ∷ []) ∷ (2 ∷ 0 ∷ 25 ∷ []) ∷ []

@@ -1,5 +1,5 @@
--- The answer to COMPUTE CRYPTOGRAPHIC CHECKSUM (document 02, Item 9): the reading's reasons, a track that cannot take the
--- digits (3), the counter missing (4), declined where the code is missing. Each field is named by the two that its
+-- The answer to COMPUTE CRYPTOGRAPHIC CHECKSUM (document 02, Item 9): the reading's reasons, a track that cannot take
+-- the digits (3), the counter missing (4), declined where the code is missing. Each field is named by the two that its
 -- answer gives; a body under 80 is refused.
 -- Assumes nothing.
 use mathlib.Core.Path.{_≡_}

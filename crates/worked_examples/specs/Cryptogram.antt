@@ -1,6 +1,6 @@
--- The answer to GENERATE AC (document 01, "Commands and steps" and the order of reasons): the outcome by the choice that
--- was asked for and the cryptogram's type, the reading's reasons, an object missing (4), a type that is not allowed
--- (8); and the objects of a body under 80. The fields of an order are named by the two reasons of their answer.
+-- The answer to GENERATE AC (document 01, "Commands and steps" and the order of reasons): the outcome by the choice
+-- that was asked for and the cryptogram's type, the reading's reasons, an object missing (4), a type that is not
+-- allowed (8); and the objects of a body under 80. The fields of an order are named by the two reasons of their answer.
 -- Assumes nothing.
 use mathlib.Core.Path.{_≡_}
 use mathlib.Core.List.{List, [], _∷_, _++_, map}
@@ -12,8 +12,8 @@ use Rattle.record.specs.declared.Answer.{Answer}
 use Rattle.record.specs.declared.Outcome.{Outcome}
 use Rattle.record.specs.declared.Session.{Session}
 use Rattle.worked_examples.specs.Sessions.{inBytes, onCryptogram}
-use Rattle.worked_examples.specs.Calls.{says, eachSays, storedAfter, outcome, endedWithPin, good, bad, tooLong, cut77}
-use Rattle.worked_examples.specs.Calls.{behind, wrapped, forbidden}
+use Rattle.worked_examples.specs.Calls.{says, eachSays, storedAfter, outcome, endedWithPin, good, bad, tooLong}
+use Rattle.worked_examples.specs.Calls.{cut77, behind, wrapped, forbidden}
 
 -- 9F27, 9F36 and 9F26, and these in a 77
 abbrev pub cryptogramObjects : ℕ → List ℕ
@@ -57,9 +57,11 @@ under80 =
 
 pub record OnCryptogram : Type 0 where
   -- by what was asked for: AAC, TC, ARQC and the reserved type
-  pub decline-asked : eachSays (onCryptogram Choice.Decline) types ≡ declined ∷ notAllowed ∷ notAllowed ∷ notAllowed ∷ []
+  pub decline-asked : eachSays (onCryptogram Choice.Decline) types
+      ≡ declined ∷ notAllowed ∷ notAllowed ∷ notAllowed ∷ []
   pub online-asked : eachSays online types ≡ declined ∷ notAllowed ∷ onlineRequest ∷ notAllowed ∷ []
-  pub offline-asked : eachSays (onCryptogram Choice.Offline) types ≡ declined ∷ approved ∷ onlineRequest ∷ notAllowed ∷ []
+  pub offline-asked : eachSays (onCryptogram Choice.Offline) types
+      ≡ declined ∷ approved ∷ onlineRequest ∷ notAllowed ∷ []
   -- the order
   pub length-status : says online tooLong ≡ endedWithPin 2
   pub status-encoding : says online (bad cut77) ≡ endedWithPin 1
@@ -76,12 +78,13 @@ pub record OnCryptogram : Type 0 where
   pub body-type : says online (good (objectBytes 0x80 (0x40 ∷ 0x00 ∷ 0x2A ∷ []))) ≡ endedWithPin 2
   pub objects-missing : says online (good (objectBytes 0x77 forbidden)) ≡ endedWithPin 3
   pub objects-type : says online (good (objectBytes 0x77 (cryptogramObjects 0x40 ++ forbidden))) ≡ endedWithPin 3
-  pub missing-type : says online (good (objectBytes 0x77 (inBytes ((0x9F27, 0x40 ∷ []) ∷ (0x9F36, 0x00 ∷ 0x01 ∷ []) ∷ []))))
+  pub missing-type :
+      says online (good (objectBytes 0x77 (inBytes ((0x9F27, 0x40 ∷ []) ∷ (0x9F36, 0x00 ∷ 0x01 ∷ []) ∷ []))))
       ≡ endedWithPin 4
   -- a decline does not come before an object that is missing: an AAC without 9F36 and 9F26, and none of the three
   pub missing-declined :
-    eachSays online (good (objectBytes 0x77 (objectBytes 0x9F27 (0x00 ∷ []))) ∷ good (objectBytes 0x77 []) ∷ [])
-    ≡ endedWithPin 4 ∷ endedWithPin 4 ∷ []
+      eachSays online (good (objectBytes 0x77 (objectBytes 0x9F27 (0x00 ∷ []))) ∷ good (objectBytes 0x77 []) ∷ [])
+      ≡ endedWithPin 4 ∷ endedWithPin 4 ∷ []
   -- under 80
   pub under80-says : says online (good under80) ≡ onlineRequest
   pub under80-9F27 : storedAfter online (good under80) 0x9F27 ≡ present (0x80 ∷ [])

@@ -8,7 +8,8 @@ use Prim.Native.Nat.{ℕ}
 use lib.ListN.{replicate}
 use Rattle.tlv.specs.Encoding.{objectBytes}
 use Rattle.worked_examples.specs.Sessions.{emv, stripe, oneRecord, badLocator, onOptions}
-use Rattle.worked_examples.specs.Calls.{says, eachSays, command, ended, good, bad, tooLong, cut77, behind, wrapped, forbidden}
+use Rattle.worked_examples.specs.Calls.{says, eachSays, command, ended, good, bad, tooLong, cut77, behind}
+use Rattle.worked_examples.specs.Calls.{wrapped, forbidden}
 
 -- 82 and 94, and both in a 77
 abbrev pub profileAnd : List ℕ → List ℕ → List ℕ
@@ -41,20 +42,21 @@ pub record OnOptions : Type 0 where
   pub missing-mode : says onOptions (good (objectBytes 0x77 (objectBytes 0x82 stripe))) ≡ ended 4
   pub missing-locator : says onOptions (good (objectBytes 0x77 (objectBytes 0x94 badLocator))) ≡ ended 4
   pub mode-locator : says onOptions (good (options stripe badLocator)) ≡ ended 11
-  -- each reason alone, and none: 259 bytes that end in 90 00, another status, a byte behind, an outer 70 around a 77, a
-  -- body of 7 bytes under 80, 95, no 94, no 82, no mode, file 0; and the first record is asked for
+  -- each reason alone: 259 bytes with 90 00, another status, a byte behind, an outer 70 around a 77, a body of 7 bytes
+  -- under 80, 95, no 94, no 82, no mode, file 0; and none: with 258 bytes and with 14 the first record is asked for
   pub alone :
-    eachSays onOptions
-    (good (options emv oneRecord ++ replicate 245 0)
-    ∷ bad (options emv oneRecord)
-    ∷ good (behind (options emv oneRecord))
-    ∷ good (objectBytes 0x70 (options emv oneRecord))
-    ∷ good (objectBytes 0x80 (emv ++ 0x00 ∷ oneRecord))
-    ∷ good (objectBytes 0x77 (profileAnd emv oneRecord ++ forbidden))
-    ∷ good (objectBytes 0x77 (objectBytes 0x82 emv))
-    ∷ good (objectBytes 0x77 (objectBytes 0x94 oneRecord))
-    ∷ good (options stripe oneRecord)
-    ∷ good (options emv badLocator)
-    ∷ good (options emv oneRecord)
-    ∷ [])
-    ≡ map ended (2 ∷ 1 ∷ 2 ∷ 2 ∷ 2 ∷ 3 ∷ 4 ∷ 4 ∷ 11 ∷ 5 ∷ []) ++ (command 5 ∷ [])
+      eachSays onOptions
+      (good (objectBytes 0x77 (profileAnd emv oneRecord ++ replicate 244 0))
+      ∷ bad (options emv oneRecord)
+      ∷ good (behind (options emv oneRecord))
+      ∷ good (objectBytes 0x70 (options emv oneRecord))
+      ∷ good (objectBytes 0x80 (emv ++ 0x00 ∷ oneRecord))
+      ∷ good (objectBytes 0x77 (profileAnd emv oneRecord ++ forbidden))
+      ∷ good (objectBytes 0x77 (objectBytes 0x82 emv))
+      ∷ good (objectBytes 0x77 (objectBytes 0x94 oneRecord))
+      ∷ good (options stripe oneRecord)
+      ∷ good (options emv badLocator)
+      ∷ good (objectBytes 0x77 (profileAnd emv oneRecord ++ replicate 243 0))
+      ∷ good (options emv oneRecord)
+      ∷ [])
+      ≡ map ended (2 ∷ 1 ∷ 2 ∷ 2 ∷ 2 ∷ 3 ∷ 4 ∷ 4 ∷ 11 ∷ 5 ∷ []) ++ (command 5 ∷ command 5 ∷ [])

@@ -10,8 +10,8 @@ use Rattle.record.specs.declared.Answer.{Answer}
 use Rattle.record.specs.declared.Outcome.{Outcome}
 use Rattle.worked_examples.specs.Sessions.{Object, inBytes, within, above, emv, stripe, accountObjects}
 use Rattle.worked_examples.specs.Sessions.{trackObjects, soundTrack, onLast}
-use Rattle.worked_examples.specs.Calls.{says, eachSays, command, outcome, ended, good, bad, tooLong, cut70, behind}
-use Rattle.worked_examples.specs.Calls.{wrapped, forbidden}
+use Rattle.worked_examples.specs.Calls.{says, eachSays, command, outcome, ended, good, bad, tooLong, cut70}
+use Rattle.worked_examples.specs.Calls.{behind, wrapped, forbidden}
 
 -- a record of objects
 abbrev pub recordOf : List Object → List ℕ
@@ -63,27 +63,27 @@ pub record OnLastRecord : Type 0 where
   pub objects-limit : says (onLast emv above) (good results) ≡ ended 3
   pub objects-missing : says (onLast emv within) (good results) ≡ ended 3
   pub objects-list :
-    says (onLast emv within) (good (recordOf ((0x95, 0x00 ∷ []) ∷ (0x8C, brokenList) ∷ []))) ≡ ended 3
+      says (onLast emv within) (good (recordOf ((0x95, 0x00 ∷ []) ∷ (0x8C, brokenList) ∷ []))) ≡ ended 3
   pub limit-missing : says (onLast emv above) (good nothing) ≡ selectsNext
   pub limit-list : says (onLast emv above) (good brokenCdol) ≡ selectsNext
   pub missing-list : says (onLast emv within) (good (recordOf ((0x8C, brokenList) ∷ []))) ≡ ended 4
   -- each of the last three alone; and the cryptogram is asked for
   pub above-alone : says (onLast emv above) (good (recordOf accountObjects)) ≡ selectsNext
   pub others-alone :
-    eachSays (onLast emv within) (good nothing ∷ good brokenCdol ∷ good (recordOf accountObjects) ∷ [])
-    ≡ ended 4 ∷ withoutCdol ∷ command 11 ∷ []
+      eachSays (onLast emv within) (good nothing ∷ good brokenCdol ∷ good (recordOf accountObjects) ∷ [])
+      ≡ ended 4 ∷ withoutCdol ∷ command 11 ∷ []
 
 -- in mag-stripe mode
 pub record OnLastStripe : Type 0 where
   pub objects-limit : says (onLast stripe above) (good results) ≡ ended 3
   pub objects-missing : says (onLast stripe within) (good results) ≡ ended 3
   pub objects-list :
-    says (onLast stripe within) (good (recordOf ((0x95, 0x00 ∷ []) ∷ (0x9F69, brokenList) ∷ []))) ≡ ended 3
+      says (onLast stripe within) (good (recordOf ((0x95, 0x00 ∷ []) ∷ (0x9F69, brokenList) ∷ []))) ≡ ended 3
   pub limit-missing : says (onLast stripe above) (good nothing) ≡ selectsNext
   pub limit-list : says (onLast stripe above) (good brokenUdol) ≡ selectsNext
   pub missing-list : says (onLast stripe within) (good (recordOf ((0x9F69, brokenList) ∷ []))) ≡ ended 4
   -- each of the last three alone; and the checksum is asked for
   pub above-alone : says (onLast stripe above) (good (recordOf (trackObjects soundTrack))) ≡ selectsNext
   pub others-alone :
-    eachSays (onLast stripe within) (good nothing ∷ good brokenUdol ∷ good (recordOf (trackObjects soundTrack)) ∷ [])
-    ≡ ended 4 ∷ ended 7 ∷ command 10 ∷ []
+      eachSays (onLast stripe within) (good nothing ∷ good brokenUdol ∷ good (recordOf (trackObjects soundTrack)) ∷ [])
+      ≡ ended 4 ∷ ended 7 ∷ command 10 ∷ []

@@ -8,7 +8,7 @@ use Prim.Native.Nat.{ℕ}
 use Rattle.record.specs.Session.{freshSession}
 use Rattle.worked_examples.specs.Sessions.{inBytes, startObjects, within, off, onOptions, onEnded, brokenFresh}
 use Rattle.worked_examples.specs.Sessions.{brokenOptions, brokenEnded}
-use Rattle.worked_examples.specs.Calls.{lent, few, startSays, answerSays, linkSays, stopSays, refused}
+use Rattle.worked_examples.specs.Calls.{lent, few, startSays, answerSays, linkSays, stopSays, refused, ended}
 
 -- all that a start must bring; a template; an object of the session alone; nothing
 abbrev pub complete : List ℕ
@@ -19,6 +19,10 @@ noRun = 0xE1 ∷ 0x00 ∷ []
 
 abbrev pub notSettable : List ℕ
 notSettable = 0x95 ∷ 0x05 ∷ 0x00 ∷ 0x00 ∷ 0x00 ∷ 0x00 ∷ 0x00 ∷ []
+
+-- a PDOL that ends behind a tag
+abbrev pub brokenPdol : List ℕ
+brokenPdol = inBytes ((0x9F38, 0x9F ∷ 0x02 ∷ []) ∷ [])
 
 -- status 6A 82
 abbrev pub card : List ℕ
@@ -42,6 +46,9 @@ pub record Refusals : Type 0 where
   pub run-absent : startSays freshSession noRun lent ≡ refused 20
   pub object-absent : startSays freshSession notSettable lent ≡ refused 23
   pub absent-alone : startSays freshSession [] lent ≡ refused 24
+  -- a PDOL that makes no command (reason 7) comes after the refusals
+  pub absent-list : startSays freshSession brokenPdol lent ≡ refused 24
+  pub list-alone : startSays freshSession (brokenPdol ++ complete) lent ≡ ended 7
   -- answer
   pub answer-buffer-ranges : answerSays brokenOptions card few ≡ refused 22
   pub answer-buffer-phase : answerSays freshSession card few ≡ refused 22

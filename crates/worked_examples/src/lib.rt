@@ -1,6 +1,6 @@
-// Worked examples of the rules of a session, as one statement: for each pair of reasons and each pair of refusals that can meet in one call an
-// input that has both, and the rules that no other promise would tell from a wrong one. A rule that is changed in definition and source alike is
-// refused here.
+// Worked examples of the rules of a session, as one statement: for each pair of reasons and each pair of refusals that
+// can meet in one call an input that has both, and the rules that no other promise would tell from a wrong one. A rule
+// that is changed in definition and source alike is refused here.
 ghost use Rattle.worked_examples.specs.Options.{OnOptions};
 ghost use Rattle.worked_examples.specs.Records.{OnLastRecord, OnLastStripe};
 ghost use Rattle.worked_examples.specs.Cryptogram.{OnCryptogram};
@@ -23,5 +23,4 @@ pub fn examples_hold()
     ensures refusals { λ _. ⌜ Refusals ⌝ }
     ensures journal { λ _. ⌜ Journal ⌝ }
     ensures call_lists { λ _. ⌜ CallLists ⌝ }
-{
-}
+{}

@@ -48,10 +48,10 @@ pub record Host : Type 0 where
   -- what a call hands back: commands; each outcome; each refusal
   pub commands : map wordOf (command 5 ∷ command 261 ∷ []) ≡ 5 ∷ 261 ∷ []
   pub outcomes :
-    map wordOf
-    (outcome Outcome.Approved 0 0 ∷ outcome Outcome.OnlineRequest 0 2 ∷ outcome Outcome.Declined 0 1
-    ∷ outcome Outcome.Ended 9 4 ∷ outcome Outcome.Ended 8 3 ∷ outcome Outcome.SelectNext 6 15 ∷ [])
-    ≡ 0x00010000 ∷ 0x02010100 ∷ 0x01010200 ∷ 0x04010309 ∷ 0x03010308 ∷ 0x0F010406 ∷ []
+      map wordOf
+      (outcome Outcome.Approved 0 0 ∷ outcome Outcome.OnlineRequest 0 2 ∷ outcome Outcome.Declined 0 1
+      ∷ outcome Outcome.Ended 9 4 ∷ outcome Outcome.Ended 8 3 ∷ outcome Outcome.SelectNext 6 15 ∷ [])
+      ≡ 0x00010000 ∷ 0x02010100 ∷ 0x01010200 ∷ 0x04010309 ∷ 0x03010308 ∷ 0x0F010406 ∷ []
   pub refusals : map (λ n. wordOf (refused n)) (20 ∷ 21 ∷ 22 ∷ 23 ∷ 24 ∷ 25 ∷ [])
       ≡ 0x20014 ∷ 0x20015 ∷ 0x20016 ∷ 0x20017 ∷ 0x20018 ∷ 0x20019 ∷ []
   -- opening 6,021 bytes and 6,022
@@ -79,16 +79,17 @@ pub record Host : Type 0 where
   -- an explanation: no record; each case; each stage and holder
   pub explain-none : explainWord (decoded []) ≡ 0x20019
   pub explain-cases :
-    map explain.wordOf
-    (Explanation.Refused ∷ Explanation.Reason 6 ∷ Explanation.NoChoice ∷ Explanation.LowerCryptogram ∷ [])
-    ≡ 0x20019 ∷ 0x30006 ∷ 0x40000 ∷ 0x50000 ∷ []
+      map explain.wordOf
+      (Explanation.Refused ∷ Explanation.Reason 6 ∷ Explanation.NoChoice ∷ Explanation.LowerCryptogram ∷ [])
+      ≡ 0x20019 ∷ 0x30006 ∷ 0x40000 ∷ 0x50000 ∷ []
   pub explain-unforced :
-    map (λ s. explain.wordOf (Explanation.Unforced s)) (Stage.Denial ∷ Stage.OnlineOnly ∷ Stage.Default ∷ Stage.Online ∷ [])
-    ≡ 0x600FF ∷ 0x610FF ∷ 0x620FF ∷ 0x630FF ∷ []
+      map (λ s. explain.wordOf (Explanation.Unforced s))
+      (Stage.Denial ∷ Stage.OnlineOnly ∷ Stage.Default ∷ Stage.Online ∷ [])
+      ≡ 0x600FF ∷ 0x610FF ∷ 0x620FF ∷ 0x630FF ∷ []
   pub explain-forced :
-    map (λ h. explain.wordOf (Explanation.Forced (record { stage = Stage.Online; bit = 9; holder = h })))
-    (Holder.Card ∷ Holder.Terminal ∷ Holder.Both ∷ [])
-    ≡ 0x63109 ∷ 0x63209 ∷ 0x63309 ∷ []
+      map (λ h. explain.wordOf (Explanation.Forced (record { stage = Stage.Online; bit = 9; holder = h })))
+      (Holder.Card ∷ Holder.Terminal ∷ Holder.Both ∷ [])
+      ≡ 0x63109 ∷ 0x63209 ∷ 0x63309 ∷ []
   -- a search: the place and the length, a tag that is not there, bytes that are cut
   pub found : map findWord (findOf 0x5A account ∷ findOf 0x57 account ∷ findOf 0x5A (0x70 ∷ 0x04 ∷ []) ∷ [])
       ≡ 0x0000000400000002 ∷ 0xFFFFFFFFFFFFFFFF ∷ 0xFFFFFFFFFFFFFFFE ∷ []
