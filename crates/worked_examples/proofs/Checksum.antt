@@ -34,6 +34,10 @@ unfolding recurse recurseBy if both either every numberFrom nibbles tagSize seco
     checksumTaken checksumReply storedReason optionsRead optionsStep recordStep recordRead lastRead recordsRead analysed askedIn askCryptogram decision cryptogramEnd cryptogramReply
 on-checksum = record {
   length-status = says-in onSound (kept .sound) _ refl;
+  length-objects = says-in onSound (kept .sound) _ refl;
+  length-track = says-in onUnsound (kept .unsound) _ refl;
+  length-missing = says-in onSound (kept .sound) _ refl;
+  length-declined = says-in onSound (kept .sound) _ refl;
   status-encoding = says-in onSound (kept .sound) _ refl;
   status-outer-tag = says-in onSound (kept .sound) _ refl;
   status-objects = says-in onSound (kept .sound) _ refl;

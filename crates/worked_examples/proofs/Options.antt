@@ -38,6 +38,10 @@ unfolding recurse recurseBy if both either every numberFrom nibbles tagSize seco
     optionsStep recordStep recordRead lastRead recordsRead analysed askedIn askCryptogram decision cryptogramEnd cryptogramReply
 on-options = record {
   length-status = says-in onOptions (kept .options) _ refl;
+  length-objects = says-in onOptions (kept .options) _ refl;
+  length-missing = says-in onOptions (kept .options) _ refl;
+  length-mode = says-in onOptions (kept .options) _ refl;
+  length-locator = says-in onOptions (kept .options) _ refl;
   status-encoding = says-in onOptions (kept .options) _ refl;
   status-outer-tag = says-in onOptions (kept .options) _ refl;
   status-objects = says-in onOptions (kept .options) _ refl;

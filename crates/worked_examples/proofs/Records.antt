@@ -50,6 +50,10 @@ unfolding recurse recurseBy if both either every numberFrom nibbles alike tagSiz
     cryptogramEnd cryptogramReply
 on-last-record = record {
   length-status = says-in (onLast emv within) (kept .emv-within) _ refl;
+  length-objects = says-in (onLast emv within) (kept .emv-within) _ refl;
+  length-limit = says-in (onLast emv above) (kept .emv-above) _ refl;
+  length-missing = says-in (onLast emv within) (kept .emv-within) _ refl;
+  length-list = says-in (onLast emv within) (kept .emv-within) _ refl;
   status-encoding = says-in (onLast emv within) (kept .emv-within) _ refl;
   status-outer-tag = says-in (onLast emv within) (kept .emv-within) _ refl;
   status-objects = says-in (onLast emv within) (kept .emv-within) _ refl;

@@ -2,8 +2,8 @@
 -- that it hands out, what the store holds after it; and the card's bytes that they send.
 -- Assumes nothing.
 use mathlib.Core.List.{List, [], _∷_, _++_, map}
-use Prim.Native.Nat.{ℕ}
-use lib.ListN.{replicate}
+use Prim.Native.Nat.{ℕ, _-_}
+use lib.ListN.{length, replicate}
 use Rattle.tlv.specs.Encoding.{objectBytes}
 use Rattle.store.specs.Place.{Value, valueOf}
 use Rattle.record.specs.declared.Answer.{Answer}
@@ -84,7 +84,11 @@ good body = body ++ (0x90 ∷ 0x00 ∷ [])
 abbrev pub bad : List ℕ → List ℕ
 bad body = body ++ (0x6A ∷ 0x82 ∷ [])
 
--- an answer of 259 bytes whose status is not 90 00
+-- an answer of 259 bytes: one object of a tag of one byte, with padding behind its contents, and status 90 00
+abbrev pub long : ℕ → List ℕ → List ℕ
+long tag contents = good (objectBytes tag (contents ++ replicate (254 - length contents) 0))
+
+-- one whose status is not 90 00
 abbrev pub tooLong : List ℕ
 tooLong = replicate 259 0
 

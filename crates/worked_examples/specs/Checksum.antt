@@ -11,8 +11,8 @@ use Rattle.record.specs.declared.Answer.{Answer}
 use Rattle.record.specs.declared.Outcome.{Outcome}
 use Rattle.record.specs.declared.Session.{Session}
 use Rattle.worked_examples.specs.Sessions.{soundTrack, unsoundTrack, onChecksum}
-use Rattle.worked_examples.specs.Calls.{says, eachSays, storedAfter, outcome, ended, good, bad, tooLong, cut77}
-use Rattle.worked_examples.specs.Calls.{behind, wrapped, forbidden}
+use Rattle.worked_examples.specs.Calls.{says, eachSays, storedAfter, outcome, ended, good, bad, long, tooLong}
+use Rattle.worked_examples.specs.Calls.{cut77, behind, wrapped, forbidden}
 
 -- the counter 9F36, and with it the code 9F61
 abbrev pub counter : List ℕ
@@ -43,6 +43,10 @@ onUnsound = onChecksum unsoundTrack
 
 pub record OnChecksum : Type 0 where
   pub length-status : says onSound tooLong ≡ ended 2
+  pub length-objects : says onSound (long 0x77 forbidden) ≡ ended 2
+  pub length-track : says onUnsound (long 0x77 (counter ++ code)) ≡ ended 2
+  pub length-missing : says onSound (long 0x77 []) ≡ ended 2
+  pub length-declined : says onSound (long 0x77 counter) ≡ ended 2
   pub status-encoding : says onSound (bad cut77) ≡ ended 1
   pub status-outer-tag : says onSound (bad (objectBytes 0x70 [])) ≡ ended 1
   pub status-objects : says onSound (bad forbidden77) ≡ ended 1

@@ -12,8 +12,8 @@ use Rattle.record.specs.declared.Answer.{Answer}
 use Rattle.record.specs.declared.Outcome.{Outcome}
 use Rattle.record.specs.declared.Session.{Session}
 use Rattle.worked_examples.specs.Sessions.{inBytes, onCryptogram}
-use Rattle.worked_examples.specs.Calls.{says, eachSays, storedAfter, outcome, endedWithPin, good, bad, tooLong}
-use Rattle.worked_examples.specs.Calls.{cut77, behind, wrapped, forbidden}
+use Rattle.worked_examples.specs.Calls.{says, eachSays, storedAfter, outcome, endedWithPin, good, bad, long}
+use Rattle.worked_examples.specs.Calls.{tooLong, cut77, behind, wrapped, forbidden}
 
 -- 9F27, 9F36 and 9F26, and these in a 77
 abbrev pub cryptogramObjects : ℕ → List ℕ
@@ -64,6 +64,9 @@ pub record OnCryptogram : Type 0 where
       ≡ declined ∷ approved ∷ onlineRequest ∷ notAllowed ∷ []
   -- the order
   pub length-status : says online tooLong ≡ endedWithPin 2
+  pub length-objects : says online (long 0x77 forbidden) ≡ endedWithPin 2
+  pub length-missing : says online (long 0x77 []) ≡ endedWithPin 2
+  pub length-type : says online (long 0x77 (cryptogramObjects 0x40)) ≡ endedWithPin 2
   pub status-encoding : says online (bad cut77) ≡ endedWithPin 1
   pub status-outer-tag : says online (bad (objectBytes 0x70 [])) ≡ endedWithPin 1
   pub status-objects : says online (bad (objectBytes 0x77 forbidden)) ≡ endedWithPin 1

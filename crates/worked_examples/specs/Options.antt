@@ -8,8 +8,8 @@ use Prim.Native.Nat.{ℕ}
 use lib.ListN.{replicate}
 use Rattle.tlv.specs.Encoding.{objectBytes}
 use Rattle.worked_examples.specs.Sessions.{emv, stripe, oneRecord, badLocator, onOptions}
-use Rattle.worked_examples.specs.Calls.{says, eachSays, command, ended, good, bad, tooLong, cut77, behind}
-use Rattle.worked_examples.specs.Calls.{wrapped, forbidden}
+use Rattle.worked_examples.specs.Calls.{says, eachSays, command, ended, good, bad, long, tooLong, cut77}
+use Rattle.worked_examples.specs.Calls.{behind, wrapped, forbidden}
 
 -- 82 and 94, and both in a 77
 abbrev pub profileAnd : List ℕ → List ℕ → List ℕ
@@ -21,6 +21,10 @@ options profile locator = objectBytes 0x77 (profileAnd profile locator)
 -- mag-stripe mode is off, so that 82 of 00 00 is of no mode
 pub record OnOptions : Type 0 where
   pub length-status : says onOptions tooLong ≡ ended 2
+  pub length-objects : says onOptions (long 0x77 forbidden) ≡ ended 2
+  pub length-missing : says onOptions (long 0x77 []) ≡ ended 2
+  pub length-mode : says onOptions (long 0x77 (profileAnd stripe oneRecord)) ≡ ended 2
+  pub length-locator : says onOptions (long 0x77 (profileAnd emv badLocator)) ≡ ended 2
   pub status-encoding : says onOptions (bad cut77) ≡ ended 1
   pub status-outer-tag : says onOptions (bad (objectBytes 0x70 [])) ≡ ended 1
   pub status-objects : says onOptions (bad (objectBytes 0x77 forbidden)) ≡ ended 1
@@ -46,7 +50,7 @@ pub record OnOptions : Type 0 where
   -- under 80, 95, no 94, no 82, no mode, file 0; and none: with 258 bytes and with 14 the first record is asked for
   pub alone :
       eachSays onOptions
-      (good (objectBytes 0x77 (profileAnd emv oneRecord ++ replicate 244 0))
+      (long 0x77 (profileAnd emv oneRecord)
       ∷ bad (options emv oneRecord)
       ∷ good (behind (options emv oneRecord))
       ∷ good (objectBytes 0x70 (options emv oneRecord))

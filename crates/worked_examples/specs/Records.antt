@@ -10,8 +10,8 @@ use Rattle.record.specs.declared.Answer.{Answer}
 use Rattle.record.specs.declared.Outcome.{Outcome}
 use Rattle.worked_examples.specs.Sessions.{Object, inBytes, within, above, emv, stripe, accountObjects}
 use Rattle.worked_examples.specs.Sessions.{trackObjects, soundTrack, onLast}
-use Rattle.worked_examples.specs.Calls.{says, eachSays, command, outcome, ended, good, bad, tooLong, cut70}
-use Rattle.worked_examples.specs.Calls.{behind, wrapped, forbidden}
+use Rattle.worked_examples.specs.Calls.{says, eachSays, command, outcome, ended, good, bad, long, tooLong}
+use Rattle.worked_examples.specs.Calls.{cut70, behind, wrapped, forbidden}
 
 -- a record of objects
 abbrev pub recordOf : List Object → List ℕ
@@ -29,9 +29,11 @@ withoutCdol = outcome Outcome.Ended 7 0
 abbrev pub brokenList : List ℕ
 brokenList = 0x9F ∷ 0x02 ∷ []
 
+abbrev pub brokenObjects : List Object
+brokenObjects = (0x5F24, 0x30 ∷ 0x12 ∷ 0x31 ∷ []) ∷ (0x5A, 0x54 ∷ 0x13 ∷ []) ∷ (0x8C, brokenList) ∷ []
+
 abbrev pub brokenCdol : List ℕ
-brokenCdol =
-    recordOf ((0x5F24, 0x30 ∷ 0x12 ∷ 0x31 ∷ []) ∷ (0x5A, 0x54 ∷ 0x13 ∷ []) ∷ (0x8C, brokenList) ∷ [])
+brokenCdol = recordOf brokenObjects
 
 abbrev pub brokenUdol : List ℕ
 brokenUdol = recordOf ((0x9F69, brokenList) ∷ trackObjects soundTrack)
@@ -46,6 +48,10 @@ results = objectBytes 0x70 forbidden
 -- in EMV mode
 pub record OnLastRecord : Type 0 where
   pub length-status : says (onLast emv within) tooLong ≡ ended 2
+  pub length-objects : says (onLast emv within) (long 0x70 forbidden) ≡ ended 2
+  pub length-limit : says (onLast emv above) (long 0x70 (inBytes accountObjects)) ≡ ended 2
+  pub length-missing : says (onLast emv within) (long 0x70 []) ≡ ended 2
+  pub length-list : says (onLast emv within) (long 0x70 (inBytes brokenObjects)) ≡ ended 2
   pub status-encoding : says (onLast emv within) (bad cut70) ≡ ended 1
   pub status-outer-tag : says (onLast emv within) (bad (objectBytes 0x77 [])) ≡ ended 1
   pub status-objects : says (onLast emv within) (bad results) ≡ ended 1
