@@ -33,6 +33,8 @@ fn statements() {
     line(b"rank::rank, of offline", basics::wide(rank_of(Choice::Offline)));
     found(b"cabinet_calls::most_approved", cabinet_calls::most_approved());
     host_claim::demand_3_over_host_calls();
+    worked_examples::examples_hold();
+    worked_words::words_hold();
     let rows = dictionary::used_rows();
     line(b"dictionary::used_rows, the last", rows[46]);
 }

@@ -1,0 +1,112 @@
+-- How the worked examples call a session, and what they write down of its step: what the call hands back, the command
+-- that it hands out, what the store holds after it; and the card's bytes that they send.
+-- Assumes nothing.
+use mathlib.Core.List.{List, [], _∷_, _++_, map}
+use Prim.Native.Nat.{ℕ, _-_}
+use lib.ListN.{length, replicate}
+use Rattle.tlv.specs.Encoding.{objectBytes}
+use Rattle.store.specs.Place.{Value, valueOf}
+use Rattle.record.specs.declared.Answer.{Answer}
+use Rattle.record.specs.declared.Outcome.{Outcome}
+use Rattle.record.specs.declared.Session.{Session}
+use Rattle.record.specs.Session.{stored, parametersOf}
+use Rattle.session.specs.Steps.{linkStep, stopStep}
+use Rattle.session.specs.Start.{startStep}
+use Rattle.session.specs.Answer.{answerStep}
+use Rattle.trace.specs.Calls.{commandIn}
+
+-- ---- the calls
+
+-- the least command buffer, and one byte less
+abbrev pub lent : List ℕ
+lent = replicate 261 0
+
+abbrev pub few : List ℕ
+few = replicate 260 0
+
+-- what a start, an answer, a link failure and a stop hand back, by the session, the bytes and the buffer
+unfoldable pub startSays : Session → List ℕ → List ℕ → Answer
+startSays s bytes buf = startStep s bytes buf .reply .answer
+
+unfoldable pub answerSays : Session → List ℕ → List ℕ → Answer
+answerSays s card buf = answerStep s card buf .reply .answer
+
+unfoldable pub linkSays : Session → List ℕ → Answer
+linkSays s buf = linkStep s buf .reply .answer
+
+unfoldable pub stopSays : Session → List ℕ → Answer
+stopSays s buf = stopStep s buf .reply .answer
+
+-- with the least buffer: what card bytes get, one by one
+unfoldable pub says : Session → List ℕ → Answer
+says s card = answerStep s card lent .reply .answer
+
+unfoldable pub eachSays : Session → List (List ℕ) → List Answer
+eachSays s cards = map (says s) cards
+
+-- the command that a start and an answer hand out, none where there is no command
+unfoldable pub startSends : Session → List ℕ → List (List ℕ)
+startSends s bytes = commandIn (startStep s bytes lent .reply .answer) (startStep s bytes lent .buffer)
+
+unfoldable pub sends : Session → List ℕ → List (List ℕ)
+sends s card = commandIn (answerStep s card lent .reply .answer) (answerStep s card lent .buffer)
+
+-- what the store holds of a tag after an answer
+unfoldable pub storedAfter : Session → List ℕ → ℕ → Value
+storedAfter s card tag = valueOf (stored (answerStep s card lent .reply .session)) tag
+
+-- ---- what is handed back
+
+-- a refusal by its number
+abbrev pub refused : ℕ → Answer
+refused n = Answer.Refused (record { number = n })
+
+-- a command of so many bytes
+abbrev pub command : ℕ → Answer
+command n = Answer.Command (record { size = n })
+
+-- an outcome by its reason and the method's number: 15 where no method was chosen, 2 for an online PIN
+abbrev pub outcome : Outcome → ℕ → ℕ → Answer
+outcome o reason method = Answer.Outcome (parametersOf o reason method)
+
+abbrev pub ended : ℕ → Answer
+ended reason = outcome Outcome.Ended reason 15
+
+abbrev pub endedWithPin : ℕ → Answer
+endedWithPin reason = outcome Outcome.Ended reason 2
+
+-- ---- the card's bytes
+
+-- a body with status 90 00, and with status 6A 82
+abbrev pub good : List ℕ → List ℕ
+good body = body ++ (0x90 ∷ 0x00 ∷ [])
+
+abbrev pub bad : List ℕ → List ℕ
+bad body = body ++ (0x6A ∷ 0x82 ∷ [])
+
+-- an answer of 259 bytes: one object of a tag of one byte, with padding behind its contents, and status 90 00
+abbrev pub long : ℕ → List ℕ → List ℕ
+long tag contents = good (objectBytes tag (contents ++ replicate (254 - length contents) 0))
+
+-- one whose status is not 90 00
+abbrev pub tooLong : List ℕ
+tooLong = replicate 259 0
+
+-- a 77 whose contents are cut short, and a 70
+abbrev pub cut77 : List ℕ
+cut77 = 0x77 ∷ 0x05 ∷ []
+
+abbrev pub cut70 : List ℕ
+cut70 = 0x70 ∷ 0x05 ∷ []
+
+-- a body with a byte behind its one object
+abbrev pub behind : List ℕ → List ℕ
+behind body = body ++ (0x00 ∷ [])
+
+-- a body inside a template that no answer has
+abbrev pub wrapped : List ℕ → List ℕ
+wrapped body = objectBytes 0x61 body
+
+-- the result bits, which are not the card's to set
+abbrev pub forbidden : List ℕ
+forbidden = objectBytes 0x95 (0x00 ∷ [])

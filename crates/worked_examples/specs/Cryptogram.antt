@@ -1,0 +1,99 @@
+-- The answer to GENERATE AC (document 01, "Commands and steps" and the order of reasons): the outcome by the choice
+-- that was asked for and the cryptogram's type, the reading's reasons, an object missing (4), a type that is not
+-- allowed (8); and the objects of a body under 80. The fields of an order are named by the two reasons of their answer.
+-- Assumes nothing.
+use mathlib.Core.Path.{_≡_}
+use mathlib.Core.List.{List, [], _∷_, _++_, map}
+use Prim.Native.Nat.{ℕ}
+use Rattle.tlv.specs.Encoding.{objectBytes}
+use Rattle.store.specs.Place.{absent, present}
+use Rattle.analysis.specs.declared.choice.Choice.{Choice}
+use Rattle.record.specs.declared.Answer.{Answer}
+use Rattle.record.specs.declared.Outcome.{Outcome}
+use Rattle.record.specs.declared.Session.{Session}
+use Rattle.worked_examples.specs.Sessions.{inBytes, onCryptogram}
+use Rattle.worked_examples.specs.Calls.{says, eachSays, storedAfter, outcome, endedWithPin, good, bad, long}
+use Rattle.worked_examples.specs.Calls.{tooLong, cut77, behind, wrapped, forbidden}
+
+-- 9F27, 9F36 and 9F26, and these in a 77
+abbrev pub cryptogramObjects : ℕ → List ℕ
+cryptogramObjects information =
+    inBytes
+    ((0x9F27, information ∷ []) ∷ (0x9F36, 0x00 ∷ 0x01 ∷ [])
+    ∷ (0x9F26, 0x11 ∷ 0x22 ∷ 0x33 ∷ 0x44 ∷ 0x55 ∷ 0x66 ∷ 0x77 ∷ 0x88 ∷ []) ∷ [])
+
+abbrev pub cryptogram : ℕ → List ℕ
+cryptogram information = objectBytes 0x77 (cryptogramObjects information)
+
+-- AAC, TC, ARQC and the reserved type
+abbrev pub types : List (List ℕ)
+types = map (λ information. good (cryptogram information)) (0x00 ∷ 0x40 ∷ 0x80 ∷ 0xC0 ∷ [])
+
+-- the outcomes; each tells the method that the session holds
+abbrev pub declined : Answer
+declined = outcome Outcome.Declined 0 2
+
+abbrev pub onlineRequest : Answer
+onlineRequest = outcome Outcome.OnlineRequest 0 2
+
+abbrev pub approved : Answer
+approved = outcome Outcome.Approved 0 2
+
+abbrev pub notAllowed : Answer
+notAllowed = endedWithPin 8
+
+-- what is awaited in the other fields: an ARQC was asked for, so that a TC is not allowed
+abbrev pub online : Session
+online = onCryptogram Choice.Online
+
+abbrev pub certificate : List ℕ
+certificate = cryptogram 0x40
+
+-- under 80: 9F27, 9F36, 9F26, and behind them 9F10
+abbrev pub under80 : List ℕ
+under80 =
+    objectBytes 0x80
+    (0x80 ∷ 0x00 ∷ 0x2A ∷ 0x11 ∷ 0x22 ∷ 0x33 ∷ 0x44 ∷ 0x55 ∷ 0x66 ∷ 0x77 ∷ 0x88 ∷ 0xAA ∷ 0xBB ∷ [])
+
+pub record OnCryptogram : Type 0 where
+  -- by what was asked for: AAC, TC, ARQC and the reserved type
+  pub decline-asked : eachSays (onCryptogram Choice.Decline) types
+      ≡ declined ∷ notAllowed ∷ notAllowed ∷ notAllowed ∷ []
+  pub online-asked : eachSays online types ≡ declined ∷ notAllowed ∷ onlineRequest ∷ notAllowed ∷ []
+  pub offline-asked : eachSays (onCryptogram Choice.Offline) types
+      ≡ declined ∷ approved ∷ onlineRequest ∷ notAllowed ∷ []
+  -- the order
+  pub length-status : says online tooLong ≡ endedWithPin 2
+  pub length-objects : says online (long 0x77 forbidden) ≡ endedWithPin 2
+  pub length-missing : says online (long 0x77 []) ≡ endedWithPin 2
+  pub length-type : says online (long 0x77 (cryptogramObjects 0x40)) ≡ endedWithPin 2
+  pub status-encoding : says online (bad cut77) ≡ endedWithPin 1
+  pub status-outer-tag : says online (bad (objectBytes 0x70 [])) ≡ endedWithPin 1
+  pub status-objects : says online (bad (objectBytes 0x77 forbidden)) ≡ endedWithPin 1
+  pub status-missing : says online (bad (objectBytes 0x77 [])) ≡ endedWithPin 1
+  pub status-type : says online (bad certificate) ≡ endedWithPin 1
+  pub encoding-objects : says online (good (behind (objectBytes 0x77 forbidden))) ≡ endedWithPin 2
+  pub encoding-missing : says online (good (behind (objectBytes 0x77 []))) ≡ endedWithPin 2
+  pub encoding-type : says online (good (behind certificate)) ≡ endedWithPin 2
+  pub outer-tag-objects : says online (good (objectBytes 0x70 forbidden)) ≡ endedWithPin 2
+  pub outer-tag-missing : says online (good (objectBytes 0x70 [])) ≡ endedWithPin 2
+  pub outer-tag-type : says online (good (wrapped certificate)) ≡ endedWithPin 2
+  pub body-type : says online (good (objectBytes 0x80 (0x40 ∷ 0x00 ∷ 0x2A ∷ []))) ≡ endedWithPin 2
+  pub objects-missing : says online (good (objectBytes 0x77 forbidden)) ≡ endedWithPin 3
+  pub objects-type : says online (good (objectBytes 0x77 (cryptogramObjects 0x40 ++ forbidden))) ≡ endedWithPin 3
+  pub missing-type :
+      says online (good (objectBytes 0x77 (inBytes ((0x9F27, 0x40 ∷ []) ∷ (0x9F36, 0x00 ∷ 0x01 ∷ []) ∷ []))))
+      ≡ endedWithPin 4
+  -- a decline does not come before an object that is missing: an AAC without 9F36 and 9F26, and none of the three
+  pub missing-declined :
+      eachSays online (good (objectBytes 0x77 (objectBytes 0x9F27 (0x00 ∷ []))) ∷ good (objectBytes 0x77 []) ∷ [])
+      ≡ endedWithPin 4 ∷ endedWithPin 4 ∷ []
+  -- under 80
+  pub under80-says : says online (good under80) ≡ onlineRequest
+  pub under80-9F27 : storedAfter online (good under80) 0x9F27 ≡ present (0x80 ∷ [])
+  pub under80-9F36 : storedAfter online (good under80) 0x9F36 ≡ present (0x00 ∷ 0x2A ∷ [])
+  pub under80-9F26 : storedAfter online (good under80) 0x9F26
+      ≡ present (0x11 ∷ 0x22 ∷ 0x33 ∷ 0x44 ∷ 0x55 ∷ 0x66 ∷ 0x77 ∷ 0x88 ∷ [])
+  pub under80-9F10 : storedAfter online (good under80) 0x9F10 ≡ present (0xAA ∷ 0xBB ∷ [])
+  -- nothing of an answer is kept that gives a reason of the reading
+  pub none-kept : storedAfter online (bad under80) 0x9F27 ≡ absent

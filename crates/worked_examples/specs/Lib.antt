@@ -1,0 +1,11 @@
+pub mod Sessions
+pub mod Calls
+pub mod Options
+pub mod Records
+pub mod Cryptogram
+pub mod Checksum
+pub mod Encodings
+pub mod Lists
+pub mod Refusals
+pub mod Journal
+pub mod CallLists

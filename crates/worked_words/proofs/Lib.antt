@@ -1,0 +1,3 @@
+pub mod Host
+pub mod Personalise
+pub mod Cabinet
