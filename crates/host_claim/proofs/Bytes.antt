@@ -1,5 +1,5 @@
--- One call over bytes that hold a session is the session's call: the record of the session that it leaves lies in front of the same bytes, and
--- is read back by the next call. A record over a record leaves what one record leaves.
+-- One call over bytes that hold a session is the session's call: the record of the session that it leaves lies in front
+-- of the same bytes, and is read back by the next call. A record over a record leaves what one record leaves.
 -- Assumes nothing.
 use mathlib.Core.Path.{_≡_, sym, ap, _∙_}
 use mathlib.Core.Bool.{true}
@@ -52,22 +52,27 @@ module _ (s : Session) (i : inRanges s ≡ true) (l : List ℕ) (h : recordSize 
 
   -- another record over it
   pub record-over : (t : Session) → withRecord t (withRecord s l) ≡ withRecord t l
-  record-over t = written t (withRecord s l) record-enough ∙ ap (λ (x : List ℕ). encoded t ++ x) record-behind ∙ sym (written t l h)
+  record-over t =
+      written t (withRecord s l) record-enough ∙ ap (λ (x : List ℕ). encoded t ++ x) record-behind
+      ∙ sym (written t l h)
 
 -- ---- a call
 
 -- a buffer that is too short is refused with 22 by both
-short : (s : Session) (buf : List ℕ) (st : Step) → ltb (length buf) leastBuffer ≡ true → admitted s buf st ≡ steps.refuses s refusedBuffer buf
+short : (s : Session) (buf : List ℕ) (st : Step) → ltb (length buf) leastBuffer ≡ true
+    → admitted s buf st ≡ steps.refuses s refusedBuffer buf
 unfolding admitted
 short s buf st t = if-yes _ _ t
 
 module _ (l : List ℕ) (s : Session) (e : decoded l ≡ some s) where
-  call-is : (f : Session → List ℕ → Step) (buf : List ℕ) → (ltb (length buf) leastBuffer ≡ true → f s buf ≡ steps.refuses s refusedBuffer buf)
+  call-is : (f : Session → List ℕ → Step) (buf : List ℕ)
+      → (ltb (length buf) leastBuffer ≡ true → f s buf ≡ steps.refuses s refusedBuffer buf)
       → hosted f l buf ≡ carries l (f s buf)
   unfolding hosted
   call-is f buf u = elim (bool-cases (ltb (length buf) leastBuffer)) [
     | inl t ↦
-        if-yes _ _ t ∙ (λ i. record { word = refusalWord refusedBuffer; session = sym (written-back l s e) i; buffer = buf })
+        if-yes _ _ t
+        ∙ (λ i. record { word = refusalWord refusedBuffer; session = sym (written-back l s e) i; buffer = buf })
         ∙ ap (carries l) (sym (u t))
     | inr t ↦ if-no _ _ t ∙ ap (stepped f l buf) e
   ]

@@ -1,5 +1,6 @@
--- The claim over every list of a host's calls: by induction the bytes always hold the session that session's calls since the last accepted
--- opening lead to, in its ranges, in front of the bytes that were opened. So each call is session's call, and an opening is accepted.
+-- The claim over every list of a host's calls: by induction the bytes always hold the session that session's calls
+-- since the last accepted opening lead to, in its ranges, in front of the bytes that were opened. So each call is
+-- session's call, and an opening is accepted.
 -- Assumes nothing.
 use mathlib.Core.Path.{_≡_, refl, sym, ap, subst, _∙_}
 use mathlib.Core.Bool.{Bool, true, false, not}
@@ -59,10 +60,13 @@ none-behind false b e = e
 none-since : (ms : List CompletedCall) → openingAmong ms ≡ false → sinceOpening ms ≡ ms
 unfolding sinceOpening openingAmong
 none-since [] e = refl
-none-since (m ∷ ms) e = if-no _ _ (none-behind (beginsAnew m) (openingAmong ms) e) ∙ if-no _ _ (none-front (beginsAnew m) (openingAmong ms) e)
+none-since (m ∷ ms) e =
+    if-no _ _ (none-behind (beginsAnew m) (openingAmong ms) e)
+    ∙ if-no _ _ (none-front (beginsAnew m) (openingAmong ms) e)
 
 -- behind an accepted opening
-anew-since : (m : CompletedCall) (ms : List CompletedCall) → beginsAnew m ≡ true → sinceOpening (m ∷ ms) ≡ sinceOpening ms
+anew-since : (m : CompletedCall) (ms : List CompletedCall) → beginsAnew m ≡ true
+    → sinceOpening (m ∷ ms) ≡ sinceOpening ms
 unfolding sinceOpening
 anew-since m ms a = elim (bool-cases (openingAmong ms)) [
   | inl e ↦ if-yes _ _ e
@@ -75,15 +79,17 @@ record Since (before : List ℕ) (s : Session) (x : List CompletedCall) (l : Lis
   words : x ≡ map asCompleted (play s (sessionCalls x))
   after : l ≡ withRecord (final s (sessionCalls x)) before
 
-moved : {b : List ℕ} {s t : Session} {x y : List CompletedCall} {l : List ℕ} → s ≡ t → x ≡ y → Since b s x l → Since b t y l
-moved {b} {s} {t} {x} {y} {l} p q h = subst (λ (z : List CompletedCall). Since b t z l) q (subst (λ (z : Session). Since b z x l) p h)
+moved : {b : List ℕ} {s t : Session} {x y : List CompletedCall} {l : List ℕ} → s ≡ t → x ≡ y
+    → Since b s x l → Since b t y l
+moved {b} {s} {t} {x} {y} {l} p q h =
+    subst (λ (z : List CompletedCall). Since b t z l) q (subst (λ (z : Session). Since b z x l) p h)
 
 -- a session's call as the host sees it, and one more in front
 abbrev called : Session → Call → CompletedCall
 called s c = asCompleted (made s c (step s c))
 
-longer : {b : List ℕ} (s : Session) (c : Call) {x : List CompletedCall} {l : List ℕ} → Since b (step s c .reply .session) x l
-    → Since b s (called s c ∷ x) l
+longer : {b : List ℕ} (s : Session) (c : Call) {x : List CompletedCall} {l : List ℕ}
+    → Since b (step s c .reply .session) x l → Since b s (called s c ∷ x) l
 unfolding play final sessionCalls
 longer s c h = record { words = ap (λ (y : List CompletedCall). called s c ∷ y) (h .words); after = h .after }
 
@@ -93,12 +99,14 @@ record Through (before : List ℕ) (s : Session) (ms : List CompletedCall) (l : 
   not-25 : every isNotRanges ms ≡ true
 
 -- an accepted opening in front: the rest is from a fresh session on
-after-opening : {b : List ℕ} (s : Session) {ms : List CompletedCall} {l : List ℕ} → Through b freshSession ms l → Through b s (completedCall opening 0 [] ∷ ms) l
+after-opening : {b : List ℕ} (s : Session) {ms : List CompletedCall} {l : List ℕ}
+    → Through b freshSession ms l → Through b s (completedCall opening 0 [] ∷ ms) l
 unfolding openingAmong both every
 after-opening s {ms} t =
     record {
       since = moved
-          (origin-fresh (openingAmong ms) ∙ sym (ap (λ (x : Bool). origin x s) (either-left true (openingAmong ms) refl)))
+          (origin-fresh (openingAmong ms)
+          ∙ sym (ap (λ (x : Bool). origin x s) (either-left true (openingAmong ms) refl)))
           (sym (anew-since (completedCall opening 0 []) ms refl)) (t .since);
       not-25 = t .not-25;
     }
@@ -108,29 +116,35 @@ among : (s : Session) (c : Call) (ms : List CompletedCall) → openingAmong (cal
 unfolding openingAmong both
 among s c ms = either-false (openingAmong ms) refl
 
-call-since : {b : List ℕ} (s : Session) (c : Call) {ms : List CompletedCall} {l : List ℕ} → Through b (step s c .reply .session) ms l
+call-since : {b : List ℕ} (s : Session) (c : Call) {ms : List CompletedCall} {l : List ℕ}
+    → Through b (step s c .reply .session) ms l
     → Since b (origin (openingAmong (called s c ∷ ms)) s) (sinceOpening (called s c ∷ ms)) l
 unfolding sinceOpening both
 call-since s c {ms} t = elim (bool-cases (openingAmong ms)) [
   | inl e ↦
-      moved (ap (λ (x : Bool). origin x (step s c .reply .session)) e ∙ sym (ap (λ (x : Bool). origin x s) (among s c ms ∙ e))) (sym (if-yes _ _ e)) (t .since)
+      moved
+      (ap (λ (x : Bool). origin x (step s c .reply .session)) e
+      ∙ sym (ap (λ (x : Bool). origin x s) (among s c ms ∙ e)))
+      (sym (if-yes _ _ e)) (t .since)
   | inr e ↦
       moved (sym (ap (λ (x : Bool). origin x s) (among s c ms ∙ e))) (sym (if-no _ _ e ∙ if-no _ _ refl))
       (longer s c (moved (ap (λ (x : Bool). origin x (step s c .reply .session)) e) (none-since ms e) (t .since)))
 ]
 
-after-call : {b : List ℕ} (s : Session) (c : Call) {ms : List CompletedCall} {l : List ℕ} → isNotRanges (called s c) ≡ true
-    → Through b (step s c .reply .session) ms l → Through b s (called s c ∷ ms) l
+after-call : {b : List ℕ} (s : Session) (c : Call) {ms : List CompletedCall} {l : List ℕ}
+    → isNotRanges (called s c) ≡ true → Through b (step s c .reply .session) ms l → Through b s (called s c ∷ ms) l
 unfolding every
 after-call s c n t = record { since = call-since s c t; not-25 = both-yes _ _ n (t .not-25) }
 
 -- ---- no word of a session in its ranges is that of refusal 25
 
 other-word : (a : Answer) → Small a → Other a → not (eqb (wordOf a) (refusalWord refusedRanges)) ≡ true
-other-word (Answer.Command c) h o = ap not (ne-eqb (wordOf (Answer.Command c)) (refusalWord refusedRanges) (λ e. omega (arith, command-below (c .size))))
-other-word (Answer.Outcome x) h o =
-    ap not (ne-eqb (wordOf (Answer.Outcome x)) (refusalWord refusedRanges) (λ e. let k = outcome-kind x (omega arith) in let m = ap kindOf e in omega arith))
-other-word (Answer.Refused r) h o = ap not (ne-eqb (wordOf (Answer.Refused r)) (refusalWord refusedRanges) (λ e. o (omega arith)))
+other-word a h o = ap not (ne-eqb (wordOf a) (refusalWord refusedRanges) (apart a h o))
+  where
+    apart : (a : Answer) → Small a → Other a → wordOf a ≡ refusalWord refusedRanges → ⊥
+    apart (Answer.Command c) h o e = omega (arith, command-below (c .size))
+    apart (Answer.Outcome x) h o e = let k = outcome-kind x (omega arith) in let m = ap kindOf e in omega arith
+    apart (Answer.Refused r) h o e = o (omega arith)
 
 -- ---- every list of calls
 
@@ -140,25 +154,29 @@ final-keeps s [] i = i
 final-keeps s (c ∷ cs) i = final-keeps (step s c .reply .session) cs (call-keeps s c i)
 
 module _ (before : List ℕ) (enough : recordSize ≤ length before) where
+  -- a call that does h, and the calls of a list behind it
+  abbrev AllOf : Session → HostCall → List HostCall → Hosted → Type 0
+  AllOf s c cs h =
+      Through before s (completedCall c (h .word) (h .buffer) ∷ completedCalls (h .session) cs)
+      (bytesAfter (h .session) cs)
+
   through : (cs : List HostCall) (s : Session) → inRanges s ≡ true
       → Through before s (completedCalls (withRecord s before) cs) (bytesAfter (withRecord s before) cs)
   unfolding completedCalls bytesAfter openingAmong sinceOpening play final sessionCalls every
   through [] s i = record { since = record { words = refl; after = refl }; not-25 = refl }
   through (opening ∷ cs) s i =
-      let l = withRecord s before in
-      let w : openWord l ≡ 0 = if-yes _ _ (le-leb recordSize (length l) (record-enough s i before enough)) in
+      let w : openWord (withRecord s before) ≡ 0 = if-yes _ _ (le-leb recordSize _ (record-enough s i before enough)) in
       let o = record-over s i before enough freshSession in
-      subst (λ (n : ℕ). Through before s (completedCall opening n [] ∷ completedCalls (withRecord freshSession l) cs) (bytesAfter (withRecord freshSession l) cs)) (sym w)
-      (subst (λ (y : List ℕ). Through before s (completedCall opening 0 [] ∷ completedCalls y cs) (bytesAfter y cs)) (sym o)
-      (after-opening s (through cs freshSession fresh-keeps)))
+      subst (AllOf s opening cs) (λ j. record { word = sym w j; session = sym o j; buffer = [] })
+      (after-opening s (through cs freshSession fresh-keeps))
   through (on-session c ∷ cs) s i =
-      let l = withRecord s before in
       let t = step s c .reply .session in
       let o = record-over s i before enough t in
-      subst (λ (h : Hosted). Through before s (completedCall (on-session c) (h .word) (h .buffer) ∷ completedCalls (h .session) cs) (bytesAfter (h .session) cs))
-      (sym (as-session l s c (record-held s i before enough)))
-      (subst (λ (y : List ℕ). Through before s (called s c ∷ completedCalls y cs) (bytesAfter y cs)) (sym o)
-      (after-call s c (other-word (step s c .reply .answer) (step-small s c) (never-ranges s c i)) (through cs t (call-keeps s c i))))
+      let n = other-word (step s c .reply .answer) (step-small s c) (never-ranges s c i) in
+      subst (AllOf s (on-session c) cs)
+      ((λ j. record { word = called s c .word; session = sym o j; buffer = called s c .buffer })
+      ∙ sym (as-session (withRecord s before) s c (record-held s i before enough)))
+      (after-call s c n (through cs t (call-keeps s c i)))
 
   -- the calls since the last accepted opening, as session's
   module _ {x : List CompletedCall} {l : List ℕ} (h : Since before freshSession x l) where
@@ -194,9 +212,12 @@ accepted-enough l e = elim (bool-cases (leb recordSize (length l))) [
   | inr t ↦ let q : refusalWord refusedRanges ≡ 0 = sym (if-no _ _ t) ∙ e in absurd (omega arith)
 ]
 
-pub always : (before l : List ℕ) (cs : List HostCall) → Opened 0 before l → HostClaim before (completedCalls l cs) (bytesAfter l cs)
+pub always : (before l : List ℕ) (cs : List HostCall) → Opened 0 before l
+    → HostClaim before (completedCalls l cs) (bytesAfter l cs)
 always before l cs e =
     let n = accepted-enough before (sym (e .word)) in
-    let t = subst (λ (y : List ℕ). Through before freshSession (completedCalls y cs) (bytesAfter y cs)) (sym (e .session)) (through before n cs freshSession fresh-keeps) in
+    let t = subst
+    (λ (y : List ℕ). Through before freshSession (completedCalls y cs) (bytesAfter y cs))
+    (sym (e .session)) (through before n cs freshSession fresh-keeps) in
     let h = moved (origin-fresh (openingAmong (completedCalls l cs))) refl (t .since) in
     record { demand-3 = since-proper before n h; as-session = same-session before n h; never-25 = t .not-25 }

@@ -1,4 +1,5 @@
--- What is read off lists of calls, computed: where an opening begins anew, which commands are handed out and which are unanswered.
+-- What is read off lists of calls, computed: where an opening begins anew, which commands are handed out and which are
+-- unanswered.
 -- Assumes nothing.
 use mathlib.Core.Path.{_≡_, refl}
 use mathlib.Core.Bool.{true, false}
@@ -48,15 +49,18 @@ unanswered-next : hostUnanswered (first ∷ again ∷ next ∷ []) ≡ (3 ∷ 4 
 unfolding hostUnanswered notRefused withoutAnswer answerAmong if either
 unanswered-next = refl
 
-unanswered-first : hostUnanswered (first ∷ completedCall (on-session (answer [] [])) 0x20016 [] ∷ []) ≡ (1 ∷ 2 ∷ []) ∷ []
+unanswered-first : hostUnanswered (first ∷ completedCall (on-session (answer [] [])) 0x20016 [] ∷ [])
+    ≡ (1 ∷ 2 ∷ []) ∷ []
 unfolding hostUnanswered notRefused withoutAnswer answerAmong if either
 unanswered-first = refl
 
 -- an opening begins anew, one that is refused (25) does not
-anew : sinceOpening (first ∷ completedCall opening 0 [] ∷ again ∷ completedCall opening 0 [] ∷ first ∷ next ∷ []) ≡ first ∷ next ∷ []
+anew : sinceOpening (first ∷ completedCall opening 0 [] ∷ again ∷ completedCall opening 0 [] ∷ first ∷ next ∷ [])
+    ≡ first ∷ next ∷ []
 unfolding sinceOpening openingAmong if both either
 anew = refl
 
-not-anew : sinceOpening (first ∷ completedCall opening 0x20019 [] ∷ next ∷ []) ≡ first ∷ completedCall opening 0x20019 [] ∷ next ∷ []
+not-anew : sinceOpening (first ∷ completedCall opening 0x20019 [] ∷ next ∷ [])
+    ≡ first ∷ completedCall opening 0x20019 [] ∷ next ∷ []
 unfolding sinceOpening openingAmong if both either
 not-anew = refl

@@ -1,4 +1,5 @@
--- Demand 3 of session's calls, read off their words and buffers: trace's claim, each part by the reading that is the same.
+-- Demand 3 of session's calls, read off their words and buffers: trace's claim, each part by the reading that is the
+-- same.
 -- Assumes nothing.
 use mathlib.Core.Path.{_≡_, refl, sym, ap, _∙_}
 use mathlib.Core.List.{List, map}

@@ -1,5 +1,6 @@
--- What is read off the words and the buffers of session's calls is what trace reads off their replies: a word tells command, outcome and refusal
--- apart, and a command's length, since no call hands out more than 261 bytes. Each reading by induction over the calls.
+-- What is read off the words and the buffers of session's calls is what trace reads off their replies: a word tells
+-- command, outcome and refusal apart, and a command's length, since no call hands out more than 261 bytes. Each reading
+-- by induction over the calls.
 -- Assumes nothing.
 use mathlib.Core.Path.{_≡_, refl, sym, ap, ap₂, _∙_}
 use mathlib.Core.Bool.{Bool, false}
@@ -7,8 +8,8 @@ use mathlib.Core.List.{List, [], _∷_, _++_, map}
 use mathlib.Core.Option.{Option, some, none}
 use Prim.Native.Nat.{ℕ}
 use native.Mathlib.Omega.{arith}
+use lib.Dec.{eqb}
 use lib.ListN.{take}
-use borrow.Author.Tests.{eq-eqb, ne-eqb}
 use Rattle.basics.specs.Choice.{if, either}
 use Rattle.basics.proofs.Laws.{if-yes, if-no, if-ap, if-ind}
 use Rattle.record.specs.declared.Answer.{Answer}
@@ -25,23 +26,40 @@ use Rattle.host_claim.specs.Claim.{asCompleted}
 
 -- ---- a word
 
+-- the number of its kind
+abbrev kindNumber : Answer → ℕ
+kindNumber (Answer.Command c) = ofCommand
+kindNumber (Answer.Outcome e) = ofOutcome
+kindNumber (Answer.Refused r) = ofRefusal
+
+kind-is : (a : Answer) → Small a → kindOf (wordOf a) ≡ kindNumber a
+kind-is (Answer.Command c) h = tells (Answer.Command c) h .2
+kind-is (Answer.Outcome e) h = tells (Answer.Outcome e) h .1
+kind-is (Answer.Refused r) h = tells (Answer.Refused r) h .1
+
+-- so the word's kind is compared as the answer's is
+module _ (a : Answer) (h : Small a) (n : ℕ) where
+  kind-read : eqb (kindOf (wordOf a)) n ≡ eqb (kindNumber a) n
+  kind-read = ap (λ (k : ℕ). eqb k n) (kind-is a h)
+
 pub word-command : (a : Answer) → Small a → isCommandWord (wordOf a) ≡ isCommand a
-word-command (Answer.Command c) h = eq-eqb _ _ (tells (Answer.Command c) h .2)
-word-command (Answer.Outcome e) h = ne-eqb (kindOf (wordOf (Answer.Outcome e))) ofCommand (λ q. omega (arith, tells (Answer.Outcome e) h .1))
-word-command (Answer.Refused r) h = ne-eqb (kindOf (wordOf (Answer.Refused r))) ofCommand (λ q. omega (arith, tells (Answer.Refused r) h .1))
+word-command (Answer.Command c) h = kind-read (Answer.Command c) h ofCommand
+word-command (Answer.Outcome e) h = kind-read (Answer.Outcome e) h ofCommand
+word-command (Answer.Refused r) h = kind-read (Answer.Refused r) h ofCommand
 
 word-outcome : (a : Answer) → Small a → isOutcomeWord (wordOf a) ≡ isOutcome a
-word-outcome (Answer.Command c) h = ne-eqb (kindOf (wordOf (Answer.Command c))) ofOutcome (λ q. omega (arith, tells (Answer.Command c) h .2))
-word-outcome (Answer.Outcome e) h = eq-eqb _ _ (tells (Answer.Outcome e) h .1)
-word-outcome (Answer.Refused r) h = ne-eqb (kindOf (wordOf (Answer.Refused r))) ofOutcome (λ q. omega (arith, tells (Answer.Refused r) h .1))
+word-outcome (Answer.Command c) h = kind-read (Answer.Command c) h ofOutcome
+word-outcome (Answer.Outcome e) h = kind-read (Answer.Outcome e) h ofOutcome
+word-outcome (Answer.Refused r) h = kind-read (Answer.Refused r) h ofOutcome
 
 word-refusal : (a : Answer) → Small a → isRefusalWord (wordOf a) ≡ isRefusal a
-word-refusal (Answer.Command c) h = ne-eqb (kindOf (wordOf (Answer.Command c))) ofRefusal (λ q. omega (arith, tells (Answer.Command c) h .2))
-word-refusal (Answer.Outcome e) h = ne-eqb (kindOf (wordOf (Answer.Outcome e))) ofRefusal (λ q. omega (arith, tells (Answer.Outcome e) h .1))
-word-refusal (Answer.Refused r) h = eq-eqb _ _ (tells (Answer.Refused r) h .1)
+word-refusal (Answer.Command c) h = kind-read (Answer.Command c) h ofRefusal
+word-refusal (Answer.Outcome e) h = kind-read (Answer.Outcome e) h ofRefusal
+word-refusal (Answer.Refused r) h = kind-read (Answer.Refused r) h ofRefusal
 
 -- the command of a call, by its word
-command-read : (a : Answer) (buf : List ℕ) → Small a → if (isCommandWord (wordOf a)) (take (wordOf a) buf ∷ []) [] ≡ commandIn a buf
+command-read : (a : Answer) (buf : List ℕ) → Small a
+    → if (isCommandWord (wordOf a)) (take (wordOf a) buf ∷ []) [] ≡ commandIn a buf
 command-read (Answer.Command c) buf h =
     if-yes _ _ (word-command (Answer.Command c) h) ∙ ap (λ (n : ℕ). take n buf ∷ []) (tells (Answer.Command c) h .0)
 command-read (Answer.Outcome e) buf h = if-no _ _ (word-command (Answer.Outcome e) h)
@@ -73,14 +91,17 @@ play-known s (c ∷ cs) = (record { is-step = refl; small = step-small s c }, pl
 pub taken-all : (P : Made → Type 0) (ms : List Made) → All P ms → All (λ m. P m × (refused m ≡ false)) (taken ms)
 unfolding taken
 taken-all P [] k = tt
-taken-all P (m ∷ ms) k = if-ind (All (λ x. P x × (refused x ≡ false))) (refused m) _ _ (λ e. taken-all P ms (k .1)) (λ e. ((k .0, e), taken-all P ms (k .1)))
+taken-all P (m ∷ ms) k =
+    let r = taken-all P ms (k .1) in
+    if-ind (All (λ x. P x × (refused x ≡ false))) (refused m) _ _ (λ e. r) (λ e. ((k .0, e), r))
 
 -- and of the first answer and the last call among them
 pub first-all : (P : Made → Type 0) (ms : List Made) (m : Made) → All P ms → firstAnswer ms ≡ some m → P m
 unfolding firstAnswer
 first-all P [] m k e = let z : _≡_ {A = ℕ} 0 1 = cc in absurd (omega arith)
 first-all P (x ∷ ms) m k e =
-    if-ind (λ (o : Option Made). o ≡ some m → P m) (isAnswer (x .call)) _ _ (λ t q. found q) (λ t. first-all P ms m (k .1)) e
+    if-ind (λ (o : Option Made). o ≡ some m → P m) (isAnswer (x .call)) _ _ (λ t q. found q)
+    (λ t. first-all P ms m (k .1)) e
   where
     found : some x ≡ some m → P m
     found q = let r : x ≡ m = cc in rw r at (k .0)
@@ -96,13 +117,16 @@ last-all P (x ∷ y ∷ ms) m k e = last-all P (y ∷ ms) m (k .1) e
 pub read-commands : (ms : List Made) → All Known ms → hostCommands (map asCompleted ms) ≡ commands ms
 unfolding hostCommands commands
 read-commands [] k = refl
-read-commands (m ∷ ms) k = ap₂ (λ (x y : List (List ℕ)). x ++ y) (command-read (said m) (m .step .buffer) (k .0 .small)) (read-commands ms (k .1))
+read-commands (m ∷ ms) k =
+    ap₂ (λ (x y : List (List ℕ)). x ++ y) (command-read (said m) (m .step .buffer) (k .0 .small))
+    (read-commands ms (k .1))
 
 pub read-taken : (ms : List Made) → All Known ms → notRefused (map asCompleted ms) ≡ map asCompleted (taken ms)
 unfolding notRefused taken
 read-taken [] k = refl
 read-taken (m ∷ ms) k =
-    ap₂ (λ (b : Bool) (x : List CompletedCall). if b x (asCompleted m ∷ x)) (word-refusal (said m) (k .0 .small)) (read-taken ms (k .1))
+    ap₂ (λ (b : Bool) (x : List CompletedCall). if b x (asCompleted m ∷ x)) (word-refusal (said m) (k .0 .small))
+    (read-taken ms (k .1))
     ∙ sym (if-ap (map asCompleted) (refused m) (taken ms) (m ∷ taken ms))
 
 read-answers : (ms : List Made) → answerAmong (map asCompleted ms) ≡ anAnswer ms
@@ -114,7 +138,8 @@ read-out : (ms : List Made) → All Known ms → withoutAnswer (map asCompleted 
 unfolding withoutAnswer notAnswered
 read-out [] k = refl
 read-out (m ∷ ms) k =
-    λ i. if (read-answers ms i) (read-out ms (k .1) i) (command-read (said m) (m .step .buffer) (k .0 .small) i ++ read-out ms (k .1) i)
+    let c = command-read (said m) (m .step .buffer) (k .0 .small) in
+    λ i. if (read-answers ms i) (read-out ms (k .1) i) (c i ++ read-out ms (k .1) i)
 
 -- what is known, without that it was not refused
 known-of : (ms : List Made) → All (λ m. Known m × (refused m ≡ false)) ms → All Known ms
@@ -123,7 +148,8 @@ known-of (m ∷ ms) k = (k .0 .0, known-of ms (k .1))
 
 pub read-unanswered : (ms : List Made) → All Known ms → hostUnanswered (map asCompleted ms) ≡ unanswered ms
 unfolding hostUnanswered unanswered
-read-unanswered ms k = ap withoutAnswer (read-taken ms k) ∙ read-out (taken ms) (known-of (taken ms) (taken-all Known ms k))
+read-unanswered ms k =
+    ap withoutAnswer (read-taken ms k) ∙ read-out (taken ms) (known-of (taken ms) (taken-all Known ms k))
 
 -- the first answer and the last call, if there is one
 abbrev pub asRead : Option Made → Option CompletedCall
@@ -134,9 +160,11 @@ read-first : (ms : List Made) → firstAnswerCall (map asCompleted ms) ≡ asRea
 unfolding firstAnswerCall firstAnswer
 read-first [] = refl
 read-first (m ∷ ms) =
-    ap (if (isAnswer (m .call)) (some (asCompleted m))) (read-first ms) ∙ sym (if-ap asRead (isAnswer (m .call)) (some m) (firstAnswer ms))
+    ap (if (isAnswer (m .call)) (some (asCompleted m))) (read-first ms)
+    ∙ sym (if-ap asRead (isAnswer (m .call)) (some m) (firstAnswer ms))
 
-pub read-first-taken : (ms : List Made) → All Known ms → firstAnswerCall (notRefused (map asCompleted ms)) ≡ asRead (firstAnswer (taken ms))
+pub read-first-taken : (ms : List Made) → All Known ms
+    → firstAnswerCall (notRefused (map asCompleted ms)) ≡ asRead (firstAnswer (taken ms))
 read-first-taken ms k = ap firstAnswerCall (read-taken ms k) ∙ read-first (taken ms)
 
 read-last : (ms : List Made) → lastOf (map asCompleted ms) ≡ asRead (lastOf ms)

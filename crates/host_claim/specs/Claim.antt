@@ -36,8 +36,8 @@ pub record HostDemand3 (ms : List CompletedCall) (l : List ℕ) : Type 0 where
   pub bound : length (hostCommands ms) ≤ most (hostAfl ms)
   -- N is never over 130
   pub never-over : length (hostCommands ms) ≤ 130
-  -- the session is fresh where every call was refused, runs where the last call not refused handed back a command, and has
-  -- ended where it handed back an outcome
+  -- the session is fresh where every call was refused, runs where the last call not refused handed back a command,
+  -- and has ended where it handed back an outcome
   pub fresh : isFresh (session .phase) ≡ isNone (lastOf (notRefused ms))
   pub running : isRunning (session .phase) ≡ isLastCommand (lastOf (notRefused ms))
   pub ended : isEnded (session .phase) ≡ isLastOutcome (lastOf (notRefused ms))

@@ -112,8 +112,8 @@ cardAfl (on-session (answer card buf)) = broughtLocator card
 cardAfl (on-session (link-failed buf)) = none
 cardAfl (on-session (stop buf)) = none
 
--- the first answer has no reason exactly where its word is that of a command. That this is the accepted AFL by the rules
--- is `same-afl` of the claim
+-- the first answer has no reason exactly where its word is that of a command. That this is the accepted AFL by the
+-- rules is `same-afl` of the claim
 abbrev pub aflRead : Option CompletedCall → Option (List ℕ)
 aflRead none = none
 aflRead (some m) =

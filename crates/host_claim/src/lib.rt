@@ -1,6 +1,7 @@
-// Demand 3 at the C boundary: one claim over every list of the calls `emv_open`, `emv_start`, `emv_answer`, `emv_link_failed` and `emv_stop`
-// since an accepted `emv_open`, read off their result words and command buffers (specs/Claim). And: an opening in such a
-// list is what `emv_open` promises, and each of the four calls on bytes that hold a session is the session's own call. The proofs are in proofs/.
+// Demand 3 at the C boundary: one claim over every list of the calls `emv_open`, `emv_start`, `emv_answer`,
+// `emv_link_failed` and `emv_stop` since an accepted `emv_open`, read off their result words and command buffers
+// (specs/Claim). And: an opening in such a list is what `emv_open` promises, and each of the four calls on bytes that
+// hold a session is the session's own call. The proofs are in proofs/.
 ghost use mathlib.Core.Path.{_≡_};
 ghost use mathlib.Core.List.{List};
 ghost use mathlib.Core.Option.{some};
@@ -14,7 +15,9 @@ ghost use Rattle.host_claim.specs.Claim.{HostClaim};
 
 // Carries the claim, and does nothing.
 pub fn demand_3_over_host_calls()
-    ensures claim { λ _. ⌜ ((before l : List ℕ) (cs : List HostCall) → Opened 0 before l → HostClaim before (completedCalls l cs) (bytesAfter l cs)) ⌝ }
+    ensures claim { λ _. ⌜ ((before l : List ℕ) (cs : List HostCall) → Opened 0 before l
+        → HostClaim before (completedCalls l cs) (bytesAfter l cs)) ⌝ }
     ensures open { λ _. ⌜ ((l : List ℕ) → Opened (hostStep l opening .word) l (hostStep l opening .session)) ⌝ }
-    ensures session { λ _. ⌜ ((l : List ℕ) (s : Session) (c : Call) → decoded l ≡ some s → callOver l c ≡ carries l (step s c)) ⌝ }
+    ensures session { λ _. ⌜ ((l : List ℕ) (s : Session) (c : Call) → decoded l ≡ some s
+        → callOver l c ≡ carries l (step s c)) ⌝ }
 {}
