@@ -34,21 +34,21 @@ use Rattle.journal.specs.declared.Verdict.{Verdict}
 use Rattle.journal.specs.Record.{sizeOf, journalOf, joined, fits, isLong, callFrom}
 use Rattle.journal.specs.Verdict.{verdictOf}
 use Rattle.journal.proofs.Written.{written-accepted}
-use Rattle.worked_examples.specs.Journal.{calls, records, Journal}
+use Rattle.worked_examples.specs.Journal.{journalCalls, writtenRecords, JournalExamples}
 
-played : journalOf (play freshSession calls) ≡ records
+played : journalOf (play freshSession journalCalls) ≡ writtenRecords
 unfolding recurse recurseBy if both either every numberFrom nibbles tagSize secondByte thirdByte tagAt firstByte isTemplate isPrivate oneByte twoBytes lengthAt headerOf withObject
     primitiveOf primitives tagBytes lengthBytes rows past find placeOf numeric digitsThenFs compressed digitsFit fitting listed offsetIn placeAt held valueAt putAt valueIn withLength entryAt
     withEntry along listEntries cut padding padded fitted entryBytes fillingOf filledBy optionsOf processingOptions cryptogramOf generateAc checksumList checksumOf checksumWith
     computeChecksum outcomeFor isBrought brought completed trackCompleted typeListed settable setObject setAll load withResults withFindings askOptions journalOf playIn
-played = ap journalOf (play-in freshSession fresh-keeps calls)
+played = ap journalOf (play-in freshSession fresh-keeps journalCalls)
 
-all-right : {r : List (List ℕ)} → journalOf (play freshSession calls) ≡ r → 4 ≤ length r → verdictOf (joined (take 4 r)) ≡ Verdict.Accepted 4
+all-right : {r : List (List ℕ)} → journalOf (play freshSession journalCalls) ≡ r → 4 ≤ length r → verdictOf (joined (take 4 r)) ≡ Verdict.Accepted 4
 all-right {r} e h =
     subst (λ (l : List (List ℕ)). verdictOf (joined (take 4 l)) ≡ Verdict.Accepted 4) e
-    (written-accepted calls 4 (subst (λ (l : List (List ℕ)). 4 ≤ length l) (sym e) h))
+    (written-accepted journalCalls 4 (subst (λ (l : List (List ℕ)). 4 ≤ length l) (sym e) h))
 
-pub journal : Journal
+pub journal : JournalExamples
 unfolding callFrom fits isLong sizeOf joined tagBytes lengthBytes every both if
 journal = record {
   calls-written = refl;

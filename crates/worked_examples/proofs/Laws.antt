@@ -17,12 +17,12 @@ use Rattle.session.specs.Start.{startIn}
 use Rattle.session.specs.Answer.{answerIn}
 use Rattle.session.proofs.Laws.{admitted-short, admitted-ranges, admitted-in}
 use Rattle.trace.specs.Calls.{commandIn}
-use Rattle.worked_examples.specs.Calls.{lent, few, startSays, answerSays, linkSays, stopSays, refused, says, eachSays, startSends, sends, storedAfter}
+use Rattle.worked_examples.specs.Calls.{fullBuffer, shortBuffer, startResult, answerResult, linkResult, stopResult, refusalResult, resultOn, resultsOn, startCommand, commandOn, valueAfter}
 
-enough : leastBuffer ≤ length lent
+enough : leastBuffer ≤ length fullBuffer
 enough = lit≤ tt
 
-short : length few < leastBuffer
+short : length shortBuffer < leastBuffer
 short = lit< tt
 
 abbrev told : Step → Answer
@@ -34,77 +34,77 @@ handed st = commandIn (st .reply .answer) (st .buffer)
 -- ---- in the ranges
 
 module _ (s : Session) (i : inRanges s ≡ true) where
-  pub start-in : (bytes : List ℕ) {a : Answer} → told (startIn (s .phase) s bytes lent) ≡ a → startSays s bytes lent ≡ a
-  unfolding startSays
-  start-in bytes e = ap told (admitted-in s lent _ enough i) ∙ e
+  pub start-in : (bytes : List ℕ) {a : Answer} → told (startIn (s .phase) s bytes fullBuffer) ≡ a → startResult s bytes fullBuffer ≡ a
+  unfolding startResult
+  start-in bytes e = ap told (admitted-in s fullBuffer _ enough i) ∙ e
 
-  pub answer-in : (card : List ℕ) {a : Answer} → told (answerIn (s .phase) s card lent) ≡ a → answerSays s card lent ≡ a
-  unfolding answerSays
-  answer-in card e = ap told (admitted-in s lent _ enough i) ∙ e
+  pub answer-in : (card : List ℕ) {a : Answer} → told (answerIn (s .phase) s card fullBuffer) ≡ a → answerResult s card fullBuffer ≡ a
+  unfolding answerResult
+  answer-in card e = ap told (admitted-in s fullBuffer _ enough i) ∙ e
 
-  pub link-in : {a : Answer} → told (endsIn (s .phase) s reasonLink lent) ≡ a → linkSays s lent ≡ a
-  unfolding linkSays
-  link-in e = ap told (admitted-in s lent _ enough i) ∙ e
+  pub link-in : {a : Answer} → told (endsIn (s .phase) s reasonLink fullBuffer) ≡ a → linkResult s fullBuffer ≡ a
+  unfolding linkResult
+  link-in e = ap told (admitted-in s fullBuffer _ enough i) ∙ e
 
-  pub stop-in : {a : Answer} → told (endsIn (s .phase) s reasonStopped lent) ≡ a → stopSays s lent ≡ a
-  unfolding stopSays
-  stop-in e = ap told (admitted-in s lent _ enough i) ∙ e
+  pub stop-in : {a : Answer} → told (endsIn (s .phase) s reasonStopped fullBuffer) ≡ a → stopResult s fullBuffer ≡ a
+  unfolding stopResult
+  stop-in e = ap told (admitted-in s fullBuffer _ enough i) ∙ e
 
-  pub says-in : (card : List ℕ) {a : Answer} → told (answerIn (s .phase) s card lent) ≡ a → says s card ≡ a
-  unfolding says
-  says-in card e = ap told (admitted-in s lent _ enough i) ∙ e
+  pub says-in : (card : List ℕ) {a : Answer} → told (answerIn (s .phase) s card fullBuffer) ≡ a → resultOn s card ≡ a
+  unfolding resultOn
+  says-in card e = ap told (admitted-in s fullBuffer _ enough i) ∙ e
 
-  pub each-in : (cards : List (List ℕ)) {answers : List Answer} → map (λ card. told (answerIn (s .phase) s card lent)) cards ≡ answers → eachSays s cards ≡ answers
-  unfolding eachSays says
-  each-in cards e = (λ k. map (λ card. told (admitted-in s lent (answerIn (s .phase) s card lent) enough i k)) cards) ∙ e
+  pub each-in : (cards : List (List ℕ)) {answers : List Answer} → map (λ card. told (answerIn (s .phase) s card fullBuffer)) cards ≡ answers → resultsOn s cards ≡ answers
+  unfolding resultsOn resultOn
+  each-in cards e = (λ k. map (λ card. told (admitted-in s fullBuffer (answerIn (s .phase) s card fullBuffer) enough i k)) cards) ∙ e
 
-  pub start-sends-in : (bytes : List ℕ) {c : List (List ℕ)} → handed (startIn (s .phase) s bytes lent) ≡ c → startSends s bytes ≡ c
-  unfolding startSends
-  start-sends-in bytes e = ap handed (admitted-in s lent _ enough i) ∙ e
+  pub start-sends-in : (bytes : List ℕ) {c : List (List ℕ)} → handed (startIn (s .phase) s bytes fullBuffer) ≡ c → startCommand s bytes ≡ c
+  unfolding startCommand
+  start-sends-in bytes e = ap handed (admitted-in s fullBuffer _ enough i) ∙ e
 
-  pub sends-in : (card : List ℕ) {c : List (List ℕ)} → handed (answerIn (s .phase) s card lent) ≡ c → sends s card ≡ c
-  unfolding sends
-  sends-in card e = ap handed (admitted-in s lent _ enough i) ∙ e
+  pub sends-in : (card : List ℕ) {c : List (List ℕ)} → handed (answerIn (s .phase) s card fullBuffer) ≡ c → commandOn s card ≡ c
+  unfolding commandOn
+  sends-in card e = ap handed (admitted-in s fullBuffer _ enough i) ∙ e
 
-  pub stored-in : (card : List ℕ) (tag : ℕ) {v : Value} → valueOf (stored (answerIn (s .phase) s card lent .reply .session)) tag ≡ v
-      → storedAfter s card tag ≡ v
-  unfolding storedAfter
-  stored-in card tag e = ap (λ (x : Step). valueOf (stored (x .reply .session)) tag) (admitted-in s lent _ enough i) ∙ e
+  pub stored-in : (card : List ℕ) (tag : ℕ) {v : Value} → valueOf (stored (answerIn (s .phase) s card fullBuffer .reply .session)) tag ≡ v
+      → valueAfter s card tag ≡ v
+  unfolding valueAfter
+  stored-in card tag e = ap (λ (x : Step). valueOf (stored (x .reply .session)) tag) (admitted-in s fullBuffer _ enough i) ∙ e
 
 -- ---- out of them
 
 module _ (s : Session) (o : inRanges s ≡ false) where
-  pub start-out : (bytes : List ℕ) → startSays s bytes lent ≡ refused 25
-  unfolding startSays
-  start-out bytes = ap told (admitted-ranges s lent _ enough o)
+  pub start-out : (bytes : List ℕ) → startResult s bytes fullBuffer ≡ refusalResult 25
+  unfolding startResult
+  start-out bytes = ap told (admitted-ranges s fullBuffer _ enough o)
 
-  pub answer-out : (card : List ℕ) → answerSays s card lent ≡ refused 25
-  unfolding answerSays
-  answer-out card = ap told (admitted-ranges s lent _ enough o)
+  pub answer-out : (card : List ℕ) → answerResult s card fullBuffer ≡ refusalResult 25
+  unfolding answerResult
+  answer-out card = ap told (admitted-ranges s fullBuffer _ enough o)
 
-  pub link-out : linkSays s lent ≡ refused 25
-  unfolding linkSays
-  link-out = ap told (admitted-ranges s lent _ enough o)
+  pub link-out : linkResult s fullBuffer ≡ refusalResult 25
+  unfolding linkResult
+  link-out = ap told (admitted-ranges s fullBuffer _ enough o)
 
-  pub stop-out : stopSays s lent ≡ refused 25
-  unfolding stopSays
-  stop-out = ap told (admitted-ranges s lent _ enough o)
+  pub stop-out : stopResult s fullBuffer ≡ refusalResult 25
+  unfolding stopResult
+  stop-out = ap told (admitted-ranges s fullBuffer _ enough o)
 
 -- ---- a buffer that is too short
 
 module _ (s : Session) where
-  pub start-short : (bytes : List ℕ) → startSays s bytes few ≡ refused 22
-  unfolding startSays
-  start-short bytes = ap told (admitted-short s few _ short)
+  pub start-short : (bytes : List ℕ) → startResult s bytes shortBuffer ≡ refusalResult 22
+  unfolding startResult
+  start-short bytes = ap told (admitted-short s shortBuffer _ short)
 
-  pub answer-short : (card : List ℕ) → answerSays s card few ≡ refused 22
-  unfolding answerSays
-  answer-short card = ap told (admitted-short s few _ short)
+  pub answer-short : (card : List ℕ) → answerResult s card shortBuffer ≡ refusalResult 22
+  unfolding answerResult
+  answer-short card = ap told (admitted-short s shortBuffer _ short)
 
-  pub link-short : linkSays s few ≡ refused 22
-  unfolding linkSays
-  link-short = ap told (admitted-short s few _ short)
+  pub link-short : linkResult s shortBuffer ≡ refusalResult 22
+  unfolding linkResult
+  link-short = ap told (admitted-short s shortBuffer _ short)
 
-  pub stop-short : stopSays s few ≡ refused 22
-  unfolding stopSays
-  stop-short = ap told (admitted-short s few _ short)
+  pub stop-short : stopResult s shortBuffer ≡ refusalResult 22
+  unfolding stopResult
+  stop-short = ap told (admitted-short s shortBuffer _ short)

@@ -39,12 +39,12 @@ use Rattle.session.specs.Stripe.{askChecksum, stripeRead, withDigits, checksumR
 use Rattle.session.specs.Answer.{storedReason, optionsRead, optionsStep, recordStep, recordRead, lastRead, recordsRead, analysed, askedIn, askCryptogram, decision, cryptogramEnd, cryptogramReply}
 use Rattle.record.specs.Session.{freshSession}
 use Rattle.record.proofs.Phases.{fresh-keeps}
-use Rattle.worked_examples.specs.Sessions.{emv, stripe, onLastWithPdol}
-use Rattle.worked_examples.specs.Lists.{Lists}
+use Rattle.worked_examples.specs.Sessions.{emvProfile, stripeProfile, waitsOnLastWithPdol}
+use Rattle.worked_examples.specs.Lists.{ListExamples}
 use Rattle.worked_examples.proofs.Laws.{sends-in, start-sends-in}
 use Rattle.worked_examples.proofs.Ranges.{kept}
 
-pub lists : Lists
+pub lists : ListExamples
 unfolding recurse recurseBy if both either every numberFrom nibbles alike tagSize secondByte thirdByte tagAt firstByte isTemplate isPrivate oneByte twoBytes lengthAt headerOf withObject
     primitiveOf primitives count nextOf withLeaf withNode parse tagBytes lengthBytes rows past find placeOf numeric digitsThenFs compressed digitsFit fitting listed offsetIn placeAt held
     valueAt putAt valueIn keeps entries wholeEntries recordsFrom recordsOf sumOf accepts nth kth recordAt mayStand mayCome allowed takeItem takeNext takeAll items bodyOf optionsParts
@@ -56,6 +56,6 @@ unfolding recurse recurseBy if both either every numberFrom nibbles alike tagSiz
     optionsStep recordStep recordRead lastRead recordsRead analysed askedIn askCryptogram decision cryptogramEnd cryptogramReply
 lists = record {
   options = start-sends-in freshSession fresh-keeps _ refl;
-  cryptogram = sends-in (onLastWithPdol emv) (kept .emv-pdol) _ refl;
-  checksum = sends-in (onLastWithPdol stripe) (kept .stripe-pdol) _ refl;
+  cryptogram = sends-in (waitsOnLastWithPdol emvProfile) (kept .emv-pdol) _ refl;
+  checksum = sends-in (waitsOnLastWithPdol stripeProfile) (kept .stripe-pdol) _ refl;
 }

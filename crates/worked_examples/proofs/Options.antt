@@ -24,12 +24,12 @@ use Rattle.record.specs.Numbers.{outcomeFor}
 use Rattle.record.specs.Ranges.{isBrought, brought, completed, trackCompleted}
 use Rattle.session.specs.Steps.{withResults, withFindings}
 use Rattle.session.specs.Answer.{storedReason, optionsRead, optionsStep, recordStep, recordRead, lastRead, recordsRead, analysed, askedIn, askCryptogram, decision, cryptogramEnd, cryptogramReply}
-use Rattle.worked_examples.specs.Sessions.{onOptions}
-use Rattle.worked_examples.specs.Options.{OnOptions}
+use Rattle.worked_examples.specs.Sessions.{waitsOnOptions}
+use Rattle.worked_examples.specs.Options.{OptionsExamples}
 use Rattle.worked_examples.proofs.Laws.{each-in, says-in}
 use Rattle.worked_examples.proofs.Ranges.{kept}
 
-pub on-options : OnOptions
+pub on-options : OptionsExamples
 unfolding recurse recurseBy if both either every numberFrom nibbles tagSize secondByte thirdByte tagAt firstByte isTemplate isPrivate oneByte twoBytes lengthAt headerOf count nextOf withLeaf
     withNode parse tagBytes lengthBytes rows past find placeOf numeric digitsThenFs compressed digitsFit fitting offsetIn placeAt held valueAt putAt valueIn keeps entries wholeEntries
     recordsFrom recordsOf sumOf accepts nth kth recordAt mayStand mayCome allowed takeItem takeNext takeAll items bodyOf optionsParts issuerPart cryptogramParts primitiveParts templateParts
@@ -37,31 +37,31 @@ unfolding recurse recurseBy if both either every numberFrom nibbles tagSize seco
     resultOf sameCurrency termsIn verifiedIn fullResult findingsOf codesOf chosen outcomeFor isBrought brought completed trackCompleted withResults withFindings storedReason optionsRead
     optionsStep recordStep recordRead lastRead recordsRead analysed askedIn askCryptogram decision cryptogramEnd cryptogramReply
 on-options = record {
-  length-status = says-in onOptions (kept .options) _ refl;
-  length-objects = says-in onOptions (kept .options) _ refl;
-  length-missing = says-in onOptions (kept .options) _ refl;
-  length-mode = says-in onOptions (kept .options) _ refl;
-  length-locator = says-in onOptions (kept .options) _ refl;
-  status-encoding = says-in onOptions (kept .options) _ refl;
-  status-outer-tag = says-in onOptions (kept .options) _ refl;
-  status-objects = says-in onOptions (kept .options) _ refl;
-  status-missing = says-in onOptions (kept .options) _ refl;
-  status-mode = says-in onOptions (kept .options) _ refl;
-  status-locator = says-in onOptions (kept .options) _ refl;
-  encoding-objects = says-in onOptions (kept .options) _ refl;
-  encoding-missing = says-in onOptions (kept .options) _ refl;
-  encoding-mode = says-in onOptions (kept .options) _ refl;
-  encoding-locator = says-in onOptions (kept .options) _ refl;
-  outer-tag-objects = says-in onOptions (kept .options) _ refl;
-  outer-tag-missing = says-in onOptions (kept .options) _ refl;
-  outer-tag-mode = says-in onOptions (kept .options) _ refl;
-  outer-tag-locator = says-in onOptions (kept .options) _ refl;
-  body-mode = says-in onOptions (kept .options) _ refl;
-  objects-missing = says-in onOptions (kept .options) _ refl;
-  objects-mode = says-in onOptions (kept .options) _ refl;
-  objects-locator = says-in onOptions (kept .options) _ refl;
-  missing-mode = says-in onOptions (kept .options) _ refl;
-  missing-locator = says-in onOptions (kept .options) _ refl;
-  mode-locator = says-in onOptions (kept .options) _ refl;
-  alone = each-in onOptions (kept .options) _ refl;
+  length-status = says-in waitsOnOptions (kept .options) _ refl;
+  length-objects = says-in waitsOnOptions (kept .options) _ refl;
+  length-missing = says-in waitsOnOptions (kept .options) _ refl;
+  length-mode = says-in waitsOnOptions (kept .options) _ refl;
+  length-locator = says-in waitsOnOptions (kept .options) _ refl;
+  status-encoding = says-in waitsOnOptions (kept .options) _ refl;
+  status-outer-tag = says-in waitsOnOptions (kept .options) _ refl;
+  status-objects = says-in waitsOnOptions (kept .options) _ refl;
+  status-missing = says-in waitsOnOptions (kept .options) _ refl;
+  status-mode = says-in waitsOnOptions (kept .options) _ refl;
+  status-locator = says-in waitsOnOptions (kept .options) _ refl;
+  encoding-objects = says-in waitsOnOptions (kept .options) _ refl;
+  encoding-missing = says-in waitsOnOptions (kept .options) _ refl;
+  encoding-mode = says-in waitsOnOptions (kept .options) _ refl;
+  encoding-locator = says-in waitsOnOptions (kept .options) _ refl;
+  outer-tag-objects = says-in waitsOnOptions (kept .options) _ refl;
+  outer-tag-missing = says-in waitsOnOptions (kept .options) _ refl;
+  outer-tag-mode = says-in waitsOnOptions (kept .options) _ refl;
+  outer-tag-locator = says-in waitsOnOptions (kept .options) _ refl;
+  body-mode = says-in waitsOnOptions (kept .options) _ refl;
+  objects-missing = says-in waitsOnOptions (kept .options) _ refl;
+  objects-mode = says-in waitsOnOptions (kept .options) _ refl;
+  objects-locator = says-in waitsOnOptions (kept .options) _ refl;
+  missing-mode = says-in waitsOnOptions (kept .options) _ refl;
+  missing-locator = says-in waitsOnOptions (kept .options) _ refl;
+  mode-locator = says-in waitsOnOptions (kept .options) _ refl;
+  alone = each-in waitsOnOptions (kept .options) _ refl;
 }

@@ -19,21 +19,21 @@ use Rattle.record.specs.Inner.{placeFits}
 use Rattle.record.specs.Numbers.{goesWith}
 use Rattle.record.specs.Ranges.{isBrought, brought, lastAbsent, running, completed, trackCompleted, freshRanges, optionsRanges, recordRanges, cryptogramRanges, checksumRanges, endedRanges, inRanges}
 use Rattle.record.proofs.Along.{fitAlong, ranges-along}
-use Rattle.worked_examples.specs.Sessions.{within, above, emv, stripe, soundTrack, unsoundTrack, onOptions, onFirst, onLast, onLastWithPdol, onCryptogram, onChecksum, onEnded, brokenFresh, brokenOptions, brokenEnded}
+use Rattle.worked_examples.specs.Sessions.{amountBelow, amountOver, emvProfile, stripeProfile, soundTrack, unsoundTrack, waitsOnOptions, waitsOnFirst, waitsOnLast, waitsOnLastWithPdol, waitsOnCryptogram, waitsOnChecksum, hasEnded, brokenFresh, brokenOptions, brokenEnded}
 
 pub record Kept : Type 0 where
-  pub options : inRanges onOptions ≡ true
-  pub first : inRanges onFirst ≡ true
-  pub emv-within : inRanges (onLast emv within) ≡ true
-  pub emv-above : inRanges (onLast emv above) ≡ true
-  pub stripe-within : inRanges (onLast stripe within) ≡ true
-  pub stripe-above : inRanges (onLast stripe above) ≡ true
-  pub emv-pdol : inRanges (onLastWithPdol emv) ≡ true
-  pub stripe-pdol : inRanges (onLastWithPdol stripe) ≡ true
-  pub cryptogram : (c : Choice) → inRanges (onCryptogram c) ≡ true
-  pub sound : inRanges (onChecksum soundTrack) ≡ true
-  pub unsound : inRanges (onChecksum unsoundTrack) ≡ true
-  pub ended : inRanges onEnded ≡ true
+  pub options : inRanges waitsOnOptions ≡ true
+  pub first : inRanges waitsOnFirst ≡ true
+  pub emv-within : inRanges (waitsOnLast emvProfile amountBelow) ≡ true
+  pub emv-above : inRanges (waitsOnLast emvProfile amountOver) ≡ true
+  pub stripe-within : inRanges (waitsOnLast stripeProfile amountBelow) ≡ true
+  pub stripe-above : inRanges (waitsOnLast stripeProfile amountOver) ≡ true
+  pub emv-pdol : inRanges (waitsOnLastWithPdol emvProfile) ≡ true
+  pub stripe-pdol : inRanges (waitsOnLastWithPdol stripeProfile) ≡ true
+  pub cryptogram : (c : Choice) → inRanges (waitsOnCryptogram c) ≡ true
+  pub sound : inRanges (waitsOnChecksum soundTrack) ≡ true
+  pub unsound : inRanges (waitsOnChecksum unsoundTrack) ≡ true
+  pub ended : inRanges hasEnded ≡ true
   pub broken-fresh : inRanges brokenFresh ≡ false
   pub broken-options : inRanges brokenOptions ≡ false
   pub broken-ended : inRanges brokenEnded ≡ false
@@ -43,18 +43,18 @@ unfolding fitAlong placeFits fitting digitsFit numeric compressed digitsThenFs n
     brought isBrought lastAbsent completed trackCompleted listed limitOf phoneIn onDevice amountOf decimalFrom front accepts wholeEntries entries keeps sumOf held offsetIn placeAt valueAt
     valueIn find past rows every both either if
 kept = record {
-  options = ranges-along onOptions;
-  first = ranges-along onFirst;
-  emv-within = ranges-along (onLast emv within);
-  emv-above = ranges-along (onLast emv above);
-  stripe-within = ranges-along (onLast stripe within);
-  stripe-above = ranges-along (onLast stripe above);
-  emv-pdol = ranges-along (onLastWithPdol emv);
-  stripe-pdol = ranges-along (onLastWithPdol stripe);
-  cryptogram = λ c. ranges-along (onCryptogram c);
-  sound = ranges-along (onChecksum soundTrack);
-  unsound = ranges-along (onChecksum unsoundTrack);
-  ended = ranges-along onEnded;
+  options = ranges-along waitsOnOptions;
+  first = ranges-along waitsOnFirst;
+  emv-within = ranges-along (waitsOnLast emvProfile amountBelow);
+  emv-above = ranges-along (waitsOnLast emvProfile amountOver);
+  stripe-within = ranges-along (waitsOnLast stripeProfile amountBelow);
+  stripe-above = ranges-along (waitsOnLast stripeProfile amountOver);
+  emv-pdol = ranges-along (waitsOnLastWithPdol emvProfile);
+  stripe-pdol = ranges-along (waitsOnLastWithPdol stripeProfile);
+  cryptogram = λ c. ranges-along (waitsOnCryptogram c);
+  sound = ranges-along (waitsOnChecksum soundTrack);
+  unsound = ranges-along (waitsOnChecksum unsoundTrack);
+  ended = ranges-along hasEnded;
   broken-fresh = ranges-along brokenFresh;
   broken-options = ranges-along brokenOptions;
   broken-ended = ranges-along brokenEnded;

@@ -33,12 +33,12 @@ use Rattle.record.specs.Ranges.{isBrought, brought, completed, trackCompleted}
 use Rattle.session.specs.Steps.{withResults, withFindings}
 use Rattle.session.specs.Stripe.{askChecksum, stripeRead, withDigits, checksumRead, checksumTaken, checksumReply}
 use Rattle.session.specs.Answer.{storedReason, optionsRead, optionsStep, recordStep, recordRead, lastRead, recordsRead, analysed, askedIn, askCryptogram, decision, cryptogramEnd, cryptogramReply}
-use Rattle.worked_examples.specs.Sessions.{within, above, emv, stripe, onLast}
-use Rattle.worked_examples.specs.Records.{OnLastRecord, OnLastStripe}
+use Rattle.worked_examples.specs.Sessions.{amountBelow, amountOver, emvProfile, stripeProfile, waitsOnLast}
+use Rattle.worked_examples.specs.Records.{RecordExamples, StripeExamples}
 use Rattle.worked_examples.proofs.Laws.{each-in, says-in}
 use Rattle.worked_examples.proofs.Ranges.{kept}
 
-pub on-last-record : OnLastRecord
+pub on-last-record : RecordExamples
 unfolding recurse recurseBy if both either every numberFrom nibbles alike tagSize secondByte thirdByte tagAt firstByte isTemplate isPrivate oneByte twoBytes lengthAt headerOf count nextOf
     withLeaf withNode parse tagBytes lengthBytes rows past find placeOf numeric digitsThenFs compressed digitsFit fitting offsetIn placeAt held valueAt putAt valueIn keeps entries
     wholeEntries recordsFrom recordsOf sumOf accepts nth kth recordAt mayStand mayCome allowed takeItem takeNext takeAll items bodyOf optionsParts issuerPart cryptogramParts primitiveParts
@@ -49,36 +49,36 @@ unfolding recurse recurseBy if both either every numberFrom nibbles alike tagSiz
     stripeRead withDigits checksumRead checksumTaken checksumReply storedReason optionsRead optionsStep recordStep recordRead lastRead recordsRead analysed askedIn askCryptogram decision
     cryptogramEnd cryptogramReply
 on-last-record = record {
-  length-status = says-in (onLast emv within) (kept .emv-within) _ refl;
-  length-objects = says-in (onLast emv within) (kept .emv-within) _ refl;
-  length-limit = says-in (onLast emv above) (kept .emv-above) _ refl;
-  length-missing = says-in (onLast emv within) (kept .emv-within) _ refl;
-  length-list = says-in (onLast emv within) (kept .emv-within) _ refl;
-  status-encoding = says-in (onLast emv within) (kept .emv-within) _ refl;
-  status-outer-tag = says-in (onLast emv within) (kept .emv-within) _ refl;
-  status-objects = says-in (onLast emv within) (kept .emv-within) _ refl;
-  status-limit = says-in (onLast emv above) (kept .emv-above) _ refl;
-  status-missing = says-in (onLast emv within) (kept .emv-within) _ refl;
-  status-list = says-in (onLast emv within) (kept .emv-within) _ refl;
-  encoding-objects = says-in (onLast emv within) (kept .emv-within) _ refl;
-  encoding-limit = says-in (onLast emv above) (kept .emv-above) _ refl;
-  encoding-missing = says-in (onLast emv within) (kept .emv-within) _ refl;
-  encoding-list = says-in (onLast emv within) (kept .emv-within) _ refl;
-  outer-tag-objects = says-in (onLast emv within) (kept .emv-within) _ refl;
-  outer-tag-limit = says-in (onLast emv above) (kept .emv-above) _ refl;
-  outer-tag-missing = says-in (onLast emv within) (kept .emv-within) _ refl;
-  outer-tag-list = says-in (onLast emv within) (kept .emv-within) _ refl;
-  objects-limit = says-in (onLast emv above) (kept .emv-above) _ refl;
-  objects-missing = says-in (onLast emv within) (kept .emv-within) _ refl;
-  objects-list = says-in (onLast emv within) (kept .emv-within) _ refl;
-  limit-missing = says-in (onLast emv above) (kept .emv-above) _ refl;
-  limit-list = says-in (onLast emv above) (kept .emv-above) _ refl;
-  missing-list = says-in (onLast emv within) (kept .emv-within) _ refl;
-  above-alone = says-in (onLast emv above) (kept .emv-above) _ refl;
-  others-alone = each-in (onLast emv within) (kept .emv-within) _ refl;
+  length-status = says-in (waitsOnLast emvProfile amountBelow) (kept .emv-within) _ refl;
+  length-objects = says-in (waitsOnLast emvProfile amountBelow) (kept .emv-within) _ refl;
+  length-limit = says-in (waitsOnLast emvProfile amountOver) (kept .emv-above) _ refl;
+  length-missing = says-in (waitsOnLast emvProfile amountBelow) (kept .emv-within) _ refl;
+  length-list = says-in (waitsOnLast emvProfile amountBelow) (kept .emv-within) _ refl;
+  status-encoding = says-in (waitsOnLast emvProfile amountBelow) (kept .emv-within) _ refl;
+  status-outer-tag = says-in (waitsOnLast emvProfile amountBelow) (kept .emv-within) _ refl;
+  status-objects = says-in (waitsOnLast emvProfile amountBelow) (kept .emv-within) _ refl;
+  status-limit = says-in (waitsOnLast emvProfile amountOver) (kept .emv-above) _ refl;
+  status-missing = says-in (waitsOnLast emvProfile amountBelow) (kept .emv-within) _ refl;
+  status-list = says-in (waitsOnLast emvProfile amountBelow) (kept .emv-within) _ refl;
+  encoding-objects = says-in (waitsOnLast emvProfile amountBelow) (kept .emv-within) _ refl;
+  encoding-limit = says-in (waitsOnLast emvProfile amountOver) (kept .emv-above) _ refl;
+  encoding-missing = says-in (waitsOnLast emvProfile amountBelow) (kept .emv-within) _ refl;
+  encoding-list = says-in (waitsOnLast emvProfile amountBelow) (kept .emv-within) _ refl;
+  outer-tag-objects = says-in (waitsOnLast emvProfile amountBelow) (kept .emv-within) _ refl;
+  outer-tag-limit = says-in (waitsOnLast emvProfile amountOver) (kept .emv-above) _ refl;
+  outer-tag-missing = says-in (waitsOnLast emvProfile amountBelow) (kept .emv-within) _ refl;
+  outer-tag-list = says-in (waitsOnLast emvProfile amountBelow) (kept .emv-within) _ refl;
+  objects-limit = says-in (waitsOnLast emvProfile amountOver) (kept .emv-above) _ refl;
+  objects-missing = says-in (waitsOnLast emvProfile amountBelow) (kept .emv-within) _ refl;
+  objects-list = says-in (waitsOnLast emvProfile amountBelow) (kept .emv-within) _ refl;
+  limit-missing = says-in (waitsOnLast emvProfile amountOver) (kept .emv-above) _ refl;
+  limit-list = says-in (waitsOnLast emvProfile amountOver) (kept .emv-above) _ refl;
+  missing-list = says-in (waitsOnLast emvProfile amountBelow) (kept .emv-within) _ refl;
+  above-alone = says-in (waitsOnLast emvProfile amountOver) (kept .emv-above) _ refl;
+  others-alone = each-in (waitsOnLast emvProfile amountBelow) (kept .emv-within) _ refl;
 }
 
-pub on-last-stripe : OnLastStripe
+pub on-last-stripe : StripeExamples
 unfolding recurse recurseBy if both either every numberFrom nibbles alike tagSize secondByte thirdByte tagAt firstByte isTemplate isPrivate oneByte twoBytes lengthAt headerOf count nextOf
     withLeaf withNode parse tagBytes lengthBytes rows past find placeOf numeric digitsThenFs compressed digitsFit fitting offsetIn placeAt held valueAt putAt valueIn keeps entries
     wholeEntries recordsFrom recordsOf sumOf accepts nth kth recordAt mayStand mayCome allowed takeItem takeNext takeAll items bodyOf optionsParts issuerPart cryptogramParts primitiveParts
@@ -89,12 +89,12 @@ unfolding recurse recurseBy if both either every numberFrom nibbles alike tagSiz
     stripeRead withDigits checksumRead checksumTaken checksumReply storedReason optionsRead optionsStep recordStep recordRead lastRead recordsRead analysed askedIn askCryptogram decision
     cryptogramEnd cryptogramReply
 on-last-stripe = record {
-  objects-limit = says-in (onLast stripe above) (kept .stripe-above) _ refl;
-  objects-missing = says-in (onLast stripe within) (kept .stripe-within) _ refl;
-  objects-list = says-in (onLast stripe within) (kept .stripe-within) _ refl;
-  limit-missing = says-in (onLast stripe above) (kept .stripe-above) _ refl;
-  limit-list = says-in (onLast stripe above) (kept .stripe-above) _ refl;
-  missing-list = says-in (onLast stripe within) (kept .stripe-within) _ refl;
-  above-alone = says-in (onLast stripe above) (kept .stripe-above) _ refl;
-  others-alone = each-in (onLast stripe within) (kept .stripe-within) _ refl;
+  objects-limit = says-in (waitsOnLast stripeProfile amountOver) (kept .stripe-above) _ refl;
+  objects-missing = says-in (waitsOnLast stripeProfile amountBelow) (kept .stripe-within) _ refl;
+  objects-list = says-in (waitsOnLast stripeProfile amountBelow) (kept .stripe-within) _ refl;
+  limit-missing = says-in (waitsOnLast stripeProfile amountOver) (kept .stripe-above) _ refl;
+  limit-list = says-in (waitsOnLast stripeProfile amountOver) (kept .stripe-above) _ refl;
+  missing-list = says-in (waitsOnLast stripeProfile amountBelow) (kept .stripe-within) _ refl;
+  above-alone = says-in (waitsOnLast stripeProfile amountOver) (kept .stripe-above) _ refl;
+  others-alone = each-in (waitsOnLast stripeProfile amountBelow) (kept .stripe-within) _ refl;
 }

@@ -23,19 +23,19 @@ use Rattle.session.specs.Steps.{withResults, withFindings}
 use Rattle.session.specs.Start.{askOptions}
 use Rattle.record.specs.Session.{freshSession}
 use Rattle.record.proofs.Phases.{fresh-keeps}
-use Rattle.worked_examples.specs.Sessions.{onOptions, onEnded, brokenFresh, brokenOptions, brokenEnded}
-use Rattle.worked_examples.specs.Refusals.{Refusals}
+use Rattle.worked_examples.specs.Sessions.{waitsOnOptions, hasEnded, brokenFresh, brokenOptions, brokenEnded}
+use Rattle.worked_examples.specs.Refusals.{RefusalExamples}
 use Rattle.worked_examples.proofs.Laws.{answer-in, answer-out, answer-short, link-in, link-out, link-short, start-in, start-out, start-short, stop-in, stop-out, stop-short}
 use Rattle.worked_examples.proofs.Ranges.{kept}
 
-pub refusals : Refusals
+pub refusals : RefusalExamples
 unfolding recurse recurseBy if both either every numberFrom nibbles tagSize secondByte thirdByte tagAt firstByte isTemplate isPrivate oneByte twoBytes lengthAt headerOf withObject
     primitiveOf primitives tagBytes lengthBytes rows past find placeOf numeric digitsThenFs compressed digitsFit fitting listed offsetIn placeAt held valueAt putAt valueIn withLength entryAt
     withEntry along listEntries cut padding padded fitted entryBytes fillingOf filledBy optionsOf processingOptions cryptogramOf generateAc checksumList checksumOf checksumWith
     computeChecksum outcomeFor isBrought brought completed trackCompleted typeListed settable setObject setAll load withResults withFindings askOptions
 refusals = record {
   buffer-ranges = start-short brokenFresh _;
-  buffer-phase = start-short onOptions _;
+  buffer-phase = start-short waitsOnOptions _;
   buffer-run = start-short freshSession _;
   buffer-object = start-short freshSession _;
   buffer-absent = start-short freshSession _;
@@ -43,9 +43,9 @@ refusals = record {
   ranges-run = start-out brokenFresh (kept .broken-fresh) _;
   ranges-object = start-out brokenFresh (kept .broken-fresh) _;
   ranges-absent = start-out brokenFresh (kept .broken-fresh) _;
-  phase-run = start-in onOptions (kept .options) _ refl;
-  phase-object = start-in onOptions (kept .options) _ refl;
-  phase-absent = start-in onOptions (kept .options) _ refl;
+  phase-run = start-in waitsOnOptions (kept .options) _ refl;
+  phase-object = start-in waitsOnOptions (kept .options) _ refl;
+  phase-absent = start-in waitsOnOptions (kept .options) _ refl;
   run-object = start-in freshSession fresh-keeps _ refl;
   run-absent = start-in freshSession fresh-keeps _ refl;
   object-absent = start-in freshSession fresh-keeps _ refl;
@@ -57,13 +57,13 @@ refusals = record {
   answer-ranges-phase = answer-out brokenFresh (kept .broken-fresh) _;
   answer-ranges-ended = answer-out brokenEnded (kept .broken-ended) _;
   answer-phase = answer-in freshSession fresh-keeps _ refl;
-  answer-ended = answer-in onEnded (kept .ended) _ refl;
+  answer-ended = answer-in hasEnded (kept .ended) _ refl;
   link-buffer-ranges = link-short brokenOptions;
   link-buffer-phase = link-short freshSession;
   link-ranges-phase = link-out brokenFresh (kept .broken-fresh);
-  link-phase = link-in onEnded (kept .ended) refl;
+  link-phase = link-in hasEnded (kept .ended) refl;
   stop-buffer-ranges = stop-short brokenOptions;
   stop-buffer-phase = stop-short freshSession;
   stop-ranges-phase = stop-out brokenFresh (kept .broken-fresh);
-  stop-phase = stop-in onEnded (kept .ended) refl;
+  stop-phase = stop-in hasEnded (kept .ended) refl;
 }

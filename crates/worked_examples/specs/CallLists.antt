@@ -10,23 +10,23 @@ use Rattle.record.specs.declared.Outcome.{Outcome}
 use Rattle.trace.specs.Calls.{Call, start, answer, link-failed, stop}
 use Rattle.run.specs.Encoding.{encodedCall, callsOf}
 use Rattle.run.specs.Playing.{answerBytes, saidOf, saidNumber}
-use Rattle.worked_examples.specs.Calls.{command, outcome, refused}
+use Rattle.worked_examples.specs.Calls.{commandResult, outcomeResult, refusalResult}
 
 -- a length in eight bytes
 abbrev pub eight : ℕ → List ℕ
 eight n = 0 ∷ 0 ∷ 0 ∷ 0 ∷ 0 ∷ 0 ∷ 0 ∷ n ∷ []
 
 -- each call with a buffer of two bytes, start and answer with one byte that comes in
-abbrev pub someCalls : List Call
-someCalls =
+abbrev pub listedCalls : List Call
+listedCalls =
     start (0x07 ∷ []) (0x08 ∷ 0x09 ∷ [])
     ∷ answer (0x07 ∷ []) (0x08 ∷ 0x09 ∷ [])
     ∷ link-failed (0x08 ∷ 0x09 ∷ [])
     ∷ stop (0x08 ∷ 0x09 ∷ [])
     ∷ []
 
-abbrev pub inBytes : List (List ℕ)
-inBytes =
+abbrev pub listedInBytes : List (List ℕ)
+listedInBytes =
     (1 ∷ eight 1 ++ eight 2 ++ (0x07 ∷ 0x08 ∷ 0x09 ∷ []))
     ∷ (2 ∷ eight 1 ++ eight 2 ++ (0x07 ∷ 0x08 ∷ 0x09 ∷ []))
     ∷ (3 ∷ eight 0 ++ eight 2 ++ (0x08 ∷ 0x09 ∷ []))
@@ -37,15 +37,15 @@ inBytes =
 abbrev pub reported : List ℕ → ℕ → ℕ
 reported bytes room = saidNumber (saidOf (callsOf bytes) (replicate room 0))
 
-pub record CallLists : Type 0 where
-  pub calls-written : map encodedCall someCalls ≡ inBytes
-  pub calls-read : map callsOf inBytes ≡ map (λ c. some (c ∷ [])) someCalls
+pub record CallListExamples : Type 0 where
+  pub calls-written : map encodedCall listedCalls ≡ listedInBytes
+  pub calls-read : map callsOf listedInBytes ≡ map (λ c. some (c ∷ [])) listedCalls
   -- kind 0, kind 5, and a link failure that brings a byte
   pub no-calls :
       map callsOf
       ((0 ∷ eight 0 ++ eight 0) ∷ (5 ∷ eight 0 ++ eight 0) ∷ (3 ∷ eight 1 ++ eight 0 ++ (0x07 ∷ [])) ∷ [])
       ≡ none ∷ none ∷ none ∷ []
-  pub replies : map answerBytes (command 261 ∷ outcome Outcome.Ended 8 2 ∷ refused 25 ∷ [])
+  pub replies : map answerBytes (commandResult 261 ∷ outcomeResult Outcome.Ended 8 2 ∷ refusalResult 25 ∷ [])
       ≡ (0 ∷ 0x01 ∷ 0x05 ∷ []) ∷ (1 ∷ 3 ∷ 8 ∷ []) ∷ (2 ∷ 0 ∷ 25 ∷ []) ∷ []
   -- a stop with room for its reply; no list of calls; a stop with a byte too little room
   pub numbers : reported (4 ∷ eight 0 ++ eight 0) 4 ∷ reported (5 ∷ []) 4 ∷ reported (4 ∷ eight 0 ++ eight 0) 3 ∷ []

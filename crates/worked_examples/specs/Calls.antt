@@ -18,75 +18,75 @@ use Rattle.trace.specs.Calls.{commandIn}
 -- ---- the calls
 
 -- the least command buffer, and one byte less
-abbrev pub lent : List ℕ
-lent = replicate 261 0
+abbrev pub fullBuffer : List ℕ
+fullBuffer = replicate 261 0
 
-abbrev pub few : List ℕ
-few = replicate 260 0
+abbrev pub shortBuffer : List ℕ
+shortBuffer = replicate 260 0
 
 -- what a start, an answer, a link failure and a stop hand back, by the session, the bytes and the buffer
-unfoldable pub startSays : Session → List ℕ → List ℕ → Answer
-startSays s bytes buf = startStep s bytes buf .reply .answer
+unfoldable pub startResult : Session → List ℕ → List ℕ → Answer
+startResult s bytes buf = startStep s bytes buf .reply .answer
 
-unfoldable pub answerSays : Session → List ℕ → List ℕ → Answer
-answerSays s card buf = answerStep s card buf .reply .answer
+unfoldable pub answerResult : Session → List ℕ → List ℕ → Answer
+answerResult s card buf = answerStep s card buf .reply .answer
 
-unfoldable pub linkSays : Session → List ℕ → Answer
-linkSays s buf = linkStep s buf .reply .answer
+unfoldable pub linkResult : Session → List ℕ → Answer
+linkResult s buf = linkStep s buf .reply .answer
 
-unfoldable pub stopSays : Session → List ℕ → Answer
-stopSays s buf = stopStep s buf .reply .answer
+unfoldable pub stopResult : Session → List ℕ → Answer
+stopResult s buf = stopStep s buf .reply .answer
 
 -- with the least buffer: what card bytes get, one by one
-unfoldable pub says : Session → List ℕ → Answer
-says s card = answerStep s card lent .reply .answer
+unfoldable pub resultOn : Session → List ℕ → Answer
+resultOn s card = answerStep s card fullBuffer .reply .answer
 
-unfoldable pub eachSays : Session → List (List ℕ) → List Answer
-eachSays s cards = map (says s) cards
+unfoldable pub resultsOn : Session → List (List ℕ) → List Answer
+resultsOn s cards = map (resultOn s) cards
 
 -- the command that a start and an answer hand out, none where there is no command
-unfoldable pub startSends : Session → List ℕ → List (List ℕ)
-startSends s bytes = commandIn (startStep s bytes lent .reply .answer) (startStep s bytes lent .buffer)
+unfoldable pub startCommand : Session → List ℕ → List (List ℕ)
+startCommand s bytes = commandIn (startStep s bytes fullBuffer .reply .answer) (startStep s bytes fullBuffer .buffer)
 
-unfoldable pub sends : Session → List ℕ → List (List ℕ)
-sends s card = commandIn (answerStep s card lent .reply .answer) (answerStep s card lent .buffer)
+unfoldable pub commandOn : Session → List ℕ → List (List ℕ)
+commandOn s card = commandIn (answerStep s card fullBuffer .reply .answer) (answerStep s card fullBuffer .buffer)
 
 -- what the store holds of a tag after an answer
-unfoldable pub storedAfter : Session → List ℕ → ℕ → Value
-storedAfter s card tag = valueOf (stored (answerStep s card lent .reply .session)) tag
+unfoldable pub valueAfter : Session → List ℕ → ℕ → Value
+valueAfter s card tag = valueOf (stored (answerStep s card fullBuffer .reply .session)) tag
 
 -- ---- what is handed back
 
 -- a refusal by its number
-abbrev pub refused : ℕ → Answer
-refused n = Answer.Refused (record { number = n })
+abbrev pub refusalResult : ℕ → Answer
+refusalResult n = Answer.Refused (record { number = n })
 
 -- a command of so many bytes
-abbrev pub command : ℕ → Answer
-command n = Answer.Command (record { size = n })
+abbrev pub commandResult : ℕ → Answer
+commandResult n = Answer.Command (record { size = n })
 
 -- an outcome by its reason and the method's number: 15 where no method was chosen, 2 for an online PIN
-abbrev pub outcome : Outcome → ℕ → ℕ → Answer
-outcome o reason method = Answer.Outcome (parametersOf o reason method)
+abbrev pub outcomeResult : Outcome → ℕ → ℕ → Answer
+outcomeResult o reason method = Answer.Outcome (parametersOf o reason method)
 
-abbrev pub ended : ℕ → Answer
-ended reason = outcome Outcome.Ended reason 15
+abbrev pub endedWith : ℕ → Answer
+endedWith reason = outcomeResult Outcome.Ended reason 15
 
 abbrev pub endedWithPin : ℕ → Answer
-endedWithPin reason = outcome Outcome.Ended reason 2
+endedWithPin reason = outcomeResult Outcome.Ended reason 2
 
 -- ---- the card's bytes
 
 -- a body with status 90 00, and with status 6A 82
-abbrev pub good : List ℕ → List ℕ
-good body = body ++ (0x90 ∷ 0x00 ∷ [])
+abbrev pub with9000 : List ℕ → List ℕ
+with9000 body = body ++ (0x90 ∷ 0x00 ∷ [])
 
-abbrev pub bad : List ℕ → List ℕ
-bad body = body ++ (0x6A ∷ 0x82 ∷ [])
+abbrev pub with6A82 : List ℕ → List ℕ
+with6A82 body = body ++ (0x6A ∷ 0x82 ∷ [])
 
 -- an answer of 259 bytes: one object of a tag of one byte, with padding behind its contents, and status 90 00
 abbrev pub long : ℕ → List ℕ → List ℕ
-long tag contents = good (objectBytes tag (contents ++ replicate (254 - length contents) 0))
+long tag contents = with9000 (objectBytes tag (contents ++ replicate (254 - length contents) 0))
 
 -- one whose status is not 90 00
 abbrev pub tooLong : List ℕ
@@ -100,8 +100,8 @@ abbrev pub cut70 : List ℕ
 cut70 = 0x70 ∷ 0x05 ∷ []
 
 -- a body with a byte behind its one object
-abbrev pub behind : List ℕ → List ℕ
-behind body = body ++ (0x00 ∷ [])
+abbrev pub byteBehind : List ℕ → List ℕ
+byteBehind body = body ++ (0x00 ∷ [])
 
 -- a body inside a template that no answer has
 abbrev pub wrapped : List ℕ → List ℕ

@@ -10,23 +10,24 @@ use Rattle.store.specs.Place.{present}
 use Rattle.record.specs.declared.Answer.{Answer}
 use Rattle.record.specs.declared.Outcome.{Outcome}
 use Rattle.record.specs.declared.Session.{Session}
-use Rattle.worked_examples.specs.Sessions.{soundTrack, unsoundTrack, onChecksum}
-use Rattle.worked_examples.specs.Calls.{says, eachSays, storedAfter, outcome, ended, good, bad, long, tooLong}
-use Rattle.worked_examples.specs.Calls.{cut77, behind, wrapped, forbidden}
+use Rattle.worked_examples.specs.Sessions.{soundTrack, unsoundTrack, waitsOnChecksum}
+use Rattle.worked_examples.specs.Calls.{resultOn, resultsOn, valueAfter, outcomeResult, endedWith, with9000}
+use Rattle.worked_examples.specs.Calls.{with6A82, long, tooLong}
+use Rattle.worked_examples.specs.Calls.{cut77, byteBehind, wrapped, forbidden}
 
 -- the counter 9F36, and with it the code 9F61
-abbrev pub counter : List ℕ
-counter = objectBytes 0x9F36 (0x00 ∷ 0x2A ∷ [])
+abbrev pub atcObject : List ℕ
+atcObject = objectBytes 0x9F36 (0x00 ∷ 0x2A ∷ [])
 
-abbrev pub code : List ℕ
-code = objectBytes 0x9F61 (0x1F ∷ 0x35 ∷ [])
+abbrev pub cvc3Object : List ℕ
+cvc3Object = objectBytes 0x9F61 (0x1F ∷ 0x35 ∷ [])
 
 -- in a 77: both, the counter alone, nothing
 abbrev pub both77 : List ℕ
-both77 = objectBytes 0x77 (counter ++ code)
+both77 = objectBytes 0x77 (atcObject ++ cvc3Object)
 
 abbrev pub counter77 : List ℕ
-counter77 = objectBytes 0x77 counter
+counter77 = objectBytes 0x77 atcObject
 
 abbrev pub nothing77 : List ℕ
 nothing77 = objectBytes 0x77 []
@@ -35,45 +36,46 @@ abbrev pub forbidden77 : List ℕ
 forbidden77 = objectBytes 0x77 forbidden
 
 -- the track that is stored can take the digits, or cannot
-abbrev pub onSound : Session
-onSound = onChecksum soundTrack
+abbrev pub waitsOnSound : Session
+waitsOnSound = waitsOnChecksum soundTrack
 
-abbrev pub onUnsound : Session
-onUnsound = onChecksum unsoundTrack
+abbrev pub waitsOnUnsound : Session
+waitsOnUnsound = waitsOnChecksum unsoundTrack
 
-pub record OnChecksum : Type 0 where
-  pub length-status : says onSound tooLong ≡ ended 2
-  pub length-objects : says onSound (long 0x77 forbidden) ≡ ended 2
-  pub length-track : says onUnsound (long 0x77 (counter ++ code)) ≡ ended 2
-  pub length-missing : says onSound (long 0x77 []) ≡ ended 2
-  pub length-declined : says onSound (long 0x77 counter) ≡ ended 2
-  pub status-encoding : says onSound (bad cut77) ≡ ended 1
-  pub status-outer-tag : says onSound (bad (objectBytes 0x70 [])) ≡ ended 1
-  pub status-objects : says onSound (bad forbidden77) ≡ ended 1
-  pub status-track : says onUnsound (bad both77) ≡ ended 1
-  pub status-missing : says onSound (bad nothing77) ≡ ended 1
-  pub status-declined : says onSound (bad counter77) ≡ ended 1
-  pub encoding-objects : says onSound (good (behind forbidden77)) ≡ ended 2
-  pub encoding-track : says onUnsound (good (behind both77)) ≡ ended 2
-  pub encoding-missing : says onSound (good (behind nothing77)) ≡ ended 2
-  pub encoding-declined : says onSound (good (behind counter77)) ≡ ended 2
-  pub outer-tag-objects : says onSound (good (objectBytes 0x70 forbidden)) ≡ ended 2
-  pub outer-tag-track : says onUnsound (good (wrapped both77)) ≡ ended 2
-  pub outer-tag-missing : says onSound (good (objectBytes 0x70 [])) ≡ ended 2
-  pub outer-tag-declined : says onSound (good (wrapped counter77)) ≡ ended 2
-  pub objects-missing : says onSound (good forbidden77) ≡ ended 3
-  pub objects-declined : says onSound (good (objectBytes 0x77 (counter ++ forbidden))) ≡ ended 3
-  pub track-missing : says onUnsound (good nothing77) ≡ ended 3
-  pub track-declined : says onUnsound (good counter77) ≡ ended 3
-  pub missing-declined : says onSound (good nothing77) ≡ ended 4
+pub record ChecksumExamples : Type 0 where
+  pub length-status : resultOn waitsOnSound tooLong ≡ endedWith 2
+  pub length-objects : resultOn waitsOnSound (long 0x77 forbidden) ≡ endedWith 2
+  pub length-track : resultOn waitsOnUnsound (long 0x77 (atcObject ++ cvc3Object)) ≡ endedWith 2
+  pub length-missing : resultOn waitsOnSound (long 0x77 []) ≡ endedWith 2
+  pub length-declined : resultOn waitsOnSound (long 0x77 atcObject) ≡ endedWith 2
+  pub status-encoding : resultOn waitsOnSound (with6A82 cut77) ≡ endedWith 1
+  pub status-outer-tag : resultOn waitsOnSound (with6A82 (objectBytes 0x70 [])) ≡ endedWith 1
+  pub status-objects : resultOn waitsOnSound (with6A82 forbidden77) ≡ endedWith 1
+  pub status-track : resultOn waitsOnUnsound (with6A82 both77) ≡ endedWith 1
+  pub status-missing : resultOn waitsOnSound (with6A82 nothing77) ≡ endedWith 1
+  pub status-declined : resultOn waitsOnSound (with6A82 counter77) ≡ endedWith 1
+  pub encoding-objects : resultOn waitsOnSound (with9000 (byteBehind forbidden77)) ≡ endedWith 2
+  pub encoding-track : resultOn waitsOnUnsound (with9000 (byteBehind both77)) ≡ endedWith 2
+  pub encoding-missing : resultOn waitsOnSound (with9000 (byteBehind nothing77)) ≡ endedWith 2
+  pub encoding-declined : resultOn waitsOnSound (with9000 (byteBehind counter77)) ≡ endedWith 2
+  pub outer-tag-objects : resultOn waitsOnSound (with9000 (objectBytes 0x70 forbidden)) ≡ endedWith 2
+  pub outer-tag-track : resultOn waitsOnUnsound (with9000 (wrapped both77)) ≡ endedWith 2
+  pub outer-tag-missing : resultOn waitsOnSound (with9000 (objectBytes 0x70 [])) ≡ endedWith 2
+  pub outer-tag-declined : resultOn waitsOnSound (with9000 (wrapped counter77)) ≡ endedWith 2
+  pub objects-missing : resultOn waitsOnSound (with9000 forbidden77) ≡ endedWith 3
+  pub objects-declined : resultOn waitsOnSound (with9000 (objectBytes 0x77 (atcObject ++ forbidden))) ≡ endedWith 3
+  pub track-missing : resultOn waitsOnUnsound (with9000 nothing77) ≡ endedWith 3
+  pub track-declined : resultOn waitsOnUnsound (with9000 counter77) ≡ endedWith 3
+  pub missing-declined : resultOn waitsOnSound (with9000 nothing77) ≡ endedWith 4
   -- each alone, and none: the track, the counter, the code
-  pub track-alone : says onUnsound (good both77) ≡ ended 3
-  pub others-alone : eachSays onSound (good (objectBytes 0x77 code) ∷ good counter77 ∷ good both77 ∷ [])
-      ≡ ended 4 ∷ outcome Outcome.Declined 0 15 ∷ outcome Outcome.OnlineRequest 0 15 ∷ []
+  pub track-alone : resultOn waitsOnUnsound (with9000 both77) ≡ endedWith 3
+  pub others-alone :
+      resultsOn waitsOnSound (with9000 (objectBytes 0x77 cvc3Object) ∷ with9000 counter77 ∷ with9000 both77 ∷ [])
+      ≡ endedWith 4 ∷ outcomeResult Outcome.Declined 0 15 ∷ outcomeResult Outcome.OnlineRequest 0 15 ∷ []
   -- the digits of the code 7989, of the number 3456 and of the counter 42 in the track
-  pub digits : storedAfter onSound (good both77) 0x9F6B
+  pub digits : valueAfter waitsOnSound (with9000 both77) 0x9F6B
       ≡ present
       (0x54 ∷ 0x13 ∷ 0x12 ∷ 0x34 ∷ 0x56 ∷ 0x78 ∷ 0x48 ∷ 0x00 ∷ 0xD2 ∷ 0x51 ∷ 0x21 ∷ 0x01
       ∷ 0x00 ∷ 0x04 ∷ 0x23 ∷ 0x45 ∷ 0x69 ∷ 0x89 ∷ 0x4F ∷ [])
   -- 80 with the counter and the code as its value
-  pub under80 : says onSound (good (objectBytes 0x80 (0x00 ∷ 0x2A ∷ 0x1F ∷ 0x35 ∷ []))) ≡ ended 2
+  pub under80 : resultOn waitsOnSound (with9000 (objectBytes 0x80 (0x00 ∷ 0x2A ∷ 0x1F ∷ 0x35 ∷ []))) ≡ endedWith 2

@@ -11,43 +11,44 @@ use Rattle.analysis.specs.declared.choice.Choice.{Choice}
 use Rattle.record.specs.declared.Answer.{Answer}
 use Rattle.record.specs.declared.Outcome.{Outcome}
 use Rattle.record.specs.declared.Session.{Session}
-use Rattle.worked_examples.specs.Sessions.{inBytes, onCryptogram}
-use Rattle.worked_examples.specs.Calls.{says, eachSays, storedAfter, outcome, endedWithPin, good, bad, long}
-use Rattle.worked_examples.specs.Calls.{tooLong, cut77, behind, wrapped, forbidden}
+use Rattle.worked_examples.specs.Sessions.{objectsInBytes, waitsOnCryptogram}
+use Rattle.worked_examples.specs.Calls.{resultOn, resultsOn, valueAfter, outcomeResult, endedWithPin, with9000}
+use Rattle.worked_examples.specs.Calls.{with6A82, long}
+use Rattle.worked_examples.specs.Calls.{tooLong, cut77, byteBehind, wrapped, forbidden}
 
 -- 9F27, 9F36 and 9F26, and these in a 77
 abbrev pub cryptogramObjects : ℕ → List ℕ
 cryptogramObjects information =
-    inBytes
+    objectsInBytes
     ((0x9F27, information ∷ []) ∷ (0x9F36, 0x00 ∷ 0x01 ∷ [])
     ∷ (0x9F26, 0x11 ∷ 0x22 ∷ 0x33 ∷ 0x44 ∷ 0x55 ∷ 0x66 ∷ 0x77 ∷ 0x88 ∷ []) ∷ [])
 
-abbrev pub cryptogram : ℕ → List ℕ
-cryptogram information = objectBytes 0x77 (cryptogramObjects information)
+abbrev pub cryptogram77 : ℕ → List ℕ
+cryptogram77 information = objectBytes 0x77 (cryptogramObjects information)
 
 -- AAC, TC, ARQC and the reserved type
-abbrev pub types : List (List ℕ)
-types = map (λ information. good (cryptogram information)) (0x00 ∷ 0x40 ∷ 0x80 ∷ 0xC0 ∷ [])
+abbrev pub cryptogramTypes : List (List ℕ)
+cryptogramTypes = map (λ information. with9000 (cryptogram77 information)) (0x00 ∷ 0x40 ∷ 0x80 ∷ 0xC0 ∷ [])
 
--- the outcomes; each tells the method that the session holds
+-- the outcomes; each reports the method that the session holds
 abbrev pub declined : Answer
-declined = outcome Outcome.Declined 0 2
+declined = outcomeResult Outcome.Declined 0 2
 
 abbrev pub onlineRequest : Answer
-onlineRequest = outcome Outcome.OnlineRequest 0 2
+onlineRequest = outcomeResult Outcome.OnlineRequest 0 2
 
 abbrev pub approved : Answer
-approved = outcome Outcome.Approved 0 2
+approved = outcomeResult Outcome.Approved 0 2
 
 abbrev pub notAllowed : Answer
 notAllowed = endedWithPin 8
 
 -- what is awaited in the other fields: an ARQC was asked for, so that a TC is not allowed
-abbrev pub online : Session
-online = onCryptogram Choice.Online
+abbrev pub waitsOnArqc : Session
+waitsOnArqc = waitsOnCryptogram Choice.Online
 
 abbrev pub certificate : List ℕ
-certificate = cryptogram 0x40
+certificate = cryptogram77 0x40
 
 -- under 80: 9F27, 9F36, 9F26, and behind them 9F10
 abbrev pub under80 : List ℕ
@@ -55,45 +56,48 @@ under80 =
     objectBytes 0x80
     (0x80 ∷ 0x00 ∷ 0x2A ∷ 0x11 ∷ 0x22 ∷ 0x33 ∷ 0x44 ∷ 0x55 ∷ 0x66 ∷ 0x77 ∷ 0x88 ∷ 0xAA ∷ 0xBB ∷ [])
 
-pub record OnCryptogram : Type 0 where
+pub record CryptogramExamples : Type 0 where
   -- by what was asked for: AAC, TC, ARQC and the reserved type
-  pub decline-asked : eachSays (onCryptogram Choice.Decline) types
+  pub decline-asked : resultsOn (waitsOnCryptogram Choice.Decline) cryptogramTypes
       ≡ declined ∷ notAllowed ∷ notAllowed ∷ notAllowed ∷ []
-  pub online-asked : eachSays online types ≡ declined ∷ notAllowed ∷ onlineRequest ∷ notAllowed ∷ []
-  pub offline-asked : eachSays (onCryptogram Choice.Offline) types
+  pub online-asked : resultsOn waitsOnArqc cryptogramTypes ≡ declined ∷ notAllowed ∷ onlineRequest ∷ notAllowed ∷ []
+  pub offline-asked : resultsOn (waitsOnCryptogram Choice.Offline) cryptogramTypes
       ≡ declined ∷ approved ∷ onlineRequest ∷ notAllowed ∷ []
   -- the order
-  pub length-status : says online tooLong ≡ endedWithPin 2
-  pub length-objects : says online (long 0x77 forbidden) ≡ endedWithPin 2
-  pub length-missing : says online (long 0x77 []) ≡ endedWithPin 2
-  pub length-type : says online (long 0x77 (cryptogramObjects 0x40)) ≡ endedWithPin 2
-  pub status-encoding : says online (bad cut77) ≡ endedWithPin 1
-  pub status-outer-tag : says online (bad (objectBytes 0x70 [])) ≡ endedWithPin 1
-  pub status-objects : says online (bad (objectBytes 0x77 forbidden)) ≡ endedWithPin 1
-  pub status-missing : says online (bad (objectBytes 0x77 [])) ≡ endedWithPin 1
-  pub status-type : says online (bad certificate) ≡ endedWithPin 1
-  pub encoding-objects : says online (good (behind (objectBytes 0x77 forbidden))) ≡ endedWithPin 2
-  pub encoding-missing : says online (good (behind (objectBytes 0x77 []))) ≡ endedWithPin 2
-  pub encoding-type : says online (good (behind certificate)) ≡ endedWithPin 2
-  pub outer-tag-objects : says online (good (objectBytes 0x70 forbidden)) ≡ endedWithPin 2
-  pub outer-tag-missing : says online (good (objectBytes 0x70 [])) ≡ endedWithPin 2
-  pub outer-tag-type : says online (good (wrapped certificate)) ≡ endedWithPin 2
-  pub body-type : says online (good (objectBytes 0x80 (0x40 ∷ 0x00 ∷ 0x2A ∷ []))) ≡ endedWithPin 2
-  pub objects-missing : says online (good (objectBytes 0x77 forbidden)) ≡ endedWithPin 3
-  pub objects-type : says online (good (objectBytes 0x77 (cryptogramObjects 0x40 ++ forbidden))) ≡ endedWithPin 3
+  pub length-status : resultOn waitsOnArqc tooLong ≡ endedWithPin 2
+  pub length-objects : resultOn waitsOnArqc (long 0x77 forbidden) ≡ endedWithPin 2
+  pub length-missing : resultOn waitsOnArqc (long 0x77 []) ≡ endedWithPin 2
+  pub length-type : resultOn waitsOnArqc (long 0x77 (cryptogramObjects 0x40)) ≡ endedWithPin 2
+  pub status-encoding : resultOn waitsOnArqc (with6A82 cut77) ≡ endedWithPin 1
+  pub status-outer-tag : resultOn waitsOnArqc (with6A82 (objectBytes 0x70 [])) ≡ endedWithPin 1
+  pub status-objects : resultOn waitsOnArqc (with6A82 (objectBytes 0x77 forbidden)) ≡ endedWithPin 1
+  pub status-missing : resultOn waitsOnArqc (with6A82 (objectBytes 0x77 [])) ≡ endedWithPin 1
+  pub status-type : resultOn waitsOnArqc (with6A82 certificate) ≡ endedWithPin 1
+  pub encoding-objects : resultOn waitsOnArqc (with9000 (byteBehind (objectBytes 0x77 forbidden))) ≡ endedWithPin 2
+  pub encoding-missing : resultOn waitsOnArqc (with9000 (byteBehind (objectBytes 0x77 []))) ≡ endedWithPin 2
+  pub encoding-type : resultOn waitsOnArqc (with9000 (byteBehind certificate)) ≡ endedWithPin 2
+  pub outer-tag-objects : resultOn waitsOnArqc (with9000 (objectBytes 0x70 forbidden)) ≡ endedWithPin 2
+  pub outer-tag-missing : resultOn waitsOnArqc (with9000 (objectBytes 0x70 [])) ≡ endedWithPin 2
+  pub outer-tag-type : resultOn waitsOnArqc (with9000 (wrapped certificate)) ≡ endedWithPin 2
+  pub body-type : resultOn waitsOnArqc (with9000 (objectBytes 0x80 (0x40 ∷ 0x00 ∷ 0x2A ∷ []))) ≡ endedWithPin 2
+  pub objects-missing : resultOn waitsOnArqc (with9000 (objectBytes 0x77 forbidden)) ≡ endedWithPin 3
+  pub objects-type : resultOn waitsOnArqc (with9000 (objectBytes 0x77 (cryptogramObjects 0x40 ++ forbidden)))
+      ≡ endedWithPin 3
   pub missing-type :
-      says online (good (objectBytes 0x77 (inBytes ((0x9F27, 0x40 ∷ []) ∷ (0x9F36, 0x00 ∷ 0x01 ∷ []) ∷ []))))
+      resultOn waitsOnArqc
+      (with9000 (objectBytes 0x77 (objectsInBytes ((0x9F27, 0x40 ∷ []) ∷ (0x9F36, 0x00 ∷ 0x01 ∷ []) ∷ []))))
       ≡ endedWithPin 4
   -- a decline does not come before an object that is missing: an AAC without 9F36 and 9F26, and none of the three
   pub missing-declined :
-      eachSays online (good (objectBytes 0x77 (objectBytes 0x9F27 (0x00 ∷ []))) ∷ good (objectBytes 0x77 []) ∷ [])
+      resultsOn waitsOnArqc
+      (with9000 (objectBytes 0x77 (objectBytes 0x9F27 (0x00 ∷ []))) ∷ with9000 (objectBytes 0x77 []) ∷ [])
       ≡ endedWithPin 4 ∷ endedWithPin 4 ∷ []
   -- under 80
-  pub under80-says : says online (good under80) ≡ onlineRequest
-  pub under80-9F27 : storedAfter online (good under80) 0x9F27 ≡ present (0x80 ∷ [])
-  pub under80-9F36 : storedAfter online (good under80) 0x9F36 ≡ present (0x00 ∷ 0x2A ∷ [])
-  pub under80-9F26 : storedAfter online (good under80) 0x9F26
+  pub under80-says : resultOn waitsOnArqc (with9000 under80) ≡ onlineRequest
+  pub under80-9F27 : valueAfter waitsOnArqc (with9000 under80) 0x9F27 ≡ present (0x80 ∷ [])
+  pub under80-9F36 : valueAfter waitsOnArqc (with9000 under80) 0x9F36 ≡ present (0x00 ∷ 0x2A ∷ [])
+  pub under80-9F26 : valueAfter waitsOnArqc (with9000 under80) 0x9F26
       ≡ present (0x11 ∷ 0x22 ∷ 0x33 ∷ 0x44 ∷ 0x55 ∷ 0x66 ∷ 0x77 ∷ 0x88 ∷ [])
-  pub under80-9F10 : storedAfter online (good under80) 0x9F10 ≡ present (0xAA ∷ 0xBB ∷ [])
+  pub under80-9F10 : valueAfter waitsOnArqc (with9000 under80) 0x9F10 ≡ present (0xAA ∷ 0xBB ∷ [])
   -- nothing of an answer is kept that gives a reason of the reading
-  pub none-kept : storedAfter online (bad under80) 0x9F27 ≡ absent
+  pub none-kept : valueAfter waitsOnArqc (with6A82 under80) 0x9F27 ≡ absent

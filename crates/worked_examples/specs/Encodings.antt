@@ -6,26 +6,26 @@ use mathlib.Core.List.{List, [], _∷_, _++_, map}
 use Prim.Native.Nat.{ℕ}
 use lib.ListN.{replicate}
 use Rattle.tlv.specs.Encoding.{objectBytes}
-use Rattle.worked_examples.specs.Sessions.{Object, onFirst}
-use Rattle.worked_examples.specs.Calls.{eachSays, command, ended, good}
+use Rattle.worked_examples.specs.Sessions.{TagValue, waitsOnFirst}
+use Rattle.worked_examples.specs.Calls.{resultsOn, commandResult, endedWith, with9000}
 
 -- lengths of 127 bytes in one byte, in two, in three; of none in two and three; then 80, 83 and 84
-abbrev pub lengths : List (List ℕ)
-lengths =
-    good (0x70 ∷ 0x7F ∷ replicate 127 0)
-    ∷ good (0x70 ∷ 0x81 ∷ 0x7F ∷ replicate 127 0)
-    ∷ good (0x70 ∷ 0x82 ∷ 0x00 ∷ 0x7F ∷ replicate 127 0)
-    ∷ good (0x70 ∷ 0x81 ∷ 0x00 ∷ [])
-    ∷ good (0x70 ∷ 0x82 ∷ 0x00 ∷ 0x00 ∷ [])
-    ∷ good (0x70 ∷ 0x80 ∷ [])
-    ∷ good (0x70 ∷ 0x83 ∷ 0x00 ∷ 0x00 ∷ 0x00 ∷ [])
-    ∷ good (0x70 ∷ 0x84 ∷ 0x00 ∷ 0x00 ∷ 0x00 ∷ 0x00 ∷ [])
+abbrev pub someLengths : List (List ℕ)
+someLengths =
+    with9000 (0x70 ∷ 0x7F ∷ replicate 127 0)
+    ∷ with9000 (0x70 ∷ 0x81 ∷ 0x7F ∷ replicate 127 0)
+    ∷ with9000 (0x70 ∷ 0x82 ∷ 0x00 ∷ 0x7F ∷ replicate 127 0)
+    ∷ with9000 (0x70 ∷ 0x81 ∷ 0x00 ∷ [])
+    ∷ with9000 (0x70 ∷ 0x82 ∷ 0x00 ∷ 0x00 ∷ [])
+    ∷ with9000 (0x70 ∷ 0x80 ∷ [])
+    ∷ with9000 (0x70 ∷ 0x83 ∷ 0x00 ∷ 0x00 ∷ 0x00 ∷ [])
+    ∷ with9000 (0x70 ∷ 0x84 ∷ 0x00 ∷ 0x00 ∷ 0x00 ∷ 0x00 ∷ [])
     ∷ []
 
 -- empty objects of unknown tags of one, two and three bytes; then a fourth byte, and a second byte of 80
-abbrev pub tags : List (List ℕ)
-tags =
-    map (λ v. good (objectBytes 0x70 v))
+abbrev pub someTags : List (List ℕ)
+someTags =
+    map (λ v. with9000 (objectBytes 0x70 v))
     ((0x42 ∷ 0x00 ∷ [])
     ∷ (0x5F ∷ 0x60 ∷ 0x00 ∷ [])
     ∷ (0x5F ∷ 0x81 ∷ 0x60 ∷ 0x00 ∷ [])
@@ -34,30 +34,34 @@ tags =
     ∷ [])
 
 -- objects of A5, of BF0C and of 6F; 9F6E may stand in a 70, too
-abbrev pub ofA5 : List Object
+abbrev pub ofA5 : List TagValue
 ofA5 =
     (0x50, 0x41 ∷ []) ∷ (0x87, 0x01 ∷ []) ∷ (0x5F2D, 0x65 ∷ 0x6E ∷ []) ∷ (0x9F11, 0x01 ∷ []) ∷ (0x9F12, 0x41 ∷ []) ∷ []
 
-abbrev pub ofBF0C : List Object
+abbrev pub ofBF0C : List TagValue
 ofBF0C =
     (0x9F4D, replicate 2 0) ∷ (0x9F5D, replicate 3 0) ∷ (0x9F5E, replicate 8 0) ∷ (0x9F6E, replicate 5 0) ∷ []
 
-abbrev pub of6F : List Object
+abbrev pub of6F : List TagValue
 of6F = (0x84, replicate 5 0) ∷ []
 
 -- each of them alone in this template, inside the 70 of the record
-abbrev pub inside : ℕ → List Object → List (List ℕ)
-inside template objects = map (λ o. good (objectBytes 0x70 (objectBytes template (objectBytes (o .0) (o .1))))) objects
+abbrev pub recordsWithin : ℕ → List TagValue → List (List ℕ)
+recordsWithin template objects =
+    map (λ o. with9000 (objectBytes 0x70 (objectBytes template (objectBytes (o .0) (o .1))))) objects
 
-abbrev pub all : List Object
-all = ofA5 ++ ofBF0C ++ of6F
+abbrev pub templateObjects : List TagValue
+templateObjects = ofA5 ++ ofBF0C ++ of6F
 
-pub record Encodings : Type 0 where
-  pub lengths : eachSays onFirst lengths ≡ replicate 5 (command 5) ++ replicate 3 (ended 2)
-  pub tags : eachSays onFirst tags ≡ replicate 3 (command 5) ++ replicate 2 (ended 2)
-  pub in-A5 : eachSays onFirst (inside 0xA5 all) ≡ replicate 5 (command 5) ++ replicate 5 (ended 3)
-  pub in-BF0C : eachSays onFirst (inside 0xBF0C all)
-      ≡ replicate 5 (ended 3) ++ replicate 4 (command 5) ++ (ended 3 ∷ [])
-  pub in-6F : eachSays onFirst (inside 0x6F all) ≡ replicate 9 (ended 3) ++ (command 5 ∷ [])
-  pub in-70 : eachSays onFirst (inside 0x70 all) ≡ replicate 8 (ended 3) ++ (command 5 ∷ ended 3 ∷ [])
-  pub in-77 : eachSays onFirst (inside 0x77 all) ≡ replicate 10 (ended 3)
+pub record EncodingExamples : Type 0 where
+  pub lengths : resultsOn waitsOnFirst someLengths ≡ replicate 5 (commandResult 5) ++ replicate 3 (endedWith 2)
+  pub tags : resultsOn waitsOnFirst someTags ≡ replicate 3 (commandResult 5) ++ replicate 2 (endedWith 2)
+  pub in-A5 : resultsOn waitsOnFirst (recordsWithin 0xA5 templateObjects)
+      ≡ replicate 5 (commandResult 5) ++ replicate 5 (endedWith 3)
+  pub in-BF0C : resultsOn waitsOnFirst (recordsWithin 0xBF0C templateObjects)
+      ≡ replicate 5 (endedWith 3) ++ replicate 4 (commandResult 5) ++ (endedWith 3 ∷ [])
+  pub in-6F : resultsOn waitsOnFirst (recordsWithin 0x6F templateObjects)
+      ≡ replicate 9 (endedWith 3) ++ (commandResult 5 ∷ [])
+  pub in-70 : resultsOn waitsOnFirst (recordsWithin 0x70 templateObjects)
+      ≡ replicate 8 (endedWith 3) ++ (commandResult 5 ∷ endedWith 3 ∷ [])
+  pub in-77 : resultsOn waitsOnFirst (recordsWithin 0x77 templateObjects) ≡ replicate 10 (endedWith 3)

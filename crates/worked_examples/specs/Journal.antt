@@ -14,18 +14,18 @@ use Rattle.trace.specs.Calls.{Call, start, answer, link-failed, stop, play}
 use Rattle.journal.specs.declared.Verdict.{Verdict}
 use Rattle.journal.specs.Record.{sizeOf, callRecord, replyRecord, journalOf, joined, callFrom}
 use Rattle.journal.specs.Verdict.{verdictOf}
-use Rattle.worked_examples.specs.Calls.{lent, command, outcome, refused}
-use Rattle.worked_examples.specs.Refusals.{complete}
+use Rattle.worked_examples.specs.Calls.{fullBuffer, commandResult, outcomeResult, refusalResult}
+use Rattle.worked_examples.specs.Refusals.{startBytesWhole}
 
 -- a start of three bytes, an answer of two, and answers of 258 bytes and of 259
-abbrev pub someCalls : List Call
-someCalls =
-    start (0x9C ∷ 0x01 ∷ 0x00 ∷ []) lent
-    ∷ answer (0x6A ∷ 0x82 ∷ []) lent
-    ∷ answer (replicate 258 0xAA) lent
-    ∷ answer (replicate 259 0x00) lent
-    ∷ link-failed lent
-    ∷ stop lent
+abbrev pub recordedCalls : List Call
+recordedCalls =
+    start (0x9C ∷ 0x01 ∷ 0x00 ∷ []) fullBuffer
+    ∷ answer (0x6A ∷ 0x82 ∷ []) fullBuffer
+    ∷ answer (replicate 258 0xAA) fullBuffer
+    ∷ answer (replicate 259 0x00) fullBuffer
+    ∷ link-failed fullBuffer
+    ∷ stop fullBuffer
     ∷ []
 
 abbrev pub callRecords : List (List ℕ)
@@ -39,18 +39,18 @@ callRecords =
     ∷ []
 
 -- the record command in front of a buffer of other bytes
-abbrev pub buffer : List ℕ
-buffer = 0x00 ∷ 0xB2 ∷ 0x01 ∷ 0x0C ∷ 0x00 ∷ replicate 256 0xEE
+abbrev pub commandBuffer : List ℕ
+commandBuffer = 0x00 ∷ 0xB2 ∷ 0x01 ∷ 0x0C ∷ 0x00 ∷ replicate 256 0xEE
 
 abbrev pub someReplies : List Answer
 someReplies =
-    command 5
-    ∷ outcome Outcome.Approved 0 1
-    ∷ outcome Outcome.OnlineRequest 0 2
-    ∷ outcome Outcome.Declined 0 15
-    ∷ outcome Outcome.Ended 8 2
-    ∷ outcome Outcome.SelectNext 6 15
-    ∷ refused 25
+    commandResult 5
+    ∷ outcomeResult Outcome.Approved 0 1
+    ∷ outcomeResult Outcome.OnlineRequest 0 2
+    ∷ outcomeResult Outcome.Declined 0 15
+    ∷ outcomeResult Outcome.Ended 8 2
+    ∷ outcomeResult Outcome.SelectNext 6 15
+    ∷ refusalResult 25
     ∷ []
 
 abbrev pub replyRecords : List (List ℕ)
@@ -65,25 +65,25 @@ replyRecords =
     ∷ []
 
 -- a stop before the start, the start with its 123 bytes and no 9F38, and a stop
-abbrev pub calls : List Call
-calls = stop lent ∷ start complete lent ∷ stop lent ∷ []
+abbrev pub journalCalls : List Call
+journalCalls = stop fullBuffer ∷ start startBytesWhole fullBuffer ∷ stop fullBuffer ∷ []
 
-abbrev pub records : List (List ℕ)
-records =
-    (1 ∷ 0x00 ∷ 0x7B ∷ (complete ++ replicate 901 0))
+abbrev pub writtenRecords : List (List ℕ)
+writtenRecords =
+    (1 ∷ 0x00 ∷ 0x7B ∷ (startBytesWhole ++ replicate 901 0))
     ∷ (5 ∷ 0x00 ∷ 0x08 ∷ 0x80 ∷ 0xA8 ∷ 0x00 ∷ 0x00 ∷ 0x02 ∷ 0x83 ∷ 0x00 ∷ 0x00 ∷ replicate 253 0)
     ∷ (4 ∷ [])
     ∷ (6 ∷ 3 ∷ 10 ∷ [])
     ∷ []
 
-pub record Journal : Type 0 where
-  pub calls-written : map callRecord someCalls ≡ callRecords
-  pub calls-read : map callFrom callRecords ≡ map (λ c. some c) someCalls
+pub record JournalExamples : Type 0 where
+  pub calls-written : map callRecord recordedCalls ≡ callRecords
+  pub calls-read : map callFrom callRecords ≡ map (λ c. some c) recordedCalls
   pub no-call : map callFrom ((5 ∷ []) ∷ (6 ∷ []) ∷ []) ≡ none ∷ none ∷ []
-  pub replies-written : map (λ a. replyRecord a buffer) someReplies ≡ replyRecords
+  pub replies-written : map (λ a. replyRecord a commandBuffer) someReplies ≡ replyRecords
   -- a command of 261 bytes
-  pub longest-command : replyRecord (command 261) (replicate 261 0xAA) ≡ 5 ∷ 0x01 ∷ 0x05 ∷ replicate 261 0xAA
+  pub longest-command : replyRecord (commandResult 261) (replicate 261 0xAA) ≡ 5 ∷ 0x01 ∷ 0x05 ∷ replicate 261 0xAA
   -- kinds 0 to 7
   pub sizes : map sizeOf (0 ∷ 1 ∷ 2 ∷ 3 ∷ 4 ∷ 5 ∷ 6 ∷ 7 ∷ []) ≡ 0 ∷ 1027 ∷ 261 ∷ 1 ∷ 1 ∷ 264 ∷ 3 ∷ 0 ∷ []
-  pub whole : journalOf (play freshSession calls) ≡ records
-  pub accepted : verdictOf (joined records) ≡ Verdict.Accepted 4
+  pub whole : journalOf (play freshSession journalCalls) ≡ writtenRecords
+  pub accepted : verdictOf (joined writtenRecords) ≡ Verdict.Accepted 4

@@ -6,28 +6,29 @@ use mathlib.Core.Path.{_≡_}
 use mathlib.Core.List.{List, [], _∷_, _++_}
 use Prim.Native.Nat.{ℕ}
 use Rattle.record.specs.Session.{freshSession}
-use Rattle.worked_examples.specs.Sessions.{inBytes, startObjects, within, off, emv, stripe, trackObjects}
-use Rattle.worked_examples.specs.Sessions.{soundTrack, onLastWithPdol}
-use Rattle.worked_examples.specs.Calls.{startSends, sends, good}
-use Rattle.worked_examples.specs.Records.{recordOf}
+use Rattle.worked_examples.specs.Sessions.{objectsInBytes, startObjects, amountBelow, stripeOff, emvProfile}
+use Rattle.worked_examples.specs.Sessions.{stripeProfile, trackObjects}
+use Rattle.worked_examples.specs.Sessions.{soundTrack, waitsOnLastWithPdol}
+use Rattle.worked_examples.specs.Calls.{startCommand, commandOn, with9000}
+use Rattle.worked_examples.specs.Records.{record70}
 
 -- four bytes of 9F37, and six of 9F02
-abbrev pub number : List ℕ
-number = 0x9F ∷ 0x37 ∷ 0x04 ∷ []
+abbrev pub numberList : List ℕ
+numberList = 0x9F ∷ 0x37 ∷ 0x04 ∷ []
 
-abbrev pub amount : List ℕ
-amount = 0x9F ∷ 0x02 ∷ 0x06 ∷ []
+abbrev pub amountList : List ℕ
+amountList = 0x9F ∷ 0x02 ∷ 0x06 ∷ []
 
-pub record Lists : Type 0 where
-  pub options : startSends freshSession (inBytes ((0x9F38, number) ∷ startObjects within off))
+pub record ListExamples : Type 0 where
+  pub options : startCommand freshSession (objectsInBytes ((0x9F38, numberList) ∷ startObjects amountBelow stripeOff))
       ≡ (0x80 ∷ 0xA8 ∷ 0x00 ∷ 0x00 ∷ 0x06 ∷ 0x83 ∷ 0x04 ∷ 0x01 ∷ 0x02 ∷ 0x03 ∷ 0x04 ∷ 0x00 ∷ []) ∷ []
   pub cryptogram :
-      sends (onLastWithPdol emv)
-      (good
-      (recordOf
-      ((0x5F24, 0x30 ∷ 0x12 ∷ 0x31 ∷ []) ∷ (0x5A, 0x54 ∷ 0x13 ∷ []) ∷ (0x8C, number) ∷ (0x9F69, amount) ∷ [])))
+      commandOn (waitsOnLastWithPdol emvProfile)
+      (with9000
+      (record70
+      ((0x5F24, 0x30 ∷ 0x12 ∷ 0x31 ∷ []) ∷ (0x5A, 0x54 ∷ 0x13 ∷ []) ∷ (0x8C, numberList) ∷ (0x9F69, amountList) ∷ [])))
       ≡ (0x80 ∷ 0xAE ∷ 0x80 ∷ 0x00 ∷ 0x04 ∷ 0x01 ∷ 0x02 ∷ 0x03 ∷ 0x04 ∷ 0x00 ∷ []) ∷ []
   pub checksum :
-      sends (onLastWithPdol stripe)
-      (good (recordOf ((0x9F69, number) ∷ (0x8C, amount) ∷ trackObjects soundTrack)))
+      commandOn (waitsOnLastWithPdol stripeProfile)
+      (with9000 (record70 ((0x9F69, numberList) ∷ (0x8C, amountList) ∷ trackObjects soundTrack)))
       ≡ (0x80 ∷ 0x2A ∷ 0x8E ∷ 0x80 ∷ 0x04 ∷ 0x01 ∷ 0x02 ∷ 0x03 ∷ 0x04 ∷ 0x00 ∷ []) ∷ []

@@ -8,88 +8,104 @@ use Prim.Native.Nat.{ℕ}
 use Rattle.tlv.specs.Encoding.{objectBytes}
 use Rattle.record.specs.declared.Answer.{Answer}
 use Rattle.record.specs.declared.Outcome.{Outcome}
-use Rattle.worked_examples.specs.Sessions.{Object, inBytes, within, above, emv, stripe, accountObjects}
-use Rattle.worked_examples.specs.Sessions.{trackObjects, soundTrack, onLast}
-use Rattle.worked_examples.specs.Calls.{says, eachSays, command, outcome, ended, good, bad, long, tooLong}
-use Rattle.worked_examples.specs.Calls.{cut70, behind, wrapped, forbidden}
+use Rattle.worked_examples.specs.Sessions.{TagValue, objectsInBytes, amountBelow, amountOver, emvProfile}
+use Rattle.worked_examples.specs.Sessions.{stripeProfile, accountObjects}
+use Rattle.worked_examples.specs.Sessions.{trackObjects, soundTrack, waitsOnLast}
+use Rattle.worked_examples.specs.Calls.{resultOn, resultsOn, commandResult, outcomeResult, endedWith, with9000}
+use Rattle.worked_examples.specs.Calls.{with6A82, long, tooLong}
+use Rattle.worked_examples.specs.Calls.{cut70, byteBehind, wrapped, forbidden}
 
 -- a record of objects
-abbrev pub recordOf : List Object → List ℕ
-recordOf objects = objectBytes 0x70 (inBytes objects)
+abbrev pub record70 : List TagValue → List ℕ
+record70 objects = objectBytes 0x70 (objectsInBytes objects)
 
 -- reason 6: another application is selected
 abbrev pub selectsNext : Answer
-selectsNext = outcome Outcome.SelectNext 6 15
+selectsNext = outcomeResult Outcome.SelectNext 6 15
 
 -- reason 7 on CDOL1: the method was chosen, no CVM
 abbrev pub withoutCdol : Answer
-withoutCdol = outcome Outcome.Ended 7 0
+withoutCdol = outcomeResult Outcome.Ended 7 0
 
 -- a list that ends behind a tag, as CDOL1 and as UDOL; beside it all that is needed
 abbrev pub brokenList : List ℕ
 brokenList = 0x9F ∷ 0x02 ∷ []
 
-abbrev pub brokenObjects : List Object
+abbrev pub brokenObjects : List TagValue
 brokenObjects = (0x5F24, 0x30 ∷ 0x12 ∷ 0x31 ∷ []) ∷ (0x5A, 0x54 ∷ 0x13 ∷ []) ∷ (0x8C, brokenList) ∷ []
 
 abbrev pub brokenCdol : List ℕ
-brokenCdol = recordOf brokenObjects
+brokenCdol = record70 brokenObjects
 
 abbrev pub brokenUdol : List ℕ
-brokenUdol = recordOf ((0x9F69, brokenList) ∷ trackObjects soundTrack)
+brokenUdol = record70 ((0x9F69, brokenList) ∷ trackObjects soundTrack)
 
 -- nothing, and 95
-abbrev pub nothing : List ℕ
-nothing = recordOf []
+abbrev pub emptyRecord : List ℕ
+emptyRecord = record70 []
 
-abbrev pub results : List ℕ
-results = objectBytes 0x70 forbidden
+abbrev pub forbiddenRecord : List ℕ
+forbiddenRecord = objectBytes 0x70 forbidden
 
 -- in EMV mode
-pub record OnLastRecord : Type 0 where
-  pub length-status : says (onLast emv within) tooLong ≡ ended 2
-  pub length-objects : says (onLast emv within) (long 0x70 forbidden) ≡ ended 2
-  pub length-limit : says (onLast emv above) (long 0x70 (inBytes accountObjects)) ≡ ended 2
-  pub length-missing : says (onLast emv within) (long 0x70 []) ≡ ended 2
-  pub length-list : says (onLast emv within) (long 0x70 (inBytes brokenObjects)) ≡ ended 2
-  pub status-encoding : says (onLast emv within) (bad cut70) ≡ ended 1
-  pub status-outer-tag : says (onLast emv within) (bad (objectBytes 0x77 [])) ≡ ended 1
-  pub status-objects : says (onLast emv within) (bad results) ≡ ended 1
-  pub status-limit : says (onLast emv above) (bad (recordOf accountObjects)) ≡ ended 1
-  pub status-missing : says (onLast emv within) (bad nothing) ≡ ended 1
-  pub status-list : says (onLast emv within) (bad brokenCdol) ≡ ended 1
-  pub encoding-objects : says (onLast emv within) (good (behind results)) ≡ ended 2
-  pub encoding-limit : says (onLast emv above) (good (behind (recordOf accountObjects))) ≡ ended 2
-  pub encoding-missing : says (onLast emv within) (good (behind nothing)) ≡ ended 2
-  pub encoding-list : says (onLast emv within) (good (behind brokenCdol)) ≡ ended 2
-  pub outer-tag-objects : says (onLast emv within) (good (objectBytes 0x77 forbidden)) ≡ ended 2
-  pub outer-tag-limit : says (onLast emv above) (good (wrapped (recordOf accountObjects))) ≡ ended 2
-  pub outer-tag-missing : says (onLast emv within) (good (objectBytes 0x77 [])) ≡ ended 2
-  pub outer-tag-list : says (onLast emv within) (good (wrapped brokenCdol)) ≡ ended 2
-  pub objects-limit : says (onLast emv above) (good results) ≡ ended 3
-  pub objects-missing : says (onLast emv within) (good results) ≡ ended 3
+pub record RecordExamples : Type 0 where
+  pub length-status : resultOn (waitsOnLast emvProfile amountBelow) tooLong ≡ endedWith 2
+  pub length-objects : resultOn (waitsOnLast emvProfile amountBelow) (long 0x70 forbidden) ≡ endedWith 2
+  pub length-limit : resultOn (waitsOnLast emvProfile amountOver) (long 0x70 (objectsInBytes accountObjects))
+      ≡ endedWith 2
+  pub length-missing : resultOn (waitsOnLast emvProfile amountBelow) (long 0x70 []) ≡ endedWith 2
+  pub length-list : resultOn (waitsOnLast emvProfile amountBelow) (long 0x70 (objectsInBytes brokenObjects))
+      ≡ endedWith 2
+  pub status-encoding : resultOn (waitsOnLast emvProfile amountBelow) (with6A82 cut70) ≡ endedWith 1
+  pub status-outer-tag : resultOn (waitsOnLast emvProfile amountBelow) (with6A82 (objectBytes 0x77 [])) ≡ endedWith 1
+  pub status-objects : resultOn (waitsOnLast emvProfile amountBelow) (with6A82 forbiddenRecord) ≡ endedWith 1
+  pub status-limit : resultOn (waitsOnLast emvProfile amountOver) (with6A82 (record70 accountObjects)) ≡ endedWith 1
+  pub status-missing : resultOn (waitsOnLast emvProfile amountBelow) (with6A82 emptyRecord) ≡ endedWith 1
+  pub status-list : resultOn (waitsOnLast emvProfile amountBelow) (with6A82 brokenCdol) ≡ endedWith 1
+  pub encoding-objects : resultOn (waitsOnLast emvProfile amountBelow) (with9000 (byteBehind forbiddenRecord))
+      ≡ endedWith 2
+  pub encoding-limit : resultOn (waitsOnLast emvProfile amountOver) (with9000 (byteBehind (record70 accountObjects)))
+      ≡ endedWith 2
+  pub encoding-missing : resultOn (waitsOnLast emvProfile amountBelow) (with9000 (byteBehind emptyRecord)) ≡ endedWith 2
+  pub encoding-list : resultOn (waitsOnLast emvProfile amountBelow) (with9000 (byteBehind brokenCdol)) ≡ endedWith 2
+  pub outer-tag-objects : resultOn (waitsOnLast emvProfile amountBelow) (with9000 (objectBytes 0x77 forbidden))
+      ≡ endedWith 2
+  pub outer-tag-limit : resultOn (waitsOnLast emvProfile amountOver) (with9000 (wrapped (record70 accountObjects)))
+      ≡ endedWith 2
+  pub outer-tag-missing : resultOn (waitsOnLast emvProfile amountBelow) (with9000 (objectBytes 0x77 [])) ≡ endedWith 2
+  pub outer-tag-list : resultOn (waitsOnLast emvProfile amountBelow) (with9000 (wrapped brokenCdol)) ≡ endedWith 2
+  pub objects-limit : resultOn (waitsOnLast emvProfile amountOver) (with9000 forbiddenRecord) ≡ endedWith 3
+  pub objects-missing : resultOn (waitsOnLast emvProfile amountBelow) (with9000 forbiddenRecord) ≡ endedWith 3
   pub objects-list :
-      says (onLast emv within) (good (recordOf ((0x95, 0x00 ∷ []) ∷ (0x8C, brokenList) ∷ []))) ≡ ended 3
-  pub limit-missing : says (onLast emv above) (good nothing) ≡ selectsNext
-  pub limit-list : says (onLast emv above) (good brokenCdol) ≡ selectsNext
-  pub missing-list : says (onLast emv within) (good (recordOf ((0x8C, brokenList) ∷ []))) ≡ ended 4
+      resultOn (waitsOnLast emvProfile amountBelow) (with9000 (record70 ((0x95, 0x00 ∷ []) ∷ (0x8C, brokenList) ∷ [])))
+      ≡ endedWith 3
+  pub limit-missing : resultOn (waitsOnLast emvProfile amountOver) (with9000 emptyRecord) ≡ selectsNext
+  pub limit-list : resultOn (waitsOnLast emvProfile amountOver) (with9000 brokenCdol) ≡ selectsNext
+  pub missing-list : resultOn (waitsOnLast emvProfile amountBelow) (with9000 (record70 ((0x8C, brokenList) ∷ [])))
+      ≡ endedWith 4
   -- each of the last three alone; and the cryptogram is asked for
-  pub above-alone : says (onLast emv above) (good (recordOf accountObjects)) ≡ selectsNext
+  pub above-alone : resultOn (waitsOnLast emvProfile amountOver) (with9000 (record70 accountObjects)) ≡ selectsNext
   pub others-alone :
-      eachSays (onLast emv within) (good nothing ∷ good brokenCdol ∷ good (recordOf accountObjects) ∷ [])
-      ≡ ended 4 ∷ withoutCdol ∷ command 11 ∷ []
+      resultsOn (waitsOnLast emvProfile amountBelow)
+      (with9000 emptyRecord ∷ with9000 brokenCdol ∷ with9000 (record70 accountObjects) ∷ [])
+      ≡ endedWith 4 ∷ withoutCdol ∷ commandResult 11 ∷ []
 
 -- in mag-stripe mode
-pub record OnLastStripe : Type 0 where
-  pub objects-limit : says (onLast stripe above) (good results) ≡ ended 3
-  pub objects-missing : says (onLast stripe within) (good results) ≡ ended 3
+pub record StripeExamples : Type 0 where
+  pub objects-limit : resultOn (waitsOnLast stripeProfile amountOver) (with9000 forbiddenRecord) ≡ endedWith 3
+  pub objects-missing : resultOn (waitsOnLast stripeProfile amountBelow) (with9000 forbiddenRecord) ≡ endedWith 3
   pub objects-list :
-      says (onLast stripe within) (good (recordOf ((0x95, 0x00 ∷ []) ∷ (0x9F69, brokenList) ∷ []))) ≡ ended 3
-  pub limit-missing : says (onLast stripe above) (good nothing) ≡ selectsNext
-  pub limit-list : says (onLast stripe above) (good brokenUdol) ≡ selectsNext
-  pub missing-list : says (onLast stripe within) (good (recordOf ((0x9F69, brokenList) ∷ []))) ≡ ended 4
+      resultOn (waitsOnLast stripeProfile amountBelow)
+      (with9000 (record70 ((0x95, 0x00 ∷ []) ∷ (0x9F69, brokenList) ∷ [])))
+      ≡ endedWith 3
+  pub limit-missing : resultOn (waitsOnLast stripeProfile amountOver) (with9000 emptyRecord) ≡ selectsNext
+  pub limit-list : resultOn (waitsOnLast stripeProfile amountOver) (with9000 brokenUdol) ≡ selectsNext
+  pub missing-list : resultOn (waitsOnLast stripeProfile amountBelow) (with9000 (record70 ((0x9F69, brokenList) ∷ [])))
+      ≡ endedWith 4
   -- each of the last three alone; and the checksum is asked for
-  pub above-alone : says (onLast stripe above) (good (recordOf (trackObjects soundTrack))) ≡ selectsNext
+  pub above-alone : resultOn (waitsOnLast stripeProfile amountOver) (with9000 (record70 (trackObjects soundTrack)))
+      ≡ selectsNext
   pub others-alone :
-      eachSays (onLast stripe within) (good nothing ∷ good brokenUdol ∷ good (recordOf (trackObjects soundTrack)) ∷ [])
-      ≡ ended 4 ∷ ended 7 ∷ command 10 ∷ []
+      resultsOn (waitsOnLast stripeProfile amountBelow)
+      (with9000 emptyRecord ∷ with9000 brokenUdol ∷ with9000 (record70 (trackObjects soundTrack)) ∷ [])
+      ≡ endedWith 4 ∷ endedWith 7 ∷ commandResult 10 ∷ []

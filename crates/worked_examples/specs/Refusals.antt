@@ -6,13 +6,15 @@ use mathlib.Core.Path.{_≡_}
 use mathlib.Core.List.{List, [], _∷_, _++_}
 use Prim.Native.Nat.{ℕ}
 use Rattle.record.specs.Session.{freshSession}
-use Rattle.worked_examples.specs.Sessions.{inBytes, startObjects, within, off, onOptions, onEnded, brokenFresh}
+use Rattle.worked_examples.specs.Sessions.{objectsInBytes, startObjects, amountBelow, stripeOff, waitsOnOptions}
+use Rattle.worked_examples.specs.Sessions.{hasEnded, brokenFresh}
 use Rattle.worked_examples.specs.Sessions.{brokenOptions, brokenEnded}
-use Rattle.worked_examples.specs.Calls.{lent, few, startSays, answerSays, linkSays, stopSays, refused, ended}
+use Rattle.worked_examples.specs.Calls.{fullBuffer, shortBuffer, startResult, answerResult, linkResult, stopResult}
+use Rattle.worked_examples.specs.Calls.{refusalResult, endedWith}
 
 -- all that a start must bring; a template; an object of the session alone; nothing
-abbrev pub complete : List ℕ
-complete = inBytes (startObjects within off)
+abbrev pub startBytesWhole : List ℕ
+startBytesWhole = objectsInBytes (startObjects amountBelow stripeOff)
 
 abbrev pub noRun : List ℕ
 noRun = 0xE1 ∷ 0x00 ∷ []
@@ -22,47 +24,47 @@ notSettable = 0x95 ∷ 0x05 ∷ 0x00 ∷ 0x00 ∷ 0x00 ∷ 0x00 ∷ 0x00 ∷ []
 
 -- a PDOL that ends behind a tag
 abbrev pub brokenPdol : List ℕ
-brokenPdol = inBytes ((0x9F38, 0x9F ∷ 0x02 ∷ []) ∷ [])
+brokenPdol = objectsInBytes ((0x9F38, 0x9F ∷ 0x02 ∷ []) ∷ [])
 
 -- status 6A 82
-abbrev pub card : List ℕ
-card = 0x6A ∷ 0x82 ∷ []
+abbrev pub someCard : List ℕ
+someCard = 0x6A ∷ 0x82 ∷ []
 
-pub record Refusals : Type 0 where
+pub record RefusalExamples : Type 0 where
   -- start
-  pub buffer-ranges : startSays brokenFresh complete few ≡ refused 22
-  pub buffer-phase : startSays onOptions complete few ≡ refused 22
-  pub buffer-run : startSays freshSession noRun few ≡ refused 22
-  pub buffer-object : startSays freshSession notSettable few ≡ refused 22
-  pub buffer-absent : startSays freshSession [] few ≡ refused 22
-  pub ranges-phase : startSays brokenOptions complete lent ≡ refused 25
-  pub ranges-run : startSays brokenFresh noRun lent ≡ refused 25
-  pub ranges-object : startSays brokenFresh notSettable lent ≡ refused 25
-  pub ranges-absent : startSays brokenFresh [] lent ≡ refused 25
-  pub phase-run : startSays onOptions noRun lent ≡ refused 21
-  pub phase-object : startSays onOptions notSettable lent ≡ refused 21
-  pub phase-absent : startSays onOptions [] lent ≡ refused 21
-  pub run-object : startSays freshSession (notSettable ++ noRun) lent ≡ refused 20
-  pub run-absent : startSays freshSession noRun lent ≡ refused 20
-  pub object-absent : startSays freshSession notSettable lent ≡ refused 23
-  pub absent-alone : startSays freshSession [] lent ≡ refused 24
+  pub buffer-ranges : startResult brokenFresh startBytesWhole shortBuffer ≡ refusalResult 22
+  pub buffer-phase : startResult waitsOnOptions startBytesWhole shortBuffer ≡ refusalResult 22
+  pub buffer-run : startResult freshSession noRun shortBuffer ≡ refusalResult 22
+  pub buffer-object : startResult freshSession notSettable shortBuffer ≡ refusalResult 22
+  pub buffer-absent : startResult freshSession [] shortBuffer ≡ refusalResult 22
+  pub ranges-phase : startResult brokenOptions startBytesWhole fullBuffer ≡ refusalResult 25
+  pub ranges-run : startResult brokenFresh noRun fullBuffer ≡ refusalResult 25
+  pub ranges-object : startResult brokenFresh notSettable fullBuffer ≡ refusalResult 25
+  pub ranges-absent : startResult brokenFresh [] fullBuffer ≡ refusalResult 25
+  pub phase-run : startResult waitsOnOptions noRun fullBuffer ≡ refusalResult 21
+  pub phase-object : startResult waitsOnOptions notSettable fullBuffer ≡ refusalResult 21
+  pub phase-absent : startResult waitsOnOptions [] fullBuffer ≡ refusalResult 21
+  pub run-object : startResult freshSession (notSettable ++ noRun) fullBuffer ≡ refusalResult 20
+  pub run-absent : startResult freshSession noRun fullBuffer ≡ refusalResult 20
+  pub object-absent : startResult freshSession notSettable fullBuffer ≡ refusalResult 23
+  pub absent-alone : startResult freshSession [] fullBuffer ≡ refusalResult 24
   -- a PDOL that makes no command (reason 7) comes after the refusals
-  pub absent-list : startSays freshSession brokenPdol lent ≡ refused 24
-  pub list-alone : startSays freshSession (brokenPdol ++ complete) lent ≡ ended 7
+  pub absent-list : startResult freshSession brokenPdol fullBuffer ≡ refusalResult 24
+  pub list-alone : startResult freshSession (brokenPdol ++ startBytesWhole) fullBuffer ≡ endedWith 7
   -- answer
-  pub answer-buffer-ranges : answerSays brokenOptions card few ≡ refused 22
-  pub answer-buffer-phase : answerSays freshSession card few ≡ refused 22
-  pub answer-ranges-phase : answerSays brokenFresh card lent ≡ refused 25
-  pub answer-ranges-ended : answerSays brokenEnded card lent ≡ refused 25
-  pub answer-phase : answerSays freshSession card lent ≡ refused 21
-  pub answer-ended : answerSays onEnded card lent ≡ refused 21
+  pub answer-buffer-ranges : answerResult brokenOptions someCard shortBuffer ≡ refusalResult 22
+  pub answer-buffer-phase : answerResult freshSession someCard shortBuffer ≡ refusalResult 22
+  pub answer-ranges-phase : answerResult brokenFresh someCard fullBuffer ≡ refusalResult 25
+  pub answer-ranges-ended : answerResult brokenEnded someCard fullBuffer ≡ refusalResult 25
+  pub answer-phase : answerResult freshSession someCard fullBuffer ≡ refusalResult 21
+  pub answer-ended : answerResult hasEnded someCard fullBuffer ≡ refusalResult 21
   -- link failed
-  pub link-buffer-ranges : linkSays brokenOptions few ≡ refused 22
-  pub link-buffer-phase : linkSays freshSession few ≡ refused 22
-  pub link-ranges-phase : linkSays brokenFresh lent ≡ refused 25
-  pub link-phase : linkSays onEnded lent ≡ refused 21
+  pub link-buffer-ranges : linkResult brokenOptions shortBuffer ≡ refusalResult 22
+  pub link-buffer-phase : linkResult freshSession shortBuffer ≡ refusalResult 22
+  pub link-ranges-phase : linkResult brokenFresh fullBuffer ≡ refusalResult 25
+  pub link-phase : linkResult hasEnded fullBuffer ≡ refusalResult 21
   -- stop
-  pub stop-buffer-ranges : stopSays brokenOptions few ≡ refused 22
-  pub stop-buffer-phase : stopSays freshSession few ≡ refused 22
-  pub stop-ranges-phase : stopSays brokenFresh lent ≡ refused 25
-  pub stop-phase : stopSays onEnded lent ≡ refused 21
+  pub stop-buffer-ranges : stopResult brokenOptions shortBuffer ≡ refusalResult 22
+  pub stop-buffer-phase : stopResult freshSession shortBuffer ≡ refusalResult 22
+  pub stop-ranges-phase : stopResult brokenFresh fullBuffer ≡ refusalResult 25
+  pub stop-phase : stopResult hasEnded fullBuffer ≡ refusalResult 21

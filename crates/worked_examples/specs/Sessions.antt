@@ -16,11 +16,11 @@ use Rattle.record.proofs.Stores.{storing}
 -- ---- objects
 
 -- a data object: its tag and its value
-abbrev pub Object : Type 0
-Object = ℕ × List ℕ
+abbrev pub TagValue : Type 0
+TagValue = ℕ × List ℕ
 
 -- what a start must bring: an amount of so many units, BCD, with no cents, and DF811B; every limit is 25.00
-abbrev pub startObjects : ℕ → ℕ → List Object
+abbrev pub startObjects : ℕ → ℕ → List TagValue
 startObjects amount configuration =
     (0x9A, 0x25 ∷ 0x12 ∷ 0x31 ∷ [])
     ∷ (0x9C, 0x00 ∷ [])
@@ -41,57 +41,57 @@ startObjects amount configuration =
     ∷ (0xDF8126, 0 ∷ 0 ∷ 0 ∷ 0 ∷ 0x25 ∷ 0x00 ∷ [])
     ∷ []
 
--- objects one behind the other, as a start brings them
-abbrev pub inBytes : List Object → List ℕ
-inBytes [] = []
-inBytes ((t, v) ∷ more) = objectBytes t v ++ inBytes more
+-- objects concatenated, as a start brings them
+abbrev pub objectsInBytes : List TagValue → List ℕ
+objectsInBytes [] = []
+objectsInBytes ((t, v) ∷ more) = objectBytes t v ++ objectsInBytes more
 
 -- the amount is 10.00, within the limit, or 30.00, above it
-abbrev pub within : ℕ
-within = 0x10
+abbrev pub amountBelow : ℕ
+amountBelow = 0x10
 
-abbrev pub above : ℕ
-above = 0x30
+abbrev pub amountOver : ℕ
+amountOver = 0x30
 
 -- DF811B: mag-stripe mode is carried, or off (byte 1 b8)
-abbrev pub carried : ℕ
-carried = 0x00
+abbrev pub stripeCarried : ℕ
+stripeCarried = 0x00
 
-abbrev pub off : ℕ
-off = 0x80
+abbrev pub stripeOff : ℕ
+stripeOff = 0x80
 
 -- behind a start the result bits are zero
-abbrev pub started : ℕ → ℕ → List Object
-started amount configuration = (0x95, replicate 5 0) ∷ startObjects amount configuration
+abbrev pub startedObjects : ℕ → ℕ → List TagValue
+startedObjects amount configuration = (0x95, replicate 5 0) ∷ startObjects amount configuration
 
 -- 82 of EMV mode and of mag-stripe mode
-abbrev pub emv : List ℕ
-emv = 0x00 ∷ 0x80 ∷ []
+abbrev pub emvProfile : List ℕ
+emvProfile = 0x00 ∷ 0x80 ∷ []
 
-abbrev pub stripe : List ℕ
-stripe = 0x00 ∷ 0x00 ∷ []
+abbrev pub stripeProfile : List ℕ
+stripeProfile = 0x00 ∷ 0x00 ∷ []
 
 -- a locator of one record, one of two, and one of file 0, which breaks the rules
-abbrev pub oneRecord : List ℕ
-oneRecord = 0x08 ∷ 0x01 ∷ 0x01 ∷ 0x00 ∷ []
+abbrev pub oneRecordLocator : List ℕ
+oneRecordLocator = 0x08 ∷ 0x01 ∷ 0x01 ∷ 0x00 ∷ []
 
-abbrev pub twoRecords : List ℕ
-twoRecords = 0x08 ∷ 0x01 ∷ 0x02 ∷ 0x00 ∷ []
+abbrev pub twoRecordLocator : List ℕ
+twoRecordLocator = 0x08 ∷ 0x01 ∷ 0x02 ∷ 0x00 ∷ []
 
 abbrev pub badLocator : List ℕ
 badLocator = 0x00 ∷ 0x01 ∷ 0x01 ∷ 0x00 ∷ []
 
 -- behind processing options
-abbrev pub opened : List ℕ → List ℕ → ℕ → List Object
-opened profile locator amount = (0x82, profile) ∷ (0x94, locator) ∷ started amount carried
+abbrev pub openedObjects : List ℕ → List ℕ → ℕ → List TagValue
+openedObjects profile locator amount = (0x82, profile) ∷ (0x94, locator) ∷ startedObjects amount stripeCarried
 
 -- expiry date, account number and a CDOL1 of 95, as the card's record has them
-abbrev pub accountObjects : List Object
+abbrev pub accountObjects : List TagValue
 accountObjects =
     (0x5F24, 0x30 ∷ 0x12 ∷ 0x31 ∷ []) ∷ (0x5A, 0x54 ∷ 0x13 ∷ 0x33 ∷ 0x90 ∷ []) ∷ (0x8C, 0x95 ∷ 0x05 ∷ []) ∷ []
 
 -- track 2, its bitmaps and the counter's digits; the track can take them only where it has a separator D
-abbrev pub trackObjects : List ℕ → List Object
+abbrev pub trackObjects : List ℕ → List TagValue
 trackObjects track =
     (0x9F6B, track) ∷ (0x9F65, 0x00 ∷ 0x0E ∷ []) ∷ (0x9F66, 0x0F ∷ 0xF0 ∷ []) ∷ (0x9F67, 0x04 ∷ []) ∷ []
 
@@ -106,39 +106,41 @@ unsoundTrack = 0x54 ∷ 0x13 ∷ []
 -- ---- sessions
 
 -- waiting on processing options, with mag-stripe mode off
-abbrev pub onOptions : Session
-onOptions = sessionOf Phase.Options 1 (storing (started within off))
+abbrev pub waitsOnOptions : Session
+waitsOnOptions = sessionOf Phase.Options 1 (storing (startedObjects amountBelow stripeOff))
 
 -- waiting on record 1; the limit in force is 25.00
-abbrev pub onRecord : List Object → Session
-onRecord objects = sessionOf (Phase.Record (record { number = 1; limit = 2500 })) 2 (storing objects)
+abbrev pub waitsOnRecord : List TagValue → Session
+waitsOnRecord objects = sessionOf (Phase.Record (record { number = 1; limit = 2500 })) 2 (storing objects)
 
 -- the first of two; and the only one, by the mode and the amount
-abbrev pub onFirst : Session
-onFirst = onRecord (opened emv twoRecords within)
+abbrev pub waitsOnFirst : Session
+waitsOnFirst = waitsOnRecord (openedObjects emvProfile twoRecordLocator amountBelow)
 
-abbrev pub onLast : List ℕ → ℕ → Session
-onLast profile amount = onRecord (opened profile oneRecord amount)
+abbrev pub waitsOnLast : List ℕ → ℕ → Session
+waitsOnLast profile amount = waitsOnRecord (openedObjects profile oneRecordLocator amount)
 
 -- the same within the limit, with a PDOL of 9A in the store
-abbrev pub onLastWithPdol : List ℕ → Session
-onLastWithPdol profile = onRecord ((0x9F38, 0x9A ∷ 0x03 ∷ []) ∷ opened profile oneRecord within)
+abbrev pub waitsOnLastWithPdol : List ℕ → Session
+waitsOnLastWithPdol profile =
+    waitsOnRecord ((0x9F38, 0x9A ∷ 0x03 ∷ []) ∷ openedObjects profile oneRecordLocator amountBelow)
 
 -- waiting on the cryptogram that was asked for by a choice; the method is an online PIN, number 2
-abbrev pub onCryptogram : Choice → Session
-onCryptogram choice =
+abbrev pub waitsOnCryptogram : Choice → Session
+waitsOnCryptogram choice =
     sessionOf (Phase.Cryptogram (record { choice = choice; method = Method.OnlinePin; limit = 2500 })) 3
-    (storing ((0x9F34, 0x42 ∷ 0x03 ∷ 0x00 ∷ []) ∷ accountObjects ++ opened emv oneRecord within))
+    (storing
+    ((0x9F34, 0x42 ∷ 0x03 ∷ 0x00 ∷ []) ∷ accountObjects ++ openedObjects emvProfile oneRecordLocator amountBelow))
 
 -- waiting on the checksum, with a track
-abbrev pub onChecksum : List ℕ → Session
-onChecksum track =
+abbrev pub waitsOnChecksum : List ℕ → Session
+waitsOnChecksum track =
     sessionOf (Phase.Checksum (record { limit = 2500 })) 3
-    (storing (trackObjects track ++ opened stripe oneRecord within))
+    (storing (trackObjects track ++ openedObjects stripeProfile oneRecordLocator amountBelow))
 
 -- ended by the terminal
-abbrev pub onEnded : Session
-onEnded = sessionOf (Phase.Ended (endOf Outcome.Ended 10)) 1 (storing (started within off))
+abbrev pub hasEnded : Session
+hasEnded = sessionOf (Phase.Ended (endOf Outcome.Ended 10)) 1 (storing (startedObjects amountBelow stripeOff))
 
 -- ---- sessions out of their ranges
 
@@ -148,7 +150,7 @@ brokenFresh = sessionOf Phase.Fresh 1 (stored freshSession)
 
 -- waiting on processing options, and ended, with two commands and 131 counted
 abbrev pub brokenOptions : Session
-brokenOptions = sessionOf Phase.Options 2 (storing (started within off))
+brokenOptions = sessionOf Phase.Options 2 (storing (startedObjects amountBelow stripeOff))
 
 abbrev pub brokenEnded : Session
-brokenEnded = sessionOf (Phase.Ended (endOf Outcome.Ended 10)) 131 (storing (started within off))
+brokenEnded = sessionOf (Phase.Ended (endOf Outcome.Ended 10)) 131 (storing (startedObjects amountBelow stripeOff))

@@ -30,20 +30,20 @@ use Rattle.record.specs.Session.{freshSession}
 use Rattle.record.proofs.Phases.{fresh-keeps}
 use Rattle.layout.specs.Word.{commandWord}
 use Rattle.session.proofs.Laws.{admitted-in}
-use Rattle.worked_examples.specs.Calls.{lent}
+use Rattle.worked_examples.specs.Calls.{fullBuffer}
 use Rattle.cabinet.specs.State.{cabinetIn}
 use Rattle.cabinet.specs.Calls.{admitted, startsOn, setsAside, startTaken, openWord}
-use Rattle.worked_words.specs.Cabinet.{startWord, Cabinet}
+use Rattle.worked_words.specs.Cabinet.{startWord, CabinetWords}
 
 -- the word of a start by its step
 abbrev wordBy : ℕ → Step → ℕ
-wordBy left st = startTaken (st .reply .answer) st left [] lent .word
+wordBy left st = startTaken (st .reply .answer) st left [] fullBuffer .word
 
-word-of : (bytes : List ℕ) (left : ℕ) {w : ℕ} → wordBy left (startFresh freshSession bytes lent) ≡ w → startWord bytes left ≡ w
+word-of : (bytes : List ℕ) (left : ℕ) {w : ℕ} → wordBy left (startFresh freshSession bytes fullBuffer) ≡ w → startWord bytes left ≡ w
 unfolding startWord startsOn if
-word-of bytes left e = ap (wordBy left) (admitted-in freshSession lent _ (lit≤ tt) fresh-keeps) ∙ e
+word-of bytes left e = ap (wordBy left) (admitted-in freshSession fullBuffer _ (lit≤ tt) fresh-keeps) ∙ e
 
-pub words : Cabinet
+pub words : CabinetWords
 unfolding recurse recurseBy if both either every numberFrom nibbles tagSize secondByte thirdByte tagAt firstByte isTemplate isPrivate oneByte twoBytes lengthAt headerOf withObject
     primitiveOf primitives tagBytes lengthBytes rows past find placeOf numeric digitsThenFs compressed digitsFit fitting listed offsetIn placeAt held valueAt putAt valueIn withLength entryAt
     withEntry along listEntries cut padding padded fitted entryBytes fillingOf filledBy optionsOf processingOptions cryptogramOf generateAc checksumList checksumOf checksumWith

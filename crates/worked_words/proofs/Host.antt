@@ -41,24 +41,24 @@ use Rattle.layout.proofs.Laws.{decode-encode}
 use Rattle.find.specs.Find.{firstOf, shifted, firstTagged, findOf}
 use Rattle.host.specs.Hosted.{stepped, hosted, countWord}
 use Rattle.host.specs.Object.{objectIn, objectOf}
-use Rattle.worked_examples.specs.Sessions.{onOptions}
-use Rattle.worked_examples.specs.Calls.{lent, answerSays}
+use Rattle.worked_examples.specs.Sessions.{waitsOnOptions}
+use Rattle.worked_examples.specs.Calls.{fullBuffer, answerResult}
 use Rattle.worked_examples.proofs.Laws.{answer-in}
 use Rattle.worked_examples.proofs.Ranges.{kept}
-use Rattle.worked_words.specs.Host.{inBytes, answerWord, Host}
+use Rattle.worked_words.specs.Host.{sessionInBytes, answerWord, HostWords}
 
 -- the word of an answer on a session in bytes is that of the session's own
-word-of : (s : Session) → length (stored s) ≡ storeSize → (card : List ℕ) {a : Answer} {w : ℕ} → answerSays s card lent ≡ a → wordOf a ≡ w
+word-of : (s : Session) → length (stored s) ≡ storeSize → (card : List ℕ) {a : Answer} {w : ℕ} → answerResult s card fullBuffer ≡ a → wordOf a ≡ w
     → answerWord s card ≡ w
-unfolding answerWord answerSays hosted if
+unfolding answerWord answerResult hosted if
 word-of s z card e f =
-    ap (λ (x : Option Session). stepped (λ (t : Session) b. answerStep t card b) (inBytes s) lent x .word) (decode-encode s (0xEE ∷ []) z) ∙ ap wordOf e ∙ f
+    ap (λ (x : Option Session). stepped (λ (t : Session) b. answerStep t card b) (sessionInBytes s) fullBuffer x .word) (decode-encode s (0xEE ∷ []) z) ∙ ap wordOf e ∙ f
 
-counts : (s : Session) → length (stored s) ≡ storeSize → countWord (decoded (inBytes s)) ≡ s .count
+counts : (s : Session) → length (stored s) ≡ storeSize → countWord (decoded (sessionInBytes s)) ≡ s .count
 counts s z = ap countWord (decode-encode s (0xEE ∷ []) z)
 
-pub words : Host
-unfolding recurse recurseBy if both either every numberFrom nibbles tagSize secondByte thirdByte tagAt firstByte isTemplate isPrivate oneByte twoBytes lengthAt headerOf count nextOf withLeaf
+pub words : HostWords
+unfolding recurse recurseBy if both either every numberFrom nibbles tagSize secondByte thirdByte tagAt firstByte isTemplate isPrivate oneByte storeOfTwo lengthAt headerOf count nextOf withLeaf
     withNode parse tagBytes lengthBytes rows past find placeOf numeric digitsThenFs compressed digitsFit fitting offsetIn placeAt held valueAt putAt valueIn keeps entries wholeEntries
     recordsFrom recordsOf sumOf accepts nth kth recordAt mayStand mayCome allowed takeItem takeNext takeAll items bodyOf optionsParts issuerPart cryptogramParts primitiveParts templateParts
     readBody isRead goodStatus goodLength readAnswer front decimalFrom yearOf dateOf laterThan amountOf amountAbove verification onDevice phoneIn limitOf aboveLimit usageIn restrictionsOf
@@ -74,12 +74,12 @@ words = record {
   start-record = refl;
   answer-buffer-record = refl;
   answer-record = refl;
-  answer-command = word-of onOptions refl _ (answer-in onOptions (kept .options) _ refl) refl;
-  answer-locator = word-of onOptions refl _ (answer-in onOptions (kept .options) _ refl) refl;
-  answer-status = word-of onOptions refl _ (answer-in onOptions (kept .options) _ refl) refl;
+  answer-command = word-of waitsOnOptions refl _ (answer-in waitsOnOptions (kept .options) _ refl) refl;
+  answer-locator = word-of waitsOnOptions refl _ (answer-in waitsOnOptions (kept .options) _ refl) refl;
+  answer-status = word-of waitsOnOptions refl _ (answer-in waitsOnOptions (kept .options) _ refl) refl;
   answer-phase = word-of freshSession refl _ (answer-in freshSession fresh-keeps _ refl) refl;
   count-none = refl;
-  count-one = counts onOptions refl;
+  count-one = counts waitsOnOptions refl;
   object-refused = refl;
   object-unknown = refl;
   object-absent = refl;

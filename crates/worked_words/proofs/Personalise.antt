@@ -17,9 +17,9 @@ use Rattle.personalise.specs.Placements.{placementsIn, countOf, anyOf, eachOnce
 use Rattle.personalise.specs.Entries.{apartFrom, roomBehind, keepsAlone, keepsBehind, badEnd, badFrom, badEntry}
 use Rattle.personalise.specs.Records.{contentBytes, recordsFrom, joined, badAt, firstOf, badRecord}
 use Rattle.personalise.specs.Outcome.{listKeeps, answerOf}
-use Rattle.worked_words.specs.Personalise.{Personalise}
+use Rattle.worked_words.specs.Personalise.{PersonaliseWords}
 
-pub words : Personalise
+pub words : PersonaliseWords
 unfolding answerOf listKeeps primitives recurse recurseBy primitiveOf withObject headerOf tagAt tagSize secondByte thirdByte lengthAt firstByte isTemplate isPrivate numberFrom nibbles if
     both either every rows past find mayCome mayStand fitting numeric digitsFit tagBytes lengthBytes settable lacksTag distinct placementsIn countOf anyOf eachOnce objectsFrom entries
     wholeEntries sumOf apartFrom roomBehind keepsAlone keepsBehind badEnd badFrom badEntry contentBytes recordsFrom joined badAt firstOf badRecord

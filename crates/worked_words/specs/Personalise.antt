@@ -9,14 +9,14 @@ use Rattle.personalise.specs.Word.{wordFor}
 
 -- 9F08 and 5F34; a locator of two records, and one whose second entry breaks a rule; both objects in record 1, and one
 -- in record 3
-abbrev pub objects : List ℕ
-objects = 0x9F ∷ 0x08 ∷ 0x02 ∷ 0x00 ∷ 0x02 ∷ 0x5F ∷ 0x34 ∷ 0x01 ∷ 0x01 ∷ []
+abbrev pub twoObjects : List ℕ
+twoObjects = 0x9F ∷ 0x08 ∷ 0x02 ∷ 0x00 ∷ 0x02 ∷ 0x5F ∷ 0x34 ∷ 0x01 ∷ 0x01 ∷ []
 
-abbrev pub twoRecords : List ℕ
-twoRecords = 0x08 ∷ 0x01 ∷ 0x02 ∷ 0x00 ∷ []
+abbrev pub twoRecordEntry : List ℕ
+twoRecordEntry = 0x08 ∷ 0x01 ∷ 0x02 ∷ 0x00 ∷ []
 
-abbrev pub badEntry : List ℕ
-badEntry = 0x08 ∷ 0x01 ∷ 0x02 ∷ 0x00 ∷ 0x10 ∷ 0x00 ∷ 0x01 ∷ 0x00 ∷ []
+abbrev pub badSecondEntry : List ℕ
+badSecondEntry = 0x08 ∷ 0x01 ∷ 0x02 ∷ 0x00 ∷ 0x10 ∷ 0x00 ∷ 0x01 ∷ 0x00 ∷ []
 
 abbrev pub inFirst : List ℕ
 inFirst = 0x01 ∷ 0x01 ∷ 0x01 ∷ 0x02 ∷ []
@@ -25,15 +25,15 @@ abbrev pub inThird : List ℕ
 inThird = 0x01 ∷ 0x01 ∷ 0x03 ∷ 0x02 ∷ []
 
 -- the word with buffers of so many bytes
-abbrev pub word : List ℕ → List ℕ → List ℕ → ℕ → ℕ → ℕ
-word os es placements records locator = wordFor os es placements (replicate records 0) (replicate locator 0)
+abbrev pub personaliseWord : List ℕ → List ℕ → List ℕ → ℕ → ℕ → ℕ
+personaliseWord os es placements records locator = wordFor os es placements (replicate records 0) (replicate locator 0)
 
-pub record Personalise : Type 0 where
+pub record PersonaliseWords : Type 0 where
   -- 13 bytes of records and 4 of locator
-  pub written : word objects twoRecords inFirst 32768 248 ≡ 0x000000040000000D
+  pub written : personaliseWord twoObjects twoRecordEntry inFirst 32768 248 ≡ 0x000000040000000D
   -- each refusal, with those behind it given too
-  pub short-records : word (0x95 ∷ []) badEntry inThird 32767 247 ≡ 0x0001000000000000
-  pub short-locator : word (0x95 ∷ []) badEntry inThird 32768 247 ≡ 0x0002000000000000
-  pub bad-list : word (0x95 ∷ []) badEntry inThird 32768 248 ≡ 0x0003000000000000
-  pub bad-entry : word objects badEntry inThird 32768 248 ≡ 0x0004000000000002
-  pub bad-record : word objects twoRecords inThird 32768 248 ≡ 0x0005000000000003
+  pub short-records : personaliseWord (0x95 ∷ []) badSecondEntry inThird 32767 247 ≡ 0x0001000000000000
+  pub short-locator : personaliseWord (0x95 ∷ []) badSecondEntry inThird 32768 247 ≡ 0x0002000000000000
+  pub bad-list : personaliseWord (0x95 ∷ []) badSecondEntry inThird 32768 248 ≡ 0x0003000000000000
+  pub bad-entry : personaliseWord twoObjects badSecondEntry inThird 32768 248 ≡ 0x0004000000000002
+  pub bad-record : personaliseWord twoObjects twoRecordEntry inThird 32768 248 ≡ 0x0005000000000003
