@@ -2,8 +2,8 @@
 -- is the wanted one; or it is smaller, and the part behind it is left; or greater, and the part before it is left.
 -- Defined for every list of tags, in whatever order. What `search` promises of it beside: where tags rise it finds
 -- what `find` finds, and of fewer than 2 to the k tags it looks at k at most (proofs/Halving).
--- A card's tag is searched in the part of the table that it can stand in (`partSearchOf`), with the same answer for
--- every tag and no more looks (promises of `row_of`; proofs/Part).
+-- A card's tag is searched in the part of the table that it can stand in (`partSearchOf`): the same answer for every
+-- tag, and the same bound on the looks (promises `found` and `few` of `row_of`; proofs/Part).
 -- Assumes nothing.
 use mathlib.Core.Path.{_≡_}
 use mathlib.Core.Bool.{Bool, true}
