@@ -58,7 +58,7 @@ counts : (s : Session) → length (stored s) ≡ storeSize → countWord (decode
 counts s z = ap countWord (decode-encode s (0xEE ∷ []) z)
 
 pub words : HostWords
-unfolding recurse recurseBy if both either every numberFrom nibbles tagSize secondByte thirdByte tagAt firstByte isTemplate isPrivate oneByte storeOfTwo lengthAt headerOf count nextOf withLeaf
+unfolding recurse recurseBy if both either every numberFrom nibbles tagSize secondByte thirdByte tagAt firstByte isTemplate isPrivate oneByte twoBytes lengthAt headerOf count nextOf withLeaf
     withNode parse tagBytes lengthBytes rows past find placeOf numeric digitsThenFs compressed digitsFit fitting offsetIn placeAt held valueAt putAt valueIn keeps entries wholeEntries
     recordsFrom recordsOf sumOf accepts nth kth recordAt mayStand mayCome allowed takeItem takeNext takeAll items bodyOf optionsParts issuerPart cryptogramParts primitiveParts templateParts
     readBody isRead goodStatus goodLength readAnswer front decimalFrom yearOf dateOf laterThan amountOf amountAbove verification onDevice phoneIn limitOf aboveLimit usageIn restrictionsOf
