@@ -4,11 +4,11 @@ use mathlib.Core.List.{List, [], _∷_}
 use mathlib.Core.Path.{_≡_, refl, ap, _∙_}
 use Prim.Native.Nat.{ℕ}
 use Rattle.basics.specs.Choice.{if, both, either}
-use Rattle.store.specs.Place.{Value, absent, present, valueOf}
-use Rattle.analysis.specs.Action.{codesOf, chosen}
-use Rattle.analysis.specs.Bits.{bit}
-use Rattle.analysis.specs.Choice.{denial, online, default, holdsBit, lowestFrom, lowestBit, cardCode, pairOf, heldAt, capabilityAt, choiceOf}
-use Rattle.analysis.specs.Value.{front}
+use Rattle.store.specs.Place.{StoredValue, absent, present, objectValue}
+use Rattle.analysis.specs.Action.{actionCodesOf, choiceFor}
+use Rattle.analysis.specs.Bits.{numberedBit}
+use Rattle.analysis.specs.Choice.{denialStage, onlineStage, defaultStage, stageHoldsBit, lowestFrom, lowestBit, iacCode, actionCodesAt, stageHolds, onlineCapabilityAt, choiceOf}
+use Rattle.analysis.specs.Value.{firstBytes}
 use Rattle.analysis.specs.declared.choice.Choice.the-variants.{Decline, Online, Offline}
 use Rattle.analysis.specs.declared.choice.Choice.{Choice}
 
@@ -21,34 +21,34 @@ result = 0x80 ∷ 0 ∷ 0 ∷ 0 ∷ 0 ∷ []
 
 -- the terminal's codes are zero and there is no 9F0E
 pub record Plain (store : List ℕ) : Type 0 where
-  pub denial-card : valueOf store 0x9F0E ≡ absent
-  pub denial-terminal : valueOf store 0xDF8121 ≡ present zeros
-  pub online-terminal : valueOf store 0xDF8122 ≡ present zeros
-  pub default-terminal : valueOf store 0xDF8120 ≡ present zeros
+  pub denial-card : objectValue store 0x9F0E ≡ absent
+  pub denial-terminal : objectValue store 0xDF8121 ≡ present zeros
+  pub online-terminal : objectValue store 0xDF8122 ≡ present zeros
+  pub default-terminal : objectValue store 0xDF8120 ≡ present zeros
 
 -- then the type, 9F0F and 9F0D decide
-abbrev asked : ℕ → Value → Value → Choice
+abbrev asked : ℕ → StoredValue → StoredValue → Choice
 asked kind onlineCode defaultCode =
-    choiceOf result kind (pairOf denial absent zeros ∷ pairOf online onlineCode zeros ∷ pairOf default defaultCode zeros ∷ [])
+    choiceOf result kind (actionCodesAt denialStage absent zeros ∷ actionCodesAt onlineStage onlineCode zeros ∷ actionCodesAt defaultStage defaultCode zeros ∷ [])
 
-asked-of : (store : List ℕ) (kind : ℕ) → Plain store → valueOf store 0x9F35 ≡ present (kind ∷ [])
-    → chosen store result ≡ asked kind (valueOf store 0x9F0F) (valueOf store 0x9F0D)
-unfolding chosen codesOf
+asked-of : (store : List ℕ) (kind : ℕ) → Plain store → objectValue store 0x9F35 ≡ present (kind ∷ [])
+    → choiceFor store result ≡ asked kind (objectValue store 0x9F0F) (objectValue store 0x9F0D)
+unfolding choiceFor actionCodesOf
 asked-of store kind p e = simp (e, p .denial-card, p .denial-terminal, p .online-terminal, p .default-terminal)
 
-asked-rows : (v : Value) → (asked 0x22 absent v ≡ Online) × ((asked 0x22 (present zeros) v ≡ Offline) × (asked 0x23 v absent ≡ Decline))
-unfolding if both either bit holdsBit lowestFrom lowestBit cardCode heldAt capabilityAt choiceOf front
+asked-rows : (v : StoredValue) → (asked 0x22 absent v ≡ Online) × ((asked 0x22 (present zeros) v ≡ Offline) × (asked 0x23 v absent ≡ Decline))
+unfolding if both either numberedBit stageHoldsBit lowestFrom lowestBit iacCode stageHolds onlineCapabilityAt choiceOf firstBytes
 asked-rows v = (refl, (refl, refl))
 
 -- type 22 goes online with no 9F0F and stays offline with a zero one; type 23 with no 9F0D declines
 pub choice-rows : (store : List ℕ) → Plain store
-    → (valueOf store 0x9F35 ≡ present (0x22 ∷ []) → valueOf store 0x9F0F ≡ absent → chosen store result ≡ Online)
-    × ((valueOf store 0x9F35 ≡ present (0x22 ∷ []) → valueOf store 0x9F0F ≡ present zeros → chosen store result ≡ Offline)
-    × (valueOf store 0x9F35 ≡ present (0x23 ∷ []) → valueOf store 0x9F0D ≡ absent → chosen store result ≡ Decline))
+    → (objectValue store 0x9F35 ≡ present (0x22 ∷ []) → objectValue store 0x9F0F ≡ absent → choiceFor store result ≡ Online)
+    × ((objectValue store 0x9F35 ≡ present (0x22 ∷ []) → objectValue store 0x9F0F ≡ present zeros → choiceFor store result ≡ Offline)
+    × (objectValue store 0x9F35 ≡ present (0x23 ∷ []) → objectValue store 0x9F0D ≡ absent → choiceFor store result ≡ Decline))
 choice-rows store p = (
-  λ e o. asked-of store 0x22 p e ∙ ap (λ (v : Value). asked 0x22 v (valueOf store 0x9F0D)) o ∙ asked-rows _ .0,
+  λ e o. asked-of store 0x22 p e ∙ ap (λ (v : StoredValue). asked 0x22 v (objectValue store 0x9F0D)) o ∙ asked-rows _ .0,
   (
-    λ e o. asked-of store 0x22 p e ∙ ap (λ (v : Value). asked 0x22 v (valueOf store 0x9F0D)) o ∙ asked-rows _ .1 .0,
-    λ e d. asked-of store 0x23 p e ∙ ap (asked 0x23 (valueOf store 0x9F0F)) d ∙ asked-rows _ .1 .1,
+    λ e o. asked-of store 0x22 p e ∙ ap (λ (v : StoredValue). asked 0x22 v (objectValue store 0x9F0D)) o ∙ asked-rows _ .1 .0,
+    λ e d. asked-of store 0x23 p e ∙ ap (asked 0x23 (objectValue store 0x9F0F)) d ∙ asked-rows _ .1 .1,
   ),
 )

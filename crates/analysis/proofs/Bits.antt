@@ -10,13 +10,13 @@ use native.Mathlib.Omega.{arith}
 use lib.ListN.{getD}
 use Rattle.basics.proofs.Laws.{both-left, both-right}
 use Rattle.basics.specs.Choice.{if, both}
-use Rattle.store.specs.Place.{valueOf}
-use Rattle.store.specs.Held.{bytesIn}
-use Rattle.analysis.specs.Action.{usageIn, restrictionsOf, resultOf}
-use Rattle.analysis.specs.Bits.{bit, worth}
+use Rattle.store.specs.Place.{objectValue}
+use Rattle.store.specs.Held.{storedBytes}
+use Rattle.analysis.specs.Action.{aucViolatedIn, restrictionsByte, tvrOf}
+use Rattle.analysis.specs.Bits.{numberedBit, bitWeight}
 use Rattle.analysis.specs.Digits.{amountAbove}
-use Rattle.analysis.specs.Restrictions.{otherVersion, expired, notYetEffective, restrictionBits}
-use Rattle.analysis.specs.Result.{resultBits}
+use Rattle.analysis.specs.Restrictions.{versionDiffers, applicationExpired, notYetEffective, tvrByte2}
+use Rattle.analysis.specs.Tvr.{tvrFrom}
 
 -- a test passes at both truth values; at every number below n
 forBoth : (Bool → Bool) → Bool
@@ -52,20 +52,20 @@ agreed false false e = refl
 
 -- the tests in the order of the bits: byte 1 b8; byte 2 b8 to b5; byte 4 b8; past the list no bit is set
 abbrev pub testsOf : Bool → Bool → Bool → Bool → Bool → List Bool
-testsOf version expired early usage floor =
+testsOf version applicationExpired early usage floor =
     true ∷ false ∷ false ∷ false ∷ false ∷ false ∷ false ∷ false ∷
-    version ∷ expired ∷ early ∷ usage ∷ false ∷ false ∷ false ∷ false ∷
+    version ∷ applicationExpired ∷ early ∷ usage ∷ false ∷ false ∷ false ∷ false ∷
     false ∷ false ∷ false ∷ false ∷ false ∷ false ∷ false ∷ false ∷
     floor ∷ []
 
 right : Bool → Bool → Bool → Bool → Bool → ℕ → Bool
-right v x e u f i = agree (bit (resultBits (restrictionBits v x e u) (worth 8 f)) i) (getD (testsOf v x e u f) i false)
+right v x e u f i = agree (numberedBit (tvrFrom (tvrByte2 v x e u) (bitWeight 8 f)) i) (getD (testsOf v x e u f) i false)
 
 computed : forBoth (λ v. forBoth (λ x. forBoth (λ e. forBoth (λ u. forBoth (λ f. allBelow (right v x e u f) 40))))) ≡ true
-unfolding forBoth allBelow right agree if both bit
+unfolding forBoth allBelow right agree if both numberedBit
 computed = refl
 
-pub result-bit : (v x e u f : Bool) (i : ℕ) → i < 40 → bit (resultBits (restrictionBits v x e u) (worth 8 f)) i ≡ getD (testsOf v x e u f) i false
+pub result-bit : (v x e u f : Bool) (i : ℕ) → i < 40 → numberedBit (tvrFrom (tvrByte2 v x e u) (bitWeight 8 f)) i ≡ getD (testsOf v x e u f) i false
 unfolding right
 result-bit v x e u f i h =
     agreed _ _
@@ -74,9 +74,9 @@ result-bit v x e u f i h =
 -- the tests of a store, and its bits
 abbrev pub testsIn : List ℕ → List Bool
 testsIn store =
-    testsOf (otherVersion (valueOf store 0x9F08) (bytesIn store 0x9F09)) (expired (bytesIn store 0x9A) (bytesIn store 0x5F24))
-    (notYetEffective (valueOf store 0x5F25) (bytesIn store 0x9A)) (usageIn store) (amountAbove (bytesIn store 0x9F02) (bytesIn store 0xDF8123))
+    testsOf (versionDiffers (objectValue store 0x9F08) (storedBytes store 0x9F09)) (applicationExpired (storedBytes store 0x9A) (storedBytes store 0x5F24))
+    (notYetEffective (objectValue store 0x5F25) (storedBytes store 0x9A)) (aucViolatedIn store) (amountAbove (storedBytes store 0x9F02) (storedBytes store 0xDF8123))
 
-pub stored-bit : (store : List ℕ) (i : ℕ) → i < 40 → bit (resultOf store) i ≡ getD (testsIn store) i false
-unfolding resultOf restrictionsOf
+pub stored-bit : (store : List ℕ) (i : ℕ) → i < 40 → numberedBit (tvrOf store) i ≡ getD (testsIn store) i false
+unfolding tvrOf restrictionsByte
 stored-bit store i h = result-bit _ _ _ _ _ i h

@@ -12,56 +12,56 @@ use lib.ListN.{length, getD, drop}
 use borrow.Author.Tests.{ltb-true, ltb-false, lt-ltb, le-ltb}
 use Rattle.basics.specs.Number.{nibbles}
 use Rattle.basics.proofs.Laws.{if-yes, if-no, bool-cases}
-use Rattle.analysis.specs.Digits.{decimalFrom, decimal, yearDigits, yearOf, dateOf, laterThan, amountOf}
-use Rattle.analysis.specs.Inner.{twoDigits}
-use Rattle.analysis.specs.Value.{front}
+use Rattle.analysis.specs.Digits.{bcdFrom, bcdNumber, yearDigits, yearOf, dateOf, dateLater, amountOf}
+use Rattle.analysis.specs.Inner.{bcdByte}
+use Rattle.analysis.specs.Value.{firstBytes}
 use Rattle.analysis.proofs.Value.{front-whole, front-one, front-three}
 
-pub decimal-one : (a : ℕ) → decimal (a ∷ []) ≡ twoDigits a
-unfolding decimalFrom nibbles twoDigits
+pub decimal-one : (a : ℕ) → bcdNumber (a ∷ []) ≡ bcdByte a
+unfolding bcdFrom nibbles bcdByte
 decimal-one a = omega arith
 
-pub decimal-two : (a b : ℕ) → decimal (a ∷ b ∷ []) ≡ twoDigits a * 100 + twoDigits b
-unfolding decimalFrom nibbles twoDigits
+pub decimal-two : (a b : ℕ) → bcdNumber (a ∷ b ∷ []) ≡ bcdByte a * 100 + bcdByte b
+unfolding bcdFrom nibbles bcdByte
 decimal-two a b = omega arith
 
-pub decimal-three : (a b c : ℕ) → decimal (a ∷ b ∷ c ∷ []) ≡ twoDigits a * 10000 + twoDigits b * 100 + twoDigits c
-unfolding decimalFrom nibbles twoDigits
+pub decimal-three : (a b c : ℕ) → bcdNumber (a ∷ b ∷ c ∷ []) ≡ bcdByte a * 10000 + bcdByte b * 100 + bcdByte c
+unfolding bcdFrom nibbles bcdByte
 decimal-three a b c = omega arith
 
-pub decimal-six : (a b c d e f : ℕ) → decimal (a ∷ b ∷ c ∷ d ∷ e ∷ f ∷ []) ≡ decimal (a ∷ b ∷ c ∷ []) * 1000000 + decimal (d ∷ e ∷ f ∷ [])
-unfolding decimalFrom nibbles
+pub decimal-six : (a b c d e f : ℕ) → bcdNumber (a ∷ b ∷ c ∷ d ∷ e ∷ f ∷ []) ≡ bcdNumber (a ∷ b ∷ c ∷ []) * 1000000 + bcdNumber (d ∷ e ∷ f ∷ [])
+unfolding bcdFrom nibbles
 decimal-six a b c d e f = omega arith
 
 -- of a whole amount every digit counts
-pub whole-amount : (s : List ℕ) → length s ≡ 6 → amountOf s ≡ decimal s
+pub whole-amount : (s : List ℕ) → length s ≡ 6 → amountOf s ≡ bcdNumber s
 unfolding amountOf
-whole-amount s e = ap decimal (front-whole 6 s e)
+whole-amount s e = ap bcdNumber (front-whole 6 s e)
 
 -- ---- dates
 
-pub year-digits : (s : List ℕ) → yearDigits s ≡ twoDigits (getD s 0 0)
-year-digits s = ap decimal (front-one s) ∙ decimal-one (getD s 0 0)
+pub year-digits : (s : List ℕ) → yearDigits s ≡ bcdByte (getD s 0 0)
+year-digits s = ap bcdNumber (front-one s) ∙ decimal-one (getD s 0 0)
 
-pub month-and-day : (s : List ℕ) → decimal (drop 1 (front 3 s)) ≡ twoDigits (getD s 1 0) * 100 + twoDigits (getD s 2 0)
-month-and-day s = ap (λ (t : List ℕ). decimal (drop 1 t)) (front-three s) ∙ decimal-two (getD s 1 0) (getD s 2 0)
+pub month-and-day : (s : List ℕ) → bcdNumber (drop 1 (firstBytes 3 s)) ≡ bcdByte (getD s 1 0) * 100 + bcdByte (getD s 2 0)
+month-and-day s = ap (λ (t : List ℕ). bcdNumber (drop 1 t)) (front-three s) ∙ decimal-two (getD s 1 0) (getD s 2 0)
 
-six-digits : (s : List ℕ) → decimal (front 3 s) ≡ yearDigits s * 10000 + decimal (drop 1 (front 3 s))
+six-digits : (s : List ℕ) → bcdNumber (firstBytes 3 s) ≡ yearDigits s * 10000 + bcdNumber (drop 1 (firstBytes 3 s))
 six-digits s =
-    let e = ap decimal (front-three s) ∙ decimal-three (getD s 0 0) (getD s 1 0) (getD s 2 0) in
+    let e = ap bcdNumber (front-three s) ∙ decimal-three (getD s 0 0) (getD s 1 0) (getD s 2 0) in
     let y = year-digits s in
     let m = month-and-day s in
     omega (arith, e, y, m)
 
 -- years 2000 to 2049 add a constant to the six digits, and so do 1950 to 1999
-recent : (s : List ℕ) → ltb (yearDigits s) 50 ≡ true → dateOf s ≡ 20000000 + decimal (front 3 s)
+recent : (s : List ℕ) → ltb (yearDigits s) 50 ≡ true → dateOf s ≡ 20000000 + bcdNumber (firstBytes 3 s)
 unfolding dateOf yearOf
 recent s e =
     let y = if-yes (2000 + yearDigits s) (1900 + yearDigits s) e in
     let d = six-digits s in
     omega (arith, y, d)
 
-former : (s : List ℕ) → ltb (yearDigits s) 50 ≡ false → dateOf s ≡ 19000000 + decimal (front 3 s)
+former : (s : List ℕ) → ltb (yearDigits s) 50 ≡ false → dateOf s ≡ 19000000 + bcdNumber (firstBytes 3 s)
 unfolding dateOf yearOf
 former s e =
     let y = if-no (2000 + yearDigits s) (1900 + yearDigits s) e in
@@ -77,10 +77,10 @@ shifted k m n = by (bool-cases (ltb m n))
 
 -- on dates of one century the order is that of their six digits
 pub one-century : (a b : List ℕ) → ltb (yearDigits a) 50 ≡ ltb (yearDigits b) 50
-    → laterThan a b ≡ ltb (decimal (front 3 b)) (decimal (front 3 a))
-unfolding laterThan
+    → dateLater a b ≡ ltb (bcdNumber (firstBytes 3 b)) (bcdNumber (firstBytes 3 a))
+unfolding dateLater
 one-century a b q = by (bool-cases (ltb (yearDigits a) 50))
   where
-    by : (ltb (yearDigits a) 50 ≡ true) ⊎ (ltb (yearDigits a) 50 ≡ false) → ltb (dateOf b) (dateOf a) ≡ ltb (decimal (front 3 b)) (decimal (front 3 a))
-    by (inl e) = ap₂ ltb (recent b (sym q ∙ e)) (recent a e) ∙ shifted 20000000 (decimal (front 3 b)) (decimal (front 3 a))
-    by (inr e) = ap₂ ltb (former b (sym q ∙ e)) (former a e) ∙ shifted 19000000 (decimal (front 3 b)) (decimal (front 3 a))
+    by : (ltb (yearDigits a) 50 ≡ true) ⊎ (ltb (yearDigits a) 50 ≡ false) → ltb (dateOf b) (dateOf a) ≡ ltb (bcdNumber (firstBytes 3 b)) (bcdNumber (firstBytes 3 a))
+    by (inl e) = ap₂ ltb (recent b (sym q ∙ e)) (recent a e) ∙ shifted 20000000 (bcdNumber (firstBytes 3 b)) (bcdNumber (firstBytes 3 a))
+    by (inr e) = ap₂ ltb (former b (sym q ∙ e)) (former a e) ∙ shifted 19000000 (bcdNumber (firstBytes 3 b)) (bcdNumber (firstBytes 3 a))

@@ -5,42 +5,42 @@ use mathlib.Core.Bool.{Bool, true, false}
 use mathlib.Core.List.{List, [], _∷_, map}
 use Prim.Native.Nat.{ℕ}
 use lib.ListN.{replicate}
-use Rattle.basics.specs.Alike.{alike}
+use Rattle.basics.specs.Alike.{bytesEqual}
 use Rattle.basics.specs.Choice.{if, both, either}
 use Rattle.basics.specs.Number.{nibbles}
-use Rattle.dictionary.specs.Named.{placeOf}
-use Rattle.dictionary.specs.Rows.{rows, past, find, storeSize}
-use Rattle.store.specs.Place.{Value, absent, present, offsetIn, placeAt, held, valueAt, putAt, valueIn}
-use Rattle.analysis.specs.Action.{phoneIn, aboveLimit, limitOf, usageIn, restrictionsOf, resultOf, codesOf, chosen}
-use Rattle.analysis.specs.Bits.{bit}
-use Rattle.analysis.specs.Choice.{denial, online, default, holdsBit, lowestFrom, lowestBit, noBits, allBits, cardCode, heldAt, capabilityAt, choiceOf, p1Of, p1For}
-use Rattle.analysis.specs.Digits.{decimalFrom, yearOf, dateOf, laterThan, amountOf, amountAbove}
-use Rattle.analysis.specs.Restrictions.{otherVersion, expired, notYetEffective, atAtm, countryOf, cashback, placeMet, cashMet, goodsMet, cashbackMet, usageBroken, usageOf, restrictionBits}
-use Rattle.analysis.specs.Result.{floorBits, resultBits}
-use Rattle.analysis.specs.Value.{front}
-use Rattle.analysis.specs.Verification.{onDevice}
+use Rattle.dictionary.specs.Named.{rowNumberOf}
+use Rattle.dictionary.specs.Rows.{dictionaryRows, rowPast, findRow, storeSize}
+use Rattle.store.specs.Place.{StoredValue, absent, present, rowOffset, rowPlace, placeValue, rowValue, putRow, objectValueIn}
+use Rattle.analysis.specs.Action.{hasOnDeviceCvm, aboveTransactionLimit, transactionLimit, aucViolatedIn, restrictionsByte, tvrOf, actionCodesOf, choiceFor}
+use Rattle.analysis.specs.Bits.{numberedBit}
+use Rattle.analysis.specs.Choice.{denialStage, onlineStage, defaultStage, stageHoldsBit, lowestFrom, lowestBit, zeroCode, onesCode, iacCode, stageHolds, onlineCapabilityAt, choiceOf, generateAcP1, generateAcP1For}
+use Rattle.analysis.specs.Digits.{bcdFrom, yearOf, dateOf, dateLater, amountOf, amountAbove}
+use Rattle.analysis.specs.Restrictions.{versionDiffers, applicationExpired, notYetEffective, atAtm, issuerCountryOf, cashbackRequested, aucTerminalMet, aucCashMet, aucGoodsMet, aucAllowsCashback, aucViolated, aucViolatedBy, tvrByte2}
+use Rattle.analysis.specs.Tvr.{tvrByte4, tvrFrom}
+use Rattle.analysis.specs.Value.{firstBytes}
+use Rattle.analysis.specs.Cvm.{onDeviceCvm}
 use Rattle.analysis.specs.declared.choice.Choice.the-variants.{Decline, Online, Offline}
-use Rattle.analysis.specs.declared.choice.Lowest.the-variants.{Bit, NoBit}
-use Rattle.analysis.specs.declared.restrictions.Country.the-variants.{Home, Abroad, NotGiven}
+use Rattle.analysis.specs.declared.choice.LowestBit.the-variants.{Bit, NoBit}
+use Rattle.analysis.specs.declared.restrictions.IssuerCountry.the-variants.{Home, Abroad, NotGiven}
 
 -- ---- dates, amounts and versions
 
 -- equal, one day after, one day before; the first of a year after the last of another; 00 is 2000, and 99 is 1999
-dates : map (laterThan (0x25 ∷ 0x12 ∷ 0x31 ∷ []))
+dates : map (dateLater (0x25 ∷ 0x12 ∷ 0x31 ∷ []))
     ((0x25 ∷ 0x12 ∷ 0x31 ∷ []) ∷ (0x25 ∷ 0x12 ∷ 0x30 ∷ []) ∷ (0x26 ∷ 0x01 ∷ 0x01 ∷ []) ∷ (0x00 ∷ 0x01 ∷ 0x01 ∷ []) ∷ (0x99 ∷ 0x12 ∷ 0x31 ∷ []) ∷ [])
     ≡ false ∷ true ∷ false ∷ true ∷ true ∷ []
-unfolding laterThan dateOf yearOf if front decimalFrom nibbles
+unfolding dateLater dateOf yearOf if firstBytes bcdFrom nibbles
 dates = refl
 
 -- expired by the transaction date after the expiration date, not yet effective by the effective date after the transaction date
-expirations : map (expired (0x25 ∷ 0x12 ∷ 0x31 ∷ [])) ((0x25 ∷ 0x12 ∷ 0x30 ∷ []) ∷ (0x25 ∷ 0x12 ∷ 0x31 ∷ []) ∷ []) ≡ true ∷ false ∷ []
-unfolding laterThan dateOf yearOf if front decimalFrom nibbles
+expirations : map (applicationExpired (0x25 ∷ 0x12 ∷ 0x31 ∷ [])) ((0x25 ∷ 0x12 ∷ 0x30 ∷ []) ∷ (0x25 ∷ 0x12 ∷ 0x31 ∷ []) ∷ []) ≡ true ∷ false ∷ []
+unfolding dateLater dateOf yearOf if firstBytes bcdFrom nibbles
 expirations = refl
 
-effective-dates : map (λ (v : Value). notYetEffective v (0x25 ∷ 0x12 ∷ 0x31 ∷ []))
+effective-dates : map (λ (v : StoredValue). notYetEffective v (0x25 ∷ 0x12 ∷ 0x31 ∷ []))
     (present (0x26 ∷ 0x01 ∷ 0x01 ∷ []) ∷ present (0x25 ∷ 0x12 ∷ 0x31 ∷ []) ∷ absent ∷ [])
     ≡ true ∷ false ∷ false ∷ []
-unfolding notYetEffective laterThan dateOf yearOf if front decimalFrom nibbles
+unfolding notYetEffective dateLater dateOf yearOf if firstBytes bcdFrom nibbles
 effective-dates = refl
 
 -- the first and the last year of each half of the window
@@ -50,7 +50,7 @@ years = refl
 
 -- the transaction date today is after the expiration date; the effective date is after today
 abbrev across : List ℕ → List ℕ → List ℕ → List Bool
-across today expiration effective = expired today expiration ∷ notYetEffective (present effective) today ∷ []
+across today expiration effective = applicationExpired today expiration ∷ notYetEffective (present effective) today ∷ []
 
 centuries :
     across (0x25 ∷ 0x11 ∷ 0x16 ∷ []) (0x30 ∷ 0x12 ∷ 0x31 ∷ []) (0x99 ∷ 0x01 ∷ 0x01 ∷ [])
@@ -62,35 +62,35 @@ centuries :
     ∷ across (0x50 ∷ 0x01 ∷ 0x01 ∷ []) (0x49 ∷ 0x12 ∷ 0x31 ∷ []) (0x49 ∷ 0x12 ∷ 0x31 ∷ [])
     ∷ across (0x49 ∷ 0x01 ∷ 0x01 ∷ []) (0x49 ∷ 0x01 ∷ 0x01 ∷ []) (0x50 ∷ 0x01 ∷ 0x01 ∷ []) ∷ []
     ≡ (false ∷ false ∷ []) ∷ (false ∷ true ∷ []) ∷ (true ∷ false ∷ []) ∷ (false ∷ true ∷ []) ∷ (false ∷ false ∷ []) ∷ (true ∷ true ∷ []) ∷ (false ∷ true ∷ []) ∷ (false ∷ false ∷ []) ∷ []
-unfolding notYetEffective laterThan dateOf yearOf if front decimalFrom nibbles
+unfolding notYetEffective dateLater dateOf yearOf if firstBytes bcdFrom nibbles
 centuries = refl
 
 -- the last year of the window and its first; month and day are compared as digits
-expiries : expired (0x25 ∷ 0x11 ∷ 0x16 ∷ []) (0x49 ∷ 0x12 ∷ 0x31 ∷ [])
-    ∷ expired (0x25 ∷ 0x11 ∷ 0x16 ∷ []) (0x50 ∷ 0x01 ∷ 0x01 ∷ [])
-    ∷ expired (0x00 ∷ 0x01 ∷ 0x01 ∷ []) (0x99 ∷ 0x12 ∷ 0x31 ∷ [])
-    ∷ expired (0x25 ∷ 0x13 ∷ 0x99 ∷ []) (0x25 ∷ 0x14 ∷ 0x00 ∷ []) ∷ []
+expiries : applicationExpired (0x25 ∷ 0x11 ∷ 0x16 ∷ []) (0x49 ∷ 0x12 ∷ 0x31 ∷ [])
+    ∷ applicationExpired (0x25 ∷ 0x11 ∷ 0x16 ∷ []) (0x50 ∷ 0x01 ∷ 0x01 ∷ [])
+    ∷ applicationExpired (0x00 ∷ 0x01 ∷ 0x01 ∷ []) (0x99 ∷ 0x12 ∷ 0x31 ∷ [])
+    ∷ applicationExpired (0x25 ∷ 0x13 ∷ 0x99 ∷ []) (0x25 ∷ 0x14 ∷ 0x00 ∷ []) ∷ []
     ≡ false ∷ true ∷ true ∷ false ∷ []
-unfolding laterThan dateOf yearOf if front decimalFrom nibbles
+unfolding dateLater dateOf yearOf if firstBytes bcdFrom nibbles
 expiries = refl
 
 -- equal, one above, one below; the highest digit of twelve
 amounts : map (amountAbove (0 ∷ 0 ∷ 0 ∷ 0 ∷ 0x10 ∷ 0x00 ∷ []))
     ((0 ∷ 0 ∷ 0 ∷ 0 ∷ 0x10 ∷ 0x00 ∷ []) ∷ (0 ∷ 0 ∷ 0 ∷ 0 ∷ 0x09 ∷ 0x99 ∷ []) ∷ (0 ∷ 0 ∷ 0 ∷ 0 ∷ 0x10 ∷ 0x01 ∷ []) ∷ (0x10 ∷ 0 ∷ 0 ∷ 0 ∷ 0 ∷ 0 ∷ []) ∷ [])
     ≡ false ∷ true ∷ false ∷ false ∷ []
-unfolding amountAbove amountOf front decimalFrom nibbles
+unfolding amountAbove amountOf firstBytes bcdFrom nibbles
 amounts = refl
 
 -- another amount: absent, zero, one, and the highest digit alone
-other-amounts : map cashback (absent ∷ present (0 ∷ 0 ∷ 0 ∷ 0 ∷ 0 ∷ 0 ∷ []) ∷ present (0 ∷ 0 ∷ 0 ∷ 0 ∷ 0 ∷ 0x01 ∷ []) ∷ present (0x10 ∷ 0 ∷ 0 ∷ 0 ∷ 0 ∷ 0 ∷ []) ∷ [])
+other-amounts : map cashbackRequested (absent ∷ present (0 ∷ 0 ∷ 0 ∷ 0 ∷ 0 ∷ 0 ∷ []) ∷ present (0 ∷ 0 ∷ 0 ∷ 0 ∷ 0 ∷ 0x01 ∷ []) ∷ present (0x10 ∷ 0 ∷ 0 ∷ 0 ∷ 0 ∷ 0 ∷ []) ∷ [])
     ≡ false ∷ false ∷ true ∷ true ∷ []
-unfolding cashback amountOf front decimalFrom nibbles
+unfolding cashbackRequested amountOf firstBytes bcdFrom nibbles
 other-amounts = refl
 
 -- the card's version: absent, the reader's, unlike it in the last byte and in the first
-versions : map (λ (v : Value). otherVersion v (0x00 ∷ 0x02 ∷ [])) (absent ∷ present (0x00 ∷ 0x02 ∷ []) ∷ present (0x00 ∷ 0x03 ∷ []) ∷ present (0x01 ∷ 0x02 ∷ []) ∷ [])
+versions : map (λ (v : StoredValue). versionDiffers v (0x00 ∷ 0x02 ∷ [])) (absent ∷ present (0x00 ∷ 0x02 ∷ []) ∷ present (0x00 ∷ 0x03 ∷ []) ∷ present (0x01 ∷ 0x02 ∷ []) ∷ [])
     ≡ false ∷ false ∷ true ∷ true ∷ []
-unfolding otherVersion alike both
+unfolding versionDiffers bytesEqual both
 versions = refl
 
 -- ---- usage
@@ -107,155 +107,155 @@ unfolding atAtm both either
 atm-cash = refl
 
 -- the issuer's country: the terminal's, another, absent
-countries : map (λ (v : Value). countryOf v (0x08 ∷ 0x40 ∷ [])) (present (0x08 ∷ 0x40 ∷ []) ∷ present (0x08 ∷ 0x26 ∷ []) ∷ absent ∷ []) ≡ Home ∷ Abroad ∷ NotGiven ∷ []
-unfolding countryOf alike both if
+countries : map (λ (v : StoredValue). issuerCountryOf v (0x08 ∷ 0x40 ∷ [])) (present (0x08 ∷ 0x40 ∷ []) ∷ present (0x08 ∷ 0x26 ∷ []) ∷ absent ∷ []) ≡ Home ∷ Abroad ∷ NotGiven ∷ []
+unfolding issuerCountryOf bytesEqual both if
 countries = refl
 
 -- the place: byte 1 b2 at an ATM, b1 elsewhere
-place-atm : map (λ u. placeMet u true) ((0x02 ∷ 0x00 ∷ []) ∷ (0xFD ∷ 0xFF ∷ []) ∷ []) ≡ true ∷ false ∷ []
-unfolding placeMet if
+place-atm : map (λ u. aucTerminalMet u true) ((0x02 ∷ 0x00 ∷ []) ∷ (0xFD ∷ 0xFF ∷ []) ∷ []) ≡ true ∷ false ∷ []
+unfolding aucTerminalMet if
 place-atm = refl
 
-place-other : map (λ u. placeMet u false) ((0x01 ∷ 0x00 ∷ []) ∷ (0xFE ∷ 0xFF ∷ []) ∷ []) ≡ true ∷ false ∷ []
-unfolding placeMet if
+place-other : map (λ u. aucTerminalMet u false) ((0x01 ∷ 0x00 ∷ []) ∷ (0xFE ∷ 0xFF ∷ []) ∷ []) ≡ true ∷ false ∷ []
+unfolding aucTerminalMet if
 place-other = refl
 
 -- transaction types with no bit set: cash for 01 and 17, goods and services for 00 and 09
-cash-types : map (cashMet (0 ∷ 0 ∷ []) Home) (0x01 ∷ 0x17 ∷ 0x00 ∷ 0x02 ∷ 0x08 ∷ 0x09 ∷ 0x16 ∷ 0x18 ∷ 0x20 ∷ [])
+cash-types : map (aucCashMet (0 ∷ 0 ∷ []) Home) (0x01 ∷ 0x17 ∷ 0x00 ∷ 0x02 ∷ 0x08 ∷ 0x09 ∷ 0x16 ∷ 0x18 ∷ 0x20 ∷ [])
     ≡ false ∷ false ∷ true ∷ true ∷ true ∷ true ∷ true ∷ true ∷ true ∷ []
-unfolding cashMet if either
+unfolding aucCashMet if either
 cash-types = refl
 
-goods-types : map (goodsMet (0 ∷ 0 ∷ []) Home) (0x00 ∷ 0x09 ∷ 0x01 ∷ 0x02 ∷ 0x08 ∷ 0x10 ∷ 0x16 ∷ 0x17 ∷ 0x20 ∷ [])
+goods-types : map (aucGoodsMet (0 ∷ 0 ∷ []) Home) (0x00 ∷ 0x09 ∷ 0x01 ∷ 0x02 ∷ 0x08 ∷ 0x10 ∷ 0x16 ∷ 0x17 ∷ 0x20 ∷ [])
     ≡ false ∷ false ∷ true ∷ true ∷ true ∷ true ∷ true ∷ true ∷ true ∷ []
-unfolding goodsMet if either
+unfolding aucGoodsMet if either
 goods-types = refl
 
 -- cash: byte 1 b8 at home, b7 abroad, nothing where the country is not given
-cash-home : map (λ u. cashMet u Home 0x01) ((0x80 ∷ 0x00 ∷ []) ∷ (0x7F ∷ 0xFF ∷ []) ∷ []) ≡ true ∷ false ∷ []
-unfolding cashMet if either
+cash-home : map (λ u. aucCashMet u Home 0x01) ((0x80 ∷ 0x00 ∷ []) ∷ (0x7F ∷ 0xFF ∷ []) ∷ []) ≡ true ∷ false ∷ []
+unfolding aucCashMet if either
 cash-home = refl
 
-cash-abroad : map (λ u. cashMet u Abroad 0x17) ((0x40 ∷ 0x00 ∷ []) ∷ (0xBF ∷ 0xFF ∷ []) ∷ []) ≡ true ∷ false ∷ []
-unfolding cashMet if either
+cash-abroad : map (λ u. aucCashMet u Abroad 0x17) ((0x40 ∷ 0x00 ∷ []) ∷ (0xBF ∷ 0xFF ∷ []) ∷ []) ≡ true ∷ false ∷ []
+unfolding aucCashMet if either
 cash-abroad = refl
 
-cash-anywhere : cashMet (0x00 ∷ 0x00 ∷ []) NotGiven 0x01 ≡ true
-unfolding cashMet if either
+cash-anywhere : aucCashMet (0x00 ∷ 0x00 ∷ []) NotGiven 0x01 ≡ true
+unfolding aucCashMet if either
 cash-anywhere = refl
 
 -- goods and services: byte 1 b6 or b4 at home, b5 or b3 abroad
-goods-home : map (λ u. goodsMet u Home 0x00) ((0x20 ∷ 0x00 ∷ []) ∷ (0x08 ∷ 0x00 ∷ []) ∷ (0xD7 ∷ 0xFF ∷ []) ∷ []) ≡ true ∷ true ∷ false ∷ []
-unfolding goodsMet if either
+goods-home : map (λ u. aucGoodsMet u Home 0x00) ((0x20 ∷ 0x00 ∷ []) ∷ (0x08 ∷ 0x00 ∷ []) ∷ (0xD7 ∷ 0xFF ∷ []) ∷ []) ≡ true ∷ true ∷ false ∷ []
+unfolding aucGoodsMet if either
 goods-home = refl
 
-goods-abroad : map (λ u. goodsMet u Abroad 0x09) ((0x10 ∷ 0x00 ∷ []) ∷ (0x04 ∷ 0x00 ∷ []) ∷ (0xEB ∷ 0xFF ∷ []) ∷ []) ≡ true ∷ true ∷ false ∷ []
-unfolding goodsMet if either
+goods-abroad : map (λ u. aucGoodsMet u Abroad 0x09) ((0x10 ∷ 0x00 ∷ []) ∷ (0x04 ∷ 0x00 ∷ []) ∷ (0xEB ∷ 0xFF ∷ []) ∷ []) ≡ true ∷ true ∷ false ∷ []
+unfolding aucGoodsMet if either
 goods-abroad = refl
 
 -- cashback: byte 2 b8 at home, b7 abroad, nothing where none is asked for
-cashback-home : map (λ u. cashbackMet u Home true) ((0x00 ∷ 0x80 ∷ []) ∷ (0xFF ∷ 0x7F ∷ []) ∷ []) ≡ true ∷ false ∷ []
-unfolding cashbackMet if
+cashback-home : map (λ u. aucAllowsCashback u Home true) ((0x00 ∷ 0x80 ∷ []) ∷ (0xFF ∷ 0x7F ∷ []) ∷ []) ≡ true ∷ false ∷ []
+unfolding aucAllowsCashback if
 cashback-home = refl
 
-cashback-abroad : map (λ u. cashbackMet u Abroad true) ((0x00 ∷ 0x40 ∷ []) ∷ (0xFF ∷ 0xBF ∷ []) ∷ []) ≡ true ∷ false ∷ []
-unfolding cashbackMet if
+cashback-abroad : map (λ u. aucAllowsCashback u Abroad true) ((0x00 ∷ 0x40 ∷ []) ∷ (0xFF ∷ 0xBF ∷ []) ∷ []) ≡ true ∷ false ∷ []
+unfolding aucAllowsCashback if
 cashback-abroad = refl
 
-cashback-not-asked : cashbackMet (0x00 ∷ 0x00 ∷ []) Home false ≡ true
-unfolding cashbackMet if
+cashback-not-asked : aucAllowsCashback (0x00 ∷ 0x00 ∷ []) Home false ≡ true
+unfolding aucAllowsCashback if
 cashback-not-asked = refl
 
 -- goods at home with cashback at no ATM: all three bits, each of them missing, and no control
-usage-whole : map (λ (v : Value). usageOf v 0x22 absent (present (0x08 ∷ 0x40 ∷ [])) (0x08 ∷ 0x40 ∷ []) 0x00 (present (0 ∷ 0 ∷ 0 ∷ 0 ∷ 0 ∷ 0x01 ∷ [])))
+usage-whole : map (λ (v : StoredValue). aucViolatedBy v 0x22 absent (present (0x08 ∷ 0x40 ∷ [])) (0x08 ∷ 0x40 ∷ []) 0x00 (present (0 ∷ 0 ∷ 0 ∷ 0 ∷ 0 ∷ 0x01 ∷ [])))
     (present (0x21 ∷ 0x80 ∷ []) ∷ present (0x20 ∷ 0x80 ∷ []) ∷ present (0x01 ∷ 0x80 ∷ []) ∷ present (0x21 ∷ 0x00 ∷ []) ∷ absent ∷ [])
     ≡ false ∷ true ∷ true ∷ true ∷ false ∷ []
-unfolding usageBroken placeMet cashMet goodsMet cashbackMet atAtm countryOf cashback amountOf front decimalFrom nibbles alike both either if
+unfolding aucViolated aucTerminalMet aucCashMet aucGoodsMet aucAllowsCashback atAtm issuerCountryOf cashbackRequested amountOf firstBytes bcdFrom nibbles bytesEqual both either if
 usage-whole = refl
 
 -- cash at home at an ATM
-usage-cash : map (λ (v : Value). usageOf v 0x14 (present (0x80 ∷ 0 ∷ 0 ∷ 0 ∷ 0 ∷ [])) (present (0x08 ∷ 0x40 ∷ [])) (0x08 ∷ 0x40 ∷ []) 0x01 absent)
+usage-cash : map (λ (v : StoredValue). aucViolatedBy v 0x14 (present (0x80 ∷ 0 ∷ 0 ∷ 0 ∷ 0 ∷ [])) (present (0x08 ∷ 0x40 ∷ [])) (0x08 ∷ 0x40 ∷ []) 0x01 absent)
     (present (0x82 ∷ 0x00 ∷ []) ∷ present (0x81 ∷ 0x00 ∷ []) ∷ present (0x02 ∷ 0x00 ∷ []) ∷ [])
     ≡ false ∷ true ∷ true ∷ []
-unfolding usageBroken placeMet cashMet goodsMet cashbackMet atAtm countryOf cashback alike both either if
+unfolding aucViolated aucTerminalMet aucCashMet aucGoodsMet aucAllowsCashback atAtm issuerCountryOf cashbackRequested bytesEqual both either if
 usage-cash = refl
 
 -- ---- result bits
 
 -- byte 2: each test at its bit
-restriction-bits : restrictionBits true false false false ∷ restrictionBits false true false false ∷ restrictionBits false false true false ∷ restrictionBits false false false true
-    ∷ restrictionBits false false false false ∷ []
+restriction-bits : tvrByte2 true false false false ∷ tvrByte2 false true false false ∷ tvrByte2 false false true false ∷ tvrByte2 false false false true
+    ∷ tvrByte2 false false false false ∷ []
     ≡ 0x80 ∷ 0x40 ∷ 0x20 ∷ 0x10 ∷ 0x00 ∷ []
 unfolding if
 restriction-bits = refl
 
 -- byte 4: the floor limit, at it and one above it
-floor-bits : map (λ a. floorBits a (0 ∷ 0 ∷ 0 ∷ 0 ∷ 0x10 ∷ 0x00 ∷ [])) ((0 ∷ 0 ∷ 0 ∷ 0 ∷ 0x10 ∷ 0x00 ∷ []) ∷ (0 ∷ 0 ∷ 0 ∷ 0 ∷ 0x10 ∷ 0x01 ∷ []) ∷ []) ≡ 0x00 ∷ 0x80 ∷ []
-unfolding amountAbove amountOf front decimalFrom nibbles if
+floor-bits : map (λ a. tvrByte4 a (0 ∷ 0 ∷ 0 ∷ 0 ∷ 0x10 ∷ 0x00 ∷ [])) ((0 ∷ 0 ∷ 0 ∷ 0 ∷ 0x10 ∷ 0x00 ∷ []) ∷ (0 ∷ 0 ∷ 0 ∷ 0 ∷ 0x10 ∷ 0x01 ∷ []) ∷ []) ≡ 0x00 ∷ 0x80 ∷ []
+unfolding amountAbove amountOf firstBytes bcdFrom nibbles if
 floor-bits = refl
 
 -- each byte at its place
-result-bytes : resultBits 0xF0 0x80 ≡ 0x80 ∷ 0xF0 ∷ 0x00 ∷ 0x80 ∷ 0x00 ∷ []
+result-bytes : tvrFrom 0xF0 0x80 ≡ 0x80 ∷ 0xF0 ∷ 0x00 ∷ 0x80 ∷ 0x00 ∷ []
 result-bytes = refl
 
 -- ---- the choice
 
 -- bits by number: byte 1 b8, byte 1 b1, byte 2 b8, byte 5 b1; and one that the codes do not have
-bit-numbers : map (λ s. lowestBit s (record { card = s; terminal = noBits }))
-    ((0x80 ∷ 0 ∷ 0 ∷ 0 ∷ 0 ∷ []) ∷ (0x01 ∷ 0 ∷ 0 ∷ 0 ∷ 0 ∷ []) ∷ (0 ∷ 0x80 ∷ 0 ∷ 0 ∷ 0 ∷ []) ∷ (0 ∷ 0 ∷ 0 ∷ 0 ∷ 0x01 ∷ []) ∷ noBits ∷ [])
+bit-numbers : map (λ s. lowestBit s (record { card = s; terminal = zeroCode }))
+    ((0x80 ∷ 0 ∷ 0 ∷ 0 ∷ 0 ∷ []) ∷ (0x01 ∷ 0 ∷ 0 ∷ 0 ∷ 0 ∷ []) ∷ (0 ∷ 0x80 ∷ 0 ∷ 0 ∷ 0 ∷ []) ∷ (0 ∷ 0 ∷ 0 ∷ 0 ∷ 0x01 ∷ []) ∷ zeroCode ∷ [])
     ≡ Bit 0 ∷ Bit 7 ∷ Bit 8 ∷ Bit 39 ∷ NoBit ∷ []
-unfolding lowestBit lowestFrom holdsBit bit both either if
+unfolding lowestBit lowestFrom stageHoldsBit numberedBit both either if
 bit-numbers = refl
 
 -- held by the card's code alone, by the terminal's alone, by neither
 held-bits : map (lowestBit (0x80 ∷ 0 ∷ 0 ∷ 0 ∷ 0 ∷ []))
-    (record { card = 0x80 ∷ 0 ∷ 0 ∷ 0 ∷ 0 ∷ []; terminal = noBits } ∷ record { card = noBits; terminal = 0x80 ∷ 0 ∷ 0 ∷ 0 ∷ 0 ∷ [] }
+    (record { card = 0x80 ∷ 0 ∷ 0 ∷ 0 ∷ 0 ∷ []; terminal = zeroCode } ∷ record { card = zeroCode; terminal = 0x80 ∷ 0 ∷ 0 ∷ 0 ∷ 0 ∷ [] }
     ∷ record { card = 0x7F ∷ 0xFF ∷ 0xFF ∷ 0xFF ∷ 0xFF ∷ []; terminal = 0x7F ∷ 0xFF ∷ 0xFF ∷ 0xFF ∷ 0xFF ∷ [] } ∷ [])
     ≡ Bit 0 ∷ Bit 0 ∷ NoBit ∷ []
-unfolding lowestBit lowestFrom holdsBit bit both either if
+unfolding lowestBit lowestFrom stageHoldsBit numberedBit both either if
 held-bits = refl
 
 -- an absent card code: zeros for denial, ones for online and default
-absent-codes : map (λ s. cardCode s absent) (denial ∷ online ∷ default ∷ [])
+absent-codes : map (λ s. iacCode s absent) (denialStage ∷ onlineStage ∷ defaultStage ∷ [])
     ≡ (0x00 ∷ 0x00 ∷ 0x00 ∷ 0x00 ∷ 0x00 ∷ []) ∷ (0xFF ∷ 0xFF ∷ 0xFF ∷ 0xFF ∷ 0xFF ∷ []) ∷ (0xFF ∷ 0xFF ∷ 0xFF ∷ 0xFF ∷ 0xFF ∷ []) ∷ []
-unfolding cardCode if
+unfolding iacCode if
 absent-codes = refl
 
 -- P1 by the type, 95 of 80 00 00 00 00 and the terminal's codes: for denial, online and default
 abbrev asked : List ℕ → List ℕ → List ℕ → ℕ → ℕ
-asked d o f kind = p1For (0x80 ∷ 0 ∷ 0 ∷ 0 ∷ 0 ∷ []) kind
-    (record { card = noBits; terminal = d } ∷ record { card = noBits; terminal = o } ∷ record { card = noBits; terminal = f } ∷ [])
+asked d o f kind = generateAcP1For (0x80 ∷ 0 ∷ 0 ∷ 0 ∷ 0 ∷ []) kind
+    (record { card = zeroCode; terminal = d } ∷ record { card = zeroCode; terminal = o } ∷ record { card = zeroCode; terminal = f } ∷ [])
 
 -- types that end in 1 to 6, and in 0 and 7, which no session takes
 abbrev endings : List ℕ
 endings = 0x21 ∷ 0x22 ∷ 0x23 ∷ 0x24 ∷ 0x25 ∷ 0x26 ∷ 0x20 ∷ 0x27 ∷ []
 
 -- a bit in no code; in the online code; in the default code; in the denial code and all others
-no-bit : map (asked noBits noBits noBits) endings ≡ 0x80 ∷ 0x40 ∷ 0x40 ∷ 0x80 ∷ 0x40 ∷ 0x40 ∷ 0x00 ∷ 0x00 ∷ []
-unfolding p1For heldAt lowestBit lowestFrom holdsBit bit both either if
+no-bit : map (asked zeroCode zeroCode zeroCode) endings ≡ 0x80 ∷ 0x40 ∷ 0x40 ∷ 0x80 ∷ 0x40 ∷ 0x40 ∷ 0x00 ∷ 0x00 ∷ []
+unfolding generateAcP1For stageHolds lowestBit lowestFrom stageHoldsBit numberedBit both either if
 no-bit = refl
 
-online-bit : map (asked noBits allBits noBits) endings ≡ 0x80 ∷ 0x80 ∷ 0x40 ∷ 0x80 ∷ 0x80 ∷ 0x40 ∷ 0x00 ∷ 0x00 ∷ []
-unfolding p1For heldAt lowestBit lowestFrom holdsBit bit both either if
+online-bit : map (asked zeroCode onesCode zeroCode) endings ≡ 0x80 ∷ 0x80 ∷ 0x40 ∷ 0x80 ∷ 0x80 ∷ 0x40 ∷ 0x00 ∷ 0x00 ∷ []
+unfolding generateAcP1For stageHolds lowestBit lowestFrom stageHoldsBit numberedBit both either if
 online-bit = refl
 
-default-bit : map (asked noBits noBits allBits) endings ≡ 0x80 ∷ 0x40 ∷ 0x00 ∷ 0x80 ∷ 0x40 ∷ 0x00 ∷ 0x00 ∷ 0x00 ∷ []
-unfolding p1For heldAt lowestBit lowestFrom holdsBit bit both either if
+default-bit : map (asked zeroCode zeroCode onesCode) endings ≡ 0x80 ∷ 0x40 ∷ 0x00 ∷ 0x80 ∷ 0x40 ∷ 0x00 ∷ 0x00 ∷ 0x00 ∷ []
+unfolding generateAcP1For stageHolds lowestBit lowestFrom stageHoldsBit numberedBit both either if
 default-bit = refl
 
-denial-bit : map (asked allBits allBits allBits) endings ≡ 0x00 ∷ 0x00 ∷ 0x00 ∷ 0x00 ∷ 0x00 ∷ 0x00 ∷ 0x00 ∷ 0x00 ∷ []
-unfolding p1For heldAt lowestBit lowestFrom holdsBit bit both either if
+denial-bit : map (asked onesCode onesCode onesCode) endings ≡ 0x00 ∷ 0x00 ∷ 0x00 ∷ 0x00 ∷ 0x00 ∷ 0x00 ∷ 0x00 ∷ 0x00 ∷ []
+unfolding generateAcP1For stageHolds lowestBit lowestFrom stageHoldsBit numberedBit both either if
 denial-bit = refl
 
 -- the number of each choice
-choice-numbers : map p1Of (Decline ∷ Offline ∷ Online ∷ []) ≡ 0x00 ∷ 0x40 ∷ 0x80 ∷ []
+choice-numbers : map generateAcP1 (Decline ∷ Offline ∷ Online ∷ []) ≡ 0x00 ∷ 0x40 ∷ 0x80 ∷ []
 choice-numbers = refl
 
 -- ---- the tags that the rules name, in a store of a purchase
 
 -- a store with a value under a tag
 abbrev with : List ℕ → ℕ → List ℕ → List ℕ
-with b t v = putAt rows b (placeOf t) v
+with b t v = putRow dictionaryRows b (rowNumberOf t) v
 
 -- 10.00 on 31 December 2025 at both limits, with a card of the reader's version that expires on that day; type 22, codes of zeros
 abbrev purchase : List ℕ
@@ -264,13 +264,13 @@ purchase =
     0x9A (0x25 ∷ 0x12 ∷ 0x31 ∷ [])) 0x5F24 (0x25 ∷ 0x12 ∷ 0x31 ∷ [])) 0x9C (0x00 ∷ []))
     0x9F02 (0 ∷ 0 ∷ 0 ∷ 0 ∷ 0x10 ∷ 0x00 ∷ [])) 0xDF8123 (0 ∷ 0 ∷ 0 ∷ 0 ∷ 0x10 ∷ 0x00 ∷ [])) 0xDF8124 (0 ∷ 0 ∷ 0 ∷ 0 ∷ 0x10 ∷ 0x00 ∷ []))
     0x9F09 (0x00 ∷ 0x02 ∷ [])) 0x9F1A (0x08 ∷ 0x40 ∷ [])) 0x9F35 (0x22 ∷ []))
-    0xDF8120 noBits) 0xDF8121 noBits) 0xDF8122 noBits
+    0xDF8120 zeroCode) 0xDF8121 zeroCode) 0xDF8122 zeroCode
 
 -- one object more, or changed
 abbrev changed : ℕ → List ℕ → List ℕ
-changed t v = resultOf (with purchase t v)
+changed t v = tvrOf (with purchase t v)
 
-results : resultOf purchase
+results : tvrOf purchase
     ∷ changed 0x9F08 (0x00 ∷ 0x03 ∷ [])
     ∷ changed 0x5F24 (0x25 ∷ 0x12 ∷ 0x30 ∷ [])
     ∷ changed 0x5F25 (0x26 ∷ 0x01 ∷ 0x01 ∷ [])
@@ -284,9 +284,9 @@ results : resultOf purchase
     ∷ (0x80 ∷ 0x10 ∷ 0 ∷ 0x00 ∷ 0 ∷ [])
     ∷ (0x80 ∷ 0x00 ∷ 0 ∷ 0x80 ∷ 0 ∷ [])
     ∷ []
-unfolding resultOf restrictionsOf usageIn otherVersion notYetEffective usageBroken placeMet cashMet goodsMet cashbackMet atAtm countryOf cashback
-    amountAbove amountOf laterThan dateOf yearOf front decimalFrom nibbles alike both either if
-    putAt placeOf valueIn valueAt placeAt held offsetIn find past rows
+unfolding tvrOf restrictionsByte aucViolatedIn versionDiffers notYetEffective aucViolated aucTerminalMet aucCashMet aucGoodsMet aucAllowsCashback atAtm issuerCountryOf cashbackRequested
+    amountAbove amountOf dateLater dateOf yearOf firstBytes bcdFrom nibbles bytesEqual both either if
+    putRow rowNumberOf objectValueIn rowValue rowPlace placeValue rowOffset findRow rowPast dictionaryRows
 results = refl
 
 -- usage: 9F07 lets goods at home be bought at no ATM; then abroad by 5F28, at home by it, with cashback by 9F03, cash by 9C,
@@ -298,7 +298,7 @@ used ((t, v) ∷ more) = with (used more) t v
 abbrev home : ℕ × List ℕ
 home = (0x5F28, 0x08 ∷ 0x40 ∷ [])
 
-usages : map usageIn
+usages : map aucViolatedIn
     (used []
     ∷ used ((0x5F28, 0x08 ∷ 0x26 ∷ []) ∷ [])
     ∷ used (home ∷ [])
@@ -309,32 +309,32 @@ usages : map usageIn
     ∷ used ((0x9F40, 0x80 ∷ 0 ∷ 0 ∷ 0 ∷ 0 ∷ []) ∷ (0x9F35, 0x14 ∷ []) ∷ [])
     ∷ [])
     ≡ false ∷ true ∷ false ∷ true ∷ true ∷ true ∷ false ∷ true ∷ []
-unfolding usageIn usageBroken placeMet cashMet goodsMet cashbackMet atAtm countryOf cashback amountOf front decimalFrom nibbles alike both either if
-    putAt placeOf valueIn valueAt placeAt held offsetIn find past rows
+unfolding aucViolatedIn aucViolated aucTerminalMet aucCashMet aucGoodsMet aucAllowsCashback atAtm issuerCountryOf cashbackRequested amountOf firstBytes bcdFrom nibbles bytesEqual both either if
+    putRow rowNumberOf objectValueIn rowValue rowPlace placeValue rowOffset findRow rowPast dictionaryRows
 usages = refl
 
 -- the transaction limit DF8124: at it, and one above it
 abbrev limited : List ℕ → Bool
-limited b = aboveLimit (limitOf b) b
+limited b = aboveTransactionLimit (transactionLimit b) b
 
 limits : limited purchase ∷ limited (with purchase 0xDF8124 (0 ∷ 0 ∷ 0 ∷ 0 ∷ 0x09 ∷ 0x99 ∷ [])) ∷ [] ≡ false ∷ true ∷ []
-unfolding aboveLimit limitOf phoneIn onDevice both amountAbove amountOf front decimalFrom nibbles if
-    putAt placeOf valueIn valueAt placeAt held offsetIn find past rows
+unfolding aboveTransactionLimit transactionLimit hasOnDeviceCvm onDeviceCvm both amountAbove amountOf firstBytes bcdFrom nibbles if
+    putRow rowNumberOf objectValueIn rowValue rowPlace placeValue rowOffset findRow rowPast dictionaryRows
 limits = refl
 
 -- P1 in that store with the three card codes of zeros, a terminal's type, and a code of ones
 abbrev asks : ℕ → ℕ → ℕ
 asks kind t =
-    p1Of (chosen (with (with (with (with (with purchase 0x9F0E noBits) 0x9F0F noBits) 0x9F0D noBits) 0x9F35 (kind ∷ [])) t allBits) (0x80 ∷ 0 ∷ 0 ∷ 0 ∷ 0 ∷ []))
+    generateAcP1 (choiceFor (with (with (with (with (with purchase 0x9F0E zeroCode) 0x9F0F zeroCode) 0x9F0D zeroCode) 0x9F35 (kind ∷ [])) t onesCode) (0x80 ∷ 0 ∷ 0 ∷ 0 ∷ 0 ∷ []))
 
 -- type 22 by the denial codes 9F0E and DF8121, the online codes 9F0F and DF8122, the default codes 9F0D and DF8120
 codes-22 : map (asks 0x22) (0x9F0E ∷ 0xDF8121 ∷ 0x9F0F ∷ 0xDF8122 ∷ 0x9F0D ∷ 0xDF8120 ∷ []) ≡ 0x00 ∷ 0x00 ∷ 0x80 ∷ 0x80 ∷ 0x40 ∷ 0x40 ∷ []
-unfolding chosen codesOf cardCode choiceOf capabilityAt heldAt lowestBit lowestFrom holdsBit bit front both either if
-    putAt placeOf valueIn valueAt placeAt held offsetIn find past rows
+unfolding choiceFor actionCodesOf iacCode choiceOf onlineCapabilityAt stageHolds lowestBit lowestFrom stageHoldsBit numberedBit firstBytes both either if
+    putRow rowNumberOf objectValueIn rowValue rowPlace placeValue rowOffset findRow rowPast dictionaryRows
 codes-22 = refl
 
 -- type 23 by the same
 codes-23 : map (asks 0x23) (0x9F0E ∷ 0xDF8121 ∷ 0x9F0F ∷ 0xDF8122 ∷ 0x9F0D ∷ 0xDF8120 ∷ []) ≡ 0x00 ∷ 0x00 ∷ 0x40 ∷ 0x40 ∷ 0x00 ∷ 0x00 ∷ []
-unfolding chosen codesOf cardCode choiceOf capabilityAt heldAt lowestBit lowestFrom holdsBit bit front both either if
-    putAt placeOf valueIn valueAt placeAt held offsetIn find past rows
+unfolding choiceFor actionCodesOf iacCode choiceOf onlineCapabilityAt stageHolds lowestBit lowestFrom stageHoldsBit numberedBit firstBytes both either if
+    putRow rowNumberOf objectValueIn rowValue rowPlace placeValue rowOffset findRow rowPast dictionaryRows
 codes-23 = refl

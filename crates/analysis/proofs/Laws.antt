@@ -8,38 +8,38 @@ use Prim.Native.Nat.{ℕ, zero, suc, _<_, _≤_, _-_, _^_}
 use native.Mathlib.Omega.{arith}
 use lib.ListN.{length, getD}
 use Rattle.basics.specs.Choice.{if}
-use Rattle.store.specs.Place.{valueOf}
-use Rattle.analysis.specs.Action.{phoneIn, limitOf, restrictionsOf, resultOf, fullResult, findingsOf}
-use Rattle.analysis.specs.Bits.{worth}
-use Rattle.analysis.specs.Choice.{lastDigit, capabilityAt, choiceBy, choiceOf, p1Of, p1For}
-use Rattle.analysis.specs.Digits.{oneOf, amountAbove}
-use Rattle.analysis.specs.Restrictions.{restrictionBits}
-use Rattle.analysis.specs.Result.{floorBits, withBits}
-use Rattle.analysis.specs.declared.choice.Pair.{Pair}
-use Rattle.analysis.specs.declared.choice.Capability.the-variants.{OnlineOnly, OnlineCapable, OfflineOnly, Unlisted}
+use Rattle.store.specs.Place.{objectValue}
+use Rattle.analysis.specs.Action.{hasOnDeviceCvm, transactionLimit, restrictionsByte, tvrOf, tvrWithCvm, findingsOf}
+use Rattle.analysis.specs.Bits.{bitWeight}
+use Rattle.analysis.specs.Choice.{typeLastDigit, onlineCapabilityAt, choiceBy, choiceOf, generateAcP1, generateAcP1For}
+use Rattle.analysis.specs.Digits.{isOneOf, amountAbove}
+use Rattle.analysis.specs.Restrictions.{tvrByte2}
+use Rattle.analysis.specs.Tvr.{tvrByte4, tvrWithBits}
+use Rattle.analysis.specs.declared.choice.ActionCodes.{ActionCodes}
+use Rattle.analysis.specs.declared.choice.OnlineCapability.the-variants.{OnlineOnly, OnlineCapable, OfflineOnly, Unlisted}
 use Rattle.analysis.specs.declared.choice.Choice.{Choice}
 use Rattle.analysis.specs.declared.choice.Choice.the-variants.{Decline, Online, Offline}
 use Rattle.analysis.proofs.Listed.{is-none, one-is}
 
 -- a bit adds at most its weight
-worth-most : (b : ℕ) (t : Bool) → worth b t ≤ 2 ^ (b - 1)
+bit-weight-most : (b : ℕ) (t : Bool) → bitWeight b t ≤ 2 ^ (b - 1)
 unfolding if
-worth-most b true = omega arith
-worth-most b false = omega arith
+bit-weight-most b true = omega arith
+bit-weight-most b false = omega arith
 
-restriction-byte : (version expired early usage : Bool) → restrictionBits version expired early usage < 256
-restriction-byte v x e u = omega (arith, worth-most 8 v, worth-most 7 x, worth-most 6 e, worth-most 5 u)
+restriction-byte : (version expired early usage : Bool) → tvrByte2 version expired early usage < 256
+restriction-byte v x e u = omega (arith, bit-weight-most 8 v, bit-weight-most 7 x, bit-weight-most 6 e, bit-weight-most 5 u)
 
-floor-byte : (amount limit : List ℕ) → floorBits amount limit < 256
-floor-byte a l = omega (arith, worth-most 8 (amountAbove a l))
+floor-byte : (amount limit : List ℕ) → tvrByte4 amount limit < 256
+floor-byte a l = omega (arith, bit-weight-most 8 (amountAbove a l))
 
-restrictions-byte : (store : List ℕ) → restrictionsOf store < 256
-unfolding restrictionsOf
+restrictions-byte : (store : List ℕ) → restrictionsByte store < 256
+unfolding restrictionsByte
 restrictions-byte store = restriction-byte _ _ _ _
 
 module _ (store : List ℕ) where
-  pub result-length : length (resultOf store) ≡ 5
-  unfolding resultOf
+  pub result-length : length (tvrOf store) ≡ 5
+  unfolding tvrOf
   result-length = refl
 
   -- 9F34 has three bytes, and 95 five
@@ -48,16 +48,16 @@ module _ (store : List ℕ) where
   found-length = refl
 
   pub bits-length : length (findingsOf store .bits) ≡ 5
-  unfolding findingsOf fullResult withBits resultOf
+  unfolding findingsOf tvrWithCvm tvrWithBits tvrOf
   bits-length = refl
 
   -- byte 1 b8 is always set, and alone
-  pub result-first : getD (resultOf store) 0 0 ≡ 0x80
-  unfolding resultOf
+  pub result-first : getD (tvrOf store) 0 0 ≡ 0x80
+  unfolding tvrOf
   result-first = refl
 
-  pub result-bytes : (i : ℕ) → getD (resultOf store) i 0 < 256
-  unfolding resultOf
+  pub result-bytes : (i : ℕ) → getD (tvrOf store) i 0 < 256
+  unfolding tvrOf
   result-bytes zero = omega arith
   result-bytes (suc zero) = restrictions-byte store
   result-bytes (suc (suc zero)) = omega arith
@@ -65,7 +65,7 @@ module _ (store : List ℕ) where
   result-bytes (suc (suc (suc (suc zero)))) = omega arith
   result-bytes (suc (suc (suc (suc (suc i))))) = omega arith
 
-pub p1-cases : (c : Choice) → (p1Of c ≡ 0x00) ⊎ ((p1Of c ≡ 0x40) ⊎ (p1Of c ≡ 0x80))
+pub p1-cases : (c : Choice) → (generateAcP1 c ≡ 0x00) ⊎ ((generateAcP1 c ≡ 0x40) ⊎ (generateAcP1 c ≡ 0x80))
 p1-cases Decline = inl refl
 p1-cases Offline = inr (inl refl)
 p1-cases Online = inr (inr refl)
@@ -74,7 +74,7 @@ p1-cases Online = inr (inr refl)
 
 -- by the digit's tests, of which the last two exclude each other, and by whether denial, online and default hold a bit
 p1-by : (a b c h o d : Bool) → (b ≡ true → c ≡ false)
-    → p1Of (choiceBy (if a OnlineOnly (if b OnlineCapable (if c OfflineOnly Unlisted))) h o d)
+    → generateAcP1 (choiceBy (if a OnlineOnly (if b OnlineCapable (if c OfflineOnly Unlisted))) h o d)
     ≡ if h 0x00 (if a 0x80 (if c (if d 0x00 0x40) (if b (if o 0x80 0x40) 0x00)))
 unfolding if
 p1-by true b c true o d n = refl
@@ -89,7 +89,7 @@ p1-by false false true false o false n = refl
 p1-by false false false true o d n = refl
 p1-by false false false false o d n = refl
 
-one-ending : (x : ℕ) → oneOf x 2 5 ≡ true → oneOf x 3 6 ≡ false
+one-ending : (x : ℕ) → isOneOf x 2 5 ≡ true → isOneOf x 3 6 ≡ false
 one-ending x e =
     is-none x 3 6
     (λ z. elim (one-is x 2 5 e) [
@@ -97,17 +97,17 @@ one-ending x e =
       | inr p ↦ elim z [ inl q ↦ omega arith | inr q ↦ omega arith ]
     ])
 
-pub p1-is : (result : List ℕ) (kind : ℕ) (pairs : List Pair) → p1Of (choiceOf result kind pairs) ≡ p1For result kind pairs
-unfolding choiceOf p1For capabilityAt
-p1-is result kind pairs = p1-by _ _ _ _ _ _ (one-ending (lastDigit kind))
+pub p1-is : (result : List ℕ) (kind : ℕ) (pairs : List ActionCodes) → generateAcP1 (choiceOf result kind pairs) ≡ generateAcP1For result kind pairs
+unfolding choiceOf generateAcP1For onlineCapabilityAt
+p1-is result kind pairs = p1-by _ _ _ _ _ _ (one-ending (typeLastDigit kind))
 
 -- what is handed back, and its number
-pub asks : (result : List ℕ) (kind : ℕ) (pairs : List Pair) {r : Choice} → r ≡ choiceOf result kind pairs
-    → (r ≡ choiceOf result kind pairs) × (p1Of r ≡ p1For result kind pairs)
-asks result kind pairs e = (e, ap p1Of e ∙ p1-is result kind pairs)
+pub asks : (result : List ℕ) (kind : ℕ) (pairs : List ActionCodes) {r : Choice} → r ≡ choiceOf result kind pairs
+    → (r ≡ choiceOf result kind pairs) × (generateAcP1 r ≡ generateAcP1For result kind pairs)
+asks result kind pairs e = (e, ap generateAcP1 e ∙ p1-is result kind pairs)
 
 -- the limit in force goes by 82, DF811B, DF8124 and DF8125 alone
-pub limit-same : (b c : List ℕ) → valueOf b 0x82 ≡ valueOf c 0x82 → valueOf b 0xDF811B ≡ valueOf c 0xDF811B
-    → valueOf b 0xDF8124 ≡ valueOf c 0xDF8124 → valueOf b 0xDF8125 ≡ valueOf c 0xDF8125 → limitOf b ≡ limitOf c
-unfolding limitOf phoneIn
+pub limit-same : (b c : List ℕ) → objectValue b 0x82 ≡ objectValue c 0x82 → objectValue b 0xDF811B ≡ objectValue c 0xDF811B
+    → objectValue b 0xDF8124 ≡ objectValue c 0xDF8124 → objectValue b 0xDF8125 ≡ objectValue c 0xDF8125 → transactionLimit b ≡ transactionLimit c
+unfolding transactionLimit hasOnDeviceCvm
 limit-same b c p k l m = simp (p, k, l, m)

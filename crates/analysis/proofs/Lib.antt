@@ -8,9 +8,9 @@ pub mod Listed
 pub mod Lowest
 pub mod Stages
 pub mod Value
-pub mod VerificationExamples
-pub mod VerificationLaws
-pub mod VerificationSteps
-pub mod VerificationStore
+pub mod CvmExamples
+pub mod CvmLaws
+pub mod CvmSteps
+pub mod CvmStore
 pub mod FindingsExamples
-pub mod PhoneExamples
+pub mod OnDeviceExamples

@@ -8,7 +8,7 @@ use native.Mathlib.Nat.{eq-or-lt-of-le, le-refl}
 use native.Mathlib.Omega.{arith}
 use Rattle.basics.proofs.Laws.{if-yes, if-no, bool-cases}
 use Rattle.analysis.specs.Choice.{lowestFrom}
-use Rattle.analysis.specs.declared.choice.Lowest.the-variants.{Bit, NoBit}
+use Rattle.analysis.specs.declared.choice.LowestBit.the-variants.{Bit, NoBit}
 
 -- what is known of the lowest of the n numbers from i on
 pub record Found (f : ℕ → Bool) (n i k : ℕ) : Type 0 where

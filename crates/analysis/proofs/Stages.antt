@@ -10,57 +10,57 @@ use native.Mathlib.Omega.{arith}
 use lib.ListN.{getD}
 use Rattle.basics.proofs.Order.{le-or-gt}
 use Rattle.basics.specs.Choice.{if, both, either}
-use Rattle.analysis.specs.Bits.{bit, bitIn}
-use Rattle.analysis.specs.Choice.{holdsBit, lowestFrom, lowestBit, heldAt, capabilityOf, choiceBy, choiceOf}
-use Rattle.analysis.specs.Inner.{heldIn, consulted, forcedAt, unforcedAt}
-use Rattle.analysis.specs.declared.choice.Lowest.the-variants.{Bit, NoBit}
-use Rattle.analysis.specs.declared.choice.Pair.{Pair}
-use Rattle.analysis.specs.declared.choice.Capability.the-variants.{OnlineOnly, OnlineCapable, OfflineOnly, Unlisted}
-use Rattle.analysis.specs.declared.choice.Capability.{Capability}
+use Rattle.analysis.specs.Bits.{numberedBit, byteBit}
+use Rattle.analysis.specs.Choice.{stageHoldsBit, lowestFrom, lowestBit, stageHolds, onlineCapabilityOf, choiceBy, choiceOf}
+use Rattle.analysis.specs.Inner.{bitHeldIn, stageConsulted, forcedChoice, unforcedChoice}
+use Rattle.analysis.specs.declared.choice.LowestBit.the-variants.{Bit, NoBit}
+use Rattle.analysis.specs.declared.choice.ActionCodes.{ActionCodes}
+use Rattle.analysis.specs.declared.choice.OnlineCapability.the-variants.{OnlineOnly, OnlineCapable, OfflineOnly, Unlisted}
+use Rattle.analysis.specs.declared.choice.OnlineCapability.{OnlineCapability}
 use Rattle.analysis.proofs.Lowest.{Found, lowest-is, lowest-none, found, none-passes}
 
 -- bit k of byte i, both counted from 0
-pub bit-at : (s : List ℕ) (i k : ℕ) → k < 8 → bit s (i * 8 + k) ≡ bitIn (getD s i 0) (8 - k)
-unfolding bit
+pub bit-at : (s : List ℕ) (i k : ℕ) → k < 8 → numberedBit s (i * 8 + k) ≡ byteBit (getD s i 0) (8 - k)
+unfolding numberedBit
 bit-at s i k h =
     let e : (i * 8 + k) / 8 + 1 - 1 ≡ i = omega arith in
     let d : 8 - (i * 8 + k) % 8 ≡ 8 - k = omega arith in
-    ap₂ (λ (j b : ℕ). bitIn (getD s j 0) b) e d
+    ap₂ (λ (j b : ℕ). byteBit (getD s j 0) b) e d
 
 -- what is known of the lowest bit that a stage holds
-pub lowest-held : (result : List ℕ) (pair : Pair) (k : ℕ) → lowestBit result pair ≡ Bit k → Found (holdsBit result pair) 40 0 k
+pub lowest-held : (result : List ℕ) (pair : ActionCodes) (k : ℕ) → lowestBit result pair ≡ Bit k → Found (stageHoldsBit result pair) 40 0 k
 unfolding lowestBit
-lowest-held result pair k e = found (holdsBit result pair) 40 0 k e
+lowest-held result pair k e = found (stageHoldsBit result pair) 40 0 k e
 
-pub none-held : (result : List ℕ) (pair : Pair) → lowestBit result pair ≡ NoBit → (m : ℕ) → m < 40 → holdsBit result pair m ≡ false
+pub none-held : (result : List ℕ) (pair : ActionCodes) → lowestBit result pair ≡ NoBit → (m : ℕ) → m < 40 → stageHoldsBit result pair m ≡ false
 unfolding lowestBit
-none-held result pair e m h = none-passes (holdsBit result pair) 40 0 e m (omega arith) (omega arith)
+none-held result pair e m h = none-passes (stageHoldsBit result pair) 40 0 e m (omega arith) (omega arith)
 
-module _ (result : List ℕ) (pair : Pair) where
+module _ (result : List ℕ) (pair : ActionCodes) where
   -- no bit below n is held
   abbrev pub Clear : ℕ → Type 0
-  Clear n = (m : ℕ) → m < n → holdsBit result pair m ≡ false
+  Clear n = (m : ℕ) → m < n → stageHoldsBit result pair m ≡ false
 
   -- byte i of the result and of the two codes
   abbrev pub at-byte : ℕ → ℕ → Bool
-  at-byte i = heldIn (getD result i 0) (getD (pair .card) i 0) (getD (pair .terminal) i 0)
+  at-byte i = bitHeldIn (getD result i 0) (getD (pair .card) i 0) (getD (pair .terminal) i 0)
 
-  held-at : (i k : ℕ) → k < 8 → holdsBit result pair (i * 8 + k) ≡ at-byte i k
-  unfolding holdsBit heldIn
+  held-at : (i k : ℕ) → k < 8 → stageHoldsBit result pair (i * 8 + k) ≡ at-byte i k
+  unfolding stageHoldsBit bitHeldIn
   held-at i k h = simp (bit-at result i k h, bit-at (pair .card) i k h, bit-at (pair .terminal) i k h)
 
   -- the same at a bit's number
-  held-of : (i m : ℕ) → i * 8 ≤ m → m < i * 8 + 8 → holdsBit result pair m ≡ at-byte i (m - i * 8)
+  held-of : (i m : ℕ) → i * 8 ≤ m → m < i * 8 + 8 → stageHoldsBit result pair m ≡ at-byte i (m - i * 8)
   held-of i m u v =
       let e : m ≡ i * 8 + (m - i * 8) = omega arith in
-      ap (holdsBit result pair) e ∙ held-at i (m - i * 8) (omega arith)
+      ap (stageHoldsBit result pair) e ∙ held-at i (m - i * 8) (omega arith)
 
   -- the bytes before are clear, and this one has a bit: it is the lowest
   pub byte-found : (i k : ℕ) → i < 5 → Clear (i * 8) → lowestFrom (at-byte i) 0 8 ≡ Bit k → lowestBit result pair ≡ Bit (i * 8 + k)
   unfolding lowestBit
   byte-found i k h clear e =
       let r = found (at-byte i) 8 0 k e in
-      lowest-is (holdsBit result pair) 40 0 (i * 8 + k)
+      lowest-is (stageHoldsBit result pair) 40 0 (i * 8 + k)
       (record {
         least = omega arith;
         within = omega arith;
@@ -78,24 +78,24 @@ module _ (result : List ℕ) (pair : Pair) where
 
   pub all-clear : Clear 40 → lowestBit result pair ≡ NoBit
   unfolding lowestBit
-  all-clear clear = lowest-none (holdsBit result pair) 40 0 (λ m u v. clear m (omega arith))
+  all-clear clear = lowest-none (stageHoldsBit result pair) 40 0 (λ m u v. clear m (omega arith))
 
-nothing-in-zero : (card terminal m : ℕ) → heldIn 0 card terminal m ≡ false
-unfolding heldIn both
+nothing-in-zero : (card terminal m : ℕ) → bitHeldIn 0 card terminal m ≡ false
+unfolding bitHeldIn both
 nothing-in-zero card terminal m = simp zero-div
 
 -- a zero byte of the result holds nothing
-pub zero-byte : (card terminal : ℕ) → lowestFrom (heldIn 0 card terminal) 0 8 ≡ NoBit
-zero-byte card terminal = lowest-none (heldIn 0 card terminal) 8 0 (λ m u v. nothing-in-zero card terminal m)
+pub zero-byte : (card terminal : ℕ) → lowestFrom (bitHeldIn 0 card terminal) 0 8 ≡ NoBit
+zero-byte card terminal = lowest-none (bitHeldIn 0 card terminal) 8 0 (λ m u v. nothing-in-zero card terminal m)
 
 -- ---- the stages
 
 -- no stage before s is consulted and holds a bit
-abbrev pub Unforced : Capability → (ℕ → Bool) → ℕ → Type 0
-Unforced r h s = (m : ℕ) → m < s → both (consulted r m) (h m) ≡ false
+abbrev pub Unforced : OnlineCapability → (ℕ → Bool) → ℕ → Type 0
+Unforced r h s = (m : ℕ) → m < s → both (stageConsulted r m) (h m) ≡ false
 
 -- the first stage that is consulted and holds a bit forces the choice
-by-stage : (r : Capability) (h : ℕ → Bool) (s : ℕ) → s < 3 → consulted r s ≡ true → h s ≡ true → Unforced r h s → choiceBy r (h 0) (h 1) (h 2) ≡ forcedAt s
+by-stage : (r : OnlineCapability) (h : ℕ → Bool) (s : ℕ) → s < 3 → stageConsulted r s ≡ true → h s ≡ true → Unforced r h s → choiceBy r (h 0) (h 1) (h 2) ≡ forcedChoice s
 unfolding if both either
 by-stage r h zero l c e before = rw e
 by-stage OnlineOnly h (suc zero) l c e before = cc
@@ -109,7 +109,7 @@ by-stage Unlisted h (suc (suc zero)) l c e before = cc
 by-stage r h (suc (suc (suc s))) l c e before = absurd (omega arith)
 
 -- where none is, the type alone gives it
-by-type : (r : Capability) (h : ℕ → Bool) → Unforced r h 3 → choiceBy r (h 0) (h 1) (h 2) ≡ unforcedAt r
+by-type : (r : OnlineCapability) (h : ℕ → Bool) → Unforced r h 3 → choiceBy r (h 0) (h 1) (h 2) ≡ unforcedChoice r
 unfolding both either
 by-type OnlineOnly h none = let z : h 0 ≡ false = none 0 (omega arith) in rw z
 by-type OnlineCapable h none =
@@ -122,11 +122,11 @@ by-type OfflineOnly h none =
     rw (z, d)
 by-type Unlisted h none = let z : h 0 ≡ false = none 0 (omega arith) in rw z
 
-module _ (result : List ℕ) (kind : ℕ) (pairs : List Pair) (r : Capability) (is : r ≡ capabilityOf kind) where
-  pub choice-by-stage : (s : ℕ) → s < 3 → consulted r s ≡ true → heldAt result pairs s ≡ true → Unforced r (heldAt result pairs) s → choiceOf result kind pairs ≡ forcedAt s
+module _ (result : List ℕ) (kind : ℕ) (pairs : List ActionCodes) (r : OnlineCapability) (is : r ≡ onlineCapabilityOf kind) where
+  pub choice-by-stage : (s : ℕ) → s < 3 → stageConsulted r s ≡ true → stageHolds result pairs s ≡ true → Unforced r (stageHolds result pairs) s → choiceOf result kind pairs ≡ forcedChoice s
   unfolding choiceOf
-  choice-by-stage s l c e before = rw (← is) (by-stage r (heldAt result pairs) s l c e before)
+  choice-by-stage s l c e before = rw (← is) (by-stage r (stageHolds result pairs) s l c e before)
 
-  pub choice-by-type : Unforced r (heldAt result pairs) 3 → choiceOf result kind pairs ≡ unforcedAt r
+  pub choice-by-type : Unforced r (stageHolds result pairs) 3 → choiceOf result kind pairs ≡ unforcedChoice r
   unfolding choiceOf
-  choice-by-type none = rw (← is) (by-type r (heldAt result pairs) none)
+  choice-by-type none = rw (← is) (by-type r (stageHolds result pairs) none)

@@ -9,17 +9,17 @@ use Rattle.basics.specs.Choice.{if_then_else_}
 use Rattle.basics.specs.Number.{hasBit}
 
 -- bit b of a byte is set: b8 is the highest, b1 the lowest
-abbrev pub bitIn : ℕ → ℕ → Bool
-bitIn x b = hasBit x (2 ^ (b - 1))
+abbrev pub byteBit : ℕ → ℕ → Bool
+byteBit x b = hasBit x (2 ^ (b - 1))
 
 -- what bit b adds to a byte where a test sets it
-abbrev pub worth : ℕ → Bool → ℕ
-worth b set = if set then 2 ^ (b - 1) else 0
+abbrev pub bitWeight : ℕ → Bool → ℕ
+bitWeight b set = if set then 2 ^ (b - 1) else 0
 
 -- bit b of byte n of a value is set: the first byte is byte 1; past the end no bit is set
-abbrev pub has : List ℕ → ℕ → ℕ → Bool
-has s n b = bitIn (getD s (n - 1) 0) b
+abbrev pub valueHasBit : List ℕ → ℕ → ℕ → Bool
+valueHasBit s n b = byteBit (getD s (n - 1) 0) b
 
 -- bit i is set, counted from byte 1 b8 as bit 0: byte 5 b1 is bit 39
-unfoldable pub bit : List ℕ → ℕ → Bool
-bit s i = has s (i / 8 + 1) (8 - i % 8)
+unfoldable pub numberedBit : List ℕ → ℕ → Bool
+numberedBit s i = valueHasBit s (i / 8 + 1) (8 - i % 8)

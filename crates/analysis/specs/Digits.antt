@@ -7,24 +7,24 @@ use Prim.Native.Nat.{ℕ, _+_, _*_}
 use lib.ListN.{drop}
 use Rattle.basics.specs.Choice.{if_then_else_, _or_, _<?_, _=?_}
 use Rattle.basics.specs.Number.{nibbles}
-use Rattle.analysis.specs.Value.{front}
+use Rattle.analysis.specs.Value.{firstBytes}
 
 -- a digit, or a type written in digits, is one of two
-abbrev pub oneOf : ℕ → ℕ → ℕ → Bool
-oneOf x a b = x =? a or x =? b
+abbrev pub isOneOf : ℕ → ℕ → ℕ → Bool
+isOneOf x a b = x =? a or x =? b
 
 -- the digits s behind the number n
-unfoldable pub decimalFrom : ℕ → List ℕ → ℕ
-decimalFrom n [] = n
-decimalFrom n (d ∷ s) = decimalFrom (n * 10 + d) s
+unfoldable pub bcdFrom : ℕ → List ℕ → ℕ
+bcdFrom n [] = n
+bcdFrom n (d ∷ s) = bcdFrom (n * 10 + d) s
 
 -- bytes of two digits each as one decimal number, the first digit the highest
-abbrev pub decimal : List ℕ → ℕ
-decimal s = decimalFrom 0 (nibbles s)
+abbrev pub bcdNumber : List ℕ → ℕ
+bcdNumber s = bcdFrom 0 (nibbles s)
 
 -- the two digits of a date's year
 abbrev pub yearDigits : List ℕ → ℕ
-yearDigits s = decimal (front 1 s)
+yearDigits s = bcdNumber (firstBytes 1 s)
 
 -- the year of two digits: 00 to 49 are 2000 to 2049, 50 to 99 are 1950 to 1999
 unfoldable pub yearOf : ℕ → ℕ
@@ -34,15 +34,15 @@ yearOf yy =
 
 -- a date, three bytes YYMMDD, as a number of eight digits, YYYYMMDD; month and day are not checked
 unfoldable pub dateOf : List ℕ → ℕ
-dateOf s = yearOf (yearDigits s) * 10000 + decimal (drop 1 (front 3 s))
+dateOf s = yearOf (yearDigits s) * 10000 + bcdNumber (drop 1 (firstBytes 3 s))
 
 -- date a is later than date b; an equal one is not
-unfoldable pub laterThan : List ℕ → List ℕ → Bool
-laterThan a b = dateOf b <? dateOf a
+unfoldable pub dateLater : List ℕ → List ℕ → Bool
+dateLater a b = dateOf b <? dateOf a
 
 -- an amount, six bytes, as a number of twelve digits
 unfoldable pub amountOf : List ℕ → ℕ
-amountOf s = decimal (front 6 s)
+amountOf s = bcdNumber (firstBytes 6 s)
 
 -- amount a is above amount b; an equal one is not
 unfoldable pub amountAbove : List ℕ → List ℕ → Bool

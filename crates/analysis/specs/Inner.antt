@@ -8,53 +8,53 @@ use mathlib.Core.List.{List, [], _∷_}
 use Prim.Native.Nat.{ℕ, _+_, _-_, _*_, _/_, _%_}
 use lib.ListN.{getD}
 use Rattle.basics.specs.Choice.{if_then_else_, _and_, _or_, _=?_}
-use Rattle.analysis.specs.Bits.{bitIn}
-use Rattle.analysis.specs.Choice.{denial, online, default}
-use Rattle.analysis.specs.Digits.{decimal}
-use Rattle.analysis.specs.declared.choice.Capability.{Capability}
-use Rattle.analysis.specs.declared.choice.Capability.the-variants.{OnlineOnly, OnlineCapable}
-use Rattle.analysis.specs.declared.choice.Capability.the-variants.{OfflineOnly, Unlisted}
+use Rattle.analysis.specs.Bits.{byteBit}
+use Rattle.analysis.specs.Choice.{denialStage, onlineStage, defaultStage}
+use Rattle.analysis.specs.Digits.{bcdNumber}
+use Rattle.analysis.specs.declared.choice.OnlineCapability.{OnlineCapability}
+use Rattle.analysis.specs.declared.choice.OnlineCapability.the-variants.{OnlineOnly, OnlineCapable}
+use Rattle.analysis.specs.declared.choice.OnlineCapability.the-variants.{OfflineOnly, Unlisted}
 use Rattle.analysis.specs.declared.choice.Choice.{Choice}
 use Rattle.analysis.specs.declared.choice.Choice.the-variants.{Decline, Online, Offline}
 
 -- ---- digits
 
 -- the two digits of one byte
-unfoldable pub twoDigits : ℕ → ℕ
-twoDigits b = b / 16 * 10 + b % 16
+unfoldable pub bcdByte : ℕ → ℕ
+bcdByte b = b / 16 * 10 + b % 16
 
 -- the six digits of the three bytes from a place on
-abbrev pub sixDigits : List ℕ → ℕ → ℕ
-sixDigits s i = decimal (getD s i 0 ∷ getD s (i + 1) 0 ∷ getD s (i + 2) 0 ∷ [])
+abbrev pub bcdThreeBytes : List ℕ → ℕ → ℕ
+bcdThreeBytes s i = bcdNumber (getD s i 0 ∷ getD s (i + 1) 0 ∷ getD s (i + 2) 0 ∷ [])
 
 -- ---- the bits of a byte
 
 -- bit k of a byte of the result is in the card's code or the terminal's: 0 is b8, 7 is b1
-unfoldable pub heldIn : ℕ → ℕ → ℕ → ℕ → Bool
-heldIn result card terminal k = bitIn result (8 - k) and (bitIn card (8 - k) or bitIn terminal (8 - k))
+unfoldable pub bitHeldIn : ℕ → ℕ → ℕ → ℕ → Bool
+bitHeldIn result card terminal k = byteBit result (8 - k) and (byteBit card (8 - k) or byteBit terminal (8 - k))
 
 -- ---- the choice, stage by stage
 
 -- the stage that a type consults after denial
-abbrev pub laterStage : Capability → ℕ → Bool
+abbrev pub laterStage : OnlineCapability → ℕ → Bool
 laterStage OnlineOnly stage = false
-laterStage OnlineCapable stage = stage =? online
-laterStage OfflineOnly stage = stage =? default
+laterStage OnlineCapable stage = stage =? onlineStage
+laterStage OfflineOnly stage = stage =? defaultStage
 laterStage Unlisted stage = false
 
 -- a stage is consulted: denial by every type
-abbrev pub consulted : Capability → ℕ → Bool
-consulted r stage = stage =? denial or laterStage r stage
+abbrev pub stageConsulted : OnlineCapability → ℕ → Bool
+stageConsulted r stage = stage =? denialStage or laterStage r stage
 
 -- what a bit held at a stage forces
-abbrev pub forcedAt : ℕ → Choice
-forcedAt stage =
-    if stage =? online then Online
+abbrev pub forcedChoice : ℕ → Choice
+forcedChoice stage =
+    if stage =? onlineStage then Online
     else Decline
 
 -- what is asked for where no stage that is consulted holds a bit
-abbrev pub unforcedAt : Capability → Choice
-unforcedAt OnlineOnly = Online
-unforcedAt OnlineCapable = Offline
-unforcedAt OfflineOnly = Offline
-unforcedAt Unlisted = Decline
+abbrev pub unforcedChoice : OnlineCapability → Choice
+unforcedChoice OnlineOnly = Online
+unforcedChoice OnlineCapable = Offline
+unforcedChoice OfflineOnly = Offline
+unforcedChoice Unlisted = Decline

@@ -4,6 +4,6 @@ pub mod Choice
 pub mod Digits
 pub mod Inner
 pub mod Restrictions
-pub mod Result
+pub mod Tvr
 pub mod Value
-pub mod Verification
+pub mod Cvm

@@ -1,105 +1,105 @@
 -- Restrictions, byte 2 of 95 (document 01, "Result bits and the choice"; Book C-2, 7.7): version, dates and usage.
--- What a session holds when the bits are made comes as its bytes, what may be missing as a `Value`.
+-- What a session holds when the bits are made comes as its bytes, what may be missing as a `StoredValue`.
 -- Assumes nothing.
 use mathlib.Core.Bool.{Bool, true, false, not}
 use mathlib.Core.List.{List}
 use Prim.Native.Nat.{ℕ, _+_}
 use Rattle.basics.specs.Choice.{if_then_else_, _and_, _or_, _<?_, _=?_}
-use Rattle.analysis.specs.Bits.{has, worth}
-use Rattle.analysis.specs.Digits.{oneOf, laterThan, amountOf}
-use Rattle.store.specs.Place.{Value, absent, present}
-use Rattle.basics.specs.Alike.{alike}
-use Rattle.analysis.specs.declared.restrictions.Country.{Country}
-use Rattle.analysis.specs.declared.restrictions.Country.the-variants.{Home, Abroad, NotGiven}
+use Rattle.analysis.specs.Bits.{valueHasBit, bitWeight}
+use Rattle.analysis.specs.Digits.{isOneOf, dateLater, amountOf}
+use Rattle.store.specs.Place.{StoredValue, absent, present}
+use Rattle.basics.specs.Alike.{bytesEqual}
+use Rattle.analysis.specs.declared.restrictions.IssuerCountry.{IssuerCountry}
+use Rattle.analysis.specs.declared.restrictions.IssuerCountry.the-variants.{Home, Abroad, NotGiven}
 
 -- b8: the card's application version 9F08 is there and unlike the reader's 9F09
-unfoldable pub otherVersion : Value → List ℕ → Bool
-otherVersion absent reader = false
-otherVersion (present card) reader = not (alike card reader)
+unfoldable pub versionDiffers : StoredValue → List ℕ → Bool
+versionDiffers absent reader = false
+versionDiffers (present card) reader = not (bytesEqual card reader)
 
 -- b7: the transaction date 9A is later than the expiration date 5F24
-abbrev pub expired : List ℕ → List ℕ → Bool
-expired today expiration = laterThan today expiration
+abbrev pub applicationExpired : List ℕ → List ℕ → Bool
+applicationExpired today expiration = dateLater today expiration
 
 -- b6: the effective date 5F25 is there and later than the transaction date 9A
-unfoldable pub notYetEffective : Value → List ℕ → Bool
+unfoldable pub notYetEffective : StoredValue → List ℕ → Bool
 notYetEffective absent today = false
-notYetEffective (present effective) today = laterThan effective today
+notYetEffective (present effective) today = dateLater effective today
 
 -- ---- b5: usage
 
 -- a terminal type, 9F35, of an ATM
-abbrev pub atmType : ℕ → Bool
-atmType kind = kind =? 0x14 or kind =? 0x15 or kind =? 0x16
+abbrev pub isAtmType : ℕ → Bool
+isAtmType kind = kind =? 0x14 or kind =? 0x15 or kind =? 0x16
 
 -- at an ATM: such a type, and the additional capabilities 9F40 there with byte 1 b8, cash
-unfoldable pub atAtm : ℕ → Value → Bool
+unfoldable pub atAtm : ℕ → StoredValue → Bool
 atAtm kind absent = false
-atAtm kind (present capabilities) = atmType kind and has capabilities 1 8
+atAtm kind (present capabilities) = isAtmType kind and valueHasBit capabilities 1 8
 
 -- home where the issuer's country 5F28 is the terminal's 9F1A, else abroad; not given where 5F28 is absent
-unfoldable pub countryOf : Value → List ℕ → Country
-countryOf absent terminal = NotGiven
-countryOf (present issuer) terminal =
-    if alike issuer terminal then Home
+unfoldable pub issuerCountryOf : StoredValue → List ℕ → IssuerCountry
+issuerCountryOf absent terminal = NotGiven
+issuerCountryOf (present issuer) terminal =
+    if bytesEqual issuer terminal then Home
     else Abroad
 
 -- cashback is asked for: the other amount 9F03 is there and not zero
-unfoldable pub cashback : Value → Bool
-cashback absent = false
-cashback (present other) = 0 <? amountOf other
+unfoldable pub cashbackRequested : StoredValue → Bool
+cashbackRequested absent = false
+cashbackRequested (present other) = 0 <? amountOf other
 
 -- what is needed at home, and what abroad; nothing where the country is not given
-abbrev pub byCountry : Country → Bool → Bool → Bool
+abbrev pub byCountry : IssuerCountry → Bool → Bool → Bool
 byCountry Home home abroad = home
 byCountry Abroad home abroad = abroad
 byCountry NotGiven home abroad = true
 
 -- the place: byte 1 b2 at an ATM, else b1
-unfoldable pub placeMet : List ℕ → Bool → Bool
-placeMet usage atm =
-    if atm then has usage 1 2
-    else has usage 1 1
+unfoldable pub aucTerminalMet : List ℕ → Bool → Bool
+aucTerminalMet usage atm =
+    if atm then valueHasBit usage 1 2
+    else valueHasBit usage 1 1
 
 -- cash, transaction type 9C of 01 or 17: byte 1 b8 at home, b7 abroad
-unfoldable pub cashMet : List ℕ → Country → ℕ → Bool
-cashMet usage country transaction =
-    if oneOf transaction 0x01 0x17 then byCountry country (has usage 1 8) (has usage 1 7)
+unfoldable pub aucCashMet : List ℕ → IssuerCountry → ℕ → Bool
+aucCashMet usage country transaction =
+    if isOneOf transaction 0x01 0x17 then byCountry country (valueHasBit usage 1 8) (valueHasBit usage 1 7)
     else true
 
 -- goods or services, type of 00 or 09: byte 1 b6 or b4 at home, b5 or b3 abroad
-unfoldable pub goodsMet : List ℕ → Country → ℕ → Bool
-goodsMet usage country transaction =
-    if oneOf transaction 0x00 0x09 then
-        byCountry country (has usage 1 6 or has usage 1 4) (has usage 1 5 or has usage 1 3)
+unfoldable pub aucGoodsMet : List ℕ → IssuerCountry → ℕ → Bool
+aucGoodsMet usage country transaction =
+    if isOneOf transaction 0x00 0x09 then
+        byCountry country (valueHasBit usage 1 6 or valueHasBit usage 1 4) (valueHasBit usage 1 5 or valueHasBit usage 1 3)
     else true
 
 -- cashback: byte 2 b8 at home, b7 abroad
-unfoldable pub cashbackMet : List ℕ → Country → Bool → Bool
-cashbackMet usage country asked =
-    if asked then byCountry country (has usage 2 8) (has usage 2 7)
+unfoldable pub aucAllowsCashback : List ℕ → IssuerCountry → Bool → Bool
+aucAllowsCashback usage country asked =
+    if asked then byCountry country (valueHasBit usage 2 8) (valueHasBit usage 2 7)
     else true
 
 -- everything that is needed is met
-abbrev pub usageMet : List ℕ → Bool → Country → ℕ → Bool → Bool
-usageMet usage atm country transaction asked =
-    placeMet usage atm
-    and cashMet usage country transaction
-    and goodsMet usage country transaction
-    and cashbackMet usage country asked
+abbrev pub aucMet : List ℕ → Bool → IssuerCountry → ℕ → Bool → Bool
+aucMet usage atm country transaction asked =
+    aucTerminalMet usage atm
+    and aucCashMet usage country transaction
+    and aucGoodsMet usage country transaction
+    and aucAllowsCashback usage country asked
 
 -- the application usage control 9F07 is there and something needed is not met
-unfoldable pub usageBroken : Value → Bool → Country → ℕ → Bool → Bool
-usageBroken absent atm country transaction asked = false
-usageBroken (present usage) atm country transaction asked = not (usageMet usage atm country transaction asked)
+unfoldable pub aucViolated : StoredValue → Bool → IssuerCountry → ℕ → Bool → Bool
+aucViolated absent atm country transaction asked = false
+aucViolated (present usage) atm country transaction asked = not (aucMet usage atm country transaction asked)
 
 -- b5 over the values themselves: 9F07, the terminal's type, 9F40, 5F28, 9F1A, 9C and 9F03
-abbrev pub usageOf : Value → ℕ → Value → Value → List ℕ → ℕ → Value → Bool
-usageOf control kind capabilities issuer terminal transaction other =
-    usageBroken control (atAtm kind capabilities) (countryOf issuer terminal) transaction (cashback other)
+abbrev pub aucViolatedBy : StoredValue → ℕ → StoredValue → StoredValue → List ℕ → ℕ → StoredValue → Bool
+aucViolatedBy control kind capabilities issuer terminal transaction other =
+    aucViolated control (atAtm kind capabilities) (issuerCountryOf issuer terminal) transaction (cashbackRequested other)
 
 -- ---- the byte of the four
 
 -- byte 2: another version b8, expired b7, not yet effective b6, usage b5
-abbrev pub restrictionBits : Bool → Bool → Bool → Bool → ℕ
-restrictionBits version expired notYet usage = worth 8 version + worth 7 expired + worth 6 notYet + worth 5 usage
+abbrev pub tvrByte2 : Bool → Bool → Bool → Bool → ℕ
+tvrByte2 version applicationExpired notYet usage = bitWeight 8 version + bitWeight 7 applicationExpired + bitWeight 6 notYet + bitWeight 5 usage

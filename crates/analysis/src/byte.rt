@@ -3,13 +3,13 @@ ghost use mathlib.Core.Path.{_≡_};
 ghost use Prim.Native.Nat.{_<_, _≤_};
 ghost use lib.ListN.{drop};
 ghost use Rattle.basics.specs.Choice.{if};
-ghost use Rattle.basics.specs.Number.{number};
-ghost use Rattle.analysis.specs.Bits.{bitIn, has as bitOf};
-ghost use Rattle.analysis.specs.Value.{front};
+ghost use Rattle.basics.specs.Number.{bigEndian};
+ghost use Rattle.analysis.specs.Bits.{byteBit, valueHasBit as bitOf};
+ghost use Rattle.analysis.specs.Value.{firstBytes};
 
 // A value as five bytes: its first five, with zeros past the end.
 pub fn five(s: &[u8]) -> [u8; 5]
-    ensures { λ r. ⌜ r ≡ front 5 (now (s .entry)) ⌝ }
+    ensures { λ r. ⌜ r ≡ firstBytes 5 (now (s .entry)) ⌝ }
 {
     [
         basics::byte_at(s, 0),
@@ -23,12 +23,12 @@ pub fn five(s: &[u8]) -> [u8; 5]
 // The four bytes from place i on, counted from 0, as one number, high byte first; bytes past the end are 0.
 pub fn number_at(s: &[u8], i: usize) -> u64
     requires { ⌜ i ≤ 4 ⌝ }
-    ensures { λ r. ⌜ r ≡ number (front 4 (drop i (now (s .entry)))) ⌝ }
+    ensures { λ r. ⌜ r ≡ bigEndian (firstBytes 4 (drop i (now (s .entry)))) ⌝ }
 {
-    let a = basics::wide32(basics::byte_at(s, i)) as u64;
-    let b = basics::wide32(basics::byte_at(s, i + 1)) as u64;
-    let c = basics::wide32(basics::byte_at(s, i + 2)) as u64;
-    let d = basics::wide32(basics::byte_at(s, i + 3)) as u64;
+    let a = basics::widen32(basics::byte_at(s, i)) as u64;
+    let b = basics::widen32(basics::byte_at(s, i + 1)) as u64;
+    let c = basics::widen32(basics::byte_at(s, i + 2)) as u64;
+    let d = basics::widen32(basics::byte_at(s, i + 3)) as u64;
     ((a * 256 + b) * 256 + c) * 256 + d
 }
 
@@ -43,13 +43,13 @@ pub fn has(s: &[u8], n: usize, b: usize) -> bool
 // Bit b of a byte, b8 the highest and b1 the lowest.
 pub fn bit(x: u8, b: usize) -> bool
     requires { ⌜ (0 < b) × (b ≤ 8) ⌝ }
-    ensures { λ r. ⌜ r ≡ bitIn x b ⌝ }
+    ensures { λ r. ⌜ r ≡ byteBit x b ⌝ }
 {
     (x >> (b - 1)) % 2 == 1
 }
 
 // What a bit adds to its byte where it is set.
-pub fn worth(set: bool, weight: u8) -> u8
+pub fn bit_weight(set: bool, weight: u8) -> u8
     ensures { λ r. ⌜ (r ≡ if set weight 0) × (r ≤ weight) ⌝ }
 {
     if set { weight } else { 0 }

@@ -1,12 +1,12 @@
 // Dates and amounts, two digits to a byte, compared as decimal numbers.
 ghost use mathlib.Core.Path.{_≡_};
 ghost use Prim.Native.Nat.{_≤_};
-ghost use Rattle.analysis.specs.Digits.{yearOf, dateOf, laterThan, amountOf, amountAbove};
-ghost use Rattle.analysis.specs.Inner.{twoDigits, sixDigits};
+ghost use Rattle.analysis.specs.Digits.{yearOf, dateOf, dateLater, amountOf, amountAbove};
+ghost use Rattle.analysis.specs.Inner.{bcdByte, bcdThreeBytes};
 
 // Date a, YYMMDD, is later than date b, by years from 1950 to 2049. Of each the first three bytes count, and bytes past the end are 0.
 pub fn later(a: &[u8], b: &[u8]) -> bool
-    ensures { λ r. ⌜ r ≡ laterThan (now (a .entry)) (now (b .entry)) ⌝ }
+    ensures { λ r. ⌜ r ≡ dateLater (now (a .entry)) (now (b .entry)) ⌝ }
 {
     date_of(b) < date_of(a)
 }
@@ -49,7 +49,7 @@ pub fn amount_of(s: &[u8]) -> u64
 // The six digits in the three bytes from a place on.
 fn six_digits(s: &[u8], i: usize) -> u64
     requires { ⌜ i ≤ 3 ⌝ }
-    ensures { λ r. ⌜ (r ≡ sixDigits (now (s .entry)) i) × (r ≤ 1666665) ⌝ }
+    ensures { λ r. ⌜ (r ≡ bcdThreeBytes (now (s .entry)) i) × (r ≤ 1666665) ⌝ }
 {
     two_digits(basics::byte_at(s, i)) * 10000
         + two_digits(basics::byte_at(s, i + 1)) * 100
@@ -58,7 +58,7 @@ fn six_digits(s: &[u8], i: usize) -> u64
 
 // The two digits of a byte.
 fn two_digits(b: u8) -> u64
-    ensures { λ r. ⌜ (r ≡ twoDigits b) × (r ≤ 165) ⌝ }
+    ensures { λ r. ⌜ (r ≡ bcdByte b) × (r ≤ 165) ⌝ }
 {
     let high = (b / 16) as u64;
     let low = (b % 16) as u64;

@@ -3,7 +3,7 @@
 pub mod action;
 pub mod byte;
 pub mod choice;
+pub mod cvm;
 pub mod digits;
 pub mod restrictions;
-pub mod result;
-pub mod verification;
+pub mod tvr;

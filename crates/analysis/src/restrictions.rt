@@ -4,30 +4,30 @@ use crate::digits;
 ghost use mathlib.Core.Path.{_≡_};
 ghost use Prim.Native.Nat.{_<_, _≤_};
 ghost use Rattle.basics.specs.Choice.{either};
-ghost use Rattle.analysis.specs.Bits.{has as bitOf};
-ghost use Rattle.analysis.specs.Value.{given};
-ghost use Rattle.analysis.specs.Restrictions.{otherVersion, notYetEffective, atAtm, countryOf, cashback as asksCashback, byCountry, placeMet, cashMet, goodsMet, cashbackMet, usageBroken, restrictionBits};
+ghost use Rattle.analysis.specs.Bits.{valueHasBit as bitOf};
+ghost use Rattle.analysis.specs.Value.{valueIf};
+ghost use Rattle.analysis.specs.Restrictions.{versionDiffers, notYetEffective, atAtm, issuerCountryOf, cashbackRequested as asksCashback, byCountry, aucTerminalMet, aucCashMet, aucGoodsMet, aucAllowsCashback, aucViolated, tvrByte2};
 
 // The terminal's country as the card sees it.
-pub enum Country {
+pub enum IssuerCountry {
     Home,
     Abroad,
     NotGiven,
 }
 
 // Byte 2: another version b8, expired b7, not yet effective b6, usage b5.
-pub fn restriction_bits(version: bool, expired: bool, early: bool, usage: bool) -> u8
-    ensures { λ r. ⌜ r ≡ restrictionBits version expired early usage ⌝ }
+pub fn tvr_byte2(version: bool, expired: bool, early: bool, usage: bool) -> u8
+    ensures { λ r. ⌜ r ≡ tvrByte2 version expired early usage ⌝ }
 {
-    byte::worth(version, 0x80)
-        + byte::worth(expired, 0x40)
-        + byte::worth(early, 0x20)
-        + byte::worth(usage, 0x10)
+    byte::bit_weight(version, 0x80)
+        + byte::bit_weight(expired, 0x40)
+        + byte::bit_weight(early, 0x20)
+        + byte::bit_weight(usage, 0x10)
 }
 
 // The card's application version is there and unlike the reader's.
-pub fn other_version(there: bool, card: &[u8], reader: &[u8]) -> bool
-    ensures { λ r. ⌜ r ≡ otherVersion (given there (now (card .entry))) (now (reader .entry)) ⌝ }
+pub fn version_differs(there: bool, card: &[u8], reader: &[u8]) -> bool
+    ensures { λ r. ⌜ r ≡ versionDiffers (valueIf there (now (card .entry))) (now (reader .entry)) ⌝ }
 {
     if there {
         return !basics::same(card, reader);
@@ -37,7 +37,7 @@ pub fn other_version(there: bool, card: &[u8], reader: &[u8]) -> bool
 
 // The effective date is there and later than the transaction date. (That a card has expired is `digits::later` alone.)
 pub fn not_yet_effective(there: bool, effective: &[u8], today: &[u8]) -> bool
-    ensures { λ r. ⌜ r ≡ notYetEffective (given there (now (effective .entry))) (now (today .entry)) ⌝ }
+    ensures { λ r. ⌜ r ≡ notYetEffective (valueIf there (now (effective .entry))) (now (today .entry)) ⌝ }
 {
     if there {
         return digits::later(effective, today);
@@ -46,34 +46,34 @@ pub fn not_yet_effective(there: bool, effective: &[u8], today: &[u8]) -> bool
 }
 
 // Usage: the application usage control is there and something needed is not met.
-pub fn usage_broken(
+pub fn auc_violated(
     there: bool,
     usage: &[u8],
     atm: bool,
-    country: Country,
+    country: IssuerCountry,
     transaction: u8,
     cashback: bool,
 ) -> bool
-    ensures { λ r. ⌜ r ≡ usageBroken (given there (now (usage .entry))) atm country transaction cashback ⌝ }
+    ensures { λ r. ⌜ r ≡ aucViolated (valueIf there (now (usage .entry))) atm country transaction cashback ⌝ }
 {
     if !there {
         return false;
     }
-    if !place_met(usage, atm) {
+    if !auc_terminal_met(usage, atm) {
         return true;
     }
-    if !cash_met(usage, country, transaction) {
+    if !auc_cash_met(usage, country, transaction) {
         return true;
     }
-    if !goods_met(usage, country, transaction) {
+    if !auc_goods_met(usage, country, transaction) {
         return true;
     }
-    !cashback_met(usage, country, cashback)
+    !auc_cashback_met(usage, country, cashback)
 }
 
 // At an ATM: by the terminal's type and its capability of cash.
 pub fn at_atm(kind: u8, there: bool, capabilities: &[u8]) -> bool
-    ensures { λ r. ⌜ r ≡ atAtm kind (given there (now (capabilities .entry))) ⌝ }
+    ensures { λ r. ⌜ r ≡ atAtm kind (valueIf there (now (capabilities .entry))) ⌝ }
 {
     if !there {
         return false;
@@ -85,21 +85,21 @@ pub fn at_atm(kind: u8, there: bool, capabilities: &[u8]) -> bool
 }
 
 // The issuer's country against the terminal's.
-pub fn country_of(there: bool, issuer: &[u8], terminal: &[u8]) -> Country
-    ensures { λ r. ⌜ r ≡ countryOf (given there (now (issuer .entry))) (now (terminal .entry)) ⌝ }
+pub fn country_of(there: bool, issuer: &[u8], terminal: &[u8]) -> IssuerCountry
+    ensures { λ r. ⌜ r ≡ issuerCountryOf (valueIf there (now (issuer .entry))) (now (terminal .entry)) ⌝ }
 {
     if !there {
-        return Country::NotGiven;
+        return IssuerCountry::NotGiven;
     }
     if basics::same(issuer, terminal) {
-        return Country::Home;
+        return IssuerCountry::Home;
     }
-    Country::Abroad
+    IssuerCountry::Abroad
 }
 
 // Cashback is asked for: another amount is there and not zero.
 pub fn asks_cashback(there: bool, other: &[u8]) -> bool
-    ensures { λ r. ⌜ r ≡ asksCashback (given there (now (other .entry))) ⌝ }
+    ensures { λ r. ⌜ r ≡ asksCashback (valueIf there (now (other .entry))) ⌝ }
 {
     if there {
         return 0 < digits::amount_of(other);
@@ -108,8 +108,8 @@ pub fn asks_cashback(there: bool, other: &[u8]) -> bool
 }
 
 // The place of use is allowed: an ATM, or another terminal.
-fn place_met(usage: &[u8], atm: bool) -> bool
-    ensures { λ r. ⌜ r ≡ placeMet (now (usage .entry)) atm ⌝ }
+fn auc_terminal_met(usage: &[u8], atm: bool) -> bool
+    ensures { λ r. ⌜ r ≡ aucTerminalMet (now (usage .entry)) atm ⌝ }
 {
     if atm {
         return byte::has(usage, 1, 2);
@@ -118,8 +118,8 @@ fn place_met(usage: &[u8], atm: bool) -> bool
 }
 
 // Cash is allowed where it is asked for.
-fn cash_met(usage: &[u8], country: Country, transaction: u8) -> bool
-    ensures { λ r. ⌜ r ≡ cashMet (now (usage .entry)) country transaction ⌝ }
+fn auc_cash_met(usage: &[u8], country: IssuerCountry, transaction: u8) -> bool
+    ensures { λ r. ⌜ r ≡ aucCashMet (now (usage .entry)) country transaction ⌝ }
 {
     match transaction {
         0x01 | 0x17 => by_country(country, byte::has(usage, 1, 8), byte::has(usage, 1, 7)),
@@ -128,8 +128,8 @@ fn cash_met(usage: &[u8], country: Country, transaction: u8) -> bool
 }
 
 // Goods or services are allowed where they are asked for.
-fn goods_met(usage: &[u8], country: Country, transaction: u8) -> bool
-    ensures { λ r. ⌜ r ≡ goodsMet (now (usage .entry)) country transaction ⌝ }
+fn auc_goods_met(usage: &[u8], country: IssuerCountry, transaction: u8) -> bool
+    ensures { λ r. ⌜ r ≡ aucGoodsMet (now (usage .entry)) country transaction ⌝ }
 {
     match transaction {
         0x00 | 0x09 => by_country(country, one_of(usage, 6, 4), one_of(usage, 5, 3)),
@@ -138,8 +138,8 @@ fn goods_met(usage: &[u8], country: Country, transaction: u8) -> bool
 }
 
 // Cashback is allowed where it is asked for.
-fn cashback_met(usage: &[u8], country: Country, cashback: bool) -> bool
-    ensures { λ r. ⌜ r ≡ cashbackMet (now (usage .entry)) country cashback ⌝ }
+fn auc_cashback_met(usage: &[u8], country: IssuerCountry, cashback: bool) -> bool
+    ensures { λ r. ⌜ r ≡ aucAllowsCashback (now (usage .entry)) country cashback ⌝ }
 {
     if cashback {
         return by_country(country, byte::has(usage, 2, 8), byte::has(usage, 2, 7));
@@ -148,13 +148,13 @@ fn cashback_met(usage: &[u8], country: Country, cashback: bool) -> bool
 }
 
 // What is needed at home or abroad.
-fn by_country(country: Country, home: bool, abroad: bool) -> bool
+fn by_country(country: IssuerCountry, home: bool, abroad: bool) -> bool
     ensures { λ r. ⌜ r ≡ byCountry country home abroad ⌝ }
 {
     match country {
-        Country::Home => home,
-        Country::Abroad => abroad,
-        Country::NotGiven => true,
+        IssuerCountry::Home => home,
+        IssuerCountry::Abroad => abroad,
+        IssuerCountry::NotGiven => true,
     }
 }
 

@@ -10,32 +10,32 @@ use lib.ListN.{length, getD, drop, drop-of-length-le}
 use lib.Seq.{drop-cons}
 use borrow.Author.Tests.{eq-eqb, eqb-true}
 use Rattle.basics.specs.Choice.{both}
-use Rattle.basics.specs.Alike.{alike}
+use Rattle.basics.specs.Alike.{bytesEqual}
 use Rattle.basics.proofs.Laws.{bool-cases, both-yes, both-left, both-right}
 
-pub alike-refl : (s : List ℕ) → alike s s ≡ true
-unfolding alike
+pub alike-refl : (s : List ℕ) → bytesEqual s s ≡ true
+unfolding bytesEqual
 alike-refl [] = refl
 alike-refl (x ∷ s) = both-yes _ _ (eq-eqb x x refl) (alike-refl s)
 
-pub alike-eq : (s t : List ℕ) → alike s t ≡ true → s ≡ t
-unfolding alike
+pub alike-eq : (s t : List ℕ) → bytesEqual s t ≡ true → s ≡ t
+unfolding bytesEqual
 alike-eq [] [] e = refl
 alike-eq [] (y ∷ t) e = cc
 alike-eq (x ∷ s) [] e = cc
 alike-eq (x ∷ s) (y ∷ t) e =
     ap₂ (λ (a : ℕ) (u : List ℕ). a ∷ u) (eqb-true x y (both-left _ _ e)) (alike-eq s t (both-right _ _ e))
 
-pub unlike-length : (s t : List ℕ) → (length s ≡ length t → ⊥) → alike s t ≡ false
-unlike-length s t h =
-    elim (bool-cases (alike s t)) [ inl e ↦ absurd (h (ap length (alike-eq s t e))) | inr e ↦ e ]
+pub mismatch-length : (s t : List ℕ) → (length s ≡ length t → ⊥) → bytesEqual s t ≡ false
+mismatch-length s t h =
+    elim (bool-cases (bytesEqual s t)) [ inl e ↦ absurd (h (ap length (alike-eq s t e))) | inr e ↦ e ]
 
 -- from place i on: the bytes there, and from the next place on
 module _ (s t : List ℕ) (i : ℕ) where
-  pub alike-at : i < length s → i < length t → alike (drop i s) (drop i t) ≡ both (eqb (getD s i 0) (getD t i 0)) (alike (drop (i + 1) s) (drop (i + 1) t))
-  unfolding alike
+  pub alike-at : i < length s → i < length t → bytesEqual (drop i s) (drop i t) ≡ both (eqb (getD s i 0) (getD t i 0)) (bytesEqual (drop (i + 1) s) (drop (i + 1) t))
+  unfolding bytesEqual
   alike-at h k = rw (add-one, drop-cons s i 0, drop-cons t i 0)
 
-  pub alike-ends : length s ≤ i → length t ≤ i → alike (drop i s) (drop i t) ≡ true
-  unfolding alike
+  pub alike-ends : length s ≤ i → length t ≤ i → bytesEqual (drop i s) (drop i t) ≡ true
+  unfolding bytesEqual
   alike-ends h k = rw (drop-of-length-le s h, drop-of-length-le t k)

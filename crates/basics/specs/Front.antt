@@ -5,5 +5,5 @@ use Prim.Native.Nat.{ℕ}
 use lib.ListN.{length, drop}
 
 -- the bytes v in front of the slice l: those behind v stay
-abbrev pub inFront : List ℕ → List ℕ → List ℕ
-inFront v l = v ++ drop (length v) l
+abbrev pub withPrefix : List ℕ → List ℕ → List ℕ
+withPrefix v l = v ++ drop (length v) l

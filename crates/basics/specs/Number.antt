@@ -6,13 +6,13 @@ use Prim.Native.Nat.{ℕ, _+_, _*_, _/_, _%_}
 use Rattle.basics.specs.Choice.{_and_, _≤?_, _=?_}
 
 -- the bytes s behind the number n, high byte first
-unfoldable pub numberFrom : ℕ → List ℕ → ℕ
-numberFrom n [] = n
-numberFrom n (b ∷ s) = numberFrom (n * 256 + b) s
+unfoldable pub bigEndianFrom : ℕ → List ℕ → ℕ
+bigEndianFrom n [] = n
+bigEndianFrom n (b ∷ s) = bigEndianFrom (n * 256 + b) s
 
 -- bytes as one number, high byte first
-abbrev pub number : List ℕ → ℕ
-number s = numberFrom 0 s
+abbrev pub bigEndian : List ℕ → ℕ
+bigEndian s = bigEndianFrom 0 s
 
 -- each byte's high digit and then its low one
 unfoldable pub nibbles : List ℕ → List ℕ

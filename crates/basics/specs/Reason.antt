@@ -53,16 +53,16 @@ abbrev pub reasonMissing : ℕ
 reasonMissing = 4
 
 -- a file locator that breaks its rules
-abbrev pub reasonLocator : ℕ
-reasonLocator = 5
+abbrev pub reasonAfl : ℕ
+reasonAfl = 5
 
 -- an amount over the reader's transaction limit
 abbrev pub reasonAboveLimit : ℕ
 reasonAboveLimit = 6
 
 -- a data object list that is broken, or that fills to a length no command can carry
-abbrev pub reasonDataList : ℕ
-reasonDataList = 7
+abbrev pub reasonDol : ℕ
+reasonDol = 7
 
 -- a cryptogram of a type that the one asked for does not allow
 abbrev pub reasonCryptogram : ℕ

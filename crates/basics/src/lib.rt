@@ -4,7 +4,7 @@ ghost use mathlib.Core.Path.{_≡_};
 ghost use Prim.Native.Nat.{_<_};
 ghost use lib.ListN.{getD};
 ghost use Rattle.basics.specs.Number.{between};
-ghost use Rattle.basics.specs.Alike.{alike};
+ghost use Rattle.basics.specs.Alike.{bytesEqual};
 
 // Why a call is refused.
 pub const REFUSED_BYTES: u8 = 20;
@@ -20,23 +20,23 @@ pub const REASON_STATUS: u8 = 1;
 pub const REASON_MALFORMED: u8 = 2;
 pub const REASON_NOT_ALLOWED: u8 = 3;
 pub const REASON_MISSING: u8 = 4;
-pub const REASON_LOCATOR: u8 = 5;
+pub const REASON_AFL: u8 = 5;
 pub const REASON_ABOVE_LIMIT: u8 = 6;
-pub const REASON_DATA_LIST: u8 = 7;
+pub const REASON_DOL: u8 = 7;
 pub const REASON_CRYPTOGRAM: u8 = 8;
 pub const REASON_LINK: u8 = 9;
 pub const REASON_STOPPED: u8 = 10;
 pub const REASON_MODE: u8 = 11;
 
 // A byte as a size.
-pub fn wide(x: u8) -> usize
+pub fn widen(x: u8) -> usize
     ensures { λ r. ⌜ (r ≡ x) × (r < 256) ⌝ }
 {
     x as usize
 }
 
 // A byte as a 32-bit number.
-pub fn wide32(x: u8) -> u32
+pub fn widen32(x: u8) -> u32
     ensures { λ r. ⌜ (r ≡ x) × (r < 256) ⌝ }
 {
     x as u32
@@ -64,7 +64,7 @@ pub fn is_between(low: u8, x: u8, high: u8) -> bool
 
 // The same bytes.
 pub fn same(a: &[u8], b: &[u8]) -> bool
-    ensures { λ r. ⌜ r ≡ alike (now (a .entry)) (now (b .entry)) ⌝ }
+    ensures { λ r. ⌜ r ≡ bytesEqual (now (a .entry)) (now (b .entry)) ⌝ }
 {
     if a.len() != b.len() {
         return false;

@@ -7,20 +7,20 @@ use Prim.Native.Nat.{ℕ, _-_}
 use lib.ListN.{replicate}
 use Rattle.basics.specs.Choice.{if, both}
 use Rattle.basics.specs.Number.{nibbles}
-use Rattle.dictionary.specs.Named.{row9F02}
-use Rattle.dictionary.specs.Rows.{rows, past, find, storeSize}
-use Rattle.store.specs.Place.{offsetIn, placeAt, held, valueAt, valueIn, putAt}
-use Rattle.analysis.specs.Value.{front}
-use Rattle.analysis.specs.Digits.{decimalFrom, amountOf}
-use Rattle.record.specs.declared.Answer.{Answer}
-use Rattle.record.specs.declared.Outcome.{Outcome}
-use Rattle.record.specs.declared.Phase.{Phase}
-use Rattle.record.specs.declared.Session.{Session}
-use Rattle.record.specs.Session.{sessionOf, freshSession, endOf, parametersOf}
+use Rattle.dictionary.specs.Named.{rowAmount}
+use Rattle.dictionary.specs.Rows.{dictionaryRows, rowPast, findRow, storeSize}
+use Rattle.store.specs.Place.{rowOffset, rowPlace, placeValue, rowValue, objectValueIn, putRow}
+use Rattle.analysis.specs.Value.{firstBytes}
+use Rattle.analysis.specs.Digits.{bcdFrom, amountOf}
+use Rattle.session_record.specs.declared.CallResult.{CallResult}
+use Rattle.session_record.specs.declared.Outcome.{Outcome}
+use Rattle.session_record.specs.declared.Phase.{Phase}
+use Rattle.session_record.specs.declared.Session.{Session}
+use Rattle.session_record.specs.Session.{sessionOf, freshSession, endingOf, outcomeParameters}
 use Rattle.session.specs.Steps.{Step}
 use Rattle.layout.specs.Word.{refusalWord}
-use Rattle.cabinet.specs.State.{cabinet, stateSize, amountBytes, dueIn, amountsFit}
-use Rattle.cabinet.specs.Calls.{refusedLeft, refusedCap, refuses, leftAfter, carries, settles, startsOn, setsAside, openWord}
+use Rattle.cabinet.specs.State.{cabinet, cabinetStateSize, amountBytes, amountToReserve, amountsFit}
+use Rattle.cabinet.specs.Calls.{refusedRemaining, refusedCap, cabinetRefusal, remainingAfter, cabinetStepDone, settlesAmounts, sessionToStart, reservesAmount, cabinetOpenWord}
 
 -- none, the greatest, and all ones in eight bytes
 bytes : map amountBytes (0 ∷ 1000 ∷ 999999999999 ∷ 0xFFFFFFFFFFFFFFFF ∷ [])
@@ -32,60 +32,60 @@ bytes : map amountBytes (0 ∷ 1000 ∷ 999999999999 ∷ 0xFFFFFFFFFFFFFFFF ∷ 
 bytes = refl
 
 -- approved, online request, declined, ended, select next, with 600 left and 400 set aside
-ends : map (λ o. leftAfter o 600 400) (Outcome.Approved ∷ Outcome.OnlineRequest ∷ Outcome.Declined ∷ Outcome.Ended ∷ Outcome.SelectNext ∷ [])
+ends : map (λ o. remainingAfter o 600 400) (Outcome.Approved ∷ Outcome.OnlineRequest ∷ Outcome.Declined ∷ Outcome.Ended ∷ Outcome.SelectNext ∷ [])
     ≡ 600 ∷ 1000 ∷ 1000 ∷ 1000 ∷ 1000 ∷ []
 ends = refl
 
 -- an approval spends whatever its method: no CVM, signature, none told
 module _ (st : Step) (l buf : List ℕ) where
-  approvals : map (λ m. settles (Answer.Outcome (parametersOf Outcome.Approved 0 m)) st 600 400 l buf) (0 ∷ 1 ∷ 15 ∷ [])
-      ≡ carries st 600 0 l ∷ carries st 600 0 l ∷ carries st 600 0 l ∷ []
+  approvals : map (λ m. settlesAmounts (CallResult.Outcome (outcomeParameters Outcome.Approved 0 m)) st 600 400 l buf) (0 ∷ 1 ∷ 15 ∷ [])
+      ≡ cabinetStepDone st 600 0 l ∷ cabinetStepDone st 600 0 l ∷ cabinetStepDone st 600 0 l ∷ []
   approvals = refl
 
   -- an amount that is all that is left passes, one more is 30
-  equal : setsAside st 1000 1000 l buf ≡ settles (st .reply .answer) st 0 1000 l buf
-  unfolding setsAside if
+  equal : reservesAmount st 1000 1000 l buf ≡ settlesAmounts (st .reply .answer) st 0 1000 l buf
+  unfolding reservesAmount if
   equal = refl
 
-  smaller : setsAside st 1001 1000 l buf ≡ refuses 30 l buf
-  unfolding setsAside if
+  smaller : reservesAmount st 1001 1000 l buf ≡ cabinetRefusal 30 l buf
+  unfolding reservesAmount if
   smaller = refl
 
-refusals : map refusalWord (refusedLeft ∷ refusedCap ∷ []) ≡ 0x2001E ∷ 0x2001F ∷ []
+refusals : map refusalWord (refusedRemaining ∷ refusedCap ∷ []) ≡ 0x2001E ∷ 0x2001F ∷ []
 refusals = refl
 
 -- the greatest cap and one more; with one byte too few 25 comes first
-openings : openWord 999999999999 (replicate stateSize 0) ∷ openWord 1000000000000 (replicate stateSize 0) ∷ openWord 1000000000000 (replicate (stateSize - 1) 0) ∷ []
+openings : cabinetOpenWord 999999999999 (replicate cabinetStateSize 0) ∷ cabinetOpenWord 1000000000000 (replicate cabinetStateSize 0) ∷ cabinetOpenWord 1000000000000 (replicate (cabinetStateSize - 1) 0) ∷ []
     ≡ 0 ∷ 0x2001F ∷ 0x20019 ∷ []
-unfolding openWord if
+unfolding cabinetOpenWord if
 openings = refl
 
 -- a store with an amount of 1, and a session on processing options with it
 one : List ℕ
-one = putAt rows (replicate storeSize 0) row9F02 (0 ∷ 0 ∷ 0 ∷ 0 ∷ 0 ∷ 1 ∷ [])
+one = putRow dictionaryRows (replicate storeSize 0) rowAmount (0 ∷ 0 ∷ 0 ∷ 0 ∷ 0 ∷ 1 ∷ [])
 
 running : Session
-running = sessionOf Phase.Options 1 one
+running = sessionOf Phase.Gpo 1 one
 
 -- 1 is due while it runs, nothing once it has ended
-dues : dueIn Phase.Options one ∷ dueIn (Phase.Ended (endOf Outcome.Approved 0)) one ∷ [] ≡ 1 ∷ 0 ∷ []
-unfolding one dueIn if rows find past putAt valueIn valueAt placeAt held offsetIn amountOf front nibbles decimalFrom
+dues : amountToReserve Phase.Gpo one ∷ amountToReserve (Phase.Ended (endingOf Outcome.Approved 0)) one ∷ [] ≡ 1 ∷ 0 ∷ []
+unfolding one amountToReserve if dictionaryRows findRow rowPast putRow objectValueIn rowValue rowPlace placeValue rowOffset amountOf firstBytes nibbles bcdFrom
 dues = refl
 
 -- set aside 1; 0; 2; then with what is left at the greatest amount, over it by one, and all ones
 fits : map amountsFit (cabinet running 4 1 ∷ cabinet running 4 0 ∷ cabinet running 4 2
     ∷ cabinet running 999999999998 1 ∷ cabinet running 999999999999 1 ∷ cabinet running 0xFFFFFFFFFFFFFFFF 1 ∷ [])
     ≡ true ∷ false ∷ false ∷ true ∷ false ∷ false ∷ []
-unfolding amountsFit one running dueIn if both rows find past putAt valueIn valueAt placeAt held offsetIn amountOf front nibbles decimalFrom
+unfolding amountsFit one running amountToReserve if both dictionaryRows findRow rowPast putRow objectValueIn rowValue rowPlace placeValue rowOffset amountOf firstBytes nibbles bcdFrom
 fits = refl
 
 -- a fresh session has nothing set aside
 fresh : map amountsFit (cabinet freshSession 1000 0 ∷ cabinet freshSession 1000 1 ∷ []) ≡ true ∷ false ∷ []
-unfolding amountsFit dueIn if both
+unfolding amountsFit amountToReserve if both
 fresh = refl
 
 -- a start after an end is on a fresh session, on a running one it is on that
-begins : (n : ℕ) (b : List ℕ) → startsOn (sessionOf (Phase.Ended (endOf Outcome.Ended 10)) n b) ∷ startsOn (sessionOf Phase.Options n b) ∷ []
-    ≡ freshSession ∷ sessionOf Phase.Options n b ∷ []
-unfolding startsOn if
+begins : (n : ℕ) (b : List ℕ) → sessionToStart (sessionOf (Phase.Ended (endingOf Outcome.Ended 10)) n b) ∷ sessionToStart (sessionOf Phase.Gpo n b) ∷ []
+    ≡ freshSession ∷ sessionOf Phase.Gpo n b ∷ []
+unfolding sessionToStart if
 begins n b = refl

@@ -3,22 +3,22 @@
 // The state lies in bytes that the host lends to every call: the session's record, then what is left of the cap, then the amount that the
 // running session sets aside. A start sets its amount aside; an approval spends it, and every other end gives it back. `cabinet_find` looks
 // a start object up in a site's list and the maker's defaults. docs/HOST.md has the state and the words.
-use dictionary::{ROW_9F02, SIZE};
-use layout::{Held, HEAD, RECORD_SIZE};
-use record::{Answer, Outcome, Phase, Turn};
+use dictionary::{ROW_AMOUNT, SIZE};
+use layout::{RecordHeld, HEAD, RECORD_SIZE};
+use session_record::{CallResult, Outcome, Phase, Transition};
 use session::LEAST_BUFFER;
 ghost use mathlib.Core.Path.{_≡_};
 ghost use Prim.Native.Nat.{_+_, _*_, _≤_, _<_};
 ghost use lib.Dec.{leb};
 ghost use lib.ListN.{length};
-ghost use Rattle.basics.specs.Number.{number as numberOf};
+ghost use Rattle.basics.specs.Number.{bigEndian as numberOf};
 ghost use Rattle.session.specs.Steps.{leastBuffer};
-ghost use Rattle.layout.specs.Word.{wordOf};
-ghost use Rattle.trace.specs.Claim.{isRunning};
+ghost use Rattle.layout.specs.Word.{resultWord};
+ghost use Rattle.session_claim.specs.Claim.{isRunning};
 ghost use Rattle.cabinet_lookup.specs.Word.{placeWord};
-ghost use Rattle.cabinet.specs.State.{mostAmount, stateSize, amountBytes, amountIn, dueIn, cabinetIn};
-ghost use Rattle.cabinet.specs.Calls.{Did, Opened, leftAfter, leftWord, startHeld, startOver, answerOver, linkOver, stopOver};
-ghost use Rattle.cabinet.specs.Inner.{holdingIn, admissionOf, cabinetOf, ranged, freshStart, sizeIn, handedOver, withAmounts, settledOf, finished};
+ghost use Rattle.cabinet.specs.State.{mostAmount, cabinetStateSize, amountBytes, storedAmount, amountToReserve, cabinetHeldIn};
+ghost use Rattle.cabinet.specs.Calls.{DidCabinetCall, CabinetOpened, remainingAfter, remainingWord, startOnCabinet, cabinetStart, cabinetAnswer, cabinetLinkFailed, cabinetStop};
+ghost use Rattle.cabinet.specs.Inner.{cabinetPartsIn, cabinetAdmission, cabinetOf, ifInRanges, cabinetFreshStart, commandSizeIn, commandHandedOver, withAmounts, amountsSettled, cabinetFinished};
 
 // Refusals beside the kernel's: less is left than the amount of a start; a cap over the greatest amount.
 pub const REFUSED_LEFT: u8 = 30;
@@ -37,27 +37,27 @@ const NO_AMOUNT: u64 = 0xFFFFFFFFFFFFFFFF;
 
 // What is left of the cap, and what is set aside.
 pub struct Amounts {
-    pub left: u64,
-    pub aside: u64,
+    pub remaining: u64,
+    pub reserved: u64,
 }
 
 // What a state says beside the session's store.
-pub struct Holding {
+pub struct CabinetParts {
     pub phase: Phase,
     pub count: u8,
     pub amounts: Amounts,
 }
 
 // Whether a call is taken, on what the state says, or the word of its refusal.
-pub enum Admission {
-    Taken(Holding),
+pub enum CabinetAdmission {
+    Admitted(CabinetParts),
     Refused(u32),
 }
 
 // How many bytes a host lends for a cabinet.
 #[no_mangle]
 pub extern "C" fn cabinet_size() -> usize
-    ensures { λ r. ⌜ r ≡ stateSize ⌝ }
+    ensures { λ r. ⌜ r ≡ cabinetStateSize ⌝ }
 {
     STATE_SIZE
 }
@@ -65,7 +65,7 @@ pub extern "C" fn cabinet_size() -> usize
 // Opens the cabinet with a cap, whatever the bytes held: 0, or refusal 25 where they are too few, then 31.
 #[no_mangle]
 pub extern "C" fn cabinet_open(state: &mut [u8], cap: u64) -> u32
-    ensures { λ r. ⌜ Opened cap r (now (state .entry)) (now (state .exit)) ⌝ }
+    ensures { λ r. ⌜ CabinetOpened cap r (now (state .entry)) (now (state .exit)) ⌝ }
 {
     if state.len() < STATE_SIZE {
         return layout::refusal_word(basics::REFUSED_RANGES);
@@ -74,38 +74,38 @@ pub extern "C" fn cabinet_open(state: &mut [u8], cap: u64) -> u32
         return layout::refusal_word(REFUSED_CAP);
     }
     let store = store::empty();
-    layout::encode(Phase::Fresh, 0, &store.bytes, state);
-    put_amounts(Amounts { left: cap, aside: 0 }, state);
+    layout::encode_record(Phase::Fresh, 0, &store.bytes, state);
+    put_amounts(Amounts { remaining: cap, reserved: 0 }, state);
     0
 }
 
 // Starts a session with the objects that the terminal brings, a fresh one after an end, and sets its amount aside.
 #[no_mangle]
 pub extern "C" fn cabinet_start(state: &mut [u8], terminal: &[u8], command: &mut [u8]) -> u32
-    ensures { λ r. ⌜ Did r (now (state .exit)) (now (command .exit))
-        (startOver (now (terminal .entry)) (now (state .entry)) (now (command .entry))) ⌝ }
+    ensures { λ r. ⌜ DidCabinetCall r (now (state .exit)) (now (command .exit))
+        (cabinetStart (now (terminal .entry)) (now (state .entry)) (now (command .entry))) ⌝ }
 {
     let admission = admit(state, command.len());
     match admission {
-        Admission::Refused(word) => word,
-        Admission::Taken(holding) => start_held(holding, state, terminal, command),
+        CabinetAdmission::Refused(word) => word,
+        CabinetAdmission::Admitted(holding) => start_held(holding, state, terminal, command),
     }
 }
 
 // Takes the card's answer to the command that was handed out last, status bytes included.
 #[no_mangle]
 pub extern "C" fn cabinet_answer(state: &mut [u8], card: &[u8], command: &mut [u8]) -> u32
-    ensures { λ r. ⌜ Did r (now (state .exit)) (now (command .exit))
-        (answerOver (now (card .entry)) (now (state .entry)) (now (command .entry))) ⌝ }
+    ensures { λ r. ⌜ DidCabinetCall r (now (state .exit)) (now (command .exit))
+        (cabinetAnswer (now (card .entry)) (now (state .entry)) (now (command .entry))) ⌝ }
 {
     let admission = admit(state, command.len());
     match admission {
-        Admission::Refused(word) => word,
-        Admission::Taken(holding) => {
+        CabinetAdmission::Refused(word) => word,
+        CabinetAdmission::Admitted(holding) => {
             let phase = holding.phase;
             let amounts = holding.amounts;
-            let turn = session::answer_in(phase, holding.count, &mut state[HEAD..RECORD_SIZE], card, command);
-            finish(turn, amounts, state)
+            let transition = session::answer_in(phase, holding.count, &mut state[HEAD..RECORD_SIZE], card, command);
+            finish(transition, amounts, state)
         }
     }
 }
@@ -113,16 +113,16 @@ pub extern "C" fn cabinet_answer(state: &mut [u8], card: &[u8], command: &mut [u
 // The link to the card failed.
 #[no_mangle]
 pub extern "C" fn cabinet_link_failed(state: &mut [u8], command: &mut [u8]) -> u32
-    ensures { λ r. ⌜ Did r (now (state .exit)) (now (command .exit)) (linkOver (now (state .entry)) (now (command .entry))) ⌝ }
+    ensures { λ r. ⌜ DidCabinetCall r (now (state .exit)) (now (command .exit)) (cabinetLinkFailed (now (state .entry)) (now (command .entry))) ⌝ }
 {
     let admission = admit(state, command.len());
     match admission {
-        Admission::Refused(word) => word,
-        Admission::Taken(holding) => {
+        CabinetAdmission::Refused(word) => word,
+        CabinetAdmission::Admitted(holding) => {
             let phase = holding.phase;
             let amounts = holding.amounts;
-            let turn = session::link_failed_in(phase, holding.count, &state[HEAD..RECORD_SIZE], command);
-            finish(turn, amounts, state)
+            let transition = session::link_failed_in(phase, holding.count, &state[HEAD..RECORD_SIZE], command);
+            finish(transition, amounts, state)
         }
     }
 }
@@ -130,16 +130,16 @@ pub extern "C" fn cabinet_link_failed(state: &mut [u8], command: &mut [u8]) -> u
 // The terminal stops the session.
 #[no_mangle]
 pub extern "C" fn cabinet_stop(state: &mut [u8], command: &mut [u8]) -> u32
-    ensures { λ r. ⌜ Did r (now (state .exit)) (now (command .exit)) (stopOver (now (state .entry)) (now (command .entry))) ⌝ }
+    ensures { λ r. ⌜ DidCabinetCall r (now (state .exit)) (now (command .exit)) (cabinetStop (now (state .entry)) (now (command .entry))) ⌝ }
 {
     let admission = admit(state, command.len());
     match admission {
-        Admission::Refused(word) => word,
-        Admission::Taken(holding) => {
+        CabinetAdmission::Refused(word) => word,
+        CabinetAdmission::Admitted(holding) => {
             let phase = holding.phase;
             let amounts = holding.amounts;
-            let turn = session::stop_in(phase, holding.count, &state[HEAD..RECORD_SIZE], command);
-            finish(turn, amounts, state)
+            let transition = session::stop_in(phase, holding.count, &state[HEAD..RECORD_SIZE], command);
+            finish(transition, amounts, state)
         }
     }
 }
@@ -147,17 +147,17 @@ pub extern "C" fn cabinet_stop(state: &mut [u8], command: &mut [u8]) -> u32
 // What is left of the cap; NO_AMOUNT where every call but opening is refused with 25.
 #[no_mangle]
 pub extern "C" fn cabinet_left(state: &[u8]) -> u64
-    ensures { λ r. ⌜ r ≡ leftWord (cabinetIn (now (state .entry))) ⌝ }
+    ensures { λ r. ⌜ r ≡ remainingWord (cabinetHeldIn (now (state .entry))) ⌝ }
 {
     let admission = holding_in(state);
-    let Admission::Taken(holding) = admission else {
+    let CabinetAdmission::Admitted(holding) = admission else {
         return NO_AMOUNT;
     };
     let phase = holding.phase;
-    if !record::keeps(phase, holding.count, &state[HEAD..RECORD_SIZE]) {
+    if !session_record::parts_in_ranges(phase, holding.count, &state[HEAD..RECORD_SIZE]) {
         return NO_AMOUNT;
     }
-    holding.amounts.left
+    holding.amounts.remaining
 }
 
 // Where the value of a tag lies, counted over the site's bytes and then the defaults': the start in bits 32 to 63, the
@@ -168,56 +168,56 @@ pub extern "C" fn cabinet_left(state: &[u8]) -> u64
 pub extern "C" fn cabinet_find(site: &[u8], defaults: &[u8], tag: u32) -> u64
     ensures { λ r. ⌜ r ≡ placeWord tag (now (site .entry)) (now (defaults .entry)) ⌝ }
 {
-    cabinet_lookup::place(site, defaults, tag)
+    cabinet_lookup::value_place(site, defaults, tag)
 }
 
 // A buffer that is too short is refused before a state that is not in order.
-fn admit(state: &[u8], size: usize) -> Admission
-    ensures { λ r. ⌜ r ≡ admissionOf (now (state .entry)) size ⌝ }
+fn admit(state: &[u8], size: usize) -> CabinetAdmission
+    ensures { λ r. ⌜ r ≡ cabinetAdmission (now (state .entry)) size ⌝ }
 {
     if size < LEAST_BUFFER {
-        return Admission::Refused(layout::refusal_word(basics::REFUSED_BUFFER));
+        return CabinetAdmission::Refused(layout::refusal_word(basics::REFUSED_BUFFER));
     }
     holding_in(state)
 }
 
 // What a state says, or refusal 25: all of its tests but the session's ranges, which the kernel's call makes.
-fn holding_in(state: &[u8]) -> Admission
-    ensures { λ r. ⌜ r ≡ holdingIn (now (state .entry)) ⌝ }
+fn holding_in(state: &[u8]) -> CabinetAdmission
+    ensures { λ r. ⌜ r ≡ cabinetPartsIn (now (state .entry)) ⌝ }
 {
-    let refused = Admission::Refused(layout::refusal_word(basics::REFUSED_RANGES));
+    let refused = CabinetAdmission::Refused(layout::refusal_word(basics::REFUSED_RANGES));
     if state.len() < STATE_SIZE {
         return refused;
     }
     let held = layout::head_in(state);
-    let Held::Record(head) = held else {
+    let RecordHeld::Record(head) = held else {
         return refused;
     };
     let phase = head.phase;
-    let left = eight(&state[LEFT..ASIDE]);
-    let aside = eight(&state[ASIDE..STATE_SIZE]);
-    if aside != due(phase, &state[HEAD..RECORD_SIZE]) {
+    let remaining = eight(&state[LEFT..ASIDE]);
+    let reserved = eight(&state[ASIDE..STATE_SIZE]);
+    if reserved != due(phase, &state[HEAD..RECORD_SIZE]) {
         return refused;
     }
-    if !is_within(left, aside) {
+    if !is_within(remaining, reserved) {
         return refused;
     }
-    Admission::Taken(Holding { phase, count: head.count, amounts: Amounts { left, aside } })
+    CabinetAdmission::Admitted(CabinetParts { phase, count: head.count, amounts: Amounts { remaining, reserved } })
 }
 
 // Whether two amounts together are at most the greatest amount.
-fn is_within(left: u64, aside: u64) -> bool
-    ensures { λ r. ⌜ r ≡ leb (left + aside) mostAmount ⌝ }
+fn is_within(remaining: u64, reserved: u64) -> bool
+    ensures { λ r. ⌜ r ≡ leb (remaining + reserved) mostAmount ⌝ }
 {
-    if MOST_AMOUNT < aside {
+    if MOST_AMOUNT < reserved {
         return false;
     }
-    left <= MOST_AMOUNT - aside
+    remaining <= MOST_AMOUNT - reserved
 }
 
 // What has to be set aside: the running session's amount.
 fn due(phase: Phase, bytes: &[u8]) -> u64
-    ensures { λ r. ⌜ r ≡ dueIn phase (now (bytes .entry)) ⌝ }
+    ensures { λ r. ⌜ r ≡ amountToReserve phase (now (bytes .entry)) ⌝ }
 {
     if is_running(phase) {
         return amount_in(bytes);
@@ -231,7 +231,7 @@ fn is_running(phase: Phase) -> bool
 {
     match phase {
         Phase::Fresh => false,
-        Phase::Options => true,
+        Phase::Gpo => true,
         Phase::Record(_) => true,
         Phase::Cryptogram(_) => true,
         Phase::Checksum(_) => true,
@@ -241,62 +241,62 @@ fn is_running(phase: Phase) -> bool
 
 // The amount of a store.
 fn amount_in(bytes: &[u8]) -> u64
-    ensures { λ r. ⌜ r ≡ amountIn (now (bytes .entry)) ⌝ }
+    ensures { λ r. ⌜ r ≡ storedAmount (now (bytes .entry)) ⌝ }
 {
-    analysis::digits::amount_of(store::value(bytes, ROW_9F02))
+    analysis::digits::amount_of(store::value(bytes, ROW_AMOUNT))
 }
 
 // A start past the first tests: 25 where the session breaks its ranges, 21 where it runs.
-fn start_held(holding: Holding, state: &mut [u8], terminal: &[u8], command: &mut [u8]) -> u32
-    requires { ⌜ stateSize ≤ length (now state) ⌝ }
+fn start_held(holding: CabinetParts, state: &mut [u8], terminal: &[u8], command: &mut [u8]) -> u32
+    requires { ⌜ cabinetStateSize ≤ length (now state) ⌝ }
     requires { ⌜ leastBuffer ≤ length (now command) ⌝ }
-    requires { ⌜ holding .amounts .left ≤ mostAmount ⌝ }
-    ensures { λ r. ⌜ Did r (now (state .exit)) (now (command .exit))
-        (ranged (startHeld (now (terminal .entry)) (now (state .entry)) (now (command .entry)))
+    requires { ⌜ holding .amounts .remaining ≤ mostAmount ⌝ }
+    ensures { λ r. ⌜ DidCabinetCall r (now (state .exit)) (now (command .exit))
+        (ifInRanges (startOnCabinet (now (terminal .entry)) (now (state .entry)) (now (command .entry)))
         (now (state .entry)) (now (command .entry)) (cabinetOf holding (now (state .entry)))) ⌝ }
 {
     let phase = holding.phase;
-    if !record::keeps(phase, holding.count, &state[HEAD..RECORD_SIZE]) {
+    if !session_record::parts_in_ranges(phase, holding.count, &state[HEAD..RECORD_SIZE]) {
         return layout::refusal_word(basics::REFUSED_RANGES);
     }
     if is_running(phase) {
         return layout::refusal_word(basics::REFUSED_PHASE);
     }
     let amounts = holding.amounts;
-    start_fresh(amounts.left, state, terminal, command)
+    start_fresh(amounts.remaining, state, terminal, command)
 }
 
 // A start on a fresh session and a command buffer of its own, which are copied over only where it is not refused: a refusal leaves an
 // ended session as it was.
-fn start_fresh(left: u64, state: &mut [u8], terminal: &[u8], command: &mut [u8]) -> u32
-    requires { ⌜ stateSize ≤ length (now state) ⌝ }
+fn start_fresh(remaining: u64, state: &mut [u8], terminal: &[u8], command: &mut [u8]) -> u32
+    requires { ⌜ cabinetStateSize ≤ length (now state) ⌝ }
     requires { ⌜ leastBuffer ≤ length (now command) ⌝ }
-    requires { ⌜ left ≤ mostAmount ⌝ }
-    ensures { λ r. ⌜ Did r (now (state .exit)) (now (command .exit))
-        (freshStart (now (terminal .entry)) left (now (state .entry)) (now (command .entry))) ⌝ }
+    requires { ⌜ remaining ≤ mostAmount ⌝ }
+    ensures { λ r. ⌜ DidCabinetCall r (now (state .exit)) (now (command .exit))
+        (cabinetFreshStart (now (terminal .entry)) remaining (now (state .entry)) (now (command .entry))) ⌝ }
 {
     let mut store = [0u8; SIZE];
     let mut first = [0u8; LEAST_BUFFER];
-    let turn = session::start_in(Phase::Fresh, 0, &mut store, terminal, &mut first);
-    let answer = turn.answer;
-    if let Answer::Refused(refusal) = answer {
+    let transition = session::start_in(Phase::Fresh, 0, &mut store, terminal, &mut first);
+    let answer = transition.answer;
+    if let CallResult::Refused(refusal) = answer {
         return layout::refusal_word(refusal.number);
     }
     let amount = amount_in(&store);
-    if left < amount {
+    if remaining < amount {
         return layout::refusal_word(REFUSED_LEFT);
     }
     hand_over(answer, &first, command);
     bytes::copy(&store, &mut state[HEAD..RECORD_SIZE]);
-    finish(turn, Amounts { left: left - amount, aside: amount }, state)
+    finish(transition, Amounts { remaining: remaining - amount, reserved: amount }, state)
 }
 
 // Copies a command from the front of one buffer to the front of another; without a command nothing.
-fn hand_over(answer: Answer, first: &[u8], command: &mut [u8])
-    requires { ⌜ (sizeIn answer ≤ length (now first)) × (sizeIn answer ≤ length (now command)) ⌝ }
-    ensures { λ _. ⌜ now (command .exit) ≡ handedOver answer (now (first .entry)) (now (command .entry)) ⌝ }
+fn hand_over(answer: CallResult, first: &[u8], command: &mut [u8])
+    requires { ⌜ (commandSizeIn answer ≤ length (now first)) × (commandSizeIn answer ≤ length (now command)) ⌝ }
+    ensures { λ _. ⌜ now (command .exit) ≡ commandHandedOver answer (now (first .entry)) (now (command .entry)) ⌝ }
 {
-    let Answer::Command(issued) = answer else {
+    let CallResult::Command(issued) = answer else {
         return;
     };
     let size = issued.size;
@@ -304,59 +304,59 @@ fn hand_over(answer: Answer, first: &[u8], command: &mut [u8])
 }
 
 // Writes the head and the amounts of a turn, whose store lies in its place, and gives the word of its answer. A refusal writes nothing.
-fn finish(turn: Turn, amounts: Amounts, state: &mut [u8]) -> u32
-    requires { ⌜ stateSize ≤ length (now state) ⌝ }
-    requires { ⌜ amounts .left + amounts .aside ≤ mostAmount ⌝ }
-    ensures { λ r. ⌜ (r ≡ wordOf (turn .answer)) × (now (state .exit) ≡ finished turn amounts (now (state .entry))) ⌝ }
+fn finish(transition: Transition, amounts: Amounts, state: &mut [u8]) -> u32
+    requires { ⌜ cabinetStateSize ≤ length (now state) ⌝ }
+    requires { ⌜ amounts .remaining + amounts .reserved ≤ mostAmount ⌝ }
+    ensures { λ r. ⌜ (r ≡ resultWord (transition .answer)) × (now (state .exit) ≡ cabinetFinished transition amounts (now (state .entry))) ⌝ }
 {
-    let answer = turn.answer;
-    if let Answer::Refused(_) = answer {
-        return layout::word(answer);
+    let answer = transition.answer;
+    if let CallResult::Refused(_) = answer {
+        return layout::result_word(answer);
     }
-    let phase = turn.phase;
-    layout::put_head(phase, turn.count, state);
+    let phase = transition.phase;
+    layout::put_head(phase, transition.count, state);
     put_amounts(settled(answer, amounts), state);
-    layout::word(answer)
+    layout::result_word(answer)
 }
 
 // The amounts after an answer: an end leaves nothing set aside.
-fn settled(answer: Answer, amounts: Amounts) -> Amounts
-    requires { ⌜ amounts .left + amounts .aside ≤ mostAmount ⌝ }
-    ensures { λ r. ⌜ r ≡ settledOf answer amounts ⌝ }
+fn settled(answer: CallResult, amounts: Amounts) -> Amounts
+    requires { ⌜ amounts .remaining + amounts .reserved ≤ mostAmount ⌝ }
+    ensures { λ r. ⌜ r ≡ amountsSettled answer amounts ⌝ }
 {
     match answer {
-        Answer::Command(_) => amounts,
-        Answer::Outcome(end) => {
+        CallResult::Command(_) => amounts,
+        CallResult::Outcome(end) => {
             let outcome = end.outcome;
-            Amounts { left: left_after(outcome, amounts), aside: 0 }
+            Amounts { remaining: left_after(outcome, amounts), reserved: 0 }
         }
-        Answer::Refused(_) => amounts,
+        CallResult::Refused(_) => amounts,
     }
 }
 
 // What is left after an end: an approval spends what is set aside, every other outcome gives it back.
 fn left_after(outcome: Outcome, amounts: Amounts) -> u64
-    requires { ⌜ amounts .left + amounts .aside ≤ mostAmount ⌝ }
-    ensures { λ r. ⌜ r ≡ leftAfter outcome (amounts .left) (amounts .aside) ⌝ }
+    requires { ⌜ amounts .remaining + amounts .reserved ≤ mostAmount ⌝ }
+    ensures { λ r. ⌜ r ≡ remainingAfter outcome (amounts .remaining) (amounts .reserved) ⌝ }
 {
     match outcome {
-        Outcome::Approved => amounts.left,
-        Outcome::OnlineRequest => amounts.left + amounts.aside,
-        Outcome::Declined => amounts.left + amounts.aside,
-        Outcome::Ended => amounts.left + amounts.aside,
-        Outcome::SelectNext => amounts.left + amounts.aside,
+        Outcome::Approved => amounts.remaining,
+        Outcome::OnlineRequest => amounts.remaining + amounts.reserved,
+        Outcome::Declined => amounts.remaining + amounts.reserved,
+        Outcome::Ended => amounts.remaining + amounts.reserved,
+        Outcome::SelectNext => amounts.remaining + amounts.reserved,
     }
 }
 
 // Writes the two amounts behind the record.
 fn put_amounts(amounts: Amounts, state: &mut [u8])
-    requires { ⌜ stateSize ≤ length (now state) ⌝ }
+    requires { ⌜ cabinetStateSize ≤ length (now state) ⌝ }
     ensures { λ _. ⌜ now (state .exit) ≡ withAmounts amounts (now (state .entry)) ⌝ }
 {
-    let left = amount_bytes(amounts.left);
-    bytes::copy(&left, &mut state[LEFT..ASIDE]);
-    let aside = amount_bytes(amounts.aside);
-    bytes::copy(&aside, &mut state[ASIDE..STATE_SIZE]);
+    let remaining = amount_bytes(amounts.remaining);
+    bytes::copy(&remaining, &mut state[LEFT..ASIDE]);
+    let reserved = amount_bytes(amounts.reserved);
+    bytes::copy(&reserved, &mut state[ASIDE..STATE_SIZE]);
 }
 
 // An amount as eight bytes, high byte first.
@@ -389,6 +389,6 @@ fn eight(s: &[u8]) -> u64
 fn four(a: u8, b: u8, c: u8, d: u8) -> u64
     ensures { λ r. ⌜ (r ≡ ((a * 256 + b) * 256 + c) * 256 + d) × (r < 0x100000000) ⌝ }
 {
-    let n = basics::wide32(a) * 0x1000000 + basics::wide32(b) * 0x10000 + basics::wide32(c) * 0x100 + basics::wide32(d);
+    let n = basics::widen32(a) * 0x1000000 + basics::widen32(b) * 0x10000 + basics::widen32(c) * 0x100 + basics::widen32(d);
     n as u64
 }

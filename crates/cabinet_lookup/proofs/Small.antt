@@ -16,19 +16,19 @@ use Rattle.tlv.specs.declared.TagFront.{TagFront}
 use Rattle.tlv.specs.declared.TagFront.the-variants.{Tagged, Untagged}
 use Rattle.tlv.specs.declared.LengthFront.{LengthFront}
 use Rattle.tlv.specs.declared.LengthFront.the-variants.{Sized, Unsized}
-use Rattle.tlv.specs.declared.Header.{Header}
-use Rattle.tlv.specs.declared.Front.{Front}
-use Rattle.tlv.specs.declared.Front.the-variants as front
+use Rattle.tlv.specs.declared.TlvHeader.{TlvHeader}
+use Rattle.tlv.specs.declared.ObjectFront.{ObjectFront}
+use Rattle.tlv.specs.declared.ObjectFront.the-variants as front
 use Rattle.tlv.specs.Tag.{tagAt}
 use Rattle.tlv.specs.Length.{lengthAt}
-use Rattle.tlv.specs.Object.{withLength, withTag, headerOf, behind}
+use Rattle.tlv.specs.Object.{headerWithLength, headerWithTag, headerOf, behindObject}
 use Rattle.tlv.specs.Primitives.{primitiveOf}
 use Rattle.tlv.proofs.Laws.{Bytes, length-small}
 use Rattle.tlv.proofs.Primitives.{primitive-is, primitive-fits}
 use Rattle.tlv.proofs.Tree.{shorter-behind}
-use Rattle.cabinet_lookup.specs.declared.Found.{Found}
-use Rattle.cabinet_lookup.specs.declared.Found.the-variants.{At, Absent}
-use Rattle.cabinet_lookup.specs.Place.{shifted, firstAt, inBoth, placeOf}
+use Rattle.cabinet_lookup.specs.declared.LookupFound.{LookupFound}
+use Rattle.cabinet_lookup.specs.declared.LookupFound.the-variants.{At, Absent}
+use Rattle.cabinet_lookup.specs.Place.{lookupShifted, lookupFirst, lookupInBoth, lookupPlace}
 use Rattle.cabinet_lookup.proofs.Laws.{at-broken, at-here, at-behind}
 
 bytes-drop : (n : ℕ) (s : List ℕ) → Bytes s → Bytes (drop n s)
@@ -36,61 +36,61 @@ bytes-drop n s b i = rw (getD-drop n s i 0) (b (n + i))
 
 -- ---- the object at the front
 
-abbrev SmallFront : Front → Type 0
+abbrev SmallFront : ObjectFront → Type 0
 SmallFront front.Broken = Unit {0}
 SmallFront (front.Object h) = h .len < 0x10000
 
 with-length-small : (s : List ℕ) (t : Tag) → Bytes s
-    → (x : LengthFront) → lengthAt (drop (t .size) s) ≡ x → SmallFront (withLength s t x)
+    → (x : LengthFront) → lengthAt (drop (t .size) s) ≡ x → SmallFront (headerWithLength s t x)
 with-length-small s t b Unsized e = tt
 with-length-small s t b (Sized n) e =
     if-ind SmallFront _ _ _ (λ _. length-small (drop (t .size) s) n (bytes-drop (t .size) s b) e) (λ _. tt)
 
-with-tag-small : (s : List ℕ) → Bytes s → (x : TagFront) → SmallFront (withTag s x)
+with-tag-small : (s : List ℕ) → Bytes s → (x : TagFront) → SmallFront (headerWithTag s x)
 with-tag-small s b Untagged = tt
 with-tag-small s b (Tagged t) = with-length-small s t b (lengthAt (drop (t .size) s)) refl
 
-header-small : (s : List ℕ) (h : Header) → Bytes s → headerOf s ≡ front.Object h → h .len < 0x10000
+header-small : (s : List ℕ) (h : TlvHeader) → Bytes s → headerOf s ≡ front.Object h → h .len < 0x10000
 unfolding headerOf
 header-small s h b e = rw e at (with-tag-small s b (tagAt s))
 
 -- ---- the first object of a tag
 
-abbrev Small : Found → Type 0
+abbrev Small : LookupFound → Type 0
 Small Absent = Unit {0}
 Small (At p) = p .len < 0x10000
 
-small-shifted : (n : ℕ) (r : Found) → Small r → Small (shifted n r)
-unfolding shifted
+small-shifted : (n : ℕ) (r : LookupFound) → Small r → Small (lookupShifted n r)
+unfolding lookupShifted
 small-shifted n Absent w = tt
 small-shifted n (At p) w = w
 
-found-small : (tag : ℕ) (s : List ℕ) → Bytes s → Small (firstAt tag s)
-found-small tag = shorter-first (λ s. Bytes s → Small (firstAt tag s)) step
+found-small : (tag : ℕ) (s : List ℕ) → Bytes s → Small (lookupFirst tag s)
+found-small tag = shorter-first (λ s. Bytes s → Small (lookupFirst tag s)) step
   where
-    step : (s : List ℕ) → ((v : List ℕ) → length v < length s → Bytes v → Small (firstAt tag v))
-        → Bytes s → Small (firstAt tag s)
+    step : (s : List ℕ) → ((v : List ℕ) → length v < length s → Bytes v → Small (lookupFirst tag v))
+        → Bytes s → Small (lookupFirst tag s)
     step s ih b = go (primitiveOf s) refl
       where
-        go : (x : Front) → primitiveOf s ≡ x → Small (firstAt tag s)
+        go : (x : ObjectFront) → primitiveOf s ≡ x → Small (lookupFirst tag s)
         go front.Broken e = rw (at-broken tag s e) tt
         go (front.Object h) e = elim (equal-or-not (h .tag) tag) [
           | inl t ↦ rw (at-here tag s h e t) (header-small s h b (primitive-is s h e))
           | inr n ↦ rw (at-behind tag s h e n)
               (small-shifted (h .start + h .len) _
-              (ih (behind s h) (shorter-behind (primitive-fits s h e)) (bytes-drop (h .start + h .len) s b)))
+              (ih (behindObject s h) (shorter-behind (primitive-fits s h e)) (bytes-drop (h .start + h .len) s b)))
         ]
 
 -- ---- both lists
 
-small-both : (n : ℕ) (x y : Found) → Small x → Small y → inBoth n x y .len < 0x10000
-unfolding inBoth
+small-both : (n : ℕ) (x y : LookupFound) → Small x → Small y → lookupInBoth n x y .len < 0x10000
+unfolding lookupInBoth
 small-both n (At p) y f g = f
 small-both n Absent (At p) f g = g
 small-both n Absent Absent f g = omega arith
 
 pub place-small : (tag : ℕ) (site defaults : List ℕ) → Bytes site → Bytes defaults
-    → placeOf tag site defaults .len < 0x10000
+    → lookupPlace tag site defaults .len < 0x10000
 place-small tag site defaults b d =
-    small-both (length site) (firstAt tag site) (firstAt tag defaults)
+    small-both (length site) (lookupFirst tag site) (lookupFirst tag defaults)
     (found-small tag site b) (found-small tag defaults d)

@@ -4,21 +4,21 @@
 use mathlib.Core.List.{List}
 use Prim.Native.Nat.{ℕ, _+_}
 use denote.Ref.{RefT}
-use Rattle.cabinet_lookup.specs.declared.Found.{Found}
-use Rattle.cabinet_lookup.specs.declared.Found.the-variants.{At, Absent}
-use Rattle.cabinet_lookup.specs.Place.{firstAt}
+use Rattle.cabinet_lookup.specs.declared.LookupFound.{LookupFound}
+use Rattle.cabinet_lookup.specs.declared.LookupFound.the-variants.{At, Absent}
+use Rattle.cabinet_lookup.specs.Place.{lookupFirst}
 
 -- the address so many bytes behind another
-abbrev pub onward : ℕ → ℕ × ℕ → ℕ × ℕ
-onward n a = (a .0, n + a .1)
+abbrev pub addressAfter : ℕ → ℕ × ℕ → ℕ × ℕ
+addressAfter n a = (a .0, n + a .1)
 
 -- by the addresses of the two lists and what each has: in neither, the front of the defaults
-unfoldable pub inPlace : ℕ × ℕ → ℕ × ℕ → Found → Found → ℕ × ℕ
-inPlace s d (At p) r = onward (p .start) s
-inPlace s d Absent (At p) = onward (p .start) d
-inPlace s d Absent Absent = onward 0 d
+unfoldable pub addressInPlace : ℕ × ℕ → ℕ × ℕ → LookupFound → LookupFound → ℕ × ℕ
+addressInPlace s d (At p) r = addressAfter (p .start) s
+addressInPlace s d Absent (At p) = addressAfter (p .start) d
+addressInPlace s d Absent Absent = addressAfter 0 d
 
 -- the address of the value of the tag, of two lists that are lent
 abbrev pub addressOf : ℕ → RefT (List ℕ) → RefT (List ℕ) → ℕ × ℕ
 addressOf tag site defaults =
-    inPlace (site .ptr) (defaults .ptr) (firstAt tag (site .now)) (firstAt tag (defaults .now))
+    addressInPlace (site .ptr) (defaults .ptr) (lookupFirst tag (site .now)) (lookupFirst tag (defaults .now))

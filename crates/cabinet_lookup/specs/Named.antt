@@ -6,23 +6,23 @@ use Prim.Native.Nat.{ℕ, _+_, _-_, _<_}
 use lib.ListN.{length}
 use denote.Ref.{RefT}
 use Rattle.basics.specs.Choice.{if_then_else_, _=?_}
-use Rattle.cabinet_lookup.specs.Place.{span, bytesAt}
-use Rattle.cabinet_lookup.specs.Address.{onward}
-use Rattle.cabinet_lookup.specs.Word.{fromSite, sourceOf, placeWord, startIn, sourceIn, lengthIn}
+use Rattle.cabinet_lookup.specs.Place.{lookupSpan, spanBytes}
+use Rattle.cabinet_lookup.specs.Address.{addressAfter}
+use Rattle.cabinet_lookup.specs.Word.{fromSite, sourceOf, placeWord, placeStart, wordSource, lengthIn}
 
 -- where the part begins: in the site's list at the start; else in the defaults, the site's bytes not counted
 abbrev pub addressNamed : ℕ → RefT (List ℕ) → RefT (List ℕ) → ℕ × ℕ
 addressNamed w site defaults =
-    if sourceIn w =? fromSite then onward (startIn w) (site .ptr)
-    else onward (startIn w - length (site .now)) (defaults .ptr)
+    if wordSource w =? fromSite then addressAfter (placeStart w) (site .ptr)
+    else addressAfter (placeStart w - length (site .now)) (defaults .ptr)
 
 -- source, start and length of a word are those of a part of the two lists
 pub record Names (w tag : ℕ) (site defaults part : RefT (List ℕ)) : Type 0 where
   -- the list that has the tag, or nowhere
-  pub source : sourceIn w ≡ sourceOf tag (site .now) (defaults .now)
+  pub source : wordSource w ≡ sourceOf tag (site .now) (defaults .now)
   pub address : part .ptr ≡ addressNamed w site defaults
   pub len : length (part .now) ≡ lengthIn w
-  pub bytes : part .now ≡ bytesAt (site .now ++ defaults .now) (span (startIn w) (lengthIn w))
+  pub bytes : part .now ≡ spanBytes (site .now ++ defaults .now) (lookupSpan (placeStart w) (lengthIn w))
 
 -- the word of the tag names the part, where both lists together have fewer than 2^32 bytes
 abbrev pub Named : ℕ → RefT (List ℕ) → RefT (List ℕ) → RefT (List ℕ) → Type 0

@@ -6,55 +6,55 @@ use Prim.Native.Nat.{ℕ, _+_, _≤_}
 use lib.ListN.{length, take, drop}
 use Rattle.basics.specs.Choice.{if_then_else_, _=?_}
 use Rattle.basics.specs.Recursion.{recurse}
-use Rattle.tlv.specs.declared.Front.{Front}
-use Rattle.tlv.specs.declared.Front.the-variants as front
-use Rattle.tlv.specs.Object.{behind}
+use Rattle.tlv.specs.declared.ObjectFront.{ObjectFront}
+use Rattle.tlv.specs.declared.ObjectFront.the-variants as front
+use Rattle.tlv.specs.Object.{behindObject}
 use Rattle.tlv.specs.Primitives.{primitiveOf}
-use Rattle.cabinet_lookup.specs.declared.Span.{Span}
-use Rattle.cabinet_lookup.specs.declared.Found.{Found}
-use Rattle.cabinet_lookup.specs.declared.Found.the-variants.{At, Absent}
+use Rattle.cabinet_lookup.specs.declared.LookupSpan.{LookupSpan}
+use Rattle.cabinet_lookup.specs.declared.LookupFound.{LookupFound}
+use Rattle.cabinet_lookup.specs.declared.LookupFound.the-variants.{At, Absent}
 
 -- a value of n bytes whose first is at place a, counted from 0
-abbrev pub span : ℕ → ℕ → Span
-span a n = record { start = a; len = n }
+abbrev pub lookupSpan : ℕ → ℕ → LookupSpan
+lookupSpan a n = record { start = a; len = n }
 
 -- the bytes of a value that lies there
-abbrev pub bytesAt : List ℕ → Span → List ℕ
-bytesAt s p = take (p .len) (drop (p .start) s)
+abbrev pub spanBytes : List ℕ → LookupSpan → List ℕ
+spanBytes s p = take (p .len) (drop (p .start) s)
 
 -- ---- one list
 
 -- the same place, with n bytes more in front
-unfoldable pub shifted : ℕ → Found → Found
-shifted n Absent = Absent
-shifted n (At p) = At (span (n + p .start) (p .len))
+unfoldable pub lookupShifted : ℕ → LookupFound → LookupFound
+lookupShifted n Absent = Absent
+lookupShifted n (At p) = At (lookupSpan (n + p .start) (p .len))
 
 -- the object at the front where it has the tag, else what k finds behind it
-abbrev pub placeFront : ℕ → (List ℕ → Found) → List ℕ → Front → Found
-placeFront tag k s front.Broken = Absent
-placeFront tag k s (front.Object h) =
-    if h .tag =? tag then At (span (h .start) (h .len))
-    else shifted (h .start + h .len) (k (behind s h))
+abbrev pub lookupAtFront : ℕ → (List ℕ → LookupFound) → List ℕ → ObjectFront → LookupFound
+lookupAtFront tag k s front.Broken = Absent
+lookupAtFront tag k s (front.Object h) =
+    if h .tag =? tag then At (lookupSpan (h .start) (h .len))
+    else lookupShifted (h .start + h .len) (k (behindObject s h))
 
 -- one step, by what k finds in fewer bytes
-abbrev pub nextPlace : ℕ → (List ℕ → Found) → List ℕ → Found
-nextPlace tag k s = placeFront tag k s (primitiveOf s)
+abbrev pub lookupNext : ℕ → (List ℕ → LookupFound) → List ℕ → LookupFound
+lookupNext tag k s = lookupAtFront tag k s (primitiveOf s)
 
 -- where the first object of the tag lies; absent where the list holds none
-unfoldable pub firstAt : ℕ → List ℕ → Found
-firstAt tag s = recurse Absent (nextPlace tag) s
+unfoldable pub lookupFirst : ℕ → List ℕ → LookupFound
+lookupFirst tag s = recurse Absent (lookupNext tag) s
 
 -- ---- two lists
 
 -- by what each has, of a site's list of n bytes: in neither, no bytes at the front of the defaults
-unfoldable pub inBoth : ℕ → Found → Found → Span
-inBoth n (At p) r = p
-inBoth n Absent (At p) = span (n + p .start) (p .len)
-inBoth n Absent Absent = span n 0
+unfoldable pub lookupInBoth : ℕ → LookupFound → LookupFound → LookupSpan
+lookupInBoth n (At p) r = p
+lookupInBoth n Absent (At p) = lookupSpan (n + p .start) (p .len)
+lookupInBoth n Absent Absent = lookupSpan n 0
 
 -- where the value of the tag lies in the site's bytes and the defaults' behind them
-abbrev pub placeOf : ℕ → List ℕ → List ℕ → Span
-placeOf tag site defaults = inBoth (length site) (firstAt tag site) (firstAt tag defaults)
+abbrev pub lookupPlace : ℕ → List ℕ → List ℕ → LookupSpan
+lookupPlace tag site defaults = lookupInBoth (length site) (lookupFirst tag site) (lookupFirst tag defaults)
 
 -- ---- what holds of it, proved in proofs/Laws for all lists
 --   place-unroll    firstAt tag s ≡ nextPlace tag (firstAt tag) s: the steps allowed do not matter

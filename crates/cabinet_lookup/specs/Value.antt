@@ -5,25 +5,25 @@ use mathlib.Core.Option.{Option, some, none}
 use Prim.Native.Nat.{ℕ}
 use Rattle.basics.specs.Choice.{if_then_else_, _=?_}
 use Rattle.basics.specs.Recursion.{recurse}
-use Rattle.tlv.specs.declared.Front.{Front}
-use Rattle.tlv.specs.declared.Front.the-variants as front
-use Rattle.tlv.specs.Object.{valueIn, behind}
-use Rattle.tlv.specs.Primitives.{Object, object, primitiveOf}
+use Rattle.tlv.specs.declared.ObjectFront.{ObjectFront}
+use Rattle.tlv.specs.declared.ObjectFront.the-variants as front
+use Rattle.tlv.specs.Object.{headerValue, behindObject}
+use Rattle.tlv.specs.Primitives.{Object, tlvObject, primitiveOf}
 
 -- ---- one list
 
 -- the object at the front, and those that k reads behind it; bytes from a broken object or a template on hold nothing
-abbrev pub fromFront : (List ℕ → List Object) → List ℕ → Front → List Object
-fromFront k s front.Broken = []
-fromFront k s (front.Object h) = object (h .tag) (valueIn s h) ∷ k (behind s h)
+abbrev pub objectsFromFront : (List ℕ → List Object) → List ℕ → ObjectFront → List Object
+objectsFromFront k s front.Broken = []
+objectsFromFront k s (front.Object h) = tlvObject (h .tag) (headerValue s h) ∷ k (behindObject s h)
 
 -- one step, by what k reads of fewer bytes
-abbrev pub nextHeld : (List ℕ → List Object) → List ℕ → List Object
-nextHeld k s = fromFront k s (primitiveOf s)
+abbrev pub nextObjects : (List ℕ → List Object) → List ℕ → List Object
+nextObjects k s = objectsFromFront k s (primitiveOf s)
 
 -- the objects that a list holds: the whole primitive ones from its front, one right behind the other, no 00 in between
-unfoldable pub held : List ℕ → List Object
-held s = recurse [] nextHeld s
+unfoldable pub heldObjects : List ℕ → List Object
+heldObjects s = recurse [] nextObjects s
 
 -- the value of the first object of the tag
 unfoldable pub firstValue : ℕ → List Object → Option (List ℕ)
@@ -35,13 +35,13 @@ firstValue tag (o ∷ os) =
 -- ---- two lists
 
 -- a value that is there, an empty one too, else another
-unfoldable pub orElse : Option (List ℕ) → List ℕ → List ℕ
-orElse none w = w
-orElse (some v) w = v
+unfoldable pub valueOrDefault : Option (List ℕ) → List ℕ → List ℕ
+valueOrDefault none w = w
+valueOrDefault (some v) w = v
 
 -- the site's value of the tag, else that of the defaults, else no bytes
-abbrev pub valueOf : ℕ → List ℕ → List ℕ → List ℕ
-valueOf tag site defaults = orElse (firstValue tag (held site)) (orElse (firstValue tag (held defaults)) [])
+abbrev pub lookupValue : ℕ → List ℕ → List ℕ → List ℕ
+lookupValue tag site defaults = valueOrDefault (firstValue tag (heldObjects site)) (valueOrDefault (firstValue tag (heldObjects defaults)) [])
 
 -- ---- what holds of it, proved in proofs/Laws for all lists
 --   held-unroll    held s ≡ nextHeld held s: the steps allowed do not matter

@@ -5,9 +5,9 @@ use mathlib.Core.Option.{Option, some, none}
 use Prim.Native.Nat.{ℕ, _+_, _*_, _/_, _%_}
 use lib.ListN.{length}
 use Rattle.basics.specs.Choice.{if_then_else_, _≤?_}
-use Rattle.cabinet_lookup.specs.declared.Span.{Span}
-use Rattle.cabinet_lookup.specs.Value.{held, firstValue}
-use Rattle.cabinet_lookup.specs.Place.{placeOf}
+use Rattle.cabinet_lookup.specs.declared.LookupSpan.{LookupSpan}
+use Rattle.cabinet_lookup.specs.Value.{heldObjects, firstValue}
+use Rattle.cabinet_lookup.specs.Place.{lookupPlace}
 
 -- ---- the source: which list has the tag
 
@@ -31,29 +31,29 @@ sourceBy none none = nowhere
 
 -- the source of the value of the tag
 abbrev pub sourceOf : ℕ → List ℕ → List ℕ → ℕ
-sourceOf tag site defaults = sourceBy (firstValue tag (held site)) (firstValue tag (held defaults))
+sourceOf tag site defaults = sourceBy (firstValue tag (heldObjects site)) (firstValue tag (heldObjects defaults))
 
 -- ---- the word
 
 -- the start in bits 32 to 63, the source in bits 16 and 17, the length in bits 0 to 15
-abbrev pub spanWord : ℕ → Span → ℕ
+abbrev pub spanWord : ℕ → LookupSpan → ℕ
 spanWord source p = p .start * 0x100000000 + source * 0x10000 + p .len
 
 -- all ones where both lists together have 2^32 bytes or more
 unfoldable pub placeWord : ℕ → List ℕ → List ℕ → ℕ
 placeWord tag site defaults =
     if 0x100000000 ≤? length site + length defaults then 0xFFFFFFFFFFFFFFFF
-    else spanWord (sourceOf tag site defaults) (placeOf tag site defaults)
+    else spanWord (sourceOf tag site defaults) (lookupPlace tag site defaults)
 
 -- ---- the word as a host takes it apart
 
 -- bits 32 to 63
-abbrev pub startIn : ℕ → ℕ
-startIn w = w / 0x100000000
+abbrev pub placeStart : ℕ → ℕ
+placeStart w = w / 0x100000000
 
 -- bits 16 and 17
-abbrev pub sourceIn : ℕ → ℕ
-sourceIn w = w / 0x10000 % 4
+abbrev pub wordSource : ℕ → ℕ
+wordSource w = w / 0x10000 % 4
 
 -- bits 0 to 15
 abbrev pub lengthIn : ℕ → ℕ

@@ -1,13 +1,13 @@
 // The value of a tag in a site's list of start objects, or else in the maker's list of defaults.
 //
-// `lookup` hands back the value in place: a part of one of the two lists. `place` says which list has the tag and where
+// `lookup_value` hands back the value in place: a part of one of the two lists. `value_place` says which list has the tag and where
 // that part lies, as one word, for a host in C. A list is read from its front up to the first bytes that are no whole
 // primitive object.
-use tlv::Front;
+use tlv::ObjectFront;
 ghost use mathlib.Core.Path.{_≡_};
 ghost use mathlib.Core.List.{_++_};
-ghost use Rattle.cabinet_lookup.specs.Value.{valueOf};
-ghost use Rattle.cabinet_lookup.specs.Place.{firstAt, placeOf, bytesAt};
+ghost use Rattle.cabinet_lookup.specs.Value.{lookupValue};
+ghost use Rattle.cabinet_lookup.specs.Place.{lookupFirst, lookupPlace, spanBytes};
 ghost use Rattle.cabinet_lookup.specs.Address.{addressOf};
 ghost use Rattle.cabinet_lookup.specs.Word.{placeWord};
 ghost use Rattle.cabinet_lookup.specs.Named.{Named};
@@ -25,32 +25,32 @@ const SITE: u64 = 0x10000;
 const DEFAULTS: u64 = 0x20000;
 
 // Where a value lies: its first byte, counted from 0, and how many there are.
-pub struct Span {
+pub struct LookupSpan {
     pub start: usize,
     pub len: usize,
 }
 
 // What one list has of a tag: the value of the first object, or no object.
-pub enum Found {
-    At(Span),
+pub enum LookupFound {
+    At(LookupSpan),
     Absent,
 }
 
 // The value of the tag: a part of the site's list where that has the tag, else a part of the defaults.
-pub fn lookup<'a>(site: &'a [u8], defaults: &'a [u8], tag: u32) -> &'a [u8]
-    ensures value { λ r. ⌜ now r ≡ valueOf tag (now (site .entry)) (now (defaults .entry)) ⌝ }
-    ensures place { λ r. ⌜ now r ≡ bytesAt (now (site .entry) ++ now (defaults .entry)) (placeOf tag (now (site .entry)) (now (defaults .entry))) ⌝ }
+pub fn lookup_value<'a>(site: &'a [u8], defaults: &'a [u8], tag: u32) -> &'a [u8]
+    ensures value { λ r. ⌜ now r ≡ lookupValue tag (now (site .entry)) (now (defaults .entry)) ⌝ }
+    ensures place { λ r. ⌜ now r ≡ spanBytes (now (site .entry) ++ now (defaults .entry)) (lookupPlace tag (now (site .entry)) (now (defaults .entry))) ⌝ }
     ensures in_place { λ r. ⌜ r .ptr ≡ addressOf tag (site .entry) (defaults .entry) ⌝ }
     ensures named { λ r. ⌜ Named tag (site .entry) (defaults .entry) r ⌝ }
 {
     let own = first(site, tag);
-    if let Found::At(p) = own {
+    if let LookupFound::At(p) = own {
         let start = p.start;
         let end = start + p.len;
         return &site[start..end];
     }
     let default = first(defaults, tag);
-    if let Found::At(p) = default {
+    if let LookupFound::At(p) = default {
         let start = p.start;
         let end = start + p.len;
         return &defaults[start..end];
@@ -60,7 +60,7 @@ pub fn lookup<'a>(site: &'a [u8], defaults: &'a [u8], tag: u32) -> &'a [u8]
 
 // Where that part lies, counted over the site's bytes and then the defaults': the start in bits 32 to 63, the source in
 // bits 16 and 17, the length in bits 0 to 15.
-pub fn place(site: &[u8], defaults: &[u8], tag: u32) -> u64
+pub fn value_place(site: &[u8], defaults: &[u8], tag: u32) -> u64
     ensures { λ r. ⌜ r ≡ placeWord tag (now (site .entry)) (now (defaults .entry)) ⌝ }
 {
     let count = site.len();
@@ -71,11 +71,11 @@ pub fn place(site: &[u8], defaults: &[u8], tag: u32) -> u64
         return TOO_LONG;
     }
     let own = first(site, tag);
-    if let Found::At(p) = own {
+    if let LookupFound::At(p) = own {
         return p.start as u64 * 0x100000000 + SITE + p.len as u64;
     }
     let default = first(defaults, tag);
-    if let Found::At(p) = default {
+    if let LookupFound::At(p) = default {
         let start = count + p.start;
         return start as u64 * 0x100000000 + DEFAULTS + p.len as u64;
     }
@@ -83,19 +83,19 @@ pub fn place(site: &[u8], defaults: &[u8], tag: u32) -> u64
 }
 
 // Where the value of the first object of the tag lies in one list.
-fn first(bytes: &[u8], tag: u32) -> Found
-    ensures { λ r. ⌜ r ≡ firstAt tag (now (bytes .entry)) ⌝ }
+fn first(bytes: &[u8], tag: u32) -> LookupFound
+    ensures { λ r. ⌜ r ≡ lookupFirst tag (now (bytes .entry)) ⌝ }
 {
     let mut at = 0;
     loop {
         let front = tlv::primitive(&bytes[at..]);
-        let Front::Object(h) = front else {
-            return Found::Absent;
+        let ObjectFront::Object(h) = front else {
+            return LookupFound::Absent;
         };
         let start = at + h.start;
         let len = h.len;
         if h.tag == tag {
-            return Found::At(Span { start, len });
+            return LookupFound::At(LookupSpan { start, len });
         }
         at = start + len;
     }

@@ -4,21 +4,21 @@
 //
 // The file is read in parts of 4,096 bytes, up to the first record that is unlike. What is wrong with the file goes to
 // standard error. With --tell the exit status that is due goes to descriptor 3: 0 accepted, 1 unlike or cut, 2 no verdict.
-use journal::{Checker, Verdict};
+use journal::{JournalChecker, JournalVerdict};
 use libc::{STDERR_FILENO, STDIN_FILENO};
-use record::{Answer, Issued, Outcome};
+use session_record::{CallResult, CommandLength, Outcome};
 
 // The words that the program is called with: whether the exit status is told, which argument names the file (0: none
 // does), and whether there is one name too many or an unknown option.
-struct Arguments {
+struct CheckArguments {
     tell: bool,
     file: usize,
     wrong: bool,
 }
 
 // What is carried from part to part: the checker, whether to read on, and whether a part could not be read.
-struct Progress {
-    checker: Checker,
+struct CheckProgress {
+    checker: JournalChecker,
     going: bool,
     failed: bool,
 }
@@ -55,8 +55,8 @@ fn send(fd: i32, words: &[u8]) {
 
 // ---- the arguments
 
-fn asked_for() -> Arguments {
-    let mut out = Arguments {
+fn asked_for() -> CheckArguments {
+    let mut out = CheckArguments {
         tell: false,
         file: 0,
         wrong: false,
@@ -71,7 +71,7 @@ fn asked_for() -> Arguments {
 }
 
 // One argument more.
-fn with_argument(arguments: Arguments, i: usize) -> Arguments {
+fn with_argument(arguments: CheckArguments, i: usize) -> CheckArguments {
     let mut space = io::buffer();
     let n = os::arg(i, &mut space);
     let word = &space[..n];
@@ -90,7 +90,7 @@ fn with_argument(arguments: Arguments, i: usize) -> Arguments {
     out
 }
 
-fn not_understood(arguments: Arguments, words: &[u8]) -> Arguments {
+fn not_understood(arguments: CheckArguments, words: &[u8]) -> CheckArguments {
     send(STDERR_FILENO, b"journal: ");
     send(STDERR_FILENO, words);
     send(STDERR_FILENO, b"\n");
@@ -102,7 +102,7 @@ fn not_understood(arguments: Arguments, words: &[u8]) -> Arguments {
 // ---- the file
 
 // The verdict on the file that is asked for, shown: the exit status that is due.
-fn judged(asked: Arguments) -> u8 {
+fn judged(asked: CheckArguments) -> u8 {
     if asked.wrong {
         return NO_VERDICT;
     }
@@ -123,9 +123,9 @@ fn judged(asked: Arguments) -> u8 {
 
 // Feeds a file to a checker, up to a record that is unlike. A proved loop has to end, so it counts its turns from a number
 // that no file uses up.
-fn read(fd: i32) -> Progress {
+fn read(fd: i32) -> CheckProgress {
     let checker = journal::begin();
-    let mut state = Progress {
+    let mut state = CheckProgress {
         checker,
         going: true,
         failed: false,
@@ -139,7 +139,7 @@ fn read(fd: i32) -> Progress {
 }
 
 // One part more.
-fn read_part(state: Progress, fd: i32) -> Progress {
+fn read_part(state: CheckProgress, fd: i32) -> CheckProgress {
     let mut part = [0u8; 4096];
     let got = libc::read(fd, &mut part);
     if got < 0 {
@@ -151,14 +151,14 @@ fn read_part(state: Progress, fd: i32) -> Progress {
     }
     let n = io::count(got, &part);
     let checker = journal::feed(state.checker, &part[..n]);
-    Progress {
+    CheckProgress {
         checker,
-        going: !is_unlike(checker),
+        going: !is_mismatch(checker),
         failed: false,
     }
 }
 
-fn ended(state: Progress, failed: bool) -> Progress {
+fn ended(state: CheckProgress, failed: bool) -> CheckProgress {
     let mut out = state;
     out.going = false;
     out.failed = failed;
@@ -166,10 +166,10 @@ fn ended(state: Progress, failed: bool) -> Progress {
 }
 
 // Whether a record was unlike; then nothing behind it is looked at.
-fn is_unlike(checker: Checker) -> bool {
+fn is_mismatch(checker: JournalChecker) -> bool {
     let verdict = journal::finish(checker);
     match verdict {
-        Verdict::Unlike(_) => true,
+        JournalVerdict::Mismatch(_) => true,
         _ => false,
     }
 }
@@ -177,25 +177,25 @@ fn is_unlike(checker: Checker) -> bool {
 // ---- the verdict
 
 // Shows the verdict where the whole file was read.
-fn shown(state: Progress) -> u8 {
+fn shown(state: CheckProgress) -> u8 {
     if state.failed {
         return NO_VERDICT;
     }
     let checker = state.checker;
     let verdict = journal::finish(checker);
     match verdict {
-        Verdict::Accepted(n) => {
-            show::text(b"accepted, ");
-            show::number(n);
-            show::text(b" records\n");
+        JournalVerdict::Accepted(n) => {
+            print::text(b"accepted, ");
+            print::print_number(n);
+            print::text(b" records\n");
             ACCEPTED
         }
-        Verdict::Unlike(n) => {
+        JournalVerdict::Mismatch(n) => {
             named(n, b" is unlike what document 01 gives\n");
             right_record(checker);
             NOT_RIGHT
         }
-        Verdict::Cut(n) => {
+        JournalVerdict::Truncated(n) => {
             named(n, b" is cut\n");
             NOT_RIGHT
         }
@@ -204,28 +204,28 @@ fn shown(state: Progress) -> u8 {
 
 // A record by its number, and what it is.
 fn named(n: usize, words: &[u8]) {
-    show::text(b"record ");
-    show::number(n);
-    show::text(words);
+    print::text(b"record ");
+    print::print_number(n);
+    print::text(words);
 }
 
 // ---- the right record in the place of an unlike one
 
 // A line with the reply that was due, where one was.
-fn right_record(checker: Checker) {
-    let wanted = journal::wanted(checker);
+fn right_record(checker: JournalChecker) {
+    let wanted = journal::expected_record(checker);
     if wanted.size == 0 {
         return;
     }
     let bytes = wanted.bytes;
-    show::text(b"a right kernel has there: ");
+    print::text(b"a right kernel has there: ");
     if is_command(&bytes) {
-        show::answer_in_words(command_in(&bytes), body_in(&bytes));
-        show::text(b", zeros behind");
+        print::answer_in_words(command_in(&bytes), body_in(&bytes));
+        print::text(b", zeros behind");
     } else {
-        show::outcome_in_words(outcome_of(basics::byte_at(&bytes, 1)), basics::byte_at(&bytes, 2));
+        print::outcome_in_words(outcome_of(basics::byte_at(&bytes, 1)), basics::byte_at(&bytes, 2));
     }
-    show::text(b"\n");
+    print::text(b"\n");
 }
 
 // The bytes of a record behind its kind and length.
@@ -241,11 +241,11 @@ fn is_command(record: &[u8]) -> bool {
 }
 
 // What a command's record stands for: a command of so many bytes.
-fn command_in(record: &[u8]) -> Answer {
+fn command_in(record: &[u8]) -> CallResult {
     let first = basics::byte_at(record, 1);
     let second = basics::byte_at(record, 2);
-    let size = basics::wide(first) * 256 + basics::wide(second);
-    Answer::Command(Issued { size })
+    let size = basics::widen(first) * 256 + basics::widen(second);
+    CallResult::Command(CommandLength { size })
 }
 
 // The outcome of a number.

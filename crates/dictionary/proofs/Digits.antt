@@ -14,15 +14,15 @@ use Rattle.basics.specs.Choice.{if, both, every}
 use Rattle.basics.specs.Number.{nibbles}
 use Rattle.basics.proofs.Laws.{if-yes, if-no, both-yes, both-left, both-right, both-no-left, both-no-right, both-true, both-assoc}
 use Rattle.dictionary.specs.Form.{isDigit, isF, numeric, digitsThenFs, compressed}
-use Rattle.dictionary.specs.Inner.{isDigits, digitBytes, onlyFs}
+use Rattle.dictionary.specs.Inner.{isDecimalByte, digitBytes, onlyFs}
 
 -- ---- the count of digit bytes, one byte at a time
 module _ (v : List ℕ) (i : ℕ) (h : i < length v) where
-  pub stop-here : isDigits (getD v i 0) ≡ false → i + digitBytes (drop i v) ≡ i
+  pub stop-here : isDecimalByte (getD v i 0) ≡ false → i + digitBytes (drop i v) ≡ i
   unfolding digitBytes
   stop-here e = rw (drop-cons v i 0) (ap (λ (n : ℕ). i + n) (if-no _ _ e) ∙ omega arith)
 
-  pub go-on : isDigits (getD v i 0) ≡ true → i + digitBytes (drop i v) ≡ i + 1 + digitBytes (drop (i + 1) v)
+  pub go-on : isDecimalByte (getD v i 0) ≡ true → i + digitBytes (drop i v) ≡ i + 1 + digitBytes (drop (i + 1) v)
   unfolding digitBytes
   go-on e = rw (add-one, drop-cons v i 0) (ap (λ (n : ℕ). i + n) (if-yes _ _ e) ∙ omega arith)
 
@@ -31,21 +31,21 @@ unfolding digitBytes
 all-passed v i h = rw (drop-of-length-le v h) (omega arith)
 
 -- the byte at which the digits stop is not two decimal digits
-pub stops : (v : List ℕ) → digitBytes v < length v → isDigits (getD v (digitBytes v) 0) ≡ false
+pub stops : (v : List ℕ) → digitBytes v < length v → isDecimalByte (getD v (digitBytes v) 0) ≡ false
 unfolding digitBytes if
 stops [] h = absurd (omega arith)
-stops (b ∷ v) h = go (isDigits b) refl h (stops v)
+stops (b ∷ v) h = go (isDecimalByte b) refl h (stops v)
   where
-    go : (x : Bool) → isDigits b ≡ x → if x (suc (digitBytes v)) 0 < suc (length v) → (digitBytes v < length v → isDigits (getD v (digitBytes v) 0) ≡ false)
-        → isDigits (getD (b ∷ v) (if x (suc (digitBytes v)) 0) 0) ≡ false
+    go : (x : Bool) → isDecimalByte b ≡ x → if x (suc (digitBytes v)) 0 < suc (length v) → (digitBytes v < length v → isDecimalByte (getD v (digitBytes v) 0) ≡ false)
+        → isDecimalByte (getD (b ∷ v) (if x (suc (digitBytes v)) 0) 0) ≡ false
     go true e k ih = ih (omega arith)
     go false e k ih = e
 
 -- ---- n
 pub numeric-is : (v : List ℕ) → numeric v ≡ eqb (digitBytes v) (length v)
-unfolding numeric nibbles every digitBytes isDigits if both
+unfolding numeric nibbles every digitBytes isDecimalByte if both
 numeric-is [] = refl
-numeric-is (b ∷ v) = both-assoc (isDigit (b / 16)) (isDigit (b % 16)) (numeric v) ∙ go (isDigits b) (numeric-is v)
+numeric-is (b ∷ v) = both-assoc (isDigit (b / 16)) (isDigit (b % 16)) (numeric v) ∙ go (isDecimalByte b) (numeric-is v)
   where
     go : (x : Bool) → numeric v ≡ eqb (digitBytes v) (length v) → both x (numeric v) ≡ eqb (if x (suc (digitBytes v)) 0) (suc (length v))
     go true ih = ih ∙ sym (eqb·suc-suc (digitBytes v) (length v))
@@ -71,8 +71,8 @@ fs-bytes [] = refl
 fs-bytes (b ∷ w) = both-assoc _ _ _ ∙ ap₂ both (byte-fs b) (fs-bytes w)
 
 -- a first byte of two decimal digits, of FF, of a digit and F, and any other
-digits-first : (b : ℕ) (w : List ℕ) → isDigits b ≡ true → compressed (b ∷ w) ≡ compressed w
-unfolding compressed digitsThenFs nibbles isDigits
+digits-first : (b : ℕ) (w : List ℕ) → isDecimalByte b ≡ true → compressed (b ∷ w) ≡ compressed w
+unfolding compressed digitsThenFs nibbles isDecimalByte
 digits-first b w e = if-yes _ _ (both-left _ _ e) ∙ if-yes _ _ (both-right _ _ e)
 
 ff-first : (b : ℕ) (w : List ℕ) → b ≡ 0xFF → compressed (b ∷ w) ≡ onlyFs w
@@ -86,8 +86,8 @@ unfolding compressed digitsThenFs nibbles every
 half-first b w a e =
     if-yes _ _ (lt-ltb (b / 16) 10 a) ∙ if-no _ _ (le-ltb (b % 16) 10 (omega arith)) ∙ both-true _ (eq-eqb (b % 16) 15 e) ∙ fs-bytes w
 
-wrong-first : (b : ℕ) (w : List ℕ) → isDigits b ≡ false → (b ≡ 0xFF → ⊥) → (b / 16 < 10 → b % 16 ≡ 15 → ⊥) → compressed (b ∷ w) ≡ false
-unfolding compressed digitsThenFs nibbles every isDigits
+wrong-first : (b : ℕ) (w : List ℕ) → isDecimalByte b ≡ false → (b ≡ 0xFF → ⊥) → (b / 16 < 10 → b % 16 ≡ 15 → ⊥) → compressed (b ∷ w) ≡ false
+unfolding compressed digitsThenFs nibbles every isDecimalByte
 wrong-first b w d ne nh = go (ltb (b / 16) 10) refl
   where
     go : (x : Bool) → ltb (b / 16) 10 ≡ x → compressed (b ∷ w) ≡ false
@@ -99,9 +99,9 @@ wrong-first b w d ne nh = go (ltb (b / 16) 10) refl
 skip-digits : (v : List ℕ) → compressed v ≡ compressed (drop (digitBytes v) v)
 unfolding digitBytes if
 skip-digits [] = refl
-skip-digits (b ∷ v) = go (isDigits b) refl (skip-digits v)
+skip-digits (b ∷ v) = go (isDecimalByte b) refl (skip-digits v)
   where
-    go : (x : Bool) → isDigits b ≡ x → compressed v ≡ compressed (drop (digitBytes v) v) → compressed (b ∷ v) ≡ compressed (drop (if x (suc (digitBytes v)) 0) (b ∷ v))
+    go : (x : Bool) → isDecimalByte b ≡ x → compressed v ≡ compressed (drop (digitBytes v) v) → compressed (b ∷ v) ≡ compressed (drop (if x (suc (digitBytes v)) 0) (b ∷ v))
     go true e ih = digits-first b v e ∙ ih
     go false e ih = refl
 
@@ -119,7 +119,7 @@ module _ (v : List ℕ) (n : ℕ) (e : n ≡ digitBytes v) (h : n < length v) wh
   pub is-wrong : (getD v n 0 ≡ 0xFF → ⊥) → (getD v n 0 / 16 < 10 → getD v n 0 % 16 ≡ 15 → ⊥) → compressed v ≡ false
   is-wrong a p =
       let k : digitBytes v < length v = omega arith in
-      from-there ∙ wrong-first _ _ (ap (λ (m : ℕ). isDigits (getD v m 0)) e ∙ stops v k) a p
+      from-there ∙ wrong-first _ _ (ap (λ (m : ℕ). isDecimalByte (getD v m 0)) e ∙ stops v k) a p
 
 pub all-digits : (v : List ℕ) → digitBytes v ≡ length v → compressed v ≡ true
 unfolding compressed digitsThenFs nibbles

@@ -6,22 +6,22 @@ use Prim.Native.Nat.{ℕ}
 use lib.ListN.{replicate}
 use Rattle.basics.specs.Choice.{if, both, either, every}
 use Rattle.basics.specs.Number.{nibbles}
-use Rattle.dictionary.specs.declared.Found.{Found}
-use Rattle.dictionary.specs.declared.Found.the-variants.{At, Unknown}
-use Rattle.dictionary.specs.declared.Searched.{Searched}
-use Rattle.dictionary.specs.Rows.{rows, rowAt, past, formB, formN, formCn}
-use Rattle.dictionary.specs.Search.{halve, halvingOf, lookedAt, searchOf, tagsOf, partNumber, filter, partSearchOf}
-use Rattle.dictionary.specs.Form.{numeric, digitsThenFs, compressed, digitsFit, fitting}
-use Rattle.dictionary.specs.Named.{row5A, row8E, row9F02, row9F67, row9F6A, row9F6B, rowDF811B, rowDF8125}
-use Rattle.dictionary.specs.TerminalType.{listed}
+use Rattle.dictionary.specs.declared.RowFound.{RowFound}
+use Rattle.dictionary.specs.declared.RowFound.the-variants.{At, Unknown}
+use Rattle.dictionary.specs.declared.SearchResult.{SearchResult}
+use Rattle.dictionary.specs.Rows.{dictionaryRows, rowAt, rowPast, formB, formN, formCn}
+use Rattle.dictionary.specs.Search.{halve, halvingOf, probedPlaces, searchOf, tagsOf, partNumber, filter, partSearchOf}
+use Rattle.dictionary.specs.Form.{numeric, digitsThenFs, compressed, digitsFit, fitsRow}
+use Rattle.dictionary.specs.Named.{rowPan, rowCvmList, rowAmount, rowNatcTrack2, rowUnNumeric, rowTrack2Data, rowKernelConfiguration, rowLimitOnDeviceCvm}
+use Rattle.dictionary.specs.TerminalType.{listedTerminalType}
 
 -- terminal types: 11 to 16, 21 to 26, 34 to 36
-listed-types : map listed (0x11 ∷ 0x16 ∷ 0x21 ∷ 0x26 ∷ 0x34 ∷ 0x36 ∷ []) ≡ true ∷ true ∷ true ∷ true ∷ true ∷ true ∷ []
-unfolding listed both either
+listed-types : map listedTerminalType (0x11 ∷ 0x16 ∷ 0x21 ∷ 0x26 ∷ 0x34 ∷ 0x36 ∷ []) ≡ true ∷ true ∷ true ∷ true ∷ true ∷ true ∷ []
+unfolding listedTerminalType both either
 listed-types = refl
 
-other-types : map listed (0x10 ∷ 0x17 ∷ 0x20 ∷ 0x27 ∷ 0x33 ∷ 0x37 ∷ []) ≡ false ∷ false ∷ false ∷ false ∷ false ∷ false ∷ []
-unfolding listed both either
+other-types : map listedTerminalType (0x10 ∷ 0x17 ∷ 0x20 ∷ 0x27 ∷ 0x33 ∷ 0x37 ∷ []) ≡ false ∷ false ∷ false ∷ false ∷ false ∷ false ∷ []
+unfolding listedTerminalType both either
 other-types = refl
 
 -- n: no byte, 00 and 99; then A and F as a low digit and as a high one
@@ -48,47 +48,47 @@ unfolding digitsFit if
 any-bytes = refl
 
 -- lengths: 6 for 9F02, 0 to 10 for 5A
-amounts : map (λ n. fitting (rowAt row9F02) (replicate n 0)) (5 ∷ 6 ∷ 7 ∷ []) ≡ false ∷ true ∷ false ∷ []
-unfolding rows fitting digitsFit numeric nibbles every both if
+amounts : map (λ n. fitsRow (rowAt rowAmount) (replicate n 0)) (5 ∷ 6 ∷ 7 ∷ []) ≡ false ∷ true ∷ false ∷ []
+unfolding dictionaryRows fitsRow digitsFit numeric nibbles every both if
 amounts = refl
 
-numbers : map (λ n. fitting (rowAt row5A) (replicate n 0)) (0 ∷ 10 ∷ 11 ∷ []) ≡ true ∷ true ∷ false ∷ []
-unfolding rows fitting digitsFit compressed digitsThenFs nibbles every both if
+numbers : map (λ n. fitsRow (rowAt rowPan) (replicate n 0)) (0 ∷ 10 ∷ 11 ∷ []) ≡ true ∷ true ∷ false ∷ []
+unfolding dictionaryRows fitsRow digitsFit compressed digitsThenFs nibbles every both if
 numbers = refl
 
 -- 10 to 250 for 8E, so that a list has a rule
-lists : map (λ n. fitting (rowAt row8E) (replicate n 0)) (0 ∷ 9 ∷ 10 ∷ 250 ∷ 251 ∷ []) ≡ false ∷ false ∷ true ∷ true ∷ false ∷ []
-unfolding rows fitting digitsFit both if
+lists : map (λ n. fitsRow (rowAt rowCvmList) (replicate n 0)) (0 ∷ 9 ∷ 10 ∷ 250 ∷ 251 ∷ []) ≡ false ∷ false ∷ true ∷ true ∷ false ∷ []
+unfolding dictionaryRows fitsRow digitsFit both if
 lists = refl
 
 -- one byte of any bits for DF811B, six of digits for DF8125
-configurations : map (λ n. fitting (rowAt rowDF811B) (replicate n 0xFF)) (0 ∷ 1 ∷ 2 ∷ []) ≡ false ∷ true ∷ false ∷ []
-unfolding rows fitting digitsFit both if
+configurations : map (λ n. fitsRow (rowAt rowKernelConfiguration) (replicate n 0xFF)) (0 ∷ 1 ∷ 2 ∷ []) ≡ false ∷ true ∷ false ∷ []
+unfolding dictionaryRows fitsRow digitsFit both if
 configurations = refl
 
-phone-limits : map (fitting (rowAt rowDF8125)) (replicate 5 0x99 ∷ replicate 6 0x99 ∷ replicate 7 0x99 ∷ replicate 6 0x9A ∷ [])
+on-device-limits : map (fitsRow (rowAt rowLimitOnDeviceCvm)) (replicate 5 0x99 ∷ replicate 6 0x99 ∷ replicate 7 0x99 ∷ replicate 6 0x9A ∷ [])
     ≡ false ∷ true ∷ false ∷ false ∷ []
-unfolding rows fitting digitsFit numeric nibbles every both if
-phone-limits = refl
+unfolding dictionaryRows fitsRow digitsFit numeric nibbles every both if
+on-device-limits = refl
 
 -- four bytes of digits for 9F6A, one of any bits for 9F67, 0 to 19 for the track
-unpredictable-numbers : map (fitting (rowAt row9F6A)) (replicate 3 0x99 ∷ replicate 4 0x99 ∷ replicate 5 0x99 ∷ replicate 4 0x9A ∷ [])
+unpredictable-numbers : map (fitsRow (rowAt rowUnNumeric)) (replicate 3 0x99 ∷ replicate 4 0x99 ∷ replicate 5 0x99 ∷ replicate 4 0x9A ∷ [])
     ≡ false ∷ true ∷ false ∷ false ∷ []
-unfolding rows fitting digitsFit numeric nibbles every both if
+unfolding dictionaryRows fitsRow digitsFit numeric nibbles every both if
 unpredictable-numbers = refl
 
-counter-lengths : map (λ n. fitting (rowAt row9F67) (replicate n 0xFF)) (0 ∷ 1 ∷ 2 ∷ []) ≡ false ∷ true ∷ false ∷ []
-unfolding rows fitting digitsFit both if
+counter-lengths : map (λ n. fitsRow (rowAt rowNatcTrack2) (replicate n 0xFF)) (0 ∷ 1 ∷ 2 ∷ []) ≡ false ∷ true ∷ false ∷ []
+unfolding dictionaryRows fitsRow digitsFit both if
 counter-lengths = refl
 
-tracks : map (λ n. fitting (rowAt row9F6B) (replicate n 0xDF)) (0 ∷ 19 ∷ 20 ∷ []) ≡ true ∷ true ∷ false ∷ []
-unfolding rows fitting digitsFit both if
+tracks : map (λ n. fitsRow (rowAt rowTrack2Data) (replicate n 0xDF)) (0 ∷ 19 ∷ 20 ∷ []) ≡ true ∷ true ∷ false ∷ []
+unfolding dictionaryRows fitsRow digitsFit both if
 tracks = refl
 
 -- ---- searches: where a tag stands, and how many are looked at
 
-abbrev said : Found → ℕ → Searched
-said found looks = record { found = found; looks = looks }
+abbrev said : RowFound → ℕ → SearchResult
+said found probes = record { found = found; probes = probes }
 
 -- no tag, one, three, and tags between them
 of-none : searchOf [] 0x57 ≡ said Unknown 0
@@ -127,19 +127,19 @@ unfolding searchOf halvingOf halve if
 of-eight = refl
 
 -- the dictionary: first row, four within, last; below all, between, above all
-of-rows : map (searchOf (tagsOf rows)) (0x50 ∷ 0x57 ∷ 0x5F24 ∷ 0x9F09 ∷ 0xDF8126 ∷ 0xDF8307 ∷ [])
+of-rows : map (searchOf (tagsOf dictionaryRows)) (0x50 ∷ 0x57 ∷ 0x5F24 ∷ 0x9F09 ∷ 0xDF8126 ∷ 0xDF8307 ∷ [])
     ≡ said (At 0) 8 ∷ said (At 2) 6 ∷ said (At 16) 7 ∷ said (At 30) 8 ∷ said (At 136) 7 ∷ said (At 157) 7 ∷ []
-unfolding rows searchOf halvingOf halve if
+unfolding dictionaryRows searchOf halvingOf halve if
 of-rows = refl
 
-of-no-row : map (searchOf (tagsOf rows)) (0 ∷ 0x5F26 ∷ 0xDF8131 ∷ 0xDF8308 ∷ 0xFFFFFFFF ∷ [])
+of-no-row : map (searchOf (tagsOf dictionaryRows)) (0 ∷ 0x5F26 ∷ 0xDF8131 ∷ 0xDF8308 ∷ 0xFFFFFFFF ∷ [])
     ≡ said Unknown 8 ∷ said Unknown 7 ∷ said Unknown 8 ∷ said Unknown 7 ∷ said Unknown 7 ∷ []
-unfolding rows searchOf halvingOf halve if
+unfolding dictionaryRows searchOf halvingOf halve if
 of-no-row = refl
 
 -- the places looked at, in their order
-places-of-last : lookedAt (tagsOf rows) 0xDF8307 ≡ 79 ∷ 119 ∷ 139 ∷ 149 ∷ 154 ∷ 156 ∷ 157 ∷ []
-unfolding rows halvingOf halve if
+places-of-last : probedPlaces (tagsOf dictionaryRows) 0xDF8307 ≡ 79 ∷ 119 ∷ 139 ∷ 149 ∷ 154 ∷ 156 ∷ 157 ∷ []
+unfolding dictionaryRows halvingOf halve if
 places-of-last = refl
 
 -- the parts, on both sides of each edge
@@ -150,12 +150,12 @@ parts = refl
 
 -- the dictionary by its parts, of 16, 9, 76, 5 and 52 rows: a tag in the middle of three, the first of one and the last of one; then a tag
 -- at an edge of each that no row has
-of-parts : map (partSearchOf (tagsOf rows)) (0x8C ∷ 0x5F24 ∷ 0x9F4D ∷ 0xDF61 ∷ 0xDF8307 ∷ [])
+of-parts : map (partSearchOf (tagsOf dictionaryRows)) (0x8C ∷ 0x5F24 ∷ 0x9F4D ∷ 0xDF61 ∷ 0xDF8307 ∷ [])
     ≡ said (At 8) 1 ∷ said (At 16) 4 ∷ said (At 63) 1 ∷ said (At 103) 1 ∷ said (At 157) 5 ∷ []
-unfolding rows partSearchOf partNumber filter searchOf halvingOf halve past if
+unfolding dictionaryRows partSearchOf partNumber filter searchOf halvingOf halve rowPast if
 of-parts = refl
 
-in-no-part : map (partSearchOf (tagsOf rows)) (0xFF ∷ 0x100 ∷ 0xDEFF ∷ 0xDF00 ∷ 0x10000 ∷ [])
+in-no-part : map (partSearchOf (tagsOf dictionaryRows)) (0xFF ∷ 0x100 ∷ 0xDEFF ∷ 0xDF00 ∷ 0x10000 ∷ [])
     ≡ said Unknown 4 ∷ said Unknown 4 ∷ said Unknown 6 ∷ said Unknown 3 ∷ said Unknown 6 ∷ []
-unfolding rows partSearchOf partNumber filter searchOf halvingOf halve past if
+unfolding dictionaryRows partSearchOf partNumber filter searchOf halvingOf halve rowPast if
 in-no-part = refl

@@ -8,31 +8,31 @@ use borrow.Author.Tests.{le-leb, lt-leb, eq-eqb, ne-eqb, leb-true}
 use Rattle.basics.proofs.Laws.{if-yes, if-no, both-true, both-left, both-right, both-no-left}
 use Rattle.dictionary.specs.declared.Attributes.{Attributes}
 use Rattle.dictionary.specs.Rows.{Row, formN, formCn}
-use Rattle.dictionary.specs.Packing.{attributesOf, rowOf}
-use Rattle.dictionary.specs.Form.{fitting, digitsFit, numeric, compressed}
+use Rattle.dictionary.specs.Packing.{attributesOf, rowWithAttributes}
+use Rattle.dictionary.specs.Form.{fitsRow, digitsFit, numeric, compressed}
 
 -- a value that fits is neither too short nor too long
-pub fits-length : (r : Row) (v : List ℕ) → fitting r v ≡ true → (r .least ≤ length v) × (length v ≤ r .greatest)
-unfolding fitting
+pub fits-length : (r : Row) (v : List ℕ) → fitsRow r v ≡ true → (r .least ≤ length v) × (length v ≤ r .greatest)
+unfolding fitsRow
 fits-length r v e = (leb-true _ _ (both-left _ _ e), leb-true _ _ (both-left _ _ (both-right _ _ e)))
 
 -- what fits a row's attributes fits the row
-pub row-fits : (x : Row) (v : List ℕ) {r : Bool} {a : Attributes} → r ≡ fitting (rowOf a) v → a ≡ attributesOf x → r ≡ fitting x v
-unfolding fitting
-row-fits x v e f = e ∙ ap (λ (z : Attributes). fitting (rowOf z) v) f
+pub row-fits : (x : Row) (v : List ℕ) {r : Bool} {a : Attributes} → r ≡ fitsRow (rowWithAttributes a) v → a ≡ attributesOf x → r ≡ fitsRow x v
+unfolding fitsRow
+row-fits x v e f = e ∙ ap (λ (z : Attributes). fitsRow (rowWithAttributes z) v) f
 
 module _ (r : Row) (v : List ℕ) where
-  pub too-short : length v < r .least → fitting r v ≡ false
-  unfolding fitting
+  pub too-short : length v < r .least → fitsRow r v ≡ false
+  unfolding fitsRow
   too-short h = both-no-left _ _ (lt-leb _ _ h)
 
-  pub too-long : r .least ≤ length v → r .greatest < length v → fitting r v ≡ false
-  unfolding fitting
+  pub too-long : r .least ≤ length v → r .greatest < length v → fitsRow r v ≡ false
+  unfolding fitsRow
   too-long a h = both-true _ (le-leb _ _ a) ∙ both-no-left _ _ (lt-leb _ _ h)
 
   -- where the length is in range, the form decides
-  pub by-form : r .least ≤ length v → length v ≤ r .greatest → fitting r v ≡ digitsFit (r .form) v
-  unfolding fitting
+  pub by-form : r .least ≤ length v → length v ≤ r .greatest → fitsRow r v ≡ digitsFit (r .form) v
+  unfolding fitsRow
   by-form a h = both-true _ (le-leb _ _ a) ∙ both-true _ (le-leb _ _ h)
 
 module _ {f : ℕ} (v : List ℕ) where

@@ -1,194 +1,194 @@
 -- The rows of the tags that code uses, found in the table: each computed. Assumes nothing.
 use mathlib.Core.Path.{_≡_, refl}
 use Rattle.basics.specs.Choice.{if}
-use Rattle.dictionary.specs.declared.Found.the-variants.{At}
-use Rattle.dictionary.specs.Rows.{rows, past, find}
-use Rattle.dictionary.specs.Named.{row5A, row82, row8C, row8E, row94, row95, row9A, row9C, row5F24, row5F25, row5F28, row5F2A, row9F02, row9F03, row9F07, row9F08, row9F09, row9F0D, row9F0E, row9F0F, row9F10, row9F1A, row9F26, row9F27, row9F33, row9F34, row9F35, row9F36, row9F37, row9F38, row9F40, row9F42, row9F61, row9F65, row9F66, row9F67, row9F69, row9F6A, row9F6B, rowDF811B, rowDF8120, rowDF8121, rowDF8122, rowDF8123, rowDF8124, rowDF8125, rowDF8126}
+use Rattle.dictionary.specs.declared.RowFound.the-variants.{At}
+use Rattle.dictionary.specs.Rows.{dictionaryRows, rowPast, findRow}
+use Rattle.dictionary.specs.Named.{rowPan, rowAip, rowCdol1, rowCvmList, rowAfl, rowTvr, rowTransactionDate, rowTransactionType, rowExpirationDate, rowEffectiveDate, rowIssuerCountry, rowTransactionCurrency, rowAmount, rowAmountOther, rowAuc, rowCardVersion, rowReaderVersion, rowIacDefault, rowIacDenial, rowIacOnline, rowIad, rowTerminalCountry, rowAc, rowCid, rowTerminalCapabilities, rowCvmResults, rowTerminalType, rowAtc, rowUn, rowPdol, rowAdditionalCapabilities, rowApplicationCurrency, rowCvc3Track2, rowPcvc3Track2, rowPunatcTrack2, rowNatcTrack2, rowUdol, rowUnNumeric, rowTrack2Data, rowKernelConfiguration, rowTacDefault, rowTacDenial, rowTacOnline, rowFloorLimit, rowLimitNoOnDeviceCvm, rowLimitOnDeviceCvm, rowCvmRequiredLimit}
 
-pub at-5A : find rows 0x5A ≡ At row5A
-unfolding if rows past find
+pub at-5A : findRow dictionaryRows 0x5A ≡ At rowPan
+unfolding if dictionaryRows rowPast findRow
 at-5A = refl
 
-pub at-82 : find rows 0x82 ≡ At row82
-unfolding if rows past find
+pub at-82 : findRow dictionaryRows 0x82 ≡ At rowAip
+unfolding if dictionaryRows rowPast findRow
 at-82 = refl
 
-pub at-8C : find rows 0x8C ≡ At row8C
-unfolding if rows past find
+pub at-8C : findRow dictionaryRows 0x8C ≡ At rowCdol1
+unfolding if dictionaryRows rowPast findRow
 at-8C = refl
 
-pub at-8E : find rows 0x8E ≡ At row8E
-unfolding if rows past find
+pub at-8E : findRow dictionaryRows 0x8E ≡ At rowCvmList
+unfolding if dictionaryRows rowPast findRow
 at-8E = refl
 
-pub at-94 : find rows 0x94 ≡ At row94
-unfolding if rows past find
+pub at-94 : findRow dictionaryRows 0x94 ≡ At rowAfl
+unfolding if dictionaryRows rowPast findRow
 at-94 = refl
 
-pub at-95 : find rows 0x95 ≡ At row95
-unfolding if rows past find
+pub at-95 : findRow dictionaryRows 0x95 ≡ At rowTvr
+unfolding if dictionaryRows rowPast findRow
 at-95 = refl
 
-pub at-9A : find rows 0x9A ≡ At row9A
-unfolding if rows past find
+pub at-9A : findRow dictionaryRows 0x9A ≡ At rowTransactionDate
+unfolding if dictionaryRows rowPast findRow
 at-9A = refl
 
-pub at-9C : find rows 0x9C ≡ At row9C
-unfolding if rows past find
+pub at-9C : findRow dictionaryRows 0x9C ≡ At rowTransactionType
+unfolding if dictionaryRows rowPast findRow
 at-9C = refl
 
-pub at-5F24 : find rows 0x5F24 ≡ At row5F24
-unfolding if rows past find
+pub at-5F24 : findRow dictionaryRows 0x5F24 ≡ At rowExpirationDate
+unfolding if dictionaryRows rowPast findRow
 at-5F24 = refl
 
-pub at-5F25 : find rows 0x5F25 ≡ At row5F25
-unfolding if rows past find
+pub at-5F25 : findRow dictionaryRows 0x5F25 ≡ At rowEffectiveDate
+unfolding if dictionaryRows rowPast findRow
 at-5F25 = refl
 
-pub at-5F28 : find rows 0x5F28 ≡ At row5F28
-unfolding if rows past find
+pub at-5F28 : findRow dictionaryRows 0x5F28 ≡ At rowIssuerCountry
+unfolding if dictionaryRows rowPast findRow
 at-5F28 = refl
 
-pub at-5F2A : find rows 0x5F2A ≡ At row5F2A
-unfolding if rows past find
+pub at-5F2A : findRow dictionaryRows 0x5F2A ≡ At rowTransactionCurrency
+unfolding if dictionaryRows rowPast findRow
 at-5F2A = refl
 
-pub at-9F02 : find rows 0x9F02 ≡ At row9F02
-unfolding if rows past find
+pub at-9F02 : findRow dictionaryRows 0x9F02 ≡ At rowAmount
+unfolding if dictionaryRows rowPast findRow
 at-9F02 = refl
 
-pub at-9F03 : find rows 0x9F03 ≡ At row9F03
-unfolding if rows past find
+pub at-9F03 : findRow dictionaryRows 0x9F03 ≡ At rowAmountOther
+unfolding if dictionaryRows rowPast findRow
 at-9F03 = refl
 
-pub at-9F07 : find rows 0x9F07 ≡ At row9F07
-unfolding if rows past find
+pub at-9F07 : findRow dictionaryRows 0x9F07 ≡ At rowAuc
+unfolding if dictionaryRows rowPast findRow
 at-9F07 = refl
 
-pub at-9F08 : find rows 0x9F08 ≡ At row9F08
-unfolding if rows past find
+pub at-9F08 : findRow dictionaryRows 0x9F08 ≡ At rowCardVersion
+unfolding if dictionaryRows rowPast findRow
 at-9F08 = refl
 
-pub at-9F09 : find rows 0x9F09 ≡ At row9F09
-unfolding if rows past find
+pub at-9F09 : findRow dictionaryRows 0x9F09 ≡ At rowReaderVersion
+unfolding if dictionaryRows rowPast findRow
 at-9F09 = refl
 
-pub at-9F0D : find rows 0x9F0D ≡ At row9F0D
-unfolding if rows past find
+pub at-9F0D : findRow dictionaryRows 0x9F0D ≡ At rowIacDefault
+unfolding if dictionaryRows rowPast findRow
 at-9F0D = refl
 
-pub at-9F0E : find rows 0x9F0E ≡ At row9F0E
-unfolding if rows past find
+pub at-9F0E : findRow dictionaryRows 0x9F0E ≡ At rowIacDenial
+unfolding if dictionaryRows rowPast findRow
 at-9F0E = refl
 
-pub at-9F0F : find rows 0x9F0F ≡ At row9F0F
-unfolding if rows past find
+pub at-9F0F : findRow dictionaryRows 0x9F0F ≡ At rowIacOnline
+unfolding if dictionaryRows rowPast findRow
 at-9F0F = refl
 
-pub at-9F10 : find rows 0x9F10 ≡ At row9F10
-unfolding if rows past find
+pub at-9F10 : findRow dictionaryRows 0x9F10 ≡ At rowIad
+unfolding if dictionaryRows rowPast findRow
 at-9F10 = refl
 
-pub at-9F1A : find rows 0x9F1A ≡ At row9F1A
-unfolding if rows past find
+pub at-9F1A : findRow dictionaryRows 0x9F1A ≡ At rowTerminalCountry
+unfolding if dictionaryRows rowPast findRow
 at-9F1A = refl
 
-pub at-9F26 : find rows 0x9F26 ≡ At row9F26
-unfolding if rows past find
+pub at-9F26 : findRow dictionaryRows 0x9F26 ≡ At rowAc
+unfolding if dictionaryRows rowPast findRow
 at-9F26 = refl
 
-pub at-9F27 : find rows 0x9F27 ≡ At row9F27
-unfolding if rows past find
+pub at-9F27 : findRow dictionaryRows 0x9F27 ≡ At rowCid
+unfolding if dictionaryRows rowPast findRow
 at-9F27 = refl
 
-pub at-9F33 : find rows 0x9F33 ≡ At row9F33
-unfolding if rows past find
+pub at-9F33 : findRow dictionaryRows 0x9F33 ≡ At rowTerminalCapabilities
+unfolding if dictionaryRows rowPast findRow
 at-9F33 = refl
 
-pub at-9F34 : find rows 0x9F34 ≡ At row9F34
-unfolding if rows past find
+pub at-9F34 : findRow dictionaryRows 0x9F34 ≡ At rowCvmResults
+unfolding if dictionaryRows rowPast findRow
 at-9F34 = refl
 
-pub at-9F35 : find rows 0x9F35 ≡ At row9F35
-unfolding if rows past find
+pub at-9F35 : findRow dictionaryRows 0x9F35 ≡ At rowTerminalType
+unfolding if dictionaryRows rowPast findRow
 at-9F35 = refl
 
-pub at-9F36 : find rows 0x9F36 ≡ At row9F36
-unfolding if rows past find
+pub at-9F36 : findRow dictionaryRows 0x9F36 ≡ At rowAtc
+unfolding if dictionaryRows rowPast findRow
 at-9F36 = refl
 
-pub at-9F37 : find rows 0x9F37 ≡ At row9F37
-unfolding if rows past find
+pub at-9F37 : findRow dictionaryRows 0x9F37 ≡ At rowUn
+unfolding if dictionaryRows rowPast findRow
 at-9F37 = refl
 
-pub at-9F38 : find rows 0x9F38 ≡ At row9F38
-unfolding if rows past find
+pub at-9F38 : findRow dictionaryRows 0x9F38 ≡ At rowPdol
+unfolding if dictionaryRows rowPast findRow
 at-9F38 = refl
 
-pub at-9F40 : find rows 0x9F40 ≡ At row9F40
-unfolding if rows past find
+pub at-9F40 : findRow dictionaryRows 0x9F40 ≡ At rowAdditionalCapabilities
+unfolding if dictionaryRows rowPast findRow
 at-9F40 = refl
 
-pub at-9F42 : find rows 0x9F42 ≡ At row9F42
-unfolding if rows past find
+pub at-9F42 : findRow dictionaryRows 0x9F42 ≡ At rowApplicationCurrency
+unfolding if dictionaryRows rowPast findRow
 at-9F42 = refl
 
-pub at-9F61 : find rows 0x9F61 ≡ At row9F61
-unfolding if rows past find
+pub at-9F61 : findRow dictionaryRows 0x9F61 ≡ At rowCvc3Track2
+unfolding if dictionaryRows rowPast findRow
 at-9F61 = refl
 
-pub at-9F65 : find rows 0x9F65 ≡ At row9F65
-unfolding if rows past find
+pub at-9F65 : findRow dictionaryRows 0x9F65 ≡ At rowPcvc3Track2
+unfolding if dictionaryRows rowPast findRow
 at-9F65 = refl
 
-pub at-9F66 : find rows 0x9F66 ≡ At row9F66
-unfolding if rows past find
+pub at-9F66 : findRow dictionaryRows 0x9F66 ≡ At rowPunatcTrack2
+unfolding if dictionaryRows rowPast findRow
 at-9F66 = refl
 
-pub at-9F67 : find rows 0x9F67 ≡ At row9F67
-unfolding if rows past find
+pub at-9F67 : findRow dictionaryRows 0x9F67 ≡ At rowNatcTrack2
+unfolding if dictionaryRows rowPast findRow
 at-9F67 = refl
 
-pub at-9F69 : find rows 0x9F69 ≡ At row9F69
-unfolding if rows past find
+pub at-9F69 : findRow dictionaryRows 0x9F69 ≡ At rowUdol
+unfolding if dictionaryRows rowPast findRow
 at-9F69 = refl
 
-pub at-9F6A : find rows 0x9F6A ≡ At row9F6A
-unfolding if rows past find
+pub at-9F6A : findRow dictionaryRows 0x9F6A ≡ At rowUnNumeric
+unfolding if dictionaryRows rowPast findRow
 at-9F6A = refl
 
-pub at-9F6B : find rows 0x9F6B ≡ At row9F6B
-unfolding if rows past find
+pub at-9F6B : findRow dictionaryRows 0x9F6B ≡ At rowTrack2Data
+unfolding if dictionaryRows rowPast findRow
 at-9F6B = refl
 
-pub at-DF811B : find rows 0xDF811B ≡ At rowDF811B
-unfolding if rows past find
+pub at-DF811B : findRow dictionaryRows 0xDF811B ≡ At rowKernelConfiguration
+unfolding if dictionaryRows rowPast findRow
 at-DF811B = refl
 
-pub at-DF8120 : find rows 0xDF8120 ≡ At rowDF8120
-unfolding if rows past find
+pub at-DF8120 : findRow dictionaryRows 0xDF8120 ≡ At rowTacDefault
+unfolding if dictionaryRows rowPast findRow
 at-DF8120 = refl
 
-pub at-DF8121 : find rows 0xDF8121 ≡ At rowDF8121
-unfolding if rows past find
+pub at-DF8121 : findRow dictionaryRows 0xDF8121 ≡ At rowTacDenial
+unfolding if dictionaryRows rowPast findRow
 at-DF8121 = refl
 
-pub at-DF8122 : find rows 0xDF8122 ≡ At rowDF8122
-unfolding if rows past find
+pub at-DF8122 : findRow dictionaryRows 0xDF8122 ≡ At rowTacOnline
+unfolding if dictionaryRows rowPast findRow
 at-DF8122 = refl
 
-pub at-DF8123 : find rows 0xDF8123 ≡ At rowDF8123
-unfolding if rows past find
+pub at-DF8123 : findRow dictionaryRows 0xDF8123 ≡ At rowFloorLimit
+unfolding if dictionaryRows rowPast findRow
 at-DF8123 = refl
 
-pub at-DF8124 : find rows 0xDF8124 ≡ At rowDF8124
-unfolding if rows past find
+pub at-DF8124 : findRow dictionaryRows 0xDF8124 ≡ At rowLimitNoOnDeviceCvm
+unfolding if dictionaryRows rowPast findRow
 at-DF8124 = refl
 
-pub at-DF8125 : find rows 0xDF8125 ≡ At rowDF8125
-unfolding if rows past find
+pub at-DF8125 : findRow dictionaryRows 0xDF8125 ≡ At rowLimitOnDeviceCvm
+unfolding if dictionaryRows rowPast findRow
 at-DF8125 = refl
 
-pub at-DF8126 : find rows 0xDF8126 ≡ At rowDF8126
-unfolding if rows past find
+pub at-DF8126 : findRow dictionaryRows 0xDF8126 ≡ At rowCvmRequiredLimit
+unfolding if dictionaryRows rowPast findRow
 at-DF8126 = refl

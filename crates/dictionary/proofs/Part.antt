@@ -1,5 +1,5 @@
 -- The part of the table that a tag can stand in: rows before it have smaller tags, rows behind it greater ones, so a search of the part finds
--- what `find` finds in the whole. What the parts ask of the table is computed, one test each; so is which tags each of them has.
+-- what `findRow` finds in the whole. What the parts ask of the table is computed, one test each; so is which tags each of them has.
 -- Assumes nothing.
 use mathlib.Core.Path.{_≡_, refl, sym, ap, subst, _∙_}
 use mathlib.Core.Bool.{Bool, true, false}
@@ -11,22 +11,22 @@ use lib.ListN.{length, take, drop}
 use borrow.Author.Tests.{ne-eqb, leb-true, ltb-true, ltb-false, lt-ltb, le-ltb}
 use Rattle.basics.specs.Choice.{if, both, every}
 use Rattle.basics.proofs.Laws.{if-yes, if-no, if-ind, both-left, both-right}
-use Rattle.dictionary.specs.declared.Found.{Found}
-use Rattle.dictionary.specs.declared.Found.the-variants.{At, Unknown}
-use Rattle.dictionary.specs.declared.Range.{Range}
-use Rattle.dictionary.specs.declared.Searched.{Searched}
-use Rattle.dictionary.specs.Rows.{Row, rows, rowCount, past, find}
-use Rattle.dictionary.specs.Rule.{rising}
+use Rattle.dictionary.specs.declared.RowFound.{RowFound}
+use Rattle.dictionary.specs.declared.RowFound.the-variants.{At, Unknown}
+use Rattle.dictionary.specs.declared.RowRange.{RowRange}
+use Rattle.dictionary.specs.declared.SearchResult.{SearchResult}
+use Rattle.dictionary.specs.Rows.{Row, dictionaryRows, rowCount, rowPast, findRow}
+use Rattle.dictionary.specs.Rule.{risingTags}
 use Rattle.dictionary.specs.Search.{searchOf, tagsOf, partNumber, filter, tagsInPart, partSearchOf}
-use Rattle.dictionary.specs.Inner.{range, partOf}
+use Rattle.dictionary.specs.Inner.{rowRange, tagRange}
 
-past-none : (x : Found) → past 0 x ≡ x
-unfolding past
+past-none : (x : RowFound) → rowPast 0 x ≡ x
+unfolding rowPast
 past-none Unknown = refl
 past-none (At k) = let e : 0 + k ≡ k = omega arith in ap At e
 
-past-more : (a : ℕ) (x : Found) → past 1 (past a x) ≡ past (suc a) x
-unfolding past
+past-more : (a : ℕ) (x : RowFound) → rowPast 1 (rowPast a x) ≡ rowPast (suc a) x
+unfolding rowPast
 past-more a Unknown = refl
 past-more a (At k) = let e : 1 + (a + k) ≡ suc a + k = omega arith in ap At e
 
@@ -34,78 +34,78 @@ past-more a (At k) = let e : 1 + (a + k) ≡ suc a + k = omega arith in ap At e
 abbrev below : ℕ → Row → Bool
 below low r = ltb (r .tag) low
 
-find-behind : (a : ℕ) (table : List Row) (low t : ℕ) → every (below low) (take a table) ≡ true → low ≤ t → find table t ≡ past a (find (drop a table) t)
-unfolding every find past
-find-behind zero table low t h l = sym (past-none (find table t))
+find-behind : (a : ℕ) (table : List Row) (low t : ℕ) → every (below low) (take a table) ≡ true → low ≤ t → findRow table t ≡ rowPast a (findRow (drop a table) t)
+unfolding every findRow rowPast
+find-behind zero table low t h l = sym (past-none (findRow table t))
 find-behind (suc a) [] low t h l = refl
 find-behind (suc a) (r ∷ rs) low t h l =
     let n : r .tag ≡ t → ⊥ = λ e. let s = ltb-true (r .tag) low (both-left _ _ h) in omega arith in
-    if-no _ _ (ne-eqb _ _ n) ∙ ap (past 1) (find-behind a rs low t (both-right _ _ h) l) ∙ past-more a (find (drop a rs) t)
+    if-no _ _ (ne-eqb _ _ n) ∙ ap (rowPast 1) (find-behind a rs low t (both-right _ _ h) l) ∙ past-more a (findRow (drop a rs) t)
 
 -- rows of greater tags behind have it not
 abbrev above : ℕ → Row → Bool
 above high r = leb high (r .tag)
 
-none-above : (table : List Row) (high t : ℕ) → every (above high) table ≡ true → t < high → find table t ≡ Unknown
-unfolding every find past
+none-above : (table : List Row) (high t : ℕ) → every (above high) table ≡ true → t < high → findRow table t ≡ Unknown
+unfolding every findRow rowPast
 none-above [] high t h l = refl
 none-above (r ∷ rs) high t h l =
     let n : r .tag ≡ t → ⊥ = λ e. let s = leb-true high (r .tag) (both-left _ _ h) in omega arith in
-    if-no _ _ (ne-eqb _ _ n) ∙ ap (past 1) (none-above rs high t (both-right _ _ h) l)
+    if-no _ _ (ne-eqb _ _ n) ∙ ap (rowPast 1) (none-above rs high t (both-right _ _ h) l)
 
-find-before : (n : ℕ) (table : List Row) (high t : ℕ) → every (above high) (drop n table) ≡ true → t < high → find table t ≡ find (take n table) t
-unfolding find
+find-before : (n : ℕ) (table : List Row) (high t : ℕ) → every (above high) (drop n table) ≡ true → t < high → findRow table t ≡ findRow (take n table) t
+unfolding findRow
 find-before zero table high t h l = none-above table high t h l
 find-before (suc n) [] high t h l = refl
-find-before (suc n) (r ∷ rs) high t h l = ap (λ (x : Found). if (eqb (r .tag) t) (At 0) (past 1 x)) (find-before n rs high t h l)
+find-before (suc n) (r ∷ rs) high t h l = ap (λ (x : RowFound). if (eqb (r .tag) t) (At 0) (rowPast 1 x)) (find-before n rs high t h l)
 
 -- ---- the dictionary's parts
 
-abbrev pub partRows : Range → List Row
-partRows p = take (p .to - p .from) (drop (p .from) rows)
+abbrev pub partRows : RowRange → List Row
+partRows p = take (p .to - p .from) (drop (p .from) dictionaryRows)
 
-abbrev pub partTags : Range → List ℕ
-partTags p = take (p .to - p .from) (drop (p .from) (tagsOf rows))
+abbrev pub partTags : RowRange → List ℕ
+partTags p = take (p .to - p .from) (drop (p .from) (tagsOf dictionaryRows))
 
 -- the tags of the part of a number, and how many are before it
-pub record Numbered (n : ℕ) (p : Range) : Type 0 where
-  pub tags : filter (λ u. eqb (partNumber u) n) (tagsOf rows) ≡ partTags p
-  pub start : length (filter (λ u. ltb (partNumber u) n) (tagsOf rows)) ≡ p .from
+pub record Numbered (n : ℕ) (p : RowRange) : Type 0 where
+  pub tags : filter (λ u. eqb (partNumber u) n) (tagsOf dictionaryRows) ≡ partTags p
+  pub start : length (filter (λ u. ltb (partNumber u) n) (tagsOf dictionaryRows)) ≡ p .from
 
 -- what a search of a part gives for a tag
-pub record Stands (t : ℕ) (p : Range) : Type 0 where
+pub record Stands (t : ℕ) (p : RowRange) : Type 0 where
   pub tags : tagsOf (partRows p) ≡ partTags p
-  pub rises : rising (partRows p) ≡ true
-  pub finds : find rows t ≡ past (p .from) (find (partRows p) t)
+  pub rises : risingTags (partRows p) ≡ true
+  pub finds : findRow dictionaryRows t ≡ rowPast (p .from) (findRow (partRows p) t)
   pub numbered : Numbered (partNumber t) p
 
 -- of a part between two tags
-between : (a n low high t : ℕ) → every (below low) (take a rows) ≡ true → every (above high) (drop n (drop a rows)) ≡ true → low ≤ t → t < high
-    → find rows t ≡ past a (find (take n (drop a rows)) t)
-between a n low high t h i l m = find-behind a rows low t h l ∙ ap (past a) (find-before n (drop a rows) high t i m)
+between : (a n low high t : ℕ) → every (below low) (take a dictionaryRows) ≡ true → every (above high) (drop n (drop a dictionaryRows)) ≡ true → low ≤ t → t < high
+    → findRow dictionaryRows t ≡ rowPast a (findRow (take n (drop a dictionaryRows)) t)
+between a n low high t h i l m = find-behind a dictionaryRows low t h l ∙ ap (rowPast a) (find-before n (drop a dictionaryRows) high t i m)
 
 -- of the part of a number
-numbered : (t : ℕ) {n : ℕ} {p : Range} → partNumber t ≡ n → Numbered n p → Numbered (partNumber t) p
+numbered : (t : ℕ) {n : ℕ} {p : RowRange} → partNumber t ≡ n → Numbered n p → Numbered (partNumber t) p
 numbered t {n} {p} e = subst (λ (m : ℕ). Numbered m p) (sym e)
 
-part-0 : Numbered 0 (range 0 16)
-unfolding rows filter partNumber if
+part-0 : Numbered 0 (rowRange 0 16)
+unfolding dictionaryRows filter partNumber if
 part-0 = record { tags = refl; start = refl }
 
-part-1 : Numbered 1 (range 16 25)
-unfolding rows filter partNumber if
+part-1 : Numbered 1 (rowRange 16 25)
+unfolding dictionaryRows filter partNumber if
 part-1 = record { tags = refl; start = refl }
 
-part-2 : Numbered 2 (range 25 101)
-unfolding rows filter partNumber if
+part-2 : Numbered 2 (rowRange 25 101)
+unfolding dictionaryRows filter partNumber if
 part-2 = record { tags = refl; start = refl }
 
-part-3 : Numbered 3 (range 101 106)
-unfolding rows filter partNumber if
+part-3 : Numbered 3 (rowRange 101 106)
+unfolding dictionaryRows filter partNumber if
 part-3 = record { tags = refl; start = refl }
 
-part-4 : Numbered 4 (range 106 rowCount)
-unfolding rows filter partNumber if
+part-4 : Numbered 4 (rowRange 106 rowCount)
+unfolding dictionaryRows filter partNumber if
 part-4 = record { tags = refl; start = refl }
 
 -- the number of a tag's part
@@ -130,8 +130,8 @@ module _ (t : ℕ) where
   unfolding partNumber
   number-4 a b c d = if-no _ _ a ∙ if-no _ _ b ∙ if-no _ _ c ∙ if-no _ _ d
 
-pub part-stands : (t : ℕ) → Stands t (partOf t)
-unfolding partOf rows rising every both
+pub part-stands : (t : ℕ) → Stands t (tagRange t)
+unfolding tagRange dictionaryRows risingTags every both
 part-stands t =
     if-ind (Stands t) _ _ _
     (λ a. record { tags = refl; rises = refl; finds = between 0 16 0 0x100 t refl refl (omega arith) (ltb-true _ _ a); numbered = numbered t (number-0 t a) part-0 })
@@ -141,76 +141,76 @@ part-stands t =
     (λ c. record { tags = refl; rises = refl; finds = between 25 76 0x9F00 0xDF00 t refl refl (ltb-false _ _ b) (ltb-true _ _ c); numbered = numbered t (number-2 t a b c) part-2 })
     (λ c. if-ind (Stands t) _ _ _
     (λ d. record { tags = refl; rises = refl; finds = between 101 5 0xDF00 0x10000 t refl refl (ltb-false _ _ c) (ltb-true _ _ d); numbered = numbered t (number-3 t a b c d) part-3 })
-    (λ d. record { tags = refl; rises = refl; finds = find-behind 106 rows 0x10000 t refl (ltb-false _ _ d) ∙ ap (past 106) (sym all-left); numbered = numbered t (number-4 t a b c d) part-4 }))))
+    (λ d. record { tags = refl; rises = refl; finds = find-behind 106 dictionaryRows 0x10000 t refl (ltb-false _ _ d) ∙ ap (rowPast 106) (sym all-left); numbered = numbered t (number-4 t a b c d) part-4 }))))
   where
-    all-left : find (take 52 (drop 106 rows)) t ≡ find (drop 106 rows) t
+    all-left : findRow (take 52 (drop 106 dictionaryRows)) t ≡ findRow (drop 106 dictionaryRows) t
     all-left = refl
 
-pub tags-length : length (tagsOf rows) ≡ rowCount
-unfolding rows
+pub tags-length : length (tagsOf dictionaryRows) ≡ rowCount
+unfolding dictionaryRows
 tags-length = refl
 
 -- ---- which part, by the tag
 
 module _ (t : ℕ) where
-  pub one-byte : t < 0x100 → range 0 16 ≡ partOf t
-  unfolding partOf
+  pub one-byte : t < 0x100 → rowRange 0 16 ≡ tagRange t
+  unfolding tagRange
   one-byte a = sym (if-yes _ _ (lt-ltb _ _ a))
 
   module _ (a : 0x100 ≤ t) where
-    pub from-5F : t < 0x9F00 → range 16 25 ≡ partOf t
-    unfolding partOf
+    pub from-5F : t < 0x9F00 → rowRange 16 25 ≡ tagRange t
+    unfolding tagRange
     from-5F b = sym (if-no _ _ (le-ltb _ _ a) ∙ if-yes _ _ (lt-ltb _ _ b))
 
     module _ (b : 0x9F00 ≤ t) where
-      pub from-9F : t < 0xDF00 → range 25 101 ≡ partOf t
-      unfolding partOf
+      pub from-9F : t < 0xDF00 → rowRange 25 101 ≡ tagRange t
+      unfolding tagRange
       from-9F c = sym (if-no _ _ (le-ltb _ _ a) ∙ if-no _ _ (le-ltb _ _ b) ∙ if-yes _ _ (lt-ltb _ _ c))
 
       module _ (c : 0xDF00 ≤ t) where
-        pub from-DF : t < 0x10000 → range 101 106 ≡ partOf t
-        unfolding partOf
+        pub from-DF : t < 0x10000 → rowRange 101 106 ≡ tagRange t
+        unfolding tagRange
         from-DF d = sym (if-no _ _ (le-ltb _ _ a) ∙ if-no _ _ (le-ltb _ _ b) ∙ if-no _ _ (le-ltb _ _ c) ∙ if-yes _ _ (lt-ltb _ _ d))
 
-        pub three-bytes : 0x10000 ≤ t → range 106 rowCount ≡ partOf t
-        unfolding partOf
+        pub three-bytes : 0x10000 ≤ t → rowRange 106 rowCount ≡ tagRange t
+        unfolding tagRange
         three-bytes d = sym (if-no _ _ (le-ltb _ _ a) ∙ if-no _ _ (le-ltb _ _ b) ∙ if-no _ _ (le-ltb _ _ c) ∙ if-no _ _ (le-ltb _ _ d))
 
 -- ---- a search of a part
 
-module _ (t : ℕ) {p : Range} (e : p ≡ partOf t) where
+module _ (t : ℕ) {p : RowRange} (e : p ≡ tagRange t) where
   stands : Stands t p
   stands = subst (Stands t) (sym e) (part-stands t)
 
   -- from what `search` promises of every rising table
-  in-part : {x : Found} → ((table : List Row) → tagsOf table ≡ partTags p → rising table ≡ true → x ≡ find table t)
-      → past (p .from) x ≡ find rows t
-  in-part h = ap (past (p .from)) (h (partRows p) (stands .tags) (stands .rises)) ∙ sym (stands .finds)
+  in-part : {x : RowFound} → ((table : List Row) → tagsOf table ≡ partTags p → risingTags table ≡ true → x ≡ findRow table t)
+      → rowPast (p .from) x ≡ findRow dictionaryRows t
+  in-part h = ap (rowPast (p .from)) (h (partRows p) (stands .tags) (stands .rises)) ∙ sym (stands .finds)
 
-  pub part-known : {x : Found} {k : ℕ} → ((table : List Row) → tagsOf table ≡ partTags p → rising table ≡ true → x ≡ find table t)
-      → x ≡ At k → At (p .from + k) ≡ find rows t
-  unfolding past
-  part-known h q = sym (ap (past (p .from)) q) ∙ in-part h
+  pub part-known : {x : RowFound} {k : ℕ} → ((table : List Row) → tagsOf table ≡ partTags p → risingTags table ≡ true → x ≡ findRow table t)
+      → x ≡ At k → At (p .from + k) ≡ findRow dictionaryRows t
+  unfolding rowPast
+  part-known h q = sym (ap (rowPast (p .from)) q) ∙ in-part h
 
-  pub part-unknown : {x : Found} → ((table : List Row) → tagsOf table ≡ partTags p → rising table ≡ true → x ≡ find table t)
-      → x ≡ Unknown → Unknown ≡ find rows t
-  unfolding past
-  part-unknown h q = sym (ap (past (p .from)) q) ∙ in-part h
+  pub part-unknown : {x : RowFound} → ((table : List Row) → tagsOf table ≡ partTags p → risingTags table ≡ true → x ≡ findRow table t)
+      → x ≡ Unknown → Unknown ≡ findRow dictionaryRows t
+  unfolding rowPast
+  part-unknown h q = sym (ap (rowPast (p .from)) q) ∙ in-part h
 
   -- from the equation that it promises: the search of the part, with the places of the whole table
-  shifted : {s : Searched} → s ≡ searchOf (partTags p) t → record { found = past (p .from) (s .found); looks = s .looks } ≡ partSearchOf (tagsOf rows) t
+  shifted : {s : SearchResult} → s ≡ searchOf (partTags p) t → record { found = rowPast (p .from) (s .found); probes = s .probes } ≡ partSearchOf (tagsOf dictionaryRows) t
   unfolding partSearchOf
   shifted q =
       let n = stands .numbered in
-      ap (λ (r : Searched). record { found = past (p .from) (r .found); looks = r .looks }) (q ∙ ap (λ (l : List ℕ). searchOf l t) (sym (n .tags)))
-      ∙ ap (λ (a : ℕ). record { found = past a (searchOf (tagsInPart (tagsOf rows) t) t .found); looks = searchOf (tagsInPart (tagsOf rows) t) t .looks }) (sym (n .start))
+      ap (λ (r : SearchResult). record { found = rowPast (p .from) (r .found); probes = r .probes }) (q ∙ ap (λ (l : List ℕ). searchOf l t) (sym (n .tags)))
+      ∙ ap (λ (a : ℕ). record { found = rowPast a (searchOf (tagsInPart (tagsOf dictionaryRows) t) t .found); probes = searchOf (tagsInPart (tagsOf dictionaryRows) t) t .probes }) (sym (n .start))
 
-  pub halved-known : {s : Searched} {k : ℕ} → s ≡ searchOf (partTags p) t → s .found ≡ At k
-      → record { found = At (p .from + k); looks = s .looks } ≡ partSearchOf (tagsOf rows) t
-  unfolding past
-  halved-known {s} q f = ap (λ (x : Found). record { found = past (p .from) x; looks = s .looks }) (sym f) ∙ shifted q
+  pub halved-known : {s : SearchResult} {k : ℕ} → s ≡ searchOf (partTags p) t → s .found ≡ At k
+      → record { found = At (p .from + k); probes = s .probes } ≡ partSearchOf (tagsOf dictionaryRows) t
+  unfolding rowPast
+  halved-known {s} q f = ap (λ (x : RowFound). record { found = rowPast (p .from) x; probes = s .probes }) (sym f) ∙ shifted q
 
-  pub halved-unknown : {s : Searched} → s ≡ searchOf (partTags p) t → s .found ≡ Unknown
-      → record { found = Unknown; looks = s .looks } ≡ partSearchOf (tagsOf rows) t
-  unfolding past
-  halved-unknown {s} q f = ap (λ (x : Found). record { found = past (p .from) x; looks = s .looks }) (sym f) ∙ shifted q
+  pub halved-unknown : {s : SearchResult} → s ≡ searchOf (partTags p) t → s .found ≡ Unknown
+      → record { found = Unknown; probes = s .probes } ≡ partSearchOf (tagsOf dictionaryRows) t
+  unfolding rowPast
+  halved-unknown {s} q f = ap (λ (x : RowFound). record { found = rowPast (p .from) x; probes = s .probes }) (sym f) ∙ shifted q

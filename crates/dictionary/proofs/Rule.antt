@@ -8,19 +8,19 @@ use lib.Dec.{ltb, eqb}
 use lib.ListN.{length, getD}
 use borrow.Author.Tests.{ltb-true, leb-true, eq-eqb, ne-eqb}
 use Rattle.basics.specs.Choice.{if, both, every}
-use Rattle.basics.specs.Number.{number}
+use Rattle.basics.specs.Number.{bigEndian}
 use Rattle.basics.proofs.Laws.{if-yes, if-no, both-left, both-right}
 use Rattle.basics.proofs.Table.{at}
-use Rattle.tlv.specs.Tag.{tagSize, secondByte, thirdByte}
+use Rattle.tlv.specs.Tag.{tagSize, tagSecondByte, tagThirdByte}
 use Rattle.tlv.specs.Encoding.{wellFormedTag, tagBytes}
-use Rattle.dictionary.specs.declared.Found.{Found}
-use Rattle.dictionary.specs.declared.Found.the-variants.{At, Unknown}
-use Rattle.dictionary.specs.Rows.{Row, rows, blank, rowIn, past, find}
-use Rattle.dictionary.specs.Rule.{properRow, belowNext, rising, proper}
+use Rattle.dictionary.specs.declared.RowFound.{RowFound}
+use Rattle.dictionary.specs.declared.RowFound.the-variants.{At, Unknown}
+use Rattle.dictionary.specs.Rows.{Row, dictionaryRows, blankRow, rowIn, rowPast, findRow}
+use Rattle.dictionary.specs.Rule.{properRow, belowNext, risingTags, properTable}
 
 -- this table passes its test
-pub rows-proper : proper rows ≡ true
-unfolding rows proper rising every both if wellFormedTag tagBytes tagSize secondByte thirdByte
+pub rows-proper : properTable dictionaryRows ≡ true
+unfolding dictionaryRows properTable risingTags every both if wellFormedTag tagBytes tagSize tagSecondByte tagThirdByte
 rows-proper = refl
 
 -- what each row of a proper table keeps
@@ -28,19 +28,19 @@ pub record ProperRow (r : Row) : Type 0 where
   pub tag : wellFormedTag (r .tag) ≡ true
   pub lengths : r .least ≤ r .greatest
 
-pub proper-row : (table : List Row) → proper table ≡ true → (k : ℕ) → k < length table → ProperRow (rowIn table k)
-unfolding proper
+pub proper-row : (table : List Row) → properTable table ≡ true → (k : ℕ) → k < length table → ProperRow (rowIn table k)
+unfolding properTable
 proper-row table t k h =
-    let w = at properRow table blank (both-right _ _ t) k h in
+    let w = at properRow table blankRow (both-right _ _ t) k h in
     record { tag = both-left _ _ w; lengths = leb-true _ _ (both-right _ _ w) }
 
-pub proper-rising : (table : List Row) → proper table ≡ true → rising table ≡ true
-unfolding proper
+pub proper-rising : (table : List Row) → properTable table ≡ true → risingTags table ≡ true
+unfolding properTable
 proper-rising table t = both-left _ _ t
 
 -- tags rise from each row to every later one
-first-below : (t : ℕ) (rs : List Row) → belowNext t rs ≡ true → rising rs ≡ true → (k : ℕ) → k < length rs → t < rowIn rs k .tag
-unfolding rising
+first-below : (t : ℕ) (rs : List Row) → belowNext t rs ≡ true → risingTags rs ≡ true → (k : ℕ) → k < length rs → t < rowIn rs k .tag
+unfolding risingTags
 first-below t [] b r k h = absurd (omega arith)
 first-below t (s ∷ ss) b r zero h = ltb-true _ _ b
 first-below t (s ∷ ss) b r (suc k) h =
@@ -48,27 +48,27 @@ first-below t (s ∷ ss) b r (suc k) h =
     let c = first-below (s .tag) ss (both-left _ _ r) (both-right _ _ r) k (omega arith) in
     omega arith
 
-pub tags-rise : (table : List Row) → rising table ≡ true → (j k : ℕ) → j < k → k < length table → rowIn table j .tag < rowIn table k .tag
-unfolding rising
+pub tags-rise : (table : List Row) → risingTags table ≡ true → (j k : ℕ) → j < k → k < length table → rowIn table j .tag < rowIn table k .tag
+unfolding risingTags
 tags-rise [] r j k h l = absurd (omega arith)
 tags-rise (s ∷ ss) r zero zero h l = absurd (omega arith)
 tags-rise (s ∷ ss) r zero (suc k) h l = first-below (s .tag) ss (both-left _ _ r) (both-right _ _ r) k (omega arith)
 tags-rise (s ∷ ss) r (suc j) zero h l = absurd (omega arith)
 tags-rise (s ∷ ss) r (suc j) (suc k) h l = tags-rise ss (both-right _ _ r) j k (omega arith) (omega arith)
 
-rises-on : (s : Row) (ss : List Row) → rising (s ∷ ss) ≡ true → rising ss ≡ true
-unfolding rising
+rises-on : (s : Row) (ss : List Row) → risingTags (s ∷ ss) ≡ true → risingTags ss ≡ true
+unfolding risingTags
 rises-on s ss r = both-right _ _ r
 
-shifted : (n : ℕ) → past 1 (At n) ≡ At (suc n)
-unfolding past
+shifted : (n : ℕ) → rowPast 1 (At n) ≡ At (suc n)
+unfolding rowPast
 shifted n = ap At (omega arith)
 
 -- every row is found by its tag
-pub find-row : (table : List Row) → rising table ≡ true → (k : ℕ) → k < length table → find table (rowIn table k .tag) ≡ At k
-unfolding find
+pub find-row : (table : List Row) → risingTags table ≡ true → (k : ℕ) → k < length table → findRow table (rowIn table k .tag) ≡ At k
+unfolding findRow
 find-row [] r k h = absurd (omega arith)
-find-row (s ∷ ss) r zero h = if-yes (At 0) (past 1 (find ss (s .tag))) (eq-eqb (s .tag) (s .tag) refl)
+find-row (s ∷ ss) r zero h = if-yes (At 0) (rowPast 1 (findRow ss (s .tag))) (eq-eqb (s .tag) (s .tag) refl)
 find-row (s ∷ ss) r (suc k) h =
     let lt : s .tag < rowIn ss k .tag = tags-rise (s ∷ ss) r 0 (suc k) (omega arith) h in
-    if-no _ _ (ne-eqb (s .tag) (rowIn ss k .tag) (λ e. omega arith)) ∙ ap (past 1) (find-row ss (rises-on s ss r) k (omega arith)) ∙ shifted k
+    if-no _ _ (ne-eqb (s .tag) (rowIn ss k .tag) (λ e. omega arith)) ∙ ap (rowPast 1) (find-row ss (rises-on s ss r) k (omega arith)) ∙ shifted k

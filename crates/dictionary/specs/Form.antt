@@ -39,8 +39,8 @@ digitsFit form v =
     else true
 
 -- the length is in range and the digits fit
-unfoldable pub fitting : Row → List ℕ → Bool
-fitting r v =
+unfoldable pub fitsRow : Row → List ℕ → Bool
+fitsRow r v =
     r .least ≤? length v
     and length v ≤? r .greatest
     and digitsFit (r .form) v

@@ -1,26 +1,26 @@
 -- What private functions promise, for their callers' proofs: digits byte by byte, and the part of the table that a tag
 -- can stand in.
 -- No rule of document 01 stands here: a reader of the rules can pass it over. proofs/Digits ties it to specs/Form:
--- `numeric-is` to `numeric`; `all-digits`, `is-ff`, `is-half` and `is-wrong` to `compressed`. proofs/Part ties `partOf`
--- to `find` and to `partSearchOf`.
+-- `numeric-is` to `numeric`; `all-digits`, `is-ff`, `is-half` and `is-wrong` to `compressed`. proofs/Part ties `tagRange`
+-- to `findRow` and to `partSearchOf`.
 -- Assumes nothing.
 use mathlib.Core.Bool.{Bool}
 use mathlib.Core.List.{List, [], _∷_}
 use Prim.Native.Nat.{ℕ, suc, _/_, _%_}
 use Rattle.basics.specs.Choice.{if_then_else_, _and_, _<?_, _=?_, every}
-use Rattle.dictionary.specs.declared.Range.{Range}
+use Rattle.dictionary.specs.declared.RowRange.{RowRange}
 use Rattle.dictionary.specs.Rows.{rowCount}
 use Rattle.dictionary.specs.Form.{isDigit}
 
 -- both digits of a byte are decimal
-unfoldable pub isDigits : ℕ → Bool
-isDigits b = isDigit (b / 16) and isDigit (b % 16)
+unfoldable pub isDecimalByte : ℕ → Bool
+isDecimalByte b = isDigit (b / 16) and isDigit (b % 16)
 
 -- how many bytes at the front are decimal digits
 unfoldable pub digitBytes : List ℕ → ℕ
 digitBytes [] = 0
 digitBytes (b ∷ v) =
-    if isDigits b then suc (digitBytes v)
+    if isDecimalByte b then suc (digitBytes v)
     else 0
 
 -- every byte is FF
@@ -28,14 +28,14 @@ unfoldable pub onlyFs : List ℕ → Bool
 onlyFs v = every (λ b. b =? 0xFF) v
 
 -- some rows of the table: from one on, up to one that is no more among them
-abbrev pub range : ℕ → ℕ → Range
-range from to = record { from = from; to = to }
+abbrev pub rowRange : ℕ → ℕ → RowRange
+rowRange from to = record { from = from; to = to }
 
 -- the rows of the part that a tag can stand in (`partNumber`, specs/Search)
-unfoldable pub partOf : ℕ → Range
-partOf t =
-    if t <? 0x100 then range 0 16
-    else if t <? 0x9F00 then range 16 25
-    else if t <? 0xDF00 then range 25 101
-    else if t <? 0x10000 then range 101 106
-    else range 106 rowCount
+unfoldable pub tagRange : ℕ → RowRange
+tagRange t =
+    if t <? 0x100 then rowRange 0 16
+    else if t <? 0x9F00 then rowRange 16 25
+    else if t <? 0xDF00 then rowRange 25 101
+    else if t <? 0x10000 then rowRange 101 106
+    else rowRange 106 rowCount

@@ -2,7 +2,7 @@ pub mod Rows
 pub mod Rule
 pub mod Search
 pub mod Packing
-pub mod Lent
+pub mod Tables
 pub mod Form
 pub mod Named
 pub mod TerminalType

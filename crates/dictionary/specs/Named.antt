@@ -2,18 +2,18 @@
 -- Assumes nothing.
 use mathlib.Core.List.{List, [], _∷_}
 use Prim.Native.Nat.{ℕ}
-use Rattle.dictionary.specs.declared.Found.{Found}
-use Rattle.dictionary.specs.declared.Found.the-variants.{At, Unknown}
-use Rattle.dictionary.specs.Rows.{rows, find}
+use Rattle.dictionary.specs.declared.RowFound.{RowFound}
+use Rattle.dictionary.specs.declared.RowFound.the-variants.{At, Unknown}
+use Rattle.dictionary.specs.Rows.{dictionaryRows, findRow}
 
 -- the row that a lookup found, the first where it found none
-abbrev pub placeFound : Found → ℕ
-placeFound Unknown = 0
-placeFound (At k) = k
+abbrev pub rowNumberFound : RowFound → ℕ
+rowNumberFound Unknown = 0
+rowNumberFound (At k) = k
 
 -- the row of a known tag; the first row for an unknown one, which no code asks for
-unfoldable pub placeOf : ℕ → ℕ
-placeOf t = placeFound (find rows t)
+unfoldable pub rowNumberOf : ℕ → ℕ
+rowNumberOf t = rowNumberFound (findRow dictionaryRows t)
 
 -- the tags that code uses, in the order of the constants
 unfoldable pub usedTags : List ℕ
@@ -28,143 +28,143 @@ usedTags =
 
 -- ---- the numbers of these rows, counted from 0: proofs/Named finds each in the table
 
-abbrev pub row5A : ℕ
-row5A = 3
+abbrev pub rowPan : ℕ
+rowPan = 3
 
-abbrev pub row82 : ℕ
-row82 = 5
+abbrev pub rowAip : ℕ
+rowAip = 5
 
-abbrev pub row8C : ℕ
-row8C = 8
+abbrev pub rowCdol1 : ℕ
+rowCdol1 = 8
 
-abbrev pub row8E : ℕ
-row8E = 9
+abbrev pub rowCvmList : ℕ
+rowCvmList = 9
 
-abbrev pub row94 : ℕ
-row94 = 12
+abbrev pub rowAfl : ℕ
+rowAfl = 12
 
-abbrev pub row95 : ℕ
-row95 = 13
+abbrev pub rowTvr : ℕ
+rowTvr = 13
 
-abbrev pub row9A : ℕ
-row9A = 14
+abbrev pub rowTransactionDate : ℕ
+rowTransactionDate = 14
 
-abbrev pub row9C : ℕ
-row9C = 15
+abbrev pub rowTransactionType : ℕ
+rowTransactionType = 15
 
-abbrev pub row5F24 : ℕ
-row5F24 = 16
+abbrev pub rowExpirationDate : ℕ
+rowExpirationDate = 16
 
-abbrev pub row5F25 : ℕ
-row5F25 = 17
+abbrev pub rowEffectiveDate : ℕ
+rowEffectiveDate = 17
 
-abbrev pub row5F28 : ℕ
-row5F28 = 18
+abbrev pub rowIssuerCountry : ℕ
+rowIssuerCountry = 18
 
-abbrev pub row5F2A : ℕ
-row5F2A = 19
+abbrev pub rowTransactionCurrency : ℕ
+rowTransactionCurrency = 19
 
-abbrev pub row9F02 : ℕ
-row9F02 = 26
+abbrev pub rowAmount : ℕ
+rowAmount = 26
 
-abbrev pub row9F03 : ℕ
-row9F03 = 27
+abbrev pub rowAmountOther : ℕ
+rowAmountOther = 27
 
-abbrev pub row9F07 : ℕ
-row9F07 = 28
+abbrev pub rowAuc : ℕ
+rowAuc = 28
 
-abbrev pub row9F08 : ℕ
-row9F08 = 29
+abbrev pub rowCardVersion : ℕ
+rowCardVersion = 29
 
-abbrev pub row9F09 : ℕ
-row9F09 = 30
+abbrev pub rowReaderVersion : ℕ
+rowReaderVersion = 30
 
-abbrev pub row9F0D : ℕ
-row9F0D = 31
+abbrev pub rowIacDefault : ℕ
+rowIacDefault = 31
 
-abbrev pub row9F0E : ℕ
-row9F0E = 32
+abbrev pub rowIacDenial : ℕ
+rowIacDenial = 32
 
-abbrev pub row9F0F : ℕ
-row9F0F = 33
+abbrev pub rowIacOnline : ℕ
+rowIacOnline = 33
 
-abbrev pub row9F10 : ℕ
-row9F10 = 34
+abbrev pub rowIad : ℕ
+rowIad = 34
 
-abbrev pub row9F1A : ℕ
-row9F1A = 39
+abbrev pub rowTerminalCountry : ℕ
+rowTerminalCountry = 39
 
-abbrev pub row9F26 : ℕ
-row9F26 = 47
+abbrev pub rowAc : ℕ
+rowAc = 47
 
-abbrev pub row9F27 : ℕ
-row9F27 = 48
+abbrev pub rowCid : ℕ
+rowCid = 48
 
-abbrev pub row9F33 : ℕ
-row9F33 = 50
+abbrev pub rowTerminalCapabilities : ℕ
+rowTerminalCapabilities = 50
 
-abbrev pub row9F34 : ℕ
-row9F34 = 51
+abbrev pub rowCvmResults : ℕ
+rowCvmResults = 51
 
-abbrev pub row9F35 : ℕ
-row9F35 = 52
+abbrev pub rowTerminalType : ℕ
+rowTerminalType = 52
 
-abbrev pub row9F36 : ℕ
-row9F36 = 53
+abbrev pub rowAtc : ℕ
+rowAtc = 53
 
-abbrev pub row9F37 : ℕ
-row9F37 = 54
+abbrev pub rowUn : ℕ
+rowUn = 54
 
-abbrev pub row9F38 : ℕ
-row9F38 = 55
+abbrev pub rowPdol : ℕ
+rowPdol = 55
 
-abbrev pub row9F40 : ℕ
-row9F40 = 56
+abbrev pub rowAdditionalCapabilities : ℕ
+rowAdditionalCapabilities = 56
 
-abbrev pub row9F42 : ℕ
-row9F42 = 57
+abbrev pub rowApplicationCurrency : ℕ
+rowApplicationCurrency = 57
 
-abbrev pub row9F61 : ℕ
-row9F61 = 74
+abbrev pub rowCvc3Track2 : ℕ
+rowCvc3Track2 = 74
 
-abbrev pub row9F65 : ℕ
-row9F65 = 78
+abbrev pub rowPcvc3Track2 : ℕ
+rowPcvc3Track2 = 78
 
-abbrev pub row9F66 : ℕ
-row9F66 = 79
+abbrev pub rowPunatcTrack2 : ℕ
+rowPunatcTrack2 = 79
 
-abbrev pub row9F67 : ℕ
-row9F67 = 80
+abbrev pub rowNatcTrack2 : ℕ
+rowNatcTrack2 = 80
 
-abbrev pub row9F69 : ℕ
-row9F69 = 81
+abbrev pub rowUdol : ℕ
+rowUdol = 81
 
-abbrev pub row9F6A : ℕ
-row9F6A = 82
+abbrev pub rowUnNumeric : ℕ
+rowUnNumeric = 82
 
-abbrev pub row9F6B : ℕ
-row9F6B = 83
+abbrev pub rowTrack2Data : ℕ
+rowTrack2Data = 83
 
-abbrev pub rowDF811B : ℕ
-rowDF811B = 125
+abbrev pub rowKernelConfiguration : ℕ
+rowKernelConfiguration = 125
 
-abbrev pub rowDF8120 : ℕ
-rowDF8120 = 130
+abbrev pub rowTacDefault : ℕ
+rowTacDefault = 130
 
-abbrev pub rowDF8121 : ℕ
-rowDF8121 = 131
+abbrev pub rowTacDenial : ℕ
+rowTacDenial = 131
 
-abbrev pub rowDF8122 : ℕ
-rowDF8122 = 132
+abbrev pub rowTacOnline : ℕ
+rowTacOnline = 132
 
-abbrev pub rowDF8123 : ℕ
-rowDF8123 = 133
+abbrev pub rowFloorLimit : ℕ
+rowFloorLimit = 133
 
-abbrev pub rowDF8124 : ℕ
-rowDF8124 = 134
+abbrev pub rowLimitNoOnDeviceCvm : ℕ
+rowLimitNoOnDeviceCvm = 134
 
-abbrev pub rowDF8125 : ℕ
-rowDF8125 = 135
+abbrev pub rowLimitOnDeviceCvm : ℕ
+rowLimitOnDeviceCvm = 135
 
-abbrev pub rowDF8126 : ℕ
-rowDF8126 = 136
+abbrev pub rowCvmRequiredLimit : ℕ
+rowCvmRequiredLimit = 136

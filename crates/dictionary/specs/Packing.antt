@@ -18,19 +18,19 @@ attributesOf r =
     }
 
 -- a row that says this, under the tag 0: for rules that do not read the tag
-abbrev pub rowOf : Attributes → Row
-rowOf a = row 0 (a .least) (a .greatest) (a .form) (a .setters) (a .templates) (a .answers) (a .must)
+abbrev pub rowWithAttributes : Attributes → Row
+rowWithAttributes a = row 0 (a .least) (a .greatest) (a .form) (a .setters) (a .templates) (a .answers) (a .must)
 
 -- what a row says, in one number: 8 bits each for the lengths, 2 for the form, 3 for who may set it, 6 for the
 -- templates, 4 for the answers, 1 for whether a start must bring it
-abbrev pub codeOf : Row → ℕ
-codeOf r =
+abbrev pub packedRow : Row → ℕ
+packedRow r =
     r .least + 256 * r .greatest + 65536 * r .form + 262144 * r .setters + 2097152 * r .templates
     + 134217728 * r .answers + 2147483648 * r .must
 
 -- such a number taken apart
-abbrev pub attributesIn : ℕ → Attributes
-attributesIn n =
+abbrev pub unpackedRow : ℕ → Attributes
+unpackedRow n =
     record {
       least = n % 256;
       greatest = n / 256 % 256;

@@ -19,10 +19,10 @@ belowNext t [] = true
 belowNext t (r ∷ rs) = t <? r .tag
 
 -- every tag is below the next one
-unfoldable pub rising : List Row → Bool
-rising [] = true
-rising (r ∷ rs) = belowNext (r .tag) rs and rising rs
+unfoldable pub risingTags : List Row → Bool
+risingTags [] = true
+risingTags (r ∷ rs) = belowNext (r .tag) rs and risingTags rs
 
 -- the whole rule: tags rise, and every row is in order
-unfoldable pub proper : List Row → Bool
-proper table = rising table and every properRow table
+unfoldable pub properTable : List Row → Bool
+properTable table = risingTags table and every properRow table

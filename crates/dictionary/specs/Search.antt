@@ -1,9 +1,9 @@
 -- Search by halving (document 02, Item 3): each turn looks at one tag, the middle one of those that are left. Either it
 -- is the wanted one; or it is smaller, and the part behind it is left; or greater, and the part before it is left.
 -- Defined for every list of tags, in whatever order. What `search` promises of it beside: where tags rise it finds
--- what `find` finds, and of fewer than 2 to the k tags it looks at k at most (proofs/Halving).
+-- what `findRow` finds, and of fewer than 2 to the k tags it looks at k at most (proofs/Halving).
 -- A card's tag is searched in the part of the table that it can stand in (`partSearchOf`): the same answer for every
--- tag, and the same bound on the looks (promises `found` and `few` of `row_of`; proofs/Part).
+-- tag, and the same bound on the looks (promises `found` and `few` of `find_row`; proofs/Part).
 -- Assumes nothing.
 use mathlib.Core.Path.{_≡_}
 use mathlib.Core.Bool.{Bool, true}
@@ -11,72 +11,72 @@ use mathlib.Core.List.{List, [], _∷_, map}
 use Prim.Native.Nat.{ℕ, zero, suc, _+_, _/_}
 use lib.ListN.{length, getD}
 use Rattle.basics.specs.Choice.{if_then_else_, _≤?_, _<?_, _=?_, every}
-use Rattle.dictionary.specs.declared.Found.{Found}
-use Rattle.dictionary.specs.declared.Found.the-variants.{At, Unknown}
-use Rattle.dictionary.specs.declared.Searched.{Searched}
-use Rattle.dictionary.specs.Rows.{Row, past}
+use Rattle.dictionary.specs.declared.RowFound.{RowFound}
+use Rattle.dictionary.specs.declared.RowFound.the-variants.{At, Unknown}
+use Rattle.dictionary.specs.declared.SearchResult.{SearchResult}
+use Rattle.dictionary.specs.Rows.{Row, rowPast}
 
 -- ---- what is left to search
 
 -- a part of the tags: those from a place on, up to a place that is no more in it
-pub record Part : Type 0 where
+pub record SearchPart : Type 0 where
   pub from : ℕ
   pub to : ℕ
 
-abbrev pub part : ℕ → ℕ → Part
-part from to = record { from = from; to = to }
+abbrev pub searchPart : ℕ → ℕ → SearchPart
+searchPart from to = record { from = from; to = to }
 
 -- the place of its middle tag
-abbrev pub middle : Part → ℕ
-middle p = (p .from + p .to) / 2
+abbrev pub partMiddle : SearchPart → ℕ
+partMiddle p = (p .from + p .to) / 2
 
 -- the part behind the middle tag, and the part before it
-abbrev pub behind : Part → Part
-behind p = part (middle p + 1) (p .to)
+abbrev pub partAfter : SearchPart → SearchPart
+partAfter p = searchPart (partMiddle p + 1) (p .to)
 
-abbrev pub before : Part → Part
-before p = part (p .from) (middle p)
+abbrev pub partBefore : SearchPart → SearchPart
+partBefore p = searchPart (p .from) (partMiddle p)
 
 -- ---- the search
 
 -- what a search comes to: where the tag was found, and the places it looked at, in their order
 pub record Halving : Type 0 where
-  pub found : Found
+  pub found : RowFound
   pub places : List ℕ
 
 -- nothing is left to look at
-abbrev pub nowhere : Halving
-nowhere = record { found = Unknown; places = [] }
+abbrev pub searchMiss : Halving
+searchMiss = record { found = Unknown; places = [] }
 
 -- found at the place that was looked at
-abbrev pub here : ℕ → Halving
-here place = record { found = At place; places = [] }
+abbrev pub searchHit : ℕ → Halving
+searchHit place = record { found = At place; places = [] }
 
 -- a look at a place, and then the rest of a search
-abbrev pub lookAt : ℕ → Halving → Halving
-lookAt place rest = record { found = rest .found; places = place ∷ rest .places }
+abbrev pub probeAt : ℕ → Halving → Halving
+probeAt place rest = record { found = rest .found; places = place ∷ rest .places }
 
 -- a search of a part by at most so many turns
-unfoldable pub halve : List ℕ → ℕ → ℕ → Part → Halving
-halve tags wanted zero p = nowhere
+unfoldable pub halve : List ℕ → ℕ → ℕ → SearchPart → Halving
+halve tags wanted zero p = searchMiss
 halve tags wanted (suc turns) p =
-    let tag = getD tags (middle p) 0 in
-    if p .to ≤? p .from then nowhere
-    else lookAt (middle p)
-        (if tag =? wanted then here (middle p)
-        else halve tags wanted turns (if tag <? wanted then behind p else before p))
+    let tag = getD tags (partMiddle p) 0 in
+    if p .to ≤? p .from then searchMiss
+    else probeAt (partMiddle p)
+        (if tag =? wanted then searchHit (partMiddle p)
+        else halve tags wanted turns (if tag <? wanted then partAfter p else partBefore p))
 
 -- a search of all tags; a turn for each of them is enough, since each turn leaves fewer
 unfoldable pub halvingOf : List ℕ → ℕ → Halving
-halvingOf tags wanted = halve tags wanted (length tags) (part 0 (length tags))
+halvingOf tags wanted = halve tags wanted (length tags) (searchPart 0 (length tags))
 
 -- the places that a search looks at
-abbrev pub lookedAt : List ℕ → ℕ → List ℕ
-lookedAt tags wanted = halvingOf tags wanted .places
+abbrev pub probedPlaces : List ℕ → ℕ → List ℕ
+probedPlaces tags wanted = halvingOf tags wanted .places
 
 -- what a search says: where the tag was found, and the count of looks
-unfoldable pub searchOf : List ℕ → ℕ → Searched
-searchOf tags wanted = record { found = halvingOf tags wanted .found; looks = length (lookedAt tags wanted) }
+unfoldable pub searchOf : List ℕ → ℕ → SearchResult
+searchOf tags wanted = record { found = halvingOf tags wanted .found; probes = length (probedPlaces tags wanted) }
 
 -- the tags of a table
 abbrev pub tagsOf : List Row → List ℕ
@@ -88,11 +88,11 @@ tagsAt tags places = map (λ place. getD tags place 0) places
 
 -- the count is that of the looks: there are as many places as it says, each in the table, and whatever stands at the
 -- other places, the same tags at these give the same answer
-pub record LooksCounted (tags : List ℕ) (wanted : ℕ) (r : Searched) : Type 0 where
-  pub count : length (lookedAt tags wanted) ≡ r .looks
-  pub within : every (λ place. place <? length tags) (lookedAt tags wanted) ≡ true
+pub record ProbesCounted (tags : List ℕ) (wanted : ℕ) (r : SearchResult) : Type 0 where
+  pub count : length (probedPlaces tags wanted) ≡ r .probes
+  pub within : every (λ place. place <? length tags) (probedPlaces tags wanted) ≡ true
   pub enough : (other : List ℕ) → length other ≡ length tags
-      → tagsAt other (lookedAt tags wanted) ≡ tagsAt tags (lookedAt tags wanted) → searchOf other wanted ≡ r
+      → tagsAt other (probedPlaces tags wanted) ≡ tagsAt tags (probedPlaces tags wanted) → searchOf other wanted ≡ r
 
 -- ---- the search of a part of a table
 
@@ -121,7 +121,7 @@ abbrev pub partStart : List ℕ → ℕ → ℕ
 partStart tags wanted = length (filter (λ tag. partNumber tag <? partNumber wanted) tags)
 
 -- a search of that part alone: its looks, and the place counted from the front of all tags
-unfoldable pub partSearchOf : List ℕ → ℕ → Searched
+unfoldable pub partSearchOf : List ℕ → ℕ → SearchResult
 partSearchOf tags wanted =
     let searched = searchOf (tagsInPart tags wanted) wanted in
-    record { found = past (partStart tags wanted) (searched .found); looks = searched .looks }
+    record { found = rowPast (partStart tags wanted) (searched .found); probes = searched .probes }

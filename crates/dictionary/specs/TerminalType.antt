@@ -6,5 +6,5 @@ use Rattle.basics.specs.Choice.{_or_}
 use Rattle.basics.specs.Number.{between}
 
 -- a type is listed
-unfoldable pub listed : ℕ → Bool
-listed t = between 0x11 t 0x16 or between 0x21 t 0x26 or between 0x34 t 0x36
+unfoldable pub listedTerminalType : ℕ → Bool
+listedTerminalType t = between 0x11 t 0x16 or between 0x21 t 0x26 or between 0x34 t 0x36

@@ -4,21 +4,21 @@ use mathlib.Core.Path.{_≡_, _∙_}
 use mathlib.Core.List.{List, map}
 use Prim.Native.Nat.{ℕ}
 use Rattle.basics.specs.Choice.{if}
-use Rattle.record.specs.declared.Session.{Session}
-use Rattle.record.specs.Session.{stored}
-use Rattle.record.proofs.Along.{rangesAlong, ranges-along}
+use Rattle.session_record.specs.declared.Session.{Session}
+use Rattle.session_record.specs.Session.{storeBytes}
+use Rattle.session_record.proofs.Along.{rangesAlong, ranges-along}
 use Rattle.explain.specs.declared.Explanation.{Explanation}
-use Rattle.explain.specs.Explain.{inPhase, explained}
-use Rattle.explain.specs.Word.{wordOf}
+use Rattle.explain.specs.Explain.{explainedInPhase, explanationOf}
+use Rattle.explain.specs.Word.{explanationWord}
 
 -- the words of some sessions' explanations
 unfoldable pub told : List Session → List ℕ
-told ss = map (λ s. wordOf (explained s)) ss
+told ss = map (λ s. explanationWord (explanationOf s)) ss
 
 -- one of them by the walk
 abbrev pub toldAlong : Session → ℕ
-toldAlong s = wordOf (if (rangesAlong s) (inPhase (s .phase) (stored s)) Explanation.Refused)
+toldAlong s = explanationWord (if (rangesAlong s) (explainedInPhase (s .phase) (storeBytes s)) Explanation.Refused)
 
 pub told-along : (ss : List Session) (words : List ℕ) → map toldAlong ss ≡ words → told ss ≡ words
-unfolding told explained
-told-along ss words e = (λ i. map (λ s. wordOf (if (ranges-along s i) (inPhase (s .phase) (stored s)) Explanation.Refused)) ss) ∙ e
+unfolding told explanationOf
+told-along ss words e = (λ i. map (λ s. explanationWord (if (ranges-along s i) (explainedInPhase (s .phase) (storeBytes s)) Explanation.Refused)) ss) ∙ e

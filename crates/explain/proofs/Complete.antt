@@ -14,58 +14,58 @@ use Rattle.basics.specs.Choice.{if, both, either, every}
 use Rattle.basics.specs.Number.{between}
 use Rattle.basics.specs.Reason.{reasonNone}
 use Rattle.basics.proofs.Laws.{bool-cases, if-ind, if-yes, if-no, both-yes, both-left, both-right, either-false}
-use Rattle.dictionary.specs.Named.{rowDF8120, rowDF8121, rowDF8122}
-use Rattle.dictionary.specs.Rows.{rows}
-use Rattle.dictionary.specs.TerminalType.{listed}
+use Rattle.dictionary.specs.Named.{rowTacDefault, rowTacDenial, rowTacOnline}
+use Rattle.dictionary.specs.Rows.{dictionaryRows}
+use Rattle.dictionary.specs.TerminalType.{listedTerminalType}
 use Rattle.dictionary.proofs.Named.{at-DF8120, at-DF8121, at-DF8122}
-use Rattle.store.specs.Held.{holds, byteIn}
-use Rattle.analysis.specs.Choice.{lowestBit, capabilityAt, capabilityOf, heldAt, denial, p1Of}
-use Rattle.analysis.specs.Action.{terminalType, codesOf}
-use Rattle.analysis.specs.declared.choice.Capability.{Capability}
-use Rattle.analysis.specs.declared.choice.Lowest.{Lowest}
-use Rattle.record.specs.declared.Asked.{Asked}
-use Rattle.record.specs.declared.End.{End}
-use Rattle.record.specs.declared.Outcome.{Outcome}
-use Rattle.record.specs.declared.Phase.{Phase}
-use Rattle.record.specs.declared.Session.{Session}
-use Rattle.record.specs.Numbers.{outcomeNumber}
-use Rattle.record.specs.Session.{stored}
-use Rattle.record.specs.Ranges.{inRanges}
-use Rattle.record.specs.Clauses.{Running}
-use Rattle.record.proofs.Values.{brought-there}
-use Rattle.session.specs.Answer.{decision}
+use Rattle.store.specs.Held.{hasObject, storedByte}
+use Rattle.analysis.specs.Choice.{lowestBit, onlineCapabilityAt, onlineCapabilityOf, stageHolds, denialStage, generateAcP1}
+use Rattle.analysis.specs.Action.{terminalType, actionCodesOf}
+use Rattle.analysis.specs.declared.choice.OnlineCapability.{OnlineCapability}
+use Rattle.analysis.specs.declared.choice.LowestBit.{LowestBit}
+use Rattle.session_record.specs.declared.RequestedCryptogram.{RequestedCryptogram}
+use Rattle.session_record.specs.declared.Ending.{Ending}
+use Rattle.session_record.specs.declared.Outcome.{Outcome}
+use Rattle.session_record.specs.declared.Phase.{Phase}
+use Rattle.session_record.specs.declared.Session.{Session}
+use Rattle.session_record.specs.Numbers.{outcomeNumber}
+use Rattle.session_record.specs.Session.{storeBytes}
+use Rattle.session_record.specs.Ranges.{inRanges}
+use Rattle.session_record.specs.Clauses.{RunningClauses}
+use Rattle.session_record.proofs.Values.{brought-there}
+use Rattle.session.specs.Answer.{cryptogramOutcome}
 use Rattle.explain.specs.declared.Stage.{Stage}
 use Rattle.explain.specs.declared.Deciding.{Deciding}
 use Rattle.explain.specs.declared.Explanation.{Explanation}
-use Rattle.explain.specs.Explain.{resultIn, choiceIn, stageBy, stageIn, neededAt, completed, decidingIn, pairAt, byBit, reasonAt, waitingAt, typeIn, gives, decidedAt, endedIn, cardAsksMagStripe, endedBy, inPhase, explained}
-use Rattle.explain.specs.Told.{Decides}
-use Rattle.explain.proofs.Laws.{ended-reason, by-reason, by-stripe, by-choice}
+use Rattle.explain.specs.Explain.{storedTvr, storedChoice, stageBy, stageIn, stageNeeds, stageIfComplete, decidingIn, actionCodesOfStage, explainedByBit, explainedAt, explainedWaiting, storedCryptogramType, decidesOutcome, explainedDecision, explainedEnd, cardAsksMagMagStripe, explainedEndBy, explainedInPhase, explanationOf}
+use Rattle.explain.specs.Promise.{DecisionIs}
+use Rattle.explain.proofs.Laws.{ended-reason, by-reason, by-mag-stripe, by-choice}
 
 -- ---- a store with all that the stages need
 
 pub record Complete (b : List ℕ) : Type 0 where
-  pub results : holds b 0x95 ≡ true
-  pub denial-code : holds b 0xDF8121 ≡ true
-  pub default-code : holds b 0xDF8120 ≡ true
-  pub online-code : holds b 0xDF8122 ≡ true
-  pub terminal : listed (byteIn b 0x9F35 1) ≡ true
+  pub results : hasObject b 0x95 ≡ true
+  pub denial-code : hasObject b 0xDF8121 ≡ true
+  pub default-code : hasObject b 0xDF8120 ≡ true
+  pub online-code : hasObject b 0xDF8122 ≡ true
+  pub terminal : listedTerminalType (storedByte b 0x9F35 1) ≡ true
 
 -- so every running session has it
-pub running-complete : (b : List ℕ) → Running b → Complete b
-unfolding rows
+pub running-complete : (b : List ℕ) → RunningClauses b → Complete b
+unfolding dictionaryRows
 running-complete b r =
     record {
       results = r .results;
-      denial-code = brought-there b r 0xDF8121 rowDF8121 at-DF8121 refl;
-      default-code = brought-there b r 0xDF8120 rowDF8120 at-DF8120 refl;
-      online-code = brought-there b r 0xDF8122 rowDF8122 at-DF8122 refl;
+      denial-code = brought-there b r 0xDF8121 rowTacDenial at-DF8121 refl;
+      default-code = brought-there b r 0xDF8120 rowTacDefault at-DF8120 refl;
+      online-code = brought-there b r 0xDF8122 rowTacOnline at-DF8122 refl;
       terminal = r .terminal;
     }
 
 -- ---- a listed type ends in 1 to 6
 
-digit : (t : ℕ) → listed t ≡ true → (1 ≤ t % 16) × (t % 16 ≤ 6)
-unfolding listed
+digit : (t : ℕ) → listedTerminalType t ≡ true → (1 ≤ t % 16) × (t % 16 ≤ 6)
+unfolding listedTerminalType
 digit t e = go (bool-cases (between 0x11 t 0x16)) (bool-cases (between 0x21 t 0x26))
   where
     low : (a z : ℕ) → between a t z ≡ true → (a ≤ t) × (t ≤ z)
@@ -76,8 +76,8 @@ digit t e = go (bool-cases (between 0x11 t 0x16)) (bool-cases (between 0x21 t 0x
     go (inr n) (inl y) = let h = low 0x21 0x26 y in (omega arith, omega arith)
     go (inr n) (inr m) = let h = low 0x34 0x36 (sym (either-false _ n ∙ either-false _ m) ∙ e) in (omega arith, omega arith)
 
-capable : (x : ℕ) → 1 ≤ x → x ≤ 6 → capabilityAt x ≡ Capability.Unlisted → ⊥
-unfolding capabilityAt if either
+capable : (x : ℕ) → 1 ≤ x → x ≤ 6 → onlineCapabilityAt x ≡ OnlineCapability.Unlisted → ⊥
+unfolding onlineCapabilityAt if either
 capable zero l h e = omega arith
 capable (suc zero) l h e = let z : _≡_ {A = ℕ} 0 1 = cc in omega arith
 capable (suc (suc zero)) l h e = let z : _≡_ {A = ℕ} 0 1 = cc in omega arith
@@ -87,13 +87,13 @@ capable (suc (suc (suc (suc (suc zero))))) l h e = let z : _≡_ {A = ℕ} 0 1 =
 capable (suc (suc (suc (suc (suc (suc zero)))))) l h e = let z : _≡_ {A = ℕ} 0 1 = cc in omega arith
 capable (suc (suc (suc (suc (suc (suc (suc x))))))) l h e = absurd (omega arith)
 
-pub listed-capable : (t : ℕ) → listed t ≡ true → capabilityOf t ≡ Capability.Unlisted → ⊥
+pub listed-capable : (t : ℕ) → listedTerminalType t ≡ true → onlineCapabilityOf t ≡ OnlineCapability.Unlisted → ⊥
 listed-capable t e = let d = digit t e in capable (t % 16) (d .0) (d .1)
 
 -- ---- a stage decided
 
 module _ (b : List ℕ) (w : Complete b) where
-  all-there : (stage : Stage) → every (holds b) (neededAt stage) ≡ true
+  all-there : (stage : Stage) → every (hasObject b) (stageNeeds stage) ≡ true
   unfolding every
   all-there Stage.Denial = both-yes _ _ (w .results) (both-yes _ _ (w .denial-code) refl)
   all-there Stage.OnlineOnly = both-yes _ _ (w .results) (both-yes _ _ (w .denial-code) refl)
@@ -102,74 +102,74 @@ module _ (b : List ℕ) (w : Complete b) where
 
   some-stage : stageIn b ≡ Deciding.Nothing → ⊥
   unfolding stageIn
-  some-stage = go (capabilityOf (terminalType b)) (heldAt (resultIn b) (codesOf b) denial) (listed-capable (terminalType b) (w .terminal))
+  some-stage = go (onlineCapabilityOf (terminalType b)) (stageHolds (storedTvr b) (actionCodesOf b) denialStage) (listed-capable (terminalType b) (w .terminal))
     where
-      go : (r : Capability) (h : Bool) → (r ≡ Capability.Unlisted → ⊥) → stageBy r h ≡ Deciding.Nothing → ⊥
+      go : (r : OnlineCapability) (h : Bool) → (r ≡ OnlineCapability.Unlisted → ⊥) → stageBy r h ≡ Deciding.Nothing → ⊥
       go r true n e = let z : _≡_ {A = ℕ} 0 1 = cc in omega arith
-      go Capability.OnlineOnly false n e = let z : _≡_ {A = ℕ} 0 1 = cc in omega arith
-      go Capability.OnlineCapable false n e = let z : _≡_ {A = ℕ} 0 1 = cc in omega arith
-      go Capability.OfflineOnly false n e = let z : _≡_ {A = ℕ} 0 1 = cc in omega arith
-      go Capability.Unlisted false n e = n refl
+      go OnlineCapability.OnlineOnly false n e = let z : _≡_ {A = ℕ} 0 1 = cc in omega arith
+      go OnlineCapability.OnlineCapable false n e = let z : _≡_ {A = ℕ} 0 1 = cc in omega arith
+      go OnlineCapability.OfflineOnly false n e = let z : _≡_ {A = ℕ} 0 1 = cc in omega arith
+      go OnlineCapability.Unlisted false n e = n refl
 
   decides : decidingIn b ≡ Deciding.Nothing → ⊥
   unfolding decidingIn
   decides = go (stageIn b) some-stage
     where
-      go : (d : Deciding) → (d ≡ Deciding.Nothing → ⊥) → completed b d ≡ Deciding.Nothing → ⊥
+      go : (d : Deciding) → (d ≡ Deciding.Nothing → ⊥) → stageIfComplete b d ≡ Deciding.Nothing → ⊥
       go Deciding.Nothing n e = n refl
       go (Deciding.At stage) n e = let z : Deciding.At stage ≡ Deciding.Nothing = sym (if-yes _ _ (all-there stage)) ∙ e in n z
 
 -- what a stage says is no refusal
-says : (b : List ℕ) (stage : Stage) → reasonAt b stage ≡ Explanation.Refused → ⊥
-unfolding reasonAt
-says b stage = go (lowestBit (resultIn b) (pairAt b stage))
+says : (b : List ℕ) (stage : Stage) → explainedAt b stage ≡ Explanation.Refused → ⊥
+unfolding explainedAt
+says b stage = go (lowestBit (storedTvr b) (actionCodesOfStage b stage))
   where
-    go : (l : Lowest) → byBit stage (pairAt b stage) l ≡ Explanation.Refused → ⊥
-    go (Lowest.Bit i) e = let z : _≡_ {A = ℕ} 0 1 = cc in omega arith
-    go Lowest.NoBit e = let z : _≡_ {A = ℕ} 0 1 = cc in omega arith
+    go : (l : LowestBit) → explainedByBit stage (actionCodesOfStage b stage) l ≡ Explanation.Refused → ⊥
+    go (LowestBit.Bit i) e = let z : _≡_ {A = ℕ} 0 1 = cc in omega arith
+    go LowestBit.NoBit e = let z : _≡_ {A = ℕ} 0 1 = cc in omega arith
 
 -- ---- by phase
 
 module _ (b : List ℕ) (w : Complete b) where
   -- waiting on the cryptogram with the choice of the store
-  pub waiting-answers : (a : Asked) → a .choice ≡ choiceIn b → waitingAt a b (decidingIn b) ≡ Explanation.Refused → ⊥
+  pub waiting-answers : (a : RequestedCryptogram) → a .choice ≡ storedChoice b → explainedWaiting a b (decidingIn b) ≡ Explanation.Refused → ⊥
   waiting-answers a c = go (decidingIn b) (decides b w)
     where
-      go : (d : Deciding) → (d ≡ Deciding.Nothing → ⊥) → waitingAt a b d ≡ Explanation.Refused → ⊥
+      go : (d : Deciding) → (d ≡ Deciding.Nothing → ⊥) → explainedWaiting a b d ≡ Explanation.Refused → ⊥
       go Deciding.Nothing n e = n refl
-      go (Deciding.At stage) n e = says b stage (sym (if-yes _ _ (eq-eqb _ _ (ap p1Of c))) ∙ e)
+      go (Deciding.At stage) n e = says b stage (sym (if-yes _ _ (eq-eqb _ _ (ap generateAcP1 c))) ∙ e)
 
   -- ended with the outcome that the cryptogram gives on it
-  pub decided-answers : (x : End) → holds b 0x9F27 ≡ true → Decides b (x .outcome) → decidedAt x b (decidingIn b) ≡ Explanation.Refused → ⊥
+  pub decided-answers : (x : Ending) → hasObject b 0x9F27 ≡ true → DecisionIs b (x .outcome) → explainedDecision x b (decidingIn b) ≡ Explanation.Refused → ⊥
   decided-answers x h g = go (decidingIn b) (decides b w)
     where
-      given : gives (decision (choiceIn b) (typeIn b)) (x .outcome) ≡ true
-      given = ap (λ (d : Option Outcome). gives d (x .outcome)) g ∙ eq-eqb (outcomeNumber (x .outcome)) (outcomeNumber (x .outcome)) refl
+      given : decidesOutcome (cryptogramOutcome (storedChoice b) (storedCryptogramType b)) (x .outcome) ≡ true
+      given = ap (λ (d : Option Outcome). decidesOutcome d (x .outcome)) g ∙ eq-eqb (outcomeNumber (x .outcome)) (outcomeNumber (x .outcome)) refl
 
       P : Explanation → Type 0
       P r = r ≡ Explanation.Refused → ⊥
 
-      go : (d : Deciding) → (d ≡ Deciding.Nothing → ⊥) → decidedAt x b d ≡ Explanation.Refused → ⊥
+      go : (d : Deciding) → (d ≡ Deciding.Nothing → ⊥) → explainedDecision x b d ≡ Explanation.Refused → ⊥
       go Deciding.Nothing n = λ e. n refl
       go (Deciding.At stage) n =
           if-ind P _ _ _ (λ t e. (let z : _≡_ {A = Bool} false true = sym (ap not h) ∙ t in let y : _≡_ {A = ℕ} 0 1 = cc in omega arith))
           (λ t. if-ind P _ _ _ (λ u e. (let z : _≡_ {A = Bool} false true = sym (ap not given) ∙ u in let y : _≡_ {A = ℕ} 0 1 = cc in omega arith))
           (λ u. if-ind P _ _ _ (λ v e. (let z : _≡_ {A = ℕ} 0 1 = cc in omega arith)) (λ v e. says b stage e)))
 
-  pub ended-answers : (x : End) → x .reason ≡ reasonNone → cardAsksMagStripe b ≡ false → holds b 0x9F27 ≡ true → Decides b (x .outcome) → endedBy x b ≡ Explanation.Refused → ⊥
-  unfolding endedIn
+  pub ended-answers : (x : Ending) → x .reason ≡ reasonNone → cardAsksMagMagStripe b ≡ false → hasObject b 0x9F27 ≡ true → DecisionIs b (x .outcome) → explainedEndBy x b ≡ Explanation.Refused → ⊥
+  unfolding explainedEnd
   ended-answers x z m h g e = decided-answers x h g (sym (if-yes _ _ (eq-eqb _ _ z)) ∙ sym (by-choice x b m) ∙ e)
 
 -- ended with a reason
-pub reason-answers : (x : End) (b : List ℕ) → (x .reason ≡ reasonNone → ⊥) → endedBy x b ≡ Explanation.Refused → ⊥
+pub reason-answers : (x : Ending) (b : List ℕ) → (x .reason ≡ reasonNone → ⊥) → explainedEndBy x b ≡ Explanation.Refused → ⊥
 reason-answers x b n e = let w = sym (by-reason x b n ∙ ended-reason x b n) ∙ e in let z : _≡_ {A = ℕ} 0 1 = cc in omega arith
 
 -- ended in mag-stripe mode
-pub stripe-answers : (x : End) (b : List ℕ) → x .reason ≡ reasonNone → cardAsksMagStripe b ≡ true → endedBy x b ≡ Explanation.Refused → ⊥
-stripe-answers x b z m e = let w = sym (by-stripe x b z m) ∙ e in let y : _≡_ {A = ℕ} 0 1 = cc in omega arith
+pub mag-stripe-answers : (x : Ending) (b : List ℕ) → x .reason ≡ reasonNone → cardAsksMagMagStripe b ≡ true → explainedEndBy x b ≡ Explanation.Refused → ⊥
+mag-stripe-answers x b z m e = let w = sym (by-mag-stripe x b z m) ∙ e in let y : _≡_ {A = ℕ} 0 1 = cc in omega arith
 
 -- ---- a session in its ranges is what its phase says
 
-pub phase-answers : (s : Session) (p : Phase) → inRanges s ≡ true → s .phase ≡ p → (inPhase p (stored s) ≡ Explanation.Refused → ⊥) → explained s ≡ Explanation.Refused → ⊥
-unfolding explained
-phase-answers s p i q n e = n (sym (if-yes _ _ i ∙ ap (λ (x : Phase). inPhase x (stored s)) q) ∙ e)
+pub phase-answers : (s : Session) (p : Phase) → inRanges s ≡ true → s .phase ≡ p → (explainedInPhase p (storeBytes s) ≡ Explanation.Refused → ⊥) → explanationOf s ≡ Explanation.Refused → ⊥
+unfolding explanationOf
+phase-answers s p i q n e = n (sym (if-yes _ _ i ∙ ap (λ (x : Phase). explainedInPhase x (storeBytes s)) q) ∙ e)

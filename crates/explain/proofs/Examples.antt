@@ -8,40 +8,40 @@ use lib.Dec.{eqb}
 use lib.ListN.{replicate}
 use Rattle.basics.specs.Choice.{if, both, either, every}
 use Rattle.basics.specs.Number.{nibbles}
-use Rattle.dictionary.specs.Named.{placeOf}
-use Rattle.dictionary.specs.Rows.{rows, past, find, storeSize}
-use Rattle.dictionary.specs.Form.{numeric, digitsThenFs, compressed, digitsFit, fitting}
-use Rattle.dictionary.specs.TerminalType.{listed}
-use Rattle.store.specs.Place.{offsetIn, placeAt, held, valueAt, putAt, valueIn}
-use Rattle.locator.specs.Entry.{keeps}
-use Rattle.locator.specs.Records.{entries, wholeEntries, sumOf, accepts}
-use Rattle.analysis.specs.Bits.{bit}
-use Rattle.analysis.specs.Value.{front}
-use Rattle.analysis.specs.Choice.{holdsBit, lowestFrom, lowestBit, cardCode, heldAt, capabilityAt, choiceOf}
-use Rattle.analysis.specs.Digits.{decimalFrom, amountOf}
-use Rattle.analysis.specs.Verification.{onDevice}
-use Rattle.analysis.specs.Action.{phoneIn, limitOf, codesOf, chosen}
+use Rattle.dictionary.specs.Named.{rowNumberOf}
+use Rattle.dictionary.specs.Rows.{dictionaryRows, rowPast, findRow, storeSize}
+use Rattle.dictionary.specs.Form.{numeric, digitsThenFs, compressed, digitsFit, fitsRow}
+use Rattle.dictionary.specs.TerminalType.{listedTerminalType}
+use Rattle.store.specs.Place.{rowOffset, rowPlace, placeValue, rowValue, putRow, objectValueIn}
+use Rattle.afl.specs.Entry.{validEntry}
+use Rattle.afl.specs.Records.{aflEntries, wholeEntries, sumOverEntries, acceptsAfl}
+use Rattle.analysis.specs.Bits.{numberedBit}
+use Rattle.analysis.specs.Value.{firstBytes}
+use Rattle.analysis.specs.Choice.{stageHoldsBit, lowestFrom, lowestBit, iacCode, stageHolds, onlineCapabilityAt, choiceOf}
+use Rattle.analysis.specs.Digits.{bcdFrom, amountOf}
+use Rattle.analysis.specs.Cvm.{onDeviceCvm}
+use Rattle.analysis.specs.Action.{hasOnDeviceCvm, transactionLimit, actionCodesOf, choiceFor}
 use Rattle.analysis.specs.declared.choice.Choice.{Choice}
-use Rattle.analysis.specs.declared.verification.Method.{Method}
-use Rattle.record.specs.declared.Outcome.{Outcome}
-use Rattle.record.specs.declared.Phase.{Phase}
-use Rattle.record.specs.declared.Session.{Session}
-use Rattle.record.specs.Inner.{placeFits}
-use Rattle.record.specs.Numbers.{goesWith}
-use Rattle.record.specs.Session.{sessionOf, endOf}
-use Rattle.record.specs.Ranges.{isBrought, brought, lastAbsent, running, completed, freshRanges, optionsRanges, recordRanges, cryptogramRanges, endedRanges}
-use Rattle.record.proofs.Along.{fitAlong}
-use Rattle.session.specs.Answer.{decision}
+use Rattle.analysis.specs.declared.cvm.Cvm.{Cvm}
+use Rattle.session_record.specs.declared.Outcome.{Outcome}
+use Rattle.session_record.specs.declared.Phase.{Phase}
+use Rattle.session_record.specs.declared.Session.{Session}
+use Rattle.session_record.specs.Inner.{rowPlaceFits}
+use Rattle.session_record.specs.Numbers.{reasonMatchesOutcome}
+use Rattle.session_record.specs.Session.{sessionOf, endingOf}
+use Rattle.session_record.specs.Ranges.{isPresentIfRequired, allRequiredPresent, lastResponseAbsent, runningRanges, cryptogramDataPresent, freshRanges, gpoRanges, recordRanges, cryptogramRanges, endedRanges}
+use Rattle.session_record.proofs.Along.{fitAlong}
+use Rattle.session.specs.Answer.{cryptogramOutcome}
 use Rattle.explain.specs.declared.Stage.{Stage}
 use Rattle.explain.specs.declared.Holder.{Holder}
 use Rattle.explain.specs.declared.Explanation.{Explanation}
-use Rattle.explain.specs.Explain.{stageIn, decidingIn, holderOf, pairAt, reasonAt, cryptogramRank, endedIn, endedBy}
-use Rattle.explain.specs.Word.{noBit, choiceWord, wordOf}
+use Rattle.explain.specs.Explain.{stageIn, decidingIn, bitHolder, actionCodesOfStage, explainedAt, cryptogramRank, explainedEnd, explainedEndBy}
+use Rattle.explain.specs.Word.{noBitNumber, choiceWord, explanationWord}
 use Rattle.explain.proofs.Along.{told, told-along}
 
 -- ---- numbers
 
-words : map wordOf (Explanation.Refused ∷ Explanation.Reason 6 ∷ Explanation.NoChoice ∷ Explanation.LowerCryptogram ∷ Explanation.Unforced Stage.OnlineOnly ∷ [])
+words : map explanationWord (Explanation.Refused ∷ Explanation.Reason 6 ∷ Explanation.NoChoice ∷ Explanation.LowerCryptogram ∷ Explanation.Unforced Stage.OnlineOnly ∷ [])
     ++ (choiceWord Stage.Denial Holder.Terminal 9 ∷ choiceWord Stage.Default Holder.Both 39 ∷ choiceWord Stage.Online Holder.Card 0 ∷ [])
     ≡ 0x20019 ∷ 0x30006 ∷ 0x40000 ∷ 0x50000 ∷ 0x610FF ∷ 0x60209 ∷ 0x62327 ∷ 0x63100 ∷ []
 words = refl
@@ -54,7 +54,7 @@ Object = ℕ × List ℕ
 -- objects put one by one into the empty store, without those of a tag
 abbrev without : ℕ → List Object → List ℕ
 without x [] = replicate storeSize 0
-without x ((t, v) ∷ more) = if (eqb t x) (without x more) (putAt rows (without x more) (placeOf t) v)
+without x ((t, v) ∷ more) = if (eqb t x) (without x more) (putRow dictionaryRows (without x more) (rowNumberOf t) v)
 
 -- what a start brings, and 95
 abbrev started : ℕ → List ℕ → List Object
@@ -92,21 +92,21 @@ zero5 = five 0 0 0 0 0
 -- a record that waits on the cryptogram with a choice
 abbrev waiting : Choice → ℕ → List ℕ → List Object → Session
 waiting c type results more =
-    sessionOf (Phase.Cryptogram (record { choice = c; method = Method.NoCvm; limit = 10000 })) 4 (without 0 (more ++ complete type results))
+    sessionOf (Phase.Cryptogram (record { choice = c; cvm = Cvm.NoCvm; limit = 10000 })) 4 (without 0 (more ++ complete type results))
 
 -- one that ended with an outcome and reason 0, without an object
 abbrev ended : ℕ → Outcome → ℕ → List Object → Session
-ended lacking o information more = sessionOf (Phase.Ended (endOf o 0)) 4 (without lacking (more ++ answered information ++ complete 0x22 usual))
+ended lacking o information more = sessionOf (Phase.Ended (endingOf o 0)) 4 (without lacking (more ++ answered information ++ complete 0x22 usual))
 
 -- the word of a refusal, of no choice and of a lower cryptogram
 abbrev refused : ℕ
-refused = wordOf Explanation.Refused
+refused = explanationWord Explanation.Refused
 
 abbrev noChoice : ℕ
-noChoice = wordOf Explanation.NoChoice
+noChoice = explanationWord Explanation.NoChoice
 
 abbrev lower : ℕ
-lower = wordOf Explanation.LowerCryptogram
+lower = explanationWord Explanation.LowerCryptogram
 
 -- ---- waiting on the cryptogram
 
@@ -114,10 +114,10 @@ lower = wordOf Explanation.LowerCryptogram
 -- is refused
 waiting-online : told (waiting Choice.Online 0x22 usual [] ∷ waiting Choice.Offline 0x22 usual ((0x9F0F, zero5) ∷ []) ∷ waiting Choice.Offline 0x22 usual []
     ∷ waiting Choice.Online 0x22 (five 0x80 0x40 0 0 0) ((0x9F0F, zero5) ∷ (0xDF8122, five 0 0x40 0 0 0) ∷ []) ∷ [])
-    ≡ choiceWord Stage.Online Holder.Card 0 ∷ choiceWord Stage.Online Holder.Nobody noBit ∷ refused ∷ choiceWord Stage.Online Holder.Terminal 9 ∷ []
-unfolding stageIn decidingIn holderOf pairAt reasonAt bit front holdsBit lowestFrom lowestBit cardCode heldAt capabilityAt choiceOf codesOf chosen
-    fitAlong placeFits fitting digitsFit numeric compressed digitsThenFs nibbles putAt placeOf valueIn valueAt placeAt held offsetIn find past rows
-    cryptogramRanges limitOf phoneIn onDevice amountOf decimalFrom running brought isBrought lastAbsent completed listed accepts wholeEntries entries keeps sumOf every both either if
+    ≡ choiceWord Stage.Online Holder.Card 0 ∷ choiceWord Stage.Online Holder.Nobody noBitNumber ∷ refused ∷ choiceWord Stage.Online Holder.Terminal 9 ∷ []
+unfolding stageIn decidingIn bitHolder actionCodesOfStage explainedAt numberedBit firstBytes stageHoldsBit lowestFrom lowestBit iacCode stageHolds onlineCapabilityAt choiceOf actionCodesOf choiceFor
+    fitAlong rowPlaceFits fitsRow digitsFit numeric compressed digitsThenFs nibbles putRow rowNumberOf objectValueIn rowValue rowPlace placeValue rowOffset findRow rowPast dictionaryRows
+    cryptogramRanges transactionLimit hasOnDeviceCvm onDeviceCvm amountOf bcdFrom runningRanges allRequiredPresent isPresentIfRequired lastResponseAbsent cryptogramDataPresent listedTerminalType acceptsAfl wholeEntries aflEntries validEntry sumOverEntries every both either if
 waiting-online = told-along _ _ refl
 
 -- the lowest bit of the denial codes alone, by the terminal, and by both where the lower one is not set; at type 21 too
@@ -125,20 +125,20 @@ waiting-denial : told (waiting Choice.Decline 0x22 (five 0x80 0x40 0 0x80 0) ((0
     ∷ waiting Choice.Decline 0x22 (five 0x80 0 0 0x80 0) ((0x9F0E, five 0 0 0 0x80 0) ∷ (0xDF8121, five 0 0x40 0 0x80 0) ∷ [])
     ∷ waiting Choice.Decline 0x21 (five 0x80 0 0 0x80 0) ((0x9F0E, five 0 0 0 0x80 0) ∷ []) ∷ [])
     ≡ choiceWord Stage.Denial Holder.Terminal 9 ∷ choiceWord Stage.Denial Holder.Both 24 ∷ choiceWord Stage.Denial Holder.Card 24 ∷ []
-unfolding stageIn decidingIn holderOf pairAt reasonAt bit front holdsBit lowestFrom lowestBit cardCode heldAt capabilityAt choiceOf codesOf chosen
-    fitAlong placeFits fitting digitsFit numeric compressed digitsThenFs nibbles putAt placeOf valueIn valueAt placeAt held offsetIn find past rows
-    cryptogramRanges limitOf phoneIn onDevice amountOf decimalFrom running brought isBrought lastAbsent completed listed accepts wholeEntries entries keeps sumOf every both either if
+unfolding stageIn decidingIn bitHolder actionCodesOfStage explainedAt numberedBit firstBytes stageHoldsBit lowestFrom lowestBit iacCode stageHolds onlineCapabilityAt choiceOf actionCodesOf choiceFor
+    fitAlong rowPlaceFits fitsRow digitsFit numeric compressed digitsThenFs nibbles putRow rowNumberOf objectValueIn rowValue rowPlace placeValue rowOffset findRow rowPast dictionaryRows
+    cryptogramRanges transactionLimit hasOnDeviceCvm onDeviceCvm amountOf bcdFrom runningRanges allRequiredPresent isPresentIfRequired lastResponseAbsent cryptogramDataPresent listedTerminalType acceptsAfl wholeEntries aflEntries validEntry sumOverEntries every both either if
 waiting-denial = told-along _ _ refl
 
 -- the online-only type; the default stage with an absent code, with its last bit, and with none
 waiting-types : told (waiting Choice.Online 0x21 usual [] ∷ waiting Choice.Decline 0x23 usual []
     ∷ waiting Choice.Decline 0x26 (five 0x80 0 0 0 1) ((0x9F0D, five 0 0 0 0 1) ∷ (0xDF8120, five 0 0 0 0 1) ∷ [])
     ∷ waiting Choice.Offline 0x36 usual ((0x9F0D, five 0x7F 0xFF 0xFF 0xFF 0xFF) ∷ []) ∷ [])
-    ≡ choiceWord Stage.OnlineOnly Holder.Nobody noBit ∷ choiceWord Stage.Default Holder.Card 0 ∷ choiceWord Stage.Default Holder.Both 39
-    ∷ choiceWord Stage.Default Holder.Nobody noBit ∷ []
-unfolding stageIn decidingIn holderOf pairAt reasonAt bit front holdsBit lowestFrom lowestBit cardCode heldAt capabilityAt choiceOf codesOf chosen
-    fitAlong placeFits fitting digitsFit numeric compressed digitsThenFs nibbles putAt placeOf valueIn valueAt placeAt held offsetIn find past rows
-    cryptogramRanges limitOf phoneIn onDevice amountOf decimalFrom running brought isBrought lastAbsent completed listed accepts wholeEntries entries keeps sumOf every both either if
+    ≡ choiceWord Stage.OnlineOnly Holder.Nobody noBitNumber ∷ choiceWord Stage.Default Holder.Card 0 ∷ choiceWord Stage.Default Holder.Both 39
+    ∷ choiceWord Stage.Default Holder.Nobody noBitNumber ∷ []
+unfolding stageIn decidingIn bitHolder actionCodesOfStage explainedAt numberedBit firstBytes stageHoldsBit lowestFrom lowestBit iacCode stageHolds onlineCapabilityAt choiceOf actionCodesOf choiceFor
+    fitAlong rowPlaceFits fitsRow digitsFit numeric compressed digitsThenFs nibbles putRow rowNumberOf objectValueIn rowValue rowPlace placeValue rowOffset findRow rowPast dictionaryRows
+    cryptogramRanges transactionLimit hasOnDeviceCvm onDeviceCvm amountOf bcdFrom runningRanges allRequiredPresent isPresentIfRequired lastResponseAbsent cryptogramDataPresent listedTerminalType acceptsAfl wholeEntries aflEntries validEntry sumOverEntries every both either if
 waiting-types = told-along _ _ refl
 
 -- ---- ended with reason 0
@@ -146,18 +146,18 @@ waiting-types = told-along _ _ refl
 -- the cryptogram that was asked for, and a lower one
 ended-given : told (ended 0 Outcome.OnlineRequest 0x80 [] ∷ ended 0 Outcome.Declined 0x00 [] ∷ ended 0 Outcome.OnlineRequest 0x80 ((0x9F0F, zero5) ∷ [])
     ∷ ended 0 Outcome.Approved 0x40 ((0x9F0F, zero5) ∷ []) ∷ [])
-    ≡ choiceWord Stage.Online Holder.Card 0 ∷ lower ∷ lower ∷ choiceWord Stage.Online Holder.Nobody noBit ∷ []
-unfolding endedBy endedIn cryptogramRank decision stageIn decidingIn holderOf pairAt reasonAt bit front holdsBit lowestFrom lowestBit cardCode heldAt capabilityAt choiceOf codesOf chosen
-    fitAlong placeFits fitting digitsFit numeric compressed digitsThenFs nibbles putAt placeOf valueIn valueAt placeAt held offsetIn find past rows
-    endedRanges goesWith every both either if
+    ≡ choiceWord Stage.Online Holder.Card 0 ∷ lower ∷ lower ∷ choiceWord Stage.Online Holder.Nobody noBitNumber ∷ []
+unfolding explainedEndBy explainedEnd cryptogramRank cryptogramOutcome stageIn decidingIn bitHolder actionCodesOfStage explainedAt numberedBit firstBytes stageHoldsBit lowestFrom lowestBit iacCode stageHolds onlineCapabilityAt choiceOf actionCodesOf choiceFor
+    fitAlong rowPlaceFits fitsRow digitsFit numeric compressed digitsThenFs nibbles putRow rowNumberOf objectValueIn rowValue rowPlace placeValue rowOffset findRow rowPast dictionaryRows
+    endedRanges reasonMatchesOutcome every both either if
 ended-given = told-along _ _ refl
 
 -- an approval of an online choice; a decline with an ARQC; no 9F27, DF8122 or 95
 ended-refused : told (ended 0 Outcome.Approved 0x40 [] ∷ ended 0 Outcome.Declined 0x80 [] ∷ map (λ t. ended t Outcome.OnlineRequest 0x80 []) (0x9F27 ∷ 0xDF8122 ∷ 0x95 ∷ []))
     ≡ replicate 5 refused
-unfolding endedBy endedIn cryptogramRank decision stageIn decidingIn holderOf pairAt reasonAt bit front holdsBit lowestFrom lowestBit cardCode heldAt capabilityAt choiceOf codesOf chosen
-    fitAlong placeFits fitting digitsFit numeric compressed digitsThenFs nibbles putAt placeOf valueIn valueAt placeAt held offsetIn find past rows
-    endedRanges goesWith every both either if
+unfolding explainedEndBy explainedEnd cryptogramRank cryptogramOutcome stageIn decidingIn bitHolder actionCodesOfStage explainedAt numberedBit firstBytes stageHoldsBit lowestFrom lowestBit iacCode stageHolds onlineCapabilityAt choiceOf actionCodesOf choiceFor
+    fitAlong rowPlaceFits fitsRow digitsFit numeric compressed digitsThenFs nibbles putRow rowNumberOf objectValueIn rowValue rowPlace placeValue rowOffset findRow rowPast dictionaryRows
+    endedRanges reasonMatchesOutcome every both either if
 ended-refused = told-along _ _ refl
 
 -- the terminal's denial code and its type are needed; a code of a stage that is not consulted is not, and where denial decides the
@@ -165,9 +165,9 @@ ended-refused = told-along _ _ refl
 ended-needs : told (map (λ t. ended t Outcome.OnlineRequest 0x80 []) (0xDF8121 ∷ 0x9F35 ∷ 0xDF8120 ∷ [])
     ++ (ended 0x9F35 Outcome.Declined 0x00 ((0x9F0E, usual) ∷ []) ∷ []))
     ≡ refused ∷ refused ∷ choiceWord Stage.Online Holder.Card 0 ∷ choiceWord Stage.Denial Holder.Card 0 ∷ []
-unfolding endedBy endedIn cryptogramRank decision stageIn decidingIn holderOf pairAt reasonAt bit front holdsBit lowestFrom lowestBit cardCode heldAt capabilityAt choiceOf codesOf chosen
-    fitAlong placeFits fitting digitsFit numeric compressed digitsThenFs nibbles putAt placeOf valueIn valueAt placeAt held offsetIn find past rows
-    endedRanges goesWith every both either if
+unfolding explainedEndBy explainedEnd cryptogramRank cryptogramOutcome stageIn decidingIn bitHolder actionCodesOfStage explainedAt numberedBit firstBytes stageHoldsBit lowestFrom lowestBit iacCode stageHolds onlineCapabilityAt choiceOf actionCodesOf choiceFor
+    fitAlong rowPlaceFits fitsRow digitsFit numeric compressed digitsThenFs nibbles putRow rowNumberOf objectValueIn rowValue rowPlace placeValue rowOffset findRow rowPast dictionaryRows
+    endedRanges reasonMatchesOutcome every both either if
 ended-needs = told-along _ _ refl
 
 -- ---- no choice, a reason
@@ -175,25 +175,25 @@ ended-needs = told-along _ _ refl
 abbrev inPhase : Phase → ℕ → List Object → Session
 inPhase p n objects = sessionOf p n (without 0 objects)
 
-before-choice : told (inPhase Phase.Fresh 0 [] ∷ inPhase Phase.Options 1 (started 0x22 zero5)
+before-choice : told (inPhase Phase.Fresh 0 [] ∷ inPhase Phase.Gpo 1 (started 0x22 zero5)
     ∷ inPhase (Phase.Record (record { number = 1; limit = 10000 })) 2 (opened 0x22 zero5) ∷ []) ≡ replicate 3 noChoice
-unfolding fitAlong placeFits fitting digitsFit numeric nibbles putAt placeOf valueIn valueAt placeAt held offsetIn find past rows
-    freshRanges optionsRanges recordRanges limitOf phoneIn onDevice amountOf decimalFrom front bit running brought isBrought lastAbsent listed accepts wholeEntries entries keeps sumOf every both either if
+unfolding fitAlong rowPlaceFits fitsRow digitsFit numeric nibbles putRow rowNumberOf objectValueIn rowValue rowPlace placeValue rowOffset findRow rowPast dictionaryRows
+    freshRanges gpoRanges recordRanges transactionLimit hasOnDeviceCvm onDeviceCvm amountOf bcdFrom firstBytes numberedBit runningRanges allRequiredPresent isPresentIfRequired lastResponseAbsent listedTerminalType acceptsAfl wholeEntries aflEntries validEntry sumOverEntries every both either if
 before-choice = told-along _ _ refl
 
 -- 6 goes with select next alone
-with-reason : told (inPhase (Phase.Ended (endOf Outcome.SelectNext 6)) 3 [] ∷ inPhase (Phase.Ended (endOf Outcome.Ended 8)) 4 []
-    ∷ inPhase (Phase.Ended (endOf Outcome.Ended 9)) 1 [] ∷ inPhase (Phase.Ended (endOf Outcome.Ended 6)) 3 [] ∷ [])
-    ≡ map (λ n. wordOf (Explanation.Reason n)) (6 ∷ 8 ∷ 9 ∷ []) ++ (refused ∷ [])
-unfolding endedBy endedIn fitAlong placeFits valueIn valueAt placeAt held offsetIn find past rows endedRanges goesWith every both either if
+with-reason : told (inPhase (Phase.Ended (endingOf Outcome.SelectNext 6)) 3 [] ∷ inPhase (Phase.Ended (endingOf Outcome.Ended 8)) 4 []
+    ∷ inPhase (Phase.Ended (endingOf Outcome.Ended 9)) 1 [] ∷ inPhase (Phase.Ended (endingOf Outcome.Ended 6)) 3 [] ∷ [])
+    ≡ map (λ n. explanationWord (Explanation.Reason n)) (6 ∷ 8 ∷ 9 ∷ []) ++ (refused ∷ [])
+unfolding explainedEndBy explainedEnd fitAlong rowPlaceFits objectValueIn rowValue rowPlace placeValue rowOffset findRow rowPast dictionaryRows endedRanges reasonMatchesOutcome every both either if
 with-reason = told-along _ _ refl
 
 -- in mag-stripe mode: every outcome of reason 0, whatever else is stored; a reason is told; without 82, and with byte 2 b8 set, it is
 -- explained by what is there
 abbrev endedWith : Outcome → ℕ → List Object → Session
-endedWith o n objects = inPhase (Phase.Ended (endOf o n)) 3 objects
+endedWith o n objects = inPhase (Phase.Ended (endingOf o n)) 3 objects
 
-in-stripe-mode :
+in-mag-stripe-mode :
     told
     (endedWith Outcome.OnlineRequest 0 ((0x82, 0x00 ∷ 0x00 ∷ []) ∷ started 0x22 zero5)
     ∷ endedWith Outcome.Declined 0 ((0x82, 0xFF ∷ 0x7F ∷ []) ∷ (0xDF811B, 0x80 ∷ []) ∷ [])
@@ -202,8 +202,8 @@ in-stripe-mode :
     ∷ endedWith Outcome.OnlineRequest 0 (started 0x22 zero5)
     ∷ endedWith Outcome.OnlineRequest 0 ((0x82, 0x00 ∷ 0x80 ∷ []) ∷ started 0x22 zero5)
     ∷ [])
-    ≡ noChoice ∷ noChoice ∷ noChoice ∷ wordOf (Explanation.Reason 4) ∷ refused ∷ refused ∷ []
-unfolding endedBy endedIn cryptogramRank decision stageIn decidingIn holderOf pairAt reasonAt bit front holdsBit lowestFrom lowestBit cardCode heldAt capabilityAt choiceOf codesOf chosen
-    fitAlong placeFits fitting digitsFit numeric compressed digitsThenFs nibbles putAt placeOf valueIn valueAt placeAt held offsetIn find past rows
-    endedRanges goesWith every both either if
-in-stripe-mode = told-along _ _ refl
+    ≡ noChoice ∷ noChoice ∷ noChoice ∷ explanationWord (Explanation.Reason 4) ∷ refused ∷ refused ∷ []
+unfolding explainedEndBy explainedEnd cryptogramRank cryptogramOutcome stageIn decidingIn bitHolder actionCodesOfStage explainedAt numberedBit firstBytes stageHoldsBit lowestFrom lowestBit iacCode stageHolds onlineCapabilityAt choiceOf actionCodesOf choiceFor
+    fitAlong rowPlaceFits fitsRow digitsFit numeric compressed digitsThenFs nibbles putRow rowNumberOf objectValueIn rowValue rowPlace placeValue rowOffset findRow rowPast dictionaryRows
+    endedRanges reasonMatchesOutcome every both either if
+in-mag-stripe-mode = told-along _ _ refl

@@ -15,73 +15,73 @@ use borrow.Author.Tests.{eq-eqb, ne-eqb, eqb-true, ltb-true, lt-ltb, le-ltb, not
 use Rattle.basics.specs.Choice.{if, both, either, every}
 use Rattle.basics.specs.Reason.{reasonNone}
 use Rattle.basics.proofs.Laws.{bool-cases, if-ind, if-yes, if-no, both-yes, both-left, both-right, both-no-left, both-no-right, both-assoc, either-no}
-use Rattle.store.specs.Held.{holds, lacks, bytesIn}
-use Rattle.analysis.specs.Bits.{bit, has}
-use Rattle.analysis.specs.Choice.{noBits, holdsBit, lowestBit, someBit, heldAt, denial, online, default, capabilityOf, choiceBy, choiceOf, p1Of}
-use Rattle.analysis.specs.Action.{terminalType, codesOf, chosen}
-use Rattle.analysis.specs.declared.choice.Capability.{Capability}
+use Rattle.store.specs.Held.{hasObject, lacksObject, storedBytes}
+use Rattle.analysis.specs.Bits.{numberedBit, valueHasBit}
+use Rattle.analysis.specs.Choice.{zeroCode, stageHoldsBit, lowestBit, someBit, stageHolds, denialStage, onlineStage, defaultStage, onlineCapabilityOf, choiceBy, choiceOf, generateAcP1}
+use Rattle.analysis.specs.Action.{terminalType, actionCodesOf, choiceFor}
+use Rattle.analysis.specs.declared.choice.OnlineCapability.{OnlineCapability}
 use Rattle.analysis.specs.declared.choice.Choice.{Choice}
-use Rattle.analysis.specs.declared.choice.Lowest.{Lowest}
-use Rattle.analysis.specs.declared.choice.Pair.{Pair}
+use Rattle.analysis.specs.declared.choice.LowestBit.{LowestBit}
+use Rattle.analysis.specs.declared.choice.ActionCodes.{ActionCodes}
 use Rattle.analysis.proofs.Lowest.{Found}
 use Rattle.analysis.proofs.Stages.{lowest-held, none-held, all-clear}
-use Rattle.record.specs.declared.Asked.{Asked}
-use Rattle.record.specs.declared.End.{End}
-use Rattle.record.specs.declared.Outcome.{Outcome}
-use Rattle.record.specs.declared.Phase.{Phase}
-use Rattle.record.specs.declared.Session.{Session}
-use Rattle.record.specs.Numbers.{outcomeNumber}
-use Rattle.record.specs.Session.{stored}
-use Rattle.record.specs.Ranges.{stripeMode, inRanges}
-use Rattle.session.specs.Answer.{decision}
+use Rattle.session_record.specs.declared.RequestedCryptogram.{RequestedCryptogram}
+use Rattle.session_record.specs.declared.Ending.{Ending}
+use Rattle.session_record.specs.declared.Outcome.{Outcome}
+use Rattle.session_record.specs.declared.Phase.{Phase}
+use Rattle.session_record.specs.declared.Session.{Session}
+use Rattle.session_record.specs.Numbers.{outcomeNumber}
+use Rattle.session_record.specs.Session.{storeBytes}
+use Rattle.session_record.specs.Ranges.{magStripeMode, inRanges}
+use Rattle.session.specs.Answer.{cryptogramOutcome}
 use Rattle.explain.specs.declared.Stage.{Stage}
 use Rattle.explain.specs.declared.Deciding.{Deciding}
 use Rattle.explain.specs.declared.Cause.{Cause}
 use Rattle.explain.specs.declared.Explanation.{Explanation}
-use Rattle.explain.specs.Explain.{resultIn, choiceIn, stageBy, stageIn, neededAt, completed, decidingIn, holderOf, pairAt, byBit, reasonAt, waitingAt, cryptogramRank, typeIn, typeAsked, gives, decidedAt, endedIn, cardAsksMagStripe, endedBy, inPhase, explained}
-use Rattle.explain.specs.Told.{forcedBy, unforcedBy, Named, Unnamed, Lower, Decides, Told}
+use Rattle.explain.specs.Explain.{storedTvr, storedChoice, stageBy, stageIn, stageNeeds, stageIfComplete, decidingIn, bitHolder, actionCodesOfStage, explainedByBit, explainedAt, explainedWaiting, cryptogramRank, storedCryptogramType, requestedType, decidesOutcome, explainedDecision, explainedEnd, cardAsksMagMagStripe, explainedEndBy, explainedInPhase, explanationOf}
+use Rattle.explain.specs.Promise.{choiceForcedBy, choiceUnforcedAt, BitNamed, NoBitNamed, LowerType, DecisionIs, ExplanationHolds}
 
 -- ---- the stage that decided
 
 module _ (b : List ℕ) where
   pub deciding-nothing : stageIn b ≡ Deciding.Nothing → decidingIn b ≡ Deciding.Nothing
   unfolding decidingIn
-  deciding-nothing e = ap (completed b) e
+  deciding-nothing e = ap (stageIfComplete b) e
 
   module _ (stage : Stage) (e : stageIn b ≡ Deciding.At stage) where
-    pub deciding-lacks : every (holds b) (neededAt stage) ≡ false → decidingIn b ≡ Deciding.Nothing
+    pub deciding-lacks : every (hasObject b) (stageNeeds stage) ≡ false → decidingIn b ≡ Deciding.Nothing
     unfolding decidingIn
-    deciding-lacks n = ap (completed b) e ∙ if-no _ _ n
+    deciding-lacks n = ap (stageIfComplete b) e ∙ if-no _ _ n
 
-    pub deciding-at : every (holds b) (neededAt stage) ≡ true → decidingIn b ≡ Deciding.At stage
+    pub deciding-at : every (hasObject b) (stageNeeds stage) ≡ true → decidingIn b ≡ Deciding.At stage
     unfolding decidingIn
-    deciding-at n = ap (completed b) e ∙ if-yes _ _ n
+    deciding-at n = ap (stageIfComplete b) e ∙ if-yes _ _ n
 
   -- a stage that decided is the one that the type and the denial codes tell
   pub deciding-stage : (stage : Stage) → decidingIn b ≡ Deciding.At stage → stageIn b ≡ Deciding.At stage
   unfolding decidingIn
   deciding-stage stage e = go (stageIn b) e
     where
-      go : (d : Deciding) → completed b d ≡ Deciding.At stage → d ≡ Deciding.At stage
+      go : (d : Deciding) → stageIfComplete b d ≡ Deciding.At stage → d ≡ Deciding.At stage
       go Deciding.Nothing = λ e. e
       go (Deciding.At g) = if-ind (λ (d : Deciding). d ≡ Deciding.At stage → Deciding.At g ≡ Deciding.At stage) _ _ _ (λ t e. e) (λ t e. cc)
 
 -- the code asks the denial codes first, and then the type
-module _ (b : List ℕ) {l : Lowest} {result : List ℕ} {pair : Pair} (f : l ≡ lowestBit result pair) (r : result ≡ resultIn b) where
+module _ (b : List ℕ) {l : LowestBit} {result : List ℕ} {pair : ActionCodes} (f : l ≡ lowestBit result pair) (r : result ≡ storedTvr b) where
   -- the lowest bit that was found is the stage's
-  pub found-at : (stage : Stage) {m : Lowest} → pair ≡ pairAt b stage → l ≡ m → lowestBit (resultIn b) (pairAt b stage) ≡ m
+  pub found-at : (stage : Stage) {m : LowestBit} → pair ≡ actionCodesOfStage b stage → l ≡ m → lowestBit (storedTvr b) (actionCodesOfStage b stage) ≡ m
   found-at stage p e = ap₂ lowestBit (sym r) (sym p) ∙ sym f ∙ e
 
-  module _ (p : pair ≡ pairAt b Stage.Denial) where
-    pub stage-denial : {i : ℕ} → l ≡ Lowest.Bit i → stageIn b ≡ Deciding.At Stage.Denial
-    unfolding stageIn heldAt pairAt
-    stage-denial e = ap (λ (m : Lowest). stageBy (capabilityOf (terminalType b)) (someBit m)) (found-at Stage.Denial p e)
+  module _ (p : pair ≡ actionCodesOfStage b Stage.Denial) where
+    pub stage-denial : {i : ℕ} → l ≡ LowestBit.Bit i → stageIn b ≡ Deciding.At Stage.Denial
+    unfolding stageIn stageHolds actionCodesOfStage
+    stage-denial e = ap (λ (m : LowestBit). stageBy (onlineCapabilityOf (terminalType b)) (someBit m)) (found-at Stage.Denial p e)
 
-    pub stage-type : {x : Capability} → l ≡ Lowest.NoBit → capabilityOf (terminalType b) ≡ x → stageIn b ≡ stageBy x false
-    unfolding stageIn heldAt pairAt
-    stage-type e c = ap₂ (λ (m : Lowest) (x : Capability). stageBy x (someBit m)) (found-at Stage.Denial p e) c
+    pub stage-type : {x : OnlineCapability} → l ≡ LowestBit.NoBit → onlineCapabilityOf (terminalType b) ≡ x → stageIn b ≡ stageBy x false
+    unfolding stageIn stageHolds actionCodesOfStage
+    stage-type e c = ap₂ (λ (m : LowestBit) (x : OnlineCapability). stageBy x (someBit m)) (found-at Stage.Denial p e) c
 
-pub bit-within : (result : List ℕ) (pair : Pair) {l : Lowest} {i : ℕ} → l ≡ lowestBit result pair → l ≡ Lowest.Bit i → i < 40
+pub bit-within : (result : List ℕ) (pair : ActionCodes) {l : LowestBit} {i : ℕ} → l ≡ lowestBit result pair → l ≡ LowestBit.Bit i → i < 40
 bit-within result pair {l} {i} f e = omega (arith, lowest-held result pair i (sym f ∙ e) .within)
 
 -- one object
@@ -100,20 +100,20 @@ heldHere Stage.Online     h o d = o
 
 -- the choice is the one that a bit of the stage forces, or the one that is left without
 abbrev choiceAt : Stage → Bool → Choice
-choiceAt stage true  = forcedBy stage
-choiceAt stage false = unforcedBy stage
+choiceAt stage true  = choiceForcedBy stage
+choiceAt stage false = choiceUnforcedAt stage
 
-by-stage : (r : Capability) (h o d : Bool) (stage : Stage) → stageBy r h ≡ Deciding.At stage → choiceBy r h o d ≡ choiceAt stage (heldHere stage h o d)
+by-stage : (r : OnlineCapability) (h o d : Bool) (stage : Stage) → stageBy r h ≡ Deciding.At stage → choiceBy r h o d ≡ choiceAt stage (heldHere stage h o d)
 by-stage r true o d stage e = let z : Stage.Denial ≡ stage = cc in ap (λ (g : Stage). choiceAt g (heldHere g true o d)) z
-by-stage Capability.OnlineOnly false o d stage e = let z : Stage.OnlineOnly ≡ stage = cc in ap (λ (g : Stage). choiceAt g (heldHere g false o d)) z
-by-stage Capability.OnlineCapable false true d stage e = let z : Stage.Online ≡ stage = cc in ap (λ (g : Stage). choiceAt g (heldHere g false true d)) z
-by-stage Capability.OnlineCapable false false d stage e = let z : Stage.Online ≡ stage = cc in ap (λ (g : Stage). choiceAt g (heldHere g false false d)) z
-by-stage Capability.OfflineOnly false o true stage e = let z : Stage.Default ≡ stage = cc in ap (λ (g : Stage). choiceAt g (heldHere g false o true)) z
-by-stage Capability.OfflineOnly false o false stage e = let z : Stage.Default ≡ stage = cc in ap (λ (g : Stage). choiceAt g (heldHere g false o false)) z
-by-stage Capability.Unlisted false o d stage e = let z : _≡_ {A = ℕ} 0 1 = cc in absurd (omega arith)
+by-stage OnlineCapability.OnlineOnly false o d stage e = let z : Stage.OnlineOnly ≡ stage = cc in ap (λ (g : Stage). choiceAt g (heldHere g false o d)) z
+by-stage OnlineCapability.OnlineCapable false true d stage e = let z : Stage.Online ≡ stage = cc in ap (λ (g : Stage). choiceAt g (heldHere g false true d)) z
+by-stage OnlineCapability.OnlineCapable false false d stage e = let z : Stage.Online ≡ stage = cc in ap (λ (g : Stage). choiceAt g (heldHere g false false d)) z
+by-stage OnlineCapability.OfflineOnly false o true stage e = let z : Stage.Default ≡ stage = cc in ap (λ (g : Stage). choiceAt g (heldHere g false o true)) z
+by-stage OnlineCapability.OfflineOnly false o false stage e = let z : Stage.Default ≡ stage = cc in ap (λ (g : Stage). choiceAt g (heldHere g false o false)) z
+by-stage OnlineCapability.Unlisted false o d stage e = let z : _≡_ {A = ℕ} 0 1 = cc in absurd (omega arith)
 
 -- codes of zeros hold no bit
-zero-at : (i : ℕ) → getD noBits i 0 ≡ 0
+zero-at : (i : ℕ) → getD zeroCode i 0 ≡ 0
 zero-at zero = refl
 zero-at (suc zero) = refl
 zero-at (suc (suc zero)) = refl
@@ -121,39 +121,39 @@ zero-at (suc (suc (suc zero))) = refl
 zero-at (suc (suc (suc (suc zero)))) = refl
 zero-at (suc (suc (suc (suc (suc i))))) = refl
 
-zero-bit : (i : ℕ) → bit noBits i ≡ false
-unfolding bit
+zero-bit : (i : ℕ) → numberedBit zeroCode i ≡ false
+unfolding numberedBit
 zero-bit i = simp (zero-at, zero-div)
 
-zeros-clear : (result : List ℕ) (i : ℕ) → holdsBit result (record { card = noBits; terminal = noBits }) i ≡ false
-unfolding holdsBit
+zeros-clear : (result : List ℕ) (i : ℕ) → stageHoldsBit result (record { card = zeroCode; terminal = zeroCode }) i ≡ false
+unfolding stageHoldsBit
 zeros-clear result i = both-no-right _ _ (either-no _ _ (zero-bit i) (zero-bit i))
 
 module _ (b : List ℕ) where
   -- the stage's codes hold a bit
   heldIn : Stage → Bool
-  heldIn stage = someBit (lowestBit (resultIn b) (pairAt b stage))
+  heldIn stage = someBit (lowestBit (storedTvr b) (actionCodesOfStage b stage))
 
-  held-here : (stage : Stage) → heldHere stage (heldAt (resultIn b) (codesOf b) denial) (heldAt (resultIn b) (codesOf b) online) (heldAt (resultIn b) (codesOf b) default)
+  held-here : (stage : Stage) → heldHere stage (stageHolds (storedTvr b) (actionCodesOf b) denialStage) (stageHolds (storedTvr b) (actionCodesOf b) onlineStage) (stageHolds (storedTvr b) (actionCodesOf b) defaultStage)
       ≡ heldIn stage
-  unfolding heldAt pairAt heldIn
+  unfolding stageHolds actionCodesOfStage heldIn
   held-here Stage.Denial = refl
-  held-here Stage.OnlineOnly = sym (ap someBit (all-clear (resultIn b) _ (λ m h. zeros-clear (resultIn b) m)))
+  held-here Stage.OnlineOnly = sym (ap someBit (all-clear (storedTvr b) _ (λ m h. zeros-clear (storedTvr b) m)))
   held-here Stage.Default = refl
   held-here Stage.Online = refl
 
   -- so a stage with a bit gives exactly its choice
-  stage-choice : (stage : Stage) → decidingIn b ≡ Deciding.At stage → choiceIn b ≡ choiceAt stage (heldIn stage)
-  unfolding chosen choiceOf stageIn
+  stage-choice : (stage : Stage) → decidingIn b ≡ Deciding.At stage → storedChoice b ≡ choiceAt stage (heldIn stage)
+  unfolding choiceFor choiceOf stageIn
   stage-choice stage e = by-stage _ _ _ _ stage (deciding-stage b stage e) ∙ ap (choiceAt stage) (held-here stage)
 
 -- ---- what a stage says
 
 -- what is promised of every explanation of a store
 pub record Right (b : List ℕ) (r : Explanation) : Type 0 where
-  pub named : (c : Cause) → r ≡ Explanation.Forced c → Named b c
-  pub unnamed : (stage : Stage) → r ≡ Explanation.Unforced stage → Unnamed b stage
-  pub lower : r ≡ Explanation.LowerCryptogram → Lower b
+  pub named : (c : Cause) → r ≡ Explanation.Forced c → BitNamed b c
+  pub unnamed : (stage : Stage) → r ≡ Explanation.Unforced stage → NoBitNamed b stage
+  pub lower : r ≡ Explanation.LowerCryptogram → LowerType b
 
 -- one that names nothing
 abbrev Plain : Explanation → Type 0
@@ -174,11 +174,11 @@ plain b r p =
 
 -- the lowest bit that the stage that decided holds, or that it holds none
 module _ (b : List ℕ) (stage : Stage) (e : decidingIn b ≡ Deciding.At stage) where
-  found-right : (i : ℕ) → lowestBit (resultIn b) (pairAt b stage) ≡ Lowest.Bit i
-      → Named b (record { stage = stage; bit = i; holder = holderOf (pairAt b stage) i })
-  unfolding holdsBit heldIn
+  found-right : (i : ℕ) → lowestBit (storedTvr b) (actionCodesOfStage b stage) ≡ LowestBit.Bit i
+      → BitNamed b (record { stage = stage; bit = i; holder = bitHolder (actionCodesOfStage b stage) i })
+  unfolding stageHoldsBit heldIn
   found-right i f =
-      let k = lowest-held (resultIn b) (pairAt b stage) i f in
+      let k = lowest-held (storedTvr b) (actionCodesOfStage b stage) i f in
       record {
         decides = e;
         within = omega (arith, k .within);
@@ -186,40 +186,40 @@ module _ (b : List ℕ) (stage : Stage) (e : decidingIn b ≡ Deciding.At stage)
         held = both-right _ _ (k .passes);
         lowest = λ m h. k .below m (omega arith) h;
         holder = refl;
-        choice = stage-choice b stage e ∙ ap (λ (l : Lowest). choiceAt stage (someBit l)) f;
+        choice = stage-choice b stage e ∙ ap (λ (l : LowestBit). choiceAt stage (someBit l)) f;
       }
 
-  none-right : lowestBit (resultIn b) (pairAt b stage) ≡ Lowest.NoBit → Unnamed b stage
+  none-right : lowestBit (storedTvr b) (actionCodesOfStage b stage) ≡ LowestBit.NoBit → NoBitNamed b stage
   unfolding heldIn
   none-right f =
       record {
         decides = e;
-        none = none-held (resultIn b) (pairAt b stage) f;
-        choice = stage-choice b stage e ∙ ap (λ (l : Lowest). choiceAt stage (someBit l)) f;
+        none = none-held (storedTvr b) (actionCodesOfStage b stage) f;
+        choice = stage-choice b stage e ∙ ap (λ (l : LowestBit). choiceAt stage (someBit l)) f;
       }
 
-  reason-right : Right b (reasonAt b stage)
-  unfolding reasonAt
-  reason-right = go (lowestBit (resultIn b) (pairAt b stage)) refl
+  reason-right : Right b (explainedAt b stage)
+  unfolding explainedAt
+  reason-right = go (lowestBit (storedTvr b) (actionCodesOfStage b stage)) refl
     where
-      go : (l : Lowest) → lowestBit (resultIn b) (pairAt b stage) ≡ l → Right b (byBit stage (pairAt b stage) l)
-      go (Lowest.Bit i) f =
+      go : (l : LowestBit) → lowestBit (storedTvr b) (actionCodesOfStage b stage) ≡ l → Right b (explainedByBit stage (actionCodesOfStage b stage) l)
+      go (LowestBit.Bit i) f =
           record {
-            named = λ c h. (let z : record { stage = stage; bit = i; holder = holderOf (pairAt b stage) i } ≡ c = cc in subst (Named b) z (found-right i f));
+            named = λ c h. (let z : record { stage = stage; bit = i; holder = bitHolder (actionCodesOfStage b stage) i } ≡ c = cc in subst (BitNamed b) z (found-right i f));
             unnamed = λ g h. (let z : _≡_ {A = ℕ} 0 1 = cc in absurd (omega arith));
             lower = λ h. (let z : _≡_ {A = ℕ} 0 1 = cc in absurd (omega arith));
           }
-      go Lowest.NoBit f =
+      go LowestBit.NoBit f =
           record {
             named = λ c h. (let z : _≡_ {A = ℕ} 0 1 = cc in absurd (omega arith));
-            unnamed = λ g h. (let z : stage ≡ g = cc in subst (Unnamed b) z (none-right f));
+            unnamed = λ g h. (let z : stage ≡ g = cc in subst (NoBitNamed b) z (none-right f));
             lower = λ h. (let z : _≡_ {A = ℕ} 0 1 = cc in absurd (omega arith));
           }
 
 -- ---- by phase
 
 module _ (b : List ℕ) where
-  lower-right : Lower b → Right b Explanation.LowerCryptogram
+  lower-right : LowerType b → Right b Explanation.LowerCryptogram
   lower-right h =
       record {
         named = λ c e. (let z : _≡_ {A = ℕ} 0 1 = cc in absurd (omega arith));
@@ -227,21 +227,21 @@ module _ (b : List ℕ) where
         lower = λ e. h;
       }
 
-  waiting-right : (a : Asked) (d : Deciding) → decidingIn b ≡ d → Right b (waitingAt a b d)
+  waiting-right : (a : RequestedCryptogram) (d : Deciding) → decidingIn b ≡ d → Right b (explainedWaiting a b d)
   waiting-right a Deciding.Nothing e = plain b _ tt
   waiting-right a (Deciding.At g) e = if-ind (Right b) _ _ _ (λ t. reason-right b g e) (λ t. plain b _ tt)
 
-  decided-right : (x : End) (d : Deciding) → decidingIn b ≡ d → Right b (decidedAt x b d)
+  decided-right : (x : Ending) (d : Deciding) → decidingIn b ≡ d → Right b (explainedDecision x b d)
   decided-right x Deciding.Nothing e = plain b _ tt
   decided-right x (Deciding.At g) e =
       if-ind (Right b) _ _ _ (λ t. plain b _ tt)
       (λ t. if-ind (Right b) _ _ _ (λ u. plain b _ tt)
       (λ u. if-ind (Right b) _ _ _ (λ v. lower-right (ltb-true _ _ v)) (λ v. reason-right b g e)))
 
-  phase-right : (p : Phase) → Right b (inPhase p b)
-  unfolding endedIn endedBy
+  phase-right : (p : Phase) → Right b (explainedInPhase p b)
+  unfolding explainedEnd explainedEndBy
   phase-right Phase.Fresh = plain b _ tt
-  phase-right Phase.Options = plain b _ tt
+  phase-right Phase.Gpo = plain b _ tt
   phase-right (Phase.Record p) = plain b _ tt
   phase-right (Phase.Cryptogram a) = waiting-right a (decidingIn b) refl
   phase-right (Phase.Checksum k) = plain b _ tt
@@ -250,55 +250,55 @@ module _ (b : List ℕ) where
 
 -- ---- ended, as the code comes to it
 
-module _ (x : End) (b : List ℕ) where
-  pub ended-reason : (x .reason ≡ reasonNone → ⊥) → endedIn x b ≡ Explanation.Reason (x .reason)
-  unfolding endedIn
+module _ (x : Ending) (b : List ℕ) where
+  pub ended-reason : (x .reason ≡ reasonNone → ⊥) → explainedEnd x b ≡ Explanation.Reason (x .reason)
+  unfolding explainedEnd
   ended-reason n = if-no _ _ (ne-eqb _ _ n)
 
   module _ (z : x .reason ≡ reasonNone) where
-    decided : {d : Deciding} → decidingIn b ≡ d → endedIn x b ≡ decidedAt x b d
-    unfolding endedIn
-    decided e = if-yes _ _ (eq-eqb _ _ z) ∙ ap (decidedAt x b) e
+    decided : {d : Deciding} → decidingIn b ≡ d → explainedEnd x b ≡ explainedDecision x b d
+    unfolding explainedEnd
+    decided e = if-yes _ _ (eq-eqb _ _ z) ∙ ap (explainedDecision x b) e
 
-    pub ended-nothing : decidingIn b ≡ Deciding.Nothing → endedIn x b ≡ Explanation.Refused
+    pub ended-nothing : decidingIn b ≡ Deciding.Nothing → explainedEnd x b ≡ Explanation.Refused
     ended-nothing e = decided e
 
     module _ (stage : Stage) (e : decidingIn b ≡ Deciding.At stage) where
-      pub ended-lacks : holds b 0x9F27 ≡ false → endedIn x b ≡ Explanation.Refused
+      pub ended-lacks : hasObject b 0x9F27 ≡ false → explainedEnd x b ≡ Explanation.Refused
       ended-lacks h = decided e ∙ if-yes _ _ (ap not h)
 
-      module _ (h : holds b 0x9F27 ≡ true) where
-        pub ended-other : gives (decision (choiceIn b) (typeIn b)) (x .outcome) ≡ false → endedIn x b ≡ Explanation.Refused
+      module _ (h : hasObject b 0x9F27 ≡ true) where
+        pub ended-other : decidesOutcome (cryptogramOutcome (storedChoice b) (storedCryptogramType b)) (x .outcome) ≡ false → explainedEnd x b ≡ Explanation.Refused
         ended-other g = decided e ∙ if-no _ _ (ap not h) ∙ if-yes _ _ (ap not g)
 
-        module _ (g : gives (decision (choiceIn b) (typeIn b)) (x .outcome) ≡ true) where
-          pub ended-lower : Lower b → endedIn x b ≡ Explanation.LowerCryptogram
+        module _ (g : decidesOutcome (cryptogramOutcome (storedChoice b) (storedCryptogramType b)) (x .outcome) ≡ true) where
+          pub ended-lower : LowerType b → explainedEnd x b ≡ Explanation.LowerCryptogram
           ended-lower k = decided e ∙ if-no _ _ (ap not h) ∙ if-no _ _ (ap not g) ∙ if-yes _ _ (lt-ltb _ _ k)
 
-          pub ended-stage : cryptogramRank (typeAsked (choiceIn b)) ≤ cryptogramRank (typeIn b) → endedIn x b ≡ reasonAt b stage
+          pub ended-stage : cryptogramRank (requestedType (storedChoice b)) ≤ cryptogramRank (storedCryptogramType b) → explainedEnd x b ≡ explainedAt b stage
           ended-stage k = decided e ∙ if-no _ _ (ap not h) ∙ if-no _ _ (ap not g) ∙ if-no _ _ (le-ltb _ _ k)
 
 -- record's mag-stripe mode: the card asks for it, and the terminal's configuration does not say that it is off
-pub stripe-mode-is : (b : List ℕ) → stripeMode b ≡ both (cardAsksMagStripe b) (not (has (bytesIn b 0xDF811B) 1 8))
-stripe-mode-is b = both-assoc _ _ _
+pub mag-stripe-mode-is : (b : List ℕ) → magStripeMode b ≡ both (cardAsksMagMagStripe b) (not (valueHasBit (storedBytes b 0xDF811B) 1 8))
+mag-stripe-mode-is b = both-assoc _ _ _
 
 -- ended, by the mode
-module _ (x : End) (b : List ℕ) where
-  pub by-reason : (x .reason ≡ reasonNone → ⊥) → endedBy x b ≡ endedIn x b
-  unfolding endedBy
+module _ (x : Ending) (b : List ℕ) where
+  pub by-reason : (x .reason ≡ reasonNone → ⊥) → explainedEndBy x b ≡ explainedEnd x b
+  unfolding explainedEndBy
   by-reason n = if-no _ _ (both-no-left _ _ (ne-eqb _ _ n))
 
-  pub by-stripe : x .reason ≡ reasonNone → cardAsksMagStripe b ≡ true → endedBy x b ≡ Explanation.NoChoice
-  unfolding endedBy
-  by-stripe z e = if-yes _ _ (both-yes _ _ (eq-eqb _ _ z) e)
+  pub by-mag-stripe : x .reason ≡ reasonNone → cardAsksMagMagStripe b ≡ true → explainedEndBy x b ≡ Explanation.NoChoice
+  unfolding explainedEndBy
+  by-mag-stripe z e = if-yes _ _ (both-yes _ _ (eq-eqb _ _ z) e)
 
-  pub by-choice : cardAsksMagStripe b ≡ false → endedBy x b ≡ endedIn x b
-  unfolding endedBy
+  pub by-choice : cardAsksMagMagStripe b ≡ false → explainedEndBy x b ≡ explainedEnd x b
+  unfolding explainedEndBy
   by-choice e = if-no _ _ (both-no-right _ _ e)
 
 -- ---- the choice that is held, and the outcome
 
-pub same-p1 : (c d : Choice) → p1Of c ≡ p1Of d → c ≡ d
+pub same-p1 : (c d : Choice) → generateAcP1 c ≡ generateAcP1 d → c ≡ d
 same-p1 Choice.Decline Choice.Decline e = refl
 same-p1 Choice.Decline Choice.Online e = absurd (omega arith)
 same-p1 Choice.Decline Choice.Offline e = absurd (omega arith)
@@ -324,32 +324,32 @@ outcome-back Outcome.Declined = refl
 outcome-back Outcome.Ended = refl
 outcome-back Outcome.SelectNext = refl
 
-pub gives-it : (d : Option Outcome) (o : Outcome) → gives d o ≡ true → d ≡ some o
+pub gives-it : (d : Option Outcome) (o : Outcome) → decidesOutcome d o ≡ true → d ≡ some o
 gives-it none o e = cc
 gives-it (some x) o e = ap some (sym (outcome-back x) ∙ ap outcomeOf (eqb-true (outcomeNumber x) (outcomeNumber o) e) ∙ outcome-back o)
 
 module _ (b : List ℕ) where
-  waiting-held : (a : Asked) (d : Deciding) → (waitingAt a b d ≡ Explanation.Refused → ⊥) → a .choice ≡ choiceIn b
+  waiting-held : (a : RequestedCryptogram) (d : Deciding) → (explainedWaiting a b d ≡ Explanation.Refused → ⊥) → a .choice ≡ storedChoice b
   waiting-held a Deciding.Nothing = λ n. absurd (n refl)
   waiting-held a (Deciding.At g) =
-      if-ind (λ (r : Explanation). (r ≡ Explanation.Refused → ⊥) → a .choice ≡ choiceIn b) _ _ _
+      if-ind (λ (r : Explanation). (r ≡ Explanation.Refused → ⊥) → a .choice ≡ storedChoice b) _ _ _
       (λ t n. same-p1 _ _ (eqb-true _ _ t)) (λ t n. absurd (n refl))
 
-  decided-given : (x : End) (d : Deciding) → (decidedAt x b d ≡ Explanation.Refused → ⊥) → Decides b (x .outcome)
+  decided-given : (x : Ending) (d : Deciding) → (explainedDecision x b d ≡ Explanation.Refused → ⊥) → DecisionIs b (x .outcome)
   decided-given x Deciding.Nothing = λ n. absurd (n refl)
   decided-given x (Deciding.At g) =
       if-ind P _ _ _ (λ t n. absurd (n refl))
       (λ t. if-ind P _ _ _ (λ u n. absurd (n refl)) (λ u n. gives-it _ _ (not-false _ u)))
     where
       P : Explanation → Type 0
-      P r = (r ≡ Explanation.Refused → ⊥) → Decides b (x .outcome)
+      P r = (r ≡ Explanation.Refused → ⊥) → DecisionIs b (x .outcome)
 
-  ended-given : (x : End) → x .reason ≡ reasonNone → (endedIn x b ≡ Explanation.Refused → ⊥) → Decides b (x .outcome)
-  unfolding endedIn
+  ended-given : (x : Ending) → x .reason ≡ reasonNone → (explainedEnd x b ≡ Explanation.Refused → ⊥) → DecisionIs b (x .outcome)
+  unfolding explainedEnd
   ended-given x e n = decided-given x (decidingIn b) (λ z. n (if-yes _ _ (eq-eqb _ _ e) ∙ z))
 
   -- outside mag-stripe mode
-  chosen-given : (x : End) → x .reason ≡ reasonNone → (endedBy x b ≡ Explanation.Refused → ⊥) → cardAsksMagStripe b ≡ false → Decides b (x .outcome)
+  chosen-given : (x : Ending) → x .reason ≡ reasonNone → (explainedEndBy x b ≡ Explanation.Refused → ⊥) → cardAsksMagMagStripe b ≡ false → DecisionIs b (x .outcome)
   chosen-given x e n m = ended-given x e (λ z. n (by-choice x b m ∙ z))
 
   -- a choice is told of
@@ -361,61 +361,61 @@ module _ (b : List ℕ) where
   Tells (Explanation.Forced c) = Unit {0}
   Tells (Explanation.Unforced g) = Unit {0}
 
-  reason-tells : (stage : Stage) → Tells (reasonAt b stage)
-  unfolding reasonAt
-  reason-tells stage = go (lowestBit (resultIn b) (pairAt b stage))
+  reason-tells : (stage : Stage) → Tells (explainedAt b stage)
+  unfolding explainedAt
+  reason-tells stage = go (lowestBit (storedTvr b) (actionCodesOfStage b stage))
     where
-      go : (l : Lowest) → Tells (byBit stage (pairAt b stage) l)
-      go (Lowest.Bit i) = tt
-      go Lowest.NoBit = tt
+      go : (l : LowestBit) → Tells (explainedByBit stage (actionCodesOfStage b stage) l)
+      go (LowestBit.Bit i) = tt
+      go LowestBit.NoBit = tt
 
-  decided-tells : (x : End) (d : Deciding) → Tells (decidedAt x b d)
+  decided-tells : (x : Ending) (d : Deciding) → Tells (explainedDecision x b d)
   decided-tells x Deciding.Nothing = tt
   decided-tells x (Deciding.At g) =
       if-ind Tells _ _ _ (λ t. tt) (λ t. if-ind Tells _ _ _ (λ u. tt) (λ u. if-ind Tells _ _ _ (λ v. tt) (λ v. reason-tells g)))
 
-  ended-tells : (x : End) → Tells (endedIn x b)
-  unfolding endedIn
+  ended-tells : (x : Ending) → Tells (explainedEnd x b)
+  unfolding explainedEnd
   ended-tells x = if-ind Tells _ _ _ (λ t. decided-tells x (decidingIn b)) (λ t. tt)
 
   -- so no choice is told of in mag-stripe mode alone
-  no-choice-stripe : (x : End) → endedBy x b ≡ Explanation.NoChoice → cardAsksMagStripe b ≡ true
-  no-choice-stripe x e = elim (bool-cases (cardAsksMagStripe b)) [ inl y ↦ y | inr n ↦ absurd (subst Tells (sym (by-choice x b n) ∙ e) (ended-tells x)) ]
+  no-choice-mag-stripe : (x : Ending) → explainedEndBy x b ≡ Explanation.NoChoice → cardAsksMagMagStripe b ≡ true
+  no-choice-mag-stripe x e = elim (bool-cases (cardAsksMagMagStripe b)) [ inl y ↦ y | inr n ↦ absurd (subst Tells (sym (by-choice x b n) ∙ e) (ended-tells x)) ]
 
 -- ---- the promise
 
 module _ (s : Session) where
-  explained-right : Right (stored s) (explained s)
-  unfolding explained
-  explained-right = if-ind (Right (stored s)) _ _ _ (λ t. phase-right (stored s) (s .phase)) (λ t. plain (stored s) _ tt)
+  explained-right : Right (storeBytes s) (explanationOf s)
+  unfolding explanationOf
+  explained-right = if-ind (Right (storeBytes s)) _ _ _ (λ t. phase-right (storeBytes s) (s .phase)) (λ t. plain (storeBytes s) _ tt)
 
   -- what is not refused is what the phase says
-  by-phase : (explained s ≡ Explanation.Refused → ⊥) → (p : Phase) → s .phase ≡ p → inPhase p (stored s) ≡ Explanation.Refused → ⊥
-  unfolding explained
-  by-phase = if-ind P _ _ _ (λ t n p q z. n (ap (λ (x : Phase). inPhase x (stored s)) q ∙ z)) (λ t n p q z. n refl)
+  by-phase : (explanationOf s ≡ Explanation.Refused → ⊥) → (p : Phase) → s .phase ≡ p → explainedInPhase p (storeBytes s) ≡ Explanation.Refused → ⊥
+  unfolding explanationOf
+  by-phase = if-ind P _ _ _ (λ t n p q z. n (ap (λ (x : Phase). explainedInPhase x (storeBytes s)) q ∙ z)) (λ t n p q z. n refl)
     where
       P : Explanation → Type 0
-      P r = (r ≡ Explanation.Refused → ⊥) → (p : Phase) → s .phase ≡ p → inPhase p (stored s) ≡ Explanation.Refused → ⊥
+      P r = (r ≡ Explanation.Refused → ⊥) → (p : Phase) → s .phase ≡ p → explainedInPhase p (storeBytes s) ≡ Explanation.Refused → ⊥
 
-  without-by-phase : (p : Phase) → s .phase ≡ p → explained s ≡ Explanation.NoChoice → inPhase p (stored s) ≡ Explanation.NoChoice
-  unfolding explained
-  without-by-phase p q = if-ind P _ _ _ (λ t z. ap (λ (x : Phase). inPhase x (stored s)) (sym q) ∙ z) (λ t z. cc)
+  without-by-phase : (p : Phase) → s .phase ≡ p → explanationOf s ≡ Explanation.NoChoice → explainedInPhase p (storeBytes s) ≡ Explanation.NoChoice
+  unfolding explanationOf
+  without-by-phase p q = if-ind P _ _ _ (λ t z. ap (λ (x : Phase). explainedInPhase x (storeBytes s)) (sym q) ∙ z) (λ t z. cc)
     where
       P : Explanation → Type 0
-      P r = r ≡ Explanation.NoChoice → inPhase p (stored s) ≡ Explanation.NoChoice
+      P r = r ≡ Explanation.NoChoice → explainedInPhase p (storeBytes s) ≡ Explanation.NoChoice
 
-  explained-told : Told s (explained s)
+  explained-told : ExplanationHolds s (explanationOf s)
   explained-told =
       record {
         answer = refl;
         named = explained-right .named;
         unnamed = explained-right .unnamed;
         lower = explained-right .lower;
-        held = λ a q n. waiting-held (stored s) a (decidingIn (stored s)) (by-phase n (Phase.Cryptogram a) q);
-        decided = λ x q z n m. chosen-given (stored s) x z (by-phase n (Phase.Ended x) q) m;
-        without = λ x q z e. no-choice-stripe (stored s) x (without-by-phase (Phase.Ended x) q e);
+        held = λ a q n. waiting-held (storeBytes s) a (decidingIn (storeBytes s)) (by-phase n (Phase.Cryptogram a) q);
+        decided = λ x q z n m. chosen-given (storeBytes s) x z (by-phase n (Phase.Ended x) q) m;
+        without = λ x q z e. no-choice-mag-stripe (storeBytes s) x (without-by-phase (Phase.Ended x) q e);
       }
 
   -- an answer that is the definition's keeps every clause
-  pub told : {r : Explanation} → r ≡ explained s → Told s r
-  told e = subst⁻¹ (Told s) e explained-told
+  pub told : {r : Explanation} → r ≡ explanationOf s → ExplanationHolds s r
+  told e = subst⁻¹ (ExplanationHolds s) e explained-told

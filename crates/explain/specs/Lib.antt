@@ -1,3 +1,3 @@
 pub mod Explain
 pub mod Word
-pub mod Told
+pub mod Promise

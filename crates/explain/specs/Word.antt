@@ -22,18 +22,18 @@ holderNumber Holder.Terminal = 2
 holderNumber Holder.Both     = 3
 
 -- the bit where none forced the choice
-abbrev pub noBit : ℕ
-noBit = 255
+abbrev pub noBitNumber : ℕ
+noBitNumber = 255
 
 -- a choice by its stage, its holder and its bit
 abbrev pub choiceWord : Stage → Holder → ℕ → ℕ
 choiceWord stage holder bit = 0x60000 + stageNumber stage * 4096 + holderNumber holder * 256 + bit
 
 -- an explanation
-abbrev pub wordOf : Explanation → ℕ
-wordOf Explanation.Refused          = 0x20000 + refusedRanges
-wordOf (Explanation.Reason n)       = 0x30000 + n
-wordOf Explanation.NoChoice         = 0x40000
-wordOf Explanation.LowerCryptogram  = 0x50000
-wordOf (Explanation.Forced c)       = choiceWord (c .stage) (c .holder) (c .bit)
-wordOf (Explanation.Unforced stage) = choiceWord stage Holder.Nobody noBit
+abbrev pub explanationWord : Explanation → ℕ
+explanationWord Explanation.Refused          = 0x20000 + refusedRanges
+explanationWord (Explanation.Reason n)       = 0x30000 + n
+explanationWord Explanation.NoChoice         = 0x40000
+explanationWord Explanation.LowerCryptogram  = 0x50000
+explanationWord (Explanation.Forced c)       = choiceWord (c .stage) (c .holder) (c .bit)
+explanationWord (Explanation.Unforced stage) = choiceWord stage Holder.Nobody noBitNumber

@@ -2,22 +2,22 @@
 // terminal's or both hold that bit. The choice is worked out again from the stored result bits, terminal type and action codes; the
 // session is only looked at.
 //
-// `explain` takes a session by value, `explain_in` its parts with the store shared. `word` is the number of an explanation.
-use analysis::choice::{Capability, Choice, Lowest, Pair, DEFAULT, DENIAL, ONLINE};
-use dictionary::{ROW_82, ROW_95, ROW_9F27, ROW_DF8120, ROW_DF8121, ROW_DF8122};
-use record::{Asked, End, Outcome, Phase, Session};
-use session::Decided;
+// `explain` takes a session by value, `explain_in` its parts with the store shared. `explanation_word` is the number of an explanation.
+use analysis::choice::{OnlineCapability, Choice, LowestBit, ActionCodes, DEFAULT, DENIAL, ONLINE};
+use dictionary::{ROW_AIP, ROW_TVR, ROW_CID, ROW_TAC_DEFAULT, ROW_TAC_DENIAL, ROW_TAC_ONLINE};
+use session_record::{RequestedCryptogram, Ending, Outcome, Phase, Session};
+use session::CryptogramOutcome;
 ghost use mathlib.Core.Path.{_≡_};
 ghost use Prim.Native.Nat.{_<_};
 ghost use Rattle.basics.specs.Choice.{every};
-ghost use Rattle.store.specs.Held.{holds};
-ghost use Rattle.analysis.specs.Bits.{bit as bitOf};
-ghost use Rattle.record.specs.Session.{sessionOf};
-ghost use Rattle.session.specs.Answer.{decision};
-ghost use Rattle.explain.specs.Explain.{resultIn, choiceIn, stageBy, stageIn, neededAt, decidingIn, holderBy, holderOf, pairAt, reasonAt};
-ghost use Rattle.explain.specs.Explain.{waitingAt, cryptogramRank, gives, endedIn, cardAsksMagStripe, endedBy};
-ghost use Rattle.explain.specs.Told.{Told};
-ghost use Rattle.explain.specs.Word.{stageNumber, holderNumber, choiceWord, wordOf};
+ghost use Rattle.store.specs.Held.{hasObject};
+ghost use Rattle.analysis.specs.Bits.{numberedBit as bitOf};
+ghost use Rattle.session_record.specs.Session.{sessionOf};
+ghost use Rattle.session.specs.Answer.{cryptogramOutcome};
+ghost use Rattle.explain.specs.Explain.{storedTvr, storedChoice, stageBy, stageIn, stageNeeds, decidingIn, holderBy, bitHolder, actionCodesOfStage, explainedAt};
+ghost use Rattle.explain.specs.Explain.{explainedWaiting, cryptogramRank, decidesOutcome, explainedEnd, cardAsksMagMagStripe, explainedEndBy};
+ghost use Rattle.explain.specs.Promise.{ExplanationHolds};
+ghost use Rattle.explain.specs.Word.{stageNumber, holderNumber, choiceWord, explanationWord};
 
 // The stage that decided a choice: denial, the type of a terminal that is online only, default, online.
 pub enum Stage {
@@ -69,7 +69,7 @@ const NO_BIT: u8 = 255;
 
 // Why a session is where it is.
 pub fn explain(session: Session) -> Explanation
-    ensures { λ r. ⌜ Told session r ⌝ }
+    ensures { λ r. ⌜ ExplanationHolds session r ⌝ }
 {
     let phase = session.phase;
     let store = session.store;
@@ -78,14 +78,14 @@ pub fn explain(session: Session) -> Explanation
 
 // The same of a session's parts, with the store's bytes shared.
 pub fn explain_in(phase: Phase, count: u8, bytes: &[u8]) -> Explanation
-    ensures { λ r. ⌜ Told (sessionOf phase count (now (bytes .entry))) r ⌝ }
+    ensures { λ r. ⌜ ExplanationHolds (sessionOf phase count (now (bytes .entry))) r ⌝ }
 {
-    if !record::keeps(phase, count, bytes) {
+    if !session_record::parts_in_ranges(phase, count, bytes) {
         return Explanation::Refused;
     }
     match phase {
         Phase::Fresh => Explanation::NoChoice,
-        Phase::Options => Explanation::NoChoice,
+        Phase::Gpo => Explanation::NoChoice,
         Phase::Record(_) => Explanation::NoChoice,
         Phase::Cryptogram(asked) => waiting(asked, bytes),
         Phase::Checksum(_) => Explanation::NoChoice,
@@ -94,8 +94,8 @@ pub fn explain_in(phase: Phase, count: u8, bytes: &[u8]) -> Explanation
 }
 
 // Waiting on the cryptogram: the choice held must be the one that the store gives.
-fn waiting(asked: Asked, bytes: &[u8]) -> Explanation
-    ensures { λ r. ⌜ r ≡ waitingAt asked (now (bytes .entry)) (decidingIn (now (bytes .entry))) ⌝ }
+fn waiting(asked: RequestedCryptogram, bytes: &[u8]) -> Explanation
+    ensures { λ r. ⌜ r ≡ explainedWaiting asked (now (bytes .entry)) (decidingIn (now (bytes .entry))) ⌝ }
 {
     let Deciding::At(stage) = deciding_in(bytes) else {
         return Explanation::Refused;
@@ -108,31 +108,31 @@ fn waiting(asked: Asked, bytes: &[u8]) -> Explanation
 }
 
 // Ended: in mag-stripe mode no choice was made.
-fn ended_by(end: End, bytes: &[u8]) -> Explanation
-    ensures { λ r. ⌜ r ≡ endedBy end (now (bytes .entry)) ⌝ }
+fn ended_by(end: Ending, bytes: &[u8]) -> Explanation
+    ensures { λ r. ⌜ r ≡ explainedEndBy end (now (bytes .entry)) ⌝ }
 {
     if end.reason != basics::REASON_NONE {
         return ended(end, bytes);
     }
-    if card_asks_mag_stripe(bytes) {
+    if card_asks_mag_mag_stripe(bytes) {
         return Explanation::NoChoice;
     }
     ended(end, bytes)
 }
 
 // 82 is there with byte 2 b8 clear.
-fn card_asks_mag_stripe(bytes: &[u8]) -> bool
-    ensures { λ r. ⌜ r ≡ cardAsksMagStripe (now (bytes .entry)) ⌝ }
+fn card_asks_mag_mag_stripe(bytes: &[u8]) -> bool
+    ensures { λ r. ⌜ r ≡ cardAsksMagMagStripe (now (bytes .entry)) ⌝ }
 {
-    if !store::is_there(bytes, ROW_82) {
+    if !store::is_there(bytes, ROW_AIP) {
         return false;
     }
-    !record::is_emv(bytes)
+    !session_record::is_emv(bytes)
 }
 
 // Ended: the reason, or why it was decided so.
-fn ended(end: End, bytes: &[u8]) -> Explanation
-    ensures { λ r. ⌜ r ≡ endedIn end (now (bytes .entry)) ⌝ }
+fn ended(end: Ending, bytes: &[u8]) -> Explanation
+    ensures { λ r. ⌜ r ≡ explainedEnd end (now (bytes .entry)) ⌝ }
 {
     if end.reason != basics::REASON_NONE {
         return Explanation::Reason(end.reason);
@@ -140,10 +140,10 @@ fn ended(end: End, bytes: &[u8]) -> Explanation
     let Deciding::At(stage) = deciding_in(bytes) else {
         return Explanation::Refused;
     };
-    if !store::is_there(bytes, ROW_9F27) {
+    if !store::is_there(bytes, ROW_CID) {
         return Explanation::Refused;
     }
-    let kind = basics::byte_at(store::value(bytes, ROW_9F27), 0) / 64;
+    let kind = basics::byte_at(store::value(bytes, ROW_CID), 0) / 64;
     let choice = choice_in(bytes);
     let outcome = end.outcome;
     if !decides(choice, kind, outcome) {
@@ -157,13 +157,13 @@ fn ended(end: End, bytes: &[u8]) -> Explanation
 
 // Whether a type of cryptogram decides on an outcome, by what was asked for.
 fn decides(choice: Choice, kind: u8, outcome: Outcome) -> bool
-    ensures { λ r. ⌜ r ≡ gives (decision choice kind) outcome ⌝ }
+    ensures { λ r. ⌜ r ≡ decidesOutcome (cryptogramOutcome choice kind) outcome ⌝ }
 {
-    let Decided::On(d) = session::decision_for(choice, kind) else {
+    let CryptogramOutcome::On(d) = session::outcome_for_cryptogram(choice, kind) else {
         return false;
     };
     let given = d.outcome;
-    record::outcome_number(given) == record::outcome_number(outcome)
+    session_record::outcome_number(given) == session_record::outcome_number(outcome)
 }
 
 // The rank of a cryptogram's type, the top two bits of 9F27 and of P1: AAC, then ARQC, then TC.
@@ -179,14 +179,14 @@ fn cryptogram_rank(kind: u8) -> u8
 
 // The stored result bits.
 fn result_in(bytes: &[u8]) -> [u8; 5]
-    ensures { λ r. ⌜ r ≡ resultIn (now (bytes .entry)) ⌝ }
+    ensures { λ r. ⌜ r ≡ storedTvr (now (bytes .entry)) ⌝ }
 {
-    analysis::byte::five(store::value(bytes, ROW_95))
+    analysis::byte::five(store::value(bytes, ROW_TVR))
 }
 
 // The choice that the store gives.
 fn choice_in(bytes: &[u8]) -> Choice
-    ensures { λ r. ⌜ r ≡ choiceIn (now (bytes .entry)) ⌝ }
+    ensures { λ r. ⌜ r ≡ storedChoice (now (bytes .entry)) ⌝ }
 {
     analysis::action::choice_for(bytes, result_in(bytes))
 }
@@ -210,44 +210,44 @@ fn stage_in(bytes: &[u8]) -> Deciding
     ensures { λ r. ⌜ r ≡ stageIn (now (bytes .entry)) ⌝ }
 {
     let pair = pair_at(Stage::Denial, bytes);
-    if let Lowest::Bit(_) = analysis::choice::stage_bit(result_in(bytes), pair) {
+    if let LowestBit::Bit(_) = analysis::choice::stage_bit(result_in(bytes), pair) {
         return Deciding::At(Stage::Denial);
     }
     let capability = analysis::choice::capability_of(analysis::action::terminal_type(bytes));
     match capability {
-        Capability::OnlineOnly => Deciding::At(Stage::OnlineOnly),
-        Capability::OfflineOnly => Deciding::At(Stage::Default),
-        Capability::OnlineCapable => Deciding::At(Stage::Online),
-        Capability::Unlisted => Deciding::Nothing,
+        OnlineCapability::OnlineOnly => Deciding::At(Stage::OnlineOnly),
+        OnlineCapability::OfflineOnly => Deciding::At(Stage::Default),
+        OnlineCapability::OnlineCapable => Deciding::At(Stage::Online),
+        OnlineCapability::Unlisted => Deciding::Nothing,
     }
 }
 
 // What is needed where a stage decided: 95, the terminal's denial code and its code of that stage.
 fn is_complete(stage: Stage, bytes: &[u8]) -> bool
-    ensures { λ r. ⌜ r ≡ every (holds (now (bytes .entry))) (neededAt stage) ⌝ }
+    ensures { λ r. ⌜ r ≡ every (hasObject (now (bytes .entry))) (stageNeeds stage) ⌝ }
 {
-    if !store::is_there(bytes, ROW_95) {
+    if !store::is_there(bytes, ROW_TVR) {
         return false;
     }
-    if !store::is_there(bytes, ROW_DF8121) {
+    if !store::is_there(bytes, ROW_TAC_DENIAL) {
         return false;
     }
     match stage {
         Stage::Denial => true,
         Stage::OnlineOnly => true,
-        Stage::Default => store::is_there(bytes, ROW_DF8120),
-        Stage::Online => store::is_there(bytes, ROW_DF8122),
+        Stage::Default => store::is_there(bytes, ROW_TAC_DEFAULT),
+        Stage::Online => store::is_there(bytes, ROW_TAC_ONLINE),
     }
 }
 
 // The codes of a stage; those of the online-only type hold no bit.
-fn pair_at(stage: Stage, bytes: &[u8]) -> Pair
-    ensures { λ r. ⌜ r ≡ pairAt (now (bytes .entry)) stage ⌝ }
+fn pair_at(stage: Stage, bytes: &[u8]) -> ActionCodes
+    ensures { λ r. ⌜ r ≡ actionCodesOfStage (now (bytes .entry)) stage ⌝ }
 {
-    let pairs = analysis::action::codes_of(bytes);
+    let pairs = analysis::action::action_codes_of(bytes);
     match stage {
         Stage::Denial => pairs[DENIAL],
-        Stage::OnlineOnly => Pair { card: [0; 5], terminal: [0; 5] },
+        Stage::OnlineOnly => ActionCodes { card: [0; 5], terminal: [0; 5] },
         Stage::Default => pairs[DEFAULT],
         Stage::Online => pairs[ONLINE],
     }
@@ -255,10 +255,10 @@ fn pair_at(stage: Stage, bytes: &[u8]) -> Pair
 
 // What the stage that decided says: its lowest bit and who holds it, or that it holds none.
 fn reason_at(stage: Stage, bytes: &[u8]) -> Explanation
-    ensures { λ r. ⌜ r ≡ reasonAt (now (bytes .entry)) stage ⌝ }
+    ensures { λ r. ⌜ r ≡ explainedAt (now (bytes .entry)) stage ⌝ }
 {
     let pair = pair_at(stage, bytes);
-    let Lowest::Bit(i) = analysis::choice::stage_bit(result_in(bytes), pair) else {
+    let LowestBit::Bit(i) = analysis::choice::stage_bit(result_in(bytes), pair) else {
         return Explanation::Unforced(stage);
     };
     let holder = holder_of(pair, i);
@@ -267,8 +267,8 @@ fn reason_at(stage: Stage, bytes: &[u8]) -> Explanation
 }
 
 // Whose code holds bit i.
-fn holder_of(pair: Pair, i: usize) -> Holder
-    ensures { λ r. ⌜ r ≡ holderOf pair i ⌝ }
+fn holder_of(pair: ActionCodes, i: usize) -> Holder
+    ensures { λ r. ⌜ r ≡ bitHolder pair i ⌝ }
 {
     let card = pair.card;
     let terminal = pair.terminal;
@@ -301,12 +301,12 @@ fn holder_by(card: bool, terminal: bool) -> Holder
 // ---- numbers
 
 // The number of an explanation.
-pub fn word(explanation: Explanation) -> u32
-    ensures { λ r. ⌜ r ≡ wordOf explanation ⌝ }
+pub fn explanation_word(explanation: Explanation) -> u32
+    ensures { λ r. ⌜ r ≡ explanationWord explanation ⌝ }
 {
     match explanation {
-        Explanation::Refused => REFUSED + basics::wide32(basics::REFUSED_RANGES),
-        Explanation::Reason(number) => REASON + basics::wide32(number),
+        Explanation::Refused => REFUSED + basics::widen32(basics::REFUSED_RANGES),
+        Explanation::Reason(number) => REASON + basics::widen32(number),
         Explanation::NoChoice => NO_CHOICE,
         Explanation::LowerCryptogram => LOWER_CRYPTOGRAM,
         Explanation::Forced(cause) => {
@@ -322,7 +322,7 @@ pub fn word(explanation: Explanation) -> u32
 fn choice_word(stage: Stage, holder: Holder, bit: u8) -> u32
     ensures { λ r. ⌜ r ≡ choiceWord stage holder bit ⌝ }
 {
-    CHOICE + stage_number(stage) * 4096 + holder_number(holder) * 256 + basics::wide32(bit)
+    CHOICE + stage_number(stage) * 4096 + holder_number(holder) * 256 + basics::widen32(bit)
 }
 
 fn stage_number(stage: Stage) -> u32

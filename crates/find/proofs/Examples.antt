@@ -5,17 +5,17 @@ use mathlib.Core.List.{List, [], _∷_, _++_, map}
 use Prim.Native.Nat.{ℕ}
 use lib.ListN.{replicate}
 use Rattle.basics.specs.Choice.{if}
-use Rattle.basics.specs.Number.{numberFrom}
+use Rattle.basics.specs.Number.{bigEndianFrom}
 use Rattle.basics.specs.Recursion.{recurseBy, recurse}
-use Rattle.tlv.specs.Tag.{tagSize, secondByte, tagAt, firstByte, isTemplate, isPrivate}
-use Rattle.tlv.specs.Length.{lengthAt, twoBytes}
+use Rattle.tlv.specs.Tag.{tagSize, tagSecondByte, tagAt, tagFirstByte, isTemplate, isPrivate}
+use Rattle.tlv.specs.Length.{lengthAt, lengthTwoBytes}
 use Rattle.tlv.specs.Object.{headerOf}
 use Rattle.tlv.specs.Tree.{nextOf}
-use Rattle.find.specs.Find.{firstOf, shifted, firstTagged, findOf}
+use Rattle.find.specs.Find.{firstFound, foundShifted, findTagIn, findTag}
 use Rattle.find.specs.Word.{findWord}
 
 abbrev word : List ℕ → ℕ → ℕ
-word bytes tag = findWord (findOf tag bytes)
+word bytes tag = findWord (findTag tag bytes)
 
 abbrev none : ℕ
 none = 0xFFFFFFFFFFFFFFFF
@@ -29,7 +29,7 @@ selected = 0x6F ∷ 0x0A ∷ 0x84 ∷ 0x02 ∷ 0xA0 ∷ 0x00 ∷ 0xA5 ∷ 0x04 �
 
 places : map (word selected) (0x6F ∷ 0x84 ∷ 0xA5 ∷ 0x9F38 ∷ 0x4F ∷ [])
     ≡ 0x000000020000000A ∷ 0x0000000400000002 ∷ 0x0000000800000004 ∷ 0x0000000B00000001 ∷ none ∷ []
-unfolding findOf firstTagged recurse recurseBy nextOf headerOf tagAt tagSize secondByte lengthAt firstByte isTemplate isPrivate numberFrom if firstOf shifted
+unfolding findTag findTagIn recurse recurseBy nextOf headerOf tagAt tagSize tagSecondByte lengthAt tagFirstByte isTemplate isPrivate bigEndianFrom if firstFound foundShifted
 places = refl
 
 -- no bytes; the first of two; one in a template before the one behind it; an empty one
@@ -42,7 +42,7 @@ firsts =
     ∷ []
 
 orders : map (λ s. word s 0x84) firsts ≡ none ∷ 0x0000000200000001 ∷ 0x0000000400000001 ∷ 0x0000000400000000 ∷ []
-unfolding findOf firstTagged recurse recurseBy nextOf headerOf tagAt tagSize lengthAt firstByte isTemplate isPrivate numberFrom if firstOf shifted
+unfolding findTag findTagIn recurse recurseBy nextOf headerOf tagAt tagSize lengthAt tagFirstByte isTemplate isPrivate bigEndianFrom if firstFound foundShifted
 orders = refl
 
 -- four levels, and a fifth: 84 in the innermost, found first and then not
@@ -54,7 +54,7 @@ nests =
     ∷ []
 
 levels : map (λ s. word s 0x84) nests ≡ 0x0000000A00000000 ∷ malformed ∷ malformed ∷ []
-unfolding findOf firstTagged recurse recurseBy nextOf headerOf tagAt tagSize lengthAt firstByte isTemplate isPrivate numberFrom if firstOf shifted
+unfolding findTag findTagIn recurse recurseBy nextOf headerOf tagAt tagSize lengthAt tagFirstByte isTemplate isPrivate bigEndianFrom if firstFound foundShifted
 levels = refl
 
 -- malformed behind the object that is found, in a template behind it, and within the template that is found
@@ -67,7 +67,7 @@ tails =
 
 broken : map (λ s. map (word s) (0x84 ∷ 0xE1 ∷ 0x4F ∷ [])) tails
     ≡ (malformed ∷ malformed ∷ malformed ∷ []) ∷ (malformed ∷ malformed ∷ malformed ∷ []) ∷ (malformed ∷ malformed ∷ malformed ∷ []) ∷ []
-unfolding findOf firstTagged recurse recurseBy nextOf headerOf tagAt tagSize lengthAt firstByte isTemplate isPrivate numberFrom if firstOf shifted
+unfolding findTag findTagIn recurse recurseBy nextOf headerOf tagAt tagSize lengthAt tagFirstByte isTemplate isPrivate bigEndianFrom if firstFound foundShifted
 broken = refl
 
 -- one object that takes 65,535 bytes, and one that takes 65,536
@@ -75,7 +75,7 @@ abbrev longest : List (List ℕ)
 longest = (0x84 ∷ 0x82 ∷ 0xFF ∷ 0xFB ∷ replicate 0xFFFB 0) ∷ (0x84 ∷ 0x82 ∷ 0xFF ∷ 0xFC ∷ replicate 0xFFFC 0) ∷ []
 
 lengths : map (λ s. word s 0x84) longest ≡ 0x000000040000FFFB ∷ malformed ∷ []
-unfolding findOf firstTagged recurse recurseBy nextOf headerOf tagAt tagSize lengthAt twoBytes firstByte isTemplate isPrivate numberFrom if firstOf shifted
+unfolding findTag findTagIn recurse recurseBy nextOf headerOf tagAt tagSize lengthAt lengthTwoBytes tagFirstByte isTemplate isPrivate bigEndianFrom if firstFound foundShifted
 lengths = refl
 
 -- padding: in front of 6F, in front of 84, in A5 and behind all; places count it. A value of a template begins with its padding
@@ -84,5 +84,5 @@ spaced = 0x00 ∷ 0x6F ∷ 0x0C ∷ 0x00 ∷ 0x84 ∷ 0x02 ∷ 0xA0 ∷ 0x00 ∷
 
 spaces : map (word spaced) (0x6F ∷ 0x84 ∷ 0xA5 ∷ 0x9F38 ∷ 0x00 ∷ 0x4F ∷ [])
     ≡ 0x000000030000000C ∷ 0x0000000600000002 ∷ 0x0000000A00000005 ∷ 0x0000000E00000001 ∷ none ∷ none ∷ []
-unfolding findOf firstTagged recurse recurseBy nextOf headerOf tagAt tagSize secondByte lengthAt firstByte isTemplate isPrivate numberFrom if firstOf shifted
+unfolding findTag findTagIn recurse recurseBy nextOf headerOf tagAt tagSize tagSecondByte lengthAt tagFirstByte isTemplate isPrivate bigEndianFrom if firstFound foundShifted
 spaces = refl

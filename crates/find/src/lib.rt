@@ -4,10 +4,10 @@
 // levels deep. `find` says the place; `find_word` says it as one word, for a host in C.
 use tlv::Following;
 ghost use mathlib.Core.Path.{_≡_};
-ghost use Rattle.find.specs.Find.{here, firstOf, firstTagged, findOf};
-ghost use Rattle.find.specs.InTree.{Told, treeOf};
+ghost use Rattle.find.specs.Find.{foundHere, firstFound, findTagIn, findTag};
+ghost use Rattle.find.specs.InTree.{FindsTag, cardTree};
 ghost use Rattle.find.specs.Word.{findWord};
-ghost use Rattle.find.specs.Inner.{Inside};
+ghost use Rattle.find.specs.Inner.{SpanFits};
 
 // The most bytes that are looked through.
 pub const MOST: usize = 65535;
@@ -22,63 +22,63 @@ pub const NONE: u64 = 0xFFFFFFFFFFFFFFFF;
 pub const BROKEN: u64 = 0xFFFFFFFFFFFFFFFE;
 
 // Where a value stands: its first byte, counted from 0, and how many there are.
-pub struct Span {
+pub struct ValueSpan {
     pub start: usize,
     pub len: usize,
 }
 
 // What a search finds: the value of the first object of the tag, no such object, or bytes that are malformed.
-pub enum Found {
-    At(Span),
+pub enum TagFound {
+    At(ValueSpan),
     Absent,
     Malformed,
 }
 
 // The first object of a tag.
-pub fn find(bytes: &[u8], tag: u32) -> Found
-    ensures found { λ r. ⌜ r ≡ findOf tag (now (bytes .entry)) ⌝ }
-    ensures tree { λ r. ⌜ Told tag (now (bytes .entry)) (treeOf (now (bytes .entry))) r ⌝ }
+pub fn find(bytes: &[u8], tag: u32) -> TagFound
+    ensures found { λ r. ⌜ r ≡ findTag tag (now (bytes .entry)) ⌝ }
+    ensures tree { λ r. ⌜ FindsTag tag (now (bytes .entry)) (cardTree (now (bytes .entry))) r ⌝ }
 {
     if MOST < bytes.len() {
-        return Found::Malformed;
+        return TagFound::Malformed;
     }
     walk(bytes, tag)
 }
 
 // The same as one word.
 pub fn find_word(bytes: &[u8], tag: u32) -> u64
-    ensures { λ r. ⌜ r ≡ findWord (findOf tag (now (bytes .entry))) ⌝ }
+    ensures { λ r. ⌜ r ≡ findWord (findTag tag (now (bytes .entry))) ⌝ }
 {
     let found = find(bytes, tag);
     word(found)
 }
 
 // A find as one word: the place in bits 32 to 63, the length in bits 0 to 31.
-fn word(found: Found) -> u64
-    requires { ⌜ Inside found ⌝ }
+fn word(found: TagFound) -> u64
+    requires { ⌜ SpanFits found ⌝ }
     ensures { λ r. ⌜ r ≡ findWord found ⌝ }
 {
     match found {
-        Found::At(p) => p.start as u64 * 0x100000000 + p.len as u64,
-        Found::Absent => NONE,
-        Found::Malformed => BROKEN,
+        TagFound::At(p) => p.start as u64 * 0x100000000 + p.len as u64,
+        TagFound::Absent => NONE,
+        TagFound::Malformed => BROKEN,
     }
 }
 
 // The objects one by one, a template before what it holds. `end` is where the innermost open template ends,
 // and `ends` has, for each open template, where the bytes around it end.
-fn walk(bytes: &[u8], tag: u32) -> Found
-    ensures { λ r. ⌜ r ≡ firstTagged tag 4 (now (bytes .entry)) ⌝ }
+fn walk(bytes: &[u8], tag: u32) -> TagFound
+    ensures { λ r. ⌜ r ≡ findTagIn tag 4 (now (bytes .entry)) ⌝ }
 {
     let mut ends = [0usize; LEVELS];
     let mut depth = 0;
     let mut at = 0;
     let mut end = bytes.len();
-    let mut found = Found::Absent;
+    let mut found = TagFound::Absent;
     loop {
         let following = tlv::behind_padding(&bytes[at..end]);
         match following {
-            Following::Malformed => return Found::Malformed,
+            Following::Malformed => return TagFound::Malformed,
             Following::End => {
                 if depth == 0 {
                     return found;
@@ -93,7 +93,7 @@ fn walk(bytes: &[u8], tag: u32) -> Found
                 found = first(found, h.tag == tag, start, h.len);
                 if h.template {
                     if depth == LEVELS {
-                        return Found::Malformed;
+                        return TagFound::Malformed;
                     }
                     ends[depth] = end;
                     depth += 1;
@@ -108,17 +108,17 @@ fn walk(bytes: &[u8], tag: u32) -> Found
 }
 
 // What was found before, or else the value here, where the tag is the one looked for.
-fn first(found: Found, same: bool, start: usize, len: usize) -> Found
-    ensures { λ r. ⌜ r ≡ firstOf found (here same start len) ⌝ }
+fn first(found: TagFound, same: bool, start: usize, len: usize) -> TagFound
+    ensures { λ r. ⌜ r ≡ firstFound found (foundHere same start len) ⌝ }
 {
     match found {
-        Found::Malformed => Found::Malformed,
-        Found::At(p) => Found::At(p),
-        Found::Absent => {
+        TagFound::Malformed => TagFound::Malformed,
+        TagFound::At(p) => TagFound::At(p),
+        TagFound::Absent => {
             if same {
-                return Found::At(Span { start, len });
+                return TagFound::At(ValueSpan { start, len });
             }
-            Found::Absent
+            TagFound::Absent
         }
     }
 }

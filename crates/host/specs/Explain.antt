@@ -3,12 +3,12 @@
 use mathlib.Core.Option.{Option, some, none}
 use Prim.Native.Nat.{ℕ}
 use Rattle.basics.specs.Reason.{refusedRanges}
-use Rattle.record.specs.declared.Session.{Session}
+use Rattle.session_record.specs.declared.Session.{Session}
 use Rattle.layout.specs.Word.{refusalWord}
-use Rattle.explain.specs.Explain.{explained}
-use Rattle.explain.specs.Word.{wordOf}
+use Rattle.explain.specs.Explain.{explanationOf}
+use Rattle.explain.specs.Word.{explanationWord}
 
 -- the word of an explanation; bytes that hold no record are refused as a record that breaks its ranges
 abbrev pub explainWord : Option Session → ℕ
 explainWord none     = refusalWord refusedRanges
-explainWord (some s) = wordOf (explained s)
+explainWord (some s) = explanationWord (explanationOf s)

@@ -1,24 +1,24 @@
 -- What `admit` promises for its callers' proofs: the first two tests of a call over lent bytes, as the code has them.
--- A reader of the rules can pass this over: `over-refused` and `over-step` (proofs/Laws) tie it to `hosted`.
+-- A reader of the rules can pass this over: `over-refused` and `over-step` (proofs/Laws) tie it to `hostStepAdmitted`.
 -- Assumes nothing.
 use mathlib.Core.List.{List}
 use mathlib.Core.Option.{Option, some, none}
 use Prim.Native.Nat.{ℕ}
 use Rattle.basics.specs.Choice.{if_then_else_, _<?_}
 use Rattle.basics.specs.Reason.{refusedBuffer, refusedRanges}
-use Rattle.record.specs.declared.Session.{Session}
+use Rattle.session_record.specs.declared.Session.{Session}
 use Rattle.session.specs.Steps.{leastBuffer}
-use Rattle.layout.specs.Layout.{decoded}
+use Rattle.layout.specs.Layout.{decodedSession}
 use Rattle.layout.specs.Word.{refusalWord}
-use Rattle.host.specs.declared.Admission.{Admission}
+use Rattle.host.specs.declared.HostAdmission.{HostAdmission}
 
 -- the record that bytes hold, if they hold one: its head, or the word of refusal 25
-abbrev pub heldAdmission : Option Session → Admission
-heldAdmission none = Admission.Refused (refusalWord refusedRanges)
-heldAdmission (some s) = Admission.Taken (record { phase = s .phase; count = s .count })
+abbrev pub admissionOfSession : Option Session → HostAdmission
+admissionOfSession none = HostAdmission.Refused (refusalWord refusedRanges)
+admissionOfSession (some s) = HostAdmission.Admitted (record { phase = s .phase; count = s .count })
 
 -- a call is taken on the head of a record, or its refusal's word is given
-abbrev pub admissionOf : List ℕ → ℕ → Admission
-admissionOf l size =
-    if size <? leastBuffer then Admission.Refused (refusalWord refusedBuffer)
-    else heldAdmission (decoded l)
+abbrev pub hostAdmission : List ℕ → ℕ → HostAdmission
+hostAdmission l size =
+    if size <? leastBuffer then HostAdmission.Refused (refusalWord refusedBuffer)
+    else admissionOfSession (decodedSession l)

@@ -6,26 +6,26 @@
 //
 // Beside these `emv_explain` tells why, `emv_object` reads an object of the session back, `emv_find` finds one in other
 // bytes of the card, and `emv_wipe` forgets.
-use dictionary::Found;
-use layout::{Head, Held, HEAD, RECORD_SIZE};
-use record::{Phase, Turn};
+use dictionary::RowFound;
+use layout::{RecordHead, RecordHeld, HEAD, RECORD_SIZE};
+use session_record::{Phase, Transition};
 use session::LEAST_BUFFER;
 ghost use mathlib.Core.Path.{_≡_};
-ghost use Rattle.layout.specs.Layout.{recordSize, decoded, withHead};
-ghost use Rattle.layout.specs.Word.{wordOf};
-ghost use Rattle.find.specs.Find.{findOf};
+ghost use Rattle.layout.specs.Layout.{recordSize, decodedSession, withRecordHead};
+ghost use Rattle.layout.specs.Word.{resultWord};
+ghost use Rattle.find.specs.Find.{findTag};
 ghost use Rattle.find.specs.Word.{findWord};
-ghost use Rattle.session.specs.Steps.{linkStep, stopStep};
-ghost use Rattle.host.specs.Hosted.{DidOver, Opened, hosted, startOver, answerOver, countWord};
-ghost use Rattle.host.specs.Inner.{admissionOf};
+ghost use Rattle.session.specs.Steps.{linkFailedStep, stopStep};
+ghost use Rattle.host.specs.Hosted.{DidHostCall, HostOpened, hostStepAdmitted, hostStart, hostAnswer, countWord};
+ghost use Rattle.host.specs.Inner.{hostAdmission};
 ghost use Rattle.host.specs.Explain.{explainWord};
-ghost use Rattle.host.specs.Object.{DidCopy, objectIn, objectOf};
+ghost use Rattle.host.specs.Object.{DidCopyObject, objectCopiedFrom, objectOfSession};
 ghost use Rattle.host.specs.Wipe.{Wiped};
 ghost use Rattle.host.specs.Version.{versionWord};
 
 // Whether a call is taken, on the record of a head, or the word of its refusal.
-pub enum Admission {
-    Taken(Head),
+pub enum HostAdmission {
+    Admitted(RecordHead),
     Refused(u32),
 }
 
@@ -54,10 +54,10 @@ pub extern "C" fn emv_session_size() -> usize
 // Writes a fresh session: 0, or refusal 25 where the bytes are too few.
 #[no_mangle]
 pub extern "C" fn emv_open(session: &mut [u8]) -> u32
-    ensures { λ r. ⌜ Opened r (now (session .entry)) (now (session .exit)) ⌝ }
+    ensures { λ r. ⌜ HostOpened r (now (session .entry)) (now (session .exit)) ⌝ }
 {
     let store = store::empty();
-    if layout::encode(Phase::Fresh, 0, &store.bytes, session) {
+    if layout::encode_record(Phase::Fresh, 0, &store.bytes, session) {
         return 0;
     }
     layout::refusal_word(basics::REFUSED_RANGES)
@@ -66,16 +66,16 @@ pub extern "C" fn emv_open(session: &mut [u8]) -> u32
 // Starts a session with the objects that the terminal brings.
 #[no_mangle]
 pub extern "C" fn emv_start(session: &mut [u8], terminal: &[u8], command: &mut [u8]) -> u32
-    ensures { λ r. ⌜ DidOver r (now (session .exit)) (now (command .exit))
-        (startOver (now (terminal .entry)) (now (session .entry)) (now (command .entry))) ⌝ }
+    ensures { λ r. ⌜ DidHostCall r (now (session .exit)) (now (command .exit))
+        (hostStart (now (terminal .entry)) (now (session .entry)) (now (command .entry))) ⌝ }
 {
     let admission = admit(session, command.len());
     match admission {
-        Admission::Refused(word) => word,
-        Admission::Taken(head) => {
+        HostAdmission::Refused(word) => word,
+        HostAdmission::Admitted(head) => {
             let phase = head.phase;
-            let turn = session::start_in(phase, head.count, &mut session[HEAD..RECORD_SIZE], terminal, command);
-            finish(turn, session)
+            let transition = session::start_in(phase, head.count, &mut session[HEAD..RECORD_SIZE], terminal, command);
+            finish(transition, session)
         }
     }
 }
@@ -83,16 +83,16 @@ pub extern "C" fn emv_start(session: &mut [u8], terminal: &[u8], command: &mut [
 // Takes the card's answer to the command that was handed out last, status bytes included.
 #[no_mangle]
 pub extern "C" fn emv_answer(session: &mut [u8], card: &[u8], command: &mut [u8]) -> u32
-    ensures { λ r. ⌜ DidOver r (now (session .exit)) (now (command .exit))
-        (answerOver (now (card .entry)) (now (session .entry)) (now (command .entry))) ⌝ }
+    ensures { λ r. ⌜ DidHostCall r (now (session .exit)) (now (command .exit))
+        (hostAnswer (now (card .entry)) (now (session .entry)) (now (command .entry))) ⌝ }
 {
     let admission = admit(session, command.len());
     match admission {
-        Admission::Refused(word) => word,
-        Admission::Taken(head) => {
+        HostAdmission::Refused(word) => word,
+        HostAdmission::Admitted(head) => {
             let phase = head.phase;
-            let turn = session::answer_in(phase, head.count, &mut session[HEAD..RECORD_SIZE], card, command);
-            finish(turn, session)
+            let transition = session::answer_in(phase, head.count, &mut session[HEAD..RECORD_SIZE], card, command);
+            finish(transition, session)
         }
     }
 }
@@ -100,16 +100,16 @@ pub extern "C" fn emv_answer(session: &mut [u8], card: &[u8], command: &mut [u8]
 // The link to the card failed.
 #[no_mangle]
 pub extern "C" fn emv_link_failed(session: &mut [u8], command: &mut [u8]) -> u32
-    ensures { λ r. ⌜ DidOver r (now (session .exit)) (now (command .exit))
-        (hosted linkStep (now (session .entry)) (now (command .entry))) ⌝ }
+    ensures { λ r. ⌜ DidHostCall r (now (session .exit)) (now (command .exit))
+        (hostStepAdmitted linkFailedStep (now (session .entry)) (now (command .entry))) ⌝ }
 {
     let admission = admit(session, command.len());
     match admission {
-        Admission::Refused(word) => word,
-        Admission::Taken(head) => {
+        HostAdmission::Refused(word) => word,
+        HostAdmission::Admitted(head) => {
             let phase = head.phase;
-            let turn = session::link_failed_in(phase, head.count, &session[HEAD..RECORD_SIZE], command);
-            finish(turn, session)
+            let transition = session::link_failed_in(phase, head.count, &session[HEAD..RECORD_SIZE], command);
+            finish(transition, session)
         }
     }
 }
@@ -117,16 +117,16 @@ pub extern "C" fn emv_link_failed(session: &mut [u8], command: &mut [u8]) -> u32
 // The terminal stops the session.
 #[no_mangle]
 pub extern "C" fn emv_stop(session: &mut [u8], command: &mut [u8]) -> u32
-    ensures { λ r. ⌜ DidOver r (now (session .exit)) (now (command .exit))
-        (hosted stopStep (now (session .entry)) (now (command .entry))) ⌝ }
+    ensures { λ r. ⌜ DidHostCall r (now (session .exit)) (now (command .exit))
+        (hostStepAdmitted stopStep (now (session .entry)) (now (command .entry))) ⌝ }
 {
     let admission = admit(session, command.len());
     match admission {
-        Admission::Refused(word) => word,
-        Admission::Taken(head) => {
+        HostAdmission::Refused(word) => word,
+        HostAdmission::Admitted(head) => {
             let phase = head.phase;
-            let turn = session::stop_in(phase, head.count, &session[HEAD..RECORD_SIZE], command);
-            finish(turn, session)
+            let transition = session::stop_in(phase, head.count, &session[HEAD..RECORD_SIZE], command);
+            finish(transition, session)
         }
     }
 }
@@ -134,40 +134,40 @@ pub extern "C" fn emv_stop(session: &mut [u8], command: &mut [u8]) -> u32
 // How many commands the session has handed out; NO_COUNT where the bytes hold no record.
 #[no_mangle]
 pub extern "C" fn emv_count(session: &[u8]) -> u32
-    ensures { λ r. ⌜ r ≡ countWord (decoded (now (session .entry))) ⌝ }
+    ensures { λ r. ⌜ r ≡ countWord (decodedSession (now (session .entry))) ⌝ }
 {
     let held = layout::head_in(session);
-    let Held::Record(head) = held else {
+    let RecordHeld::Record(head) = held else {
         return NO_COUNT;
     };
-    basics::wide32(head.count)
+    basics::widen32(head.count)
 }
 
 // Why the session is where it is: the stage that decided, the lowest bit that forced its choice and who holds it.
 #[no_mangle]
 pub extern "C" fn emv_explain(session: &[u8]) -> u32
-    ensures { λ r. ⌜ r ≡ explainWord (decoded (now (session .entry))) ⌝ }
+    ensures { λ r. ⌜ r ≡ explainWord (decodedSession (now (session .entry))) ⌝ }
 {
     let held = layout::head_in(session);
-    let Held::Record(head) = held else {
+    let RecordHeld::Record(head) = held else {
         return layout::refusal_word(basics::REFUSED_RANGES);
     };
     let phase = head.phase;
-    explain::word(explain::explain_in(phase, head.count, &session[HEAD..RECORD_SIZE]))
+    explain::explanation_word(explain::explain_in(phase, head.count, &session[HEAD..RECORD_SIZE]))
 }
 
 // Reads an object of the session back: its length, with the value in front of the lent bytes, or a word that says
 // why not, with all of them as they were.
 #[no_mangle]
 pub extern "C" fn emv_object(session: &[u8], tag: u32, value: &mut [u8]) -> u32
-    ensures { λ r. ⌜ DidCopy r (now (value .exit)) (objectOf (decoded (now (session .entry))) tag (now (value .entry))) ⌝ }
+    ensures { λ r. ⌜ DidCopyObject r (now (value .exit)) (objectOfSession (decodedSession (now (session .entry))) tag (now (value .entry))) ⌝ }
 {
     let held = layout::head_in(session);
-    let Held::Record(head) = held else {
+    let RecordHeld::Record(head) = held else {
         return layout::refusal_word(basics::REFUSED_RANGES);
     };
     let phase = head.phase;
-    if !record::keeps(phase, head.count, &session[HEAD..RECORD_SIZE]) {
+    if !session_record::parts_in_ranges(phase, head.count, &session[HEAD..RECORD_SIZE]) {
         return layout::refusal_word(basics::REFUSED_RANGES);
     }
     object_in(&session[HEAD..RECORD_SIZE], tag, value)
@@ -176,7 +176,7 @@ pub extern "C" fn emv_object(session: &[u8], tag: u32, value: &mut [u8]) -> u32
 // The first object of a tag in a card's bytes: its value's place and length, none, or that the bytes are malformed.
 #[no_mangle]
 pub extern "C" fn emv_find(bytes: &[u8], tag: u32) -> u64
-    ensures { λ r. ⌜ r ≡ findWord (findOf tag (now (bytes .entry))) ⌝ }
+    ensures { λ r. ⌜ r ≡ findWord (findTag tag (now (bytes .entry))) ⌝ }
 {
     find::find_word(bytes, tag)
 }
@@ -199,40 +199,40 @@ pub extern "C" fn emv_wipe(session: &mut [u8]) -> u32
 pub extern "C" fn emv_version() -> u32
     ensures { λ r. ⌜ r ≡ versionWord ⌝ }
 {
-    MAJOR * 0x1000000 + MINOR * 0x10000 + PATCH * 0x100 + basics::wide32(layout::layout_version())
+    MAJOR * 0x1000000 + MINOR * 0x10000 + PATCH * 0x100 + basics::widen32(layout::layout_version())
 }
 
 // A buffer that is too short is refused before bytes that hold no record.
-fn admit(session: &[u8], size: usize) -> Admission
-    ensures { λ r. ⌜ r ≡ admissionOf (now (session .entry)) size ⌝ }
+fn admit(session: &[u8], size: usize) -> HostAdmission
+    ensures { λ r. ⌜ r ≡ hostAdmission (now (session .entry)) size ⌝ }
 {
     if size < LEAST_BUFFER {
-        return Admission::Refused(layout::refusal_word(basics::REFUSED_BUFFER));
+        return HostAdmission::Refused(layout::refusal_word(basics::REFUSED_BUFFER));
     }
     let held = layout::head_in(session);
     match held {
-        Held::Record(head) => Admission::Taken(head),
-        Held::Nothing => Admission::Refused(layout::refusal_word(basics::REFUSED_RANGES)),
+        RecordHeld::Record(head) => HostAdmission::Admitted(head),
+        RecordHeld::Nothing => HostAdmission::Refused(layout::refusal_word(basics::REFUSED_RANGES)),
     }
 }
 
 // Writes the head of a turn in front of the lent bytes, whose store the call left in its place, and gives the
 // word of its answer.
-fn finish(turn: Turn, session: &mut [u8]) -> u32
-    ensures { λ r. ⌜ (r ≡ wordOf (turn .answer)) × (now (session .exit) ≡ withHead (turn .phase) (turn .count) (now (session .entry))) ⌝ }
+fn finish(transition: Transition, session: &mut [u8]) -> u32
+    ensures { λ r. ⌜ (r ≡ resultWord (transition .answer)) × (now (session .exit) ≡ withRecordHead (transition .phase) (transition .count) (now (session .entry))) ⌝ }
 {
-    let phase = turn.phase;
-    layout::put_head(phase, turn.count, session);
-    let answer = turn.answer;
-    layout::word(answer)
+    let phase = transition.phase;
+    layout::put_head(phase, transition.count, session);
+    let answer = transition.answer;
+    layout::result_word(answer)
 }
 
 // The object of a tag in a store: the tag, then whether it is there, then the room for it.
 fn object_in(bytes: &[u8], tag: u32, value: &mut [u8]) -> u32
-    ensures { λ r. ⌜ DidCopy r (now (value .exit)) (objectIn (now (bytes .entry)) tag (now (value .entry))) ⌝ }
+    ensures { λ r. ⌜ DidCopyObject r (now (value .exit)) (objectCopiedFrom (now (bytes .entry)) tag (now (value .entry))) ⌝ }
 {
-    let found = dictionary::lookup(tag).found;
-    let Found::At(row) = found else {
+    let found = dictionary::lookup_row(tag).found;
+    let RowFound::At(row) = found else {
         return UNKNOWN;
     };
     if !store::is_there(bytes, row) {

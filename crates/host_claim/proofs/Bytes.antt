@@ -14,74 +14,74 @@ use lib.Seq.{drop-at}
 use borrow.Author.Tests.{le-leb}
 use Rattle.basics.specs.Reason.{refusedBuffer}
 use Rattle.basics.proofs.Laws.{if-yes, if-no, bool-cases}
-use Rattle.record.specs.declared.Session.{Session}
-use Rattle.record.specs.Ranges.{inRanges}
-use Rattle.record.proofs.Phases.{store-size}
+use Rattle.session_record.specs.declared.Session.{Session}
+use Rattle.session_record.specs.Ranges.{inRanges}
+use Rattle.session_record.proofs.Phases.{store-size}
 use Rattle.session.specs.Steps as steps
-use Rattle.session.specs.Steps.{Step, leastBuffer, admitted, linkStep, stopStep}
+use Rattle.session.specs.Steps.{Step, leastBuffer, admittedStep, linkFailedStep, stopStep}
 use Rattle.session.specs.Start.{startStep}
 use Rattle.session.specs.Answer.{answerStep}
-use Rattle.layout.specs.Layout.{recordSize, encoded, withRecord, decoded}
+use Rattle.layout.specs.Layout.{recordSize, encodedSession, withSessionRecord, decodedSession}
 use Rattle.layout.specs.Word.{refusalWord}
 use Rattle.layout.proofs.Laws.{decode-encode, written-back, written-length}
-use Rattle.trace.specs.Calls.{Call, start, answer, link-failed, stop, step}
-use Rattle.host.specs.Hosted.{carries, stepped, hosted}
+use Rattle.session_claim.specs.Calls.{Call, start, answer, link-failed, stop, callStep}
+use Rattle.host.specs.Hosted.{hostStepDone, hostStepOn, hostStepAdmitted}
 use Rattle.host_claim.specs.Calls.{callOver}
 
 -- ---- a record in front of bytes that are enough
 
-written : (s : Session) (l : List ℕ) → recordSize ≤ length l → withRecord s l ≡ encoded s ++ drop recordSize l
-unfolding withRecord
+written : (s : Session) (l : List ℕ) → recordSize ≤ length l → withSessionRecord s l ≡ encodedSession s ++ drop recordSize l
+unfolding withSessionRecord
 written s l h = if-yes _ _ (le-leb recordSize (length l) h)
 
 module _ (s : Session) (i : inRanges s ≡ true) (l : List ℕ) (h : recordSize ≤ length l) where
-  size : length (encoded s) ≡ recordSize
-  unfolding encoded
+  size : length (encodedSession s) ≡ recordSize
+  unfolding encodedSession
   size = let z = store-size s i in simp length-append (omega arith)
 
   -- it is read back
-  pub record-held : decoded (withRecord s l) ≡ some s
-  record-held = ap decoded (written s l h) ∙ decode-encode s (drop recordSize l) (store-size s i)
+  pub record-held : decodedSession (withSessionRecord s l) ≡ some s
+  record-held = ap decodedSession (written s l h) ∙ decode-encode s (drop recordSize l) (store-size s i)
 
   -- the bytes behind it stay, and all are enough as before
-  pub record-behind : drop recordSize (withRecord s l) ≡ drop recordSize l
-  record-behind = ap (drop recordSize) (written s l h) ∙ drop-at (encoded s) (drop recordSize l) recordSize size
+  pub record-behind : drop recordSize (withSessionRecord s l) ≡ drop recordSize l
+  record-behind = ap (drop recordSize) (written s l h) ∙ drop-at (encodedSession s) (drop recordSize l) recordSize size
 
-  pub record-enough : recordSize ≤ length (withRecord s l)
+  pub record-enough : recordSize ≤ length (withSessionRecord s l)
   record-enough = omega (arith, written-length l s (store-size s i))
 
   -- another record over it
-  pub record-over : (t : Session) → withRecord t (withRecord s l) ≡ withRecord t l
+  pub record-over : (t : Session) → withSessionRecord t (withSessionRecord s l) ≡ withSessionRecord t l
   record-over t =
-      written t (withRecord s l) record-enough ∙ ap (λ (x : List ℕ). encoded t ++ x) record-behind
+      written t (withSessionRecord s l) record-enough ∙ ap (λ (x : List ℕ). encodedSession t ++ x) record-behind
       ∙ sym (written t l h)
 
 -- ---- a call
 
 -- a buffer that is too short is refused with 22 by both
 short : (s : Session) (buf : List ℕ) (st : Step) → ltb (length buf) leastBuffer ≡ true
-    → admitted s buf st ≡ steps.refuses s refusedBuffer buf
-unfolding admitted
+    → admittedStep s buf st ≡ steps.refusedStep s refusedBuffer buf
+unfolding admittedStep
 short s buf st t = if-yes _ _ t
 
-module _ (l : List ℕ) (s : Session) (e : decoded l ≡ some s) where
+module _ (l : List ℕ) (s : Session) (e : decodedSession l ≡ some s) where
   call-is : (f : Session → List ℕ → Step) (buf : List ℕ)
-      → (ltb (length buf) leastBuffer ≡ true → f s buf ≡ steps.refuses s refusedBuffer buf)
-      → hosted f l buf ≡ carries l (f s buf)
-  unfolding hosted
+      → (ltb (length buf) leastBuffer ≡ true → f s buf ≡ steps.refusedStep s refusedBuffer buf)
+      → hostStepAdmitted f l buf ≡ hostStepDone l (f s buf)
+  unfolding hostStepAdmitted
   call-is f buf u = elim (bool-cases (ltb (length buf) leastBuffer)) [
     | inl t ↦
         if-yes _ _ t
         ∙ (λ i. record { word = refusalWord refusedBuffer; session = sym (written-back l s e) i; buffer = buf })
-        ∙ ap (carries l) (sym (u t))
-    | inr t ↦ if-no _ _ t ∙ ap (stepped f l buf) e
+        ∙ ap (hostStepDone l) (sym (u t))
+    | inr t ↦ if-no _ _ t ∙ ap (hostStepOn f l buf) e
   ]
 
-  over-session : (c : Call) → callOver l c ≡ carries l (step s c)
+  over-session : (c : Call) → callOver l c ≡ hostStepDone l (callStep s c)
   over-session (start bytes buf) = call-is (λ s b. startStep s bytes b) buf (short s buf _)
   over-session (answer card buf) = call-is (λ s b. answerStep s card b) buf (short s buf _)
-  over-session (link-failed buf) = call-is linkStep buf (short s buf _)
+  over-session (link-failed buf) = call-is linkFailedStep buf (short s buf _)
   over-session (stop buf) = call-is stopStep buf (short s buf _)
 
-pub as-session : (l : List ℕ) (s : Session) (c : Call) → decoded l ≡ some s → callOver l c ≡ carries l (step s c)
+pub as-session : (l : List ℕ) (s : Session) (c : Call) → decodedSession l ≡ some s → callOver l c ≡ hostStepDone l (callStep s c)
 as-session l s c e = over-session l s e c

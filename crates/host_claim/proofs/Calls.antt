@@ -14,19 +14,19 @@ use borrow.Author.Tests.{ne-eqb, le-leb, leb-true}
 use Rattle.basics.specs.Choice.{both, either, every}
 use Rattle.basics.specs.Reason.{refusedRanges}
 use Rattle.basics.proofs.Laws.{if-yes, if-no, bool-cases, both-yes, either-left, either-false}
-use Rattle.record.specs.declared.Answer.{Answer}
-use Rattle.record.specs.declared.Session.{Session}
-use Rattle.record.specs.Session.{freshSession}
-use Rattle.record.specs.Ranges.{inRanges}
-use Rattle.record.proofs.Phases.{fresh-keeps}
-use Rattle.layout.specs.Layout.{recordSize, withRecord, decoded}
-use Rattle.layout.specs.Word.{kindOf, refusalWord, wordOf}
+use Rattle.session_record.specs.declared.CallResult.{CallResult}
+use Rattle.session_record.specs.declared.Session.{Session}
+use Rattle.session_record.specs.Session.{freshSession}
+use Rattle.session_record.specs.Ranges.{inRanges}
+use Rattle.session_record.proofs.Phases.{fresh-keeps}
+use Rattle.layout.specs.Layout.{recordSize, withSessionRecord, decodedSession}
+use Rattle.layout.specs.Word.{wordKind, refusalWord, resultWord}
 use Rattle.layout.proofs.Laws.{command-below, outcome-kind}
-use Rattle.trace.specs.Calls.{Call, step, made, play, final}
-use Rattle.trace.proofs.Trace.{call-keeps}
-use Rattle.trace.proofs.Rules.{no}
-use Rattle.trace.proofs.Refusals.{Other, never-ranges}
-use Rattle.host.specs.Hosted.{Hosted, Opened, openWord}
+use Rattle.session_claim.specs.Calls.{Call, callStep, callMade, playCalls, finalSession}
+use Rattle.session_claim.proofs.Trace.{call-keeps}
+use Rattle.session_claim.proofs.Rules.{no}
+use Rattle.session_claim.proofs.Refusals.{Other, never-ranges}
+use Rattle.host.specs.Hosted.{HostResult, HostOpened, hostOpenWord}
 use Rattle.host.proofs.Sizes.{Small}
 use Rattle.host_claim.specs.Calls.{HostCall, opening, on-session, CompletedCall, completedCall, completedCalls, bytesAfter}
 use Rattle.host_claim.specs.Words.{isNotRanges, beginsAnew, openingAmong, sinceOpening, hostCommands, notRefused, hostUnanswered, hostAfl, hostLastKind}
@@ -76,8 +76,8 @@ anew-since m ms a = elim (bool-cases (openingAmong ms)) [
 -- ---- from a session s on: the calls x are session's, and the bytes l after them hold its session
 
 record Since (before : List ℕ) (s : Session) (x : List CompletedCall) (l : List ℕ) : Type 0 where
-  words : x ≡ map asCompleted (play s (sessionCalls x))
-  after : l ≡ withRecord (final s (sessionCalls x)) before
+  words : x ≡ map asCompleted (playCalls s (sessionCalls x))
+  after : l ≡ withSessionRecord (finalSession s (sessionCalls x)) before
 
 moved : {b : List ℕ} {s t : Session} {x y : List CompletedCall} {l : List ℕ} → s ≡ t → x ≡ y
     → Since b s x l → Since b t y l
@@ -86,11 +86,11 @@ moved {b} {s} {t} {x} {y} {l} p q h =
 
 -- a session's call as the host sees it, and one more in front
 abbrev called : Session → Call → CompletedCall
-called s c = asCompleted (made s c (step s c))
+called s c = asCompleted (callMade s c (callStep s c))
 
 longer : {b : List ℕ} (s : Session) (c : Call) {x : List CompletedCall} {l : List ℕ}
-    → Since b (step s c .reply .session) x l → Since b s (called s c ∷ x) l
-unfolding play final sessionCalls
+    → Since b (callStep s c .reply .session) x l → Since b s (called s c ∷ x) l
+unfolding playCalls finalSession sessionCalls
 longer s c h = record { words = ap (λ (y : List CompletedCall). called s c ∷ y) (h .words); after = h .after }
 
 -- all calls of a list from s on, and none of them refused with 25
@@ -117,65 +117,65 @@ unfolding openingAmong both
 among s c ms = either-false (openingAmong ms) refl
 
 call-since : {b : List ℕ} (s : Session) (c : Call) {ms : List CompletedCall} {l : List ℕ}
-    → Through b (step s c .reply .session) ms l
+    → Through b (callStep s c .reply .session) ms l
     → Since b (origin (openingAmong (called s c ∷ ms)) s) (sinceOpening (called s c ∷ ms)) l
 unfolding sinceOpening both
 call-since s c {ms} t = elim (bool-cases (openingAmong ms)) [
   | inl e ↦
       moved
-      (ap (λ (x : Bool). origin x (step s c .reply .session)) e
+      (ap (λ (x : Bool). origin x (callStep s c .reply .session)) e
       ∙ sym (ap (λ (x : Bool). origin x s) (among s c ms ∙ e)))
       (sym (if-yes _ _ e)) (t .since)
   | inr e ↦
       moved (sym (ap (λ (x : Bool). origin x s) (among s c ms ∙ e))) (sym (if-no _ _ e ∙ if-no _ _ refl))
-      (longer s c (moved (ap (λ (x : Bool). origin x (step s c .reply .session)) e) (none-since ms e) (t .since)))
+      (longer s c (moved (ap (λ (x : Bool). origin x (callStep s c .reply .session)) e) (none-since ms e) (t .since)))
 ]
 
 after-call : {b : List ℕ} (s : Session) (c : Call) {ms : List CompletedCall} {l : List ℕ}
-    → isNotRanges (called s c) ≡ true → Through b (step s c .reply .session) ms l → Through b s (called s c ∷ ms) l
+    → isNotRanges (called s c) ≡ true → Through b (callStep s c .reply .session) ms l → Through b s (called s c ∷ ms) l
 unfolding every
 after-call s c n t = record { since = call-since s c t; not-25 = both-yes _ _ n (t .not-25) }
 
 -- ---- no word of a session in its ranges is that of refusal 25
 
-other-word : (a : Answer) → Small a → Other a → not (eqb (wordOf a) (refusalWord refusedRanges)) ≡ true
-other-word a h o = ap not (ne-eqb (wordOf a) (refusalWord refusedRanges) (apart a h o))
+other-word : (a : CallResult) → Small a → Other a → not (eqb (resultWord a) (refusalWord refusedRanges)) ≡ true
+other-word a h o = ap not (ne-eqb (resultWord a) (refusalWord refusedRanges) (apart a h o))
   where
-    apart : (a : Answer) → Small a → Other a → wordOf a ≡ refusalWord refusedRanges → ⊥
-    apart (Answer.Command c) h o e = omega (arith, command-below (c .size))
-    apart (Answer.Outcome x) h o e = let k = outcome-kind x (omega arith) in let m = ap kindOf e in omega arith
-    apart (Answer.Refused r) h o e = o (omega arith)
+    apart : (a : CallResult) → Small a → Other a → resultWord a ≡ refusalWord refusedRanges → ⊥
+    apart (CallResult.Command c) h o e = omega (arith, command-below (c .size))
+    apart (CallResult.Outcome x) h o e = let k = outcome-kind x (omega arith) in let m = ap wordKind e in omega arith
+    apart (CallResult.Refused r) h o e = o (omega arith)
 
 -- ---- every list of calls
 
-final-keeps : (s : Session) (cs : List Call) → inRanges s ≡ true → inRanges (final s cs) ≡ true
-unfolding final
+final-keeps : (s : Session) (cs : List Call) → inRanges s ≡ true → inRanges (finalSession s cs) ≡ true
+unfolding finalSession
 final-keeps s [] i = i
-final-keeps s (c ∷ cs) i = final-keeps (step s c .reply .session) cs (call-keeps s c i)
+final-keeps s (c ∷ cs) i = final-keeps (callStep s c .reply .session) cs (call-keeps s c i)
 
 module _ (before : List ℕ) (enough : recordSize ≤ length before) where
   -- a call that does h, and the calls of a list behind it
-  abbrev AllOf : Session → HostCall → List HostCall → Hosted → Type 0
+  abbrev AllOf : Session → HostCall → List HostCall → HostResult → Type 0
   AllOf s c cs h =
       Through before s (completedCall c (h .word) (h .buffer) ∷ completedCalls (h .session) cs)
       (bytesAfter (h .session) cs)
 
   through : (cs : List HostCall) (s : Session) → inRanges s ≡ true
-      → Through before s (completedCalls (withRecord s before) cs) (bytesAfter (withRecord s before) cs)
-  unfolding completedCalls bytesAfter openingAmong sinceOpening play final sessionCalls every
+      → Through before s (completedCalls (withSessionRecord s before) cs) (bytesAfter (withSessionRecord s before) cs)
+  unfolding completedCalls bytesAfter openingAmong sinceOpening playCalls finalSession sessionCalls every
   through [] s i = record { since = record { words = refl; after = refl }; not-25 = refl }
   through (opening ∷ cs) s i =
-      let w : openWord (withRecord s before) ≡ 0 = if-yes _ _ (le-leb recordSize _ (record-enough s i before enough)) in
+      let w : hostOpenWord (withSessionRecord s before) ≡ 0 = if-yes _ _ (le-leb recordSize _ (record-enough s i before enough)) in
       let o = record-over s i before enough freshSession in
       subst (AllOf s opening cs) (λ j. record { word = sym w j; session = sym o j; buffer = [] })
       (after-opening s (through cs freshSession fresh-keeps))
   through (on-session c ∷ cs) s i =
-      let t = step s c .reply .session in
+      let t = callStep s c .reply .session in
       let o = record-over s i before enough t in
-      let n = other-word (step s c .reply .answer) (step-small s c) (never-ranges s c i) in
+      let n = other-word (callStep s c .reply .answer) (step-small s c) (never-ranges s c i) in
       subst (AllOf s (on-session c) cs)
       ((λ j. record { word = called s c .word; session = sym o j; buffer = called s c .buffer })
-      ∙ sym (as-session (withRecord s before) s c (record-held s i before enough)))
+      ∙ sym (as-session (withSessionRecord s before) s c (record-held s i before enough)))
       (after-call s c n (through cs t (call-keeps s c i)))
 
   -- the calls since the last accepted opening, as session's
@@ -183,7 +183,7 @@ module _ (before : List ℕ) (enough : recordSize ≤ length before) where
     abbrev cs : List Call
     cs = sessionCalls x
 
-    ranges : inRanges (final freshSession cs) ≡ true
+    ranges : inRanges (finalSession freshSession cs) ≡ true
     ranges = final-keeps freshSession cs fresh-keeps
 
     same-session : SameAsSession before x l
@@ -191,7 +191,7 @@ module _ (before : List ℕ) (enough : recordSize ≤ length before) where
         record {
           words = h .words;
           record-after = h .after;
-          behind = ap (drop recordSize) (h .after) ∙ record-behind (final freshSession cs) ranges before enough;
+          behind = ap (drop recordSize) (h .after) ∙ record-behind (finalSession freshSession cs) ranges before enough;
           proper = session-proper cs;
           same-commands = ap hostCommands (h .words) ∙ commands-same cs;
           same-taken = ap notRefused (h .words) ∙ taken-same cs;
@@ -203,16 +203,16 @@ module _ (before : List ℕ) (enough : recordSize ≤ length before) where
     since-proper : HostDemand3 x l
     since-proper =
         subst (λ (y : List CompletedCall). HostDemand3 y l) (sym (h .words))
-        (words-proper cs l (ap decoded (h .after) ∙ record-held (final freshSession cs) ranges before enough))
+        (words-proper cs l (ap decodedSession (h .after) ∙ record-held (finalSession freshSession cs) ranges before enough))
 
 -- an opening that gives 0 was accepted: the bytes are enough
-accepted-enough : (l : List ℕ) → openWord l ≡ 0 → recordSize ≤ length l
+accepted-enough : (l : List ℕ) → hostOpenWord l ≡ 0 → recordSize ≤ length l
 accepted-enough l e = elim (bool-cases (leb recordSize (length l))) [
   | inl t ↦ leb-true recordSize (length l) t
   | inr t ↦ let q : refusalWord refusedRanges ≡ 0 = sym (if-no _ _ t) ∙ e in absurd (omega arith)
 ]
 
-pub always : (before l : List ℕ) (cs : List HostCall) → Opened 0 before l
+pub always : (before l : List ℕ) (cs : List HostCall) → HostOpened 0 before l
     → HostClaim before (completedCalls l cs) (bytesAfter l cs)
 always before l cs e =
     let n = accepted-enough before (sym (e .word)) in

@@ -7,14 +7,14 @@ use mathlib.Core.Option.{some}
 use Prim.Native.Nat.{ℕ}
 use native.Mathlib.Omega.{arith}
 use lib.ListN.{length, take, length-map}
-use Rattle.record.specs.declared.Session.{Session}
-use Rattle.record.specs.Session.{freshSession}
-use Rattle.record.proofs.Phases.{fresh-keeps}
-use Rattle.layout.specs.Layout.{decoded}
-use Rattle.trace.specs.Calls.{Call, Made, play, final, commands, taken, unanswered, lastOf}
-use Rattle.trace.specs.Order.{kindOf, published, lastKind, acceptedLocator}
-use Rattle.trace.specs.Claim.{most, Proper}
-use Rattle.trace.proofs.Trace.{always}
+use Rattle.session_record.specs.declared.Session.{Session}
+use Rattle.session_record.specs.Session.{freshSession}
+use Rattle.session_record.proofs.Phases.{fresh-keeps}
+use Rattle.layout.specs.Layout.{decodedSession}
+use Rattle.session_claim.specs.Calls.{Call, CallMade, playCalls, finalSession, commandsSent, callsAccepted, unansweredCommands, lastElement}
+use Rattle.session_claim.specs.Order.{commandKind, publishedOrder, lastKind, acceptedAfl}
+use Rattle.session_claim.specs.Claim.{mostCommandsFor, SessionProper}
+use Rattle.session_claim.proofs.Trace.{always}
 use Rattle.host.specs.Hosted.{countWord}
 use Rattle.host_claim.specs.Calls.{CompletedCall}
 use Rattle.host_claim.specs.Words.{hostCommands, notRefused, hostUnanswered, hostAfl, hostLastKind}
@@ -23,58 +23,58 @@ use Rattle.host_claim.proofs.Read.{All, Known, play-known, read-command
 use Rattle.host_claim.proofs.Afl.{read-afl}
 
 module _ (cs : List Call) where
-  abbrev ms : List Made
-  ms = play freshSession cs
+  abbrev ms : List CallMade
+  ms = playCalls freshSession cs
 
   abbrev hs : List CompletedCall
   hs = map asCompleted ms
 
   abbrev last : Session
-  last = final freshSession cs
+  last = finalSession freshSession cs
 
   known : All Known ms
   known = play-known freshSession cs
 
-  pub session-proper : Proper ms last
+  pub session-proper : SessionProper ms last
   session-proper = always freshSession cs refl fresh-keeps
 
-  pub commands-same : hostCommands hs ≡ commands ms
+  pub commands-same : hostCommands hs ≡ commandsSent ms
   commands-same = read-commands ms known
 
-  pub taken-same : notRefused hs ≡ map asCompleted (taken ms)
+  pub taken-same : notRefused hs ≡ map asCompleted (callsAccepted ms)
   taken-same = read-taken ms known
 
-  pub unanswered-same : hostUnanswered hs ≡ unanswered ms
+  pub unanswered-same : hostUnanswered hs ≡ unansweredCommands ms
   unanswered-same = read-unanswered ms known
 
-  pub afl-same : hostAfl hs ≡ acceptedLocator ms
+  pub afl-same : hostAfl hs ≡ acceptedAfl ms
   afl-same = read-afl cs
 
   pub last-kind-same : hostLastKind hs ≡ lastKind ms
   last-kind-same = read-last-kind ms known
 
-  taken-number : length (notRefused hs) ≡ length (taken ms)
-  taken-number = ap length taken-same ∙ length-map (taken ms) asCompleted
+  taken-number : length (notRefused hs) ≡ length (callsAccepted ms)
+  taken-number = ap length taken-same ∙ length-map (callsAccepted ms) asCompleted
 
-  number : length (hostCommands hs) ≡ length (commands ms)
+  number : length (hostCommands hs) ≡ length (commandsSent ms)
   number = ap length commands-same
 
-  pub words-proper : (l : List ℕ) → decoded l ≡ some last → HostDemand3 hs l
+  pub words-proper : (l : List ℕ) → decodedSession l ≡ some last → HostDemand3 hs l
   words-proper l e =
       let p = session-proper in
       record {
         session = last;
         held = e;
-        order = ap (map kindOf) commands-same ∙ p .order
-            ∙ (λ i. take (length (sym commands-same i)) (published (sym last-kind-same i) (sym afl-same i)));
+        order = ap (map commandKind) commands-same ∙ p .order
+            ∙ (λ i. take (length (sym commands-same i)) (publishedOrder (sym last-kind-same i) (sym afl-same i)));
         count = ap countWord e ∙ p .count ∙ sym number;
-        bound = omega (arith, p .bound, number, ap most afl-same);
+        bound = omega (arith, p .bound, number, ap mostCommandsFor afl-same);
         never-over = omega (arith, p .never-over, number);
         fresh = p .fresh ∙ sym (read-none ms known);
         running = p .running ∙ sym (read-last-command ms known);
         ended = p .ended ∙ sym (read-last-outcome ms known);
         one-unanswered = λ w. ap length unanswered-same ∙ p .one-unanswered w;
-        last-unanswered = λ w. ap lastOf unanswered-same ∙ p .last-unanswered w ∙ sym (ap lastOf commands-same);
+        last-unanswered = λ w. ap lastElement unanswered-same ∙ p .last-unanswered w ∙ sym (ap lastElement commands-same);
         calls = omega (arith, p .calls, number, taken-number);
         never-over-131 = omega (arith, p .never-over-131, taken-number);
       }

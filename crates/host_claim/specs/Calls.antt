@@ -5,11 +5,11 @@
 -- Assumes nothing.
 use mathlib.Core.List.{List, [], _∷_}
 use Prim.Native.Nat.{ℕ}
-use Rattle.record.specs.Session.{freshSession}
-use Rattle.session.specs.Steps.{linkStep, stopStep}
-use Rattle.layout.specs.Layout.{withRecord}
-use Rattle.trace.specs.Calls.{Call, start, answer, link-failed, stop}
-use Rattle.host.specs.Hosted.{Hosted, hosted, startOver, answerOver, openWord}
+use Rattle.session_record.specs.Session.{freshSession}
+use Rattle.session.specs.Steps.{linkFailedStep, stopStep}
+use Rattle.layout.specs.Layout.{withSessionRecord}
+use Rattle.session_claim.specs.Calls.{Call, start, answer, link-failed, stop}
+use Rattle.host.specs.Hosted.{HostResult, hostStepAdmitted, hostStart, hostAnswer, hostOpenWord}
 
 -- ---- the calls
 
@@ -20,15 +20,15 @@ pub data HostCall : Type 0 where
   on-session : Call → HostCall
 
 -- what one of the four does on the session's bytes l: the promises of the exported functions
-abbrev pub callOver : List ℕ → Call → Hosted
-callOver l (start bytes buf) = startOver bytes l buf
-callOver l (answer card buf) = answerOver card l buf
-callOver l (link-failed buf) = hosted linkStep l buf
-callOver l (stop buf) = hosted stopStep l buf
+abbrev pub callOver : List ℕ → Call → HostResult
+callOver l (start bytes buf) = hostStart bytes l buf
+callOver l (answer card buf) = hostAnswer card l buf
+callOver l (link-failed buf) = hostStepAdmitted linkFailedStep l buf
+callOver l (stop buf) = hostStepAdmitted stopStep l buf
 
 -- what a call does; `emv_open` has no command buffer
-abbrev pub hostStep : List ℕ → HostCall → Hosted
-hostStep l opening = record { word = openWord l; session = withRecord freshSession l; buffer = [] }
+abbrev pub hostStep : List ℕ → HostCall → HostResult
+hostStep l opening = record { word = hostOpenWord l; session = withSessionRecord freshSession l; buffer = [] }
 hostStep l (on-session c) = callOver l c
 
 -- ---- a list of calls

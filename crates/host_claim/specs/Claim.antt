@@ -8,13 +8,13 @@ use mathlib.Core.Option.{some}
 use Prim.Native.Nat.{ℕ, _+_, _≤_}
 use lib.ListN.{length, take, drop}
 use Rattle.basics.specs.Choice.{every}
-use Rattle.record.specs.declared.Session.{Session}
-use Rattle.record.specs.Session.{freshSession}
-use Rattle.layout.specs.Layout.{recordSize, withRecord, decoded}
-use Rattle.layout.specs.Word.{wordOf}
-use Rattle.trace.specs.Calls.{Call, Made, said, play, final, commands, taken, unanswered, lastOf}
-use Rattle.trace.specs.Order.{kindOf, published, lastKind, acceptedLocator}
-use Rattle.trace.specs.Claim.{isFresh, isRunning, isEnded, most, oneIf, Proper}
+use Rattle.session_record.specs.declared.Session.{Session}
+use Rattle.session_record.specs.Session.{freshSession}
+use Rattle.layout.specs.Layout.{recordSize, withSessionRecord, decodedSession}
+use Rattle.layout.specs.Word.{resultWord}
+use Rattle.session_claim.specs.Calls.{Call, CallMade, callResult, playCalls, finalSession, commandsSent, callsAccepted, unansweredCommands, lastElement}
+use Rattle.session_claim.specs.Order.{commandKind, publishedOrder, lastKind, acceptedAfl}
+use Rattle.session_claim.specs.Claim.{isFresh, isRunning, isEnded, mostCommandsFor, oneIf, SessionProper}
 use Rattle.host.specs.Hosted.{countWord}
 use Rattle.host_claim.specs.Calls.{HostCall, opening, on-session, CompletedCall, completedCall}
 use Rattle.host_claim.specs.Words.{isNotRanges, sinceOpening, hostCommands, notRefused, hostUnanswered}
@@ -26,24 +26,24 @@ use Rattle.host_claim.specs.Words.{hostAfl, hostLastKind, isNone, isLast
 pub record HostDemand3 (ms : List CompletedCall) (l : List ℕ) : Type 0 where
   -- the bytes hold a session
   pub session : Session
-  pub held : decoded l ≡ some session
+  pub held : decodedSession l ≡ some session
   -- the N commands handed out are the first N of the published order
-  pub order : map kindOf (hostCommands ms)
-      ≡ take (length (hostCommands ms)) (published (hostLastKind ms) (hostAfl ms))
+  pub order : map commandKind (hostCommands ms)
+      ≡ take (length (hostCommands ms)) (publishedOrder (hostLastKind ms) (hostAfl ms))
   -- N is the word of `emv_count`
-  pub count : countWord (decoded l) ≡ length (hostCommands ms)
+  pub count : countWord (decodedSession l) ≡ length (hostCommands ms)
   -- N is at most 1 while no AFL is accepted, and at most 2 + R from then on
-  pub bound : length (hostCommands ms) ≤ most (hostAfl ms)
+  pub bound : length (hostCommands ms) ≤ mostCommandsFor (hostAfl ms)
   -- N is never over 130
   pub never-over : length (hostCommands ms) ≤ 130
   -- the session is fresh where every call was refused, runs where the last call not refused handed back a command,
   -- and has ended where it handed back an outcome
-  pub fresh : isFresh (session .phase) ≡ isNone (lastOf (notRefused ms))
-  pub running : isRunning (session .phase) ≡ isLastCommand (lastOf (notRefused ms))
-  pub ended : isEnded (session .phase) ≡ isLastOutcome (lastOf (notRefused ms))
+  pub fresh : isFresh (session .phase) ≡ isNone (lastElement (notRefused ms))
+  pub running : isRunning (session .phase) ≡ isLastCommand (lastElement (notRefused ms))
+  pub ended : isEnded (session .phase) ≡ isLastOutcome (lastElement (notRefused ms))
   -- while it runs exactly one command is unanswered, the last one handed out
   pub one-unanswered : isRunning (session .phase) ≡ true → length (hostUnanswered ms) ≡ 1
-  pub last-unanswered : isRunning (session .phase) ≡ true → lastOf (hostUnanswered ms) ≡ lastOf (hostCommands ms)
+  pub last-unanswered : isRunning (session .phase) ≡ true → lastElement (hostUnanswered ms) ≡ lastElement (hostCommands ms)
   -- the calls not refused are N, and one more once the session has ended; so they are never over 131
   pub calls : length (notRefused ms) ≡ length (hostCommands ms) + oneIf (isEnded (session .phase))
   pub never-over-131 : length (notRefused ms) ≤ 131
@@ -61,29 +61,29 @@ sessionCalls [] = []
 sessionCalls (m ∷ ms) = sessionCall (m .call) ++ sessionCalls ms
 
 -- they are played from a fresh session
-abbrev pub sessionPlay : List CompletedCall → List Made
-sessionPlay ms = play freshSession (sessionCalls ms)
+abbrev pub sessionPlay : List CompletedCall → List CallMade
+sessionPlay ms = playCalls freshSession (sessionCalls ms)
 
 abbrev pub sessionAfter : List CompletedCall → Session
-sessionAfter ms = final freshSession (sessionCalls ms)
+sessionAfter ms = finalSession freshSession (sessionCalls ms)
 
 -- a session's call as the host sees it: the word of its reply, and its buffer
-abbrev pub asCompleted : Made → CompletedCall
-asCompleted m = completedCall (on-session (m .call)) (wordOf (said m)) (m .step .buffer)
+abbrev pub asCompleted : CallMade → CompletedCall
+asCompleted m = completedCall (on-session (m .call)) (resultWord (callResult m)) (m .step .buffer)
 
 -- ms are the calls since the last accepted opening, l are the bytes after them, and before are those that were opened
 pub record SameAsSession (before : List ℕ) (ms : List CompletedCall) (l : List ℕ) : Type 0 where
   -- every word is that of the session's reply, and every buffer is the session's; no opening is among them
   pub words : ms ≡ map asCompleted (sessionPlay ms)
   -- the bytes are the record of the session after these calls, and those behind the record stay
-  pub record-after : l ≡ withRecord (sessionAfter ms) before
+  pub record-after : l ≡ withSessionRecord (sessionAfter ms) before
   pub behind : drop recordSize l ≡ drop recordSize before
   -- demand 3 of these calls as session's own, and that what is read off the words and the buffers is what it speaks of
-  pub proper : Proper (sessionPlay ms) (sessionAfter ms)
-  pub same-commands : hostCommands ms ≡ commands (sessionPlay ms)
-  pub same-taken : notRefused ms ≡ map asCompleted (taken (sessionPlay ms))
-  pub same-unanswered : hostUnanswered ms ≡ unanswered (sessionPlay ms)
-  pub same-afl : hostAfl ms ≡ acceptedLocator (sessionPlay ms)
+  pub proper : SessionProper (sessionPlay ms) (sessionAfter ms)
+  pub same-commands : hostCommands ms ≡ commandsSent (sessionPlay ms)
+  pub same-taken : notRefused ms ≡ map asCompleted (callsAccepted (sessionPlay ms))
+  pub same-unanswered : hostUnanswered ms ≡ unansweredCommands (sessionPlay ms)
+  pub same-afl : hostAfl ms ≡ acceptedAfl (sessionPlay ms)
   pub same-last-kind : hostLastKind ms ≡ lastKind (sessionPlay ms)
 
 -- ---- the claim

@@ -8,22 +8,22 @@ use Prim.Native.Nat.{ℕ}
 use lib.ListN.{take}
 use Rattle.basics.specs.Choice.{if_then_else_, _and_, _or_, _=?_}
 use Rattle.basics.specs.Reason.{refusedRanges}
-use Rattle.layout.specs.Word.{kindOf, ofCommand, ofOutcome, ofRefusal, refusalWord}
-use Rattle.trace.specs.Calls.{start, answer, link-failed, stop, isAnswer}
-use Rattle.trace.specs.Order.{broughtLocator, Kind, cryptogram, lastBy}
+use Rattle.layout.specs.Word.{wordKind, kindCommand, kindOutcome, kindRefusal, refusalWord}
+use Rattle.session_claim.specs.Calls.{start, answer, link-failed, stop, isAnswer}
+use Rattle.session_claim.specs.Order.{responseAfl, CommandKind, cryptogram, lastKindBy}
 use Rattle.host_claim.specs.Calls.{HostCall, opening, on-session, CompletedCall}
 
 -- ---- a result word
 
 -- its kind says whether the call handed back a command, an outcome or a refusal
 abbrev pub isCommandWord : ℕ → Bool
-isCommandWord w = kindOf w =? ofCommand
+isCommandWord w = wordKind w =? kindCommand
 
 abbrev pub isOutcomeWord : ℕ → Bool
-isOutcomeWord w = kindOf w =? ofOutcome
+isOutcomeWord w = wordKind w =? kindOutcome
 
 abbrev pub isRefusalWord : ℕ → Bool
-isRefusalWord w = kindOf w =? ofRefusal
+isRefusalWord w = wordKind w =? kindRefusal
 
 -- the call was not refused with 25
 abbrev pub isNotRanges : CompletedCall → Bool
@@ -108,7 +108,7 @@ firstAnswerCall (m ∷ ms) =
 abbrev pub cardAfl : HostCall → Option (List ℕ)
 cardAfl opening = none
 cardAfl (on-session (start bytes buf)) = none
-cardAfl (on-session (answer card buf)) = broughtLocator card
+cardAfl (on-session (answer card buf)) = responseAfl card
 cardAfl (on-session (link-failed buf)) = none
 cardAfl (on-session (stop buf)) = none
 
@@ -125,15 +125,15 @@ unfoldable pub hostAfl : List CompletedCall → Option (List ℕ)
 hostAfl ms = aflRead (firstAnswerCall (notRefused ms))
 
 -- the last command by the AIP that the first answer brings
-abbrev pub lastByCall : HostCall → Kind
-lastByCall opening = cryptogram
-lastByCall (on-session c) = lastBy c
+abbrev pub lastCommandByAip : HostCall → CommandKind
+lastCommandByAip opening = cryptogram
+lastCommandByAip (on-session c) = lastKindBy c
 
-abbrev pub lastKindRead : Option CompletedCall → Kind
+abbrev pub lastKindRead : Option CompletedCall → CommandKind
 lastKindRead none = cryptogram
-lastKindRead (some m) = lastByCall (m .call)
+lastKindRead (some m) = lastCommandByAip (m .call)
 
-unfoldable pub hostLastKind : List CompletedCall → Kind
+unfoldable pub hostLastKind : List CompletedCall → CommandKind
 hostLastKind ms = lastKindRead (firstAnswerCall (notRefused ms))
 
 -- ---- what the last call that was not refused says

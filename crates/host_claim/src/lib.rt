@@ -6,18 +6,18 @@ ghost use mathlib.Core.Path.{_≡_};
 ghost use mathlib.Core.List.{List};
 ghost use mathlib.Core.Option.{some};
 ghost use Prim.Native.Nat.{ℕ};
-ghost use Rattle.record.specs.declared.Session.{Session};
-ghost use Rattle.trace.specs.Calls.{Call, step};
-ghost use Rattle.layout.specs.Layout.{decoded};
-ghost use Rattle.host.specs.Hosted.{Opened, carries};
+ghost use Rattle.session_record.specs.declared.Session.{Session};
+ghost use Rattle.session_claim.specs.Calls.{Call, callStep};
+ghost use Rattle.layout.specs.Layout.{decodedSession};
+ghost use Rattle.host.specs.Hosted.{HostOpened, hostStepDone};
 ghost use Rattle.host_claim.specs.Calls.{HostCall, opening, callOver, hostStep, completedCalls, bytesAfter};
 ghost use Rattle.host_claim.specs.Claim.{HostClaim};
 
 // Carries the claim, and does nothing.
 pub fn demand_3_over_host_calls()
-    ensures claim { λ _. ⌜ ((before l : List ℕ) (cs : List HostCall) → Opened 0 before l
+    ensures claim { λ _. ⌜ ((before l : List ℕ) (cs : List HostCall) → HostOpened 0 before l
         → HostClaim before (completedCalls l cs) (bytesAfter l cs)) ⌝ }
-    ensures open { λ _. ⌜ ((l : List ℕ) → Opened (hostStep l opening .word) l (hostStep l opening .session)) ⌝ }
-    ensures session { λ _. ⌜ ((l : List ℕ) (s : Session) (c : Call) → decoded l ≡ some s
-        → callOver l c ≡ carries l (step s c)) ⌝ }
+    ensures open { λ _. ⌜ ((l : List ℕ) → HostOpened (hostStep l opening .word) l (hostStep l opening .session)) ⌝ }
+    ensures session { λ _. ⌜ ((l : List ℕ) (s : Session) (c : Call) → decodedSession l ≡ some s
+        → callOver l c ≡ hostStepDone l (callStep s c)) ⌝ }
 {}

@@ -11,12 +11,12 @@ use lib.Seq.{take-append-seam, drop-append-seam}
 use borrow.Author.Tests.{le-leb, lt-leb}
 use Rattle.basics.specs.Choice.{both, every}
 use Rattle.basics.proofs.Laws.{if-yes, if-no, both-yes}
-use Rattle.store.specs.Held.{isZero}
-use Rattle.trace.specs.Calls.{start, answer, link-failed, stop}
-use Rattle.journal.specs.Record.{lent, recordLength, broughtIn, fits, isLong, longAnswer, mostAnswer, zeroPadded, sized, answerBody, callRecord, callFrom}
+use Rattle.store.specs.Held.{isZeroByte}
+use Rattle.session_claim.specs.Calls.{start, answer, link-failed, stop}
+use Rattle.journal.specs.Record.{journalBuffer, recordLength, recordDataIn, recordFits, isLongAnswer, longAnswer, mostAnswerInRecord, zeroPadded, lengthAndPadded, answerBody, journalCallRecord, callFrom}
 use Rattle.journal.proofs.Reading.{kind-start, kind-answer, kind-link, kind-stop, long-no}
 
-zeros : (n : ℕ) → every isZero (replicate n 0) ≡ true
+zeros : (n : ℕ) → every isZeroByte (replicate n 0) ≡ true
 unfolding every both
 zeros zero = refl
 zeros (suc n) = zeros n
@@ -25,40 +25,40 @@ two-bytes : (n : ℕ) → n < 65536 → n / 256 % 256 * 256 + n % 256 ≡ n
 two-bytes n h = omega arith
 
 module _ (k n : ℕ) (v : List ℕ) (f : length v ≤ n) (small : n < 65535) where
-  pub length-read : recordLength (k ∷ sized n v) ≡ length v
+  pub length-read : recordLength (k ∷ lengthAndPadded n v) ≡ length v
   length-read = two-bytes (length v) (omega arith)
 
-  brought-read : broughtIn (k ∷ sized n v) ≡ v
+  brought-read : recordDataIn (k ∷ lengthAndPadded n v) ≡ v
   brought-read = ap (λ (m : ℕ). take m (zeroPadded n v)) length-read ∙ take-append-seam v (replicate (n - length v) 0)
 
-  fits-read : fits n (k ∷ sized n v) ≡ true
-  unfolding fits
+  fits-read : recordFits n (k ∷ lengthAndPadded n v) ≡ true
+  unfolding recordFits
   fits-read =
-      both-yes _ _ (le-leb (recordLength (k ∷ sized n v)) n (let e = length-read in omega arith))
-      (ap (λ (m : ℕ). every isZero (drop m (zeroPadded n v))) length-read
-      ∙ ap (every isZero) (drop-append-seam v (replicate (n - length v) 0)) ∙ zeros (n - length v))
+      both-yes _ _ (le-leb (recordLength (k ∷ lengthAndPadded n v)) n (let e = length-read in omega arith))
+      (ap (λ (m : ℕ). every isZeroByte (drop m (zeroPadded n v))) length-read
+      ∙ ap (every isZeroByte) (drop-append-seam v (replicate (n - length v) 0)) ∙ zeros (n - length v))
 
-pub start-back : (v : List ℕ) → length v ≤ 1024 → callFrom (callRecord (start v lent)) ≡ some (start v lent)
+pub start-back : (v : List ℕ) → length v ≤ 1024 → callFrom (journalCallRecord (start v journalBuffer)) ≡ some (start v journalBuffer)
 start-back v h =
-    kind-start _ refl ∙ if-yes _ _ (fits-read 1 1024 v h (omega arith)) ∙ ap (λ (b : List ℕ). some (start b lent)) (brought-read 1 1024 v h (omega arith))
+    kind-start _ refl ∙ if-yes _ _ (fits-read 1 1024 v h (omega arith)) ∙ ap (λ (b : List ℕ). some (start b journalBuffer)) (brought-read 1 1024 v h (omega arith))
 
-pub answer-back : (v : List ℕ) → length v ≤ 258 → callFrom (callRecord (answer v lent)) ≡ some (answer v lent)
+pub answer-back : (v : List ℕ) → length v ≤ 258 → callFrom (journalCallRecord (answer v journalBuffer)) ≡ some (answer v journalBuffer)
 answer-back v h =
     ap (λ (b : List ℕ). callFrom (2 ∷ b)) (if-yes _ _ (le-leb (length v) 258 h))
-    ∙ kind-answer _ refl ∙ if-no _ _ (long-no (2 ∷ sized 258 v) (λ z. let e = length-read 2 258 v h (omega arith) in omega arith))
-    ∙ if-yes _ _ (fits-read 2 258 v h (omega arith)) ∙ ap (λ (b : List ℕ). some (answer b lent)) (brought-read 2 258 v h (omega arith))
+    ∙ kind-answer _ refl ∙ if-no _ _ (long-no (2 ∷ lengthAndPadded 258 v) (λ z. let e = length-read 2 258 v h (omega arith) in omega arith))
+    ∙ if-yes _ _ (fits-read 2 258 v h (omega arith)) ∙ ap (λ (b : List ℕ). some (answer b journalBuffer)) (brought-read 2 258 v h (omega arith))
 
-long-is : isLong (2 ∷ 0xFF ∷ 0xFF ∷ replicate 258 0) ≡ true
-unfolding isLong
+long-is : isLongAnswer (2 ∷ 0xFF ∷ 0xFF ∷ replicate 258 0) ≡ true
+unfolding isLongAnswer
 long-is = both-yes _ _ refl (zeros 258)
 
 -- one that is too long for a record is read as such a one
-pub long-back : (v : List ℕ) → 258 < length v → callFrom (callRecord (answer v lent)) ≡ some (answer longAnswer lent)
+pub long-back : (v : List ℕ) → 258 < length v → callFrom (journalCallRecord (answer v journalBuffer)) ≡ some (answer longAnswer journalBuffer)
 long-back v h =
     ap (λ (b : List ℕ). callFrom (2 ∷ b)) (if-no _ _ (lt-leb (length v) 258 h)) ∙ kind-answer (2 ∷ 0xFF ∷ 0xFF ∷ replicate 258 0) refl ∙ if-yes _ _ long-is
 
-pub link-back : callFrom (callRecord (link-failed lent)) ≡ some (link-failed lent)
+pub link-back : callFrom (journalCallRecord (link-failed journalBuffer)) ≡ some (link-failed journalBuffer)
 link-back = kind-link (3 ∷ []) refl
 
-pub stop-back : callFrom (callRecord (stop lent)) ≡ some (stop lent)
+pub stop-back : callFrom (journalCallRecord (stop journalBuffer)) ≡ some (stop journalBuffer)
 stop-back = kind-stop (4 ∷ []) refl

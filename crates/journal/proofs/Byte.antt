@@ -14,68 +14,68 @@ use lib.Seq.{length-take-le, take-suc-set, take-take, take-append-seam, getD-tak
 use borrow.Author.Tests.{lt-ltb, le-ltb, le-leb, lt-leb, ltb-true, ltb-false}
 use Rattle.basics.proofs.Laws.{if-yes, if-no, if-ind, bool-cases, both-yes, both-no-left, both-no-right}
 use Rattle.basics.specs.Choice.{if}
-use Rattle.journal.specs.declared.Standing.{Standing}
-use Rattle.journal.specs.declared.Checker.{Checker}
-use Rattle.journal.specs.Record.{sizeOf}
-use Rattle.journal.specs.Verdict.{Expected, expected, judged, frontSize}
-use Rattle.journal.specs.Inner.{dueIn, standingOf, standingBy, holding, judging, wholeOr, pushed}
+use Rattle.journal.specs.declared.CheckState.{CheckState}
+use Rattle.journal.specs.declared.JournalChecker.{JournalChecker}
+use Rattle.journal.specs.Record.{journalRecordSize}
+use Rattle.journal.specs.Verdict.{ExpectedNext, expectedNext, recordJudged, firstRecordSize}
+use Rattle.journal.specs.Inner.{expectedIn, checkStateOf, checkStateBy, checkerHolding, checkerJudging, judgedIfWhole, checkerPushed}
 use Rattle.journal.proofs.Pushed.{State, state, judgedState, wholeState, stepBy}
 
 -- ---- every way out of a push
 
-module _ (c : Checker) (b : ℕ) where
-  pub stays-wrong : c .standing .right ≡ false → c ≡ pushed c b
-  unfolding pushed
+module _ (c : JournalChecker) (b : ℕ) where
+  pub stays-wrong : c .standing .conforming ≡ false → c ≡ checkerPushed c b
+  unfolding checkerPushed
   stays-wrong e = sym (if-no _ _ (both-no-left _ _ e))
 
-  pub stays-length : 1027 ≤ c .length → c ≡ pushed c b
-  unfolding pushed
+  pub stays-length : 1027 ≤ c .length → c ≡ checkerPushed c b
+  unfolding checkerPushed
   stays-length h = sym (if-no _ _ (both-no-right _ _ (both-no-left _ _ (le-ltb (c .length) 1027 h))))
 
-  pub stays-size : 264 < c .standing .size → c ≡ pushed c b
-  unfolding pushed
+  pub stays-size : 264 < c .standing .size → c ≡ checkerPushed c b
+  unfolding checkerPushed
   stays-size h = sym (if-no _ _ (both-no-right _ _ (both-no-right _ _ (both-no-left _ _ (lt-leb (c .standing .size) 264 h)))))
 
-  pub stays-records : 1000 ≤ c .records → c ≡ pushed c b
-  unfolding pushed
+  pub stays-records : 1000 ≤ c .records → c ≡ checkerPushed c b
+  unfolding checkerPushed
   stays-records h = sym (if-no _ _ (both-no-right _ _ (both-no-right _ _ (both-no-right _ _ (le-ltb (c .records) 1000 h)))))
 
-  module _ (r : c .standing .right ≡ true) (l : c .length < 1027) (s : c .standing .size ≤ 264) (n : c .records < 1000) where
-    pub goes : wholeOr c (set (c .held) (c .length) b) ≡ pushed c b
-    unfolding pushed
+  module _ (r : c .standing .conforming ≡ true) (l : c .length < 1027) (s : c .standing .size ≤ 264) (n : c .records < 1000) where
+    pub goes : judgedIfWhole c (set (c .held) (c .length) b) ≡ checkerPushed c b
+    unfolding checkerPushed
     goes =
         sym (if-yes _ _ (both-yes _ _ r (both-yes _ _ (lt-ltb (c .length) 1027 l)
         (both-yes _ _ (le-leb (c .standing .size) 264 s) (lt-ltb (c .records) 1000 n)))))
 
-    pub holds-more : (size : ℕ) → size ≡ frontSize (set (c .held) (c .length) b) → c .length + 1 < size
-        → holding c (set (c .held) (c .length) b) ≡ pushed c b
-    unfolding wholeOr
+    pub holds-more : (size : ℕ) → size ≡ firstRecordSize (set (c .held) (c .length) b) → c .length + 1 < size
+        → checkerHolding c (set (c .held) (c .length) b) ≡ checkerPushed c b
+    unfolding judgedIfWhole
     holds-more size e h = sym (if-yes _ _ (lt-ltb (c .length + 1) _ (let g = e in omega arith))) ∙ goes
 
-    pub judges : (size : ℕ) (x : Standing) → size ≡ frontSize (set (c .held) (c .length) b) → size ≤ c .length + 1
-        → x ≡ standingBy (c .standing) (judged (dueIn (c .standing)) (take size (set (c .held) (c .length) b)))
-        → record { standing = x; held = set (c .held) (c .length) b; length = 0; records = c .records + 1 } ≡ pushed c b
-    unfolding wholeOr
+    pub judges : (size : ℕ) (x : CheckState) → size ≡ firstRecordSize (set (c .held) (c .length) b) → size ≤ c .length + 1
+        → x ≡ checkStateBy (c .standing) (recordJudged (expectedIn (c .standing)) (take size (set (c .held) (c .length) b)))
+        → record { standing = x; held = set (c .held) (c .length) b; length = 0; records = c .records + 1 } ≡ checkerPushed c b
+    unfolding judgedIfWhole
     judges size x e h j =
-        ap (λ (y : Standing). record { standing = y; held = set (c .held) (c .length) b; length = 0; records = c .records + 1 })
-        (j ∙ ap (λ (m : ℕ). standingBy (c .standing) (judged (dueIn (c .standing)) (take m (set (c .held) (c .length) b)))) e)
-        ∙ sym (if-no _ _ (le-ltb (c .length + 1) (frontSize (set (c .held) (c .length) b)) (let g = e in omega arith))) ∙ goes
+        ap (λ (y : CheckState). record { standing = y; held = set (c .held) (c .length) b; length = 0; records = c .records + 1 })
+        (j ∙ ap (λ (m : ℕ). checkStateBy (c .standing) (recordJudged (expectedIn (c .standing)) (take m (set (c .held) (c .length) b)))) e)
+        ∙ sym (if-no _ _ (le-ltb (c .length + 1) (firstRecordSize (set (c .held) (c .length) b)) (let g = e in omega arith))) ∙ goes
 
 -- ---- the state
 
-abbrev pub stateOf : Checker → State
-stateOf c = state (c .standing .right) (dueIn (c .standing)) (c .records) (take (c .length) (c .held))
+abbrev pub stateOf : JournalChecker → State
+stateOf c = state (c .standing .conforming) (expectedIn (c .standing)) (c .records) (take (c .length) (c .held))
 
 -- what is due is read back
-pub due-back : (e : Expected) → take (length (e .due)) (standingOf e .due) ≡ e .due
+pub due-back : (e : ExpectedNext) → take (length (e .due)) (checkStateOf e .due) ≡ e .due
 due-back e = take-append-seam (e .due) _
 
-judged-state : (s : Standing) (n : ℕ) (o : Option Expected) → state (standingBy s o .right) (dueIn (standingBy s o)) n [] ≡ judgedState (dueIn s) n o
+judged-state : (s : CheckState) (n : ℕ) (o : Option ExpectedNext) → state (checkStateBy s o .conforming) (expectedIn (checkStateBy s o)) n [] ≡ judgedState (expectedIn s) n o
 judged-state s n none = refl
-judged-state s n (some e) = ap (λ (d : List ℕ). state true (expected (e .session) d) n []) (due-back e)
+judged-state s n (some e) = ap (λ (d : List ℕ). state true (expectedNext (e .session) d) n []) (due-back e)
 
 -- within the bounds
-pub record Fine (c : Checker) : Type 0 where
+pub record Fine (c : JournalChecker) : Type 0 where
   pub part : c .length < 1027
   pub size : c .standing .size ≤ 264
   pub records : c .records < 1000
@@ -88,33 +88,33 @@ module _ (h : List ℕ) (k b : ℕ) (room : k < length h) where
   longer-length : length (take k h ++ (b ∷ [])) ≡ k + 1
   longer-length = length-append (take k h) (b ∷ []) ∙ ap (λ (m : ℕ). m + 1) (length-take-le k h (omega arith))
 
-  same-size : frontSize (take k h ++ (b ∷ [])) ≡ frontSize (set h k b)
-  same-size = ap frontSize (sym longer) ∙ ap sizeOf (getD-take (k + 1) (set h k b) 0 0 (omega arith))
+  same-size : firstRecordSize (take k h ++ (b ∷ [])) ≡ firstRecordSize (set h k b)
+  same-size = ap firstRecordSize (sym longer) ∙ ap journalRecordSize (getD-take (k + 1) (set h k b) 0 0 (omega arith))
 
-  same-record : frontSize (set h k b) ≤ k + 1
-      → take (frontSize (set h k b)) (set h k b) ≡ take (frontSize (take k h ++ (b ∷ []))) (take k h ++ (b ∷ []))
+  same-record : firstRecordSize (set h k b) ≤ k + 1
+      → take (firstRecordSize (set h k b)) (set h k b) ≡ take (firstRecordSize (take k h ++ (b ∷ []))) (take k h ++ (b ∷ []))
   same-record t =
-      sym (take-take (frontSize (set h k b)) (k + 1) (set h k b) t) ∙ ap (take (frontSize (set h k b))) longer
+      sym (take-take (firstRecordSize (set h k b)) (k + 1) (set h k b) t) ∙ ap (take (firstRecordSize (set h k b))) longer
       ∙ ap (λ (m : ℕ). take m (take k h ++ (b ∷ []))) (sym same-size)
 
-module _ (c : Checker) (b : ℕ) (f : Fine c) where
+module _ (c : JournalChecker) (b : ℕ) (f : Fine c) where
   room : c .length < length (c .held)
   room = let l = f .part in omega (arith, f .held)
 
-  whole-state : c .standing .right ≡ true → stateOf (wholeOr c (set (c .held) (c .length) b))
-      ≡ wholeState (dueIn (c .standing)) (c .records) (take (c .length) (c .held) ++ (b ∷ []))
-  unfolding wholeOr wholeState
+  whole-state : c .standing .conforming ≡ true → stateOf (judgedIfWhole c (set (c .held) (c .length) b))
+      ≡ wholeState (expectedIn (c .standing)) (c .records) (take (c .length) (c .held) ++ (b ∷ []))
+  unfolding judgedIfWhole wholeState
   whole-state r =
-      if-ind (λ (x : Checker). stateOf x ≡ wholeState (dueIn (c .standing)) (c .records) l) (ltb (c .length + 1) (frontSize h)) (holding c h) (judging c h)
+      if-ind (λ (x : JournalChecker). stateOf x ≡ wholeState (expectedIn (c .standing)) (c .records) l) (ltb (c .length + 1) (firstRecordSize h)) (checkerHolding c h) (checkerJudging c h)
       (λ w.
-        ap (λ (x : Bool). state x (dueIn (c .standing)) (c .records) (take (c .length + 1) h)) r
-        ∙ ap (state true (dueIn (c .standing)) (c .records)) (longer (c .held) (c .length) b room)
-        ∙ sym (if-yes _ _ (lt-ltb (length l) (frontSize l) (omega (arith, ltb-true (c .length + 1) (frontSize h) w, long, size)))))
+        ap (λ (x : Bool). state x (expectedIn (c .standing)) (c .records) (take (c .length + 1) h)) r
+        ∙ ap (state true (expectedIn (c .standing)) (c .records)) (longer (c .held) (c .length) b room)
+        ∙ sym (if-yes _ _ (lt-ltb (length l) (firstRecordSize l) (omega (arith, ltb-true (c .length + 1) (firstRecordSize h) w, long, size)))))
       (λ w.
-        judged-state (c .standing) (c .records + 1) (judged (dueIn (c .standing)) (take (frontSize h) h))
-        ∙ ap (λ (v : List ℕ). judgedState (dueIn (c .standing)) (c .records + 1) (judged (dueIn (c .standing)) v))
-        (same-record (c .held) (c .length) b room (ltb-false (c .length + 1) (frontSize h) w))
-        ∙ sym (if-no _ _ (le-ltb (length l) (frontSize l) (omega (arith, ltb-false (c .length + 1) (frontSize h) w, long, size)))))
+        judged-state (c .standing) (c .records + 1) (recordJudged (expectedIn (c .standing)) (take (firstRecordSize h) h))
+        ∙ ap (λ (v : List ℕ). judgedState (expectedIn (c .standing)) (c .records + 1) (recordJudged (expectedIn (c .standing)) v))
+        (same-record (c .held) (c .length) b room (ltb-false (c .length + 1) (firstRecordSize h) w))
+        ∙ sym (if-no _ _ (le-ltb (length l) (firstRecordSize l) (omega (arith, ltb-false (c .length + 1) (firstRecordSize h) w, long, size)))))
     where
       h : List ℕ
       h = set (c .held) (c .length) b
@@ -125,27 +125,27 @@ module _ (c : Checker) (b : ℕ) (f : Fine c) where
       long : length (take (c .length) (c .held) ++ (b ∷ [])) ≡ c .length + 1
       long = longer-length (c .held) (c .length) b room
 
-      size : frontSize (take (c .length) (c .held) ++ (b ∷ [])) ≡ frontSize (set (c .held) (c .length) b)
+      size : firstRecordSize (take (c .length) (c .held) ++ (b ∷ [])) ≡ firstRecordSize (set (c .held) (c .length) b)
       size = same-size (c .held) (c .length) b room
 
-  pub state-step : stateOf (pushed c b) ≡ stepBy (c .standing .right) (dueIn (c .standing)) (c .records) (take (c .length) (c .held)) b
-  state-step = elim (bool-cases (c .standing .right)) [
+  pub state-step : stateOf (checkerPushed c b) ≡ stepBy (c .standing .conforming) (expectedIn (c .standing)) (c .records) (take (c .length) (c .held)) b
+  state-step = elim (bool-cases (c .standing .conforming)) [
     | inl r ↦
-        ap stateOf (sym (goes c b r (f .part) (f .size) (f .records))) ∙ whole-state r ∙ sym (ap (λ (x : Bool). stepBy x (dueIn (c .standing)) (c .records) (take (c .length) (c .held)) b) r)
+        ap stateOf (sym (goes c b r (f .part) (f .size) (f .records))) ∙ whole-state r ∙ sym (ap (λ (x : Bool). stepBy x (expectedIn (c .standing)) (c .records) (take (c .length) (c .held)) b) r)
     | inr r ↦
-        ap stateOf (sym (stays-wrong c b r)) ∙ ap (λ (x : Bool). state x (dueIn (c .standing)) (c .records) (take (c .length) (c .held))) r
-        ∙ sym (ap (λ (x : Bool). stepBy x (dueIn (c .standing)) (c .records) (take (c .length) (c .held)) b) r)
+        ap stateOf (sym (stays-wrong c b r)) ∙ ap (λ (x : Bool). state x (expectedIn (c .standing)) (c .records) (take (c .length) (c .held))) r
+        ∙ sym (ap (λ (x : Bool). stepBy x (expectedIn (c .standing)) (c .records) (take (c .length) (c .held)) b) r)
   ]
 
 -- ---- the size of a record
 
 -- no byte is no kind
-pub size-none : sizeOf (getD [] 0 0) ≡ 0
-unfolding sizeOf if
+pub size-none : journalRecordSize (getD [] 0 0) ≡ 0
+unfolding journalRecordSize if
 size-none = refl
 
-pub size-most : (kind : ℕ) → sizeOf kind ≤ 1027
-unfolding sizeOf
+pub size-most : (kind : ℕ) → journalRecordSize kind ≤ 1027
+unfolding journalRecordSize
 size-most kind =
     if-ind P (eqb kind 1) _ _ (λ w. omega arith) (λ w. if-ind P (eqb kind 2) _ _ (λ w. omega arith) (λ w. if-ind P (eqb kind 3) _ _ (λ w. omega arith)
     (λ w. if-ind P (eqb kind 4) _ _ (λ w. omega arith) (λ w. if-ind P (eqb kind 5) _ _ (λ w. omega arith) (λ w. if-ind P (eqb kind 6) _ _ (λ w. omega arith) (λ w. omega arith))))))
@@ -154,6 +154,6 @@ size-most kind =
     P n = n ≤ 1027
 
 -- as many bytes as a record has are the record, and none where there is no such kind
-pub record-sized : (l : List ℕ) (size : ℕ) → size ≡ sizeOf (getD l 0 0) → size ≤ length l → length (take size l) ≡ sizeOf (getD (take size l) 0 0)
+pub record-sized : (l : List ℕ) (size : ℕ) → size ≡ journalRecordSize (getD l 0 0) → size ≤ length l → length (take size l) ≡ journalRecordSize (getD (take size l) 0 0)
 record-sized l zero e t = sym size-none
-record-sized l (suc k) e t = length-take-le (suc k) l t ∙ e ∙ sym (ap sizeOf (getD-take (suc k) l 0 0 (omega arith)))
+record-sized l (suc k) e t = length-take-le (suc k) l t ∙ e ∙ sym (ap journalRecordSize (getD-take (suc k) l 0 0 (omega arith)))

@@ -9,16 +9,16 @@ use Prim.Native.Nat.{ℕ, zero, suc, _+_, _-_, _<_}
 use native.Mathlib.Omega.{arith}
 use lib.ListN.{length, take, drop, replicate}
 use lib.Seq.{take-append-seam}
-use Rattle.basics.specs.Alike.{alike}
+use Rattle.basics.specs.Alike.{bytesEqual}
 use Rattle.basics.specs.Choice.{if}
-use Rattle.record.specs.declared.Session.{Session}
-use Rattle.record.specs.declared.Reply.{Reply}
-use Rattle.session.specs.Steps.{Step, Did}
-use Rattle.trace.proofs.EveryCall.{Came}
-use Rattle.journal.specs.declared.Standing.{Standing}
-use Rattle.journal.specs.Record.{twoBytes, zeroPadded, mostCommand, lent, replyRecord}
-use Rattle.journal.specs.Verdict.{Expected, expected, replied, repliedBy, judgedBy}
-use Rattle.journal.specs.Inner.{wholeRecord, standingOf, standingBy}
+use Rattle.session_record.specs.declared.Session.{Session}
+use Rattle.session_record.specs.declared.Reply.{Reply}
+use Rattle.session.specs.Steps.{Step, DidStep}
+use Rattle.session_claim.proofs.EveryCall.{Came}
+use Rattle.journal.specs.declared.CheckState.{CheckState}
+use Rattle.journal.specs.Record.{twoByteLength, zeroPadded, mostCommandInRecord, journalBuffer, journalReplyRecord}
+use Rattle.journal.specs.Verdict.{ExpectedNext, expectedNext, replyExpected, replyExpectedAfter, recordJudgedBy}
+use Rattle.journal.specs.Inner.{replyRecordWithBuffer, checkStateOf, checkStateBy}
 
 -- ---- zeros
 
@@ -33,41 +33,41 @@ in-front c n =
     ap (λ (l : List ℕ). c ++ l) (drop-zeros (length c) n)
     ∙ ap (zeroPadded n) (sym (take-append-seam c (drop (length c) (replicate n 0))))
 
-pub whole-is : {s : Session} {st : Step} → Came s lent st → wholeRecord (st .reply .answer) (st .buffer) ≡ replyRecord (st .reply .answer) (st .buffer)
+pub whole-is : {s : Session} {st : Step} → Came s journalBuffer st → replyRecordWithBuffer (st .reply .answer) (st .buffer) ≡ journalReplyRecord (st .reply .answer) (st .buffer)
 whole-is (Came.refused n) = refl
 whole-is (Came.ended y b o n) = refl
-whole-is (Came.sent b p c l) = ap (λ (v : List ℕ). 5 ∷ (twoBytes (length c) ++ v)) (in-front c mostCommand)
+whole-is (Came.sent b p c l) = ap (λ (v : List ℕ). 5 ∷ (twoByteLength (length c) ++ v)) (in-front c mostCommandInRecord)
 
 -- ---- the standing behind a record
 
-pub stands-as : {x : Standing} (y : Standing) {a b : Option Expected} → a ≡ b → x ≡ standingBy y a → x ≡ standingBy y b
-stands-as y e h = h ∙ ap (standingBy y) e
+pub stands-as : {x : CheckState} (y : CheckState) {a b : Option ExpectedNext} → a ≡ b → x ≡ checkStateBy y a → x ≡ checkStateBy y b
+stands-as y e h = h ∙ ap (checkStateBy y) e
 
 -- the reply that the code got is the step's
-pub did-due : {s : Session} {st : Step} {q : Reply} {buf : List ℕ} {x : Standing} (y : Standing) → Came s lent st → Did q buf st
-    → x ≡ standingBy y (replied (q .session) (wholeRecord (q .answer) buf)) → x ≡ standingBy y (repliedBy st)
+pub did-due : {s : Session} {st : Step} {q : Reply} {buf : List ℕ} {x : CheckState} (y : CheckState) → Came s journalBuffer st → DidStep q buf st
+    → x ≡ checkStateBy y (replyExpected (q .session) (replyRecordWithBuffer (q .answer) buf)) → x ≡ checkStateBy y (replyExpectedAfter st)
 did-due {s} {st} {q} {buf} y c d h =
     stands-as y
-    (ap (λ (y : Reply). replied (y .session) (wholeRecord (y .answer) buf)) (d .reply)
-    ∙ ap (λ (v : List ℕ). replied (st .reply .session) (wholeRecord (st .reply .answer) v)) (d .buffer)
-    ∙ ap (replied (st .reply .session)) (whole-is c)) h
+    (ap (λ (y : Reply). replyExpected (y .session) (replyRecordWithBuffer (y .answer) buf)) (d .reply)
+    ∙ ap (λ (v : List ℕ). replyExpected (st .reply .session) (replyRecordWithBuffer (st .reply .answer) v)) (d .buffer)
+    ∙ ap (replyExpected (st .reply .session)) (whole-is c)) h
 
 -- ---- where a reply is due
 
-pub reply-due : (s : Session) (d r : List ℕ) → 0 < length d → judgedBy s d r ≡ if (alike r d) (some (expected s [])) none
+pub reply-due : (s : Session) (d r : List ℕ) → 0 < length d → recordJudgedBy s d r ≡ if (bytesEqual r d) (some (expectedNext s [])) none
 reply-due s [] r h = absurd (omega arith)
 reply-due s (b ∷ d) r h = refl
 
 -- ---- what the code builds
 
-abbrev standing : Session → List ℕ → ℕ → Standing
-standing s d n = record { session = s; due = d; size = n; right = true }
+abbrev standing : Session → List ℕ → ℕ → CheckState
+standing s d n = record { session = s; due = d; size = n; conforming = true }
 
 -- a command's record is filled whole
 pub command-whole : (s : Session) (x y : ℕ) (v b : List ℕ) → v ≡ b → length b ≡ 261
-    → record { session = s; due = 5 ∷ x ∷ y ∷ (v ++ []); size = 264; right = true } ≡ standingOf (expected s (5 ∷ x ∷ y ∷ b))
+    → record { session = s; due = 5 ∷ x ∷ y ∷ (v ++ []); size = 264; conforming = true } ≡ checkStateOf (expectedNext s (5 ∷ x ∷ y ∷ b))
 command-whole s x y v b e l =
     let z : 0 ≡ 264 - length (5 ∷ x ∷ y ∷ b) = let g = l in omega arith in
     let n : 264 ≡ length (5 ∷ x ∷ y ∷ b) = let g = l in omega arith in
     ap (λ (w : List ℕ). standing s (5 ∷ x ∷ y ∷ (w ++ [])) 264) e
-    ∙ ap (λ (m : ℕ). standing s (5 ∷ x ∷ y ∷ (b ++ replicate m 0)) 264) z ∙ ap (standing s (standingOf (expected s (5 ∷ x ∷ y ∷ b)) .due)) n
+    ∙ ap (λ (m : ℕ). standing s (5 ∷ x ∷ y ∷ (b ++ replicate m 0)) 264) z ∙ ap (standing s (checkStateOf (expectedNext s (5 ∷ x ∷ y ∷ b)) .due)) n

@@ -9,16 +9,16 @@ use Prim.Native.Nat.{ℕ, suc, _<_}
 use native.Mathlib.Omega.{arith}
 use lib.ListN.{length, take}
 use Rattle.basics.specs.Choice.{every}
-use Rattle.basics.specs.Alike.{alike}
+use Rattle.basics.specs.Alike.{bytesEqual}
 use Rattle.basics.proofs.Laws.{if-no, if-ind, both-yes}
 use Rattle.basics.proofs.Alike.{alike-eq}
-use Rattle.record.specs.declared.Session.{Session}
+use Rattle.session_record.specs.declared.Session.{Session}
 use Rattle.session.specs.Steps.{Step}
-use Rattle.trace.specs.Calls.{Call, step, play, isRefusal, refused}
-use Rattle.trace.proofs.EveryCall.{Came}
-use Rattle.journal.specs.Record.{callRecord, callFrom, journalOf, joined}
-use Rattle.journal.specs.Verdict.{Expected, expected, repliedBy, called, judged, judgedBy}
-use Rattle.journal.specs.Written.{Bytes, BytesIn, noneRefused, WritesBytes}
+use Rattle.session_claim.specs.Calls.{Call, callStep, playCalls, isRefusal, callRefused}
+use Rattle.session_claim.proofs.EveryCall.{Came}
+use Rattle.journal.specs.Record.{journalCallRecord, callFrom, journalOf, concatenated}
+use Rattle.journal.specs.Verdict.{ExpectedNext, expectedNext, replyExpectedAfter, callJudged, recordJudged, recordJudgedBy}
+use Rattle.journal.specs.ConformingRecords.{AllBytes, CallOfBytes, noneRefused, KernelWritesBytes}
 use Rattle.journal.proofs.Kept.{call-came}
 use Rattle.journal.proofs.WrittenBuffer.{dueBy}
 use Rattle.journal.proofs.Written.{Walks}
@@ -27,28 +27,28 @@ use Rattle.journal.proofs.ExactCall.{same-some, nothing, bytes-front, b
 -- ---- a record where a call is due
 
 -- it is written by a call that is taken, and the call's reply is due behind it
-record Taken (s : Session) (r : List ℕ) (t : Expected) : Type 0 where
+record Taken (s : Session) (r : List ℕ) (t : ExpectedNext) : Type 0 where
   call : Call
-  written : callRecord call ≡ r
-  bytes : BytesIn call
-  taken : isRefusal (step s call .reply .answer) ≡ false
-  due : t ≡ expected (step s call .reply .session) (dueBy (step s call))
+  written : journalCallRecord call ≡ r
+  bytes : CallOfBytes call
+  taken : isRefusal (callStep s call .reply .answer) ≡ false
+  due : t ≡ expectedNext (callStep s call .reply .session) (dueBy (callStep s call))
   there : 0 < length (t .due)
 
 -- what a call that is taken leaves due
-record Answered (st : Step) (t : Expected) : Type 0 where
+record Answered (st : Step) (t : ExpectedNext) : Type 0 where
   taken : isRefusal (st .reply .answer) ≡ false
-  due : t ≡ expected (st .reply .session) (dueBy st)
+  due : t ≡ expectedNext (st .reply .session) (dueBy st)
   there : 0 < length (t .due)
 
-replied-by : {s : Session} {buf : List ℕ} {st : Step} (t : Expected) → Came s buf st → repliedBy st ≡ some t → Answered st t
+replied-by : {s : Session} {buf : List ℕ} {st : Step} (t : ExpectedNext) → Came s buf st → replyExpectedAfter st ≡ some t → Answered st t
 replied-by t (Came.refused n) e = nothing e
 replied-by t (Came.ended y b o n) e =
-    let d = same-some e in record { taken = refl; due = sym d; there = omega (arith, ap (λ (x : Expected). length (x .due)) d) }
+    let d = same-some e in record { taken = refl; due = sym d; there = omega (arith, ap (λ (x : ExpectedNext). length (x .due)) d) }
 replied-by t (Came.sent b p c l) e =
-    let d = same-some e in record { taken = refl; due = sym d; there = omega (arith, ap (λ (x : Expected). length (x .due)) d) }
+    let d = same-some e in record { taken = refl; due = sym d; there = omega (arith, ap (λ (x : ExpectedNext). length (x .due)) d) }
 
-taken-by : (s : Session) (r : List ℕ) (t : Expected) (o : Option Call) → ((c : Call) → o ≡ some c → (callRecord c ≡ r) × BytesIn c) → called s o ≡ some t → Taken s r t
+taken-by : (s : Session) (r : List ℕ) (t : ExpectedNext) (o : Option Call) → ((c : Call) → o ≡ some c → (journalCallRecord c ≡ r) × CallOfBytes c) → callJudged s o ≡ some t → Taken s r t
 taken-by s r t none f e = nothing e
 taken-by s r t (some c) f e =
     let w = replied-by t (call-came s c) e in
@@ -56,37 +56,37 @@ taken-by s r t (some c) f e =
 
 -- ---- a record where a reply is due is that reply
 
-record Replied (e : Expected) (r : List ℕ) (t : Expected) : Type 0 where
+record Replied (e : ExpectedNext) (r : List ℕ) (t : ExpectedNext) : Type 0 where
   reply : e .due ≡ r
-  then : t ≡ expected (e .session) []
+  then : t ≡ expectedNext (e .session) []
 
-replied-is : (s : Session) (d r : List ℕ) (t : Expected) → 0 < length d → judgedBy s d r ≡ some t → Replied (expected s d) r t
+replied-is : (s : Session) (d r : List ℕ) (t : ExpectedNext) → 0 < length d → recordJudgedBy s d r ≡ some t → Replied (expectedNext s d) r t
 replied-is s [] r t h = absurd (omega arith)
 replied-is s (b ∷ d) r t h =
-    if-ind (λ (o : Option Expected). o ≡ some t → Replied (expected s (b ∷ d)) r t) (alike r (b ∷ d)) _ _
+    if-ind (λ (o : Option ExpectedNext). o ≡ some t → Replied (expectedNext s (b ∷ d)) r t) (bytesEqual r (b ∷ d)) _ _
     (λ w e. record { reply = sym (alike-eq r (b ∷ d) w); then = sym (same-some e) }) (λ w e. nothing e)
 
 -- ---- one call more in front
 
-journal-cons : (s : Session) (c : Call) (cs : List Call) → isRefusal (step s c .reply .answer) ≡ false
-    → journalOf (play s (c ∷ cs)) ≡ callRecord c ∷ dueBy (step s c) ∷ journalOf (play (step s c .reply .session) cs)
-unfolding journalOf play
+journal-cons : (s : Session) (c : Call) (cs : List Call) → isRefusal (callStep s c .reply .answer) ≡ false
+    → journalOf (playCalls s (c ∷ cs)) ≡ journalCallRecord c ∷ dueBy (callStep s c) ∷ journalOf (playCalls (callStep s c .reply .session) cs)
+unfolding journalOf playCalls
 journal-cons s c cs r = if-no _ _ r
 
-taken-cons : (s : Session) (c : Call) (cs : List Call) → isRefusal (step s c .reply .answer) ≡ false
-    → noneRefused (play (step s c .reply .session) cs) ≡ true → noneRefused (play s (c ∷ cs)) ≡ true
-unfolding every play
+taken-cons : (s : Session) (c : Call) (cs : List Call) → isRefusal (callStep s c .reply .answer) ≡ false
+    → noneRefused (playCalls (callStep s c .reply .session) cs) ≡ true → noneRefused (playCalls s (c ∷ cs)) ≡ true
+unfolding every playCalls
 taken-cons s c cs r h = both-yes _ _ (ap not r) h
 
-no-calls : (s : Session) → WritesBytes s []
-unfolding every play
+no-calls : (s : Session) → KernelWritesBytes s []
+unfolding every playCalls
 no-calls s = record { writes = record { calls = []; taken = refl; first = refl }; bytes = tt }
 
-module _ (s : Session) (r : List ℕ) (t : Expected) (w : Taken s r t) where
+module _ (s : Session) (r : List ℕ) (t : ExpectedNext) (w : Taken s r t) where
   abbrev next : Session
-  next = step s (w .call) .reply .session
+  next = callStep s (w .call) .reply .session
 
-  one-record : WritesBytes s (r ∷ [])
+  one-record : KernelWritesBytes s (r ∷ [])
   unfolding no-calls
   one-record =
       record {
@@ -99,7 +99,7 @@ module _ (s : Session) (r : List ℕ) (t : Expected) (w : Taken s r t) where
         bytes = (w .bytes, tt)
       }
 
-  two-records : (rs : List (List ℕ)) → WritesBytes next rs → WritesBytes s (r ∷ dueBy (step s (w .call)) ∷ rs)
+  two-records : (rs : List (List ℕ)) → KernelWritesBytes next rs → KernelWritesBytes s (r ∷ dueBy (callStep s (w .call)) ∷ rs)
   two-records rs k =
       record {
         writes =
@@ -108,23 +108,23 @@ module _ (s : Session) (r : List ℕ) (t : Expected) (w : Taken s r t) where
             taken = taken-cons s (w .call) (k .writes .calls) (w .taken) (k .writes .taken);
             first =
               ap (take (suc (suc (length rs)))) (journal-cons s (w .call) (k .writes .calls) (w .taken))
-              ∙ ap₂ (λ (x : List ℕ) (l : List (List ℕ)). x ∷ dueBy (step s (w .call)) ∷ l) (w .written) (k .writes .first)
+              ∙ ap₂ (λ (x : List ℕ) (l : List (List ℕ)). x ∷ dueBy (callStep s (w .call)) ∷ l) (w .written) (k .writes .first)
           };
         bytes = (w .bytes, k .bytes)
       }
 
 -- ---- all of them
 
-pub writes : {e u : Expected} {rs : List (List ℕ)} → Walks e rs u → (s : Session) → e ≡ expected s [] → Bytes (joined rs) → WritesBytes s rs
-unfolding joined
+pub writes : {e u : ExpectedNext} {rs : List (List ℕ)} → Walks e rs u → (s : Session) → e ≡ expectedNext s [] → AllBytes (concatenated rs) → KernelWritesBytes s rs
+unfolding concatenated
 writes Walks.done s q g = no-calls s
 writes (Walks.next {t = t} {r = r} h z j Walks.done) s q g =
-    one-record s r t (taken-by s r t (callFrom r) (λ c e. let b = bytes-front r [] g in (call-is r c b z e, call-bytes r c b e)) (sym (ap (λ (x : Expected). judged x r) q) ∙ j))
+    one-record s r t (taken-by s r t (callFrom r) (λ c e. let b = bytes-front r [] g in (call-is r c b z e, call-bytes r c b e)) (sym (ap (λ (x : ExpectedNext). recordJudged x r) q) ∙ j))
 writes (Walks.next {t = t} {r = r} h z j (Walks.next {t = t′} {r = r′} {rs = rs} h′ z′ j′ w)) s q g =
-    let a = taken-by s r t (callFrom r) (λ c e. let b = bytes-front r (r′ ++ joined rs) g in (call-is r c b z e, call-bytes r c b e)) (sym (ap (λ (x : Expected). judged x r) q) ∙ j) in
+    let a = taken-by s r t (callFrom r) (λ c e. let b = bytes-front r (r′ ++ concatenated rs) g in (call-is r c b z e, call-bytes r c b e)) (sym (ap (λ (x : ExpectedNext). recordJudged x r) q) ∙ j) in
     let b = replied-is (t .session) (t .due) r′ t′ (a .there) j′ in
-    let n : t .session ≡ step s (a .call) .reply .session = ap (λ (x : Expected). x .session) (a .due) in
-    let d : dueBy (step s (a .call)) ≡ r′ = sym (ap (λ (x : Expected). x .due) (a .due)) ∙ b .reply in
-    subst (λ (x : List ℕ). WritesBytes s (r ∷ x ∷ rs)) d
+    let n : t .session ≡ callStep s (a .call) .reply .session = ap (λ (x : ExpectedNext). x .session) (a .due) in
+    let d : dueBy (callStep s (a .call)) ≡ r′ = sym (ap (λ (x : ExpectedNext). x .due) (a .due)) ∙ b .reply in
+    subst (λ (x : List ℕ). KernelWritesBytes s (r ∷ x ∷ rs)) d
     (two-records s r t a rs
-    (writes w (step s (a .call) .reply .session) (b .then ∙ ap (λ (x : Session). expected x []) n) (bytes-behind r′ (joined rs) (bytes-behind r (r′ ++ joined rs) g))))
+    (writes w (callStep s (a .call) .reply .session) (b .then ∙ ap (λ (x : Session). expectedNext x []) n) (bytes-behind r′ (concatenated rs) (bytes-behind r (r′ ++ concatenated rs) g))))

@@ -4,18 +4,18 @@ use mathlib.Core.Path.{_≡_, refl}
 use mathlib.Core.List.{[], _∷_}
 use Rattle.basics.specs.Choice.{if}
 use Rattle.basics.specs.Recursion.{recurse, recurseBy}
-use Rattle.journal.specs.declared.Verdict.{Verdict}
-use Rattle.journal.specs.Record.{sizeOf}
-use Rattle.journal.specs.Verdict.{verdictFrom, verdictOf, dueBehind, wantedOf}
+use Rattle.journal.specs.declared.JournalVerdict.{JournalVerdict}
+use Rattle.journal.specs.Record.{journalRecordSize}
+use Rattle.journal.specs.Verdict.{verdictFrom, journalVerdictOf, replyDueAfter, expectedReplyOf}
 
 -- no bytes; a command's first bytes; a kind that there is none of; a start's first bytes; where a call is due no one record is right
 pub record Worked : Type 0 where
-  pub empty : verdictOf [] ≡ Verdict.Accepted 0
-  pub command-cut : verdictOf (0x05 ∷ 0xFF ∷ 0xFF ∷ []) ≡ Verdict.Cut 1
-  pub unknown : verdictOf (0x07 ∷ []) ≡ Verdict.Unlike 1
-  pub start-cut : verdictOf (0x01 ∷ 0x00 ∷ []) ≡ Verdict.Cut 1
-  pub call-due : wantedOf (0x07 ∷ []) ≡ []
+  pub empty : journalVerdictOf [] ≡ JournalVerdict.Accepted 0
+  pub command-cut : journalVerdictOf (0x05 ∷ 0xFF ∷ 0xFF ∷ []) ≡ JournalVerdict.Truncated 1
+  pub unknown : journalVerdictOf (0x07 ∷ []) ≡ JournalVerdict.Mismatch 1
+  pub start-cut : journalVerdictOf (0x01 ∷ 0x00 ∷ []) ≡ JournalVerdict.Truncated 1
+  pub call-due : expectedReplyOf (0x07 ∷ []) ≡ []
 
 pub worked : Worked
-unfolding wantedOf verdictOf verdictFrom recurse recurseBy dueBehind sizeOf if
+unfolding expectedReplyOf journalVerdictOf verdictFrom recurse recurseBy replyDueAfter journalRecordSize if
 worked = record { empty = refl; command-cut = refl; unknown = refl; start-cut = refl; call-due = refl }

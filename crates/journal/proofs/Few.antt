@@ -10,41 +10,41 @@ use lib.ListN.{length, take, drop, length-drop}
 use borrow.Author.Tests.{eqb-false}
 use Rattle.basics.proofs.Laws.{if-ind}
 use Rattle.basics.proofs.Recursion.{shorter-first}
-use Rattle.journal.specs.declared.Verdict.{Verdict}
-use Rattle.journal.specs.Record.{sizeOf}
-use Rattle.journal.specs.Verdict.{Expected, atFirst, judged, goesOn, verdictFrom, verdictOf}
+use Rattle.journal.specs.declared.JournalVerdict.{JournalVerdict}
+use Rattle.journal.specs.Record.{journalRecordSize}
+use Rattle.journal.specs.Verdict.{ExpectedNext, expectedAtStart, recordJudged, verdictContinues, verdictFrom, journalVerdictOf}
 use Rattle.journal.proofs.Walk.{unroll}
 use Rattle.journal.proofs.Kept.{Kept, first-kept, judged-kept, few-records}
 
-same-number : (n m : ℕ) → Verdict.Accepted n ≡ Verdict.Accepted m → n ≡ m
+same-number : (n m : ℕ) → JournalVerdict.Accepted n ≡ JournalVerdict.Accepted m → n ≡ m
 same-number n m q = cc
 
-not-unlike : (n m : ℕ) → Verdict.Unlike n ≡ Verdict.Accepted m → m ≤ 262
-not-unlike n m q = let z : _≡_ {A = ℕ} 0 1 = cc in absurd (omega arith)
+not-mismatch : (n m : ℕ) → JournalVerdict.Mismatch n ≡ JournalVerdict.Accepted m → m ≤ 262
+not-mismatch n m q = let z : _≡_ {A = ℕ} 0 1 = cc in absurd (omega arith)
 
-not-cut : (n m : ℕ) → Verdict.Cut n ≡ Verdict.Accepted m → m ≤ 262
+not-cut : (n m : ℕ) → JournalVerdict.Truncated n ≡ JournalVerdict.Accepted m → m ≤ 262
 not-cut n m q = let z : _≡_ {A = ℕ} 0 1 = cc in absurd (omega arith)
 
 -- behind a record that was judged
-few-behind : (f : Expected → Verdict) (n m : ℕ) (o : Option Expected) → ((t : Expected) → o ≡ some t → f t ≡ Verdict.Accepted m → m ≤ 262)
-    → goesOn f n o ≡ Verdict.Accepted m → m ≤ 262
-few-behind f n m none g q = not-unlike n m q
+few-behind : (f : ExpectedNext → JournalVerdict) (n m : ℕ) (o : Option ExpectedNext) → ((t : ExpectedNext) → o ≡ some t → f t ≡ JournalVerdict.Accepted m → m ≤ 262)
+    → verdictContinues f n o ≡ JournalVerdict.Accepted m → m ≤ 262
+few-behind f n m none g q = not-mismatch n m q
 few-behind f n m (some t) g q = g t refl q
 
 abbrev Few : List ℕ → Type 0
-Few s = (e : Expected) (n m : ℕ) → Kept e n → verdictFrom e n s ≡ Verdict.Accepted m → m ≤ 262
+Few s = (e : ExpectedNext) (n m : ℕ) → Kept e n → verdictFrom e n s ≡ JournalVerdict.Accepted m → m ≤ 262
 
 few-next : (s : List ℕ) → ((v : List ℕ) → length v < length s → Few v) → Few s
 few-next [] k e n m h q = omega (arith, same-number n m (sym (unroll e n []) ∙ q), few-records e n h)
 few-next (b ∷ s) k e n m h q =
-    if-ind (λ (v : Verdict). v ≡ Verdict.Accepted m → m ≤ 262) (eqb (sizeOf b) 0) _ _ (λ w r. not-unlike (n + 1) m r)
-    (λ w. if-ind (λ (v : Verdict). v ≡ Verdict.Accepted m → m ≤ 262) (ltb (length (b ∷ s)) (sizeOf b)) _ _ (λ v r. not-cut (n + 1) m r)
-    (λ v r. few-behind _ (n + 1) m (judged e (take (sizeOf b) (b ∷ s)))
-    (λ t j x. k (drop (sizeOf b) (b ∷ s)) (shorter (eqb-false (sizeOf b) 0 w)) t (n + 1) m (judged-kept (e .session) (e .due) _ n t h j) x) r)) (sym (unroll e n (b ∷ s)) ∙ q)
+    if-ind (λ (v : JournalVerdict). v ≡ JournalVerdict.Accepted m → m ≤ 262) (eqb (journalRecordSize b) 0) _ _ (λ w r. not-mismatch (n + 1) m r)
+    (λ w. if-ind (λ (v : JournalVerdict). v ≡ JournalVerdict.Accepted m → m ≤ 262) (ltb (length (b ∷ s)) (journalRecordSize b)) _ _ (λ v r. not-cut (n + 1) m r)
+    (λ v r. few-behind _ (n + 1) m (recordJudged e (take (journalRecordSize b) (b ∷ s)))
+    (λ t j x. k (drop (journalRecordSize b) (b ∷ s)) (shorter (eqb-false (journalRecordSize b) 0 w)) t (n + 1) m (judged-kept (e .session) (e .due) _ n t h j) x) r)) (sym (unroll e n (b ∷ s)) ∙ q)
   where
-    shorter : (sizeOf b ≡ 0 → ⊥) → length (drop (sizeOf b) (b ∷ s)) < length (b ∷ s)
-    shorter z = omega (arith, length-drop (sizeOf b) (b ∷ s))
+    shorter : (journalRecordSize b ≡ 0 → ⊥) → length (drop (journalRecordSize b) (b ∷ s)) < length (b ∷ s)
+    shorter z = omega (arith, length-drop (journalRecordSize b) (b ∷ s))
 
-pub accepted-few : (s : List ℕ) (m : ℕ) → verdictOf s ≡ Verdict.Accepted m → m ≤ 262
-unfolding verdictOf
-accepted-few s m q = shorter-first Few few-next s atFirst 0 m first-kept q
+pub accepted-few : (s : List ℕ) (m : ℕ) → journalVerdictOf s ≡ JournalVerdict.Accepted m → m ≤ 262
+unfolding journalVerdictOf
+accepted-few s m q = shorter-first Few few-next s expectedAtStart 0 m first-kept q

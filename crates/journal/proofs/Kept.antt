@@ -10,25 +10,25 @@ use Prim.Native.Nat.{ℕ, _+_, _-_, _*_, _≤_, _<_}
 use native.Mathlib.Omega.{arith}
 use lib.Dec.{eqb}
 use lib.ListN.{length, getD, take, replicate, length-append, length-take, length-replicate}
-use Rattle.basics.specs.Alike.{alike}
+use Rattle.basics.specs.Alike.{bytesEqual}
 use Rattle.basics.specs.Reason.{reasonLink, reasonStopped}
 use Rattle.basics.specs.Choice.{if}
 use Rattle.basics.proofs.Laws.{if-ind}
-use Rattle.record.specs.declared.End.{End}
-use Rattle.record.specs.declared.Phase.{Phase}
-use Rattle.record.specs.declared.Session.{Session}
-use Rattle.record.specs.Ranges.{inRanges}
-use Rattle.record.proofs.Phases.{fresh-keeps, count-most}
-use Rattle.session.specs.Steps.{Step, admitted, endsIn}
+use Rattle.session_record.specs.declared.Ending.{Ending}
+use Rattle.session_record.specs.declared.Phase.{Phase}
+use Rattle.session_record.specs.declared.Session.{Session}
+use Rattle.session_record.specs.Ranges.{inRanges}
+use Rattle.session_record.proofs.Phases.{fresh-keeps, count-most}
+use Rattle.session.specs.Steps.{Step, admittedStep, endsRunning}
 use Rattle.session.specs.Start as starts
 use Rattle.session.specs.Answer as answers
-use Rattle.trace.specs.Calls.{Call, start, answer, link-failed, stop, step, isRefusal}
-use Rattle.trace.specs.Claim.{isEnded, oneIf}
-use Rattle.trace.proofs.Ranges.{start-keeps, answer-keeps, link-keeps, stop-keeps}
-use Rattle.trace.proofs.Rules.{no}
-use Rattle.trace.proofs.EveryCall.{Came, start-came, answer-came, link-came, stop-came}
-use Rattle.journal.specs.Record.{sizeOf, twoBytes, zeroPadded, mostCommand, lent, mostStart, mostAnswer, fits, isLong, callFrom}
-use Rattle.journal.specs.Verdict.{Expected, expected, atFirst, repliedBy, called, judgedBy, frontSize}
+use Rattle.session_claim.specs.Calls.{Call, start, answer, link-failed, stop, callStep, isRefusal}
+use Rattle.session_claim.specs.Claim.{isEnded, oneIf}
+use Rattle.session_claim.proofs.Ranges.{start-keeps, answer-keeps, link-keeps, stop-keeps}
+use Rattle.session_claim.proofs.Rules.{no}
+use Rattle.session_claim.proofs.EveryCall.{Came, start-came, answer-came, link-came, stop-came}
+use Rattle.journal.specs.Record.{journalRecordSize, twoByteLength, zeroPadded, mostCommandInRecord, journalBuffer, mostStartInRecord, mostAnswerInRecord, recordFits, isLongAnswer, callFrom}
+use Rattle.journal.specs.Verdict.{ExpectedNext, expectedNext, expectedAtStart, replyExpectedAfter, callJudged, recordJudgedBy, firstRecordSize}
 
 -- ---- what is kept from record to record
 
@@ -39,11 +39,11 @@ dueOne (b ∷ d) = 1
 
 -- two records for each call taken, one where its reply is due; the calls taken are the commands handed out and one
 -- more once the session has ended
-pub record Kept (e : Expected) (n : ℕ) : Type 0 where
+pub record Kept (e : ExpectedNext) (n : ℕ) : Type 0 where
   pub ranges : inRanges (e .session) ≡ true
   pub few : n + dueOne (e .due) ≤ 2 * (e .session .count + oneIf (isEnded (e .session .phase)))
   pub fits : length (e .due) ≤ 264
-  pub whole : 0 < length (e .due) → length (e .due) ≡ frontSize (e .due)
+  pub whole : 0 < length (e .due) → length (e .due) ≡ firstRecordSize (e .due)
 
 -- ---- every call
 
@@ -53,13 +53,13 @@ bufferOf (answer card buf) = buf
 bufferOf (link-failed buf) = buf
 bufferOf (stop buf) = buf
 
-pub call-came : (s : Session) (c : Call) → Came s (bufferOf c) (step s c)
+pub call-came : (s : Session) (c : Call) → Came s (bufferOf c) (callStep s c)
 call-came s (start bytes buf) = start-came s bytes buf
 call-came s (answer card buf) = answer-came s card buf
 call-came s (link-failed buf) = link-came s buf
 call-came s (stop buf) = stop-came s buf
 
-call-keeps : (s : Session) (c : Call) → inRanges s ≡ true → inRanges (step s c .reply .session) ≡ true
+call-keeps : (s : Session) (c : Call) → inRanges s ≡ true → inRanges (callStep s c .reply .session) ≡ true
 call-keeps s (start bytes buf) i = start-keeps s bytes buf i
 call-keeps s (answer card buf) i = answer-keeps s card buf i
 call-keeps s (link-failed buf) i = link-keeps s buf i
@@ -67,8 +67,8 @@ call-keeps s (stop buf) i = stop-keeps s buf i
 
 -- ---- a session that has ended takes no call
 
-admitted-refuses : (s : Session) (buf : List ℕ) (st : Step) → isRefusal (st .reply .answer) ≡ true → isRefusal (admitted s buf st .reply .answer) ≡ true
-unfolding admitted
+admitted-refuses : (s : Session) (buf : List ℕ) (st : Step) → isRefusal (st .reply .answer) ≡ true → isRefusal (admittedStep s buf st .reply .answer) ≡ true
+unfolding admittedStep
 admitted-refuses s buf st e = if-ind P _ _ _ (λ w. refl) (λ w. if-ind P _ _ _ (λ v. refl) (λ v. e))
   where
     P : Step → Type 0
@@ -78,29 +78,29 @@ admitted-refuses s buf st e = if-ind P _ _ _ (λ w. refl) (λ w. if-ind P _ _ _ 
 abbrev inside : Session → Phase → Call → Step
 inside s p (start bytes buf) = starts.startIn p s bytes buf
 inside s p (answer card buf) = answers.answerIn p s card buf
-inside s p (link-failed buf) = endsIn p s reasonLink buf
-inside s p (stop buf) = endsIn p s reasonStopped buf
+inside s p (link-failed buf) = endsRunning p s reasonLink buf
+inside s p (stop buf) = endsRunning p s reasonStopped buf
 
-step-inside : (s : Session) (c : Call) → step s c ≡ admitted s (bufferOf c) (inside s (s .phase) c)
+step-inside : (s : Session) (c : Call) → callStep s c ≡ admittedStep s (bufferOf c) (inside s (s .phase) c)
 step-inside s (start bytes buf) = refl
 step-inside s (answer card buf) = refl
 step-inside s (link-failed buf) = refl
 step-inside s (stop buf) = refl
 
-inside-ended : (s : Session) (c : Call) (x : End) → isRefusal (inside s (Phase.Ended x) c .reply .answer) ≡ true
+inside-ended : (s : Session) (c : Call) (x : Ending) → isRefusal (inside s (Phase.Ended x) c .reply .answer) ≡ true
 inside-ended s (start bytes buf) x = refl
 inside-ended s (answer card buf) x = refl
 inside-ended s (link-failed buf) x = refl
 inside-ended s (stop buf) x = refl
 
-ended-refuses : (s : Session) (c : Call) (x : End) → s .phase ≡ Phase.Ended x → isRefusal (step s c .reply .answer) ≡ true
+ended-refuses : (s : Session) (c : Call) (x : Ending) → s .phase ≡ Phase.Ended x → isRefusal (callStep s c .reply .answer) ≡ true
 ended-refuses s c x q =
     ap (λ (st : Step). isRefusal (st .reply .answer)) (step-inside s c)
     ∙ admitted-refuses s (bufferOf c) _ (ap (λ (p : Phase). isRefusal (inside s p c .reply .answer)) q ∙ inside-ended s c x)
 
-not-ended : (s : Session) (c : Call) (p : Phase) → s .phase ≡ p → isRefusal (step s c .reply .answer) ≡ false → isEnded p ≡ false
+not-ended : (s : Session) (c : Call) (p : Phase) → s .phase ≡ p → isRefusal (callStep s c .reply .answer) ≡ false → isEnded p ≡ false
 not-ended s c Phase.Fresh q r = refl
-not-ended s c Phase.Options q r = refl
+not-ended s c Phase.Gpo q r = refl
 not-ended s c (Phase.Record k) q r = refl
 not-ended s c (Phase.Cryptogram a) q r = refl
 not-ended s c (Phase.Checksum k) q r = refl
@@ -114,53 +114,53 @@ same-some e = cc
 pub nothing : {A P : Type 0} {t : A} → none ≡ some t → P
 nothing e = let z : _≡_ {A = ℕ} 0 1 = cc in absurd (omega arith)
 
-lent-call : (r : List ℕ) (c : Call) → callFrom r ≡ some c → bufferOf c ≡ lent
+lent-call : (r : List ℕ) (c : Call) → callFrom r ≡ some c → bufferOf c ≡ journalBuffer
 unfolding callFrom
 lent-call r c =
-    if-ind Lent (eqb (getD r 0 0) 1) _ _ (λ w. if-ind Lent (fits mostStart r) _ _ (λ v. made _ refl) (λ v e. nothing e))
+    if-ind Lent (eqb (getD r 0 0) 1) _ _ (λ w. if-ind Lent (recordFits mostStartInRecord r) _ _ (λ v. made _ refl) (λ v e. nothing e))
     (λ w. if-ind Lent (eqb (getD r 0 0) 2) _ _
-    (λ w. if-ind Lent (isLong r) _ _ (λ v. made _ refl) (λ v. if-ind Lent (fits mostAnswer r) _ _ (λ u. made _ refl) (λ u e. nothing e)))
+    (λ w. if-ind Lent (isLongAnswer r) _ _ (λ v. made _ refl) (λ v. if-ind Lent (recordFits mostAnswerInRecord r) _ _ (λ u. made _ refl) (λ u e. nothing e)))
     (λ w. if-ind Lent (eqb (getD r 0 0) 3) _ _ (λ v. made _ refl) (λ v. if-ind Lent (eqb (getD r 0 0) 4) _ _ (λ u. made _ refl) (λ u e. nothing e))))
   where
     Lent : Option Call → Type 0
-    Lent o = o ≡ some c → bufferOf c ≡ lent
+    Lent o = o ≡ some c → bufferOf c ≡ journalBuffer
 
-    made : (d : Call) → bufferOf d ≡ lent → Lent (some d)
+    made : (d : Call) → bufferOf d ≡ journalBuffer → Lent (some d)
     made d b e = ap bufferOf (sym (same-some e)) ∙ b
 
 -- ---- one record more
 
-command-size : (k : ℕ) (v : List ℕ) → k ≤ 261 → length (5 ∷ (twoBytes k ++ zeroPadded mostCommand (take k v))) ≡ 264
+command-size : (k : ℕ) (v : List ℕ) → k ≤ 261 → length (5 ∷ (twoByteLength k ++ zeroPadded mostCommandInRecord (take k v))) ≡ 264
 command-size k v h =
     omega (arith, length-append (take k v) (replicate (261 - length (take k v)) 0), length-replicate {A = ℕ} (261 - length (take k v)) 0, length-take k v)
 
-came-kept : {s : Session} {buf : List ℕ} {st : Step} (n : ℕ) (t : Expected) → Came s buf st → length buf ≤ 261 → inRanges (st .reply .session) ≡ true
+came-kept : {s : Session} {buf : List ℕ} {st : Step} (n : ℕ) (t : ExpectedNext) → Came s buf st → length buf ≤ 261 → inRanges (st .reply .session) ≡ true
     → (isRefusal (st .reply .answer) ≡ false → isEnded (s .phase) ≡ false)
-    → n + 0 ≤ 2 * (s .count + oneIf (isEnded (s .phase))) → repliedBy st ≡ some t → Kept t (n + 1)
-unfolding sizeOf if
+    → n + 0 ≤ 2 * (s .count + oneIf (isEnded (s .phase))) → replyExpectedAfter st ≡ some t → Kept t (n + 1)
+unfolding journalRecordSize if
 came-kept n t (Came.refused k) m i f h e = nothing e
 came-kept n t (Came.ended y b o k) m i f h e =
     let g = ap oneIf (f refl) in
-    subst (λ (x : Expected). Kept x (n + 1)) (same-some e) (record { ranges = i; few = omega arith; fits = omega arith; whole = λ z. refl })
+    subst (λ (x : ExpectedNext). Kept x (n + 1)) (same-some e) (record { ranges = i; few = omega arith; fits = omega arith; whole = λ z. refl })
 came-kept n t (Came.sent b p c l) m i f h e =
     let g = ap oneIf (f refl) in
     let z = command-size (length c) _ (omega arith) in
-    subst (λ (x : Expected). Kept x (n + 1)) (same-some e) (record { ranges = i; few = omega arith; fits = omega arith; whole = λ y. z })
+    subst (λ (x : ExpectedNext). Kept x (n + 1)) (same-some e) (record { ranges = i; few = omega arith; fits = omega arith; whole = λ y. z })
 
-called-kept : (s : Session) (o : Option Call) (n : ℕ) (t : Expected) → ((c : Call) → o ≡ some c → bufferOf c ≡ lent) → Kept (expected s []) n
-    → called s o ≡ some t → Kept t (n + 1)
+called-kept : (s : Session) (o : Option Call) (n : ℕ) (t : ExpectedNext) → ((c : Call) → o ≡ some c → bufferOf c ≡ journalBuffer) → Kept (expectedNext s []) n
+    → callJudged s o ≡ some t → Kept t (n + 1)
 called-kept s none n t b k e = nothing e
 called-kept s (some c) n t b k e =
     came-kept n t (call-came s c) (let l = ap length (b c refl) in omega arith) (call-keeps s c (k .ranges)) (not-ended s c (s .phase) refl) (k .few) e
 
-pub judged-kept : (s : Session) (d r : List ℕ) (n : ℕ) (t : Expected) → Kept (expected s d) n → judgedBy s d r ≡ some t → Kept t (n + 1)
+pub judged-kept : (s : Session) (d r : List ℕ) (n : ℕ) (t : ExpectedNext) → Kept (expectedNext s d) n → recordJudgedBy s d r ≡ some t → Kept t (n + 1)
 judged-kept s [] r n t k e = called-kept s (callFrom r) n t (lent-call r) k e
 judged-kept s (b ∷ d) r n t k e =
-    if-ind (λ (o : Option Expected). o ≡ some t → Kept t (n + 1)) (alike r (b ∷ d)) (some (expected s [])) none
-    (λ w e. subst (λ (x : Expected). Kept x (n + 1)) (same-some e) (record { ranges = k .ranges; few = let f = k .few in omega arith; fits = omega arith; whole = λ z. absurd (omega arith) }))
+    if-ind (λ (o : Option ExpectedNext). o ≡ some t → Kept t (n + 1)) (bytesEqual r (b ∷ d)) (some (expectedNext s [])) none
+    (λ w e. subst (λ (x : ExpectedNext). Kept x (n + 1)) (same-some e) (record { ranges = k .ranges; few = let f = k .few in omega arith; fits = omega arith; whole = λ z. absurd (omega arith) }))
     (λ w e. nothing e) e
 
-pub first-kept : Kept atFirst 0
+pub first-kept : Kept expectedAtStart 0
 first-kept = record { ranges = fresh-keeps; few = omega arith; fits = omega arith; whole = λ z. absurd (omega arith) }
 
 -- ---- never over 262 records
@@ -169,6 +169,6 @@ one-most : (b : Bool) → oneIf b ≤ 1
 one-most true = omega arith
 one-most false = omega arith
 
-pub few-records : (e : Expected) (n : ℕ) → Kept e n → n ≤ 262
+pub few-records : (e : ExpectedNext) (n : ℕ) → Kept e n → n ≤ 262
 few-records e n k = let f = k .few in
     omega (arith, count-most (e .session) (k .ranges), one-most (isEnded (e .session .phase)))

@@ -10,15 +10,15 @@ use native.Mathlib.Omega.{arith}
 use lib.ListN.{length, getD, take}
 use lib.Seq.{length-take-le}
 use Rattle.basics.proofs.Laws.{if-ind}
-use Rattle.record.specs.declared.Session.{Session}
-use Rattle.record.specs.Session.{freshSession}
+use Rattle.session_record.specs.declared.Session.{Session}
+use Rattle.session_record.specs.Session.{freshSession}
 use Rattle.session.specs.Steps.{Step}
-use Rattle.trace.specs.Calls.{Call, step, isRefusal, play}
-use Rattle.trace.proofs.Rules.{no}
-use Rattle.trace.proofs.EveryCall.{Came}
-use Rattle.journal.specs.declared.Verdict.{Verdict}
-use Rattle.journal.specs.Record.{sizeOf, callRecord, journalOf, joined}
-use Rattle.journal.specs.Verdict.{Expected, expected, atFirst, judged, goesOn, verdictFrom, verdictOf}
+use Rattle.session_claim.specs.Calls.{Call, callStep, isRefusal, playCalls}
+use Rattle.session_claim.proofs.Rules.{no}
+use Rattle.session_claim.proofs.EveryCall.{Came}
+use Rattle.journal.specs.declared.JournalVerdict.{JournalVerdict}
+use Rattle.journal.specs.Record.{journalRecordSize, journalCallRecord, journalOf, concatenated}
+use Rattle.journal.specs.Verdict.{ExpectedNext, expectedNext, expectedAtStart, recordJudged, verdictContinues, verdictFrom, journalVerdictOf}
 use Rattle.journal.proofs.Walk.{ends, whole}
 use Rattle.journal.proofs.Kept.{call-came}
 use Rattle.journal.proofs.Few.{accepted-few}
@@ -27,24 +27,24 @@ use Rattle.journal.proofs.WrittenCall.{read, call-judged, due-there, du
 
 -- ---- right records, from what is due before them to what is due behind
 
-pub data Walks : Expected → List (List ℕ) → Expected → Type 0 where
-  done : {e : Expected} → Walks e [] e
-  next : {e t u : Expected} {r : List ℕ} {rs : List (List ℕ)} → 0 < length r → length r ≡ sizeOf (getD r 0 0) → judged e r ≡ some t → Walks t rs u
+pub data Walks : ExpectedNext → List (List ℕ) → ExpectedNext → Type 0 where
+  done : {e : ExpectedNext} → Walks e [] e
+  next : {e t u : ExpectedNext} {r : List ℕ} {rs : List (List ℕ)} → 0 < length r → length r ≡ journalRecordSize (getD r 0 0) → recordJudged e r ≡ some t → Walks t rs u
       → Walks e (r ∷ rs) u
 
-pub record Walked (e : Expected) (rs : List (List ℕ)) : Type 0 where
-  pub last : Expected
+pub record Walked (e : ExpectedNext) (rs : List (List ℕ)) : Type 0 where
+  pub last : ExpectedNext
   pub walks : Walks e rs last
 
 -- the verdict is that of the bytes behind
-pub verdict-behind : {e u : Expected} {rs : List (List ℕ)} (n : ℕ) (more : List ℕ) → Walks e rs u
-    → verdictFrom e n (joined rs ++ more) ≡ verdictFrom u (n + length rs) more
-unfolding joined
+pub verdict-behind : {e u : ExpectedNext} {rs : List (List ℕ)} (n : ℕ) (more : List ℕ) → Walks e rs u
+    → verdictFrom e n (concatenated rs ++ more) ≡ verdictFrom u (n + length rs) more
+unfolding concatenated
 verdict-behind {e} n more Walks.done = let g : n ≡ n + 0 = omega arith in ap (λ (m : ℕ). verdictFrom e m more) g
 verdict-behind {e} n more (Walks.next {t = t} {u = u} {r = r} {rs = rs} h z j w) =
     let g : n + 1 + length rs ≡ n + suc (length rs) = omega arith in
-    ap (verdictFrom e n) (append-assoc r (joined rs) more) ∙ whole e n r (joined rs ++ more) h z
-    ∙ ap (goesOn (λ x. verdictFrom x (n + 1) (joined rs ++ more)) (n + 1)) j ∙ verdict-behind (n + 1) more w
+    ap (verdictFrom e n) (append-assoc r (concatenated rs) more) ∙ whole e n r (concatenated rs ++ more) h z
+    ∙ ap (verdictContinues (λ x. verdictFrom x (n + 1) (concatenated rs ++ more)) (n + 1)) j ∙ verdict-behind (n + 1) more w
     ∙ ap (λ (m : ℕ). verdictFrom u m more) g
 
 -- ---- what calls write
@@ -55,18 +55,18 @@ refused-same (Came.ended y b o n) r = no r
 refused-same (Came.sent b p c l) r = no r
 
 abbrev AllWalked : Session → List (List ℕ) → Type 0
-AllWalked s rs = (m : ℕ) → Walked (expected s []) (take m rs)
+AllWalked s rs = (m : ℕ) → Walked (expectedNext s []) (take m rs)
 
 no-records : (s : Session) → AllWalked s []
-no-records s zero = record { last = expected s []; walks = Walks.done }
-no-records s (suc m) = record { last = expected s []; walks = Walks.done }
+no-records s zero = record { last = expectedNext s []; walks = Walks.done }
+no-records s (suc m) = record { last = expectedNext s []; walks = Walks.done }
 
-two-records : (s : Session) (c : Call) (r : isRefusal (step s c .reply .answer) ≡ false) (rs : List (List ℕ))
-    → AllWalked (step s c .reply .session) rs → AllWalked s (callRecord c ∷ dueBy (step s c) ∷ rs)
-two-records s c r rs k zero = record { last = expected s []; walks = Walks.done }
+two-records : (s : Session) (c : Call) (r : isRefusal (callStep s c .reply .answer) ≡ false) (rs : List (List ℕ))
+    → AllWalked (callStep s c .reply .session) rs → AllWalked s (journalCallRecord c ∷ dueBy (callStep s c) ∷ rs)
+two-records s c r rs k zero = record { last = expectedNext s []; walks = Walks.done }
 two-records s c r rs k (suc zero) =
     record {
-      last = expected (step s c .reply .session) (dueBy (step s c));
+      last = expectedNext (callStep s c .reply .session) (dueBy (callStep s c));
       walks = Walks.next (read s c r .there) (read s c r .sized) (call-judged s c r) Walks.done
     }
 two-records s c r rs k (suc (suc m)) =
@@ -78,24 +78,24 @@ two-records s c r rs k (suc (suc m)) =
     }
 
 -- a call that is refused leaves the session, and is not written
-pub all-walked : (s : Session) (cs : List Call) → AllWalked s (journalOf (play s cs))
-unfolding journalOf play
+pub all-walked : (s : Session) (cs : List Call) → AllWalked s (journalOf (playCalls s cs))
+unfolding journalOf playCalls
 all-walked s [] = no-records s
 all-walked s (c ∷ cs) =
-    if-ind (AllWalked s) (isRefusal (step s c .reply .answer)) _ _
-    (λ r. subst (λ (t : Session). AllWalked t (journalOf (play (step s c .reply .session) cs))) (refused-same (call-came s c) r) (all-walked (step s c .reply .session) cs))
-    (λ r. two-records s c r (journalOf (play (step s c .reply .session) cs)) (all-walked (step s c .reply .session) cs))
+    if-ind (AllWalked s) (isRefusal (callStep s c .reply .answer)) _ _
+    (λ r. subst (λ (t : Session). AllWalked t (journalOf (playCalls (callStep s c .reply .session) cs))) (refused-same (call-came s c) r) (all-walked (callStep s c .reply .session) cs))
+    (λ r. two-records s c r (journalOf (playCalls (callStep s c .reply .session) cs)) (all-walked (callStep s c .reply .session) cs))
 
 -- the first m records of what calls on a fresh session write, refused ones among them, are accepted, and m is their number
-pub written-accepted : (cs : List Call) (m : ℕ) → m ≤ length (journalOf (play freshSession cs))
-    → verdictOf (joined (take m (journalOf (play freshSession cs)))) ≡ Verdict.Accepted m
-unfolding verdictOf
+pub written-accepted : (cs : List Call) (m : ℕ) → m ≤ length (journalOf (playCalls freshSession cs))
+    → journalVerdictOf (concatenated (take m (journalOf (playCalls freshSession cs)))) ≡ JournalVerdict.Accepted m
+unfolding journalVerdictOf
 written-accepted cs m h =
-    let rs = take m (journalOf (play freshSession cs)) in
+    let rs = take m (journalOf (playCalls freshSession cs)) in
     let w = all-walked freshSession cs m in
-    let e : 0 + length rs ≡ m = omega (arith, length-take-le m (journalOf (play freshSession cs)) h) in
-    ap (verdictFrom atFirst 0) (sym (append-nil (joined rs))) ∙ verdict-behind 0 [] (w .walks) ∙ ends (w .last) (0 + length rs) ∙ ap Verdict.Accepted e
+    let e : 0 + length rs ≡ m = omega (arith, length-take-le m (journalOf (playCalls freshSession cs)) h) in
+    ap (verdictFrom expectedAtStart 0) (sym (append-nil (concatenated rs))) ∙ verdict-behind 0 [] (w .walks) ∙ ends (w .last) (0 + length rs) ∙ ap JournalVerdict.Accepted e
 
 -- so no calls write more than 262 records
-pub written-few : (cs : List Call) → length (journalOf (play freshSession cs)) ≤ 262
-written-few cs = accepted-few _ _ (written-accepted cs (length (journalOf (play freshSession cs))) (omega arith))
+pub written-few : (cs : List Call) → length (journalOf (playCalls freshSession cs)) ≤ 262
+written-few cs = accepted-few _ _ (written-accepted cs (length (journalOf (playCalls freshSession cs))) (omega arith))

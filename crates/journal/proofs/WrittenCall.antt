@@ -14,21 +14,21 @@ use Rattle.basics.specs.Choice.{if}
 use Rattle.basics.proofs.Laws.{if-yes, if-no, if-ind}
 use Rattle.basics.proofs.Order.{le-or-gt}
 use Rattle.basics.proofs.Alike.{alike-refl}
-use Rattle.record.specs.declared.Phase.{Phase}
-use Rattle.record.specs.declared.Session.{Session}
-use Rattle.record.specs.declared.Reply.{Reply}
-use Rattle.record.specs.Session.{stored}
-use Rattle.terminal.specs.Terminal.{Loaded}
-use Rattle.terminal.proofs.Ways.{load-long}
-use Rattle.session.specs.Steps.{Step, admitted}
+use Rattle.session_record.specs.declared.Phase.{Phase}
+use Rattle.session_record.specs.declared.Session.{Session}
+use Rattle.session_record.specs.declared.Reply.{Reply}
+use Rattle.session_record.specs.Session.{storeBytes}
+use Rattle.start_data.specs.StartData.{LoadedStore}
+use Rattle.start_data.proofs.Ways.{load-long}
+use Rattle.session.specs.Steps.{Step, admittedStep}
 use Rattle.session.specs.Start.{startLoaded, startIn, startStep}
 use Rattle.session.specs.Answer.{answerStep}
-use Rattle.trace.specs.Calls.{Call, start, answer, link-failed, stop, step, isRefusal}
-use Rattle.trace.proofs.Rules.{no}
-use Rattle.trace.proofs.Long.{answer-long}
-use Rattle.trace.proofs.EveryCall.{Came, buffer-length, start-came, answer-came, link-came, stop-came}
-use Rattle.journal.specs.Record.{sizeOf, sized, lent, longAnswer, callRecord, callFrom}
-use Rattle.journal.specs.Verdict.{expected, repliedBy, called, judged}
+use Rattle.session_claim.specs.Calls.{Call, start, answer, link-failed, stop, callStep, isRefusal}
+use Rattle.session_claim.proofs.Rules.{no}
+use Rattle.session_claim.proofs.Long.{answer-long}
+use Rattle.session_claim.proofs.EveryCall.{Came, buffer-length, start-came, answer-came, link-came, stop-came}
+use Rattle.journal.specs.Record.{journalRecordSize, lengthAndPadded, journalBuffer, longAnswer, journalCallRecord, callFrom}
+use Rattle.journal.specs.Verdict.{expectedNext, replyExpectedAfter, callJudged, recordJudged}
 use Rattle.journal.proofs.Due.{whole-is, reply-due}
 use Rattle.journal.proofs.Back.{start-back, answer-back, long-back, link-back, stop-back}
 use Rattle.journal.proofs.WrittenBuffer.{room, buffer-same, same-reply, same-due, dueBy}
@@ -37,15 +37,15 @@ use Rattle.journal.proofs.WrittenBuffer.{room, buffer-same, same-reply,
 
 module _ (s : Session) (v buf : List ℕ) (h : 1024 < length v) where
   over-in : (p : Phase) → isRefusal (startIn p s v buf .reply .answer) ≡ true
-  over-in Phase.Fresh = ap (λ (x : Loaded). isRefusal (startLoaded s buf x .reply .answer)) (load-long (stored s) v h)
-  over-in Phase.Options = refl
+  over-in Phase.Fresh = ap (λ (x : LoadedStore). isRefusal (startLoaded s buf x .reply .answer)) (load-long (storeBytes s) v h)
+  over-in Phase.Gpo = refl
   over-in (Phase.Record p) = refl
   over-in (Phase.Cryptogram a) = refl
   over-in (Phase.Checksum k) = refl
   over-in (Phase.Ended e) = refl
 
   start-over : isRefusal (startStep s v buf .reply .answer) ≡ true
-  unfolding admitted
+  unfolding admittedStep
   start-over = if-ind P _ _ _ (λ e. refl) (λ e. if-ind P _ _ _ (λ r. refl) (λ r. over-in (s .phase)))
     where
       P : Step → Type 0
@@ -55,27 +55,27 @@ module _ (s : Session) (v buf : List ℕ) (h : 1024 < length v) where
 
 pub record Read (s : Session) (c : Call) : Type 0 where
   pub call : Call
-  pub back : callFrom (callRecord c) ≡ some call
-  pub came : Came s lent (step s call)
-  pub reply : step s c .reply ≡ step s call .reply
-  pub due : dueBy (step s c) ≡ dueBy (step s call)
-  pub sized : length (callRecord c) ≡ sizeOf (getD (callRecord c) 0 0)
-  pub there : 0 < length (callRecord c)
+  pub back : callFrom (journalCallRecord c) ≡ some call
+  pub came : Came s journalBuffer (callStep s call)
+  pub reply : callStep s c .reply ≡ callStep s call .reply
+  pub due : dueBy (callStep s c) ≡ dueBy (callStep s call)
+  pub sized : length (journalCallRecord c) ≡ journalRecordSize (getD (journalCallRecord c) 0 0)
+  pub there : 0 < length (journalCallRecord c)
 
-lent-room : 261 ≤ length lent
+lent-room : 261 ≤ length journalBuffer
 lent-room = omega (arith, length-replicate {A = ℕ} 261 0)
 
-sized-length : (k n : ℕ) (v : List ℕ) → length v ≤ n → length (k ∷ sized n v) ≡ n + 3
+sized-length : (k n : ℕ) (v : List ℕ) → length v ≤ n → length (k ∷ lengthAndPadded n v) ≡ n + 3
 sized-length k n v h = omega (arith, length-append v (replicate (n - length v) 0), length-replicate {A = ℕ} (n - length v) 0)
 
 read-start : (s : Session) (v buf : List ℕ) → isRefusal (startStep s v buf .reply .answer) ≡ false → length v ≤ 1024 → Read s (start v buf)
-unfolding sizeOf if
+unfolding journalRecordSize if
 read-start s v buf r h =
-    let w = buffer-same s lent lent-room (start v buf) (room s (start v buf) r) in
+    let w = buffer-same s journalBuffer lent-room (start v buf) (room s (start v buf) r) in
     record {
-      call = start v lent;
+      call = start v journalBuffer;
       back = start-back v h;
-      came = start-came s v lent;
+      came = start-came s v journalBuffer;
       reply = same-reply w;
       due = same-due w;
       sized = sized-length 1 1024 v h;
@@ -83,13 +83,13 @@ read-start s v buf r h =
     }
 
 read-answer : (s : Session) (v buf : List ℕ) → isRefusal (answerStep s v buf .reply .answer) ≡ false → length v ≤ 258 → Read s (answer v buf)
-unfolding sizeOf if
+unfolding journalRecordSize if
 read-answer s v buf r h =
-    let w = buffer-same s lent lent-room (answer v buf) (room s (answer v buf) r) in
+    let w = buffer-same s journalBuffer lent-room (answer v buf) (room s (answer v buf) r) in
     record {
-      call = answer v lent;
+      call = answer v journalBuffer;
       back = answer-back v h;
-      came = answer-came s v lent;
+      came = answer-came s v journalBuffer;
       reply = same-reply w;
       due = same-due w;
       sized = ap (λ (b : List ℕ). length (2 ∷ b)) (if-yes _ _ (le-leb (length v) 258 h)) ∙ sized-length 2 258 v h;
@@ -97,22 +97,22 @@ read-answer s v buf r h =
     }
 
 read-long : (s : Session) (v buf : List ℕ) → isRefusal (answerStep s v buf .reply .answer) ≡ false → 258 < length v → Read s (answer v buf)
-unfolding sizeOf if
+unfolding journalRecordSize if
 read-long s v buf r h =
-    let w = buffer-same s lent lent-room (answer v buf) (room s (answer v buf) r) in
-    let e : answerStep s v lent ≡ answerStep s longAnswer lent = answer-long s v longAnswer lent h (omega (arith, length-replicate {A = ℕ} 259 0)) in
+    let w = buffer-same s journalBuffer lent-room (answer v buf) (room s (answer v buf) r) in
+    let e : answerStep s v journalBuffer ≡ answerStep s longAnswer journalBuffer = answer-long s v longAnswer journalBuffer h (omega (arith, length-replicate {A = ℕ} 259 0)) in
     record {
-      call = answer longAnswer lent;
+      call = answer longAnswer journalBuffer;
       back = long-back v h;
-      came = answer-came s longAnswer lent;
+      came = answer-came s longAnswer journalBuffer;
       reply = same-reply w ∙ ap (λ (st : Step). st .reply) e;
       due = same-due w ∙ ap dueBy e;
       sized = ap (λ (b : List ℕ). length (2 ∷ b)) (if-no _ _ (lt-leb (length v) 258 h));
       there = omega arith
     }
 
-pub read : (s : Session) (c : Call) → isRefusal (step s c .reply .answer) ≡ false → Read s c
-unfolding sizeOf if
+pub read : (s : Session) (c : Call) → isRefusal (callStep s c .reply .answer) ≡ false → Read s c
+unfolding journalRecordSize if
 read s (start v buf) r = elim (le-or-gt (length v) 1024) [
   | inl h ↦ read-start s v buf r h
   | inr h ↦ no (sym r ∙ start-over s v buf h)
@@ -122,49 +122,49 @@ read s (answer v buf) r = elim (le-or-gt (length v) 258) [
   | inr h ↦ read-long s v buf r h
 ]
 read s (link-failed buf) r =
-    let w = buffer-same s lent lent-room (link-failed buf) (room s (link-failed buf) r) in
-    record { call = link-failed lent; back = link-back; came = link-came s lent; reply = same-reply w; due = same-due w; sized = refl; there = omega arith }
+    let w = buffer-same s journalBuffer lent-room (link-failed buf) (room s (link-failed buf) r) in
+    record { call = link-failed journalBuffer; back = link-back; came = link-came s journalBuffer; reply = same-reply w; due = same-due w; sized = refl; there = omega arith }
 read s (stop buf) r =
-    let w = buffer-same s lent lent-room (stop buf) (room s (stop buf) r) in
-    record { call = stop lent; back = stop-back; came = stop-came s lent; reply = same-reply w; due = same-due w; sized = refl; there = omega arith }
+    let w = buffer-same s journalBuffer lent-room (stop buf) (room s (stop buf) r) in
+    record { call = stop journalBuffer; back = stop-back; came = stop-came s journalBuffer; reply = same-reply w; due = same-due w; sized = refl; there = omega arith }
 
 -- ---- its reply
 
 module _ {s : Session} where
-  reply-there : {st : Step} → Came s lent st → isRefusal (st .reply .answer) ≡ false → 0 < length (dueBy st)
+  reply-there : {st : Step} → Came s journalBuffer st → isRefusal (st .reply .answer) ≡ false → 0 < length (dueBy st)
   reply-there (Came.refused n) r = no (sym r)
   reply-there (Came.ended y b o n) r = omega arith
   reply-there (Came.sent b p c l) r = omega arith
 
-  pub reply-some : {st : Step} → Came s lent st → isRefusal (st .reply .answer) ≡ false
-      → repliedBy st ≡ some (expected (st .reply .session) (dueBy st))
+  pub reply-some : {st : Step} → Came s journalBuffer st → isRefusal (st .reply .answer) ≡ false
+      → replyExpectedAfter st ≡ some (expectedNext (st .reply .session) (dueBy st))
   reply-some (Came.refused n) r = no (sym r)
   reply-some (Came.ended y b o n) r = refl
   reply-some (Came.sent b p c l) r = refl
 
-  reply-sized : {st : Step} → Came s lent st → isRefusal (st .reply .answer) ≡ false → length (dueBy st) ≡ sizeOf (getD (dueBy st) 0 0)
-  unfolding sizeOf if
+  reply-sized : {st : Step} → Came s journalBuffer st → isRefusal (st .reply .answer) ≡ false → length (dueBy st) ≡ journalRecordSize (getD (dueBy st) 0 0)
+  unfolding journalRecordSize if
   reply-sized (Came.refused n) r = no (sym r)
   reply-sized (Came.ended y b o n) r = refl
   reply-sized (Came.sent b p c l) r =
-      ap length (sym (whole-is {s = s} (Came.sent b p c l))) ∙ (let e = buffer-length {s = s} {buf = lent} (Came.sent b p c l) in omega arith)
+      ap length (sym (whole-is {s = s} (Came.sent b p c l))) ∙ (let e = buffer-length {s = s} {buf = journalBuffer} (Came.sent b p c l) in omega arith)
 
 -- ---- the two records
 
-module _ (s : Session) (c : Call) (r : isRefusal (step s c .reply .answer) ≡ false) where
-  answered : isRefusal (step s (read s c r .call) .reply .answer) ≡ false
+module _ (s : Session) (c : Call) (r : isRefusal (callStep s c .reply .answer) ≡ false) where
+  answered : isRefusal (callStep s (read s c r .call) .reply .answer) ≡ false
   answered = sym (ap (λ (q : Reply). isRefusal (q .answer)) (read s c r .reply)) ∙ r
 
-  pub call-judged : judged (expected s []) (callRecord c) ≡ some (expected (step s c .reply .session) (dueBy (step s c)))
+  pub call-judged : recordJudged (expectedNext s []) (journalCallRecord c) ≡ some (expectedNext (callStep s c .reply .session) (dueBy (callStep s c)))
   call-judged =
-      ap (called s) (read s c r .back) ∙ reply-some (read s c r .came) answered
-      ∙ ap₂ (λ (q : Reply) (d : List ℕ). some (expected (q .session) d)) (sym (read s c r .reply)) (sym (read s c r .due))
+      ap (callJudged s) (read s c r .back) ∙ reply-some (read s c r .came) answered
+      ∙ ap₂ (λ (q : Reply) (d : List ℕ). some (expectedNext (q .session) d)) (sym (read s c r .reply)) (sym (read s c r .due))
 
-  pub due-there : 0 < length (dueBy (step s c))
+  pub due-there : 0 < length (dueBy (callStep s c))
   due-there = rw (read s c r .due) (reply-there (read s c r .came) answered)
 
-  pub due-sized : length (dueBy (step s c)) ≡ sizeOf (getD (dueBy (step s c)) 0 0)
+  pub due-sized : length (dueBy (callStep s c)) ≡ journalRecordSize (getD (dueBy (callStep s c)) 0 0)
   due-sized = rw (read s c r .due) (reply-sized (read s c r .came) answered)
 
-  pub due-judged : judged (expected (step s c .reply .session) (dueBy (step s c))) (dueBy (step s c)) ≡ some (expected (step s c .reply .session) [])
-  due-judged = reply-due (step s c .reply .session) (dueBy (step s c)) (dueBy (step s c)) due-there ∙ if-yes _ _ (alike-refl (dueBy (step s c)))
+  pub due-judged : recordJudged (expectedNext (callStep s c .reply .session) (dueBy (callStep s c))) (dueBy (callStep s c)) ≡ some (expectedNext (callStep s c .reply .session) [])
+  due-judged = reply-due (callStep s c .reply .session) (dueBy (callStep s c)) (dueBy (callStep s c)) due-there ∙ if-yes _ _ (alike-refl (dueBy (callStep s c)))

@@ -1,4 +1,4 @@
 pub mod Record
 pub mod Verdict
-pub mod Written
+pub mod ConformingRecords
 pub mod Inner

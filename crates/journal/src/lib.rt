@@ -1,48 +1,48 @@
 // Says whether the journal of a session could have come from a right kernel: `begin`, `feed` with parts of
-// any size, and `finish` at the end; `wanted` gives the right record where one is unlike.
+// any size, and `finish` at the end; `expected_record` gives the right record where one is unlike.
 //
 // A journal is records of one byte of kind and a body whose size the kind fixes. At most one record is
-// held, so a journal of any size needs the room of one `Checker`.
-use record::Answer;
-use record::OutcomeParameters;
-use record::Reply;
-use record::Session;
+// held, so a journal of any size needs the room of one `JournalChecker`.
+use session_record::CallResult;
+use session_record::OutcomeParameters;
+use session_record::Reply;
+use session_record::Session;
 ghost use mathlib.Core.Path.{_≡_};
 ghost use mathlib.Core.List.{List, [], _∷_, _++_};
 ghost use mathlib.Core.Option.{none};
 ghost use Prim.Native.Nat.{ℕ, _+_, _≤_, _<_};
 ghost use lib.ListN.{length, getD, take};
 ghost use Rattle.basics.specs.Choice.{every};
-ghost use Rattle.store.specs.Held.{isZero};
-ghost use Rattle.record.specs.Numbers.{outcomeNumber};
-ghost use Rattle.journal.specs.Record.{sizeOf, twoBytes, recordLength, fits as fitsIn, isLong, startFrom, answerFrom, callFrom};
-ghost use Rattle.journal.specs.Record.{linkFrom, stopFrom};
-ghost use Rattle.journal.specs.Verdict.{expected, replied as repliedOf, called as calledOf, judged, verdictOf, wantedOf};
-ghost use Rattle.journal.specs.Written.{Bytes, SaysOf, RightBytes, WrittenAccepted, AcceptedFew, WantedOnly, WantedEven};
-ghost use Rattle.journal.specs.Inner.{wholeRecord, dueIn, standingOf, standingBy};
-ghost use Rattle.journal.specs.Inner.{firstChecker, pushed, pushedAll, verdictAt, wantedAt, Follows};
+ghost use Rattle.store.specs.Held.{isZeroByte};
+ghost use Rattle.session_record.specs.Numbers.{outcomeNumber};
+ghost use Rattle.journal.specs.Record.{journalRecordSize, twoByteLength, recordLength, recordFits as fitsIn, isLongAnswer, startCallFrom, answerCallFrom, callFrom};
+ghost use Rattle.journal.specs.Record.{linkFailedFrom, stopCallFrom};
+ghost use Rattle.journal.specs.Verdict.{expectedNext, replyExpected as repliedOf, callJudged as calledOf, recordJudged, journalVerdictOf, expectedReplyOf};
+ghost use Rattle.journal.specs.ConformingRecords.{AllBytes, VerdictSays, ConformingBytes, ConformingAccepted, AcceptedFew, ExpectedOnly, ExpectedAtEven};
+ghost use Rattle.journal.specs.Inner.{replyRecordWithBuffer, expectedIn, checkStateOf, checkStateBy};
+ghost use Rattle.journal.specs.Inner.{firstChecker, checkerPushed, checkerPushedAll, checkerVerdict, checkerExpected, CheckerFollows};
 
 // What a journal is: accepted, with the number of its records; or the number of the first record that is
 // unlike what the rules give, or of the one that is cut. Records count from 1.
-pub enum Verdict {
+pub enum JournalVerdict {
     Accepted(usize),
-    Unlike(usize),
-    Cut(usize),
+    Mismatch(usize),
+    Truncated(usize),
 }
 
 // The session so far, and the reply's record that comes next, of size 0 where a call comes next; not right
 // once a record was unlike, with what was due there.
-pub struct Standing {
+pub struct CheckState {
     pub session: Session,
     pub due: [u8; 264],
     pub size: usize,
-    pub right: bool,
+    pub conforming: bool,
 }
 
 // A checker behind some bytes: the records seen, the one that is unlike counted in, and the part of a
 // record that is held.
-pub struct Checker {
-    pub standing: Standing,
+pub struct JournalChecker {
+    pub standing: CheckState,
     pub held: [u8; 1027],
     pub length: usize,
     pub records: usize,
@@ -50,14 +50,14 @@ pub struct Checker {
 
 // The one right record in the place of an unlike one, in the front of `bytes`; of size 0 where no record is
 // unlike, and where a call was due, as then none or more than one would be right.
-pub struct WantedRecord {
+pub struct ExpectedRecord {
     pub bytes: [u8; 264],
     pub size: usize,
 }
 
 // The size of a record by its kind, 0 where there is no such kind.
 pub fn size_of(kind: u8) -> usize
-    ensures { λ r. ⌜ r ≡ sizeOf kind ⌝ }
+    ensures { λ r. ⌜ r ≡ journalRecordSize kind ⌝ }
 {
     if kind == 1 {
         return 1027;
@@ -81,13 +81,13 @@ pub fn size_of(kind: u8) -> usize
 }
 
 // A checker that nothing was fed to.
-pub fn begin() -> Checker
+pub fn begin() -> JournalChecker
     ensures checker { λ r. ⌜ r ≡ firstChecker ⌝ }
-    ensures follows { λ r. ⌜ Follows r [] ⌝ }
+    ensures follows { λ r. ⌜ CheckerFollows r [] ⌝ }
 {
-    let session = record::fresh();
+    let session = session_record::fresh_session();
     let standing = waiting(session);
-    Checker {
+    JournalChecker {
         standing,
         held: [0u8; 1027],
         length: 0,
@@ -96,12 +96,12 @@ pub fn begin() -> Checker
 }
 
 // The checker behind one part more. Behind an unlike record nothing is looked at.
-pub fn feed(checker: Checker, part: &[u8]) -> Checker
-    ensures checker { λ r. ⌜ r ≡ pushedAll checker (now (part .entry)) ⌝ }
-    ensures follows { λ r. ⌜ ((s : List ℕ) → Follows checker s → Follows r (s ++ now (part .entry))) ⌝ }
+pub fn feed(checker: JournalChecker, part: &[u8]) -> JournalChecker
+    ensures checker { λ r. ⌜ r ≡ checkerPushedAll checker (now (part .entry)) ⌝ }
+    ensures follows { λ r. ⌜ ((s : List ℕ) → CheckerFollows checker s → CheckerFollows r (s ++ now (part .entry))) ⌝ }
 {
     let standing = checker.standing;
-    if !standing.right {
+    if !standing.conforming {
         return checker;
     }
     let mut next = checker;
@@ -114,54 +114,54 @@ pub fn feed(checker: Checker, part: &[u8]) -> Checker
 }
 
 // The verdict where the journal ends here.
-pub fn finish(checker: Checker) -> Verdict
-    ensures verdict { λ r. ⌜ r ≡ verdictAt checker ⌝ }
-    ensures follows { λ r. ⌜ ((s : List ℕ) → Follows checker s → r ≡ verdictOf s) ⌝ }
-    ensures right { λ r. ⌜ ((s : List ℕ) → Follows checker s → Bytes s → SaysOf s r) ⌝ }
-    ensures bytes { λ _. ⌜ RightBytes ⌝ }
-    ensures written { λ _. ⌜ WrittenAccepted ⌝ }
+pub fn finish(checker: JournalChecker) -> JournalVerdict
+    ensures verdict { λ r. ⌜ r ≡ checkerVerdict checker ⌝ }
+    ensures follows { λ r. ⌜ ((s : List ℕ) → CheckerFollows checker s → r ≡ journalVerdictOf s) ⌝ }
+    ensures conforming { λ r. ⌜ ((s : List ℕ) → CheckerFollows checker s → AllBytes s → VerdictSays s r) ⌝ }
+    ensures bytes { λ _. ⌜ ConformingBytes ⌝ }
+    ensures written { λ _. ⌜ ConformingAccepted ⌝ }
     ensures few { λ _. ⌜ AcceptedFew ⌝ }
 {
     let standing = checker.standing;
-    if !standing.right {
-        return Verdict::Unlike(checker.records);
+    if !standing.conforming {
+        return JournalVerdict::Mismatch(checker.records);
     }
     if checker.length == 0 {
-        return Verdict::Accepted(checker.records);
+        return JournalVerdict::Accepted(checker.records);
     }
     if 1000 <= checker.records {
-        return Verdict::Cut(checker.records);
+        return JournalVerdict::Truncated(checker.records);
     }
-    Verdict::Cut(checker.records + 1)
+    JournalVerdict::Truncated(checker.records + 1)
 }
 
 // The right record where one is unlike and a reply was due.
-pub fn wanted(checker: Checker) -> WantedRecord
-    ensures wanted { λ r. ⌜ r ≡ wantedAt checker ⌝ }
+pub fn expected_record(checker: JournalChecker) -> ExpectedRecord
+    ensures wanted { λ r. ⌜ r ≡ checkerExpected checker ⌝ }
     ensures size { λ r. ⌜ r .size ≤ 264 ⌝ }
-    ensures follows { λ r. ⌜ ((s : List ℕ) → Follows checker s → take (r .size) (r .bytes) ≡ wantedOf s) ⌝ }
-    ensures only { λ _. ⌜ WantedOnly ⌝ }
-    ensures even { λ _. ⌜ WantedEven ⌝ }
+    ensures follows { λ r. ⌜ ((s : List ℕ) → CheckerFollows checker s → take (r .size) (r .bytes) ≡ expectedReplyOf s) ⌝ }
+    ensures only { λ _. ⌜ ExpectedOnly ⌝ }
+    ensures even { λ _. ⌜ ExpectedAtEven ⌝ }
 {
     let standing = checker.standing;
     let size = standing.size;
-    if standing.right || 264 < size {
-        return WantedRecord {
+    if standing.conforming || 264 < size {
+        return ExpectedRecord {
             bytes: [0u8; 264],
             size: 0,
         };
     }
     let bytes = standing.due;
-    WantedRecord { bytes, size }
+    ExpectedRecord { bytes, size }
 }
 
 // The checker behind one byte more.
-fn push(checker: Checker, byte: u8) -> Checker
-    ensures { λ r. ⌜ r ≡ pushed checker byte ⌝ }
+fn push(checker: JournalChecker, byte: u8) -> JournalChecker
+    ensures { λ r. ⌜ r ≡ checkerPushed checker byte ⌝ }
 {
     let standing = checker.standing;
     let length = checker.length;
-    if !standing.right {
+    if !standing.conforming {
         return checker;
     }
     if 1027 <= length {
@@ -177,7 +177,7 @@ fn push(checker: Checker, byte: u8) -> Checker
     held[length] = byte;
     let size = size_of(held[0]);
     if length + 1 < size {
-        return Checker {
+        return JournalChecker {
             standing,
             held,
             length: length + 1,
@@ -185,7 +185,7 @@ fn push(checker: Checker, byte: u8) -> Checker
         };
     }
     let judged = judge(standing, &held[..size]);
-    Checker {
+    JournalChecker {
         standing: judged,
         held,
         length: 0,
@@ -194,9 +194,9 @@ fn push(checker: Checker, byte: u8) -> Checker
 }
 
 // A whole record, or an empty one in the place of an unknown kind, is judged by what is due.
-fn judge(standing: Standing, whole: &[u8]) -> Standing
-    requires { ⌜ (length (now whole) ≡ sizeOf (getD (now whole) 0 0)) × (standing .size ≤ 264) ⌝ }
-    ensures { λ r. ⌜ r ≡ standingBy standing (judged (dueIn standing) (now (whole .entry))) ⌝ }
+fn judge(standing: CheckState, whole: &[u8]) -> CheckState
+    requires { ⌜ (length (now whole) ≡ journalRecordSize (getD (now whole) 0 0)) × (standing .size ≤ 264) ⌝ }
+    ensures { λ r. ⌜ r ≡ checkStateBy standing (recordJudged (expectedIn standing) (now (whole .entry))) ⌝ }
 {
     let session = standing.session;
     let size = standing.size;
@@ -211,35 +211,35 @@ fn judge(standing: Standing, whole: &[u8]) -> Standing
 }
 
 // A call comes next.
-fn waiting(session: Session) -> Standing
-    ensures { λ r. ⌜ r ≡ standingOf (expected session []) ⌝ }
+fn waiting(session: Session) -> CheckState
+    ensures { λ r. ⌜ r ≡ checkStateOf (expectedNext session []) ⌝ }
 {
-    Standing {
+    CheckState {
         session,
         due: [0u8; 264],
         size: 0,
-        right: true,
+        conforming: true,
     }
 }
 
 // A record was unlike; what was due there stays.
-fn wrong(standing: Standing) -> Standing
-    ensures { λ r. ⌜ r ≡ standingBy standing none ⌝ }
+fn wrong(standing: CheckState) -> CheckState
+    ensures { λ r. ⌜ r ≡ checkStateBy standing none ⌝ }
 {
     let session = standing.session;
     let due = standing.due;
-    Standing {
+    CheckState {
         session,
         due,
         size: standing.size,
-        right: false,
+        conforming: false,
     }
 }
 
 // Where a call is due: the call is made, and its reply is due.
-fn called(standing: Standing, whole: &[u8]) -> Standing
-    requires { ⌜ length (now whole) ≡ sizeOf (getD (now whole) 0 0) ⌝ }
-    ensures { λ r. ⌜ r ≡ standingBy standing (calledOf (standing .session) (callFrom (now (whole .entry)))) ⌝ }
+fn called(standing: CheckState, whole: &[u8]) -> CheckState
+    requires { ⌜ length (now whole) ≡ journalRecordSize (getD (now whole) 0 0) ⌝ }
+    ensures { λ r. ⌜ r ≡ checkStateBy standing (calledOf (standing .session) (callFrom (now (whole .entry)))) ⌝ }
 {
     let kind = basics::byte_at(whole, 0);
     if kind == 1 {
@@ -258,9 +258,9 @@ fn called(standing: Standing, whole: &[u8]) -> Standing
 }
 
 // A start.
-fn started(standing: Standing, whole: &[u8]) -> Standing
+fn started(standing: CheckState, whole: &[u8]) -> CheckState
     requires { ⌜ length (now whole) ≡ 1027 ⌝ }
-    ensures { λ r. ⌜ r ≡ standingBy standing (calledOf (standing .session) (startFrom (now (whole .entry)))) ⌝ }
+    ensures { λ r. ⌜ r ≡ checkStateBy standing (calledOf (standing .session) (startCallFrom (now (whole .entry)))) ⌝ }
 {
     let session = standing.session;
     if !fits(whole, 1024) {
@@ -273,9 +273,9 @@ fn started(standing: Standing, whole: &[u8]) -> Standing
 }
 
 // A card answer.
-fn answered(standing: Standing, whole: &[u8]) -> Standing
+fn answered(standing: CheckState, whole: &[u8]) -> CheckState
     requires { ⌜ length (now whole) ≡ 261 ⌝ }
-    ensures { λ r. ⌜ r ≡ standingBy standing (calledOf (standing .session) (answerFrom (now (whole .entry)))) ⌝ }
+    ensures { λ r. ⌜ r ≡ checkStateBy standing (calledOf (standing .session) (answerCallFrom (now (whole .entry)))) ⌝ }
 {
     let session = standing.session;
     let mut buffer = [0u8; 261];
@@ -293,8 +293,8 @@ fn answered(standing: Standing, whole: &[u8]) -> Standing
 }
 
 // The link failed.
-fn link_failed(standing: Standing) -> Standing
-    ensures { λ r. ⌜ r ≡ standingBy standing (calledOf (standing .session) linkFrom) ⌝ }
+fn link_failed(standing: CheckState) -> CheckState
+    ensures { λ r. ⌜ r ≡ checkStateBy standing (calledOf (standing .session) linkFailedFrom) ⌝ }
 {
     let session = standing.session;
     let mut buffer = [0u8; 261];
@@ -303,8 +303,8 @@ fn link_failed(standing: Standing) -> Standing
 }
 
 // A stop.
-fn stopped(standing: Standing) -> Standing
-    ensures { λ r. ⌜ r ≡ standingBy standing (calledOf (standing .session) stopFrom) ⌝ }
+fn stopped(standing: CheckState) -> CheckState
+    ensures { λ r. ⌜ r ≡ checkStateBy standing (calledOf (standing .session) stopCallFrom) ⌝ }
 {
     let session = standing.session;
     let mut buffer = [0u8; 261];
@@ -328,7 +328,7 @@ fn fits(whole: &[u8], most: usize) -> bool
 // Length FF FF and a zero body.
 fn is_long(whole: &[u8]) -> bool
     requires { ⌜ 3 ≤ length (now whole) ⌝ }
-    ensures { λ r. ⌜ r ≡ isLong (now (whole .entry)) ⌝ }
+    ensures { λ r. ⌜ r ≡ isLongAnswer (now (whole .entry)) ⌝ }
 {
     if length_in(whole) != 65535 {
         return false;
@@ -340,14 +340,14 @@ fn is_long(whole: &[u8]) -> bool
 fn length_in(whole: &[u8]) -> usize
     ensures { λ r. ⌜ (r ≡ recordLength (now (whole .entry))) × (r < 65536) ⌝ }
 {
-    let high = basics::wide(basics::byte_at(whole, 1));
-    let low = basics::wide(basics::byte_at(whole, 2));
+    let high = basics::widen(basics::byte_at(whole, 1));
+    let low = basics::widen(basics::byte_at(whole, 2));
     high * 256 + low
 }
 
 // Every byte is zero.
 fn is_zero(v: &[u8]) -> bool
-    ensures { λ r. ⌜ r ≡ every isZero (now (v .entry)) ⌝ }
+    ensures { λ r. ⌜ r ≡ every isZeroByte (now (v .entry)) ⌝ }
 {
     let mut i = 0;
     while i < v.len() {
@@ -360,48 +360,48 @@ fn is_zero(v: &[u8]) -> bool
 }
 
 // What is due behind a call that handed this back with this buffer.
-fn due_of(standing: Standing, reply: Reply, buffer: [u8; 261]) -> Standing
-    ensures { λ r. ⌜ r ≡ standingBy standing (repliedOf (reply .session) (wholeRecord (reply .answer) buffer)) ⌝ }
+fn due_of(standing: CheckState, reply: Reply, buffer: [u8; 261]) -> CheckState
+    ensures { λ r. ⌜ r ≡ checkStateBy standing (repliedOf (reply .session) (replyRecordWithBuffer (reply .answer) buffer)) ⌝ }
 {
     let session = reply.session;
     let answer = reply.answer;
     match answer {
-        Answer::Command(issued) => command_due(session, issued.size, buffer),
-        Answer::Outcome(end) => outcome_due(session, end),
-        Answer::Refused(_) => wrong(standing),
+        CallResult::Command(issued) => command_due(session, issued.size, buffer),
+        CallResult::Outcome(end) => outcome_due(session, end),
+        CallResult::Refused(_) => wrong(standing),
     }
 }
 
 // A command's record is due.
-fn command_due(session: Session, size: usize, buffer: [u8; 261]) -> Standing
-    ensures { λ r. ⌜ r ≡ standingOf (expected session (5 ∷ (twoBytes size ++ buffer))) ⌝ }
+fn command_due(session: Session, size: usize, buffer: [u8; 261]) -> CheckState
+    ensures { λ r. ⌜ r ≡ checkStateOf (expectedNext session (5 ∷ (twoByteLength size ++ buffer))) ⌝ }
 {
     let mut due = [0u8; 264];
     due[0] = 5;
     due[1] = (size / 256 % 256) as u8;
     due[2] = (size % 256) as u8;
     bytes::copy(&buffer, &mut due[3..]);
-    Standing {
+    CheckState {
         session,
         due,
         size: 264,
-        right: true,
+        conforming: true,
     }
 }
 
 // An outcome's record is due.
-fn outcome_due(session: Session, end: OutcomeParameters) -> Standing
-    ensures { λ r. ⌜ r ≡ standingOf (expected session (6 ∷ outcomeNumber (end .outcome) ∷ end .reason ∷ [])) ⌝ }
+fn outcome_due(session: Session, end: OutcomeParameters) -> CheckState
+    ensures { λ r. ⌜ r ≡ checkStateOf (expectedNext session (6 ∷ outcomeNumber (end .outcome) ∷ end .reason ∷ [])) ⌝ }
 {
     let outcome = end.outcome;
     let mut due = [0u8; 264];
     due[0] = 6;
-    due[1] = record::outcome_number(outcome);
+    due[1] = session_record::outcome_number(outcome);
     due[2] = end.reason;
-    Standing {
+    CheckState {
         session,
         due,
         size: 3,
-        right: true,
+        conforming: true,
     }
 }

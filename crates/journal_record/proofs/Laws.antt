@@ -7,7 +7,7 @@ use native.Mathlib.Omega.{arith}
 use lib.ListN.{length, take, drop, set, replicate, length-append, length-drop, drop-of-length-le}
 use lib.Seq.{take-length, length-take-le, drop-drop}
 use borrow.Rule.Slice.PartMut.{putMid}
-use Rattle.journal.specs.Record.{twoBytes, zeroPadded, sized}
+use Rattle.journal.specs.Record.{twoByteLength, zeroPadded, lengthAndPadded}
 
 drop-zeros : (k n : ℕ) → drop {A = ℕ} k (replicate n 0) ≡ replicate (n - k) 0
 drop-zeros zero n = let e : n ≡ n - 0 = omega arith in ap (λ (m : ℕ). replicate m 0) e
@@ -15,10 +15,10 @@ drop-zeros (suc k) zero = let e : 0 ≡ 0 - suc k = omega arith in ap (λ (m : �
 drop-zeros (suc k) (suc n) = let e : n - k ≡ suc n - suc k = omega arith in drop-zeros k n ∙ ap (λ (m : ℕ). replicate m 0) e
 
 -- what stands behind v in n + 3 zeros, three bytes in front of it
-pub in-zeros : (k n : ℕ) (v l : List ℕ) → l ≡ k ∷ (twoBytes (length v) ++ (v ++ drop (length v + 3) (replicate (n + 3) 0))) → l ≡ k ∷ sized n v
+pub in-zeros : (k n : ℕ) (v l : List ℕ) → l ≡ k ∷ (twoByteLength (length v) ++ (v ++ drop (length v + 3) (replicate (n + 3) 0))) → l ≡ k ∷ lengthAndPadded n v
 in-zeros k n v l e =
     let z : n + 3 - (length v + 3) ≡ n - length v = omega arith in
-    e ∙ ap (λ (b : List ℕ). k ∷ (twoBytes (length v) ++ (v ++ b))) (drop-zeros (length v + 3) (n + 3) ∙ ap (λ (m : ℕ). replicate m 0) z)
+    e ∙ ap (λ (b : List ℕ). k ∷ (twoByteLength (length v) ++ (v ++ b))) (drop-zeros (length v + 3) (n + 3) ∙ ap (λ (m : ℕ). replicate m 0) z)
 
 -- three bytes stored and v copied behind them
 pub placed : (k x y : ℕ) (v l m : List ℕ) → length v + 3 ≤ length l
@@ -44,5 +44,5 @@ placed-length k x y v l m h e =
     ap length (placed k x y v l m h e) ∙ omega (arith, length-append v (drop (length v + 3) l), length-drop (length v + 3) l)
 
 -- the front of a buffer in a command's record
-pub front-in : (n : ℕ) (b l : List ℕ) → n ≤ length b → l ≡ 5 ∷ sized 261 (take n b) → l ≡ 5 ∷ (twoBytes n ++ zeroPadded 261 (take n b))
-front-in n b l h e = e ∙ ap (λ (i : ℕ). 5 ∷ (twoBytes i ++ zeroPadded 261 (take n b))) (length-take-le n b h)
+pub front-in : (n : ℕ) (b l : List ℕ) → n ≤ length b → l ≡ 5 ∷ lengthAndPadded 261 (take n b) → l ≡ 5 ∷ (twoByteLength n ++ zeroPadded 261 (take n b))
+front-in n b l h e = e ∙ ap (λ (i : ℕ). 5 ∷ (twoByteLength i ++ zeroPadded 261 (take n b))) (length-take-le n b h)

@@ -5,22 +5,22 @@ use mathlib.Core.List.{List, [], _∷_, _++_}
 use Prim.Native.Nat.{ℕ, _+_}
 use lib.ListN.{length, drop, replicate}
 use Rattle.basics.specs.Choice.{if_then_else_, _and_, _≤?_}
-use Rattle.record.specs.declared.Answer.{Answer}
-use Rattle.trace.specs.Calls.{start}
-use Rattle.journal.specs.Record.{mostStart, mostCommand, twoBytes, callRecord, replyRecord}
+use Rattle.session_record.specs.declared.CallResult.{CallResult}
+use Rattle.session_claim.specs.Calls.{start}
+use Rattle.journal.specs.Record.{mostStartInRecord, mostCommandInRecord, twoByteLength, journalCallRecord, journalReplyRecord}
 
 -- a start of more than 1,024 bytes is refused and has no record
-unfoldable pub startRecord : List ℕ → List ℕ
-startRecord v =
-    if length v ≤? mostStart then callRecord (start v [])
+unfoldable pub startRecordBytes : List ℕ → List ℕ
+startRecordBytes v =
+    if length v ≤? mostStartInRecord then journalCallRecord (start v [])
     else replicate 1027 0
 
 -- a command of n bytes in the front of a buffer; one that is longer than a record or the buffer is none
-unfoldable pub commandRecord : ℕ → List ℕ → List ℕ
-commandRecord n buf =
-    if n ≤? mostCommand and n ≤? length buf then replyRecord (Answer.Command (record { size = n })) buf
+unfoldable pub commandRecordBytes : ℕ → List ℕ → List ℕ
+commandRecordBytes n buf =
+    if n ≤? mostCommandInRecord and n ≤? length buf then journalReplyRecord (CallResult.Command (record { size = n })) buf
     else replicate 264 0
 
 -- kind, length in two bytes and the bytes v in front of the list l, whose bytes behind stay
-abbrev pub filledIn : ℕ → List ℕ → List ℕ → List ℕ
-filledIn kind v l = kind ∷ (twoBytes (length v) ++ (v ++ drop (length v + 3) l))
+abbrev pub recordFilledIn : ℕ → List ℕ → List ℕ → List ℕ
+recordFilledIn kind v l = kind ∷ (twoByteLength (length v) ++ (v ++ drop (length v + 3) l))

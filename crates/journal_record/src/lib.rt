@@ -2,19 +2,19 @@
 //
 // A record is one byte of kind and a body whose size the kind fixes. What stands in each is defined with the library
 // `journal`, which checks them.
-use record::OutcomeParameters;
+use session_record::OutcomeParameters;
 ghost use mathlib.Core.Path.{_≡_};
 ghost use mathlib.Core.List.{[]};
 ghost use Prim.Native.Nat.{_+_, _≤_};
 ghost use lib.ListN.{length};
-ghost use Rattle.record.specs.declared.Answer.{Answer};
-ghost use Rattle.trace.specs.Calls.{answer as anAnswer, link-failed as aFailure, stop as aStop};
-ghost use Rattle.journal.specs.Record.{callRecord, replyRecord};
-ghost use Rattle.journal_record.specs.Written.{startRecord, commandRecord, filledIn};
+ghost use Rattle.session_record.specs.declared.CallResult.{CallResult};
+ghost use Rattle.session_claim.specs.Calls.{answer as anAnswer, link-failed as aFailure, stop as aStop};
+ghost use Rattle.journal.specs.Record.{journalCallRecord, journalReplyRecord};
+ghost use Rattle.journal_record.specs.Written.{startRecordBytes, commandRecordBytes, recordFilledIn};
 
 // A start. More than 1,024 bytes are refused and have no record: zeros.
-pub fn start(bytes: &[u8]) -> [u8; 1027]
-    ensures { λ r. ⌜ r ≡ startRecord (now (bytes .entry)) ⌝ }
+pub fn start_record(bytes: &[u8]) -> [u8; 1027]
+    ensures { λ r. ⌜ r ≡ startRecordBytes (now (bytes .entry)) ⌝ }
 {
     let mut out = [0u8; 1027];
     if 1024 < bytes.len() {
@@ -25,8 +25,8 @@ pub fn start(bytes: &[u8]) -> [u8; 1027]
 }
 
 // A card answer; one of more than 258 bytes has length FF FF and a zero body.
-pub fn answer(card: &[u8]) -> [u8; 261]
-    ensures { λ r. ⌜ r ≡ callRecord (anAnswer (now (card .entry)) []) ⌝ }
+pub fn answer_record(card: &[u8]) -> [u8; 261]
+    ensures { λ r. ⌜ r ≡ journalCallRecord (anAnswer (now (card .entry)) []) ⌝ }
 {
     let mut out = [0u8; 261];
     if 258 < card.len() {
@@ -40,22 +40,22 @@ pub fn answer(card: &[u8]) -> [u8; 261]
 }
 
 // The link failed.
-pub fn link_failed() -> [u8; 1]
-    ensures { λ r. ⌜ r ≡ callRecord (aFailure []) ⌝ }
+pub fn link_failed_record() -> [u8; 1]
+    ensures { λ r. ⌜ r ≡ journalCallRecord (aFailure []) ⌝ }
 {
     [3]
 }
 
 // A stop.
-pub fn stop() -> [u8; 1]
-    ensures { λ r. ⌜ r ≡ callRecord (aStop []) ⌝ }
+pub fn stop_record() -> [u8; 1]
+    ensures { λ r. ⌜ r ≡ journalCallRecord (aStop []) ⌝ }
 {
     [4]
 }
 
 // A command that stands in the front of a buffer. One of more bytes than a record or the buffer has is none: zeros.
-pub fn command(size: usize, buffer: &[u8]) -> [u8; 264]
-    ensures { λ r. ⌜ r ≡ commandRecord size (now (buffer .entry)) ⌝ }
+pub fn command_record(size: usize, buffer: &[u8]) -> [u8; 264]
+    ensures { λ r. ⌜ r ≡ commandRecordBytes size (now (buffer .entry)) ⌝ }
 {
     let mut out = [0u8; 264];
     if 261 < size {
@@ -69,17 +69,17 @@ pub fn command(size: usize, buffer: &[u8]) -> [u8; 264]
 }
 
 // An outcome and its reason.
-pub fn outcome(end: OutcomeParameters) -> [u8; 3]
-    ensures { λ r. ⌜ r ≡ replyRecord (Answer.Outcome end) [] ⌝ }
+pub fn outcome_record(end: OutcomeParameters) -> [u8; 3]
+    ensures { λ r. ⌜ r ≡ journalReplyRecord (CallResult.Outcome end) [] ⌝ }
 {
     let outcome = end.outcome;
-    [6, record::outcome_number(outcome), end.reason]
+    [6, session_record::outcome_number(outcome), end.reason]
 }
 
 // Kind, length in two bytes and the bytes, in front of what stands there.
 fn fill(kind: u8, bytes: &[u8], out: &mut [u8])
     requires { ⌜ length (now bytes) + 3 ≤ length (now out) ⌝ }
-    ensures { λ _. ⌜ now (out .exit) ≡ filledIn kind (now (bytes .entry)) (now (out .entry)) ⌝ }
+    ensures { λ _. ⌜ now (out .exit) ≡ recordFilledIn kind (now (bytes .entry)) (now (out .entry)) ⌝ }
 {
     let n = bytes.len();
     out[0] = kind;

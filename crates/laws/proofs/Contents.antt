@@ -11,91 +11,91 @@ use native.Mathlib.Omega.{arith}
 use lib.ListN.{length}
 use borrow.Author.Tests.{eq-eqb}
 use Rattle.basics.proofs.Laws.{bool-cases, either-left, either-right}
-use Rattle.tlv.specs.Tree.{Forest, end, leaf, node, count}
+use Rattle.tlv.specs.Tree.{Forest, end, leaf, node, objectCount}
 use Rattle.tlv.proofs.Tree.{join, parse-join}
-use Rattle.dictionary.specs.Rows.{storeSize, cardRecord}
+use Rattle.dictionary.specs.Rows.{storeSize, inRecordResponse}
 use Rattle.reading.specs.declared.Awaited.{Awaited}
 use Rattle.reading.specs.declared.Awaited.the-variants.{Record}
-use Rattle.reading.specs.Taking.{Item, item, items, work, takeAll}
-use Rattle.reading.specs.Answer.{Outcome, outcome, templateBody, judged, takenParts, readTree}
+use Rattle.reading.specs.Taking.{PrimitiveItem, primitiveItem, primitiveItems, takeState, takeAll}
+use Rattle.reading.specs.Answer.{ReadingOutcome, readingOutcome, templateBody, storedIfAllowed, readParts, readTree}
 use Rattle.reading.proofs.Kept.{All}
 use Rattle.reading.proofs.Parts.{judged-yes, judged-no, template-right}
-use Rattle.laws.specs.Records.{brings, treeOf, ShareNoTag, readContents, Accepted, after, ContentsAgree}
+use Rattle.laws.specs.Records.{treeBrings, recordTree, ShareNoTag, readContents, ReadingAccepted, storeAfterReading, ContentsAgree}
 use Rattle.laws.proofs.Taking.{Run, run-is, run-of, run-join, past-lists}
 
 -- ---- the objects of a tree, by their tags
 
-all-join : (Q : Item → Type 0) (is js : List Item) → All Q is → All Q js → All Q (is ++ js)
+all-join : (Q : PrimitiveItem → Type 0) (is js : List PrimitiveItem) → All Q is → All Q js → All Q (is ++ js)
 all-join Q [] js h k = k
 all-join Q (i ∷ is) js h k = (h .0, all-join Q is js (h .1) k)
 
 -- what holds of every tag that a tree brings holds of its objects
-all-items : (Q : ℕ → Type 0) (a : ℕ) (f : Forest) → ((t : ℕ) → brings t f ≡ true → Q t) → All (λ i. Q (i .tag)) (items a f)
-unfolding brings items
+all-items : (Q : ℕ → Type 0) (a : ℕ) (f : Forest) → ((t : ℕ) → treeBrings t f ≡ true → Q t) → All (λ i. Q (i .tag)) (primitiveItems a f)
+unfolding treeBrings primitiveItems
 all-items Q a end h = tt
 all-items Q a (leaf t v r) h =
     (h t (either-left _ _ (eq-eqb t t refl)), all-items Q a r (λ u e. h u (either-right _ _ e)))
 all-items Q a (node t f r) h =
-    all-join (λ i. Q (i .tag)) (items t f) (items a r)
+    all-join (λ i. Q (i .tag)) (primitiveItems t f) (primitiveItems a r)
     (all-items Q t f (λ u e. h u (either-left _ _ e))) (all-items Q a r (λ u e. h u (either-right _ _ e)))
 
 -- the objects of two trees that share no tag
-apart : (f g : Forest) → ((t : ℕ) → brings t f ≡ true → brings t g ≡ true → ⊥)
-    → All (λ i. All (λ j. i .tag ≡ j .tag → ⊥) (items 0x70 g)) (items 0x70 f)
+apart : (f g : Forest) → ((t : ℕ) → treeBrings t f ≡ true → treeBrings t g ≡ true → ⊥)
+    → All (λ i. All (λ j. i .tag ≡ j .tag → ⊥) (primitiveItems 0x70 g)) (primitiveItems 0x70 f)
 apart f g h =
-    all-items (λ t. All (λ j. t ≡ j .tag → ⊥) (items 0x70 g)) 0x70 f
-    (λ t p. all-items (λ u. t ≡ u → ⊥) 0x70 g (λ u q e. h t p (subst (λ (n : ℕ). brings n g ≡ true) (sym e) q)))
+    all-items (λ t. All (λ j. t ≡ j .tag → ⊥) (primitiveItems 0x70 g)) 0x70 f
+    (λ t p. all-items (λ u. t ≡ u → ⊥) 0x70 g (λ u q e. h t p (subst (λ (n : ℕ). treeBrings n g ≡ true) (sym e) q)))
 
-items-join : (a : ℕ) (f g : Forest) → items a (join f g) ≡ items a f ++ items a g
-unfolding items join
+items-join : (a : ℕ) (f g : Forest) → primitiveItems a (join f g) ≡ primitiveItems a f ++ primitiveItems a g
+unfolding primitiveItems join
 items-join a end g = refl
-items-join a (leaf t v r) g = ap (λ (l : List Item). item a t v ∷ l) (items-join a r g)
-items-join a (node t f r) g = ap (λ (l : List Item). items t f ++ l) (items-join a r g) ∙ sym (append-assoc (items t f) (items a r) (items a g))
+items-join a (leaf t v r) g = ap (λ (l : List PrimitiveItem). primitiveItem a t v ∷ l) (items-join a r g)
+items-join a (node t f r) g = ap (λ (l : List PrimitiveItem). primitiveItems t f ++ l) (items-join a r g) ∙ sym (append-assoc (primitiveItems t f) (primitiveItems a r) (primitiveItems a g))
 
 -- ---- contents that are accepted: their tree, and its objects are all taken
 
 record Read (b c d : List ℕ) : Type 0 where
   tree : Forest
-  parsed : treeOf c ≡ some tree
-  run : Run cardRecord b (items 0x70 tree) d
+  parsed : recordTree c ≡ some tree
+  run : Run inRecordResponse b (primitiveItems 0x70 tree) d
 
 abbrev aRecord : Awaited
 aRecord = Record (record { number = 1 })
 
-by-tree : (b c : List ℕ) (f : Forest) → treeOf c ≡ some f → readContents c b ≡ judged b (1 + count f) (takeAll cardRecord (work true b) (items 0x70 f))
+by-tree : (b c : List ℕ) (f : Forest) → recordTree c ≡ some f → readContents c b ≡ storedIfAllowed b (1 + objectCount f) (takeAll inRecordResponse (takeState true b) (primitiveItems 0x70 f))
 by-tree b c f p =
     ap (λ (x : Option Forest). readTree aRecord b (templateBody 0x70 x)) p
-    ∙ ap (takenParts aRecord b (1 + count f)) (template-right aRecord 0x70 f refl)
+    ∙ ap (readParts aRecord b (1 + objectCount f)) (template-right aRecord 0x70 f refl)
 
-read-is : {b c d : List ℕ} (r : Read b c d) → readContents c b ≡ outcome 0 (1 + count (r .tree)) d
-read-is {b} {c} r = by-tree b c (r .tree) (r .parsed) ∙ judged-yes b _ (run-is cardRecord (r .run)) refl
+read-is : {b c d : List ℕ} (r : Read b c d) → readContents c b ≡ readingOutcome 0 (1 + objectCount (r .tree)) d
+read-is {b} {c} r = by-tree b c (r .tree) (r .parsed) ∙ judged-yes b _ (run-is inRecordResponse (r .run)) refl
 
-read-accepted : {b c d : List ℕ} → Read b c d → Accepted (readContents c) b
-read-accepted r = ap (λ (o : Outcome). o .reason) (read-is r)
+read-accepted : {b c d : List ℕ} → Read b c d → ReadingAccepted (readContents c) b
+read-accepted r = ap (λ (o : ReadingOutcome). o .reason) (read-is r)
 
-read-store : {b c d : List ℕ} → Read b c d → after (readContents c) b ≡ d
-read-store r = ap (λ (o : Outcome). o .store) (read-is r)
+read-store : {b c d : List ℕ} → Read b c d → storeAfterReading (readContents c) b ≡ d
+read-store r = ap (λ (o : ReadingOutcome). o .store) (read-is r)
 
-accepted-read : (b c : List ℕ) → length b ≡ storeSize → Accepted (readContents c) b → Read b c (after (readContents c) b)
-accepted-read b c l a = go (treeOf c) refl
+accepted-read : (b c : List ℕ) → length b ≡ storeSize → ReadingAccepted (readContents c) b → Read b c (storeAfterReading (readContents c) b)
+accepted-read b c l a = go (recordTree c) refl
   where
-    go : (x : Option Forest) → treeOf c ≡ x → Read b c (after (readContents c) b)
+    go : (x : Option Forest) → recordTree c ≡ x → Read b c (storeAfterReading (readContents c) b)
     go none p =
         let e : _≡_ {A = ℕ} 2 0 = sym (ap (λ (x : Option Forest). readTree aRecord b (templateBody 0x70 x) .reason) p) ∙ a in
         absurd (omega arith)
-    go (some f) p = elim (bool-cases (takeAll cardRecord (work true b) (items 0x70 f) .good)) [
+    go (some f) p = elim (bool-cases (takeAll inRecordResponse (takeState true b) (primitiveItems 0x70 f) .good)) [
       | inl g ↦
-          let w = takeAll cardRecord (work true b) (items 0x70 f) in
-          let e = by-tree b c f p ∙ judged-yes b (1 + count f) refl g in
+          let w = takeAll inRecordResponse (takeState true b) (primitiveItems 0x70 f) in
+          let e = by-tree b c f p ∙ judged-yes b (1 + objectCount f) refl g in
           record {
             tree = f;
             parsed = p;
             run =
-                subst (λ (d : List ℕ). Run cardRecord b (items 0x70 f) d) (sym (ap (λ (o : Outcome). o .store) e))
-                (run-of cardRecord b (items 0x70 f) (w .store) l (ap (λ t. work t (w .store)) g));
+                subst (λ (d : List ℕ). Run inRecordResponse b (primitiveItems 0x70 f) d) (sym (ap (λ (o : ReadingOutcome). o .store) e))
+                (run-of inRecordResponse b (primitiveItems 0x70 f) (w .store) l (ap (λ t. takeState t (w .store)) g));
           }
       | inr g ↦
-          let e : _≡_ {A = ℕ} 3 0 = sym (ap (λ (o : Outcome). o .reason) (by-tree b c f p ∙ judged-no b (1 + count f) refl g)) ∙ a in
+          let e : _≡_ {A = ℕ} 3 0 = sym (ap (λ (o : ReadingOutcome). o .reason) (by-tree b c f p ∙ judged-no b (1 + objectCount f) refl g)) ∙ a in
           absurd (omega arith)
     ]
 
@@ -104,18 +104,18 @@ read-join : {b c d x y : List ℕ} → Read b c x → (r : Read x d y) → Read 
 read-join {b} {c} {d} {x} {y} q r = record {
   tree = join (q .tree) (r .tree);
   parsed = parse-join 3 c d (q .tree) (r .tree) (q .parsed) (r .parsed);
-  run = subst (λ (is : List Item). Run cardRecord b is y) (sym (items-join 0x70 (q .tree) (r .tree))) (run-join cardRecord (q .run) (r .run));
+  run = subst (λ (is : List PrimitiveItem). Run inRecordResponse b is y) (sym (items-join 0x70 (q .tree) (r .tree))) (run-join inRecordResponse (q .run) (r .run));
 }
 
 -- ---- the law
 
-pub contents-agree : (b c d : List ℕ) → length b ≡ storeSize → ShareNoTag c d → Accepted (readContents c) b → Accepted (readContents d) b → ContentsAgree b c d
+pub contents-agree : (b c d : List ℕ) → length b ≡ storeSize → ShareNoTag c d → ReadingAccepted (readContents c) b → ReadingAccepted (readContents d) b → ContentsAgree b c d
 contents-agree b c d l share p q =
     let r = accepted-read b c l p in
     let s = accepted-read b d l q in
-    let z = past-lists cardRecord (apart (r .tree) (s .tree) (tags r s)) (r .run) (s .run) in
-    let second : Read (after (readContents c) b) d (z .0) = record { tree = s .tree; parsed = s .parsed; run = z .1 } in
-    let first : Read (after (readContents d) b) c (z .0) = record { tree = r .tree; parsed = r .parsed; run = z .2 } in
+    let z = past-lists inRecordResponse (apart (r .tree) (s .tree) (tags r s)) (r .run) (s .run) in
+    let second : Read (storeAfterReading (readContents c) b) d (z .0) = record { tree = s .tree; parsed = s .parsed; run = z .1 } in
+    let first : Read (storeAfterReading (readContents d) b) c (z .0) = record { tree = r .tree; parsed = r .parsed; run = z .2 } in
     let joined = read-join r second in
     let swapped = read-join s first in
     record {
@@ -124,6 +124,6 @@ contents-agree b c d l share p q =
       swapped = record { accepted = read-accepted swapped; store = read-store swapped ∙ sym (read-store second) };
     }
   where
-    tags : {x y : List ℕ} (r : Read b c x) (s : Read b d y) (t : ℕ) → brings t (r .tree) ≡ true → brings t (s .tree) ≡ true → ⊥
+    tags : {x y : List ℕ} (r : Read b c x) (s : Read b d y) (t : ℕ) → treeBrings t (r .tree) ≡ true → treeBrings t (s .tree) ≡ true → ⊥
     tags r s t e f =
         share t (rw (r .parsed) e) (rw (s .parsed) f)

@@ -8,23 +8,23 @@ use Prim.Native.Nat.{ℕ}
 use lib.ListN.{replicate}
 use Rattle.basics.specs.Recursion.{recurse, recurseBy}
 use Rattle.basics.specs.Choice.{if, both, either, every}
-use Rattle.basics.specs.Number.{numberFrom, nibbles}
-use Rattle.tlv.specs.Tag.{tagSize, secondByte, tagAt, firstByte, isTemplate, isPrivate}
-use Rattle.tlv.specs.Length.{lengthAt, oneByte}
+use Rattle.basics.specs.Number.{bigEndianFrom, nibbles}
+use Rattle.tlv.specs.Tag.{tagSize, tagSecondByte, tagAt, tagFirstByte, isTemplate, isPrivate}
+use Rattle.tlv.specs.Length.{lengthAt, lengthOneByte}
 use Rattle.tlv.specs.Object.{headerOf}
-use Rattle.tlv.specs.Tree.{count, nextOf, withLeaf, withNode, parse}
+use Rattle.tlv.specs.Tree.{objectCount, nextOf, withLeaf, withNode, parseTree}
 use Rattle.tlv.specs.Encoding.{tagBytes, lengthBytes}
-use Rattle.dictionary.specs.declared.Found.{Found}
-use Rattle.dictionary.specs.declared.Found.the-variants.{At, Unknown}
-use Rattle.dictionary.specs.Rows.{rows, storeSize, past, find, formB, formN, formCn}
-use Rattle.dictionary.specs.Form.{numeric, digitsFit, fitting}
-use Rattle.store.specs.Place.{offsetIn, placeAt, held, valueAt, putAt}
-use Rattle.reading.specs.declared.File.{File}
-use Rattle.reading.specs.Taking.{items, mayStand, mayCome, allowed, takeItem, takeNext, takeAll}
-use Rattle.reading.specs.Answer.{Outcome, bodyOf, templateParts, readBody, isRead, goodStatus, goodLength, readAnswer}
-use Rattle.data_list.specs.Entries.{withLength, entryAt, withEntry, along, listEntries}
-use Rattle.data_list.specs.Filling.{cut, padding, padded, fitted, entryBytes, fillingOf, filledBy, filled}
-use Rattle.laws.specs.Records.{brings, bringsIn, treeOf, readContents, readRecord, after, contentsOf, isRecord, recordOf}
+use Rattle.dictionary.specs.declared.RowFound.{RowFound}
+use Rattle.dictionary.specs.declared.RowFound.the-variants.{At, Unknown}
+use Rattle.dictionary.specs.Rows.{dictionaryRows, storeSize, rowPast, findRow, formB, formN, formCn}
+use Rattle.dictionary.specs.Form.{numeric, digitsFit, fitsRow}
+use Rattle.store.specs.Place.{rowOffset, rowPlace, placeValue, rowValue, putRow}
+use Rattle.reading.specs.declared.Sfi.{Sfi}
+use Rattle.reading.specs.Taking.{primitiveItems, allowedInTemplate, allowedInResponse, allowedNow, takeItem, takeNext, takeAll}
+use Rattle.reading.specs.Answer.{ReadingOutcome, responseBody, templateParts, readBody, isRead, isStatus9000, isResponseLength, readAnswer}
+use Rattle.dol.specs.Entries.{entryWithLength, dolEntryAt, entryBefore, entriesNext, dolEntries}
+use Rattle.dol.specs.Filling.{truncated, paddingByte, padded, fittedTo, dolEntryBytes, dolData, dolDataBy, dolFilled}
+use Rattle.laws.specs.Records.{treeBrings, bringsIn, recordTree, readContents, readRecordAnswer, storeAfterReading, recordContents, isRecordAnswer, shortestRecord}
 
 -- ---- stores
 
@@ -32,12 +32,12 @@ abbrev empty : List ℕ
 empty = replicate storeSize 0
 
 -- the store with a value in the row of a tag
-abbrev putFound : List ℕ → List ℕ → Found → List ℕ
+abbrev putFound : List ℕ → List ℕ → RowFound → List ℕ
 putFound b v Unknown = b
-putFound b v (At k) = putAt rows b k v
+putFound b v (At k) = putRow dictionaryRows b k v
 
 abbrev with : List ℕ → ℕ → List ℕ → List ℕ
-with b t v = putFound b v (find rows t)
+with b t v = putFound b v (findRow dictionaryRows t)
 
 -- ---- filling
 
@@ -45,41 +45,41 @@ abbrev amounts : List ℕ
 amounts = with (with empty 0x9F02 (0 ∷ 0 ∷ 0 ∷ 0 ∷ 0x12 ∷ 0x34 ∷ [])) 0x95 (0x80 ∷ 0 ∷ 0 ∷ 0x80 ∷ 0 ∷ [])
 
 -- 9F0202 and 9505: each alone, and joined
-amount-joined : map (filled rows amounts) ((0x9F ∷ 0x02 ∷ 2 ∷ []) ∷ (0x95 ∷ 5 ∷ []) ∷ (0x9F ∷ 0x02 ∷ 2 ∷ 0x95 ∷ 5 ∷ []) ∷ [])
+amount-joined : map (dolFilled dictionaryRows amounts) ((0x9F ∷ 0x02 ∷ 2 ∷ []) ∷ (0x95 ∷ 5 ∷ []) ∷ (0x9F ∷ 0x02 ∷ 2 ∷ 0x95 ∷ 5 ∷ []) ∷ [])
     ≡ some (0x12 ∷ 0x34 ∷ []) ∷ some (0x80 ∷ 0 ∷ 0 ∷ 0x80 ∷ 0 ∷ []) ∷ some (0x12 ∷ 0x34 ∷ 0x80 ∷ 0 ∷ 0 ∷ 0x80 ∷ 0 ∷ []) ∷ []
-unfolding filledBy fillingOf entryBytes cut padding padded fitted listEntries recurse recurseBy along entryAt withLength withEntry tagAt tagSize secondByte
-    firstByte isTemplate numberFrom if rows past find offsetIn placeAt held valueAt putAt
+unfolding dolDataBy dolData dolEntryBytes truncated paddingByte padded fittedTo dolEntries recurse recurseBy entriesNext dolEntryAt entryWithLength entryBefore tagAt tagSize tagSecondByte
+    tagFirstByte isTemplate bigEndianFrom if dictionaryRows rowPast findRow rowOffset rowPlace placeValue rowValue putRow
 amount-joined = refl
 
 -- 5A03 and 5A01: padded in the one, cut in the other
-number-joined : map (filled rows (with empty 0x5A (0x12 ∷ 0x34 ∷ []))) ((0x5A ∷ 3 ∷ []) ∷ (0x5A ∷ 1 ∷ []) ∷ (0x5A ∷ 3 ∷ 0x5A ∷ 1 ∷ []) ∷ [])
+number-joined : map (dolFilled dictionaryRows (with empty 0x5A (0x12 ∷ 0x34 ∷ []))) ((0x5A ∷ 3 ∷ []) ∷ (0x5A ∷ 1 ∷ []) ∷ (0x5A ∷ 3 ∷ 0x5A ∷ 1 ∷ []) ∷ [])
     ≡ some (0x12 ∷ 0x34 ∷ 0xFF ∷ []) ∷ some (0x12 ∷ []) ∷ some (0x12 ∷ 0x34 ∷ 0xFF ∷ 0x12 ∷ []) ∷ []
-unfolding filledBy fillingOf entryBytes cut padding padded fitted listEntries recurse recurseBy along entryAt withLength withEntry tagAt tagSize
-    firstByte isTemplate numberFrom if rows past find offsetIn placeAt held valueAt putAt
+unfolding dolDataBy dolData dolEntryBytes truncated paddingByte padded fittedTo dolEntries recurse recurseBy entriesNext dolEntryAt entryWithLength entryBefore tagAt tagSize
+    tagFirstByte isTemplate bigEndianFrom if dictionaryRows rowPast findRow rowOffset rowPlace placeValue rowValue putRow
 number-joined = refl
 
 -- a first list that is not whole: 9F is broken and 0202 fills to zeros, but joined they ask for 9F02
-first-broken : map (filled rows amounts) ((0x9F ∷ []) ∷ (0x02 ∷ 2 ∷ []) ∷ (0x9F ∷ 0x02 ∷ 2 ∷ []) ∷ [])
+first-broken : map (dolFilled dictionaryRows amounts) ((0x9F ∷ []) ∷ (0x02 ∷ 2 ∷ []) ∷ (0x9F ∷ 0x02 ∷ 2 ∷ []) ∷ [])
     ≡ none ∷ some (0 ∷ 0 ∷ []) ∷ some (0x12 ∷ 0x34 ∷ []) ∷ []
-unfolding filledBy fillingOf entryBytes cut padding padded fitted listEntries recurse recurseBy along entryAt withLength withEntry tagAt tagSize secondByte
-    firstByte isTemplate numberFrom if rows past find offsetIn placeAt held valueAt putAt
+unfolding dolDataBy dolData dolEntryBytes truncated paddingByte padded fittedTo dolEntries recurse recurseBy entriesNext dolEntryAt entryWithLength entryBefore tagAt tagSize tagSecondByte
+    tagFirstByte isTemplate bigEndianFrom if dictionaryRows rowPast findRow rowOffset rowPlace placeValue rowValue putRow
 first-broken = refl
 
 -- ---- contents
 
 -- the reasons and the stores of two contents: c and then d, d and then c, and joined in both ways
-abbrev ways : List ℕ → List ℕ → List ℕ → List Outcome
+abbrev ways : List ℕ → List ℕ → List ℕ → List ReadingOutcome
 ways b c d =
-    readContents d (after (readContents c) b)
-    ∷ readContents c (after (readContents d) b)
+    readContents d (storeAfterReading (readContents c) b)
+    ∷ readContents c (storeAfterReading (readContents d) b)
     ∷ readContents (c ++ d) b
     ∷ readContents (d ++ c) b
     ∷ []
 
-abbrev reasons : List Outcome → List ℕ
+abbrev reasons : List ReadingOutcome → List ℕ
 reasons os = map (λ o. o .reason) os
 
-abbrev stores : List Outcome → List (List ℕ)
+abbrev stores : List ReadingOutcome → List (List ℕ)
 stores os = map (λ o. o .store) os
 
 -- on a store b, c and d alone and in all ways: no reason, and one store
@@ -93,15 +93,15 @@ abbrev sequenceAndList : List ℕ
 sequenceAndList = with (with empty 0x5F34 (0x01 ∷ [])) 0x8C (0x9F ∷ 0x37 ∷ 0x04 ∷ [])
 
 plain : Agree empty (0x5F ∷ 0x34 ∷ 0x01 ∷ 0x01 ∷ []) (0x8C ∷ 0x03 ∷ 0x9F ∷ 0x37 ∷ 0x04 ∷ []) sequenceAndList
-unfolding parse recurse recurseBy nextOf headerOf tagAt tagSize secondByte lengthAt firstByte isTemplate isPrivate numberFrom if both every withLeaf withNode count
-    templateParts items takeAll takeNext takeItem rows past find allowed mayCome mayStand fitting digitsFit numeric nibbles offsetIn placeAt held valueAt putAt
+unfolding parseTree recurse recurseBy nextOf headerOf tagAt tagSize tagSecondByte lengthAt tagFirstByte isTemplate isPrivate bigEndianFrom if both every withLeaf withNode objectCount
+    templateParts primitiveItems takeAll takeNext takeItem dictionaryRows rowPast findRow allowedNow allowedInResponse allowedInTemplate fitsRow digitsFit numeric nibbles rowOffset rowPlace placeValue rowValue putRow
 plain = record { alone = refl; accepted = refl; same = refl }
 
 -- E1 in both, with a 70 in the one, an object that no row has in the other: E10670045F340101 and E103420141 8C039F3704
 nested : Agree empty (0xE1 ∷ 0x06 ∷ 0x70 ∷ 0x04 ∷ 0x5F ∷ 0x34 ∷ 0x01 ∷ 0x01 ∷ []) (0xE1 ∷ 0x03 ∷ 0x42 ∷ 0x01 ∷ 0x41 ∷ 0x8C ∷ 0x03 ∷ 0x9F ∷ 0x37 ∷ 0x04 ∷ [])
     sequenceAndList
-unfolding parse recurse recurseBy nextOf headerOf tagAt tagSize secondByte lengthAt firstByte isTemplate isPrivate numberFrom if both every withLeaf withNode count
-    templateParts items takeAll takeNext takeItem rows past find allowed mayCome mayStand fitting digitsFit numeric nibbles offsetIn placeAt held valueAt putAt
+unfolding parseTree recurse recurseBy nextOf headerOf tagAt tagSize tagSecondByte lengthAt tagFirstByte isTemplate isPrivate bigEndianFrom if both every withLeaf withNode objectCount
+    templateParts primitiveItems takeAll takeNext takeItem dictionaryRows rowPast findRow allowedNow allowedInResponse allowedInTemplate fitsRow digitsFit numeric nibbles rowOffset rowPlace placeValue rowValue putRow
 nested = record { alone = refl; accepted = refl; same = refl }
 
 -- 57 there and empty: 5701AA and 9F08020002
@@ -109,32 +109,32 @@ abbrev emptyTrack : List ℕ
 emptyTrack = with empty 0x57 []
 
 empty-there : Agree emptyTrack (0x57 ∷ 0x01 ∷ 0xAA ∷ []) (0x9F ∷ 0x08 ∷ 0x02 ∷ 0x00 ∷ 0x02 ∷ []) (with (with emptyTrack 0x57 (0xAA ∷ [])) 0x9F08 (0x00 ∷ 0x02 ∷ []))
-unfolding parse recurse recurseBy nextOf headerOf tagAt tagSize secondByte lengthAt firstByte isTemplate isPrivate numberFrom if both every withLeaf withNode count
-    templateParts items takeAll takeNext takeItem rows past find allowed mayCome mayStand fitting digitsFit numeric nibbles offsetIn placeAt held valueAt putAt
+unfolding parseTree recurse recurseBy nextOf headerOf tagAt tagSize tagSecondByte lengthAt tagFirstByte isTemplate isPrivate bigEndianFrom if both every withLeaf withNode objectCount
+    templateParts primitiveItems takeAll takeNext takeItem dictionaryRows rowPast findRow allowedNow allowedInResponse allowedInTemplate fitsRow digitsFit numeric nibbles rowOffset rowPlace placeValue rowValue putRow
 empty-there = record { alone = refl; accepted = refl; same = refl }
 
 -- a tag in both: 5700 and 5701AA are accepted alone, but the empty one not behind the other
 pub record Shared (b c d : List ℕ) (t : ℕ) : Type 0 where
-  first : bringsIn t (treeOf c) ≡ true
-  second : bringsIn t (treeOf d) ≡ true
+  first : bringsIn t (recordTree c) ≡ true
+  second : bringsIn t (recordTree d) ≡ true
   alone : reasons (readContents c b ∷ readContents d b ∷ []) ≡ 0 ∷ 0 ∷ []
   ordered : reasons (ways b c d) ≡ 0 ∷ 3 ∷ 0 ∷ 3 ∷ []
 
 shared : Shared empty (0x57 ∷ 0x00 ∷ []) (0x57 ∷ 0x01 ∷ 0xAA ∷ []) 0x57
-unfolding brings either parse recurse recurseBy nextOf headerOf tagAt tagSize secondByte lengthAt firstByte isTemplate isPrivate numberFrom if both every withLeaf withNode count
-    templateParts items takeAll takeNext takeItem rows past find allowed mayCome mayStand fitting digitsFit numeric nibbles offsetIn placeAt held valueAt putAt
+unfolding treeBrings either parseTree recurse recurseBy nextOf headerOf tagAt tagSize tagSecondByte lengthAt tagFirstByte isTemplate isPrivate bigEndianFrom if both every withLeaf withNode objectCount
+    templateParts primitiveItems takeAll takeNext takeItem dictionaryRows rowPast findRow allowedNow allowedInResponse allowedInTemplate fitsRow digitsFit numeric nibbles rowOffset rowPlace placeValue rowValue putRow
 shared = record { first = refl; second = refl; alone = refl; ordered = refl }
 
 -- the same with one of them inside a template: 70025700 and 5701AA
 shared-inside : Shared empty (0x70 ∷ 0x02 ∷ 0x57 ∷ 0x00 ∷ []) (0x57 ∷ 0x01 ∷ 0xAA ∷ []) 0x57
-unfolding brings either parse recurse recurseBy nextOf headerOf tagAt tagSize secondByte lengthAt firstByte isTemplate isPrivate numberFrom if both every withLeaf withNode count
-    templateParts items takeAll takeNext takeItem rows past find allowed mayCome mayStand fitting digitsFit numeric nibbles offsetIn placeAt held valueAt putAt
+unfolding treeBrings either parseTree recurse recurseBy nextOf headerOf tagAt tagSize tagSecondByte lengthAt tagFirstByte isTemplate isPrivate bigEndianFrom if both every withLeaf withNode objectCount
+    templateParts primitiveItems takeAll takeNext takeItem dictionaryRows rowPast findRow allowedNow allowedInResponse allowedInTemplate fitsRow digitsFit numeric nibbles rowOffset rowPlace placeValue rowValue putRow
 shared-inside = record { first = refl; second = refl; alone = refl; ordered = refl }
 
 -- ---- whole answers
 
-abbrev file : ℕ → File
-file n = record { number = n }
+abbrev sfi : ℕ → Sfi
+sfi n = record { number = n }
 
 -- a record of file 1 and one of file 10, whose length stands behind 81, and both in one of file 2
 abbrev one : List ℕ
@@ -146,28 +146,28 @@ other = 0x70 ∷ 0x81 ∷ 0x05 ∷ 0x8C ∷ 0x03 ∷ 0x9F ∷ 0x37 ∷ 0x04 ∷ 
 abbrev inOne : List ℕ
 inOne = 0x70 ∷ 0x09 ∷ 0x5F ∷ 0x34 ∷ 0x01 ∷ 0x01 ∷ 0x8C ∷ 0x03 ∷ 0x9F ∷ 0x37 ∷ 0x04 ∷ 0x90 ∷ 0x00 ∷ []
 
-abbrev answers : List Outcome
+abbrev answers : List ReadingOutcome
 answers =
-    readRecord (file 10) other (after (readRecord (file 1) one) empty)
-    ∷ readRecord (file 1) one (after (readRecord (file 10) other) empty)
-    ∷ readRecord (file 2) inOne empty
+    readRecordAnswer (sfi 10) other (storeAfterReading (readRecordAnswer (sfi 1) one) empty)
+    ∷ readRecordAnswer (sfi 1) one (storeAfterReading (readRecordAnswer (sfi 10) other) empty)
+    ∷ readRecordAnswer (sfi 2) inOne empty
     ∷ []
 
 pub record Answered : Type 0 where
-  contents : map contentsOf (one ∷ other ∷ inOne ∷ [])
+  contents : map recordContents (one ∷ other ∷ inOne ∷ [])
       ≡ (0x5F ∷ 0x34 ∷ 0x01 ∷ 0x01 ∷ []) ∷ (0x8C ∷ 0x03 ∷ 0x9F ∷ 0x37 ∷ 0x04 ∷ []) ∷ (0x5F ∷ 0x34 ∷ 0x01 ∷ 0x01 ∷ 0x8C ∷ 0x03 ∷ 0x9F ∷ 0x37 ∷ 0x04 ∷ []) ∷ []
   accepted : reasons answers ≡ 0 ∷ 0 ∷ 0 ∷ []
   same : stores answers ≡ replicate 3 sequenceAndList
 
 answered : Answered
-unfolding contentsOf readAnswer goodLength goodStatus isRead readBody bodyOf lengthAt oneByte parse recurse recurseBy nextOf headerOf tagAt tagSize secondByte firstByte isTemplate isPrivate
-    numberFrom if both every withLeaf withNode count templateParts items takeAll takeNext takeItem rows past find allowed mayCome mayStand fitting digitsFit numeric nibbles offsetIn placeAt held
-    valueAt putAt
+unfolding recordContents readAnswer isResponseLength isStatus9000 isRead readBody responseBody lengthAt lengthOneByte parseTree recurse recurseBy nextOf headerOf tagAt tagSize tagSecondByte tagFirstByte isTemplate isPrivate
+    bigEndianFrom if both every withLeaf withNode objectCount templateParts primitiveItems takeAll takeNext takeItem dictionaryRows rowPast findRow allowedNow allowedInResponse allowedInTemplate fitsRow digitsFit numeric nibbles rowOffset rowPlace placeValue
+    rowValue putRow
 answered = record { contents = refl; accepted = refl; same = refl }
 
 -- 253 bytes of contents, here padding, are an answer of 258 bytes; 254 are no answer
-edges : map (λ n. isRecord (recordOf (replicate n 0))) (253 ∷ 254 ∷ []) ≡ true ∷ false ∷ []
-unfolding isRecord contentsOf goodLength goodStatus headerOf tagAt tagSize lengthAt oneByte firstByte isTemplate isPrivate numberFrom if both tagBytes lengthBytes
+edges : map (λ n. isRecordAnswer (shortestRecord (replicate n 0))) (253 ∷ 254 ∷ []) ≡ true ∷ false ∷ []
+unfolding isRecordAnswer recordContents isResponseLength isStatus9000 headerOf tagAt tagSize lengthAt lengthOneByte tagFirstByte isTemplate isPrivate bigEndianFrom if both tagBytes lengthBytes
 edges = refl
 
 -- ---- padding
@@ -177,18 +177,18 @@ forms = formN ∷ formCn ∷ formB ∷ []
 
 -- 12 to two bytes and then to four, and at once
 pub record Twice : Type 0 where
-  twice : map (λ form. fitted form 4 (fitted form 2 (0x12 ∷ []))) forms ≡ (0 ∷ 0 ∷ 0 ∷ 0x12 ∷ []) ∷ (0x12 ∷ 0xFF ∷ 0xFF ∷ 0xFF ∷ []) ∷ (0x12 ∷ 0 ∷ 0 ∷ 0 ∷ []) ∷ []
-  once : map (λ form. fitted form 4 (0x12 ∷ [])) forms ≡ (0 ∷ 0 ∷ 0 ∷ 0x12 ∷ []) ∷ (0x12 ∷ 0xFF ∷ 0xFF ∷ 0xFF ∷ []) ∷ (0x12 ∷ 0 ∷ 0 ∷ 0 ∷ []) ∷ []
+  twice : map (λ form. fittedTo form 4 (fittedTo form 2 (0x12 ∷ []))) forms ≡ (0 ∷ 0 ∷ 0 ∷ 0x12 ∷ []) ∷ (0x12 ∷ 0xFF ∷ 0xFF ∷ 0xFF ∷ []) ∷ (0x12 ∷ 0 ∷ 0 ∷ 0 ∷ []) ∷ []
+  once : map (λ form. fittedTo form 4 (0x12 ∷ [])) forms ≡ (0 ∷ 0 ∷ 0 ∷ 0x12 ∷ []) ∷ (0x12 ∷ 0xFF ∷ 0xFF ∷ 0xFF ∷ []) ∷ (0x12 ∷ 0 ∷ 0 ∷ 0 ∷ []) ∷ []
 
 twice : Twice
-unfolding fitted cut padded padding if
+unfolding fittedTo truncated padded paddingByte if
 twice = record { twice = refl; once = refl }
 
 -- a first length below the value's: 1234 to one byte and then to two loses a byte, at once it stays
 pub record CutFirst : Type 0 where
-  twice : map (λ form. fitted form 2 (fitted form 1 (0x12 ∷ 0x34 ∷ []))) forms ≡ (0 ∷ 0x34 ∷ []) ∷ (0x12 ∷ 0xFF ∷ []) ∷ (0x12 ∷ 0 ∷ []) ∷ []
-  once : map (λ form. fitted form 2 (0x12 ∷ 0x34 ∷ [])) forms ≡ replicate 3 (0x12 ∷ 0x34 ∷ [])
+  twice : map (λ form. fittedTo form 2 (fittedTo form 1 (0x12 ∷ 0x34 ∷ []))) forms ≡ (0 ∷ 0x34 ∷ []) ∷ (0x12 ∷ 0xFF ∷ []) ∷ (0x12 ∷ 0 ∷ []) ∷ []
+  once : map (λ form. fittedTo form 2 (0x12 ∷ 0x34 ∷ [])) forms ≡ replicate 3 (0x12 ∷ 0x34 ∷ [])
 
 cut-first : CutFirst
-unfolding fitted cut padded padding if
+unfolding fittedTo truncated padded paddingByte if
 cut-first = record { twice = refl; once = refl }

@@ -19,16 +19,16 @@ use Rattle.tlv.specs.declared.TagFront.{TagFront}
 use Rattle.tlv.specs.declared.TagFront.the-variants.{Tagged, Untagged}
 use Rattle.tlv.specs.declared.LengthFront.{LengthFront}
 use Rattle.tlv.specs.declared.LengthFront.the-variants.{Sized, Unsized}
-use Rattle.tlv.specs.declared.Front.{Front}
-use Rattle.tlv.specs.declared.Front.the-variants.{Object, Broken}
+use Rattle.tlv.specs.declared.ObjectFront.{ObjectFront}
+use Rattle.tlv.specs.declared.ObjectFront.the-variants.{Object, Broken}
 use Rattle.tlv.specs.Tag.{tagSize, tagAt}
-use Rattle.tlv.specs.Length.{oneByte, twoBytes, lengthAt}
-use Rattle.tlv.specs.Object.{header, withLength, withTag, headerOf, valueIn}
+use Rattle.tlv.specs.Length.{lengthOneByte, lengthTwoBytes, lengthAt}
+use Rattle.tlv.specs.Object.{tlvHeader, headerWithLength, headerWithTag, headerOf, headerValue}
 use Rattle.tlv.specs.Encoding.{tagBytes, wellFormedTag, lengthBytes, objectBytes}
 use Rattle.tlv.proofs.Laws.{tag-fits}
 use Rattle.tlv.proofs.Encoding.{header-encoded}
-use Rattle.reading.specs.Answer.{goodStatus, goodLength}
-use Rattle.laws.specs.Records.{bodyBytes, contentsOf, isRecord, AnswerWith, recordOf}
+use Rattle.reading.specs.Answer.{isStatus9000, isResponseLength}
+use Rattle.laws.specs.Records.{answerBodyBytes, recordContents, isRecordAnswer, AnswerWith, shortestRecord}
 use Rattle.laws.proofs.Answers.{Outer, outer-of, outer-record, outer-contents}
 
 -- ---- contents of at most 253 bytes
@@ -60,46 +60,46 @@ module _ (c : List ℕ) (h : length c ≤ 253) where
   object-size : length object ≡ from + length c
   object-size = simp length-append (omega arith)
 
-  size : length (recordOf c) ≡ length object + 2
+  size : length (shortestRecord c) ≡ length object + 2
   size = length-append object status
 
-  body : bodyBytes (recordOf c) ≡ object
-  body = let e : length object ≡ length (recordOf c) - 2 = omega (arith, size) in take-at object status _ e
+  body : answerBodyBytes (shortestRecord c) ≡ object
+  body = let e : length object ≡ length (shortestRecord c) - 2 = omega (arith, size) in take-at object status _ e
 
-  good-length : goodLength (recordOf c) ≡ true
-  unfolding goodLength
+  good-length : isResponseLength (shortestRecord c) ≡ true
+  unfolding isResponseLength
   good-length =
-      both-yes _ _ (le-leb 2 (length (recordOf c)) (omega (arith, size)))
-      (le-leb (length (recordOf c)) 258 (omega (arith, size, object-size, one-byte, few-bytes (length c) (omega arith))))
+      both-yes _ _ (le-leb 2 (length (shortestRecord c)) (omega (arith, size)))
+      (le-leb (length (shortestRecord c)) 258 (omega (arith, size, object-size, one-byte, few-bytes (length c) (omega arith))))
 
-  good-status : goodStatus (recordOf c) ≡ true
-  unfolding goodStatus
+  good-status : isStatus9000 (shortestRecord c) ≡ true
+  unfolding isStatus9000
   good-status =
-      let x : length (recordOf c) - 2 ≡ length object + 0 = omega (arith, size) in
-      let y : length (recordOf c) - 1 ≡ length object + 1 = omega (arith, size) in
-      both-yes _ _ (ap (λ (i : ℕ). eqb (getD (recordOf c) i 0) 0x90) x ∙ ap (λ (n : ℕ). eqb n 0x90) (getD-append-add object status 0 0))
-      (ap (λ (i : ℕ). eqb (getD (recordOf c) i 0) 0) y ∙ ap (λ (n : ℕ). eqb n 0) (getD-append-add object status 1 0))
+      let x : length (shortestRecord c) - 2 ≡ length object + 0 = omega (arith, size) in
+      let y : length (shortestRecord c) - 1 ≡ length object + 1 = omega (arith, size) in
+      both-yes _ _ (ap (λ (i : ℕ). eqb (getD (shortestRecord c) i 0) 0x90) x ∙ ap (λ (n : ℕ). eqb n 0x90) (getD-append-add object status 0 0))
+      (ap (λ (i : ℕ). eqb (getD (shortestRecord c) i 0) 0) y ∙ ap (λ (n : ℕ). eqb n 0) (getD-append-add object status 1 0))
 
-  outer : Outer (recordOf c)
+  outer : Outer (shortestRecord c)
   outer = record {
     size = good-length;
     status = good-status;
-    header = header 0x70 from (length c);
+    header = tlvHeader 0x70 from (length c);
     front = ap headerOf (body ∙ sym (append-nil object)) ∙ header-encoded 0x70 c [] well-formed;
     tag = refl;
     end = sym (ap length body ∙ object-size);
   }
 
-  value : valueIn object (header 0x70 from (length c)) ≡ c
+  value : headerValue object (tlvHeader 0x70 from (length c)) ≡ c
   value =
       ap (take (length c)) (drop-append-add (tagBytes 0x70) (lengthBytes (length c) ++ c) (length (lengthBytes (length c)))
       ∙ drop-append-seam (lengthBytes (length c)) c) ∙ take-length c
 
-  pub room : AnswerWith (recordOf c) c
+  pub room : AnswerWith (shortestRecord c) c
   unfolding outer
   room = record {
-    whole = outer-record (recordOf c) outer;
-    contents = outer-contents (recordOf c) outer ∙ ap (λ (s : List ℕ). valueIn s (header 0x70 from (length c))) body ∙ value;
+    whole = outer-record (shortestRecord c) outer;
+    contents = outer-contents (shortestRecord c) outer ∙ ap (λ (s : List ℕ). headerValue s (tlvHeader 0x70 from (length c))) body ∙ value;
   }
 
 -- ---- no answer holds more
@@ -109,13 +109,13 @@ abbrev Low : LengthFront → Type 0
 Low Unsized = Unit {0}
 Low (Sized e) = e .size ≤ 1 → e .len < 0x80
 
-in-two : (s : List ℕ) → Low (oneByte s)
-unfolding oneByte
+in-two : (s : List ℕ) → Low (lengthOneByte s)
+unfolding lengthOneByte
 in-two [] = tt
 in-two (a ∷ s) = λ h. absurd (omega arith)
 
-in-three : (s : List ℕ) → Low (twoBytes s)
-unfolding twoBytes
+in-three : (s : List ℕ) → Low (lengthTwoBytes s)
+unfolding lengthTwoBytes
 in-three [] = tt
 in-three (a ∷ []) = tt
 in-three (a ∷ b ∷ s) = λ h. absurd (omega arith)
@@ -128,11 +128,11 @@ low (a ∷ s) =
     (λ _. if-ind Low _ _ _ (λ _. in-two s) (λ _. if-ind Low _ _ _ (λ _. in-three s) (λ _. tt)))
 
 -- so a value that starts at place 2 has fewer than 128 bytes
-abbrev LowFront : Front → Type 0
+abbrev LowFront : ObjectFront → Type 0
 LowFront Broken = Unit {0}
 LowFront (Object h) = h .start ≤ 2 → h .len < 0x80
 
-low-length : (s : List ℕ) (t : Tag) (x : LengthFront) → 1 ≤ t .size → Low x → LowFront (withLength s t x)
+low-length : (s : List ℕ) (t : Tag) (x : LengthFront) → 1 ≤ t .size → Low x → LowFront (headerWithLength s t x)
 low-length s t Unsized h l = tt
 low-length s t (Sized e) h l = if-ind LowFront _ _ _ (λ _ m. l (omega arith)) (λ _. tt)
 
@@ -140,19 +140,19 @@ low-front : (s : List ℕ) → LowFront (headerOf s)
 unfolding headerOf
 low-front s = go (tagAt s) refl
   where
-    go : (x : TagFront) → tagAt s ≡ x → LowFront (withTag s x)
+    go : (x : TagFront) → tagAt s ≡ x → LowFront (headerWithTag s x)
     go Untagged p = tt
     go (Tagged t) p = low-length s t (lengthAt (drop (t .size) s)) (tag-fits s t p .some) (low (drop (t .size) s))
 
-most : (s : List ℕ) → goodLength s ≡ true → length (bodyBytes s) ≤ 256
-unfolding goodLength
+most : (s : List ℕ) → isResponseLength s ≡ true → length (answerBodyBytes s) ≤ 256
+unfolding isResponseLength
 most s e = let h : length s ≤ 258 = leb-true _ _ (both-right _ _ e) in simp length-take (omega arith)
 
-pub most-held : (s : List ℕ) → isRecord s ≡ true → length (contentsOf s) ≤ 253
+pub most-held : (s : List ℕ) → isRecordAnswer s ≡ true → length (recordContents s) ≤ 253
 most-held s e =
     let o = outer-of s e in
     let m = most s (o .size) in
     let z = o .end in
-    let l : o .header .start ≤ 2 → o .header .len < 0x80 = rw (o .front) at (low-front (bodyBytes s)) in
+    let l : o .header .start ≤ 2 → o .header .len < 0x80 = rw (o .front) at (low-front (answerBodyBytes s)) in
     let n : o .header .len ≤ 253 = elim (le-or-gt (o .header .start) 2) [ inl h ↦ omega (arith, l h) | inr h ↦ omega arith ] in
     rw (outer-contents s o) (simp length-take (omega arith))

@@ -13,15 +13,15 @@ use lib.ListN.{length}
 use Rattle.basics.specs.Choice.{if, both}
 use Rattle.basics.proofs.Laws.{if-yes, if-no, bool-cases}
 use Rattle.tlv.specs.Tag.{isPrivate}
-use Rattle.dictionary.specs.declared.Found.{Found}
-use Rattle.dictionary.specs.declared.Found.the-variants.{At, Unknown}
-use Rattle.dictionary.specs.Rows.{rows, rowAt, find, rowCount, storeSize}
+use Rattle.dictionary.specs.declared.RowFound.{RowFound}
+use Rattle.dictionary.specs.declared.RowFound.the-variants.{At, Unknown}
+use Rattle.dictionary.specs.Rows.{dictionaryRows, rowAt, findRow, rowCount, storeSize}
 use Rattle.dictionary.proofs.Find.{found}
 use Rattle.dictionary.proofs.Fit.{fits-length}
-use Rattle.store.specs.Place.{Value, bytesOf, isFree, putAt}
+use Rattle.store.specs.Place.{StoredValue, bytesOfValue, isFree, putRow}
 use Rattle.store.proofs.Laws.{Fits, put-length, put-other, put-put}
 use Rattle.store.proofs.Rows.{rows-length, fits-row}
-use Rattle.reading.specs.Taking.{Item, byCard, mayCome, Work, work, takeItem, takeAll}
+use Rattle.reading.specs.Taking.{PrimitiveItem, cardMaySet, allowedInResponse, TakeState, takeState, takeItem, takeAll}
 use Rattle.reading.proofs.Laws.{item-unknown, item-skipped, item-barred, item-put, item-again, may-come-fits, next-good, next-bad}
 use Rattle.reading.proofs.Kept.{All}
 
@@ -29,131 +29,131 @@ module _ (answer : ℕ) where
   -- ---- what one object does
 
   -- it is put into row k where that is free
-  record Stored (i : Item) (k : ℕ) : Type 0 where
+  record Stored (i : PrimitiveItem) (k : ℕ) : Type 0 where
     row : k < rowCount
     tag : rowAt k .tag ≡ i .tag
     short : length (i .value) ≤ rowAt k .greatest
-    puts : (b : List ℕ) → takeItem answer b i ≡ work (isFree rows b k) (if (isFree rows b k) (putAt rows b k (i .value)) b)
+    puts : (b : List ℕ) → takeItem answer b i ≡ takeState (isFree dictionaryRows b k) (if (isFree dictionaryRows b k) (putRow dictionaryRows b k (i .value)) b)
 
-  data Effect (i : Item) : Type 0 where
-    skipped : ((b : List ℕ) → takeItem answer b i ≡ work true b) → Effect i
-    barred : ((b : List ℕ) → takeItem answer b i ≡ work false b) → Effect i
+  data Effect (i : PrimitiveItem) : Type 0 where
+    skipped : ((b : List ℕ) → takeItem answer b i ≡ takeState true b) → Effect i
+    barred : ((b : List ℕ) → takeItem answer b i ≡ takeState false b) → Effect i
     stored : (k : ℕ) → Stored i k → Effect i
 
-  effect : (i : Item) → Effect i
-  effect i = go (find rows (i .tag)) refl
+  effect : (i : PrimitiveItem) → Effect i
+  effect i = go (findRow dictionaryRows (i .tag)) refl
     where
-      known : (k : ℕ) → find rows (i .tag) ≡ At k → Effect i
-      known k e = elim (bool-cases (both (isPrivate (i .tag)) (not (byCard (rowAt k))))) [
-        | inl s ↦ skipped (λ b. item-skipped answer b i (find rows (i .tag)) refl k e s)
-        | inr s ↦ elim (bool-cases (mayCome answer (rowAt k) (i .around) (i .value))) [
+      known : (k : ℕ) → findRow dictionaryRows (i .tag) ≡ At k → Effect i
+      known k e = elim (bool-cases (both (isPrivate (i .tag)) (not (cardMaySet (rowAt k))))) [
+        | inl s ↦ skipped (λ b. item-skipped answer b i (findRow dictionaryRows (i .tag)) refl k e s)
+        | inr s ↦ elim (bool-cases (allowedInResponse answer (rowAt k) (i .around) (i .value))) [
           | inl m ↦
-              let f = found rows (i .tag) k e in
+              let f = found dictionaryRows (i .tag) k e in
               let l = fits-length (rowAt k) (i .value) (may-come-fits answer (rowAt k) (i .around) (i .value) m) in
               stored k (record {
                 row = omega (arith, rows-length);
                 tag = f .1;
                 short = l .1;
                 puts = λ b.
-                    elim (bool-cases (isFree rows b k))
-                    [ inl t ↦ item-put answer b i (find rows (i .tag)) refl k e s m t ∙ sym (ap₂ work t (if-yes _ _ t))
-                    | inr t ↦ item-again answer b i (find rows (i .tag)) refl k e s m t ∙ sym (ap₂ work t (if-no _ _ t))
+                    elim (bool-cases (isFree dictionaryRows b k))
+                    [ inl t ↦ item-put answer b i (findRow dictionaryRows (i .tag)) refl k e s m t ∙ sym (ap₂ takeState t (if-yes _ _ t))
+                    | inr t ↦ item-again answer b i (findRow dictionaryRows (i .tag)) refl k e s m t ∙ sym (ap₂ takeState t (if-no _ _ t))
                     ];
               })
-          | inr m ↦ barred (λ b. item-barred answer b i (find rows (i .tag)) refl k e s m)
+          | inr m ↦ barred (λ b. item-barred answer b i (findRow dictionaryRows (i .tag)) refl k e s m)
         ]
       ]
 
-      go : (x : Found) → find rows (i .tag) ≡ x → Effect i
-      go Unknown e = skipped (λ b. item-unknown answer b i (find rows (i .tag)) refl e)
+      go : (x : RowFound) → findRow dictionaryRows (i .tag) ≡ x → Effect i
+      go Unknown e = skipped (λ b. item-unknown answer b i (findRow dictionaryRows (i .tag)) refl e)
       go (At k) e = known k e
 
   -- a store of its size, and an object that it takes
-  pub record Takes (b : List ℕ) (i : Item) (c : List ℕ) : Type 0 where
+  pub record Takes (b : List ℕ) (i : PrimitiveItem) (c : List ℕ) : Type 0 where
     size : length b ≡ storeSize
-    is : takeItem answer b i ≡ work true c
+    is : takeItem answer b i ≡ takeState true c
 
   -- ---- a put that was made
 
-  module _ {b c : List ℕ} {i : Item} {k : ℕ} (s : Stored i k) (t : Takes b i c) where
-    fit : Fits rows b k (i .value)
+  module _ {b c : List ℕ} {i : PrimitiveItem} {k : ℕ} (s : Stored i k) (t : Takes b i c) where
+    fit : Fits dictionaryRows b k (i .value)
     fit = fits-row b k (i .value) (t .size) (s .row) (s .short)
 
-    same : work (isFree rows b k) (if (isFree rows b k) (putAt rows b k (i .value)) b) ≡ work true c
+    same : takeState (isFree dictionaryRows b k) (if (isFree dictionaryRows b k) (putRow dictionaryRows b k (i .value)) b) ≡ takeState true c
     same = sym (s .puts b) ∙ t .is
 
-    free : isFree rows b k ≡ true
-    free = ap (λ (w : Work). w .good) same
+    free : isFree dictionaryRows b k ≡ true
+    free = ap (λ (w : TakeState). w .good) same
 
-    written : putAt rows b k (i .value) ≡ c
-    written = sym (if-yes _ _ free) ∙ ap (λ (w : Work). w .store) same
+    written : putRow dictionaryRows b k (i .value) ≡ c
+    written = sym (if-yes _ _ free) ∙ ap (λ (w : TakeState). w .store) same
 
     sized : length c ≡ storeSize
-    sized = ap length (sym written) ∙ put-length rows b k (i .value) fit ∙ t .size
+    sized = ap length (sym written) ∙ put-length dictionaryRows b k (i .value) fit ∙ t .size
 
     -- another row is free as it was
-    other-free : (j : ℕ) → (j ≡ k → ⊥) → isFree rows c j ≡ isFree rows b j
+    other-free : (j : ℕ) → (j ≡ k → ⊥) → isFree dictionaryRows c j ≡ isFree dictionaryRows b j
     other-free j ne =
-        ap (λ (x : List ℕ). isFree rows x j) (sym written)
-        ∙ ap (λ (x : Value). eqb (length (bytesOf x)) 0) (put-other rows b k (i .value) fit j ne)
+        ap (λ (x : List ℕ). isFree dictionaryRows x j) (sym written)
+        ∙ ap (λ (x : StoredValue). eqb (length (bytesOfValue x)) 0) (put-other dictionaryRows b k (i .value) fit j ne)
 
   -- the object that is put where its row is free
-  puts-free : (b : List ℕ) {i : Item} {k : ℕ} (s : Stored i k) → isFree rows b k ≡ true → takeItem answer b i ≡ work true (putAt rows b k (i .value))
-  puts-free b {i} {k} s e = s .puts b ∙ ap₂ work e (if-yes _ _ e)
+  puts-free : (b : List ℕ) {i : PrimitiveItem} {k : ℕ} (s : Stored i k) → isFree dictionaryRows b k ≡ true → takeItem answer b i ≡ takeState true (putRow dictionaryRows b k (i .value))
+  puts-free b {i} {k} s e = s .puts b ∙ ap₂ takeState e (if-yes _ _ e)
 
   -- a refusal takes nothing
-  never : {b c : List ℕ} {i : Item} {A : Type 0} → ((x : List ℕ) → takeItem answer x i ≡ work false x) → Takes b i c → A
+  never : {b c : List ℕ} {i : PrimitiveItem} {A : Type 0} → ((x : List ℕ) → takeItem answer x i ≡ takeState false x) → Takes b i c → A
   never {b} {c} h t =
-      let e : work false b ≡ work true c = sym (h b) ∙ t .is in
-      let f : false ≡ true = ap (λ (w : Work). w .good) e in
+      let e : takeState false b ≡ takeState true c = sym (h b) ∙ t .is in
+      let f : false ≡ true = ap (λ (w : TakeState). w .good) e in
       let z : _≡_ {A = ℕ} 0 1 = cc in
       absurd (omega arith)
 
-  takes-size : {b c : List ℕ} {i : Item} → Takes b i c → length c ≡ storeSize
+  takes-size : {b c : List ℕ} {i : PrimitiveItem} → Takes b i c → length c ≡ storeSize
   takes-size {b} {c} {i} t = go (effect i)
     where
       go : Effect i → length c ≡ storeSize
-      go (skipped h) = let e : work true b ≡ work true c = sym (h b) ∙ t .is in ap (λ (w : Work). length (w .store)) (sym e) ∙ t .size
+      go (skipped h) = let e : takeState true b ≡ takeState true c = sym (h b) ∙ t .is in ap (λ (w : TakeState). length (w .store)) (sym e) ∙ t .size
       go (barred h) = never h t
       go (stored k s) = sized s t
 
   -- ---- two objects
 
   -- the store that both orders come to: j behind i, and i behind j
-  record Meets (c d : List ℕ) (i j : Item) : Type 0 where
+  record Meets (c d : List ℕ) (i j : PrimitiveItem) : Type 0 where
     store : List ℕ
     second : Takes c j store
     first : Takes d i store
 
   -- an object that does nothing
-  nothing : {b c d : List ℕ} {i j : Item} → ((x : List ℕ) → takeItem answer x i ≡ work true x) → Takes b i c → Takes b j d → Meets c d i j
+  nothing : {b c d : List ℕ} {i j : PrimitiveItem} → ((x : List ℕ) → takeItem answer x i ≡ takeState true x) → Takes b i c → Takes b j d → Meets c d i j
   nothing {b} {c} {d} {i} {j} h t u =
-      let e : work true b ≡ work true c = sym (h b) ∙ t .is in
-      let same-store : b ≡ c = ap (λ (w : Work). w .store) e in
+      let e : takeState true b ≡ takeState true c = sym (h b) ∙ t .is in
+      let same-store : b ≡ c = ap (λ (w : TakeState). w .store) e in
       record { store = d; second = subst (λ (x : List ℕ). Takes x j d) same-store u; first = record { size = takes-size u; is = h d } }
 
-  turned : {c d : List ℕ} {i j : Item} → Meets c d i j → Meets d c j i
+  turned : {c d : List ℕ} {i j : PrimitiveItem} → Meets c d i j → Meets d c j i
   turned m = record { store = m .store; second = m .first; first = m .second }
 
   -- two rows, which differ since the tags do
-  two-rows : {b c d : List ℕ} {i j : Item} {k l : ℕ} → (i .tag ≡ j .tag → ⊥) → Stored i k → Stored j l → Takes b i c → Takes b j d → Meets c d i j
+  two-rows : {b c d : List ℕ} {i j : PrimitiveItem} {k l : ℕ} → (i .tag ≡ j .tag → ⊥) → Stored i k → Stored j l → Takes b i c → Takes b j d → Meets c d i j
   two-rows {b} {c} {d} {i} {j} {k} {l} ne s s′ t u =
       record {
-        store = putAt rows c l (j .value);
+        store = putRow dictionaryRows c l (j .value);
         second = record { size = sized s t; is = puts-free c s′ (other-free s t l (λ e. apart-rows (sym e)) ∙ free s′ u) };
-        first = record { size = sized s′ u; is = puts-free d s (other-free s′ u k apart-rows ∙ free s t) ∙ ap (work true) meet };
+        first = record { size = sized s′ u; is = puts-free d s (other-free s′ u k apart-rows ∙ free s t) ∙ ap (takeState true) meet };
       }
     where
       apart-rows : k ≡ l → ⊥
       apart-rows e = ne (sym (s .tag) ∙ ap (λ (n : ℕ). rowAt n .tag) e ∙ s′ .tag)
 
-      meet : putAt rows d k (i .value) ≡ putAt rows c l (j .value)
+      meet : putRow dictionaryRows d k (i .value) ≡ putRow dictionaryRows c l (j .value)
       meet =
-          ap (λ (x : List ℕ). putAt rows x k (i .value)) (sym (written s′ u))
-          ∙ sym (put-put rows b k l (i .value) (j .value) apart-rows (fit s t) (fit s′ u))
-          ∙ ap (λ (x : List ℕ). putAt rows x l (j .value)) (written s t)
+          ap (λ (x : List ℕ). putRow dictionaryRows x k (i .value)) (sym (written s′ u))
+          ∙ sym (put-put dictionaryRows b k l (i .value) (j .value) apart-rows (fit s t) (fit s′ u))
+          ∙ ap (λ (x : List ℕ). putRow dictionaryRows x l (j .value)) (written s t)
 
-  swap : {b c d : List ℕ} {i j : Item} → (i .tag ≡ j .tag → ⊥) → Takes b i c → Takes b j d → Meets c d i j
+  swap : {b c d : List ℕ} {i j : PrimitiveItem} → (i .tag ≡ j .tag → ⊥) → Takes b i c → Takes b j d → Meets c d i j
   swap {b} {c} {d} {i} {j} ne t u = go (effect i) (effect j)
     where
       go : Effect i → Effect j → Meets c d i j
@@ -166,19 +166,19 @@ module _ (answer : ℕ) where
   -- ---- one object and a list, two lists
 
   -- the objects of a list are all taken, one after the other
-  pub data Run : List ℕ → List Item → List ℕ → Type 0 where
+  pub data Run : List ℕ → List PrimitiveItem → List ℕ → Type 0 where
     done : {b : List ℕ} → length b ≡ storeSize → Run b [] b
-    more : {b c d : List ℕ} {i : Item} {is : List Item} → Takes b i c → Run c is d → Run b (i ∷ is) d
+    more : {b c d : List ℕ} {i : PrimitiveItem} {is : List PrimitiveItem} → Takes b i c → Run c is d → Run b (i ∷ is) d
 
-  pub run-size : {b c : List ℕ} {is : List Item} → Run b is c → length c ≡ storeSize
+  pub run-size : {b c : List ℕ} {is : List PrimitiveItem} → Run b is c → length c ≡ storeSize
   run-size (done l) = l
   run-size (more t r) = run-size r
 
-  pub run-join : {b c d : List ℕ} {is js : List Item} → Run b is c → Run c js d → Run b (is ++ js) d
+  pub run-join : {b c d : List ℕ} {is js : List PrimitiveItem} → Run b is c → Run c js d → Run b (is ++ js) d
   run-join (done l) r = r
   run-join (more t q) r = more t (run-join q r)
 
-  past-list : {b c d : List ℕ} {i : Item} {js : List Item} → All (λ j. i .tag ≡ j .tag → ⊥) js → Takes b i c → Run b js d
+  past-list : {b c d : List ℕ} {i : PrimitiveItem} {js : List PrimitiveItem} → All (λ j. i .tag ≡ j .tag → ⊥) js → Takes b i c → Run b js d
       → (e : List ℕ) × Run c js e × Takes d i e
   past-list {c = c} a t (done l) = (c, done (takes-size t), t)
   past-list a t (more u r) =
@@ -186,7 +186,7 @@ module _ (answer : ℕ) where
       let p = past-list (a .1) (m .first) r in
       (p .0, more (m .second) (p .1), p .2)
 
-  pub past-lists : {b c d : List ℕ} {is js : List Item} → All (λ i. All (λ j. i .tag ≡ j .tag → ⊥) js) is → Run b is c → Run b js d
+  pub past-lists : {b c d : List ℕ} {is js : List PrimitiveItem} → All (λ i. All (λ j. i .tag ≡ j .tag → ⊥) js) is → Run b is c → Run b js d
       → (e : List ℕ) × Run c js e × Run d is e
   past-lists {d = d} a (done l) r = (d, r, done (run-size r))
   past-lists a (more t q) r =
@@ -196,37 +196,37 @@ module _ (answer : ℕ) where
 
   -- ---- as the reading takes them
 
-  pub run-is : {b c : List ℕ} {is : List Item} → Run b is c → takeAll answer (work true b) is ≡ work true c
+  pub run-is : {b c : List ℕ} {is : List PrimitiveItem} → Run b is c → takeAll answer (takeState true b) is ≡ takeState true c
   unfolding takeAll
   run-is (done l) = refl
-  run-is {b = b} (more {i = i} {is = is} t r) = ap (λ (w : Work). takeAll answer w is) (next-good answer b i refl ∙ t .is) ∙ run-is r
+  run-is {b = b} (more {i = i} {is = is} t r) = ap (λ (w : TakeState). takeAll answer w is) (next-good answer b i refl ∙ t .is) ∙ run-is r
 
-  bad-stays : (b : List ℕ) (is : List Item) → takeAll answer (work false b) is ≡ work false b
+  bad-stays : (b : List ℕ) (is : List PrimitiveItem) → takeAll answer (takeState false b) is ≡ takeState false b
   unfolding takeAll
   bad-stays b [] = refl
-  bad-stays b (i ∷ is) = ap (λ (w : Work). takeAll answer w is) (next-bad answer b i refl) ∙ bad-stays b is
+  bad-stays b (i ∷ is) = ap (λ (w : TakeState). takeAll answer w is) (next-bad answer b i refl) ∙ bad-stays b is
 
   -- the first object of a list that is taken whole, and the ones behind it
-  first-of : (b : List ℕ) (i : Item) (is : List Item) (c : List ℕ) → takeAll answer (work true b) (i ∷ is) ≡ work true c
-      → (d : List ℕ) × (takeItem answer b i ≡ work true d) × (takeAll answer (work true d) is ≡ work true c)
+  first-of : (b : List ℕ) (i : PrimitiveItem) (is : List PrimitiveItem) (c : List ℕ) → takeAll answer (takeState true b) (i ∷ is) ≡ takeState true c
+      → (d : List ℕ) × (takeItem answer b i ≡ takeState true d) × (takeAll answer (takeState true d) is ≡ takeState true c)
   unfolding takeAll
   first-of b i is c e = by (takeItem answer b i .good) (takeItem answer b i .store) refl
     where
-      behind : (w : Work) → takeItem answer b i ≡ w → takeAll answer w is ≡ work true c
-      behind w p = ap (λ (x : Work). takeAll answer x is) (sym p ∙ sym (next-good answer b i refl)) ∙ e
+      behind : (w : TakeState) → takeItem answer b i ≡ w → takeAll answer w is ≡ takeState true c
+      behind w p = ap (λ (x : TakeState). takeAll answer x is) (sym p ∙ sym (next-good answer b i refl)) ∙ e
 
-      by : (g : Bool) (d : List ℕ) → takeItem answer b i ≡ work g d
-          → (d : List ℕ) × (takeItem answer b i ≡ work true d) × (takeAll answer (work true d) is ≡ work true c)
-      by true d p = (d, p, behind (work true d) p)
+      by : (g : Bool) (d : List ℕ) → takeItem answer b i ≡ takeState g d
+          → (d : List ℕ) × (takeItem answer b i ≡ takeState true d) × (takeAll answer (takeState true d) is ≡ takeState true c)
+      by true d p = (d, p, behind (takeState true d) p)
       by false d p =
-          let f : work false d ≡ work true c = sym (bad-stays d is) ∙ behind (work false d) p in
-          let q : false ≡ true = ap (λ (w : Work). w .good) f in
+          let f : takeState false d ≡ takeState true c = sym (bad-stays d is) ∙ behind (takeState false d) p in
+          let q : false ≡ true = ap (λ (w : TakeState). w .good) f in
           let z : _≡_ {A = ℕ} 0 1 = cc in
           absurd (omega arith)
 
-  pub run-of : (b : List ℕ) (is : List Item) (c : List ℕ) → length b ≡ storeSize → takeAll answer (work true b) is ≡ work true c → Run b is c
+  pub run-of : (b : List ℕ) (is : List PrimitiveItem) (c : List ℕ) → length b ≡ storeSize → takeAll answer (takeState true b) is ≡ takeState true c → Run b is c
   unfolding takeAll
-  run-of b [] c l e = subst (Run b []) (ap (λ (w : Work). w .store) e) (done l)
+  run-of b [] c l e = subst (Run b []) (ap (λ (w : TakeState). w .store) e) (done l)
   run-of b (i ∷ is) c l e =
       let f = first-of b i is c e in
       let t : Takes b i (f .0) = record { size = l; is = f .1 } in

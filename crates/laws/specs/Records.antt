@@ -9,112 +9,112 @@ use Prim.Native.Nat.{ℕ, _+_, _-_, _≤_}
 use lib.ListN.{length, take}
 use Rattle.basics.specs.Choice.{_and_, _or_, _=?_}
 use Rattle.basics.specs.Reason.{reasonNone}
-use Rattle.tlv.specs.declared.Front.{Front}
-use Rattle.tlv.specs.declared.Front.the-variants.{Object, Broken}
-use Rattle.tlv.specs.Object.{headerOf, valueIn}
-use Rattle.tlv.specs.Tree.{Forest, end, leaf, node, parse}
+use Rattle.tlv.specs.declared.ObjectFront.{ObjectFront}
+use Rattle.tlv.specs.declared.ObjectFront.the-variants.{Object, Broken}
+use Rattle.tlv.specs.Object.{headerOf, headerValue}
+use Rattle.tlv.specs.Tree.{Forest, end, leaf, node, parseTree}
 use Rattle.tlv.specs.Encoding.{objectBytes}
-use Rattle.reading.specs.declared.File.{File}
+use Rattle.reading.specs.declared.Sfi.{Sfi}
 use Rattle.reading.specs.declared.Awaited.the-variants.{Record}
-use Rattle.reading.specs.Answer.{Outcome, templateBody, readTree, goodStatus, goodLength, readAnswer}
+use Rattle.reading.specs.Answer.{ReadingOutcome, templateBody, readTree, isStatus9000, isResponseLength, readAnswer}
 
 -- ---- tags
 
 -- one of a tree's primitive objects, at any depth, has the tag
-unfoldable pub brings : ℕ → Forest → Bool
-brings tag end = false
-brings tag (leaf t v r) = t =? tag or brings tag r
-brings tag (node t f r) = brings tag f or brings tag r
+unfoldable pub treeBrings : ℕ → Forest → Bool
+treeBrings tag end = false
+treeBrings tag (leaf t v r) = t =? tag or treeBrings tag r
+treeBrings tag (node t f r) = treeBrings tag f or treeBrings tag r
 
 -- the same of what bytes parse to; malformed bytes bring nothing
 abbrev pub bringsIn : ℕ → Option Forest → Bool
 bringsIn tag none = false
-bringsIn tag (some f) = brings tag f
+bringsIn tag (some f) = treeBrings tag f
 
 -- the tree of a record's contents: inside its template three of the four levels are left
-abbrev pub treeOf : List ℕ → Option Forest
-treeOf c = parse 3 c
+abbrev pub recordTree : List ℕ → Option Forest
+recordTree c = parseTree 3 c
 
 -- no tag of a primitive object is in both contents; a template's tag may be
 abbrev pub ShareNoTag : List ℕ → List ℕ → Type 0
-ShareNoTag c d = (tag : ℕ) → bringsIn tag (treeOf c) ≡ true → bringsIn tag (treeOf d) ≡ true → ⊥
+ShareNoTag c d = (tag : ℕ) → bringsIn tag (recordTree c) ≡ true → bringsIn tag (recordTree d) ≡ true → ⊥
 
 -- ---- readings
 
 -- the contents c read into the store b: what a template 70 around them gives, whatever their length; `readTree` does not
 -- look at the file's number
-abbrev pub readContents : List ℕ → List ℕ → Outcome
-readContents c b = readTree (Record (record { number = 1 })) b (templateBody 0x70 (treeOf c))
+abbrev pub readContents : List ℕ → List ℕ → ReadingOutcome
+readContents c b = readTree (Record (record { number = 1 })) b (templateBody 0x70 (recordTree c))
 
 -- the whole answer s, status bytes included, for a record of a file, read into the store b
-abbrev pub readRecord : File → List ℕ → List ℕ → Outcome
-readRecord file s b = readAnswer (Record file) b s
+abbrev pub readRecordAnswer : Sfi → List ℕ → List ℕ → ReadingOutcome
+readRecordAnswer sfi s b = readAnswer (Record sfi) b s
 
 -- a reading gives no reason on the store b
-abbrev pub Accepted : (List ℕ → Outcome) → List ℕ → Type 0
-Accepted reading b = reading b .reason ≡ reasonNone
+abbrev pub ReadingAccepted : (List ℕ → ReadingOutcome) → List ℕ → Type 0
+ReadingAccepted reading b = reading b .reason ≡ reasonNone
 
 -- the store that a reading leaves of the store b
-abbrev pub after : (List ℕ → Outcome) → List ℕ → List ℕ
-after reading b = reading b .store
+abbrev pub storeAfterReading : (List ℕ → ReadingOutcome) → List ℕ → List ℕ
+storeAfterReading reading b = reading b .store
 
 -- two readings, one after the other: both are accepted in both orders, and the store is the same, byte for byte
-pub record EitherOrder (first second : List ℕ → Outcome) (b : List ℕ) : Type 0 where
-  pub behind-first : Accepted second (after first b)
-  pub behind-second : Accepted first (after second b)
-  pub store : after second (after first b) ≡ after first (after second b)
+pub record EitherOrder (first second : List ℕ → ReadingOutcome) (b : List ℕ) : Type 0 where
+  pub behind-first : ReadingAccepted second (storeAfterReading first b)
+  pub behind-second : ReadingAccepted first (storeAfterReading second b)
+  pub store : storeAfterReading second (storeAfterReading first b) ≡ storeAfterReading first (storeAfterReading second b)
 
 -- one reading in the place of two: it is accepted, and leaves the store that the two leave
-pub record InOne (whole first second : List ℕ → Outcome) (b : List ℕ) : Type 0 where
-  pub accepted : Accepted whole b
-  pub store : after whole b ≡ after second (after first b)
+pub record InOneReading (whole first second : List ℕ → ReadingOutcome) (b : List ℕ) : Type 0 where
+  pub accepted : ReadingAccepted whole b
+  pub store : storeAfterReading whole b ≡ storeAfterReading second (storeAfterReading first b)
 
 -- what holds of the contents c and d on the store b: read in either order, and joined in one content in either order
 pub record ContentsAgree (b c d : List ℕ) : Type 0 where
   pub orders : EitherOrder (readContents c) (readContents d) b
-  pub joined : InOne (readContents (c ++ d)) (readContents c) (readContents d) b
-  pub swapped : InOne (readContents (d ++ c)) (readContents c) (readContents d) b
+  pub joined : InOneReading (readContents (c ++ d)) (readContents c) (readContents d) b
+  pub swapped : InOneReading (readContents (d ++ c)) (readContents c) (readContents d) b
 
 -- ---- whole answers
 
 -- an answer without its two status bytes
-abbrev pub bodyBytes : List ℕ → List ℕ
-bodyBytes s = take (length s - 2) s
+abbrev pub answerBodyBytes : List ℕ → List ℕ
+answerBodyBytes s = take (length s - 2) s
 
 -- the value of the object at the front; none where no object stands there
-abbrev pub contentsIn : List ℕ → Front → List ℕ
+abbrev pub contentsIn : List ℕ → ObjectFront → List ℕ
 contentsIn s Broken = []
-contentsIn s (Object h) = valueIn s h
+contentsIn s (Object h) = headerValue s h
 
 -- the contents of an answer's outer object
-unfoldable pub contentsOf : List ℕ → List ℕ
-contentsOf s = contentsIn (bodyBytes s) (headerOf (bodyBytes s))
+unfoldable pub recordContents : List ℕ → List ℕ
+recordContents s = contentsIn (answerBodyBytes s) (headerOf (answerBodyBytes s))
 
 -- the object at the front is a template 70, and all there is
-abbrev pub is70 : List ℕ → Front → Bool
-is70 s Broken = false
-is70 s (Object h) = h .tag =? 0x70 and h .start + h .len =? length s
+abbrev pub isTemplate70 : List ℕ → ObjectFront → Bool
+isTemplate70 s Broken = false
+isTemplate70 s (Object h) = h .tag =? 0x70 and h .start + h .len =? length s
 
 -- a whole record answer: 2 to 258 bytes, the last two 90 00, and before them one template 70
-unfoldable pub isRecord : List ℕ → Bool
-isRecord s = goodLength s and goodStatus s and is70 (bodyBytes s) (headerOf (bodyBytes s))
+unfoldable pub isRecordAnswer : List ℕ → Bool
+isRecordAnswer s = isResponseLength s and isStatus9000 s and isTemplate70 (answerBodyBytes s) (headerOf (answerBodyBytes s))
 
 -- a whole record answer with these contents, their length in any of its encodings
 pub record AnswerWith (s c : List ℕ) : Type 0 where
-  pub whole : isRecord s ≡ true
-  pub contents : contentsOf s ≡ c
+  pub whole : isRecordAnswer s ≡ true
+  pub contents : recordContents s ≡ c
 
 -- the shortest one: 70, the length in as few bytes as it needs, the contents, 90 00
-abbrev pub recordOf : List ℕ → List ℕ
-recordOf c = objectBytes 0x70 c ++ (0x90 ∷ 0x00 ∷ [])
+abbrev pub shortestRecord : List ℕ → List ℕ
+shortestRecord c = objectBytes 0x70 c ++ (0x90 ∷ 0x00 ∷ [])
 
 -- what holds of the answers s and t for records of two files on the store b: read in either order, and as one answer
 -- with the contents of both, in either order, for a record of any file up to 10
-pub record AnswersAgree (f g : File) (b s t : List ℕ) : Type 0 where
-  pub orders : EitherOrder (readRecord f s) (readRecord g t) b
-  pub joined : (h : File) (u : List ℕ) → h .number ≤ 10 → AnswerWith u (contentsOf s ++ contentsOf t)
-      → InOne (readRecord h u) (readRecord f s) (readRecord g t) b
-  pub swapped : (h : File) (u : List ℕ) → h .number ≤ 10 → AnswerWith u (contentsOf t ++ contentsOf s)
-      → InOne (readRecord h u) (readRecord f s) (readRecord g t) b
+pub record AnswersAgree (f g : Sfi) (b s t : List ℕ) : Type 0 where
+  pub orders : EitherOrder (readRecordAnswer f s) (readRecordAnswer g t) b
+  pub joined : (h : Sfi) (u : List ℕ) → h .number ≤ 10 → AnswerWith u (recordContents s ++ recordContents t)
+      → InOneReading (readRecordAnswer h u) (readRecordAnswer f s) (readRecordAnswer g t) b
+  pub swapped : (h : Sfi) (u : List ℕ) → h .number ≤ 10 → AnswerWith u (recordContents t ++ recordContents s)
+      → InOneReading (readRecordAnswer h u) (readRecordAnswer f s) (readRecordAnswer g t) b
 
--- ---- what holds of it: the promises of `most_contents`, proved in proofs/ (Contents and, under it, Taking; Answers, Room)
+-- ---- what holds of it: the promises of `records_in_any_order`, proved in proofs/ (Contents and, under it, Taking; Answers, Room)

@@ -1,4 +1,4 @@
--- The lists behind `encode`, `put_head` and `decode`: six bytes set one by one, the limit's eight and a store behind them, and both copied
+-- The lists behind `encode_record`, `put_head` and `decode_record`: six bytes set one by one, the limit's eight and a store behind them, and both copied
 -- out again.
 -- Assumes nothing.
 use mathlib.Core.Path.{_≡_, refl, sym, ap, _∙_}
@@ -9,12 +9,12 @@ use lib.ListN.{length, getD, set, take, drop, length-append, length-take, length
 use lib.Seq.{take-all, drop-at, drop-drop, length-take-le}
 use borrow.Author.Tests.{le-leb, lt-leb, leb-true}
 use borrow.Rule.Slice.PartMut.{putMid, same-len-mid}
-use Rattle.basics.specs.Number.{numberFrom, number}
+use Rattle.basics.specs.Number.{bigEndianFrom, bigEndian}
 use Rattle.basics.proofs.Laws.{if-yes, if-no, if-ind}
 use Rattle.dictionary.specs.Rows.{storeSize}
-use Rattle.record.specs.declared.Phase.{Phase}
-use Rattle.record.specs.Session.{sessionOf}
-use Rattle.layout.specs.Layout.{headSize, recordSize, headOf, encoded, withRecord, withHead}
+use Rattle.session_record.specs.declared.Phase.{Phase}
+use Rattle.session_record.specs.Session.{sessionOf}
+use Rattle.layout.specs.Layout.{headSize, recordSize, recordHead, encodedSession, withSessionRecord, withRecordHead}
 
 -- six bytes set one by one in front of a list that has them
 pub set-head : (l : List ℕ) (v n d r k m : ℕ) → 6 ≤ length l
@@ -33,35 +33,35 @@ pub set-limit : (l m : List ℕ) (v n d r k x : ℕ)
 set-limit l m v n d r k x = ap (λ (t : List ℕ). (v ∷ n ∷ d ∷ r ∷ k ∷ x ∷ m) ++ t) (drop-drop 8 6 l)
 
 module _ (l : List ℕ) (p : Phase) (n : ℕ) where
-  pub headed-yes : recordSize ≤ length l → withHead p n l ≡ headOf p n ++ drop headSize l
-  unfolding withHead
+  pub headed-yes : recordSize ≤ length l → withRecordHead p n l ≡ recordHead p n ++ drop headSize l
+  unfolding withRecordHead
   headed-yes h = if-yes _ _ (le-leb recordSize (length l) h)
 
-  pub headed-no : length l < recordSize → withHead p n l ≡ l
-  unfolding withHead
+  pub headed-no : length l < recordSize → withRecordHead p n l ≡ l
+  unfolding withRecordHead
   headed-no h = if-no _ _ (lt-leb recordSize (length l) h)
 
-  pub headed-length : length (withHead p n l) ≡ length l
-  unfolding withHead
+  pub headed-length : length (withRecordHead p n l) ≡ length l
+  unfolding withRecordHead
   headed-length =
       if-ind (λ (x : List ℕ). length x ≡ length l) _ _ _
       (λ t. let h = leb-true recordSize (length l) t in simp (length-append, length-drop) (omega arith)) (λ t. refl)
 
 -- a head and then the store behind it, or the store and then the head before it: the record of a session, and what lay behind it
 module _ (l b : List ℕ) (p : Phase) (n : ℕ) (h : recordSize ≤ length l) (e : length b ≡ storeSize) where
-  record-is : headOf p n ++ (b ++ drop storeSize (drop headSize l)) ≡ withRecord (sessionOf p n b) l
-  unfolding withRecord encoded
-  record-is = ap (λ (x : List ℕ). headOf p n ++ (b ++ x)) (drop-drop storeSize headSize l) ∙ sym (if-yes _ _ (le-leb recordSize (length l) h))
+  record-is : recordHead p n ++ (b ++ drop storeSize (drop headSize l)) ≡ withSessionRecord (sessionOf p n b) l
+  unfolding withSessionRecord encodedSession
+  record-is = ap (λ (x : List ℕ). recordHead p n ++ (b ++ x)) (drop-drop storeSize headSize l) ∙ sym (if-yes _ _ (le-leb recordSize (length l) h))
 
-  pub put-store : putMid headSize storeSize (withHead p n l) b ≡ withRecord (sessionOf p n b) l
+  pub put-store : putMid headSize storeSize (withRecordHead p n l) b ≡ withSessionRecord (sessionOf p n b) l
   put-store = ap (λ (x : List ℕ). putMid headSize storeSize x b) (headed-yes l p n h) ∙ record-is
 
-  pub put-head : withHead p n (putMid headSize storeSize l b) ≡ withRecord (sessionOf p n b) l
+  pub put-head : withRecordHead p n (putMid headSize storeSize l b) ≡ withSessionRecord (sessionOf p n b) l
   put-head =
       let size : length b ≡ length (take storeSize (drop headSize l)) = simp (length-take, length-drop) (omega arith) in
       let enough : recordSize ≤ length (putMid headSize storeSize l b) = rw (same-len-mid headSize storeSize l b size) h in
       headed-yes (putMid headSize storeSize l b) p n enough
-      ∙ ap (λ (x : List ℕ). headOf p n ++ x) (drop-at (take headSize l) (b ++ drop storeSize (drop headSize l)) headSize (length-take-le headSize l (omega arith)))
+      ∙ ap (λ (x : List ℕ). recordHead p n ++ x) (drop-at (take headSize l) (b ++ drop storeSize (drop headSize l)) headSize (length-take-le headSize l (omega arith)))
       ∙ record-is
 
 -- the store of a list that is long enough, copied over another
@@ -77,8 +77,8 @@ take-store l z m h n f =
 pub by-halves : (s : List ℕ) {high low : ℕ} → length s ≡ 8
     → high ≡ ((getD s 0 0 * 256 + getD s 1 0) * 256 + getD s 2 0) * 256 + getD s 3 0
     → low ≡ ((getD s 4 0 * 256 + getD s 5 0) * 256 + getD s 6 0) * 256 + getD s 7 0
-    → high * 0x100000000 + low ≡ number s
-unfolding numberFrom
+    → high * 0x100000000 + low ≡ bigEndian s
+unfolding bigEndianFrom
 by-halves [] z h l = absurd (omega arith)
 by-halves (_ ∷ []) z h l = absurd (omega arith)
 by-halves (_ ∷ _ ∷ []) z h l = absurd (omega arith)

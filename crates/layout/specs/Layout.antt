@@ -8,26 +8,26 @@ use mathlib.Core.List.{List, [], _∷_, _++_}
 use mathlib.Core.Option.{Option, some, none}
 use Prim.Native.Nat.{ℕ, _+_, _/_, _%_}
 use lib.ListN.{length, getD, take, drop}
-use Rattle.basics.specs.Alike.{alike}
+use Rattle.basics.specs.Alike.{bytesEqual}
 use Rattle.basics.specs.Choice.{if_then_else_, _and_, _≤?_, _=?_}
-use Rattle.basics.specs.Front.{inFront}
-use Rattle.basics.specs.Number.{number as numberOf}
+use Rattle.basics.specs.Front.{withPrefix}
+use Rattle.basics.specs.Number.{bigEndian as numberOf}
 use Rattle.dictionary.specs.Rows.{storeSize}
 use Rattle.analysis.specs.declared.choice.Choice.{Choice}
-use Rattle.analysis.specs.Choice.{p1Of}
-use Rattle.analysis.specs.declared.verification.Method.{Method}
-use Rattle.analysis.specs.Verification.{methodNumber}
-use Rattle.record.specs.declared.Outcome.{Outcome}
-use Rattle.record.specs.declared.Phase.{Phase}
-use Rattle.record.specs.declared.Session.{Session}
-use Rattle.record.specs.Numbers.{outcomeNumber}
-use Rattle.record.specs.Session.{stored, sessionOf}
-use Rattle.layout.specs.declared.Code.{Code}
-use Rattle.layout.specs.declared.Held.{Held}
+use Rattle.analysis.specs.Choice.{generateAcP1}
+use Rattle.analysis.specs.declared.cvm.Cvm.{Cvm}
+use Rattle.analysis.specs.Cvm.{cvmNumber}
+use Rattle.session_record.specs.declared.Outcome.{Outcome}
+use Rattle.session_record.specs.declared.Phase.{Phase}
+use Rattle.session_record.specs.declared.Session.{Session}
+use Rattle.session_record.specs.Numbers.{outcomeNumber}
+use Rattle.session_record.specs.Session.{storeBytes, sessionOf}
+use Rattle.layout.specs.declared.PhaseCode.{PhaseCode}
+use Rattle.layout.specs.declared.RecordHeld.{RecordHeld}
 
 -- the layout's version, the first byte of every record
-abbrev pub version : ℕ
-version = 5
+abbrev pub layoutVersion : ℕ
+layoutVersion = 5
 
 -- the bytes in front of the store, and of the whole record
 abbrev pub headSize : ℕ
@@ -39,46 +39,46 @@ recordSize = headSize + storeSize
 -- ---- the code of a phase
 
 -- the phases by number
-abbrev pub onFresh : ℕ
-onFresh = 0
+abbrev pub phaseFresh : ℕ
+phaseFresh = 0
 
-abbrev pub onOptions : ℕ
-onOptions = 1
+abbrev pub phaseGpo : ℕ
+phaseGpo = 1
 
-abbrev pub onRecord : ℕ
-onRecord = 2
+abbrev pub phaseRecord : ℕ
+phaseRecord = 2
 
-abbrev pub onCryptogram : ℕ
-onCryptogram = 3
+abbrev pub phaseCryptogram : ℕ
+phaseCryptogram = 3
 
-abbrev pub onEnded : ℕ
-onEnded = 4
+abbrev pub phaseEnded : ℕ
+phaseEnded = 4
 
-abbrev pub onChecksum : ℕ
-onChecksum = 5
+abbrev pub phaseChecksum : ℕ
+phaseChecksum = 5
 
 -- a code of its four bytes
-abbrev pub code : ℕ → ℕ → ℕ → ℕ → Code
-code n d r m = record { number = n; datum = d; reason = r; method = m }
+abbrev pub phaseCode : ℕ → ℕ → ℕ → ℕ → PhaseCode
+phaseCode n d r m = record { number = n; datum = d; reason = r; cvm = m }
 
 -- what the head says of a phase: the record's number, the P1 asked for and the method's number, or the outcome and its
 -- reason; 0 where there is none
-abbrev pub codeOf : Phase → Code
-codeOf Phase.Fresh          = code onFresh 0 0 0
-codeOf Phase.Options        = code onOptions 0 0 0
-codeOf (Phase.Record p)     = code onRecord (p .number) 0 0
-codeOf (Phase.Cryptogram a) = code onCryptogram (p1Of (a .choice)) 0 (methodNumber (a .method))
-codeOf (Phase.Checksum c)   = code onChecksum 0 0 0
-codeOf (Phase.Ended e)      = code onEnded (outcomeNumber (e .outcome)) (e .reason) 0
+abbrev pub phaseCodeOf : Phase → PhaseCode
+phaseCodeOf Phase.Fresh          = phaseCode phaseFresh 0 0 0
+phaseCodeOf Phase.Gpo            = phaseCode phaseGpo 0 0 0
+phaseCodeOf (Phase.Record p)     = phaseCode phaseRecord (p .number) 0 0
+phaseCodeOf (Phase.Cryptogram a) = phaseCode phaseCryptogram (generateAcP1 (a .choice)) 0 (cvmNumber (a .cvm))
+phaseCodeOf (Phase.Checksum c)   = phaseCode phaseChecksum 0 0 0
+phaseCodeOf (Phase.Ended e)      = phaseCode phaseEnded (outcomeNumber (e .outcome)) (e .reason) 0
 
 -- the limit in force that a phase holds, 0 where it holds none
-abbrev pub heldLimit : Phase → ℕ
-heldLimit Phase.Fresh          = 0
-heldLimit Phase.Options        = 0
-heldLimit (Phase.Record p)     = p .limit
-heldLimit (Phase.Cryptogram a) = a .limit
-heldLimit (Phase.Checksum c)   = c .limit
-heldLimit (Phase.Ended e)      = 0
+abbrev pub phaseLimit : Phase → ℕ
+phaseLimit Phase.Fresh          = 0
+phaseLimit Phase.Gpo            = 0
+phaseLimit (Phase.Record p)     = p .limit
+phaseLimit (Phase.Cryptogram a) = a .limit
+phaseLimit (Phase.Checksum c)   = c .limit
+phaseLimit (Phase.Ended e)      = 0
 
 -- a limit as eight bytes, high byte first; it has 64 bits, so that the first is a byte
 abbrev pub limitBytes : ℕ → List ℕ
@@ -102,13 +102,13 @@ choiceFrom p1 =
     else Choice.Decline
 
 -- the method of a number; the last one where none has it
-unfoldable pub methodFrom : ℕ → Method
-methodFrom n =
-    if n =? 0 then Method.NoCvm
-    else if n =? 1 then Method.Signature
-    else if n =? 2 then Method.OnlinePin
-    else if n =? 3 then Method.ConfirmationCode
-    else Method.OfflinePin
+unfoldable pub cvmFrom : ℕ → Cvm
+cvmFrom n =
+    if n =? 0 then Cvm.NoCvm
+    else if n =? 1 then Cvm.Signature
+    else if n =? 2 then Cvm.OnlinePin
+    else if n =? 3 then Cvm.ConfirmationCode
+    else Cvm.OfflinePin
 
 -- the outcome of a number; the last one where none has it
 unfoldable pub outcomeFrom : ℕ → Outcome
@@ -120,57 +120,57 @@ outcomeFrom n =
     else Outcome.SelectNext
 
 -- the phase of a code and a limit; the last one where none has the code's number
-unfoldable pub phaseOf : Code → ℕ → Phase
-phaseOf c l =
-    if c .number =? onFresh then Phase.Fresh
-    else if c .number =? onOptions then Phase.Options
-    else if c .number =? onRecord then Phase.Record (record { number = c .datum; limit = l })
-    else if c .number =? onCryptogram then
-        Phase.Cryptogram (record { choice = choiceFrom (c .datum); method = methodFrom (c .method); limit = l })
-    else if c .number =? onChecksum then Phase.Checksum (record { limit = l })
+unfoldable pub phaseOfCode : PhaseCode → ℕ → Phase
+phaseOfCode c l =
+    if c .number =? phaseFresh then Phase.Fresh
+    else if c .number =? phaseGpo then Phase.Gpo
+    else if c .number =? phaseRecord then Phase.Record (record { number = c .datum; limit = l })
+    else if c .number =? phaseCryptogram then
+        Phase.Cryptogram (record { choice = choiceFrom (c .datum); cvm = cvmFrom (c .cvm); limit = l })
+    else if c .number =? phaseChecksum then Phase.Checksum (record { limit = l })
     else Phase.Ended (record { outcome = outcomeFrom (c .datum); reason = c .reason })
 
 -- two codes are the same
-unfoldable pub sameCode : Code → Code → Bool
-sameCode a b =
+unfoldable pub samePhaseCode : PhaseCode → PhaseCode → Bool
+samePhaseCode a b =
     a .number =? b .number
     and a .datum =? b .datum
     and a .reason =? b .reason
-    and a .method =? b .method
+    and a .cvm =? b .cvm
 
 -- ---- the record
 
 -- the head: the version, the phase's number, what it holds, the reason, the count, the method, the limit
-abbrev pub headOf : Phase → ℕ → List ℕ
-headOf p n =
-    version ∷ codeOf p .number ∷ codeOf p .datum ∷ codeOf p .reason ∷ n ∷ codeOf p .method ∷ limitBytes (heldLimit p)
+abbrev pub recordHead : Phase → ℕ → List ℕ
+recordHead p n =
+    layoutVersion ∷ phaseCodeOf p .number ∷ phaseCodeOf p .datum ∷ phaseCodeOf p .reason ∷ n ∷ phaseCodeOf p .cvm ∷ limitBytes (phaseLimit p)
 
 -- a session as bytes
-unfoldable pub encoded : Session → List ℕ
-encoded s = headOf (s .phase) (s .count) ++ stored s
+unfoldable pub encodedSession : Session → List ℕ
+encodedSession s = recordHead (s .phase) (s .count) ++ storeBytes s
 
 -- the bytes l with a record in front: those behind it stay, and so do all where they are too few
-unfoldable pub withRecord : Session → List ℕ → List ℕ
-withRecord s l =
-    if recordSize ≤? length l then encoded s ++ drop recordSize l
+unfoldable pub withSessionRecord : Session → List ℕ → List ℕ
+withSessionRecord s l =
+    if recordSize ≤? length l then encodedSession s ++ drop recordSize l
     else l
 
 -- the bytes l with a head in front: those behind it stay, and so do all where they are too few for a record
-unfoldable pub withHead : Phase → ℕ → List ℕ → List ℕ
-withHead p n l =
-    if recordSize ≤? length l then inFront (headOf p n) l
+unfoldable pub withRecordHead : Phase → ℕ → List ℕ → List ℕ
+withRecordHead p n l =
+    if recordSize ≤? length l then withPrefix (recordHead p n) l
     else l
 
 -- the code in a head
-abbrev pub codeIn : List ℕ → Code
-codeIn l = code (getD l 1 0) (getD l 2 0) (getD l 3 0) (getD l 5 0)
+abbrev pub phaseCodeIn : List ℕ → PhaseCode
+phaseCodeIn l = phaseCode (getD l 1 0) (getD l 2 0) (getD l 3 0) (getD l 5 0)
 
 -- the limit's bytes in a head, and the phase by both
-abbrev pub limitIn : List ℕ → List ℕ
-limitIn l = take 8 (drop 6 l)
+abbrev pub limitBytesIn : List ℕ → List ℕ
+limitBytesIn l = take 8 (drop 6 l)
 
 abbrev pub phaseIn : List ℕ → Phase
-phaseIn l = phaseOf (codeIn l) (numberOf (limitIn l))
+phaseIn l = phaseOfCode (phaseCodeIn l) (numberOf (limitBytesIn l))
 
 -- the session in a phase with the count and the store that the bytes have
 abbrev pub sessionIn : Phase → List ℕ → Session
@@ -180,13 +180,13 @@ sessionIn p l = sessionOf p (getD l 4 0) (take storeSize (drop headSize l))
 unfoldable pub holdsRecord : List ℕ → Bool
 holdsRecord l =
     recordSize ≤? length l
-    and getD l 0 0 =? version
-    and sameCode (codeOf (phaseIn l)) (codeIn l)
-    and alike (limitBytes (heldLimit (phaseIn l))) (limitIn l)
+    and getD l 0 0 =? layoutVersion
+    and samePhaseCode (phaseCodeOf (phaseIn l)) (phaseCodeIn l)
+    and bytesEqual (limitBytes (phaseLimit (phaseIn l))) (limitBytesIn l)
 
 -- the session that bytes hold, none where they hold no record
-unfoldable pub decoded : List ℕ → Option Session
-decoded l =
+unfoldable pub decodedSession : List ℕ → Option Session
+decodedSession l =
     if holdsRecord l then some (sessionIn (phaseIn l) l)
     else none
 
@@ -197,21 +197,21 @@ decoded l =
 -- ---- handed back
 
 -- writing says whether the bytes were enough
-pub record Wrote (s : Session) (before : List ℕ) (r : Bool) (after : List ℕ) : Type 0 where
+pub record WroteRecord (s : Session) (before : List ℕ) (r : Bool) (after : List ℕ) : Type 0 where
   pub enough : r ≡ (recordSize ≤? length before)
-  pub bytes : after ≡ withRecord s before
+  pub bytes : after ≡ withSessionRecord s before
 
 -- what is said of the bytes: the session's phase and count, or that there is no record
-abbrev pub heldOf : Option Session → Held
-heldOf none = Held.Nothing
-heldOf (some s) = Held.Record (record { phase = s .phase; count = s .count })
+abbrev pub recordHeld : Option Session → RecordHeld
+recordHeld none = RecordHeld.Nothing
+recordHeld (some s) = RecordHeld.Record (record { phase = s .phase; count = s .count })
 
 -- the lent store: the session's, or as it was where there is no record
-abbrev pub storeOf : Option Session → List ℕ → List ℕ
-storeOf none b = b
-storeOf (some s) b = stored s
+abbrev pub storeOfSession : Option Session → List ℕ → List ℕ
+storeOfSession none b = b
+storeOfSession (some s) b = storeBytes s
 
 -- what reading the bytes l says, and what it leaves in a lent store
-pub record Decodes (r : Held) (l before after : List ℕ) : Type 0 where
-  pub held : r ≡ heldOf (decoded l)
-  pub store : after ≡ storeOf (decoded l) before
+pub record DecodesRecord (r : RecordHeld) (l before after : List ℕ) : Type 0 where
+  pub held : r ≡ recordHeld (decodedSession l)
+  pub store : after ≡ storeOfSession (decodedSession l) before

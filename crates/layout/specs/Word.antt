@@ -2,29 +2,29 @@
 -- refusal.
 -- Assumes nothing.
 use Prim.Native.Nat.{ℕ, _+_, _*_, _/_, _%_, min}
-use Rattle.record.specs.declared.OutcomeParameters.{OutcomeParameters}
-use Rattle.record.specs.declared.Answer.{Answer}
-use Rattle.record.specs.Numbers.{outcomeNumber}
+use Rattle.session_record.specs.declared.OutcomeParameters.{OutcomeParameters}
+use Rattle.session_record.specs.declared.CallResult.{CallResult}
+use Rattle.session_record.specs.Numbers.{outcomeNumber}
 
 -- the kind of a word
-abbrev pub kindOf : ℕ → ℕ
-kindOf w = w / 0x10000 % 0x100
+abbrev pub wordKind : ℕ → ℕ
+wordKind w = w / 0x10000 % 0x100
 
-abbrev pub ofCommand : ℕ
-ofCommand = 0
+abbrev pub kindCommand : ℕ
+kindCommand = 0
 
-abbrev pub ofOutcome : ℕ
-ofOutcome = 1
+abbrev pub kindOutcome : ℕ
+kindOutcome = 1
 
-abbrev pub ofRefusal : ℕ
-ofRefusal = 2
+abbrev pub kindRefusal : ℕ
+kindRefusal = 2
 
 -- what a word of an outcome and one of a refusal have in the bits of the kind
-abbrev pub outcomes : ℕ
-outcomes = 0x10000
+abbrev pub outcomeBits : ℕ
+outcomeBits = 0x10000
 
-abbrev pub refusals : ℕ
-refusals = 0x20000
+abbrev pub refusalBits : ℕ
+refusalBits = 0x20000
 
 -- a command is its length; a length that a word cannot tell from an outcome is cut, and no call hands one out
 unfoldable pub commandWord : ℕ → ℕ
@@ -32,14 +32,14 @@ commandWord n = min n 65535
 
 -- an outcome with its reason, and in bits 24 to 31 the method's number
 abbrev pub outcomeWord : OutcomeParameters → ℕ
-outcomeWord e = e .method * 0x1000000 + outcomes + outcomeNumber (e .outcome) * 256 + e .reason
+outcomeWord e = e .cvm * 0x1000000 + outcomeBits + outcomeNumber (e .outcome) * 256 + e .reason
 
 -- a refusal by its number
 abbrev pub refusalWord : ℕ → ℕ
-refusalWord n = refusals + n
+refusalWord n = refusalBits + n
 
 -- an answer of a call
-abbrev pub wordOf : Answer → ℕ
-wordOf (Answer.Command c) = commandWord (c .size)
-wordOf (Answer.Outcome e) = outcomeWord e
-wordOf (Answer.Refused r) = refusalWord (r .number)
+abbrev pub resultWord : CallResult → ℕ
+resultWord (CallResult.Command c) = commandWord (c .size)
+resultWord (CallResult.Outcome e) = outcomeWord e
+resultWord (CallResult.Refused r) = refusalWord (r .number)

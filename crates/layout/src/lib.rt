@@ -1,23 +1,23 @@
 // The session record as bytes that a host lends, and a call's answer as one number.
 //
 // The record is a head and the store: a byte for the layout's version, the code of the phase with the count
-// of commands handed out before its last byte, the limit in force, and then the store's bytes as they stand. `encode` writes
-// it in front of the lent bytes, `decode` takes it apart again: only bytes that some record is encoded as are a record. Both
+// of commands handed out before its last byte, the limit in force, and then the store's bytes as they stand. `encode_record` writes
+// it in front of the lent bytes, `decode_record` takes it apart again: only bytes that some record is encoded as are a record. Both
 // lend the store, which is the largest part; `head_in` and `put_head` read and write the head alone, for a
 // caller that works on the store in its place.
 use analysis::choice::Choice;
-use analysis::verification::Method;
+use analysis::cvm::Cvm;
 use dictionary::SIZE;
-use record::{Answer, Asked, Checksum, End, Issued, Outcome, OutcomeParameters, Phase, Place};
+use session_record::{CallResult, RequestedCryptogram, AwaitedChecksum, Ending, CommandLength, Outcome, OutcomeParameters, Phase, AwaitedRecord};
 ghost use mathlib.Core.Path.{_≡_};
 ghost use Prim.Native.Nat.{_+_, _*_, _≤_, _<_};
 ghost use lib.ListN.{length};
-ghost use Rattle.basics.specs.Number.{number as numberOf};
+ghost use Rattle.basics.specs.Number.{bigEndian as numberOf};
 ghost use Rattle.dictionary.specs.Rows.{storeSize};
-ghost use Rattle.record.specs.Session.{sessionOf};
-ghost use Rattle.layout.specs.Layout.{recordSize, choiceFrom, methodFrom, outcomeFrom, codeOf, heldLimit, limitBytes, phaseOf, codeIn, limitIn, sameCode, withHead, decoded, heldOf, Wrote, Decodes};
-ghost use Rattle.layout.specs.Layout.{version as layoutVersion};
-ghost use Rattle.layout.specs.Word.{commandWord, outcomeWord, refusalWord, wordOf};
+ghost use Rattle.session_record.specs.Session.{sessionOf};
+ghost use Rattle.layout.specs.Layout.{recordSize, choiceFrom, cvmFrom, outcomeFrom, phaseCodeOf, phaseLimit, limitBytes, phaseOfCode, phaseCodeIn, limitBytesIn, samePhaseCode, withRecordHead, decodedSession, recordHeld, WroteRecord, DecodesRecord};
+ghost use Rattle.layout.specs.Layout.{layoutVersion};
+ghost use Rattle.layout.specs.Word.{commandWord, outcomeWord, refusalWord, resultWord};
 
 // The layout's version, the first byte of every record.
 const VERSION: u8 = 5;
@@ -33,29 +33,29 @@ pub const RECORD_SIZE: usize = HEAD + SIZE;
 
 // The phases by number.
 const ON_FRESH: u8 = 0;
-const ON_OPTIONS: u8 = 1;
+const ON_GPO: u8 = 1;
 const ON_RECORD: u8 = 2;
 const ON_CRYPTOGRAM: u8 = 3;
 const ON_ENDED: u8 = 4;
 const ON_CHECKSUM: u8 = 5;
 
 // What the head says of a phase: its number, and the bytes of what it holds, 0 where it holds nothing.
-pub struct Code {
+pub struct PhaseCode {
     pub number: u8,
     pub datum: u8,
     pub reason: u8,
-    pub method: u8,
+    pub cvm: u8,
 }
 
 // The phase and the count that a record's head has.
-pub struct Head {
+pub struct RecordHead {
     pub phase: Phase,
     pub count: u8,
 }
 
 // What bytes hold: a record, or nothing.
-pub enum Held {
-    Record(Head),
+pub enum RecordHeld {
+    Record(RecordHead),
     Nothing,
 }
 
@@ -65,7 +65,7 @@ const MOST_LENGTH: usize = 65535;
 // The kinds of an outcome and of a refusal in a word, and a unit of the method's number.
 const OUTCOME: u32 = 65536;
 const REFUSAL: u32 = 131072;
-const METHOD: u32 = 16777216;
+const CVM: u32 = 16777216;
 
 // How many bytes a host lends for a session.
 pub fn session_size() -> usize
@@ -82,9 +82,9 @@ pub fn layout_version() -> u8
 }
 
 // Writes the record of these parts in front of the bytes, and says whether there were enough.
-pub fn encode(phase: Phase, count: u8, store: &[u8; SIZE], bytes: &mut [u8]) -> bool
+pub fn encode_record(phase: Phase, count: u8, store: &[u8; SIZE], bytes: &mut [u8]) -> bool
     requires { ⌜ length (now store) ≡ storeSize ⌝ }
-    ensures { λ r. ⌜ Wrote (sessionOf phase count (now (store .entry))) (now (bytes .entry)) r (now (bytes .exit)) ⌝ }
+    ensures { λ r. ⌜ WroteRecord (sessionOf phase count (now (store .entry))) (now (bytes .entry)) r (now (bytes .exit)) ⌝ }
 {
     if bytes.len() < RECORD_SIZE {
         return false;
@@ -96,7 +96,7 @@ pub fn encode(phase: Phase, count: u8, store: &[u8; SIZE], bytes: &mut [u8]) -> 
 
 // Writes the head of a record in front of the bytes, whose store stays; too few bytes stay as they are.
 pub fn put_head(phase: Phase, count: u8, bytes: &mut [u8])
-    ensures { λ _. ⌜ now (bytes .exit) ≡ withHead phase count (now (bytes .entry)) ⌝ }
+    ensures { λ _. ⌜ now (bytes .exit) ≡ withRecordHead phase count (now (bytes .entry)) ⌝ }
 {
     if bytes.len() < RECORD_SIZE {
         return;
@@ -107,19 +107,19 @@ pub fn put_head(phase: Phase, count: u8, bytes: &mut [u8])
     bytes[2] = code.datum;
     bytes[3] = code.reason;
     bytes[4] = count;
-    bytes[5] = code.method;
+    bytes[5] = code.cvm;
     let limit = limit_bytes(held_limit(phase));
     bytes::copy(&limit, &mut bytes[LIMIT..HEAD]);
 }
 
 // Takes apart the record in front of the bytes: its store goes into the one that is lent.
-pub fn decode(bytes: &[u8], store: &mut [u8; SIZE]) -> Held
+pub fn decode_record(bytes: &[u8], store: &mut [u8; SIZE]) -> RecordHeld
     requires { ⌜ length (now store) ≡ storeSize ⌝ }
-    ensures read { λ r. ⌜ Decodes r (now (bytes .entry)) (now (store .entry)) (now (store .exit)) ⌝ }
+    ensures read { λ r. ⌜ DecodesRecord r (now (bytes .entry)) (now (store .entry)) (now (store .exit)) ⌝ }
     ensures sized { λ _. ⌜ length (now (store .exit)) ≡ storeSize ⌝ }
 {
     let held = head_in(bytes);
-    let Held::Record(_) = held else {
+    let RecordHeld::Record(_) = held else {
         return held;
     };
     bytes::copy(&bytes[HEAD..RECORD_SIZE], store);
@@ -127,36 +127,36 @@ pub fn decode(bytes: &[u8], store: &mut [u8; SIZE]) -> Held
 }
 
 // What the head in front of the bytes says.
-pub fn head_in(bytes: &[u8]) -> Held
-    ensures { λ r. ⌜ r ≡ heldOf (decoded (now (bytes .entry))) ⌝ }
+pub fn head_in(bytes: &[u8]) -> RecordHeld
+    ensures { λ r. ⌜ r ≡ recordHeld (decodedSession (now (bytes .entry))) ⌝ }
 {
     if bytes.len() < RECORD_SIZE {
-        return Held::Nothing;
+        return RecordHeld::Nothing;
     }
     if bytes[0] != VERSION {
-        return Held::Nothing;
+        return RecordHeld::Nothing;
     }
     let code = code_in(bytes);
     let limit = limit_in(bytes);
     let phase = phase_of(code, limit_from(limit));
     if !is_same(code_of(phase), code) {
-        return Held::Nothing;
+        return RecordHeld::Nothing;
     }
     let own = limit_bytes(held_limit(phase));
     if !basics::same(&own, &limit) {
-        return Held::Nothing;
+        return RecordHeld::Nothing;
     }
-    Held::Record(Head { phase, count: bytes[4] })
+    RecordHeld::Record(RecordHead { phase, count: bytes[4] })
 }
 
 // A call's answer as a word: the command's length, or an outcome with its reason, or a refusal's number.
-pub fn word(answer: Answer) -> u32
-    ensures { λ r. ⌜ r ≡ wordOf answer ⌝ }
+pub fn result_word(answer: CallResult) -> u32
+    ensures { λ r. ⌜ r ≡ resultWord answer ⌝ }
 {
     match answer {
-        Answer::Command(issued) => command_word(issued),
-        Answer::Outcome(end) => outcome_word(end),
-        Answer::Refused(refusal) => refusal_word(refusal.number),
+        CallResult::Command(issued) => command_word(issued),
+        CallResult::Outcome(end) => outcome_word(end),
+        CallResult::Refused(refusal) => refusal_word(refusal.number),
     }
 }
 
@@ -164,11 +164,11 @@ pub fn word(answer: Answer) -> u32
 pub fn refusal_word(number: u8) -> u32
     ensures { λ r. ⌜ r ≡ refusalWord number ⌝ }
 {
-    REFUSAL + basics::wide32(number)
+    REFUSAL + basics::widen32(number)
 }
 
 // A command by its length; no call hands out one that is cut here.
-fn command_word(issued: Issued) -> u32
+fn command_word(issued: CommandLength) -> u32
     ensures { λ r. ⌜ r ≡ commandWord (issued .size) ⌝ }
 {
     let size = issued.size;
@@ -183,71 +183,71 @@ fn outcome_word(end: OutcomeParameters) -> u32
     ensures { λ r. ⌜ r ≡ outcomeWord end ⌝ }
 {
     let outcome = end.outcome;
-    basics::wide32(end.method) * METHOD
+    basics::widen32(end.cvm) * CVM
         + OUTCOME
-        + basics::wide32(record::outcome_number(outcome)) * 256
-        + basics::wide32(end.reason)
+        + basics::widen32(session_record::outcome_number(outcome)) * 256
+        + basics::widen32(end.reason)
 }
 
 // The four bytes that enough bytes have for the code.
-fn code_in(bytes: &[u8]) -> Code
+fn code_in(bytes: &[u8]) -> PhaseCode
     requires { ⌜ recordSize ≤ length (now bytes) ⌝ }
-    ensures { λ r. ⌜ r ≡ codeIn (now (bytes .entry)) ⌝ }
+    ensures { λ r. ⌜ r ≡ phaseCodeIn (now (bytes .entry)) ⌝ }
 {
-    Code {
+    PhaseCode {
         number: bytes[1],
         datum: bytes[2],
         reason: bytes[3],
-        method: bytes[5],
+        cvm: bytes[5],
     }
 }
 
 // The code of a phase.
-fn code_of(phase: Phase) -> Code
-    ensures { λ r. ⌜ r ≡ codeOf phase ⌝ }
+fn code_of(phase: Phase) -> PhaseCode
+    ensures { λ r. ⌜ r ≡ phaseCodeOf phase ⌝ }
 {
     match phase {
-        Phase::Fresh => Code {
+        Phase::Fresh => PhaseCode {
             number: ON_FRESH,
             datum: 0,
             reason: 0,
-            method: 0,
+            cvm: 0,
         },
-        Phase::Options => Code {
-            number: ON_OPTIONS,
+        Phase::Gpo => PhaseCode {
+            number: ON_GPO,
             datum: 0,
             reason: 0,
-            method: 0,
+            cvm: 0,
         },
-        Phase::Record(place) => Code {
+        Phase::Record(place) => PhaseCode {
             number: ON_RECORD,
             datum: place.number,
             reason: 0,
-            method: 0,
+            cvm: 0,
         },
         Phase::Cryptogram(asked) => {
             let choice = asked.choice;
-            let method = asked.method;
-            Code {
+            let cvm = asked.cvm;
+            PhaseCode {
                 number: ON_CRYPTOGRAM,
                 datum: analysis::choice::p1(choice),
                 reason: 0,
-                method: analysis::verification::method_number(method),
+                cvm: analysis::cvm::cvm_number(cvm),
             }
         }
-        Phase::Checksum(_) => Code {
+        Phase::Checksum(_) => PhaseCode {
             number: ON_CHECKSUM,
             datum: 0,
             reason: 0,
-            method: 0,
+            cvm: 0,
         },
         Phase::Ended(end) => {
             let outcome = end.outcome;
-            Code {
+            PhaseCode {
                 number: ON_ENDED,
-                datum: record::outcome_number(outcome),
+                datum: session_record::outcome_number(outcome),
                 reason: end.reason,
-                method: 0,
+                cvm: 0,
             }
         }
     }
@@ -255,11 +255,11 @@ fn code_of(phase: Phase) -> Code
 
 // The limit in force that a phase holds, 0 where it holds none.
 fn held_limit(phase: Phase) -> u64
-    ensures { λ r. ⌜ r ≡ heldLimit phase ⌝ }
+    ensures { λ r. ⌜ r ≡ phaseLimit phase ⌝ }
 {
     match phase {
         Phase::Fresh => 0,
-        Phase::Options => 0,
+        Phase::Gpo => 0,
         Phase::Record(place) => place.limit,
         Phase::Cryptogram(asked) => asked.limit,
         Phase::Checksum(checksum) => checksum.limit,
@@ -286,7 +286,7 @@ fn limit_bytes(limit: u64) -> [u8; 8]
 // The eight bytes that enough bytes have for the limit.
 fn limit_in(bytes: &[u8]) -> [u8; 8]
     requires { ⌜ recordSize ≤ length (now bytes) ⌝ }
-    ensures { λ r. ⌜ r ≡ limitIn (now (bytes .entry)) ⌝ }
+    ensures { λ r. ⌜ r ≡ limitBytesIn (now (bytes .entry)) ⌝ }
 {
     let mut limit = [0u8; 8];
     bytes::copy(&bytes[LIMIT..HEAD], &mut limit);
@@ -306,38 +306,38 @@ fn limit_from(bytes: [u8; 8]) -> u64
 fn four(a: u8, b: u8, c: u8, d: u8) -> u64
     ensures { λ r. ⌜ (r ≡ ((a * 256 + b) * 256 + c) * 256 + d) × (r < 0x100000000) ⌝ }
 {
-    let n = basics::wide32(a) * 0x1000000 + basics::wide32(b) * 0x10000 + basics::wide32(c) * 0x100 + basics::wide32(d);
+    let n = basics::widen32(a) * 0x1000000 + basics::widen32(b) * 0x10000 + basics::widen32(c) * 0x100 + basics::widen32(d);
     n as u64
 }
 
 // The phase that a code and a limit say, the nearest one where no phase has that code.
-fn phase_of(code: Code, limit: u64) -> Phase
-    ensures { λ r. ⌜ r ≡ phaseOf code limit ⌝ }
+fn phase_of(code: PhaseCode, limit: u64) -> Phase
+    ensures { λ r. ⌜ r ≡ phaseOfCode code limit ⌝ }
 {
     let number = code.number;
     if number == ON_FRESH {
         return Phase::Fresh;
     }
-    if number == ON_OPTIONS {
-        return Phase::Options;
+    if number == ON_GPO {
+        return Phase::Gpo;
     }
     if number == ON_RECORD {
-        return Phase::Record(Place { number: code.datum, limit });
+        return Phase::Record(AwaitedRecord { number: code.datum, limit });
     }
     if number == ON_CRYPTOGRAM {
         let choice = choice_from(code.datum);
-        let method = method_from(code.method);
-        return Phase::Cryptogram(Asked { choice, method, limit });
+        let cvm = cvm_from(code.cvm);
+        return Phase::Cryptogram(RequestedCryptogram { choice, cvm, limit });
     }
     if number == ON_CHECKSUM {
-        return Phase::Checksum(Checksum { limit });
+        return Phase::Checksum(AwaitedChecksum { limit });
     }
-    Phase::Ended(End { outcome: outcome_from(code.datum), reason: code.reason })
+    Phase::Ended(Ending { outcome: outcome_from(code.datum), reason: code.reason })
 }
 
 // Whether two codes are the same.
-fn is_same(a: Code, b: Code) -> bool
-    ensures { λ r. ⌜ r ≡ sameCode a b ⌝ }
+fn is_same(a: PhaseCode, b: PhaseCode) -> bool
+    ensures { λ r. ⌜ r ≡ samePhaseCode a b ⌝ }
 {
     if a.number != b.number {
         return false;
@@ -348,7 +348,7 @@ fn is_same(a: Code, b: Code) -> bool
     if a.reason != b.reason {
         return false;
     }
-    a.method == b.method
+    a.cvm == b.cvm
 }
 
 // The choice that P1 of the command asks for; a decline where no choice has that P1.
@@ -365,15 +365,15 @@ fn choice_from(p1: u8) -> Choice
 }
 
 // The method of a number; the last one where no method has that number.
-fn method_from(number: u8) -> Method
-    ensures { λ r. ⌜ r ≡ methodFrom number ⌝ }
+fn cvm_from(number: u8) -> Cvm
+    ensures { λ r. ⌜ r ≡ cvmFrom number ⌝ }
 {
     match number {
-        0 => Method::NoCvm,
-        1 => Method::Signature,
-        2 => Method::OnlinePin,
-        3 => Method::ConfirmationCode,
-        _ => Method::OfflinePin,
+        0 => Cvm::NoCvm,
+        1 => Cvm::Signature,
+        2 => Cvm::OnlinePin,
+        3 => Cvm::ConfirmationCode,
+        _ => Cvm::OfflinePin,
     }
 }
 

@@ -14,9 +14,9 @@ use Rattle.basics.proofs.Laws.{if-yes, if-no, bool-cases, both-yes, both-left, 
 use Rattle.basics.proofs.Order.{equal-or-not}
 use Rattle.tlv.specs.Primitives.{Object}
 use Rattle.personalise.specs.declared.Placement.{Placement}
-use Rattle.personalise.specs.Objects.{lacksTag, distinct}
-use Rattle.personalise.specs.Placements.{countOf, anyOf, ofObject, puts, eachOnce, objectsFrom}
-use Rattle.personalise.specs.Clauses.{recordNamed}
+use Rattle.personalise.specs.Objects.{lacksTag, tagsDistinct}
+use Rattle.personalise.specs.Placements.{placementCount, anyPlacement, isOfObject, putsObjectInto, eachPlacedOnce, objectsFrom}
+use Rattle.personalise.specs.Clauses.{placesInRecord}
 
 -- ---- lists rearranged
 
@@ -49,33 +49,33 @@ perm-every f (add i p) e = insert-every f i (both-left _ _ e) (perm-every f p (b
 flip : (a b : ℕ) → not (eqb a b) ≡ true → not (eqb b a) ≡ true
 flip a b e = ap not (ne-eqb b a (λ z. eqb-false a b (not-true _ e) (sym z)))
 
-insert-distinct : {o : Object} {l m : List Object} → Insert o l m → lacksTag (o .tag) l ≡ true → distinct l ≡ true → distinct m ≡ true
-unfolding distinct lacksTag every
+insert-distinct : {o : Object} {l m : List Object} → Insert o l m → lacksTag (o .tag) l ≡ true → tagsDistinct l ≡ true → tagsDistinct m ≡ true
+unfolding tagsDistinct lacksTag every
 insert-distinct here t d = both-yes _ _ t d
 insert-distinct {o} (there {x} i) t d =
     both-yes _ _ (insert-every (λ y. not (eqb (y .tag) (x .tag))) i (flip (x .tag) (o .tag) (both-left _ _ t)) (both-left _ _ d))
     (insert-distinct i (both-right _ _ t) (both-right _ _ d))
 
-pub perm-distinct : {m os : List Object} → Perm m os → distinct os ≡ true → distinct m ≡ true
-unfolding distinct lacksTag every
+pub perm-distinct : {m os : List Object} → Perm m os → tagsDistinct os ≡ true → tagsDistinct m ≡ true
+unfolding tagsDistinct lacksTag every
 perm-distinct none d = refl
 perm-distinct (add {o} i p) d =
     insert-distinct i (perm-every (λ y. not (eqb (y .tag) (o .tag))) p (both-left _ _ d)) (perm-distinct p (both-right _ _ d))
 
 -- ---- the record of an object
 
-none-named : (j k : ℕ) (ps : List Placement) → countOf (ofObject j) ps ≡ 0 → anyOf (puts k j) ps ≡ false
-unfolding countOf anyOf
+none-named : (j k : ℕ) (ps : List Placement) → placementCount (isOfObject j) ps ≡ 0 → anyPlacement (putsObjectInto k j) ps ≡ false
+unfolding placementCount anyPlacement
 none-named j k [] e = refl
-none-named j k (p ∷ ps) e = elim (bool-cases (ofObject j p)) [
-  | inl y ↦ absurd (let z = if-yes (suc (countOf (ofObject j) ps)) (countOf (ofObject j) ps) y in omega arith)
-  | inr n ↦ either-no _ _ (both-no-right _ _ n) (none-named j k ps (sym (if-no (suc (countOf (ofObject j) ps)) (countOf (ofObject j) ps) n) ∙ e))
+none-named j k (p ∷ ps) e = elim (bool-cases (isOfObject j p)) [
+  | inl y ↦ absurd (let z = if-yes (suc (placementCount (isOfObject j) ps)) (placementCount (isOfObject j) ps) y in omega arith)
+  | inr n ↦ either-no _ _ (both-no-right _ _ n) (none-named j k ps (sym (if-no (suc (placementCount (isOfObject j) ps)) (placementCount (isOfObject j) ps) n) ∙ e))
 ]
 
 -- an object that one placement names stands in one record, of those that placements name
 pub record Alone (ps : List Placement) (j n : ℕ) : Type 0 where
   pub place : ℕ
-  pub only : (k : ℕ) → anyOf (puts k j) ps ≡ eqb place k
+  pub only : (k : ℕ) → anyPlacement (putsObjectInto k j) ps ≡ eqb place k
   pub low : 1 ≤ place
   pub high : place ≤ n
 
@@ -87,23 +87,23 @@ drop-right true false c y z = cc
 drop-right false b false y z = refl
 drop-right false b true y z = cc
 
-alone : (j n : ℕ) (ps : List Placement) → countOf (ofObject j) ps ≡ 1 → every (recordNamed n) ps ≡ true → Alone ps j n
-unfolding countOf anyOf every
+alone : (j n : ℕ) (ps : List Placement) → placementCount (isOfObject j) ps ≡ 1 → every (placesInRecord n) ps ≡ true → Alone ps j n
+unfolding placementCount anyPlacement every
 alone j n [] e r = absurd (omega arith)
-alone j n (p ∷ ps) e r = elim (bool-cases (ofObject j p)) [
+alone j n (p ∷ ps) e r = elim (bool-cases (isOfObject j p)) [
   | inl y ↦ (
-    let z = if-yes (suc (countOf (ofObject j) ps)) (countOf (ofObject j) ps) y in
-    let c : countOf (ofObject j) ps ≡ 0 = omega arith in
+    let z = if-yes (suc (placementCount (isOfObject j) ps)) (placementCount (isOfObject j) ps) y in
+    let c : placementCount (isOfObject j) ps ≡ 0 = omega arith in
     let b = both-left _ _ r in
     record {
       place = p .into;
-      only = λ k. drop-right (eqb (p .into) k) (eqb (p .object) j) (anyOf (puts k j) ps) y (none-named j k ps c);
+      only = λ k. drop-right (eqb (p .into) k) (eqb (p .object) j) (anyPlacement (putsObjectInto k j) ps) y (none-named j k ps c);
       low = leb-true 1 (p .into) (both-left _ _ b);
       high = leb-true (p .into) n (both-right _ _ b);
     }
   )
   | inr f ↦ (
-    let a = alone j n ps (sym (if-no (suc (countOf (ofObject j) ps)) (countOf (ofObject j) ps) f) ∙ e) (both-right _ _ r) in
+    let a = alone j n ps (sym (if-no (suc (placementCount (isOfObject j) ps)) (placementCount (isOfObject j) ps) f) ∙ e) (both-right _ _ r) in
     record { place = a .place; only = λ k. either-false _ (both-no-right _ _ f) ∙ a .only k; low = a .low; high = a .high }
   )
 ]
@@ -122,16 +122,16 @@ ordered-nil ps k zero j = refl
 ordered-nil ps k (suc n) j = ordered-nil ps (suc k) n j
 
 module _ (ps : List Placement) (j : ℕ) (o : Object) (os : List Object) where
-  skipped : (k : ℕ) → anyOf (puts k j) ps ≡ false → objectsFrom ps k j (o ∷ os) ≡ objectsFrom ps k (suc j) os
+  skipped : (k : ℕ) → anyPlacement (putsObjectInto k j) ps ≡ false → objectsFrom ps k j (o ∷ os) ≡ objectsFrom ps k (suc j) os
   unfolding objectsFrom
   skipped k e = if-no _ _ e
 
-  taken : (k : ℕ) → anyOf (puts k j) ps ≡ true → objectsFrom ps k j (o ∷ os) ≡ o ∷ objectsFrom ps k (suc j) os
+  taken : (k : ℕ) → anyPlacement (putsObjectInto k j) ps ≡ true → objectsFrom ps k j (o ∷ os) ≡ o ∷ objectsFrom ps k (suc j) os
   unfolding objectsFrom
   taken k e = if-yes _ _ e
 
-  module _ (r : ℕ) (only : (k : ℕ) → anyOf (puts k j) ps ≡ eqb r k) where
-    elsewhere : (k : ℕ) → (r ≡ k → ⊥) → anyOf (puts k j) ps ≡ false
+  module _ (r : ℕ) (only : (k : ℕ) → anyPlacement (putsObjectInto k j) ps ≡ eqb r k) where
+    elsewhere : (k : ℕ) → (r ≡ k → ⊥) → anyPlacement (putsObjectInto k j) ps ≡ false
     elsewhere k ne = only k ∙ ne-eqb r k ne
 
     -- behind its record the object does not stand
@@ -149,8 +149,8 @@ module _ (ps : List Placement) (j : ℕ) (o : Object) (os : List Object) where
     ]
 
 -- the objects in the order of the records are the list's, rearranged
-pub arranged : (ps : List Placement) (n j : ℕ) (os : List Object) → eachOnce ps j os ≡ true → every (recordNamed n) ps ≡ true → Perm (ordered ps 1 n j os) os
-unfolding eachOnce
+pub arranged : (ps : List Placement) (n j : ℕ) (os : List Object) → eachPlacedOnce ps j os ≡ true → every (placesInRecord n) ps ≡ true → Perm (ordered ps 1 n j os) os
+unfolding eachPlacedOnce
 arranged ps n j [] e r = rw (ordered-nil ps 1 n j) none
 arranged ps n j (o ∷ os) e r =
     let a = alone j n ps (eqb-true _ _ (both-left _ _ e)) r in

@@ -14,110 +14,110 @@ use Rattle.basics.specs.Choice.{both, every}
 use Rattle.basics.specs.Number.{between}
 use Rattle.basics.proofs.Laws.{if-no, bool-cases, both-yes, both-true, both-left, both-right, both-no-left, both-no-right, either-no}
 use Rattle.basics.proofs.Order.{le-or-gt}
-use Rattle.tlv.specs.Primitives.{Object, primitives, isRun}
-use Rattle.locator.specs.declared.Entry.{Entry}
-use Rattle.locator.specs.Entry.{countOf}
-use Rattle.locator.specs.Records.{entries, wholeEntries, sumOf, total}
+use Rattle.tlv.specs.Primitives.{Object, primitiveObjects, isPrimitiveList}
+use Rattle.afl.specs.declared.AflEntry.{AflEntry}
+use Rattle.afl.specs.Entry.{entryRecordCount}
+use Rattle.afl.specs.Records.{aflEntries, wholeEntries, sumOverEntries, aflRecordCount}
 use Rattle.personalise.specs.declared.Placement.{Placement}
 use Rattle.personalise.specs.declared.Fault.{Fault}
 use Rattle.personalise.specs.declared.Fault.the-variants.{At, Nothing}
-use Rattle.personalise.specs.declared.Answer.{Answer}
-use Rattle.personalise.specs.Objects.{settable, distinct, objectsOf}
-use Rattle.personalise.specs.Placements.{placementsIn, anyOf, puts, eachOnce, objectsFrom}
-use Rattle.personalise.specs.Entries.{lowClear, fileRead, firstNamed, inOrder, noneOffline, apartFrom, keepsAlone, badEntry}
-use Rattle.personalise.specs.Records.{contentBytes, contentOf, mostContent, inLayout, strays, overfull, badAt, badRecord}
-use Rattle.personalise.specs.Outcome.{recordsRoom, locatorRoom, listed, isWritten, answerOf, afterRecords, afterEntries}
-use Rattle.personalise.specs.Clauses.{recordNamed, objectListed, Kept, Exactly}
-use Rattle.personalise.specs.Inner.{runKeeps, writtenOf}
+use Rattle.personalise.specs.declared.PersonaliseResult.{PersonaliseResult}
+use Rattle.personalise.specs.Objects.{settableInRecord, tagsDistinct, objectsOrNone}
+use Rattle.personalise.specs.Placements.{placementsIn, anyPlacement, putsObjectInto, eachPlacedOnce, objectsFrom}
+use Rattle.personalise.specs.Entries.{lowBitsClear, sfiInRange, firstRecordNamed, recordsInOrder, noneOffline, apartFrom, validEntryAlone, badEntry}
+use Rattle.personalise.specs.Records.{contentBytes, recordContent, mostRecordContent, inLayout, placementStrays, recordOverfull, recordBadAt, badRecord}
+use Rattle.personalise.specs.Outcome.{recordsRoom, aflRoom, listedObjects, isWritten, personaliseResult, afterRecords, afterEntries}
+use Rattle.personalise.specs.Clauses.{placesInRecord, placesObject, PersonaliseRules, WrittenExactly}
+use Rattle.personalise.specs.Inner.{parsedListValid, personaliseWritten}
 use Rattle.personalise.proofs.Rules.{every-split, follows-back, entries-follow, total-most}
 use Rattle.personalise.proofs.Twice.{twice-is}
 use Rattle.personalise.proofs.Least.{either-left-false, either-right-false, no-bad, no-bad-back, fitting-of}
-use Rattle.personalise.proofs.Stages.{short-records, short-locator, bad-list, good-list}
+use Rattle.personalise.proofs.Stages.{short-records, short-afl, bad-list, good-list}
 
 -- ---- the tests of the answer
 
 -- every test is passed
 pub record Passes (o es p r l : List ℕ) : Type 0 where
   pub recordsLent : recordsRoom ≤ length r
-  pub locatorLent : locatorRoom ≤ length l
-  pub list : runKeeps (placementsIn p) 1 (primitives o) ≡ true
+  pub aflLent : aflRoom ≤ length l
+  pub list : parsedListValid (placementsIn p) 1 (primitiveObjects o) ≡ true
   pub entries : badEntry es ≡ Nothing
-  pub records : badRecord (listed o) (placementsIn p) (total es) ≡ Nothing
+  pub records : badRecord (listedObjects o) (placementsIn p) (aflRecordCount es) ≡ Nothing
 
 -- an answer that is none of the refusals
-refused : {A : Type 0} {a b : Answer} → isWritten a ≡ true → a ≡ b → isWritten b ≡ false → A
+refused : {A : Type 0} {a b : PersonaliseResult} → isWritten a ≡ true → a ≡ b → isWritten b ≡ false → A
 refused w e f = let z = ap isWritten e in let y : _≡_ {A = ℕ} 0 1 = cc in absurd (omega arith)
 
 module _ (o es p r l : List ℕ) where
-  pub passed : Passes o es p r l → answerOf o es p r l ≡ writtenOf o es p
+  pub passed : Passes o es p r l → personaliseResult o es p r l ≡ personaliseWritten o es p
   passed q =
-      good-list o es p r l (q .recordsLent) (q .locatorLent) (q .list)
-      ∙ ap (afterEntries (listed o) (placementsIn p) es) (q .entries) ∙ ap (afterRecords (listed o) (placementsIn p) es) (q .records)
+      good-list o es p r l (q .recordsLent) (q .aflLent) (q .list)
+      ∙ ap (afterEntries (listedObjects o) (placementsIn p) es) (q .entries) ∙ ap (afterRecords (listedObjects o) (placementsIn p) es) (q .records)
 
-  pub passes : isWritten (answerOf o es p r l) ≡ true → Passes o es p r l
+  pub passes : isWritten (personaliseResult o es p r l) ≡ true → Passes o es p r l
   passes w = by-records (le-or-gt recordsRoom (length r))
     where
-      by-record : recordsRoom ≤ length r → locatorRoom ≤ length l → runKeeps (placementsIn p) 1 (primitives o) ≡ true → badEntry es ≡ Nothing
-          → (x : Fault) → badRecord (listed o) (placementsIn p) (total es) ≡ x → Passes o es p r l
-      by-record a b c d Nothing e = record { recordsLent = a; locatorLent = b; list = c; entries = d; records = e }
+      by-record : recordsRoom ≤ length r → aflRoom ≤ length l → parsedListValid (placementsIn p) 1 (primitiveObjects o) ≡ true → badEntry es ≡ Nothing
+          → (x : Fault) → badRecord (listedObjects o) (placementsIn p) (aflRecordCount es) ≡ x → Passes o es p r l
+      by-record a b c d Nothing e = record { recordsLent = a; aflLent = b; list = c; entries = d; records = e }
       by-record a b c d (At k) e =
-          refused w (good-list o es p r l a b c ∙ ap (afterEntries (listed o) (placementsIn p) es) d ∙ ap (afterRecords (listed o) (placementsIn p) es) e) refl
+          refused w (good-list o es p r l a b c ∙ ap (afterEntries (listedObjects o) (placementsIn p) es) d ∙ ap (afterRecords (listedObjects o) (placementsIn p) es) e) refl
 
-      by-entry : recordsRoom ≤ length r → locatorRoom ≤ length l → runKeeps (placementsIn p) 1 (primitives o) ≡ true
+      by-entry : recordsRoom ≤ length r → aflRoom ≤ length l → parsedListValid (placementsIn p) 1 (primitiveObjects o) ≡ true
           → (x : Fault) → badEntry es ≡ x → Passes o es p r l
-      by-entry a b c Nothing e = by-record a b c e (badRecord (listed o) (placementsIn p) (total es)) refl
-      by-entry a b c (At i) e = refused w (good-list o es p r l a b c ∙ ap (afterEntries (listed o) (placementsIn p) es) e) refl
+      by-entry a b c Nothing e = by-record a b c e (badRecord (listedObjects o) (placementsIn p) (aflRecordCount es)) refl
+      by-entry a b c (At i) e = refused w (good-list o es p r l a b c ∙ ap (afterEntries (listedObjects o) (placementsIn p) es) e) refl
 
-      by-list : recordsRoom ≤ length r → locatorRoom ≤ length l → (x : Bool) → runKeeps (placementsIn p) 1 (primitives o) ≡ x → Passes o es p r l
+      by-list : recordsRoom ≤ length r → aflRoom ≤ length l → (x : Bool) → parsedListValid (placementsIn p) 1 (primitiveObjects o) ≡ x → Passes o es p r l
       by-list a b true e = by-entry a b e (badEntry es) refl
       by-list a b false e = refused w (bad-list o es p r l a b e) refl
 
-      by-locator : recordsRoom ≤ length r → (locatorRoom ≤ length l) ⊎ (length l < locatorRoom) → Passes o es p r l
-      by-locator a (inl b) = by-list a b (runKeeps (placementsIn p) 1 (primitives o)) refl
-      by-locator a (inr b) = refused w (short-locator o es p r l a b) refl
+      by-afl : recordsRoom ≤ length r → (aflRoom ≤ length l) ⊎ (length l < aflRoom) → Passes o es p r l
+      by-afl a (inl b) = by-list a b (parsedListValid (placementsIn p) 1 (primitiveObjects o)) refl
+      by-afl a (inr b) = refused w (short-afl o es p r l a b) refl
 
       by-records : (recordsRoom ≤ length r) ⊎ (length r < recordsRoom) → Passes o es p r l
-      by-records (inl a) = by-locator a (le-or-gt locatorRoom (length l))
+      by-records (inl a) = by-afl a (le-or-gt aflRoom (length l))
       by-records (inr a) = refused w (short-records o es p r l a) refl
 
 -- ---- the list
 
 record ListKept (ps : List Placement) (x : Option (List Object)) : Type 0 where
-  run : isRun x ≡ true
-  settable : every settable (objectsOf x) ≡ true
-  distinct : distinct (objectsOf x) ≡ true
-  once : eachOnce ps 1 (objectsOf x) ≡ true
+  run : isPrimitiveList x ≡ true
+  settable : every settableInRecord (objectsOrNone x) ≡ true
+  distinct : tagsDistinct (objectsOrNone x) ≡ true
+  once : eachPlacedOnce ps 1 (objectsOrNone x) ≡ true
 
-list-kept : (ps : List Placement) (x : Option (List Object)) → runKeeps ps 1 x ≡ true → ListKept ps x
+list-kept : (ps : List Placement) (x : Option (List Object)) → parsedListValid ps 1 x ≡ true → ListKept ps x
 list-kept ps none e = absurd (let z : _≡_ {A = ℕ} 0 1 = cc in omega arith)
 list-kept ps (some os) e =
     let b = both-right _ _ e in
     record { run = refl; settable = both-left _ _ e; distinct = both-left _ _ b; once = both-right _ _ b }
 
-list-keeps : (ps : List Placement) (x : Option (List Object)) → ListKept ps x → runKeeps ps 1 x ≡ true
+list-keeps : (ps : List Placement) (x : Option (List Object)) → ListKept ps x → parsedListValid ps 1 x ≡ true
 list-keeps ps none k = k .run
 list-keeps ps (some os) k = both-yes _ _ (k .settable) (both-yes _ _ (k .distinct) (k .once))
 
 -- ---- the entries
 
 -- what each entry keeps by itself, test by test
-alone-split : (es : List Entry)
-    → every keepsAlone es ≡ both (every lowClear es) (both (every fileRead es) (both (every firstNamed es) (both (every inOrder es) (every noneOffline es))))
-unfolding keepsAlone
+alone-split : (es : List AflEntry)
+    → every validEntryAlone es ≡ both (every lowBitsClear es) (both (every sfiInRange es) (both (every firstRecordNamed es) (both (every recordsInOrder es) (every noneOffline es))))
+unfolding validEntryAlone
 alone-split es =
-    every-split lowClear (λ e. both (fileRead e) (both (firstNamed e) (both (inOrder e) (noneOffline e)))) es
-    ∙ ap (both (every lowClear es)) (every-split fileRead (λ e. both (firstNamed e) (both (inOrder e) (noneOffline e))) es
-    ∙ ap (both (every fileRead es)) (every-split firstNamed (λ e. both (inOrder e) (noneOffline e)) es
-    ∙ ap (both (every firstNamed es)) (every-split inOrder noneOffline es)))
+    every-split lowBitsClear (λ e. both (sfiInRange e) (both (firstRecordNamed e) (both (recordsInOrder e) (noneOffline e)))) es
+    ∙ ap (both (every lowBitsClear es)) (every-split sfiInRange (λ e. both (firstRecordNamed e) (both (recordsInOrder e) (noneOffline e))) es
+    ∙ ap (both (every sfiInRange es)) (every-split firstRecordNamed (λ e. both (recordsInOrder e) (noneOffline e)) es
+    ∙ ap (both (every firstRecordNamed es)) (every-split recordsInOrder noneOffline es)))
 
 -- an entry in order names a record
-some-record : (es : List Entry) → 1 ≤ length es → every inOrder es ≡ true → 1 ≤ sumOf countOf es
-unfolding every sumOf
+some-record : (es : List AflEntry) → 1 ≤ length es → every recordsInOrder es ≡ true → 1 ≤ sumOverEntries entryRecordCount es
+unfolding every sumOverEntries
 some-record [] h k = absurd (omega arith)
 some-record (e ∷ es) h k = let l = leb-true (e .first) (e .last) (both-left _ _ k) in omega arith
 
 -- nothing stands before the first
-apart-first : (es : List Entry) → every (apartFrom []) es ≡ true
+apart-first : (es : List AflEntry) → every (apartFrom []) es ≡ true
 unfolding every apartFrom
 apart-first [] = refl
 apart-first (e ∷ es) = both-yes _ _ refl (apart-first es)
@@ -135,29 +135,29 @@ bytes-into (r ∷ []) h = both-yes _ _ (lt-ltb r 256 (h 0)) refl
 bytes-into (r ∷ o ∷ s) h = both-yes _ _ (lt-ltb r 256 (h 0)) (bytes-into s (λ i. h (suc (suc i))))
 
 -- where no placement strays from any record, each is in the layout
-layout-of : (n m : ℕ) (ps : List Placement) → every into-byte ps ≡ true → ((k : ℕ) → k < 256 → anyOf (strays n m k) ps ≡ false) → every (inLayout n m) ps ≡ true
-unfolding every anyOf into-byte
+layout-of : (n m : ℕ) (ps : List Placement) → every into-byte ps ≡ true → ((k : ℕ) → k < 256 → anyPlacement (placementStrays n m k) ps ≡ false) → every (inLayout n m) ps ≡ true
+unfolding every anyPlacement into-byte
 layout-of n m [] b h = refl
 layout-of n m (q ∷ ps) b h =
     let s = either-left-false _ _ (h (q .into) (ltb-true (q .into) 256 (both-left _ _ b))) in
     both-yes _ _ (not-false _ (sym (both-true _ (eq-eqb (q .into) (q .into) refl)) ∙ s))
     (layout-of n m ps (both-right _ _ b) (λ k l. either-right-false _ _ (h k l)))
 
-none-strays : (n m k : ℕ) (ps : List Placement) → every (inLayout n m) ps ≡ true → anyOf (strays n m k) ps ≡ false
-unfolding every anyOf
+none-strays : (n m k : ℕ) (ps : List Placement) → every (inLayout n m) ps ≡ true → anyPlacement (placementStrays n m k) ps ≡ false
+unfolding every anyPlacement
 none-strays n m k [] e = refl
 none-strays n m k (q ∷ ps) e = either-no _ _ (both-no-right _ _ (ap not (both-left _ _ e))) (none-strays n m k ps (both-right _ _ e))
 
 -- a record that no placement names is empty
-not-named : (n k j : ℕ) (ps : List Placement) → every (recordNamed n) ps ≡ true → between 1 k n ≡ false → anyOf (puts k j) ps ≡ false
-unfolding every anyOf
+not-named : (n k j : ℕ) (ps : List Placement) → every (placesInRecord n) ps ≡ true → between 1 k n ≡ false → anyPlacement (putsObjectInto k j) ps ≡ false
+unfolding every anyPlacement
 not-named n k j [] e b = refl
 not-named n k j (q ∷ ps) e b = either-no _ _ (elim (bool-cases (eqb (q .into) k)) [
   | inl y ↦ (let i : q .into ≡ k = eqb-true _ _ y in let z : between 1 k n ≡ true = ap (λ (x : ℕ). between 1 x n) (sym i) ∙ both-left _ _ e in let w : _≡_ {A = ℕ} 0 1 = cc in absurd (omega arith))
   | inr f ↦ both-no-left _ _ f
 ]) (not-named n k j ps (both-right _ _ e) b)
 
-none-in : (n k : ℕ) (ps : List Placement) → every (recordNamed n) ps ≡ true → between 1 k n ≡ false → (j : ℕ) (os : List Object) → objectsFrom ps k j os ≡ []
+none-in : (n k : ℕ) (ps : List Placement) → every (placesInRecord n) ps ≡ true → between 1 k n ≡ false → (j : ℕ) (os : List Object) → objectsFrom ps k j os ≡ []
 unfolding objectsFrom
 none-in n k ps e b j [] = refl
 none-in n k ps e b j (o ∷ os) = if-no _ _ (not-named n k j ps e b) ∙ none-in n k ps e b (suc j) os
@@ -165,23 +165,23 @@ none-in n k ps e b j (o ∷ os) = if-no _ _ (not-named n k j ps e b) ∙ none-in
 -- ---- both ways
 
 module _ (o es p r l : List ℕ) where
-  pub kept-of : ((i : ℕ) → getD p i 0 < 256) → Passes o es p r l → Kept o es p r l
-  unfolding sumOf badAt
+  pub kept-of : ((i : ℕ) → getD p i 0 < 256) → Passes o es p r l → PersonaliseRules o es p r l
+  unfolding sumOverEntries recordBadAt
   kept-of b q =
-      let k = list-kept (placementsIn p) (primitives o) (q .list) in
+      let k = list-kept (placementsIn p) (primitiveObjects o) (q .list) in
       let f = entries-follow es (q .entries) in
-      let a = sym (alone-split (entries es)) ∙ f .alone in
+      let a = sym (alone-split (aflEntries es)) ∙ f .alone in
       let a₂ = both-right _ _ a in
       let a₃ = both-right _ _ a₂ in
       let a₄ = both-right _ _ a₃ in
       let t = total-most es (q .entries) in
-      let n : total es < 256 = omega arith in
-      let y = sym (every-split (recordNamed (total es)) (objectListed (length (listed o))) (placementsIn p))
-              ∙ layout-of (total es) (length (listed o)) (placementsIn p) (bytes-into p b)
-              (λ i h. either-left-false _ _ (no-bad (listed o) (placementsIn p) (total es) (q .records) i h)) in
+      let n : aflRecordCount es < 256 = omega arith in
+      let y = sym (every-split (placesInRecord (aflRecordCount es)) (placesObject (length (listedObjects o))) (placementsIn p))
+              ∙ layout-of (aflRecordCount es) (length (listedObjects o)) (placementsIn p) (bytes-into p b)
+              (λ i h. either-left-false _ _ (no-bad (listedObjects o) (placementsIn p) (aflRecordCount es) (q .records) i h)) in
       record {
         recordsLent = q .recordsLent;
-        locatorLent = q .locatorLent;
+        aflLent = q .aflLent;
         run = k .run;
         settable = k .settable;
         distinct = k .distinct;
@@ -194,44 +194,44 @@ module _ (o es p r l : List ℕ) where
         firsts = both-left _ _ a₃;
         lasts = both-left _ _ a₄;
         byteFour = both-right _ _ a₄;
-        apart = twice-is (entries es) (both-left _ _ a₄) ∙ f .apart;
-        someRecord = some-record (entries es) (omega (arith, f .some)) (both-left _ _ a₄);
+        apart = twice-is (aflEntries es) (both-left _ _ a₄) ∙ f .apart;
+        someRecord = some-record (aflEntries es) (omega (arith, f .some)) (both-left _ _ a₄);
         fewRecords = t;
         named = both-left _ _ y;
         objectsThere = both-right _ _ y;
-        contents = λ i g h. fitting-of (listed o) (placementsIn p) (total es) (q .records) n i h;
+        contents = λ i g h. fitting-of (listedObjects o) (placementsIn p) (aflRecordCount es) (q .records) n i h;
       }
 
-  pub pass-of : Kept o es p r l → Passes o es p r l
-  unfolding sumOf badAt badEntry contentBytes
+  pub pass-of : PersonaliseRules o es p r l → Passes o es p r l
+  unfolding sumOverEntries recordBadAt badEntry contentBytes
   pass-of k = record {
     recordsLent = k .recordsLent;
-    locatorLent = k .locatorLent;
-    list = list-keeps (placementsIn p) (primitives o) (record { run = k .run; settable = k .settable; distinct = k .distinct; once = k .once });
-    entries = follows-back (entries es) [] (wholeEntries es)
+    aflLent = k .aflLent;
+    list = list-keeps (placementsIn p) (primitiveObjects o) (record { run = k .run; settable = k .settable; distinct = k .distinct; once = k .once });
+    entries = follows-back (aflEntries es) [] (wholeEntries es)
     (record {
       whole = k .whole;
       some = omega (arith, k .someEntry);
       few = omega (arith, k .fewEntries);
-      alone = alone-split (entries es) ∙ both-yes _ _ (k .lowBits) (both-yes _ _ (k .files) (both-yes _ _ (k .firsts) (both-yes _ _ (k .lasts) (k .byteFour))));
-      behind = apart-first (entries es);
-      apart = sym (twice-is (entries es) (k .lasts)) ∙ k .apart;
+      alone = alone-split (aflEntries es) ∙ both-yes _ _ (k .lowBits) (both-yes _ _ (k .files) (both-yes _ _ (k .firsts) (both-yes _ _ (k .lasts) (k .byteFour))));
+      behind = apart-first (aflEntries es);
+      apart = sym (twice-is (aflEntries es) (k .lasts)) ∙ k .apart;
       room = omega (arith, k .fewRecords);
     });
-    records = no-bad-back (listed o) (placementsIn p) (total es) bad;
+    records = no-bad-back (listedObjects o) (placementsIn p) (aflRecordCount es) bad;
   }
     where
-      layout : every (inLayout (total es) (length (listed o))) (placementsIn p) ≡ true
-      layout = every-split (recordNamed (total es)) (objectListed (length (listed o))) (placementsIn p) ∙ both-yes _ _ (k .named) (k .objectsThere)
+      layout : every (inLayout (aflRecordCount es) (length (listedObjects o))) (placementsIn p) ≡ true
+      layout = every-split (placesInRecord (aflRecordCount es)) (placesObject (length (listedObjects o))) (placementsIn p) ∙ both-yes _ _ (k .named) (k .objectsThere)
 
-      full : (i : ℕ) → overfull (listed o) (placementsIn p) i ≡ false
-      full i = elim (bool-cases (between 1 i (total es))) [
-        | inl y ↦ le-ltb mostContent (length (contentOf (listed o) (placementsIn p) i)) (k .contents i (leb-true 1 i (both-left _ _ y)) (leb-true i (total es) (both-right _ _ y)))
-        | inr f ↦ le-ltb mostContent (length (contentOf (listed o) (placementsIn p) i)) (omega (arith, ap (λ (x : List Object). length (contentBytes x)) (none-in (total es) i (placementsIn p) (k .named) f 1 (listed o))))
+      full : (i : ℕ) → recordOverfull (listedObjects o) (placementsIn p) i ≡ false
+      full i = elim (bool-cases (between 1 i (aflRecordCount es))) [
+        | inl y ↦ le-ltb mostRecordContent (length (recordContent (listedObjects o) (placementsIn p) i)) (k .contents i (leb-true 1 i (both-left _ _ y)) (leb-true i (aflRecordCount es) (both-right _ _ y)))
+        | inr f ↦ le-ltb mostRecordContent (length (recordContent (listedObjects o) (placementsIn p) i)) (omega (arith, ap (λ (x : List Object). length (contentBytes x)) (none-in (aflRecordCount es) i (placementsIn p) (k .named) f 1 (listedObjects o))))
       ]
 
-      bad : (i : ℕ) → badAt (listed o) (placementsIn p) (total es) i ≡ false
-      bad i = either-no _ _ (none-strays (total es) (length (listed o)) i (placementsIn p) layout) (full i)
+      bad : (i : ℕ) → recordBadAt (listedObjects o) (placementsIn p) (aflRecordCount es) i ≡ false
+      bad i = either-no _ _ (none-strays (aflRecordCount es) (length (listedObjects o)) i (placementsIn p) layout) (full i)
 
-  pub exactly : ((i : ℕ) → getD p i 0 < 256) → Exactly (answerOf o es p r l) o es p r l
+  pub exactly : ((i : ℕ) → getD p i 0 < 256) → WrittenExactly (personaliseResult o es p r l) o es p r l
   exactly b = (λ w. kept-of b (passes o es p r l w), λ k. ap isWritten (passed o es p r l (pass-of k)))

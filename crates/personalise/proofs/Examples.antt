@@ -8,37 +8,37 @@ use native.Mathlib.Omega.{arith}
 use lib.ListN.{length, replicate}
 use Rattle.basics.specs.Choice.{if, both, either, every}
 use Rattle.basics.specs.Recursion.{recurseBy, recurse}
-use Rattle.basics.specs.Number.{numberFrom, nibbles}
-use Rattle.tlv.specs.Tag.{tagSize, secondByte, thirdByte, tagAt, firstByte, isTemplate, isPrivate}
-use Rattle.tlv.specs.Length.{oneByte, lengthAt}
+use Rattle.basics.specs.Number.{bigEndianFrom, nibbles}
+use Rattle.tlv.specs.Tag.{tagSize, tagSecondByte, tagThirdByte, tagAt, tagFirstByte, isTemplate, isPrivate}
+use Rattle.tlv.specs.Length.{lengthOneByte, lengthAt}
 use Rattle.tlv.specs.Object.{headerOf}
-use Rattle.tlv.specs.Primitives.{withObject, primitiveOf, primitives}
+use Rattle.tlv.specs.Primitives.{objectBefore, primitiveOf, primitiveObjects}
 use Rattle.tlv.specs.Encoding.{tagBytes, lengthBytes}
-use Rattle.dictionary.specs.Rows.{rows, past, find}
-use Rattle.dictionary.specs.Form.{numeric, compressed, digitsThenFs, digitsFit, fitting}
-use Rattle.locator.specs.Records.{entries, wholeEntries, sumOf}
-use Rattle.reading.specs.Taking.{mayStand, mayCome}
-use Rattle.personalise.specs.declared.Answer.{Answer}
-use Rattle.personalise.specs.declared.Answer.the-variants.{Written, BadList, BadEntry, BadRecord}
-use Rattle.personalise.specs.Objects.{settable, lacksTag, distinct}
-use Rattle.personalise.specs.Placements.{placementsIn, countOf, anyOf, eachOnce, objectsFrom}
-use Rattle.personalise.specs.Entries.{apartFrom, roomBehind, keepsAlone, keepsBehind, badEnd, badFrom, badEntry}
-use Rattle.personalise.specs.Records.{contentBytes, recordsFrom, joined, badAt, firstOf, badRecord}
-use Rattle.personalise.specs.Outcome.{listKeeps, afterBuffers, answerOf, recordsLeft, locatorLeft}
-use Rattle.personalise.proofs.Stages.{short-records, short-locator}
+use Rattle.dictionary.specs.Rows.{dictionaryRows, rowPast, findRow}
+use Rattle.dictionary.specs.Form.{numeric, compressed, digitsThenFs, digitsFit, fitsRow}
+use Rattle.afl.specs.Records.{aflEntries, wholeEntries, sumOverEntries}
+use Rattle.reading.specs.Taking.{allowedInTemplate, allowedInResponse}
+use Rattle.personalise.specs.declared.PersonaliseResult.{PersonaliseResult}
+use Rattle.personalise.specs.declared.PersonaliseResult.the-variants.{Written, BadList, BadEntry, BadRecord}
+use Rattle.personalise.specs.Objects.{settableInRecord, lacksTag, tagsDistinct}
+use Rattle.personalise.specs.Placements.{placementsIn, placementCount, anyPlacement, eachPlacedOnce, objectsFrom}
+use Rattle.personalise.specs.Entries.{apartFrom, roomBehind, validEntryAlone, validEntryAfter, badEnd, badFrom, badEntry}
+use Rattle.personalise.specs.Records.{contentBytes, cardRecordsFrom, concatenatedRecords, recordBadAt, firstFault, badRecord}
+use Rattle.personalise.specs.Outcome.{listValid, afterBuffers, personaliseResult, recordsAfter, aflAfter}
+use Rattle.personalise.proofs.Stages.{short-records, short-afl}
 
 -- the answer to objects, entries and placements
-abbrev said : List ℕ → List ℕ → List ℕ → Answer
-said objects es placements = afterBuffers (primitives objects) (placementsIn placements) es
+abbrev said : List ℕ → List ℕ → List ℕ → PersonaliseResult
+said objects es placements = afterBuffers (primitiveObjects objects) (placementsIn placements) es
 
 -- the answer, with the records and the locator that are left of no bytes
-abbrev done : List ℕ → List ℕ → List ℕ → Answer × List ℕ × List ℕ
+abbrev done : List ℕ → List ℕ → List ℕ → PersonaliseResult × List ℕ × List ℕ
 done objects es placements =
-    (said objects es placements, recordsLeft (said objects es placements) objects es placements [], locatorLeft (said objects es placements) es [])
+    (said objects es placements, recordsAfter (said objects es placements) objects es placements [], aflAfter (said objects es placements) es [])
 
 -- records of this length and a locator of that
-abbrev sizes : ℕ → ℕ → Answer
-sizes n m = Written (record { records = n; locator = m })
+abbrev sizes : ℕ → ℕ → PersonaliseResult
+sizes n m = Written (record { records = n; afl = m })
 
 -- n entries of one record each, numbered from k on
 abbrev apart : ℕ → ℕ → List ℕ
@@ -90,15 +90,15 @@ pub record Examples : Type 0 where
   total : said (0x9F ∷ 0x08 ∷ 0x02 ∷ 0x00 ∷ 0x02 ∷ []) (0x08 ∷ 0x01 ∷ 0x80 ∷ 0x00 ∷ 0x10 ∷ 0x01 ∷ 0x80 ∷ 0x00 ∷ []) (0x01 ∷ 0x01 ∷ []) ≡ BadEntry 2
   -- byte 1 with a low bit, file 0, file 11, first record 0, last below first, byte 4 not 0
   low-bits : said [] (0x09 ∷ 0x01 ∷ 0x01 ∷ 0x00 ∷ []) [] ≡ BadEntry 1
-  file-zero : said [] (0x00 ∷ 0x01 ∷ 0x01 ∷ 0x00 ∷ []) [] ≡ BadEntry 1
-  file-ten : said [] (0x50 ∷ 0x01 ∷ 0x01 ∷ 0x00 ∷ []) [] ≡ sizes 2 4
-  file-eleven : said [] (0x58 ∷ 0x01 ∷ 0x01 ∷ 0x00 ∷ []) [] ≡ BadEntry 1
+  sfi-zero : said [] (0x00 ∷ 0x01 ∷ 0x01 ∷ 0x00 ∷ []) [] ≡ BadEntry 1
+  sfi-ten : said [] (0x50 ∷ 0x01 ∷ 0x01 ∷ 0x00 ∷ []) [] ≡ sizes 2 4
+  sfi-eleven : said [] (0x58 ∷ 0x01 ∷ 0x01 ∷ 0x00 ∷ []) [] ≡ BadEntry 1
   first-zero : said [] (0x08 ∷ 0x00 ∷ 0x01 ∷ 0x00 ∷ []) [] ≡ BadEntry 1
   not-below : said [] (0x08 ∷ 0x02 ∷ 0x01 ∷ 0x00 ∷ []) [] ≡ BadEntry 1
   offline : said [] (0x08 ∷ 0x01 ∷ 0x01 ∷ 0x01 ∷ []) [] ≡ BadEntry 1
   -- an object of the session, of template 77, a template, an unknown one, a private one of the terminal
   session : said (0x95 ∷ 0x05 ∷ 0x00 ∷ 0x00 ∷ 0x00 ∷ 0x00 ∷ 0x00 ∷ []) (0x08 ∷ 0x01 ∷ 0x01 ∷ 0x00 ∷ []) (0x01 ∷ 0x01 ∷ []) ≡ BadList
-  options : said (0x82 ∷ 0x02 ∷ 0x00 ∷ 0x80 ∷ []) (0x08 ∷ 0x01 ∷ 0x01 ∷ 0x00 ∷ []) (0x01 ∷ 0x01 ∷ []) ≡ BadList
+  gpo : said (0x82 ∷ 0x02 ∷ 0x00 ∷ 0x80 ∷ []) (0x08 ∷ 0x01 ∷ 0x01 ∷ 0x00 ∷ []) (0x01 ∷ 0x01 ∷ []) ≡ BadList
   template : said (0x70 ∷ 0x00 ∷ []) (0x08 ∷ 0x01 ∷ 0x01 ∷ 0x00 ∷ []) (0x01 ∷ 0x01 ∷ []) ≡ BadList
   unknown : said (0x42 ∷ 0x01 ∷ 0x41 ∷ []) (0x08 ∷ 0x01 ∷ 0x01 ∷ 0x00 ∷ []) (0x01 ∷ 0x01 ∷ []) ≡ BadList
   private : said (0xDF ∷ 0x81 ∷ 0x23 ∷ 0x06 ∷ 0x00 ∷ 0x00 ∷ 0x00 ∷ 0x00 ∷ 0x00 ∷ 0x00 ∷ []) (0x08 ∷ 0x01 ∷ 0x01 ∷ 0x00 ∷ []) (0x01 ∷ 0x01 ∷ []) ≡ BadList
@@ -113,12 +113,12 @@ pub record Examples : Type 0 where
   odd : said (0x9F ∷ 0x08 ∷ 0x02 ∷ 0x00 ∷ 0x02 ∷ []) (0x08 ∷ 0x01 ∷ 0x02 ∷ 0x00 ∷ []) (0x01 ∷ 0x01 ∷ 0x02 ∷ []) ≡ BadRecord 2
 
 examples : Examples
-unfolding primitives recurse recurseBy primitiveOf withObject headerOf tagAt tagSize secondByte thirdByte lengthAt oneByte firstByte isTemplate isPrivate numberFrom nibbles if both either every rows past find mayCome mayStand fitting numeric digitsFit compressed digitsThenFs tagBytes lengthBytes settable lacksTag distinct placementsIn countOf anyOf eachOnce objectsFrom entries wholeEntries sumOf apartFrom roomBehind keepsAlone keepsBehind badEnd badFrom badEntry contentBytes recordsFrom joined badAt firstOf badRecord listKeeps
-examples = record { two = refl; order = refl; empty = refl; shortest = refl; fullest = refl; over = refl; split = refl; below = refl; above = refl; twice = refl; left-out = refl; placed-twice = refl; meeting = refl; files = refl; no-entry = refl; cut = refl; sixty-three = refl; sixty-two = refl; all = refl; many = refl; total = refl; low-bits = refl; file-zero = refl; file-ten = refl; file-eleven = refl; first-zero = refl; not-below = refl; offline = refl; session = refl; options = refl; template = refl; unknown = refl; private = refl; too-long = refl; digit = refl; object-nine = refl; record-three = refl; record-zero = refl; odd = refl }
+unfolding primitiveObjects recurse recurseBy primitiveOf objectBefore headerOf tagAt tagSize tagSecondByte tagThirdByte lengthAt lengthOneByte tagFirstByte isTemplate isPrivate bigEndianFrom nibbles if both either every dictionaryRows rowPast findRow allowedInResponse allowedInTemplate fitsRow numeric digitsFit compressed digitsThenFs tagBytes lengthBytes settableInRecord lacksTag tagsDistinct placementsIn placementCount anyPlacement eachPlacedOnce objectsFrom aflEntries wholeEntries sumOverEntries apartFrom roomBehind validEntryAlone validEntryAfter badEnd badFrom badEntry contentBytes cardRecordsFrom concatenatedRecords recordBadAt firstFault badRecord listValid
+examples = record { two = refl; order = refl; empty = refl; shortest = refl; fullest = refl; over = refl; split = refl; below = refl; above = refl; twice = refl; left-out = refl; placed-twice = refl; meeting = refl; files = refl; no-entry = refl; cut = refl; sixty-three = refl; sixty-two = refl; all = refl; many = refl; total = refl; low-bits = refl; sfi-zero = refl; sfi-ten = refl; sfi-eleven = refl; first-zero = refl; not-below = refl; offline = refl; session = refl; gpo = refl; template = refl; unknown = refl; private = refl; too-long = refl; digit = refl; object-nine = refl; record-three = refl; record-zero = refl; odd = refl }
 
 -- buffers of 32,767 and 247 bytes, and of 32,768 and 247, whatever they hold, with a list that is bad and no entry
-buffers : (r l : List ℕ) → length r ≡ 32767 → length l ≡ 247 → answerOf (0x57 ∷ 0x00 ∷ 0x57 ∷ 0x00 ∷ []) [] [] r l ≡ Answer.ShortRecords
+buffers : (r l : List ℕ) → length r ≡ 32767 → length l ≡ 247 → personaliseResult (0x57 ∷ 0x00 ∷ 0x57 ∷ 0x00 ∷ []) [] [] r l ≡ PersonaliseResult.ShortRecords
 buffers r l e f = short-records (0x57 ∷ 0x00 ∷ 0x57 ∷ 0x00 ∷ []) [] [] r l (omega arith)
 
-second : (r l : List ℕ) → length r ≡ 32768 → length l ≡ 247 → answerOf (0x57 ∷ 0x00 ∷ 0x57 ∷ 0x00 ∷ []) [] [] r l ≡ Answer.ShortLocator
-second r l e f = short-locator (0x57 ∷ 0x00 ∷ 0x57 ∷ 0x00 ∷ []) [] [] r l (omega arith) (omega arith)
+second : (r l : List ℕ) → length r ≡ 32768 → length l ≡ 247 → personaliseResult (0x57 ∷ 0x00 ∷ 0x57 ∷ 0x00 ∷ []) [] [] r l ≡ PersonaliseResult.ShortAfl
+second r l e f = short-afl (0x57 ∷ 0x00 ∷ 0x57 ∷ 0x00 ∷ []) [] [] r l (omega arith) (omega arith)

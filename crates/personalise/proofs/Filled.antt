@@ -6,16 +6,16 @@ use Prim.Native.Nat.{ℕ, suc, _+_, _-_, _<_, _≤_}
 use native.Mathlib.Numerals.{add-one}
 use native.Mathlib.Omega.{arith}
 use lib.ListN.{length, length-append}
-use Rattle.tlv.specs.declared.Header.{Header}
-use Rattle.tlv.specs.declared.Front.the-variants as front
+use Rattle.tlv.specs.declared.TlvHeader.{TlvHeader}
+use Rattle.tlv.specs.declared.ObjectFront.the-variants as front
 use Rattle.tlv.specs.Primitives.{Object, primitiveOf}
 use Rattle.tlv.proofs.Primitives.{firstOf, restOf}
 use Rattle.personalise.specs.declared.Placement.{Placement}
 use Rattle.personalise.specs.Placements.{objectsFrom}
 use Rattle.personalise.specs.Objects.{recordTemplate}
-use Rattle.personalise.specs.Records.{contentBytes, contentOf, recordOf, recordsFrom, joined, mostContent}
-use Rattle.personalise.specs.Outcome.{listed, recordBytes}
-use Rattle.personalise.specs.Inner.{Usable, over, Puts, placedBytes}
+use Rattle.personalise.specs.Records.{contentBytes, recordContent, cardRecordBytes, cardRecordsFrom, concatenatedRecords, mostRecordContent}
+use Rattle.personalise.specs.Outcome.{listedObjects, recordBytes}
+use Rattle.personalise.specs.Inner.{UsableObjects, bytesWrittenOver, PutsBytes, placedBytes}
 use Rattle.personalise.proofs.Known.{known, known-tag}
 use Rattle.personalise.proofs.Listed.{first-settable, bytes-on, object-length}
 use Rattle.personalise.proofs.Forms.{tag-one, length-most}
@@ -23,9 +23,9 @@ use Rattle.personalise.proofs.Over.{puts-length, puts-next}
 
 -- the content of the objects in s, numbered from j on
 abbrev pub content : List Placement → ℕ → ℕ → List ℕ → List ℕ
-content ps k j s = contentBytes (objectsFrom ps k j (listed s))
+content ps k j s = contentBytes (objectsFrom ps k j (listedObjects s))
 
-module _ (s : List ℕ) (n : length s ≡ 0 → ⊥) (h : Header) (e : primitiveOf s ≡ front.Object h) (u : Usable s) (ps : List Placement) (k j : ℕ) where
+module _ (s : List ℕ) (n : length s ≡ 0 → ⊥) (h : TlvHeader) (e : primitiveOf s ≡ front.Object h) (u : UsableObjects s) (ps : List Placement) (k j : ℕ) where
   -- a tag of at most three bytes, and a length below 256
   pub first-small : (h .tag < 0x1000000) × (length (firstOf s h .value) < 0x100)
   first-small =
@@ -45,9 +45,9 @@ module _ (s : List ℕ) (n : length s ≡ 0 → ⊥) (h : Header) (e : primitive
     pub first-room : to + length first ≤ length out
     first-room = omega (arith, sizes)
 
-    module _ {to′ : ℕ} {out′ : List ℕ} (p : Puts to′ out′ out to first) where
-      pub left-over : over out to (content ps k j s) ≡ over out′ to′ left
-      left-over = ap (over out to) (bytes-on s n h e u ps k j) ∙ puts-next out to first first-room p left
+    module _ {to′ : ℕ} {out′ : List ℕ} (p : PutsBytes to′ out′ out to first) where
+      pub left-over : bytesWrittenOver out to (content ps k j s) ≡ bytesWrittenOver out′ to′ left
+      left-over = ap (bytesWrittenOver out to) (bytes-on s n h e u ps k j) ∙ puts-next out to first first-room p left
 
       pub left-next : to + length (content ps k j s) ≡ to′ + length left
       left-next = omega (arith, sizes, p .next)
@@ -60,41 +60,41 @@ module _ (s : List ℕ) (n : length s ≡ 0 → ⊥) (h : Header) (e : primitive
 module _ (os : List Object) (ps : List Placement) where
   -- the records from k on, of n
   abbrev pub recordsLeft : ℕ → ℕ → List ℕ
-  recordsLeft n k = joined (recordsFrom os ps k (n + 1 - k))
+  recordsLeft n k = concatenatedRecords (cardRecordsFrom os ps k (n + 1 - k))
 
   -- a record is at most 256 bytes
-  pub record-most : (k : ℕ) → length (contentOf os ps k) ≤ mostContent → length (recordOf os ps k) ≤ 256
+  pub record-most : (k : ℕ) → length (recordContent os ps k) ≤ mostRecordContent → length (cardRecordBytes os ps k) ≤ 256
   record-most k h =
-      let v = contentOf os ps k in
+      let v = recordContent os ps k in
       omega (arith, object-length recordTemplate v, ap length (tag-one recordTemplate (omega arith)), length-most (length v) (omega arith))
 
-  pub records-more : (n k : ℕ) → k ≤ n → recordsLeft n k ≡ recordOf os ps k ++ recordsLeft n (k + 1)
-  unfolding recordsFrom joined
+  pub records-more : (n k : ℕ) → k ≤ n → recordsLeft n k ≡ cardRecordBytes os ps k ++ recordsLeft n (k + 1)
+  unfolding cardRecordsFrom concatenatedRecords
   records-more n k h =
       let e : n + 1 - k ≡ suc (n + 1 - (k + 1)) = omega arith in
       rw (e, add-one k)
 
   pub records-done : (n k : ℕ) → n < k → recordsLeft n k ≡ []
-  unfolding recordsFrom joined
+  unfolding cardRecordsFrom concatenatedRecords
   records-done n k h = let e : n + 1 - k ≡ 0 = omega arith in rw e
 
   pub records-all : (n : ℕ) → recordsLeft n 1 ≡ recordBytes os ps n
-  records-all n = let e : n + 1 - 1 ≡ n = omega arith in ap (λ (m : ℕ). joined (recordsFrom os ps 1 m)) e
+  records-all n = let e : n + 1 - 1 ≡ n = omega arith in ap (λ (m : ℕ). concatenatedRecords (cardRecordsFrom os ps 1 m)) e
 
   -- a turn of the loop
-  module _ (n k : ℕ) (h : k ≤ n) (f : length (contentOf os ps k) ≤ mostContent) (out : List ℕ) (at : ℕ) (room : at + 256 ≤ length out)
-      {at′ : ℕ} {out′ : List ℕ} (p : Puts at′ out′ out at (recordOf os ps k)) where
-    fits : at + length (recordOf os ps k) ≤ length out
+  module _ (n k : ℕ) (h : k ≤ n) (f : length (recordContent os ps k) ≤ mostRecordContent) (out : List ℕ) (at : ℕ) (room : at + 256 ≤ length out)
+      {at′ : ℕ} {out′ : List ℕ} (p : PutsBytes at′ out′ out at (cardRecordBytes os ps k)) where
+    fits : at + length (cardRecordBytes os ps k) ≤ length out
     fits = omega (arith, record-most k f)
 
-    pub turn-over : over out at (recordsLeft n k) ≡ over out′ at′ (recordsLeft n (k + 1))
-    turn-over = ap (over out at) (records-more n k h) ∙ puts-next out at (recordOf os ps k) fits p (recordsLeft n (k + 1))
+    pub transition-over : bytesWrittenOver out at (recordsLeft n k) ≡ bytesWrittenOver out′ at′ (recordsLeft n (k + 1))
+    transition-over = ap (bytesWrittenOver out at) (records-more n k h) ∙ puts-next out at (cardRecordBytes os ps k) fits p (recordsLeft n (k + 1))
 
-    pub turn-next : at + length (recordsLeft n k) ≡ at′ + length (recordsLeft n (k + 1))
-    turn-next = omega (arith, ap length (records-more n k h) ∙ length-append (recordOf os ps k) (recordsLeft n (k + 1)), p .next)
+    pub transition-next : at + length (recordsLeft n k) ≡ at′ + length (recordsLeft n (k + 1))
+    transition-next = omega (arith, ap length (records-more n k h) ∙ length-append (cardRecordBytes os ps k) (recordsLeft n (k + 1)), p .next)
 
-    pub turn-length : length out′ ≡ length out
-    turn-length = puts-length out at (recordOf os ps k) fits p
+    pub transition-length : length out′ ≡ length out
+    transition-length = puts-length out at (cardRecordBytes os ps k) fits p
 
-    pub turn-most : at′ ≤ at + 256
-    turn-most = omega (arith, p .next, record-most k f)
+    pub transition-most : at′ ≤ at + 256
+    transition-most = omega (arith, p .next, record-most k f)

@@ -16,8 +16,8 @@ use Rattle.basics.proofs.Order.{le-or-gt, equal-or-not}
 use Rattle.tlv.specs.Primitives.{Object}
 use Rattle.personalise.specs.declared.Placement.{Placement}
 use Rattle.personalise.specs.declared.Fault.the-variants.{At, Nothing}
-use Rattle.personalise.specs.Records.{contentOf, mostContent, misplaced, badAt, firstOf, badRecord}
-use Rattle.personalise.specs.Inner.{capped, Fitting}
+use Rattle.personalise.specs.Records.{recordContent, mostRecordContent, misplaced, recordBadAt, firstFault, badRecord}
+use Rattle.personalise.specs.Inner.{cappedSize, ContentsFit}
 
 -- neither of two tests passes
 pub either-left-false : (a b : Bool) → either a b ≡ false → a ≡ false
@@ -31,82 +31,82 @@ either-right-false true b e = cc
 either-right-false false b e = e
 
 -- a size is over the bound exactly where the capped one is
-pub over-capped : (n : ℕ) → ltb mostContent (capped n) ≡ ltb mostContent n
-over-capped n = elim (le-or-gt n mostContent) [
-  | inl l ↦ le-ltb mostContent (capped n) (omega arith) ∙ sym (le-ltb mostContent n l)
-  | inr g ↦ lt-ltb mostContent (capped n) (omega arith) ∙ sym (lt-ltb mostContent n g)
+pub over-capped : (n : ℕ) → ltb mostRecordContent (cappedSize n) ≡ ltb mostRecordContent n
+over-capped n = elim (le-or-gt n mostRecordContent) [
+  | inl l ↦ le-ltb mostRecordContent (cappedSize n) (omega arith) ∙ sym (le-ltb mostRecordContent n l)
+  | inr g ↦ lt-ltb mostRecordContent (cappedSize n) (omega arith) ∙ sym (lt-ltb mostRecordContent n g)
 ]
 
 module _ (os : List Object) (ps : List Placement) (n k m : ℕ) (c : m ≡ length os) where
-  pub bad-stray : misplaced ps n m k ≡ true → badAt os ps n k ≡ true
-  unfolding badAt
+  pub bad-stray : misplaced ps n m k ≡ true → recordBadAt os ps n k ≡ true
+  unfolding recordBadAt
   bad-stray e = either-left _ _ (ap (λ (x : ℕ). misplaced ps n x k) (sym c) ∙ e)
 
-  pub bad-size : misplaced ps n m k ≡ false → (z : ℕ) → z ≡ capped (length (contentOf os ps k)) → badAt os ps n k ≡ ltb mostContent z
-  unfolding badAt
+  pub bad-size : misplaced ps n m k ≡ false → (z : ℕ) → z ≡ cappedSize (length (recordContent os ps k)) → recordBadAt os ps n k ≡ ltb mostRecordContent z
+  unfolding recordBadAt
   bad-size e z q =
       either-false _ (ap (λ (x : ℕ). misplaced ps n x k) (sym c) ∙ e)
-      ∙ sym (ap (ltb mostContent) q ∙ over-capped (length (contentOf os ps k)))
+      ∙ sym (ap (ltb mostRecordContent) q ∙ over-capped (length (recordContent os ps k)))
 
 -- ---- the search
 
-pub first-start : (os : List Object) (ps : List Placement) (n : ℕ) → badRecord os ps n ≡ firstOf (badAt os ps n) 0 (256 - 0)
+pub first-start : (os : List Object) (ps : List Placement) (n : ℕ) → badRecord os ps n ≡ firstFault (recordBadAt os ps n) 0 (256 - 0)
 unfolding badRecord
 first-start os ps n = refl
 
 module _ (f : ℕ → Bool) (k : ℕ) where
-  pub first-yes : k < 256 → f k ≡ true → firstOf f k (256 - k) ≡ At k
-  unfolding firstOf
+  pub first-yes : k < 256 → f k ≡ true → firstFault f k (256 - k) ≡ At k
+  unfolding firstFault
   first-yes h e = let m : 256 - k ≡ suc (256 - (k + 1)) = omega arith in rw m (if-yes _ _ e)
 
-  pub first-on : k < 256 → f k ≡ false → firstOf f k (256 - k) ≡ firstOf f (k + 1) (256 - (k + 1))
-  unfolding firstOf
+  pub first-on : k < 256 → f k ≡ false → firstFault f k (256 - k) ≡ firstFault f (k + 1) (256 - (k + 1))
+  unfolding firstFault
   first-on h e = let m : 256 - k ≡ suc (256 - (k + 1)) = omega arith in rw (m, add-one) (if-no _ _ e)
 
-  pub first-none : 256 ≤ k → firstOf f k (256 - k) ≡ Nothing
-  unfolding firstOf
+  pub first-none : 256 ≤ k → firstFault f k (256 - k) ≡ Nothing
+  unfolding firstFault
   first-none h = let m : 256 - k ≡ 0 = omega arith in rw m
 
 -- ---- what the search says
 
-none-found : (f : ℕ → Bool) (m k : ℕ) → firstOf f k m ≡ Nothing → (i : ℕ) → k ≤ i → i < k + m → f i ≡ false
-unfolding firstOf
+none-found : (f : ℕ → Bool) (m k : ℕ) → firstFault f k m ≡ Nothing → (i : ℕ) → k ≤ i → i < k + m → f i ≡ false
+unfolding firstFault
 none-found f zero k q i l h = absurd (omega arith)
 none-found f (suc m) k q i l h = elim (bool-cases (f k)) [
-  | inl y ↦ (let p = if-yes (At k) (firstOf f (suc k) m) y in let z : _≡_ {A = ℕ} 0 1 = cc in absurd (omega arith))
+  | inl y ↦ (let p = if-yes (At k) (firstFault f (suc k) m) y in let z : _≡_ {A = ℕ} 0 1 = cc in absurd (omega arith))
   | inr n ↦ elim (equal-or-not i k) [
     | inl e ↦ ap f e ∙ n
-    | inr d ↦ none-found f m (suc k) (sym (if-no (At k) (firstOf f (suc k) m) n) ∙ q) i (omega arith) (omega arith)
+    | inr d ↦ none-found f m (suc k) (sym (if-no (At k) (firstFault f (suc k) m) n) ∙ q) i (omega arith) (omega arith)
   ]
 ]
 
-all-fail : (f : ℕ → Bool) (m k : ℕ) → ((i : ℕ) → f i ≡ false) → firstOf f k m ≡ Nothing
-unfolding firstOf
+all-fail : (f : ℕ → Bool) (m k : ℕ) → ((i : ℕ) → f i ≡ false) → firstFault f k m ≡ Nothing
+unfolding firstFault
 all-fail f zero k h = refl
 all-fail f (suc m) k h = if-no _ _ (h k) ∙ all-fail f m (suc k) h
 
-below : (f : ℕ → Bool) (m k i : ℕ) → firstOf f k m ≡ At i → i < k + m
-unfolding firstOf
+below : (f : ℕ → Bool) (m k i : ℕ) → firstFault f k m ≡ At i → i < k + m
+unfolding firstFault
 below f zero k i q = let z : _≡_ {A = ℕ} 0 1 = cc in absurd (omega arith)
 below f (suc m) k i q = elim (bool-cases (f k)) [
-  | inl y ↦ (let p : At k ≡ At i = sym (if-yes (At k) (firstOf f (suc k) m) y) ∙ q in let z : k ≡ i = cc in omega arith)
-  | inr n ↦ (let h = below f m (suc k) i (sym (if-no (At k) (firstOf f (suc k) m) n) ∙ q) in omega arith)
+  | inl y ↦ (let p : At k ≡ At i = sym (if-yes (At k) (firstFault f (suc k) m) y) ∙ q in let z : k ≡ i = cc in omega arith)
+  | inr n ↦ (let h = below f m (suc k) i (sym (if-no (At k) (firstFault f (suc k) m) n) ∙ q) in omega arith)
 ]
 
 module _ (os : List Object) (ps : List Placement) (n : ℕ) where
-  pub no-bad : badRecord os ps n ≡ Nothing → (k : ℕ) → k < 256 → badAt os ps n k ≡ false
+  pub no-bad : badRecord os ps n ≡ Nothing → (k : ℕ) → k < 256 → recordBadAt os ps n k ≡ false
   unfolding badRecord
-  no-bad q k h = none-found (badAt os ps n) 256 0 q k (omega arith) (omega arith)
+  no-bad q k h = none-found (recordBadAt os ps n) 256 0 q k (omega arith) (omega arith)
 
-  pub no-bad-back : ((k : ℕ) → badAt os ps n k ≡ false) → badRecord os ps n ≡ Nothing
+  pub no-bad-back : ((k : ℕ) → recordBadAt os ps n k ≡ false) → badRecord os ps n ≡ Nothing
   unfolding badRecord
-  no-bad-back h = all-fail (badAt os ps n) 256 0 h
+  no-bad-back h = all-fail (recordBadAt os ps n) 256 0 h
 
   pub record-number : (k : ℕ) → badRecord os ps n ≡ At k → k < 256
   unfolding badRecord
-  record-number k q = omega (arith, below (badAt os ps n) 256 0 k q)
+  record-number k q = omega (arith, below (recordBadAt os ps n) 256 0 k q)
 
   -- where no record is bad, no content of 255 or fewer records is too long
-  pub fitting-of : badRecord os ps n ≡ Nothing → n < 256 → Fitting os ps n
-  unfolding badAt
+  pub fitting-of : badRecord os ps n ≡ Nothing → n < 256 → ContentsFit os ps n
+  unfolding recordBadAt
   fitting-of q l k h = ltb-false _ _ (either-right-false _ _ (no-bad q k (omega arith)))

@@ -8,41 +8,41 @@ use native.Mathlib.Numerals.{add-one}
 use native.Mathlib.Omega.{arith}
 use lib.ListN.{length, take, drop, set, length-append, length-take, length-drop, take-append-drop, drop-of-length-le}
 use lib.Seq.{take-at, drop-at, drop-drop, take-length, sets, sets-eq}
-use Rattle.basics.specs.Front.{inFront}
-use Rattle.personalise.specs.Inner.{over, Puts}
+use Rattle.basics.specs.Front.{withPrefix}
+use Rattle.personalise.specs.Inner.{bytesWrittenOver, PutsBytes}
 
-pub over-nothing : (s : List ℕ) (at : ℕ) → over s at [] ≡ s
-unfolding over
+pub over-nothing : (s : List ℕ) (at : ℕ) → bytesWrittenOver s at [] ≡ s
+unfolding bytesWrittenOver
 over-nothing s at = rw add-zero (take-append-drop at s)
 
 -- nothing is written
-pub puts-nothing : (s : List ℕ) (at : ℕ) {v : List ℕ} → v ≡ [] → Puts at s s at v
-puts-nothing s at e = record { next = sym (add-zero at) ∙ ap (λ (x : List ℕ). at + length x) (sym e); wrote = sym (over-nothing s at) ∙ ap (over s at) (sym e) }
+pub puts-nothing : (s : List ℕ) (at : ℕ) {v : List ℕ} → v ≡ [] → PutsBytes at s s at v
+puts-nothing s at e = record { next = sym (add-zero at) ∙ ap (λ (x : List ℕ). at + length x) (sym e); wrote = sym (over-nothing s at) ∙ ap (bytesWrittenOver s at) (sym e) }
 
 -- in front
-pub over-front : (s v : List ℕ) → over s 0 v ≡ inFront v s
-unfolding over
+pub over-front : (s v : List ℕ) → bytesWrittenOver s 0 v ≡ withPrefix v s
+unfolding bytesWrittenOver
 over-front s v = rw zero-add
 
 module _ (s : List ℕ) (at : ℕ) (v : List ℕ) (h : at + length v ≤ length s) where
   front-length : length (take at s ++ v) ≡ at + length v
   front-length = simp (length-append, length-take) (omega arith)
 
-  front-is : over s at v ≡ (take at s ++ v) ++ drop (at + length v) s
-  unfolding over
+  front-is : bytesWrittenOver s at v ≡ (take at s ++ v) ++ drop (at + length v) s
+  unfolding bytesWrittenOver
   front-is = sym (append-assoc (take at s) v _)
 
   -- the buffer keeps its length
-  pub over-length : length (over s at v) ≡ length s
+  pub over-length : length (bytesWrittenOver s at v) ≡ length s
   over-length = rw front-is (simp (length-append, length-take, length-drop) (omega arith))
 
   -- stored one by one
-  pub over-sets : sets s at v ≡ over s at v
+  pub over-sets : sets s at v ≡ bytesWrittenOver s at v
   over-sets = sets-eq v s at h ∙ sym front-is
 
   -- one behind the other
-  pub over-join : (w : List ℕ) → over (over s at v) (at + length v) w ≡ over s at (v ++ w)
-  unfolding over
+  pub over-join : (w : List ℕ) → bytesWrittenOver (bytesWrittenOver s at v) (at + length v) w ≡ bytesWrittenOver s at (v ++ w)
+  unfolding bytesWrittenOver
   over-join w =
       let n = at + length v in
       ap (λ (l : List ℕ). take n l ++ (w ++ drop (n + length w) l)) front-is
@@ -50,25 +50,25 @@ module _ (s : List ℕ) (at : ℕ) (v : List ℕ) (h : at + length v ≤ length 
       (simp append-assoc)
 
   -- by one function and then another
-  module _ {k : ℕ} {t : List ℕ} (p : Puts k t s at v) where
+  module _ {k : ℕ} {t : List ℕ} (p : PutsBytes k t s at v) where
     pub puts-length : length t ≡ length s
     puts-length = ap length (p .wrote) ∙ over-length
 
-    pub puts-then : {n : ℕ} {u : List ℕ} (w : List ℕ) → Puts n u t k w → Puts n u s at (v ++ w)
+    pub puts-then : {n : ℕ} {u : List ℕ} (w : List ℕ) → PutsBytes n u t k w → PutsBytes n u s at (v ++ w)
     puts-then w q = record {
       next = q .next ∙ rw (p .next, length-append) (add-assoc at (length v) (length w));
       wrote = q .wrote ∙ rw (p .wrote, p .next) (over-join w);
     }
 
     -- what is still to be written
-    pub puts-next : (w : List ℕ) → over s at (v ++ w) ≡ over t k w
+    pub puts-next : (w : List ℕ) → bytesWrittenOver s at (v ++ w) ≡ bytesWrittenOver t k w
     puts-next w = sym (rw (p .wrote, p .next) (over-join w))
 
 -- a part of the buffer that was lent, and comes back with v copied into it
 pub over-part : (s : List ℕ) (at : ℕ) (v ys : List ℕ) → at + length v ≤ length s
     → ys ≡ take (length v) v ++ drop (length v) (take (at + length v - at) (drop at s))
-    → take at s ++ (ys ++ drop (at + length v - at) (drop at s)) ≡ over s at v
-unfolding over
+    → take at s ++ (ys ++ drop (at + length v - at) (drop at s)) ≡ bytesWrittenOver s at v
+unfolding bytesWrittenOver
 over-part s at v ys h p =
     let e : at + length v - at ≡ length v = omega arith in
     let l : length (take (length v) (drop at s)) ≤ length v = simp length-take (omega arith) in
@@ -76,15 +76,15 @@ over-part s at v ys h p =
     rw (q, e, drop-drop (length v) at s)
 
 -- stores one by one, of bytes that are v
-pub sets-put : (s : List ℕ) (at : ℕ) (w : List ℕ) {v : List ℕ} → at + length w ≤ length s → v ≡ w → Puts (at + length w) (sets s at w) s at v
-sets-put s at w h e = record { next = ap (λ (l : List ℕ). at + length l) (sym e); wrote = over-sets s at w h ∙ ap (over s at) (sym e) }
+pub sets-put : (s : List ℕ) (at : ℕ) (w : List ℕ) {v : List ℕ} → at + length w ≤ length s → v ≡ w → PutsBytes (at + length w) (sets s at w) s at v
+sets-put s at w h e = record { next = ap (λ (l : List ℕ). at + length l) (sym e); wrote = over-sets s at w h ∙ ap (bytesWrittenOver s at) (sym e) }
 
 -- two and three stores, as code makes them
-pub two-put : (s : List ℕ) (at x y : ℕ) {v : List ℕ} → at + 2 ≤ length s → v ≡ x ∷ y ∷ [] → Puts (at + 2) (set (set s at x) (at + 1) y) s at v
+pub two-put : (s : List ℕ) (at x y : ℕ) {v : List ℕ} → at + 2 ≤ length s → v ≡ x ∷ y ∷ [] → PutsBytes (at + 2) (set (set s at x) (at + 1) y) s at v
 two-put s at x y h e = let n = add-one at in rw n (sets-put s at (x ∷ y ∷ []) h e)
 
 pub three-put : (s : List ℕ) (at x y z : ℕ) {v : List ℕ} → at + 3 ≤ length s → v ≡ x ∷ y ∷ z ∷ []
-    → Puts (at + 3) (set (set (set s at x) (at + 1) y) (at + 2) z) s at v
+    → PutsBytes (at + 3) (set (set (set s at x) (at + 1) y) (at + 2) z) s at v
 three-put s at x y z h e =
     let n = add-one at in
     let m : at + 2 ≡ suc (suc at) = omega arith in
@@ -96,13 +96,13 @@ module _ (s : List ℕ) (at : ℕ) (t l v : List ℕ) (h : at + (length t + (len
   pub tag-room : at + length t ≤ length s
   tag-room = omega arith
 
-  module _ {k : ℕ} {x : List ℕ} (p : Puts k x s at t) where
+  module _ {k : ℕ} {x : List ℕ} (p : PutsBytes k x s at t) where
     pub length-room : k + length l ≤ length x
     length-room = omega (arith, puts-length s at t tag-room p, p .next)
 
-    module _ {m : ℕ} {y : List ℕ} (q : Puts m y x k l) where
+    module _ {m : ℕ} {y : List ℕ} (q : PutsBytes m y x k l) where
       pub value-room : m + length v ≤ length y
       value-room = omega (arith, puts-length s at t tag-room p, p .next, puts-length x k l length-room q, q .next)
 
-      pub all-put : {n : ℕ} {z : List ℕ} → Puts n z y m v → Puts n z s at (t ++ (l ++ v))
+      pub all-put : {n : ℕ} {z : List ℕ} → PutsBytes n z y m v → PutsBytes n z s at (t ++ (l ++ v))
       all-put r = puts-then s at t tag-room p (l ++ v) (puts-then x k l length-room q v r)

@@ -10,8 +10,8 @@ use borrow.Author.Tests.{eq-eqb, ne-eqb, le-leb, lt-leb}
 use Rattle.basics.proofs.Laws.{if-yes, if-no, either-left, either-false, both-yes, both-true, both-no-left, both-no-right}
 use Rattle.tlv.proofs.Laws.{tail, tail-is}
 use Rattle.personalise.specs.declared.Placement.{Placement}
-use Rattle.personalise.specs.Placements.{placement, placementsIn, countOf, anyOf}
-use Rattle.personalise.specs.Records.{inLayout, strays}
+use Rattle.personalise.specs.Placements.{placement, placementsIn, placementCount, anyPlacement}
+use Rattle.personalise.specs.Records.{inLayout, placementStrays}
 
 split : (s : List ℕ) → (length s ≡ 0 → ⊥) → placementsIn s ≡ placement (getD s 0 0) (getD s 1 0) ∷ placementsIn (drop 2 s)
 unfolding placementsIn
@@ -25,13 +25,13 @@ drop-min (r ∷ []) = refl
 drop-min (r ∷ o ∷ s) = let e : min 2 (length (r ∷ o ∷ s)) ≡ 2 = omega arith in rw e
 
 -- nothing is left
-pub any-end : (f : Placement → Bool) (s : List ℕ) → length s ≡ 0 → anyOf f (placementsIn s) ≡ false
-unfolding placementsIn anyOf
+pub any-end : (f : Placement → Bool) (s : List ℕ) → length s ≡ 0 → anyPlacement f (placementsIn s) ≡ false
+unfolding placementsIn anyPlacement
 any-end f [] z = refl
 any-end f (r ∷ s) z = absurd (omega arith)
 
-pub count-end : (f : Placement → Bool) (s : List ℕ) → length s ≡ 0 → countOf f (placementsIn s) ≡ 0
-unfolding placementsIn countOf
+pub count-end : (f : Placement → Bool) (s : List ℕ) → length s ≡ 0 → placementCount f (placementsIn s) ≡ 0
+unfolding placementsIn placementCount
 count-end f [] z = refl
 count-end f (r ∷ s) z = absurd (omega arith)
 
@@ -44,45 +44,45 @@ module _ (s : List ℕ) (h : length s ≡ 0 → ⊥) (p : Placement) (q : p ≡ 
   tail-less = rw (tail-is s n) (simp length-drop (omega arith))
 
   module _ (f : Placement → Bool) where
-    pub any-yes : f p ≡ true → anyOf f (placementsIn s) ≡ true
-    unfolding anyOf
-    any-yes e = ap (anyOf f) apart ∙ either-left _ _ e
+    pub any-yes : f p ≡ true → anyPlacement f (placementsIn s) ≡ true
+    unfolding anyPlacement
+    any-yes e = ap (anyPlacement f) apart ∙ either-left _ _ e
 
-    pub any-on : f p ≡ false → anyOf f (placementsIn s) ≡ anyOf f (placementsIn (tail s n))
-    unfolding anyOf
-    any-on e = ap (anyOf f) apart ∙ either-false _ e
+    pub any-on : f p ≡ false → anyPlacement f (placementsIn s) ≡ anyPlacement f (placementsIn (tail s n))
+    unfolding anyPlacement
+    any-on e = ap (anyPlacement f) apart ∙ either-false _ e
 
-    pub count-yes : (m : ℕ) → f p ≡ true → m + countOf f (placementsIn s) ≡ m + 1 + countOf f (placementsIn (tail s n))
-    unfolding countOf
-    count-yes m e = let d : countOf f (placementsIn s) ≡ suc (countOf f (placementsIn (tail s n))) = ap (countOf f) apart ∙ if-yes _ _ e in omega arith
+    pub count-yes : (m : ℕ) → f p ≡ true → m + placementCount f (placementsIn s) ≡ m + 1 + placementCount f (placementsIn (tail s n))
+    unfolding placementCount
+    count-yes m e = let d : placementCount f (placementsIn s) ≡ suc (placementCount f (placementsIn (tail s n))) = ap (placementCount f) apart ∙ if-yes _ _ e in omega arith
 
-    pub count-no : (m : ℕ) → f p ≡ false → m + countOf f (placementsIn s) ≡ m + countOf f (placementsIn (tail s n))
-    unfolding countOf
-    count-no m e = ap (λ (x : ℕ). m + x) (ap (countOf f) apart ∙ if-no _ _ e)
+    pub count-no : (m : ℕ) → f p ≡ false → m + placementCount f (placementsIn s) ≡ m + placementCount f (placementsIn (tail s n))
+    unfolding placementCount
+    count-no m e = ap (λ (x : ℕ). m + x) (ap (placementCount f) apart ∙ if-no _ _ e)
 
 -- ---- one placement
 
 module _ (n m k : ℕ) (p : Placement) where
-  pub stray-other : (p .into ≡ k → ⊥) → strays n m k p ≡ false
+  pub stray-other : (p .into ≡ k → ⊥) → placementStrays n m k p ≡ false
   stray-other e = both-no-left _ _ (ne-eqb _ _ e)
 
   module _ (e : p .into ≡ k) where
-    outside : inLayout n m p ≡ false → strays n m k p ≡ true
+    outside : inLayout n m p ≡ false → placementStrays n m k p ≡ true
     outside f = both-true _ (eq-eqb _ _ e) ∙ ap not f
 
-    pub stray-zero : p .into ≡ 0 → strays n m k p ≡ true
+    pub stray-zero : p .into ≡ 0 → placementStrays n m k p ≡ true
     stray-zero z = outside (both-no-left _ _ (both-no-left _ _ (lt-leb 1 (p .into) (omega arith))))
 
-    pub stray-past : n < p .into → strays n m k p ≡ true
+    pub stray-past : n < p .into → placementStrays n m k p ≡ true
     stray-past h = outside (both-no-left _ _ (both-no-right _ _ (lt-leb (p .into) n h)))
 
-    pub stray-no-object : p .object ≡ 0 → strays n m k p ≡ true
+    pub stray-no-object : p .object ≡ 0 → placementStrays n m k p ≡ true
     stray-no-object z = outside (both-no-right _ _ (both-no-left _ _ (lt-leb 1 (p .object) (omega arith))))
 
-    pub stray-object-past : m < p .object → strays n m k p ≡ true
+    pub stray-object-past : m < p .object → placementStrays n m k p ≡ true
     stray-object-past h = outside (both-no-right _ _ (both-no-right _ _ (lt-leb (p .object) m h)))
 
-    pub stray-none : (p .into ≡ 0 → ⊥) → p .into ≤ n → (p .object ≡ 0 → ⊥) → p .object ≤ m → strays n m k p ≡ false
+    pub stray-none : (p .into ≡ 0 → ⊥) → p .into ≤ n → (p .object ≡ 0 → ⊥) → p .object ≤ m → placementStrays n m k p ≡ false
     stray-none a b o d =
         both-true _ (eq-eqb _ _ e)
         ∙ ap not (both-yes _ _ (both-yes _ _ (le-leb 1 (p .into) (omega arith)) (le-leb _ _ b)) (both-yes _ _ (le-leb 1 (p .object) (omega arith)) (le-leb _ _ d)))

@@ -11,16 +11,16 @@ use borrow.Author.Tests.{lt-ltb, le-ltb}
 use Rattle.basics.specs.Choice.{every}
 use Rattle.basics.proofs.Laws.{if-yes, if-no, both-yes, both-true, both-no-left, both-no-right}
 use Rattle.tlv.proofs.Laws.{tail, tail-is}
-use Rattle.locator.specs.declared.Entry.{Entry}
-use Rattle.locator.specs.Entry.{frontOf, countOf}
-use Rattle.locator.specs.Records.{entries, wholeEntries, sumOf, total}
-use Rattle.locator.proofs.Records.{entries-front, entries-short, entries-join, whole-of, part-of}
+use Rattle.afl.specs.declared.AflEntry.{AflEntry}
+use Rattle.afl.specs.Entry.{firstEntry, entryRecordCount}
+use Rattle.afl.specs.Records.{aflEntries, wholeEntries, sumOverEntries, aflRecordCount}
+use Rattle.afl.proofs.Records.{entries-front, entries-short, entries-join, whole-of, part-of}
 use Rattle.personalise.specs.declared.Fault.the-variants.{At, Nothing}
-use Rattle.personalise.specs.Entries.{mostEntries, meets, apartFrom, roomBehind, keepsAlone, keepsBehind, badEnd, badFrom, badEntry}
+use Rattle.personalise.specs.Entries.{mostEntries, entriesOverlap, apartFrom, roomBehind, validEntryAlone, validEntryAfter, badEnd, badFrom, badEntry}
 
 -- a quarter as many entries as bytes
-pub entries-count : (s : List ℕ) → length s % 4 ≡ 0 → length (entries s) ≡ length s / 4
-unfolding entries
+pub entries-count : (s : List ℕ) → length s % 4 ≡ 0 → length (aflEntries s) ≡ length s / 4
+unfolding aflEntries
 entries-count [] w = refl
 entries-count (a ∷ []) w = absurd (omega arith)
 entries-count (a ∷ b ∷ []) w = absurd (omega arith)
@@ -29,60 +29,60 @@ entries-count (a ∷ b ∷ c ∷ d ∷ rest) w = let ih = entries-count rest (om
 
 -- ---- those before an entry
 
-pub apart-end : (s : List ℕ) (e : Entry) → length s < 4 → apartFrom (entries s) e ≡ true
+pub apart-end : (s : List ℕ) (e : AflEntry) → length s < 4 → apartFrom (aflEntries s) e ≡ true
 unfolding apartFrom every
-apart-end s e h = ap (λ (l : List Entry). apartFrom l e) (entries-short s h)
+apart-end s e h = ap (λ (l : List AflEntry). apartFrom l e) (entries-short s h)
 
-module _ (s : List ℕ) (h : 4 ≤ length s) (f : Entry) (p : f ≡ frontOf s) where
+module _ (s : List ℕ) (h : 4 ≤ length s) (f : AflEntry) (p : f ≡ firstEntry s) where
   pub tail-less : length (tail s 4) < length s
   tail-less = rw (tail-is s 4) (simp length-drop (omega arith))
 
-  front : entries s ≡ f ∷ entries (tail s 4)
+  front : aflEntries s ≡ f ∷ aflEntries (tail s 4)
   front = entries-front s h ∙ rw (p, tail-is s 4)
 
-  pub apart-no : (e : Entry) → meets f e ≡ true → apartFrom (entries s) e ≡ false
+  pub apart-no : (e : AflEntry) → entriesOverlap f e ≡ true → apartFrom (aflEntries s) e ≡ false
   unfolding apartFrom every
-  apart-no e m = ap (λ (l : List Entry). apartFrom l e) front ∙ both-no-left _ _ (ap not m)
+  apart-no e m = ap (λ (l : List AflEntry). apartFrom l e) front ∙ both-no-left _ _ (ap not m)
 
-  pub apart-on : (e : Entry) → meets f e ≡ false → apartFrom (entries s) e ≡ apartFrom (entries (tail s 4)) e
+  pub apart-on : (e : AflEntry) → entriesOverlap f e ≡ false → apartFrom (aflEntries s) e ≡ apartFrom (aflEntries (tail s 4)) e
   unfolding apartFrom every
-  apart-on e m = ap (λ (l : List Entry). apartFrom l e) front ∙ both-true _ (ap not m)
+  apart-on e m = ap (λ (l : List AflEntry). apartFrom l e) front ∙ both-true _ (ap not m)
 
-  pub total-on : (n m : ℕ) → m ≡ countOf f → n + total s ≡ n + m + total (tail s 4)
-  unfolding sumOf
-  total-on n m c = let e : total s ≡ countOf f + total (tail s 4) = ap (sumOf countOf) front in omega arith
+  pub total-on : (n m : ℕ) → m ≡ entryRecordCount f → n + aflRecordCount s ≡ n + m + aflRecordCount (tail s 4)
+  unfolding sumOverEntries
+  total-on n m c = let e : aflRecordCount s ≡ entryRecordCount f + aflRecordCount (tail s 4) = ap (sumOverEntries entryRecordCount) front in omega arith
 
-pub total-end : (s : List ℕ) → length s < 4 → total s ≡ 0
-unfolding sumOf
-total-end s h = ap (sumOf countOf) (entries-short s h)
+pub total-end : (s : List ℕ) → length s < 4 → aflRecordCount s ≡ 0
+unfolding sumOverEntries
+total-end s h = ap (sumOverEntries entryRecordCount) (entries-short s h)
 
 -- ---- an entry behind those before it
 
-module _ (before : List Entry) (e : Entry) where
-  pub behind-many : mostEntries ≤ length before → keepsBehind before e ≡ false
-  unfolding keepsBehind
+module _ (before : List AflEntry) (e : AflEntry) where
+  pub behind-many : mostEntries ≤ length before → validEntryAfter before e ≡ false
+  unfolding validEntryAfter
   behind-many h = both-no-left _ _ (le-ltb (length before) mostEntries h)
 
   module _ (h : length before < mostEntries) where
-    pub behind-alone : keepsAlone e ≡ false → keepsBehind before e ≡ false
-    unfolding keepsBehind
+    pub behind-alone : validEntryAlone e ≡ false → validEntryAfter before e ≡ false
+    unfolding validEntryAfter
     behind-alone k = both-no-right _ _ (both-no-left _ _ k)
 
-    pub behind-apart : apartFrom before e ≡ false → keepsBehind before e ≡ false
-    unfolding keepsBehind
+    pub behind-apart : apartFrom before e ≡ false → validEntryAfter before e ≡ false
+    unfolding validEntryAfter
     behind-apart k = both-no-right _ _ (both-no-right _ _ (both-no-left _ _ k))
 
-    pub behind-room : keepsAlone e ≡ true → apartFrom before e ≡ true → keepsBehind before e ≡ roomBehind before e
-    unfolding keepsBehind
+    pub behind-room : validEntryAlone e ≡ true → apartFrom before e ≡ true → validEntryAfter before e ≡ roomBehind before e
+    unfolding validEntryAfter
     behind-room k a = both-true _ (lt-ltb (length before) mostEntries h) ∙ both-true _ k ∙ both-true _ a
 
 -- ---- the walk
 
-pub bad-start : (s : List ℕ) → badEntry s ≡ badFrom (entries (take 0 s)) (entries (drop 0 s)) (wholeEntries s)
-unfolding badEntry entries
+pub bad-start : (s : List ℕ) → badEntry s ≡ badFrom (aflEntries (take 0 s)) (aflEntries (drop 0 s)) (wholeEntries s)
+unfolding badEntry aflEntries
 bad-start s = refl
 
-front-take : (s : List ℕ) → 4 ≤ length s → frontOf (take 4 s) ≡ frontOf s
+front-take : (s : List ℕ) → 4 ≤ length s → firstEntry (take 4 s) ≡ firstEntry s
 front-take [] h = absurd (omega arith)
 front-take (a ∷ []) h = absurd (omega arith)
 front-take (a ∷ b ∷ []) h = absurd (omega arith)
@@ -93,58 +93,58 @@ module _ (s : List ℕ) (at : ℕ) (w : at % 4 ≡ 0) (l : at ≤ length s) wher
   took : length (take at s) ≡ at
   took = simp length-take (omega arith)
 
-  pub before-count : length (entries (take at s)) ≡ at / 4
+  pub before-count : length (aflEntries (take at s)) ≡ at / 4
   before-count = let e : length (take at s) % 4 ≡ 0 = rw took w in entries-count (take at s) e ∙ rw took
 
   module _ (h : 4 ≤ length s - at) where
     left : 4 ≤ length (drop at s)
     left = simp length-drop h
 
-    one : entries (take 4 (drop at s)) ≡ frontOf (drop at s) ∷ []
-    unfolding entries
+    one : aflEntries (take 4 (drop at s)) ≡ firstEntry (drop at s) ∷ []
+    unfolding aflEntries
     one =
         let n : length (take 4 (drop at s)) ≡ 4 = let k = left in simp length-take (omega arith) in
         let m : length (drop 4 (take 4 (drop at s))) < 4 = rw (length-drop, n) (omega arith) in
         entries-front (take 4 (drop at s)) (omega arith) ∙ rw (front-take (drop at s) left, entries-short (drop 4 (take 4 (drop at s))) m)
 
-    before-more : entries (take (at + 4) s) ≡ entries (take at s) ++ (frontOf (drop at s) ∷ [])
+    before-more : aflEntries (take (at + 4) s) ≡ aflEntries (take at s) ++ (firstEntry (drop at s) ∷ [])
     before-more = let e : length (take at s) % 4 ≡ 0 = rw took w in rw take-add (entries-join (take at s) (take 4 (drop at s)) e ∙ rw one)
 
-    behind-more : entries (drop at s) ≡ frontOf (drop at s) ∷ entries (drop (at + 4) s)
+    behind-more : aflEntries (drop at s) ≡ firstEntry (drop at s) ∷ aflEntries (drop (at + 4) s)
     behind-more = entries-front (drop at s) left ∙ rw (drop-drop 4 at s)
 
     -- the entry at the place, as the code reads it
-    module _ (e : Entry) (p : e ≡ frontOf (tail s at)) where
-      is-front : frontOf (drop at s) ≡ e
-      is-front = ap frontOf (sym (tail-is s at)) ∙ sym p
+    module _ (e : AflEntry) (p : e ≡ firstEntry (tail s at)) where
+      is-front : firstEntry (drop at s) ≡ e
+      is-front = ap firstEntry (sym (tail-is s at)) ∙ sym p
 
-      pub bad-here : keepsBehind (entries (take at s)) e ≡ false
-          → badFrom (entries (take at s)) (entries (drop at s)) (wholeEntries s) ≡ At (at / 4 + 1)
+      pub bad-here : validEntryAfter (aflEntries (take at s)) e ≡ false
+          → badFrom (aflEntries (take at s)) (aflEntries (drop at s)) (wholeEntries s) ≡ At (at / 4 + 1)
       unfolding badFrom
       bad-here k = rw (behind-more, is-front) (if-no _ _ k ∙ rw before-count)
 
-      pub bad-on : keepsBehind (entries (take at s)) e ≡ true
-          → badFrom (entries (take at s)) (entries (drop at s)) (wholeEntries s) ≡ badFrom (entries (take (at + 4) s)) (entries (drop (at + 4) s)) (wholeEntries s)
+      pub bad-on : validEntryAfter (aflEntries (take at s)) e ≡ true
+          → badFrom (aflEntries (take at s)) (aflEntries (drop at s)) (wholeEntries s) ≡ badFrom (aflEntries (take (at + 4) s)) (aflEntries (drop (at + 4) s)) (wholeEntries s)
       unfolding badFrom
       bad-on k = rw (behind-more, before-more, is-front) (if-yes _ _ k)
 
   module _ (h : length s - at < 4) where
-    ends : badFrom (entries (take at s)) (entries (drop at s)) (wholeEntries s) ≡ badEnd (entries (take at s)) (wholeEntries s)
+    ends : badFrom (aflEntries (take at s)) (aflEntries (drop at s)) (wholeEntries s) ≡ badEnd (aflEntries (take at s)) (wholeEntries s)
     unfolding badFrom
     ends = let m : length (drop at s) < 4 = simp length-drop h in rw (entries-short (drop at s) m)
 
-    pub bad-cut : at < length s → badFrom (entries (take at s)) (entries (drop at s)) (wholeEntries s) ≡ At (at / 4 + 1)
+    pub bad-cut : at < length s → badFrom (aflEntries (take at s)) (aflEntries (drop at s)) (wholeEntries s) ≡ At (at / 4 + 1)
     unfolding badEnd
     bad-cut m = ends ∙ if-no _ _ (both-no-left _ _ (part-of s (omega arith))) ∙ rw before-count
 
-    pub bad-none : at ≡ 0 → badFrom (entries (take at s)) (entries (drop at s)) (wholeEntries s) ≡ At 1
+    pub bad-none : at ≡ 0 → badFrom (aflEntries (take at s)) (aflEntries (drop at s)) (wholeEntries s) ≡ At 1
     unfolding badEnd
     bad-none z =
-        let n : length (entries (take at s)) ≡ 0 = before-count ∙ rw z in
-        ends ∙ if-no _ _ (both-no-right _ _ (le-ltb 0 (length (entries (take at s))) (omega arith))) ∙ rw n
+        let n : length (aflEntries (take at s)) ≡ 0 = before-count ∙ rw z in
+        ends ∙ if-no _ _ (both-no-right _ _ (le-ltb 0 (length (aflEntries (take at s))) (omega arith))) ∙ rw n
 
-    pub bad-nothing : length s ≤ at → (at ≡ 0 → ⊥) → badFrom (entries (take at s)) (entries (drop at s)) (wholeEntries s) ≡ Nothing
+    pub bad-nothing : length s ≤ at → (at ≡ 0 → ⊥) → badFrom (aflEntries (take at s)) (aflEntries (drop at s)) (wholeEntries s) ≡ Nothing
     unfolding badEnd
     bad-nothing m z =
         let n = before-count in
-        ends ∙ if-yes _ _ (both-yes _ _ (whole-of s (omega arith)) (lt-ltb 0 (length (entries (take at s))) (omega arith)))
+        ends ∙ if-yes _ _ (both-yes _ _ (whole-of s (omega arith)) (lt-ltb 0 (length (aflEntries (take at s))) (omega arith)))

@@ -14,30 +14,30 @@ use borrow.Author.Tests.{eq-eqb, le-leb, leb-true}
 use Rattle.basics.specs.Choice.{if, both, every}
 use Rattle.basics.specs.Reason.{reasonNone}
 use Rattle.basics.proofs.Laws.{if-yes, both-yes, both-left, both-right, both-no-right}
-use Rattle.tlv.specs.Tag.{firstByte, isTemplate, tagSize}
-use Rattle.tlv.specs.Object.{header, headerOf, valueIn}
-use Rattle.tlv.specs.Tree.{Forest, end, leaf, count, parse}
+use Rattle.tlv.specs.Tag.{tagFirstByte, isTemplate, tagSize}
+use Rattle.tlv.specs.Object.{tlvHeader, headerOf, headerValue}
+use Rattle.tlv.specs.Tree.{Forest, end, leaf, objectCount, parseTree}
 use Rattle.tlv.specs.Primitives.{Object}
-use Rattle.tlv.specs.Encoding.{tagBytes, lengthBytes, objectBytes, encode, wellFormedTag, Encodable}
-use Rattle.tlv.specs.declared.Front.the-variants as front
+use Rattle.tlv.specs.Encoding.{tagBytes, lengthBytes, objectBytes, encodeTree, wellFormedTag, Encodable}
+use Rattle.tlv.specs.declared.ObjectFront.the-variants as front
 use Rattle.tlv.proofs.Encoding.{header-encoded, parse-encode}
-use Rattle.dictionary.specs.Rows.{rows, find, storeSize, cardRecord}
-use Rattle.dictionary.specs.Named.{placeOf}
-use Rattle.store.specs.Place.{isFree, putAt}
-use Rattle.locator.specs.declared.Entry.{Entry}
-use Rattle.locator.specs.declared.CardRecord.{CardRecord}
-use Rattle.locator.specs.Entry.{fileOf, countOf}
-use Rattle.locator.specs.Records.{recordsFrom, named, recordsOf}
+use Rattle.dictionary.specs.Rows.{dictionaryRows, findRow, storeSize, inRecordResponse}
+use Rattle.dictionary.specs.Named.{rowNumberOf}
+use Rattle.store.specs.Place.{isFree, putRow}
+use Rattle.afl.specs.declared.AflEntry.{AflEntry}
+use Rattle.afl.specs.declared.CardRecord.{CardRecord}
+use Rattle.afl.specs.Entry.{entrySfi, entryRecordCount}
+use Rattle.afl.specs.Records.{consecutiveRecords, entryRecords, entriesRecords}
 use Rattle.reading.specs.declared.Awaited.{Awaited}
-use Rattle.reading.specs.Taking.{item, items, mayCome, Work, work, takeItem, takeAll}
-use Rattle.reading.specs.Answer.{Outcome, outcome, template, frontBody, bodyOf, templateBody, judged, templateParts, takenParts, readTree, readBody, isRead, goodStatus, goodLength, readAnswer}
+use Rattle.reading.specs.Taking.{primitiveItem, primitiveItems, allowedInResponse, TakeState, takeState, takeItem, takeAll}
+use Rattle.reading.specs.Answer.{ReadingOutcome, readingOutcome, template, frontBody, responseBody, templateBody, storedIfAllowed, templateParts, readParts, readTree, readBody, isRead, isStatus9000, isResponseLength, readAnswer}
 use Rattle.reading.proofs.Laws.{item-put, next-good}
-use Rattle.personalise.specs.Objects.{recordTemplate, settable, lacksTag, distinct}
+use Rattle.personalise.specs.Objects.{recordTemplate, settableInRecord, lacksTag, tagsDistinct}
 use Rattle.personalise.specs.declared.Placement.{Placement}
-use Rattle.personalise.specs.Placements.{objectsIn}
-use Rattle.personalise.specs.Entries.{fileRead}
-use Rattle.personalise.specs.Records.{contentBytes, contentOf, recordsFrom as records, mostContent}
-use Rattle.personalise.specs.Read.{putObjects, readOne, readOn, readAll}
+use Rattle.personalise.specs.Placements.{objectsInRecord}
+use Rattle.personalise.specs.Entries.{sfiInRange}
+use Rattle.personalise.specs.Records.{contentBytes, recordContent, cardRecordsFrom as records, mostRecordContent}
+use Rattle.personalise.specs.Read.{putObjects, readOneRecord, readRemaining, readAllRecords}
 use Rattle.personalise.proofs.Known.{known}
 use Rattle.personalise.proofs.Forms.{tag-one, length-most}
 use Rattle.personalise.proofs.Listed.{object-length}
@@ -51,12 +51,12 @@ leaves : List Object → Forest
 leaves [] = end
 leaves (o ∷ os) = leaf (o .tag) (o .value) (leaves os)
 
-encoded : (os : List Object) → encode (leaves os) ≡ contentBytes os
-unfolding encode contentBytes leaves
+encoded : (os : List Object) → encodeTree (leaves os) ≡ contentBytes os
+unfolding encodeTree contentBytes leaves
 encoded [] = refl
 encoded (o ∷ os) = ap (λ (s : List ℕ). objectBytes (o .tag) (o .value) ++ s) (encoded os)
 
-encodable : (os : List Object) → every settable os ≡ true → Encodable (leaves os) 3
+encodable : (os : List Object) → every settableInRecord os ≡ true → Encodable (leaves os) 3
 unfolding every leaves
 encodable [] e = tt
 encodable (o ∷ os) e = let k = known o (both-left _ _ e) in (k .tag, k .primitive, omega (arith, k .short), encodable os (both-right _ _ e))
@@ -64,22 +64,22 @@ encodable (o ∷ os) e = let k = known o (both-left _ _ e) in (k .tag, k .primit
 -- ---- taking the objects
 
 -- an object that may come and whose row is free is put
-take-one : (b : List ℕ) (o : Object) → settable o ≡ true → isFree rows b (placeOf (o .tag)) ≡ true
-    → takeItem cardRecord b (item recordTemplate (o .tag) (o .value)) ≡ work true (put b o)
-unfolding mayCome
+take-one : (b : List ℕ) (o : Object) → settableInRecord o ≡ true → isFree dictionaryRows b (rowNumberOf (o .tag)) ≡ true
+    → takeItem inRecordResponse b (primitiveItem recordTemplate (o .tag) (o .value)) ≡ takeState true (put b o)
+unfolding allowedInResponse
 take-one b o s f =
     let k = known o s in
     let e = known-place o k in
-    item-put cardRecord b (item recordTemplate (o .tag) (o .value)) (find rows (o .tag)) refl (k .place) (k .found)
-    (both-no-right _ _ (ap not (both-left _ _ (k .comes)))) (k .comes) (sym (ap (isFree rows b) e) ∙ f)
-    ∙ ap (λ (i : ℕ). work true (putAt rows b i (o .value))) (sym e)
+    item-put inRecordResponse b (primitiveItem recordTemplate (o .tag) (o .value)) (findRow dictionaryRows (o .tag)) refl (k .place) (k .found)
+    (both-no-right _ _ (ap not (both-left _ _ (k .comes)))) (k .comes) (sym (ap (isFree dictionaryRows b) e) ∙ f)
+    ∙ ap (λ (i : ℕ). takeState true (putRow dictionaryRows b i (o .value))) (sym e)
 
-take-leaves : (b : List ℕ) (os : List Object) → every settable os ≡ true → distinct os ≡ true → length b ≡ storeSize → FreeIn b os
-    → takeAll cardRecord (work true b) (items recordTemplate (leaves os)) ≡ work true (putObjects b os)
-unfolding items takeAll putObjects every distinct leaves
+take-leaves : (b : List ℕ) (os : List Object) → every settableInRecord os ≡ true → tagsDistinct os ≡ true → length b ≡ storeSize → FreeIn b os
+    → takeAll inRecordResponse (takeState true b) (primitiveItems recordTemplate (leaves os)) ≡ takeState true (putObjects b os)
+unfolding primitiveItems takeAll putObjects every tagsDistinct leaves
 take-leaves b [] e d l f = refl
 take-leaves b (o ∷ os) e d l f =
-    ap (λ (w : Work). takeAll cardRecord w (items recordTemplate (leaves os))) (next-good cardRecord b (item recordTemplate (o .tag) (o .value)) refl ∙ take-one b o (both-left _ _ e) (f .0))
+    ap (λ (w : TakeState). takeAll inRecordResponse w (primitiveItems recordTemplate (leaves os))) (next-good inRecordResponse b (primitiveItem recordTemplate (o .tag) (o .value)) refl ∙ take-one b o (both-left _ _ e) (f .0))
     ∙ take-leaves (put b o) os (both-right _ _ e) (both-right _ _ d) (put-size b o (both-left _ _ e) l)
     (free-put b o os (both-left _ _ e) (both-right _ _ e) (both-left _ _ d) l (f .1))
 
@@ -90,10 +90,10 @@ unfolding wellFormedTag tagBytes tagSize if both
 template-tag = refl
 
 template-is : isTemplate recordTemplate ≡ true
-unfolding isTemplate firstByte if
+unfolding isTemplate tagFirstByte if
 template-is = refl
 
-module _ (os : List Object) (e : every settable os ≡ true) (h : length (contentBytes os) ≤ mostContent) where
+module _ (os : List Object) (e : every settableInRecord os ≡ true) (h : length (contentBytes os) ≤ mostRecordContent) where
   abbrev inner : List ℕ
   inner = contentBytes os
 
@@ -103,36 +103,36 @@ module _ (os : List Object) (e : every settable os ≡ true) (h : length (conten
   abbrev from : ℕ
   from = length (tagBytes recordTemplate) + length (lengthBytes (length inner))
 
-  head : headerOf whole ≡ front.Object (header recordTemplate from (length inner))
+  head : headerOf whole ≡ front.Object (tlvHeader recordTemplate from (length inner))
   head = ap headerOf (sym (append-nil whole)) ∙ header-encoded recordTemplate inner [] template-tag
 
-  value : valueIn whole (header recordTemplate from (length inner)) ≡ inner
+  value : headerValue whole (tlvHeader recordTemplate from (length inner)) ≡ inner
   value =
       ap (take (length inner)) (drop-append-add (tagBytes recordTemplate) (lengthBytes (length inner) ++ inner) (length (lengthBytes (length inner)))
       ∙ drop-append-seam (lengthBytes (length inner)) inner) ∙ take-length inner
 
-  body : bodyOf whole ≡ some (template recordTemplate (leaves os))
-  unfolding bodyOf
+  body : responseBody whole ≡ some (template recordTemplate (leaves os))
+  unfolding responseBody
   body =
       ap (frontBody whole) head
       ∙ if-yes _ _ (eq-eqb (from + length inner) (length whole) (omega (arith, object-length recordTemplate inner)))
       ∙ if-yes _ _ template-is
-      ∙ ap (templateBody recordTemplate) (ap (parse 3) (value ∙ sym (encoded os)) ∙ parse-encode (leaves os) 3 (encodable os e))
+      ∙ ap (templateBody recordTemplate) (ap (parseTree 3) (value ∙ sym (encoded os)) ∙ parse-encode (leaves os) 3 (encodable os e))
 
   -- at most 256 bytes
   whole-most : length whole ≤ 256
   whole-most = omega (arith, object-length recordTemplate inner, ap length (tag-one recordTemplate (omega arith)), length-most (length inner) (omega arith))
 
-  module _ (b : List ℕ) (d : distinct os ≡ true) (l : length b ≡ storeSize) (f : FreeIn b os) (r : CardRecord) (file : r .file ≤ 10) where
+  module _ (b : List ℕ) (d : tagsDistinct os ≡ true) (l : length b ≡ storeSize) (f : FreeIn b os) (r : CardRecord) (sfi : r .sfi ≤ 10) where
     abbrev awaited : Awaited
-    awaited = Awaited.Record (record { number = r .file })
+    awaited = Awaited.Record (record { number = r .sfi })
 
-    read-body : readBody awaited b whole ≡ outcome reasonNone (1 + count (leaves os)) (putObjects b os)
+    read-body : readBody awaited b whole ≡ readingOutcome reasonNone (1 + objectCount (leaves os)) (putObjects b os)
     unfolding readBody templateParts
     read-body =
         ap (readTree awaited b) body
-        ∙ ap (takenParts awaited b (1 + count (leaves os))) (if-yes (some (items recordTemplate (leaves os))) none refl)
-        ∙ ap (judged b (1 + count (leaves os))) (take-leaves b os e d l f) ∙ if-yes _ _ refl
+        ∙ ap (readParts awaited b (1 + objectCount (leaves os))) (if-yes (some (primitiveItems recordTemplate (leaves os))) none refl)
+        ∙ ap (storedIfAllowed b (1 + objectCount (leaves os))) (take-leaves b os e d l f) ∙ if-yes _ _ refl
 
     abbrev answer : List ℕ
     answer = whole ++ (0x90 ∷ 0x00 ∷ [])
@@ -140,30 +140,30 @@ module _ (os : List Object) (e : every settable os ≡ true) (h : length (conten
     size : length answer ≡ length whole + 2
     size = length-append whole (0x90 ∷ 0x00 ∷ [])
 
-    good-length : goodLength answer ≡ true
-    unfolding goodLength
+    good-length : isResponseLength answer ≡ true
+    unfolding isResponseLength
     good-length = both-yes _ _ (le-leb 2 (length answer) (omega (arith, size))) (le-leb (length answer) 258 (omega (arith, size, whole-most)))
 
-    good-status : goodStatus answer ≡ true
-    unfolding goodStatus
+    good-status : isStatus9000 answer ≡ true
+    unfolding isStatus9000
     good-status =
         let x : length answer - 2 ≡ length whole + 0 = omega (arith, size) in
         let y : length answer - 1 ≡ length whole + 1 = omega (arith, size) in
         both-yes _ _ (ap (λ (i : ℕ). eqb (getD answer i 0) 0x90) x ∙ ap (λ (i : ℕ). eqb i 0x90) (getD-append-add whole (0x90 ∷ 0x00 ∷ []) 0 0))
         (ap (λ (i : ℕ). eqb (getD answer i 0) 0) y ∙ ap (λ (i : ℕ). eqb i 0) (getD-append-add whole (0x90 ∷ 0x00 ∷ []) 1 0))
 
-    read-one : readOne b r whole ≡ outcome reasonNone (1 + count (leaves os)) (putObjects b os)
+    read-one : readOneRecord b r whole ≡ readingOutcome reasonNone (1 + objectCount (leaves os)) (putObjects b os)
     unfolding readAnswer isRead
     read-one =
         let x : length whole ≡ length answer - 2 = omega (arith, size) in
-        if-yes _ _ good-length ∙ if-yes _ _ good-status ∙ if-yes _ _ (le-leb (r .file) 10 file)
+        if-yes _ _ good-length ∙ if-yes _ _ good-status ∙ if-yes _ _ (le-leb (r .sfi) 10 sfi)
         ∙ ap (readBody awaited b) (take-at whole (0x90 ∷ 0x00 ∷ []) (length answer - 2) x) ∙ read-body
 
 -- ---- all records
 
 -- the records of accepted entries are of files 1 to 10
-abbrev read-file : CardRecord → Bool
-read-file r = leb (r .file) 10
+abbrev read-sfi : CardRecord → Bool
+read-sfi r = leb (r .sfi) 10
 
 every-join : {A : Type 0} (g : A → Bool) (x y : List A) → every g x ≡ true → every g y ≡ true → every g (x ++ y) ≡ true
 unfolding every
@@ -181,13 +181,13 @@ unfolding every
 every-second g [] y e = e
 every-second g (a ∷ x) y e = every-second g x y (both-right _ _ e)
 
-distinct-first : (x y : List Object) → distinct (x ++ y) ≡ true → distinct x ≡ true
-unfolding distinct lacksTag
+distinct-first : (x y : List Object) → tagsDistinct (x ++ y) ≡ true → tagsDistinct x ≡ true
+unfolding tagsDistinct lacksTag
 distinct-first [] y e = refl
 distinct-first (o ∷ x) y e = both-yes _ _ (every-first (λ z. not (eqb (z .tag) (o .tag))) x y (both-left _ _ e)) (distinct-first x y (both-right _ _ e))
 
-distinct-second : (x y : List Object) → distinct (x ++ y) ≡ true → distinct y ≡ true
-unfolding distinct
+distinct-second : (x y : List Object) → tagsDistinct (x ++ y) ≡ true → tagsDistinct y ≡ true
+unfolding tagsDistinct
 distinct-second [] y e = e
 distinct-second (o ∷ x) y e = distinct-second x y (both-right _ _ e)
 
@@ -195,32 +195,32 @@ free-first : (b : List ℕ) (x y : List Object) → FreeIn b (x ++ y) → FreeIn
 free-first b [] y f = tt
 free-first b (o ∷ x) y f = (f .0, free-first b x y (f .1))
 
-files-from : (g n k : ℕ) → g ≤ 10 → every read-file (recordsFrom g n k) ≡ true
-unfolding recordsFrom every
+files-from : (g n k : ℕ) → g ≤ 10 → every read-sfi (consecutiveRecords g n k) ≡ true
+unfolding consecutiveRecords every
 files-from g n zero h = refl
 files-from g n (suc k) h = both-yes _ _ (le-leb g 10 h) (files-from g (n + 1) k h)
 
-pub files-of : (es : List Entry) → every fileRead es ≡ true → every read-file (recordsOf es) ≡ true
-unfolding recordsOf every
+pub files-of : (es : List AflEntry) → every sfiInRange es ≡ true → every read-sfi (entriesRecords es) ≡ true
+unfolding entriesRecords every
 files-of [] e = refl
 files-of (x ∷ es) e =
-    every-join read-file (named x) (recordsOf es) (files-from (fileOf x) (x .first) (countOf x) (leb-true (fileOf x) 10 (both-right _ _ (both-left _ _ e))))
+    every-join read-sfi (entryRecords x) (entriesRecords es) (files-from (entrySfi x) (x .first) (entryRecordCount x) (leb-true (entrySfi x) 10 (both-right _ _ (both-left _ _ e))))
     (files-of es (both-right _ _ e))
 
 pub read-all : (os : List Object) (ps : List Placement) (rs : List CardRecord) (k : ℕ) (b : List ℕ)
-    → every read-file rs ≡ true
-    → ((i : ℕ) → k ≤ i → i < k + length rs → length (contentOf os ps i) ≤ mostContent)
-    → every settable (ordered ps k (length rs) 1 os) ≡ true → distinct (ordered ps k (length rs) 1 os) ≡ true
+    → every read-sfi rs ≡ true
+    → ((i : ℕ) → k ≤ i → i < k + length rs → length (recordContent os ps i) ≤ mostRecordContent)
+    → every settableInRecord (ordered ps k (length rs) 1 os) ≡ true → tagsDistinct (ordered ps k (length rs) 1 os) ≡ true
     → length b ≡ storeSize → FreeIn b (ordered ps k (length rs) 1 os)
-    → readAll b rs (records os ps k (length rs)) ≡ some (putObjects b (ordered ps k (length rs) 1 os))
-unfolding readAll records ordered every putObjects
+    → readAllRecords b rs (records os ps k (length rs)) ≡ some (putObjects b (ordered ps k (length rs) 1 os))
+unfolding readAllRecords records ordered every putObjects
 read-all os ps [] k b g h e d l f = refl
 read-all os ps (r ∷ rs) k b g h e d l f =
-    let x = objectsIn ps k os in
+    let x = objectsInRecord ps k os in
     let y = ordered ps (suc k) (length rs) 1 os in
     let z = free-behind b x y e d l f in
-    let q = read-one x (every-first settable x y e) (h k (omega arith) (omega arith)) b (distinct-first x y d) l (free-first b x y f) r (leb-true (r .file) 10 (both-left _ _ g)) in
-    ap (λ (o : Outcome). readOn o (λ c. readAll c rs (records os ps (suc k) (length rs)))) q
+    let q = read-one x (every-first settableInRecord x y e) (h k (omega arith) (omega arith)) b (distinct-first x y d) l (free-first b x y f) r (leb-true (r .sfi) 10 (both-left _ _ g)) in
+    ap (λ (o : ReadingOutcome). readRemaining o (λ c. readAllRecords c rs (records os ps (suc k) (length rs)))) q
     ∙ if-yes _ _ refl
-    ∙ read-all os ps rs (suc k) (putObjects b x) (both-right _ _ g) (λ i m n. h i (omega arith) (omega arith)) (every-second settable x y e) (distinct-second x y d) (z .0) (z .1)
+    ∙ read-all os ps rs (suc k) (putObjects b x) (both-right _ _ g) (λ i m n. h i (omega arith) (omega arith)) (every-second settableInRecord x y e) (distinct-second x y d) (z .0) (z .1)
     ∙ ap some (sym (put-join b x y))

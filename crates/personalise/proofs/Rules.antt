@@ -13,19 +13,19 @@ use lib.ListN.{length, length-append}
 use borrow.Author.Tests.{ltb-true, leb-true, lt-ltb, le-leb}
 use Rattle.basics.specs.Choice.{both, every}
 use Rattle.basics.proofs.Laws.{if-yes, if-no, bool-cases, both-yes, both-left, both-right, both-assoc}
-use Rattle.locator.specs.declared.Entry.{Entry}
-use Rattle.locator.specs.Entry.{countOf}
-use Rattle.locator.specs.Records.{entries, wholeEntries, sumOf, total}
-use Rattle.locator.proofs.Records.{whole-length}
+use Rattle.afl.specs.declared.AflEntry.{AflEntry}
+use Rattle.afl.specs.Entry.{entryRecordCount}
+use Rattle.afl.specs.Records.{aflEntries, wholeEntries, sumOverEntries, aflRecordCount}
+use Rattle.afl.proofs.Records.{whole-length}
 use Rattle.personalise.specs.declared.Fault.{Fault}
 use Rattle.personalise.specs.declared.Fault.the-variants.{At, Nothing}
-use Rattle.personalise.specs.Entries.{mostEntries, mostRecords, meets, apartFrom, roomBehind, keepsAlone, keepsBehind, badEnd, badFrom, badEntry}
+use Rattle.personalise.specs.Entries.{mostEntries, mostRecords, entriesOverlap, apartFrom, roomBehind, validEntryAlone, validEntryAfter, badEnd, badFrom, badEntry}
 use Rattle.personalise.proofs.Proposed.{entries-count}
 
 -- no two entries name a record both
-unfoldable pub allApart : List Entry → Bool
+unfoldable pub allApart : List AflEntry → Bool
 allApart [] = true
-allApart (e ∷ es) = both (every (λ f. not (meets e f)) es) (allApart es)
+allApart (e ∷ es) = both (every (λ f. not (entriesOverlap e f)) es) (allApart es)
 
 -- ---- a test at every entry
 
@@ -57,66 +57,66 @@ every-same f g h (x ∷ l) = ap₂ both (h x) (every-same f g h l)
 
 -- ---- one entry more before the others
 
-module _ (before : List Entry) (e : Entry) where
-  apart-more : (es : List Entry) → every (apartFrom (before ++ (e ∷ []))) es ≡ both (every (apartFrom before) es) (every (λ f. not (meets e f)) es)
+module _ (before : List AflEntry) (e : AflEntry) where
+  apart-more : (es : List AflEntry) → every (apartFrom (before ++ (e ∷ []))) es ≡ both (every (apartFrom before) es) (every (λ f. not (entriesOverlap e f)) es)
   unfolding apartFrom
   apart-more es =
-      every-same _ _ (λ f. every-snoc (λ d. not (meets d f)) before e) es
-      ∙ every-split (apartFrom before) (λ f. not (meets e f)) es
+      every-same _ _ (λ f. every-snoc (λ d. not (entriesOverlap d f)) before e) es
+      ∙ every-split (apartFrom before) (λ f. not (entriesOverlap e f)) es
 
   length-more : length (before ++ (e ∷ [])) ≡ length before + 1
   length-more = length-append before (e ∷ [])
 
-sum-join : (f : Entry → ℕ) (x y : List Entry) → sumOf f (x ++ y) ≡ sumOf f x + sumOf f y
-unfolding sumOf
+sum-join : (f : AflEntry → ℕ) (x y : List AflEntry) → sumOverEntries f (x ++ y) ≡ sumOverEntries f x + sumOverEntries f y
+unfolding sumOverEntries
 sum-join f [] y = sym (zero-add _)
 sum-join f (e ∷ x) y = let ih = sum-join f x y in omega arith
 
-sum-more : (before : List Entry) (e : Entry) → sumOf countOf (before ++ (e ∷ [])) ≡ sumOf countOf before + countOf e
-unfolding sumOf
-sum-more before e = sum-join countOf before (e ∷ []) ∙ rw add-zero
+sum-more : (before : List AflEntry) (e : AflEntry) → sumOverEntries entryRecordCount (before ++ (e ∷ [])) ≡ sumOverEntries entryRecordCount before + entryRecordCount e
+unfolding sumOverEntries
+sum-more before e = sum-join entryRecordCount before (e ∷ []) ∙ rw add-zero
 
 -- ---- the clauses of the entries behind those before them
 
-pub record Follows (before es : List Entry) (w : Bool) : Type 0 where
+pub record Follows (before es : List AflEntry) (w : Bool) : Type 0 where
   pub whole : w ≡ true
   pub some : 1 ≤ length before + length es
   pub few : length before + length es ≤ mostEntries
-  pub alone : every keepsAlone es ≡ true
+  pub alone : every validEntryAlone es ≡ true
   pub behind : every (apartFrom before) es ≡ true
   pub apart : allApart es ≡ true
-  pub room : sumOf countOf before + sumOf countOf es ≤ mostRecords
+  pub room : sumOverEntries entryRecordCount before + sumOverEntries entryRecordCount es ≤ mostRecords
 
 -- what an entry that keeps the rules behind those before it keeps
-pub record EntryKept (before : List Entry) (e : Entry) : Type 0 where
+pub record EntryKept (before : List AflEntry) (e : AflEntry) : Type 0 where
   pub few : length before < mostEntries
-  pub alone : keepsAlone e ≡ true
+  pub alone : validEntryAlone e ≡ true
   pub apart : apartFrom before e ≡ true
-  pub room : sumOf countOf before + countOf e ≤ mostRecords
+  pub room : sumOverEntries entryRecordCount before + entryRecordCount e ≤ mostRecords
 
-keeps-kept : (before : List Entry) (e : Entry) → keepsBehind before e ≡ true → EntryKept before e
-unfolding keepsBehind roomBehind
+keeps-kept : (before : List AflEntry) (e : AflEntry) → validEntryAfter before e ≡ true → EntryKept before e
+unfolding validEntryAfter roomBehind
 keeps-kept before e k =
     let b = both-right _ _ k in
     let c = both-right _ _ b in
     record { few = ltb-true _ _ (both-left _ _ k); alone = both-left _ _ b; apart = both-left _ _ c; room = leb-true _ _ (both-right _ _ c) }
 
-kept-behind : (before : List Entry) (e : Entry) → EntryKept before e → keepsBehind before e ≡ true
-unfolding keepsBehind roomBehind
+kept-behind : (before : List AflEntry) (e : AflEntry) → EntryKept before e → validEntryAfter before e ≡ true
+unfolding validEntryAfter roomBehind
 kept-behind before e k = both-yes _ _ (lt-ltb _ _ (k .few)) (both-yes _ _ (k .alone) (both-yes _ _ (k .apart) (le-leb _ _ (k .room))))
 
 not-nothing : {A : Type 0} {x : Fault} {i : ℕ} → x ≡ At i → x ≡ Nothing → A
 not-nothing p q = let z : _≡_ {A = ℕ} 0 1 = cc in absurd (omega arith)
 
-pub follows : (es before : List Entry) (w : Bool) → length before ≤ mostEntries → sumOf countOf before ≤ mostRecords
+pub follows : (es before : List AflEntry) (w : Bool) → length before ≤ mostEntries → sumOverEntries entryRecordCount before ≤ mostRecords
     → badFrom before es w ≡ Nothing → Follows before es w
-unfolding badFrom badEnd every allApart sumOf
+unfolding badFrom badEnd every allApart sumOverEntries
 follows [] before w l r q = elim (bool-cases (both w (ltb 0 (length before)))) [
   | inl y ↦ (let n : 0 < length before = ltb-true _ _ (both-right _ _ y) in
       record { whole = both-left _ _ y; some = omega arith; few = omega arith; alone = refl; behind = refl; apart = refl; room = omega arith })
   | inr n ↦ not-nothing (if-no Nothing (At (length before + 1)) n) q
 ]
-follows (e ∷ es) before w l r q = elim (bool-cases (keepsBehind before e)) [
+follows (e ∷ es) before w l r q = elim (bool-cases (validEntryAfter before e)) [
   | inl y ↦ (
     let k = keeps-kept before e y in
     let n = length-more before e in
@@ -136,8 +136,8 @@ follows (e ∷ es) before w l r q = elim (bool-cases (keepsBehind before e)) [
   | inr n ↦ not-nothing (if-no _ (At (length before + 1)) n) q
 ]
 
-pub follows-back : (es before : List Entry) (w : Bool) → Follows before es w → badFrom before es w ≡ Nothing
-unfolding badFrom badEnd every allApart sumOf
+pub follows-back : (es before : List AflEntry) (w : Bool) → Follows before es w → badFrom before es w ≡ Nothing
+unfolding badFrom badEnd every allApart sumOverEntries
 follows-back [] before w f = if-yes _ _ (both-yes _ _ (f .whole) (lt-ltb 0 (length before) (omega (arith, f .some))))
 follows-back (e ∷ es) before w f =
     let n = length-more before e in
@@ -156,13 +156,13 @@ follows-back (e ∷ es) before w f =
     })
 
 -- the number of a bad entry is at most 63
-pub number-most : (es before : List Entry) (w : Bool) (i : ℕ) → length before ≤ mostEntries → badFrom before es w ≡ At i → i ≤ 63
+pub number-most : (es before : List AflEntry) (w : Bool) (i : ℕ) → length before ≤ mostEntries → badFrom before es w ≡ At i → i ≤ 63
 unfolding badFrom badEnd
 number-most [] before w i l q = elim (bool-cases (both w (ltb 0 (length before)))) [
   | inl y ↦ not-nothing q (if-yes Nothing (At (length before + 1)) y)
   | inr n ↦ (let e : At (length before + 1) ≡ At i = sym (if-no Nothing (At (length before + 1)) n) ∙ q in let z : length before + 1 ≡ i = cc in omega arith)
 ]
-number-most (e ∷ es) before w i l q = elim (bool-cases (keepsBehind before e)) [
+number-most (e ∷ es) before w i l q = elim (bool-cases (validEntryAfter before e)) [
   | inl y ↦ (let k = keeps-kept before e y in let n = length-more before e in
       number-most es (before ++ (e ∷ [])) w i (omega (arith, k .few)) (sym (if-yes _ _ y) ∙ q))
   | inr n ↦ (let e : At (length before + 1) ≡ At i = sym (if-no _ (At (length before + 1)) n) ∙ q in let z : length before + 1 ≡ i = cc in omega arith)
@@ -171,21 +171,21 @@ number-most (e ∷ es) before w i l q = elim (bool-cases (keepsBehind before e))
 -- ---- a whole locator
 
 module _ (es : List ℕ) (q : badEntry es ≡ Nothing) where
-  pub entries-follow : Follows [] (entries es) (wholeEntries es)
-  unfolding badEntry sumOf
-  entries-follow = follows (entries es) [] (wholeEntries es) (omega arith) (omega arith) q
+  pub entries-follow : Follows [] (aflEntries es) (wholeEntries es)
+  unfolding badEntry sumOverEntries
+  entries-follow = follows (aflEntries es) [] (wholeEntries es) (omega arith) (omega arith) q
 
   -- at most 248 bytes, and at most 128 records
-  pub locator-most : length es ≤ 248
-  locator-most =
+  pub afl-most : length es ≤ 248
+  afl-most =
       let f = entries-follow in
       let w = whole-length es (f .whole) in
       omega (arith, entries-count es w, f .few)
 
-  pub total-most : total es ≤ mostRecords
-  unfolding sumOf
+  pub total-most : aflRecordCount es ≤ mostRecords
+  unfolding sumOverEntries
   total-most = omega (arith, entries-follow .room)
 
 pub entry-number : (es : List ℕ) (i : ℕ) → badEntry es ≡ At i → i ≤ 63
 unfolding badEntry
-entry-number es i q = number-most (entries es) [] (wholeEntries es) i (omega arith) q
+entry-number es i q = number-most (aflEntries es) [] (wholeEntries es) i (omega arith) q

@@ -7,9 +7,9 @@ use mathlib.Core.Option.{Option, some, none}
 use Prim.Native.Nat.{ℕ}
 use Rattle.basics.specs.Choice.{_and_, _=?_, every}
 use Rattle.tlv.specs.Primitives.{Object}
-use Rattle.dictionary.specs.declared.Found.{Found}
-use Rattle.dictionary.specs.Rows.{rows, rowAt, find, cardRecord}
-use Rattle.reading.specs.Taking.{mayCome}
+use Rattle.dictionary.specs.declared.RowFound.{RowFound}
+use Rattle.dictionary.specs.Rows.{dictionaryRows, rowAt, findRow, inRecordResponse}
+use Rattle.reading.specs.Taking.{allowedInResponse}
 
 -- the template of a record
 abbrev pub recordTemplate : ℕ
@@ -17,24 +17,24 @@ recordTemplate = 0x70
 
 -- by its row in the table: the card may set it in template 70 with an answer to READ RECORD, its length and digits fit;
 -- an unknown tag has no row
-abbrev pub settableFound : Found → List ℕ → Bool
-settableFound Found.Unknown v = false
-settableFound (Found.At k) v = mayCome cardRecord (rowAt k) recordTemplate v
+abbrev pub rowSettableInRecord : RowFound → List ℕ → Bool
+rowSettableInRecord RowFound.Unknown v = false
+rowSettableInRecord (RowFound.At k) v = allowedInResponse inRecordResponse (rowAt k) recordTemplate v
 
 -- an object is one that the card may set in template 70, its length and digits fitting
-unfoldable pub settable : Object → Bool
-settable o = settableFound (find rows (o .tag)) (o .value)
+unfoldable pub settableInRecord : Object → Bool
+settableInRecord o = rowSettableInRecord (findRow dictionaryRows (o .tag)) (o .value)
 
 -- no object of a list has this tag, whatever its value
 unfoldable pub lacksTag : ℕ → List Object → Bool
 lacksTag t os = every (λ o. not (o .tag =? t)) os
 
 -- no tag stands in the list twice
-unfoldable pub distinct : List Object → Bool
-distinct [] = true
-distinct (o ∷ os) = lacksTag (o .tag) os and distinct os
+unfoldable pub tagsDistinct : List Object → Bool
+tagsDistinct [] = true
+tagsDistinct (o ∷ os) = lacksTag (o .tag) os and tagsDistinct os
 
 -- the objects of a run; none where there is no run
-abbrev pub objectsOf : Option (List Object) → List Object
-objectsOf none = []
-objectsOf (some os) = os
+abbrev pub objectsOrNone : Option (List Object) → List Object
+objectsOrNone none = []
+objectsOrNone (some os) = os

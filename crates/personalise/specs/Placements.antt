@@ -19,37 +19,37 @@ placementsIn (r ∷ []) = placement r 0 ∷ []
 placementsIn (r ∷ o ∷ s) = placement r o ∷ placementsIn s
 
 -- how many placements pass a test
-unfoldable pub countOf : (Placement → Bool) → List Placement → ℕ
-countOf f [] = 0
-countOf f (p ∷ ps) =
-    if f p then suc (countOf f ps)
-    else countOf f ps
+unfoldable pub placementCount : (Placement → Bool) → List Placement → ℕ
+placementCount f [] = 0
+placementCount f (p ∷ ps) =
+    if f p then suc (placementCount f ps)
+    else placementCount f ps
 
 -- some placement passes a test
-unfoldable pub anyOf : (Placement → Bool) → List Placement → Bool
-anyOf f [] = false
-anyOf f (p ∷ ps) = f p or anyOf f ps
+unfoldable pub anyPlacement : (Placement → Bool) → List Placement → Bool
+anyPlacement f [] = false
+anyPlacement f (p ∷ ps) = f p or anyPlacement f ps
 
 -- a placement names object j
-abbrev pub ofObject : ℕ → Placement → Bool
-ofObject j p = p .object =? j
+abbrev pub isOfObject : ℕ → Placement → Bool
+isOfObject j p = p .object =? j
 
 -- a placement puts object j into record k
-abbrev pub puts : ℕ → ℕ → Placement → Bool
-puts k j p = p .into =? k and p .object =? j
+abbrev pub putsObjectInto : ℕ → ℕ → Placement → Bool
+putsObjectInto k j p = p .into =? k and p .object =? j
 
 -- each of the objects, which are numbered from j on, is named by one placement and no more
-unfoldable pub eachOnce : List Placement → ℕ → List Object → Bool
-eachOnce ps j [] = true
-eachOnce ps j (o ∷ os) = countOf (ofObject j) ps =? 1 and eachOnce ps (suc j) os
+unfoldable pub eachPlacedOnce : List Placement → ℕ → List Object → Bool
+eachPlacedOnce ps j [] = true
+eachPlacedOnce ps j (o ∷ os) = placementCount (isOfObject j) ps =? 1 and eachPlacedOnce ps (suc j) os
 
 -- those of the objects, numbered from j on, that some placement puts into record k, in the list's order
 unfoldable pub objectsFrom : List Placement → ℕ → ℕ → List Object → List Object
 objectsFrom ps k j [] = []
 objectsFrom ps k j (o ∷ os) =
-    if anyOf (puts k j) ps then o ∷ objectsFrom ps k (suc j) os
+    if anyPlacement (putsObjectInto k j) ps then o ∷ objectsFrom ps k (suc j) os
     else objectsFrom ps k (suc j) os
 
 -- the objects of a list that stand in record k
-abbrev pub objectsIn : List Placement → ℕ → List Object → List Object
-objectsIn ps k os = objectsFrom ps k 1 os
+abbrev pub objectsInRecord : List Placement → ℕ → List Object → List Object
+objectsInRecord ps k os = objectsFrom ps k 1 os

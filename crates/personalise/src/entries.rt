@@ -1,17 +1,17 @@
 // The entries of the locator as it is proposed: each against the rules and those before it.
 use crate::Fault;
-use locator::Entry;
+use afl::AflEntry;
 ghost use mathlib.Core.Path.{_≡_};
 ghost use Prim.Native.Nat.{_≤_, _%_};
 ghost use lib.ListN.{length};
-ghost use Rattle.locator.specs.Entry.{frontOf, countOf};
-ghost use Rattle.locator.specs.Records.{entries as entriesIn, total};
-ghost use Rattle.personalise.specs.Entries.{keepsAlone, apartFrom, meets as meetsBoth, keepsBehind, badEntry};
+ghost use Rattle.afl.specs.Entry.{firstEntry, entryRecordCount};
+ghost use Rattle.afl.specs.Records.{aflEntries as entriesIn, aflRecordCount};
+ghost use Rattle.personalise.specs.Entries.{validEntryAlone, apartFrom, entriesOverlap as meetsBoth, validEntryAfter, badEntry};
 
 // The most entries and records, and the highest file number.
 const MOST_ENTRIES: usize = 62;
 const MOST_RECORDS: usize = 128;
-const LAST_FILE: u8 = 10;
+const LAST_SFI: u8 = 10;
 
 // The first bad entry, by its number from 1; the first where there is none.
 pub(crate) fn bad_entry(entries: &[u8]) -> Fault
@@ -37,7 +37,7 @@ pub(crate) fn bad_entry(entries: &[u8]) -> Fault
 // How many records some entries name.
 pub(crate) fn count_records(entries: &[u8]) -> usize
     requires { ⌜ length (now entries) ≤ 248 ⌝ }
-    ensures { λ r. ⌜ (r ≡ total (now (entries .entry))) × (r ≤ 15872) ⌝ }
+    ensures { λ r. ⌜ (r ≡ aflRecordCount (now (entries .entry))) × (r ≤ 15872) ⌝ }
 {
     let mut rest = entries;
     let mut total: usize = 0;
@@ -50,9 +50,9 @@ pub(crate) fn count_records(entries: &[u8]) -> usize
 }
 
 // Whether an entry keeps the rules behind those before it.
-fn keeps_behind(before: &[u8], e: Entry) -> bool
+fn keeps_behind(before: &[u8], e: AflEntry) -> bool
     requires { ⌜ length (now before) % 4 ≡ 0 ⌝ }
-    ensures { λ r. ⌜ r ≡ keepsBehind (entriesIn (now (before .entry))) e ⌝ }
+    ensures { λ r. ⌜ r ≡ validEntryAfter (entriesIn (now (before .entry))) e ⌝ }
 {
     if MOST_ENTRIES <= before.len() / 4 {
         return false;
@@ -67,7 +67,7 @@ fn keeps_behind(before: &[u8], e: Entry) -> bool
 }
 
 // Whether an entry names no record that one before it names.
-fn is_apart(before: &[u8], e: Entry) -> bool
+fn is_apart(before: &[u8], e: AflEntry) -> bool
     ensures { λ r. ⌜ r ≡ apartFrom (entriesIn (now (before .entry))) e ⌝ }
 {
     let mut rest = before;
@@ -82,13 +82,13 @@ fn is_apart(before: &[u8], e: Entry) -> bool
 }
 
 // Whether an entry keeps the rules by itself.
-fn keeps_alone(e: Entry) -> bool
-    ensures { λ r. ⌜ r ≡ keepsAlone e ⌝ }
+fn keeps_alone(e: AflEntry) -> bool
+    ensures { λ r. ⌜ r ≡ validEntryAlone e ⌝ }
 {
-    if e.sfi % 8 != 0 {
+    if e.lead % 8 != 0 {
         return false;
     }
-    if !basics::is_between(1, e.sfi / 8, LAST_FILE) {
+    if !basics::is_between(1, e.lead / 8, LAST_SFI) {
         return false;
     }
     if e.first < 1 {
@@ -101,10 +101,10 @@ fn keeps_alone(e: Entry) -> bool
 }
 
 // Whether two entries name a record both.
-fn meets(e: Entry, f: Entry) -> bool
+fn meets(e: AflEntry, f: AflEntry) -> bool
     ensures { λ r. ⌜ r ≡ meetsBoth e f ⌝ }
 {
-    if e.sfi / 8 != f.sfi / 8 {
+    if e.lead / 8 != f.lead / 8 {
         return false;
     }
     if f.last < e.first {
@@ -114,12 +114,12 @@ fn meets(e: Entry, f: Entry) -> bool
 }
 
 // The entry at the front of the bytes.
-fn front(s: &[u8]) -> Entry
+fn front(s: &[u8]) -> AflEntry
     requires { ⌜ 4 ≤ length (now s) ⌝ }
-    ensures { λ r. ⌜ r ≡ frontOf (now (s .entry)) ⌝ }
+    ensures { λ r. ⌜ r ≡ firstEntry (now (s .entry)) ⌝ }
 {
-    Entry {
-        sfi: s[0],
+    AflEntry {
+        lead: s[0],
         first: s[1],
         last: s[2],
         offline: s[3],
@@ -127,11 +127,11 @@ fn front(s: &[u8]) -> Entry
 }
 
 // How many records an entry names.
-fn count(e: Entry) -> usize
-    ensures { λ r. ⌜ (r ≡ countOf e) × (r ≤ 256) ⌝ }
+fn count(e: AflEntry) -> usize
+    ensures { λ r. ⌜ (r ≡ entryRecordCount e) × (r ≤ 256) ⌝ }
 {
-    let first = basics::wide(e.first);
-    let last = basics::wide(e.last);
+    let first = basics::widen(e.first);
+    let last = basics::widen(e.last);
     if last < first {
         return 0;
     }

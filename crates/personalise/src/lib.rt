@@ -12,14 +12,14 @@ mod writing;
 ghost use mathlib.Core.Path.{_≡_};
 ghost use Prim.Native.Nat.{_≤_};
 ghost use lib.ListN.{length};
-ghost use Rattle.locator.specs.Records.{total};
+ghost use Rattle.afl.specs.Records.{aflRecordCount};
 ghost use Rattle.personalise.specs.Placements.{placementsIn};
 ghost use Rattle.personalise.specs.Entries.{badEntry, mostRecords};
-ghost use Rattle.personalise.specs.Outcome.{locatorRoom, listed, answerOf, recordsLeft, locatorLeft};
-ghost use Rattle.personalise.specs.Word.{Small, wordOf, wordFor, recordsBy, locatorBy};
-ghost use Rattle.personalise.specs.Clauses.{Exactly};
-ghost use Rattle.personalise.specs.Read.{HoldsOf};
-ghost use Rattle.personalise.specs.Inner.{Usable, Fitting, Roomy, entryStage, recordStage, writtenOf};
+ghost use Rattle.personalise.specs.Outcome.{aflRoom, listedObjects, personaliseResult, recordsAfter, aflAfter};
+ghost use Rattle.personalise.specs.Word.{SmallResult, personaliseWord, personaliseWordFor, recordsByWord, aflByWord};
+ghost use Rattle.personalise.specs.Clauses.{WrittenExactly};
+ghost use Rattle.personalise.specs.Read.{CardHoldsIfWritten};
+ghost use Rattle.personalise.specs.Inner.{UsableObjects, ContentsFit, BuffersFit, entryStage, recordStage, personaliseWritten};
 
 // Where an object goes: the number of its record and its own, both counted from 1.
 pub struct Placement {
@@ -34,17 +34,17 @@ pub enum Fault {
 }
 
 // How many bytes of records and of locator are written.
-pub struct Sizes {
+pub struct WrittenSizes {
     pub records: usize,
-    pub locator: usize,
+    pub afl: usize,
 }
 
 // What a personalisation answers: all is written, or what is refused. Entries and records are counted from 1; a
 // placement that names record 0 makes 0 the number of a bad record.
-pub enum Answer {
-    Written(Sizes),
+pub enum PersonaliseResult {
+    Written(WrittenSizes),
     ShortRecords,
-    ShortLocator,
+    ShortAfl,
     BadList,
     BadEntry(usize),
     BadRecord(usize),
@@ -52,11 +52,11 @@ pub enum Answer {
 
 // The least bytes of the lent buffers.
 const RECORDS_ROOM: usize = 32768;
-const LOCATOR_ROOM: usize = 248;
+const AFL_ROOM: usize = 248;
 
 // Where a word has the kind of an answer and the locator's length.
 const KIND: u64 = 0x1000000000000;
-const LOCATOR: u64 = 0x100000000;
+const AFL: u64 = 0x100000000;
 
 // Writes the list as a card's records and locator, or names what is refused.
 pub fn personalise(
@@ -64,25 +64,25 @@ pub fn personalise(
     entries: &[u8],
     placements: &[u8],
     records: &mut [u8],
-    locator: &mut [u8],
-) -> Answer
-    ensures said { λ r. ⌜ r ≡ answerOf (now (objects .entry)) (now (entries .entry)) (now (placements .entry)) (now (records .entry)) (now (locator .entry)) ⌝ }
-    ensures wrote { λ r. ⌜ now (records .exit) ≡ recordsLeft r (now (objects .entry)) (now (entries .entry)) (now (placements .entry)) (now (records .entry)) ⌝ }
-    ensures located { λ r. ⌜ now (locator .exit) ≡ locatorLeft r (now (entries .entry)) (now (locator .entry)) ⌝ }
-    ensures small { λ r. ⌜ Small r ⌝ }
-    ensures exact { λ r. ⌜ Exactly r (now (objects .entry)) (now (entries .entry)) (now (placements .entry)) (now (records .entry)) (now (locator .entry)) ⌝ }
-    ensures reads { λ r. ⌜ HoldsOf (now (objects .entry)) (now (entries .entry)) (now (placements .entry)) r (now (records .exit)) (now (locator .exit)) ⌝ }
+    afl: &mut [u8],
+) -> PersonaliseResult
+    ensures said { λ r. ⌜ r ≡ personaliseResult (now (objects .entry)) (now (entries .entry)) (now (placements .entry)) (now (records .entry)) (now (afl .entry)) ⌝ }
+    ensures wrote { λ r. ⌜ now (records .exit) ≡ recordsAfter r (now (objects .entry)) (now (entries .entry)) (now (placements .entry)) (now (records .entry)) ⌝ }
+    ensures located { λ r. ⌜ now (afl .exit) ≡ aflAfter r (now (entries .entry)) (now (afl .entry)) ⌝ }
+    ensures small { λ r. ⌜ SmallResult r ⌝ }
+    ensures exact { λ r. ⌜ WrittenExactly r (now (objects .entry)) (now (entries .entry)) (now (placements .entry)) (now (records .entry)) (now (afl .entry)) ⌝ }
+    ensures reads { λ r. ⌜ CardHoldsIfWritten (now (objects .entry)) (now (entries .entry)) (now (placements .entry)) r (now (records .exit)) (now (afl .exit)) ⌝ }
 {
     if records.len() < RECORDS_ROOM {
-        return Answer::ShortRecords;
+        return PersonaliseResult::ShortRecords;
     }
-    if locator.len() < LOCATOR_ROOM {
-        return Answer::ShortLocator;
+    if afl.len() < AFL_ROOM {
+        return PersonaliseResult::ShortAfl;
     }
     if !objects::keeps(objects, placements) {
-        return Answer::BadList;
+        return PersonaliseResult::BadList;
     }
-    with_list(objects, entries, placements, records, locator)
+    with_list(objects, entries, placements, records, afl)
 }
 
 // The same for a host in C, with the answer as one word.
@@ -92,28 +92,28 @@ pub extern "C" fn emv_personalise(
     entries: &[u8],
     placements: &[u8],
     records: &mut [u8],
-    locator: &mut [u8],
+    afl: &mut [u8],
 ) -> u64
-    ensures said { λ r. ⌜ r ≡ wordFor (now (objects .entry)) (now (entries .entry)) (now (placements .entry)) (now (records .entry)) (now (locator .entry)) ⌝ }
-    ensures wrote { λ r. ⌜ now (records .exit) ≡ recordsBy r (now (objects .entry)) (now (entries .entry)) (now (placements .entry)) (now (records .entry)) ⌝ }
-    ensures located { λ r. ⌜ now (locator .exit) ≡ locatorBy r (now (entries .entry)) (now (locator .entry)) ⌝ }
+    ensures said { λ r. ⌜ r ≡ personaliseWordFor (now (objects .entry)) (now (entries .entry)) (now (placements .entry)) (now (records .entry)) (now (afl .entry)) ⌝ }
+    ensures wrote { λ r. ⌜ now (records .exit) ≡ recordsByWord r (now (objects .entry)) (now (entries .entry)) (now (placements .entry)) (now (records .entry)) ⌝ }
+    ensures located { λ r. ⌜ now (afl .exit) ≡ aflByWord r (now (entries .entry)) (now (afl .entry)) ⌝ }
 {
-    let answer = personalise(objects, entries, placements, records, locator);
+    let answer = personalise(objects, entries, placements, records, afl);
     word(answer)
 }
 
 // An answer as one word.
-fn word(answer: Answer) -> u64
-    requires { ⌜ Small answer ⌝ }
-    ensures { λ r. ⌜ r ≡ wordOf answer ⌝ }
+fn word(answer: PersonaliseResult) -> u64
+    requires { ⌜ SmallResult answer ⌝ }
+    ensures { λ r. ⌜ r ≡ personaliseWord answer ⌝ }
 {
     match answer {
-        Answer::Written(z) => (z.locator as u64) * LOCATOR + z.records as u64,
-        Answer::ShortRecords => KIND,
-        Answer::ShortLocator => 2 * KIND,
-        Answer::BadList => 3 * KIND,
-        Answer::BadEntry(i) => 4 * KIND + i as u64,
-        Answer::BadRecord(k) => 5 * KIND + k as u64,
+        PersonaliseResult::Written(z) => (z.afl as u64) * AFL + z.records as u64,
+        PersonaliseResult::ShortRecords => KIND,
+        PersonaliseResult::ShortAfl => 2 * KIND,
+        PersonaliseResult::BadList => 3 * KIND,
+        PersonaliseResult::BadEntry(i) => 4 * KIND + i as u64,
+        PersonaliseResult::BadRecord(k) => 5 * KIND + k as u64,
     }
 }
 
@@ -123,18 +123,18 @@ fn with_list(
     entries: &[u8],
     placements: &[u8],
     records: &mut [u8],
-    locator: &mut [u8],
-) -> Answer
-    requires { ⌜ Usable (now objects) ⌝ }
-    requires { ⌜ Roomy (now records) (now locator) ⌝ }
+    afl: &mut [u8],
+) -> PersonaliseResult
+    requires { ⌜ UsableObjects (now objects) ⌝ }
+    requires { ⌜ BuffersFit (now records) (now afl) ⌝ }
     ensures said { λ r. ⌜ r ≡ entryStage (now (objects .entry)) (now (entries .entry)) (now (placements .entry)) ⌝ }
-    ensures wrote { λ r. ⌜ now (records .exit) ≡ recordsLeft r (now (objects .entry)) (now (entries .entry)) (now (placements .entry)) (now (records .entry)) ⌝ }
-    ensures located { λ r. ⌜ now (locator .exit) ≡ locatorLeft r (now (entries .entry)) (now (locator .entry)) ⌝ }
+    ensures wrote { λ r. ⌜ now (records .exit) ≡ recordsAfter r (now (objects .entry)) (now (entries .entry)) (now (placements .entry)) (now (records .entry)) ⌝ }
+    ensures located { λ r. ⌜ now (afl .exit) ≡ aflAfter r (now (entries .entry)) (now (afl .entry)) ⌝ }
 {
     let fault = entries::bad_entry(entries);
     match fault {
-        Fault::At(i) => Answer::BadEntry(i),
-        Fault::Nothing => with_entries(objects, entries, placements, records, locator),
+        Fault::At(i) => PersonaliseResult::BadEntry(i),
+        Fault::Nothing => with_entries(objects, entries, placements, records, afl),
     }
 }
 
@@ -144,20 +144,20 @@ fn with_entries(
     entries: &[u8],
     placements: &[u8],
     records: &mut [u8],
-    locator: &mut [u8],
-) -> Answer
-    requires { ⌜ Usable (now objects) ⌝ }
-    requires { ⌜ Roomy (now records) (now locator) ⌝ }
+    afl: &mut [u8],
+) -> PersonaliseResult
+    requires { ⌜ UsableObjects (now objects) ⌝ }
+    requires { ⌜ BuffersFit (now records) (now afl) ⌝ }
     requires { ⌜ badEntry (now entries) ≡ Fault.Nothing ⌝ }
     ensures said { λ r. ⌜ r ≡ recordStage (now (objects .entry)) (now (entries .entry)) (now (placements .entry)) ⌝ }
-    ensures wrote { λ r. ⌜ now (records .exit) ≡ recordsLeft r (now (objects .entry)) (now (entries .entry)) (now (placements .entry)) (now (records .entry)) ⌝ }
-    ensures located { λ r. ⌜ now (locator .exit) ≡ locatorLeft r (now (entries .entry)) (now (locator .entry)) ⌝ }
+    ensures wrote { λ r. ⌜ now (records .exit) ≡ recordsAfter r (now (objects .entry)) (now (entries .entry)) (now (placements .entry)) (now (records .entry)) ⌝ }
+    ensures located { λ r. ⌜ now (afl .exit) ≡ aflAfter r (now (entries .entry)) (now (afl .entry)) ⌝ }
 {
     let count = entries::count_records(entries);
     let fault = contents::bad_record(objects, placements, count);
     match fault {
-        Fault::At(k) => Answer::BadRecord(k),
-        Fault::Nothing => write_all(objects, entries, placements, count, records, locator),
+        Fault::At(k) => PersonaliseResult::BadRecord(k),
+        Fault::Nothing => write_all(objects, entries, placements, count, records, afl),
     }
 }
 
@@ -168,20 +168,20 @@ fn write_all(
     placements: &[u8],
     count: usize,
     records: &mut [u8],
-    locator: &mut [u8],
-) -> Answer
-    requires { ⌜ Usable (now objects) ⌝ }
-    requires { ⌜ Roomy (now records) (now locator) ⌝ }
-    requires { ⌜ (count ≡ total (now entries)) × (count ≤ mostRecords) × (length (now entries) ≤ locatorRoom) ⌝ }
-    requires { ⌜ Fitting (listed (now objects)) (placementsIn (now placements)) count ⌝ }
-    ensures said { λ r. ⌜ r ≡ writtenOf (now (objects .entry)) (now (entries .entry)) (now (placements .entry)) ⌝ }
-    ensures wrote { λ r. ⌜ now (records .exit) ≡ recordsLeft r (now (objects .entry)) (now (entries .entry)) (now (placements .entry)) (now (records .entry)) ⌝ }
-    ensures located { λ r. ⌜ now (locator .exit) ≡ locatorLeft r (now (entries .entry)) (now (locator .entry)) ⌝ }
+    afl: &mut [u8],
+) -> PersonaliseResult
+    requires { ⌜ UsableObjects (now objects) ⌝ }
+    requires { ⌜ BuffersFit (now records) (now afl) ⌝ }
+    requires { ⌜ (count ≡ aflRecordCount (now entries)) × (count ≤ mostRecords) × (length (now entries) ≤ aflRoom) ⌝ }
+    requires { ⌜ ContentsFit (listedObjects (now objects)) (placementsIn (now placements)) count ⌝ }
+    ensures said { λ r. ⌜ r ≡ personaliseWritten (now (objects .entry)) (now (entries .entry)) (now (placements .entry)) ⌝ }
+    ensures wrote { λ r. ⌜ now (records .exit) ≡ recordsAfter r (now (objects .entry)) (now (entries .entry)) (now (placements .entry)) (now (records .entry)) ⌝ }
+    ensures located { λ r. ⌜ now (afl .exit) ≡ aflAfter r (now (entries .entry)) (now (afl .entry)) ⌝ }
 {
     let size = writing::put_records(objects, placements, count, records);
-    bytes::copy(entries, locator);
-    Answer::Written(Sizes {
+    bytes::copy(entries, afl);
+    PersonaliseResult::Written(WrittenSizes {
         records: size,
-        locator: entries.len(),
+        afl: entries.len(),
     })
 }

@@ -1,28 +1,28 @@
 // The list of objects: what its rules ask of each, and how many there are.
 use crate::placements;
-use dictionary::{Attributes, Found};
-use tlv::Front;
+use dictionary::{Attributes, RowFound};
+use tlv::ObjectFront;
 ghost use mathlib.Core.Path.{_≡_};
 ghost use mathlib.Core.Bool.{true};
 ghost use lib.ListN.{length};
-ghost use Rattle.tlv.specs.Primitives.{object, primitives, isRun};
-ghost use Rattle.dictionary.specs.Rows.{cardRecord};
-ghost use Rattle.dictionary.specs.Packing.{rowOf};
-ghost use Rattle.reading.specs.Taking.{mayCome};
-ghost use Rattle.personalise.specs.Objects.{recordTemplate, settable};
+ghost use Rattle.tlv.specs.Primitives.{tlvObject, primitiveObjects, isPrimitiveList};
+ghost use Rattle.dictionary.specs.Rows.{inRecordResponse};
+ghost use Rattle.dictionary.specs.Packing.{rowWithAttributes};
+ghost use Rattle.reading.specs.Taking.{allowedInResponse};
+ghost use Rattle.personalise.specs.Objects.{recordTemplate, settableInRecord};
 ghost use Rattle.personalise.specs.Placements.{placementsIn};
-ghost use Rattle.personalise.specs.Outcome.{listed};
-ghost use Rattle.personalise.specs.Inner.{lacksIn, runKeeps};
+ghost use Rattle.personalise.specs.Outcome.{listedObjects};
+ghost use Rattle.personalise.specs.Inner.{listLacksTag, parsedListValid};
 
 // Whether the bytes are a run of objects that may all be set, no tag twice, each placed once.
 pub(crate) fn keeps(objects: &[u8], placements: &[u8]) -> bool
-    ensures { λ r. ⌜ r ≡ runKeeps (placementsIn (now (placements .entry))) 1 (primitives (now (objects .entry))) ⌝ }
+    ensures { λ r. ⌜ r ≡ parsedListValid (placementsIn (now (placements .entry))) 1 (primitiveObjects (now (objects .entry))) ⌝ }
 {
     let mut s = objects;
     let mut number: usize = 1;
     while s.len() != 0 {
         let front = tlv::primitive(s);
-        let Front::Object(h) = front else {
+        let ObjectFront::Object(h) = front else {
             return false;
         };
         let start = h.start;
@@ -46,14 +46,14 @@ pub(crate) fn keeps(objects: &[u8], placements: &[u8]) -> bool
 
 // How many objects a run has.
 pub(crate) fn count(objects: &[u8]) -> usize
-    requires { ⌜ isRun (primitives (now objects)) ≡ true ⌝ }
-    ensures { λ r. ⌜ r ≡ length (listed (now (objects .entry))) ⌝ }
+    requires { ⌜ isPrimitiveList (primitiveObjects (now objects)) ≡ true ⌝ }
+    ensures { λ r. ⌜ r ≡ length (listedObjects (now (objects .entry))) ⌝ }
 {
     let mut s = objects;
     let mut n: usize = 0;
     while s.len() != 0 {
         let front = tlv::primitive(s);
-        let Front::Object(h) = front else {
+        let ObjectFront::Object(h) = front else {
             return n;
         };
         let start = h.start;
@@ -66,12 +66,12 @@ pub(crate) fn count(objects: &[u8]) -> usize
 
 // Whether the bytes are a run without a tag.
 fn lacks_tag(objects: &[u8], tag: u32) -> bool
-    ensures { λ r. ⌜ r ≡ lacksIn tag (primitives (now (objects .entry))) ⌝ }
+    ensures { λ r. ⌜ r ≡ listLacksTag tag (primitiveObjects (now (objects .entry))) ⌝ }
 {
     let mut s = objects;
     while s.len() != 0 {
         let front = tlv::primitive(s);
-        let Front::Object(h) = front else {
+        let ObjectFront::Object(h) = front else {
             return false;
         };
         if h.tag == tag {
@@ -86,10 +86,10 @@ fn lacks_tag(objects: &[u8], tag: u32) -> bool
 
 // Whether the card may set an object in template 70, its length and digits fitting.
 fn is_settable(tag: u32, v: &[u8]) -> bool
-    ensures { λ r. ⌜ r ≡ settable (object tag (now (v .entry))) ⌝ }
+    ensures { λ r. ⌜ r ≡ settableInRecord (tlvObject tag (now (v .entry))) ⌝ }
 {
-    let found = dictionary::lookup(tag).found;
-    let Found::At(row) = found else {
+    let found = dictionary::lookup_row(tag).found;
+    let RowFound::At(row) = found else {
         return false;
     };
     let attributes = dictionary::attributes_of(row);
@@ -98,7 +98,7 @@ fn is_settable(tag: u32, v: &[u8]) -> bool
 
 // Whether the card may bring an object of these attributes in a record, with this value.
 fn may_come(attributes: Attributes, v: &[u8]) -> bool
-    ensures { λ r. ⌜ r ≡ mayCome cardRecord (rowOf attributes) recordTemplate (now (v .entry)) ⌝ }
+    ensures { λ r. ⌜ r ≡ allowedInResponse inRecordResponse (rowWithAttributes attributes) recordTemplate (now (v .entry)) ⌝ }
 {
     if attributes.setters / dictionary::CARD % 2 != 1 {
         return false;

@@ -3,18 +3,18 @@ use crate::Placement;
 ghost use mathlib.Core.Path.{_≡_};
 ghost use Prim.Native.Nat.{min};
 ghost use lib.ListN.{getD};
-ghost use Rattle.personalise.specs.Placements.{placement, placementsIn, countOf, anyOf, ofObject, puts};
-ghost use Rattle.personalise.specs.Records.{strays as straysFrom, misplaced};
+ghost use Rattle.personalise.specs.Placements.{placement, placementsIn, placementCount, anyPlacement, isOfObject, putsObjectInto};
+ghost use Rattle.personalise.specs.Records.{placementStrays as straysFrom, misplaced};
 
 // How many placements name an object.
 pub(crate) fn count_named(placements: &[u8], object: usize) -> usize
-    ensures { λ r. ⌜ r ≡ countOf (ofObject object) (placementsIn (now (placements .entry))) ⌝ }
+    ensures { λ r. ⌜ r ≡ placementCount (isOfObject object) (placementsIn (now (placements .entry))) ⌝ }
 {
     let mut rest = placements;
     let mut count: usize = 0;
     while rest.len() != 0 {
         let p = front(rest);
-        if basics::wide(p.object) == object {
+        if basics::widen(p.object) == object {
             count += 1;
         }
         let n = width(rest.len());
@@ -25,7 +25,7 @@ pub(crate) fn count_named(placements: &[u8], object: usize) -> usize
 
 // Whether some placement puts an object into a record.
 pub(crate) fn is_placed(placements: &[u8], into: usize, object: usize) -> bool
-    ensures { λ r. ⌜ r ≡ anyOf (puts into object) (placementsIn (now (placements .entry))) ⌝ }
+    ensures { λ r. ⌜ r ≡ anyPlacement (putsObjectInto into object) (placementsIn (now (placements .entry))) ⌝ }
 {
     let mut rest = placements;
     while rest.len() != 0 {
@@ -77,20 +77,20 @@ fn width(len: usize) -> usize
 
 // Whether a placement puts an object into a record.
 fn is_of(p: Placement, into: usize, object: usize) -> bool
-    ensures { λ r. ⌜ r ≡ puts into object p ⌝ }
+    ensures { λ r. ⌜ r ≡ putsObjectInto into object p ⌝ }
 {
-    if basics::wide(p.into) != into {
+    if basics::widen(p.into) != into {
         return false;
     }
-    basics::wide(p.object) == object
+    basics::widen(p.object) == object
 }
 
 // Whether a placement names a record, and either that is none of `records` or its object none of `objects`.
 fn strays(p: Placement, into: usize, records: usize, objects: usize) -> bool
     ensures { λ r. ⌜ r ≡ straysFrom records objects into p ⌝ }
 {
-    let named = basics::wide(p.into);
-    let object = basics::wide(p.object);
+    let named = basics::widen(p.into);
+    let object = basics::widen(p.object);
     if named != into {
         return false;
     }

@@ -3,14 +3,14 @@ use crate::complain;
 
 // Whether the exit status is told, which argument names the file (0: none does), and whether there is one name too many
 // or an unknown option.
-pub struct Arguments {
+pub struct PersonaliseArguments {
     pub tell: bool,
     pub file: usize,
     pub wrong: bool,
 }
 
-pub fn read() -> Arguments {
-    let mut out = Arguments {
+pub fn personalise_arguments() -> PersonaliseArguments {
+    let mut out = PersonaliseArguments {
         tell: false,
         file: 0,
         wrong: false,
@@ -25,7 +25,7 @@ pub fn read() -> Arguments {
 }
 
 // One argument more.
-fn with_argument(arguments: Arguments, i: usize) -> Arguments {
+fn with_argument(arguments: PersonaliseArguments, i: usize) -> PersonaliseArguments {
     let mut space = io::buffer();
     let n = os::arg(i, &mut space);
     let word = &space[..n];
@@ -44,7 +44,7 @@ fn with_argument(arguments: Arguments, i: usize) -> Arguments {
     out
 }
 
-fn not_understood(arguments: Arguments, words: &[u8]) -> Arguments {
+fn not_understood(arguments: PersonaliseArguments, words: &[u8]) -> PersonaliseArguments {
     complain(b"personalise: ");
     complain(words);
     complain(b"\n");

@@ -10,7 +10,8 @@ mod arguments;
 mod shown;
 mod text;
 
-use arguments::Arguments;
+
+use arguments::PersonaliseArguments;
 use libc::{STDERR_FILENO, STDIN_FILENO};
 
 // How much of a file is there, whether to read on, and whether a part could not be read.
@@ -38,13 +39,13 @@ const BYTES: usize = MOST / 2;
 // What is lent for the records and for the locator.
 const RECORDS: usize = 32768;
 
-const LOCATOR: usize = 248;
+const AFL: usize = 248;
 
 // The descriptor on which the exit status is told.
 const TELLING: i32 = 3;
 
 fn main() {
-    let asked = arguments::read();
+    let asked = arguments::personalise_arguments();
     let status = answered(asked);
     if asked.tell {
         tell(status);
@@ -78,7 +79,7 @@ fn front(s: &[u8], n: usize) -> &[u8] {
 // ---- the file
 
 // Reads the file that is asked for and shows the answer to it: the exit status that is due.
-fn answered(asked: Arguments) -> u8 {
+fn answered(asked: PersonaliseArguments) -> u8 {
     if asked.wrong {
         return NEITHER;
     }
@@ -164,7 +165,7 @@ fn laid_out(chars: &[u8]) -> u8 {
     let mut objects = [0u8; BYTES];
     let mut entries = [0u8; BYTES];
     let mut placements = [0u8; BYTES];
-    let given = text::lines(chars, &mut objects, &mut entries, &mut placements);
+    let given = text::parse_lines(chars, &mut objects, &mut entries, &mut placements);
     if !text::is_whole(given) {
         return NEITHER;
     }
@@ -177,9 +178,9 @@ fn laid_out(chars: &[u8]) -> u8 {
 // Lends the buffers and shows the answer.
 fn written(objects: &[u8], entries: &[u8], placements: &[u8]) -> u8 {
     let mut records = [0u8; RECORDS];
-    let mut locator = [0u8; LOCATOR];
-    let answer = personalise::personalise(objects, entries, placements, &mut records, &mut locator);
-    if shown::answer(answer, &records, &locator) {
+    let mut afl = [0u8; AFL];
+    let answer = personalise::personalise(objects, entries, placements, &mut records, &mut afl);
+    if shown::print_result(answer, &records, &afl) {
         return WRITTEN;
     }
     REFUSED

@@ -1,18 +1,18 @@
 // The answer on standard output: the locator and each record on a line, or the refusal in words.
 use crate::front;
 use crate::text::counted;
-use personalise::Answer;
-use tlv::Front;
+use personalise::PersonaliseResult;
+use tlv::ObjectFront;
 ghost use Prim.Native.Nat.{_≤_};
 ghost use lib.ListN.{length};
 
 // Shows an answer with what is written in front of the buffers: whether anything is.
-pub fn answer(answer: Answer, records: &[u8], locator: &[u8]) -> bool {
+pub fn print_result(answer: PersonaliseResult, records: &[u8], afl: &[u8]) -> bool {
     match answer {
-        Answer::Written(sizes) => {
-            show::text(b"locator");
-            show::bytes(front(locator, sizes.locator));
-            show::text(b"\n");
+        PersonaliseResult::Written(sizes) => {
+            print::text(b"locator");
+            print::bytes(front(afl, sizes.afl));
+            print::text(b"\n");
             all_records(front(records, sizes.records));
             true
         }
@@ -41,53 +41,53 @@ fn all_records(records: &[u8]) {
 fn first_size(s: &[u8]) -> usize
     ensures { λ r. ⌜ r ≤ length (now (s .entry)) ⌝ }
 {
-    let front = tlv::head(s);
-    let Front::Object(h) = front else {
+    let front = tlv::object_header(s);
+    let ObjectFront::Object(h) = front else {
         return 0;
     };
     h.start + h.len
 }
 
 fn record_line(number: usize, bytes: &[u8]) {
-    show::text(b"record ");
-    show::number(number);
-    show::text(b":");
-    show::bytes(bytes);
-    show::text(b"\n");
+    print::text(b"record ");
+    print::print_number(number);
+    print::text(b":");
+    print::bytes(bytes);
+    print::text(b"\n");
 }
 
 // ---- refusals
 
 // A refusal in words.
-fn refused(answer: Answer) -> bool {
-    show::text(b"refused: ");
+fn refused(answer: PersonaliseResult) -> bool {
+    print::text(b"refused: ");
     match answer {
-        Answer::Written(_) => show::text(b"nothing"),
-        Answer::ShortRecords => show::text(b"records buffer shorter than 32,768 bytes"),
-        Answer::ShortLocator => show::text(b"locator buffer shorter than 248 bytes"),
-        Answer::BadList => list_words(),
-        Answer::BadEntry(i) => entry_words(i),
-        Answer::BadRecord(k) => record_words(k),
+        PersonaliseResult::Written(_) => print::text(b"nothing"),
+        PersonaliseResult::ShortRecords => print::text(b"records buffer shorter than 32,768 bytes"),
+        PersonaliseResult::ShortAfl => print::text(b"locator buffer shorter than 248 bytes"),
+        PersonaliseResult::BadList => list_words(),
+        PersonaliseResult::BadEntry(i) => entry_words(i),
+        PersonaliseResult::BadRecord(k) => record_words(k),
     }
-    show::text(b"\n");
+    print::text(b"\n");
     false
 }
 
 fn list_words() {
-    show::text(b"list: every object must be whole, of a tag for template 70, ");
-    show::text(b"of a length and digits that fit, there once and placed once");
+    print::text(b"list: every object must be whole, of a tag for template 70, ");
+    print::text(b"of a length and digits that fit, there once and placed once");
 }
 
 fn entry_words(number: usize) {
-    show::text(b"entry ");
-    show::number(number);
-    show::text(b": must be there, whole and among the first 62, byte 1 eight times a file 1 to 10, ");
-    show::text(b"first record not 0, last not below it, byte 4 zero, no record named before, at most 128 in all");
+    print::text(b"entry ");
+    print::print_number(number);
+    print::text(b": must be there, whole and among the first 62, byte 1 eight times a file 1 to 10, ");
+    print::text(b"first record not 0, last not below it, byte 4 zero, no record named before, at most 128 in all");
 }
 
 fn record_words(number: usize) {
-    show::text(b"record ");
-    show::number(number);
-    show::text(b": must be one of the locator's, hold objects of the list only, ");
-    show::text(b"with at most 253 bytes of content");
+    print::text(b"record ");
+    print::print_number(number);
+    print::text(b": must be one of the locator's, hold objects of the list only, ");
+    print::text(b"with at most 253 bytes of content");
 }

@@ -1,7 +1,7 @@
 // The lines of a file: `objects HEX`, `entries HEX` and `placements HEX`, each once.
 use crate::complain;
 use libc::STDERR_FILENO;
-use line::Decoded;
+use text_line::Decoded;
 ghost use Prim.Native.Nat.{_≤_};
 ghost use lib.ListN.{length};
 
@@ -21,7 +21,7 @@ pub struct Given {
 }
 
 // The word in front of a line.
-enum Word {
+enum PartWord {
     Absent,
     Objects,
     Entries,
@@ -30,7 +30,7 @@ enum Word {
 }
 
 // Reads all lines, up to one that is wrong, which is reported by its number.
-pub fn lines(chars: &[u8], objects: &mut [u8], entries: &mut [u8], placements: &mut [u8]) -> Given {
+pub fn parse_lines(chars: &[u8], objects: &mut [u8], entries: &mut [u8], placements: &mut [u8]) -> Given {
     let mut given = nothing();
     let mut rest = chars;
     while rest.len() != 0 {
@@ -77,15 +77,15 @@ fn with_line(
     if given.wrong {
         return given;
     }
-    let text = line::uncommented(line);
-    let rest = line::behind_word(text);
-    let word = word_named(line::first_word(text));
+    let text = text_line::uncommented(line);
+    let rest = text_line::behind_word(text);
+    let word = word_named(text_line::first_word(text));
     match word {
-        Word::Absent => next_line(given),
-        Word::Objects => with_objects(given, line::decode(rest, objects)),
-        Word::Entries => with_entries(given, line::decode(rest, entries)),
-        Word::Placements => with_placements(given, line::decode(rest, placements)),
-        Word::Unknown => wrong(
+        PartWord::Absent => next_line(given),
+        PartWord::Objects => with_objects(given, text_line::decode_hex(rest, objects)),
+        PartWord::Entries => with_entries(given, text_line::decode_hex(rest, entries)),
+        PartWord::Placements => with_placements(given, text_line::decode_hex(rest, placements)),
+        PartWord::Unknown => wrong(
             given,
             b"unknown word; expected objects HEX, entries HEX or placements HEX",
         ),
@@ -93,20 +93,20 @@ fn with_line(
 }
 
 // Which word it is.
-fn word_named(w: &[u8]) -> Word {
+fn word_named(w: &[u8]) -> PartWord {
     if w.len() == 0 {
-        return Word::Absent;
+        return PartWord::Absent;
     }
     if basics::same(w, b"objects") {
-        return Word::Objects;
+        return PartWord::Objects;
     }
     if basics::same(w, b"entries") {
-        return Word::Entries;
+        return PartWord::Entries;
     }
     if basics::same(w, b"placements") {
-        return Word::Placements;
+        return PartWord::Placements;
     }
-    Word::Unknown
+    PartWord::Unknown
 }
 
 // ---- one line more of each kind
@@ -144,7 +144,7 @@ fn checked(given: Given, twice: bool, d: Decoded) -> Given {
     let problem = d.problem;
     match problem {
         0 => next_line(given),
-        line::HEX => wrong(
+        text_line::HEX => wrong(
             given,
             b"expected bytes, each two hexadecimal digits side by side",
         ),

@@ -10,16 +10,16 @@ use lib.ListN.{getD}
 use borrow.Author.Tests.{eqb-true, eq-eqb}
 use Rattle.basics.specs.Choice.{if, both, either, every, _and_, _=?_}
 use Rattle.basics.proofs.Laws.{both-left, both-right, both-yes}
-use Rattle.dictionary.specs.Rows.{rows, past, find}
-use Rattle.store.specs.Place.{Value, absent, bytesOf, valueOf}
-use Rattle.analysis.specs.Bits.{bit}
-use Rattle.analysis.specs.Value.{front}
-use Rattle.analysis.specs.Choice.{denial, online, default, holdsBit, lowestFrom, lowestBit, noBits, allBits, cardCode, pairOf, heldAt, capabilityAt, choiceOf}
-use Rattle.analysis.specs.Action.{terminalType, codesOf, chosen}
+use Rattle.dictionary.specs.Rows.{dictionaryRows, rowPast, findRow}
+use Rattle.store.specs.Place.{StoredValue, absent, bytesOfValue, objectValue}
+use Rattle.analysis.specs.Bits.{numberedBit}
+use Rattle.analysis.specs.Value.{firstBytes}
+use Rattle.analysis.specs.Choice.{denialStage, onlineStage, defaultStage, stageHoldsBit, lowestFrom, lowestBit, zeroCode, onesCode, iacCode, actionCodesAt, stageHolds, onlineCapabilityAt, choiceOf}
+use Rattle.analysis.specs.Action.{terminalType, actionCodesOf, choiceFor}
 use Rattle.analysis.specs.declared.choice.Choice.{Choice}
 use Rattle.analysis.specs.declared.choice.Choice.the-variants.{Decline, Online, Offline}
-use Rattle.rank.specs.Rank.{rankOf}
-use Rattle.rank.specs.Stricter.{Within, CodesWithin}
+use Rattle.rank.specs.Rank.{choiceRank}
+use Rattle.rank.specs.Stricter.{BitsWithin, CodesWithin}
 use Rattle.rank.proofs.Contained.{contained, contained-within, within-contained}
 use Rattle.rank.proofs.Laws.{never-loosens}
 use Rattle.rank.proofs.Stored.{valueAmong, storeOf, haveRoom, stored}
@@ -33,48 +33,48 @@ tags = 0x9F35 ∷ 0x9F0E ∷ 0xDF8121 ∷ 0x9F0F ∷ 0xDF8122 ∷ 0x9F0D ∷ 0xD
 -- the result bits, and the values of these tags
 record State : Type 0 where
   bits : List ℕ
-  values : List Value
+  values : List StoredValue
 
 -- result bits, with what a store holds
 abbrev inStore : List ℕ → List ℕ → State
-inStore r b = record { bits = r; values = map (valueOf b) tags }
+inStore r b = record { bits = r; values = map (objectValue b) tags }
 
 -- the type; the codes of a stage
 abbrev typeOf : State → ℕ
-typeOf x = getD (bytesOf (getD (x .values) 0 absent)) 0 0
+typeOf x = getD (bytesOfValue (getD (x .values) 0 absent)) 0 0
 
-abbrev cardValue : State → ℕ → Value
+abbrev cardValue : State → ℕ → StoredValue
 cardValue x stage = getD (x .values) (2 * stage + 1) absent
 
 abbrev terminalBytes : State → ℕ → List ℕ
-terminalBytes x stage = bytesOf (getD (x .values) (2 * stage + 2) absent)
+terminalBytes x stage = bytesOfValue (getD (x .values) (2 * stage + 2) absent)
 
 abbrev choice : State → Choice
 choice x =
     choiceOf (x .bits) (typeOf x)
-    (pairOf denial (cardValue x denial) (terminalBytes x denial)
-    ∷ pairOf online (cardValue x online) (terminalBytes x online)
-    ∷ pairOf default (cardValue x default) (terminalBytes x default)
+    (actionCodesAt denialStage (cardValue x denialStage) (terminalBytes x denialStage)
+    ∷ actionCodesAt onlineStage (cardValue x onlineStage) (terminalBytes x onlineStage)
+    ∷ actionCodesAt defaultStage (cardValue x defaultStage) (terminalBytes x defaultStage)
     ∷ [])
 
 -- of a store it is the choice there
-choice-is : (r b : List ℕ) → choice (inStore r b) ≡ chosen b r
-unfolding chosen codesOf
+choice-is : (r b : List ℕ) → choice (inStore r b) ≡ choiceFor b r
+unfolding choiceFor actionCodesOf
 choice-is r b = refl
 
 -- ---- an addition
 
 -- the codes of a stage are contained in the new ones, each as it is read
 abbrev cardAdds : State → State → ℕ → Bool
-cardAdds x y stage = contained (cardCode stage (cardValue x stage)) (cardCode stage (cardValue y stage))
+cardAdds x y stage = contained (iacCode stage (cardValue x stage)) (iacCode stage (cardValue y stage))
 
 abbrev terminalAdds : State → State → ℕ → Bool
-terminalAdds x y stage = contained (front 5 (terminalBytes x stage)) (front 5 (terminalBytes y stage))
+terminalAdds x y stage = contained (firstBytes 5 (terminalBytes x stage)) (firstBytes 5 (terminalBytes y stage))
 
 abbrev codesAdd : State → State → Bool
 codesAdd x y =
-    cardAdds x y denial and cardAdds x y online and cardAdds x y default
-    and terminalAdds x y denial and terminalAdds x y online and terminalAdds x y default
+    cardAdds x y denialStage and cardAdds x y onlineStage and cardAdds x y defaultStage
+    and terminalAdds x y denialStage and terminalAdds x y onlineStage and terminalAdds x y defaultStage
 
 -- the type is kept, and the result bits and all codes are contained in the new ones
 abbrev isAddition : State → State → Bool
@@ -98,13 +98,13 @@ module _ (r s b c : List ℕ) where
       }
 
   -- where it passes the law speaks of the change
-  never-higher : isAddition (inStore r b) (inStore s c) ≡ true → rankOf (chosen c s) ≤ rankOf (chosen b r)
+  never-higher : isAddition (inStore r b) (inStore s c) ≡ true → choiceRank (choiceFor c s) ≤ choiceRank (choiceFor b r)
   never-higher e =
       let more = both-right _ _ e in
       never-loosens .stores r s b c (eqb-true _ _ (both-left _ _ e)) (contained-within _ _ (both-left _ _ more)) (codes-added (both-right _ _ more))
 
   -- where it fails the law does not
-  addition-passes : terminalType c ≡ terminalType b → Within r s → CodesWithin b c → isAddition (inStore r b) (inStore s c) ≡ true
+  addition-passes : terminalType c ≡ terminalType b → BitsWithin r s → CodesWithin b c → isAddition (inStore r b) (inStore s c) ≡ true
   addition-passes e g w =
       both-yes _ _ (eq-eqb _ _ e)
       (both-yes _ _ (within-contained _ _ g)
@@ -149,11 +149,11 @@ adds x = isAddition (state (x .oldBits) (x .old)) (state (x .newBits) (x .new))
 
 -- the choices before and after, each with its rank
 abbrev ranks : Change → List (Choice × ℕ)
-ranks x = (oldChoice x, rankOf (oldChoice x)) ∷ (newChoice x, rankOf (newChoice x)) ∷ []
+ranks x = (oldChoice x, choiceRank (oldChoice x)) ∷ (newChoice x, choiceRank (newChoice x)) ∷ []
 
 -- a terminal of a type with codes of zeros, and no code of the card
 abbrev terminal : ℕ → List (ℕ × List ℕ)
-terminal kind = (0x9F35, kind ∷ []) ∷ (0xDF8121, noBits) ∷ (0xDF8122, noBits) ∷ (0xDF8120, noBits) ∷ []
+terminal kind = (0x9F35, kind ∷ []) ∷ (0xDF8121, zeroCode) ∷ (0xDF8122, zeroCode) ∷ (0xDF8120, zeroCode) ∷ []
 
 -- byte 1 b8; byte 2 b7; both; byte 5 b1; byte 5 b2
 abbrev first : List ℕ
@@ -176,27 +176,27 @@ lastButOne = 0 ∷ 0 ∷ 0 ∷ 0 ∷ 0x02 ∷ []
 abbrev falling : List Change
 falling =
     -- types 22 and 25, online: zeros of the card get byte 1 b8; they go away; the terminal's code gets it
-    codes first ((0x9F0F, noBits) ∷ terminal 0x22) ((0x9F0F, first) ∷ terminal 0x22)
-    ∷ codes first ((0x9F0F, noBits) ∷ terminal 0x22) (terminal 0x22)
-    ∷ codes first ((0x9F0F, noBits) ∷ terminal 0x25) ((0x9F0F, noBits) ∷ (0xDF8122, first) ∷ terminal 0x25)
+    codes first ((0x9F0F, zeroCode) ∷ terminal 0x22) ((0x9F0F, first) ∷ terminal 0x22)
+    ∷ codes first ((0x9F0F, zeroCode) ∷ terminal 0x22) (terminal 0x22)
+    ∷ codes first ((0x9F0F, zeroCode) ∷ terminal 0x25) ((0x9F0F, zeroCode) ∷ (0xDF8122, first) ∷ terminal 0x25)
     -- types 22, 34 and 21, denial: a code of the card appears; one gets a bit more; the terminal's gets one
     ∷ codes first (terminal 0x22) ((0x9F0E, first) ∷ terminal 0x22)
     ∷ codes first ((0x9F0E, expiry) ∷ terminal 0x34) ((0x9F0E, firstAndExpiry) ∷ terminal 0x34)
     ∷ codes expiry (terminal 0x21) ((0xDF8121, expiry) ∷ terminal 0x21)
     -- types 23 and 26, default: zeros of the card get a bit; they go away; the terminal's code gets one, the card's has another
-    ∷ codes first ((0x9F0D, noBits) ∷ terminal 0x23) ((0x9F0D, first) ∷ terminal 0x23)
-    ∷ codes first ((0x9F0D, noBits) ∷ terminal 0x26) (terminal 0x26)
+    ∷ codes first ((0x9F0D, zeroCode) ∷ terminal 0x23) ((0x9F0D, first) ∷ terminal 0x23)
+    ∷ codes first ((0x9F0D, zeroCode) ∷ terminal 0x26) (terminal 0x26)
     ∷ codes expiry ((0x9F0D, first) ∷ terminal 0x23) ((0x9F0D, first) ∷ (0xDF8120, expiry) ∷ terminal 0x23)
     -- the result gets byte 5 b1, which the online, the denial, the default code has
-    ∷ result noBits last ((0x9F0F, last) ∷ terminal 0x22)
-    ∷ result noBits last ((0x9F0E, last) ∷ (0x9F0D, noBits) ∷ terminal 0x36)
-    ∷ result noBits last ((0x9F0D, last) ∷ terminal 0x13)
+    ∷ result zeroCode last ((0x9F0F, last) ∷ terminal 0x22)
+    ∷ result zeroCode last ((0x9F0E, last) ∷ (0x9F0D, zeroCode) ∷ terminal 0x36)
+    ∷ result zeroCode last ((0x9F0D, last) ∷ terminal 0x13)
     -- the result and two codes at once; by the result alone, or by the codes alone, the choice is kept: see below
-    ∷ change noBits ((0x9F0F, noBits) ∷ terminal 0x25) last ((0x9F0F, last) ∷ (0xDF8121, last) ∷ terminal 0x25)
+    ∷ change zeroCode ((0x9F0F, zeroCode) ∷ terminal 0x25) last ((0x9F0F, last) ∷ (0xDF8121, last) ∷ terminal 0x25)
     ∷ []
 
 falling-adds : map adds falling ≡ true ∷ true ∷ true ∷ true ∷ true ∷ true ∷ true ∷ true ∷ true ∷ true ∷ true ∷ true ∷ true ∷ []
-unfolding valueAmong lowestFrom cardCode bit front both either if
+unfolding valueAmong lowestFrom iacCode numberedBit firstBytes both either if
 falling-adds = refl
 
 falling-ranks : map ranks falling
@@ -214,7 +214,7 @@ falling-ranks : map ranks falling
     ∷ ((Offline, 2) ∷ (Decline, 0) ∷ [])
     ∷ ((Offline, 2) ∷ (Decline, 0) ∷ [])
     ∷ []
-unfolding valueAmong choiceOf capabilityAt heldAt lowestBit lowestFrom holdsBit cardCode bit front both either if
+unfolding valueAmong choiceOf onlineCapabilityAt stageHolds lowestBit lowestFrom stageHoldsBit iacCode numberedBit firstBytes both either if
 falling-ranks = refl
 
 -- ---- additions by which the choice is kept
@@ -222,18 +222,18 @@ falling-ranks = refl
 abbrev keeping : List Change
 keeping =
     -- the last one's result alone, and its codes alone
-    result noBits last ((0x9F0F, noBits) ∷ terminal 0x25)
-    ∷ codes noBits ((0x9F0F, noBits) ∷ terminal 0x25) ((0x9F0F, last) ∷ (0xDF8121, last) ∷ terminal 0x25)
+    result zeroCode last ((0x9F0F, zeroCode) ∷ terminal 0x25)
+    ∷ codes zeroCode ((0x9F0F, zeroCode) ∷ terminal 0x25) ((0x9F0F, last) ∷ (0xDF8121, last) ∷ terminal 0x25)
     -- a code of ones appears, of online and of default; a denial code of zeros goes away
-    ∷ codes first (terminal 0x22) ((0x9F0F, allBits) ∷ terminal 0x22)
-    ∷ codes first (terminal 0x23) ((0x9F0D, allBits) ∷ terminal 0x23)
-    ∷ codes first ((0x9F0E, noBits) ∷ terminal 0x22) (terminal 0x22)
+    ∷ codes first (terminal 0x22) ((0x9F0F, onesCode) ∷ terminal 0x22)
+    ∷ codes first (terminal 0x23) ((0x9F0D, onesCode) ∷ terminal 0x23)
+    ∷ codes first ((0x9F0E, zeroCode) ∷ terminal 0x22) (terminal 0x22)
     -- a type that is not listed declines on any codes
     ∷ codes first (terminal 0x27) ((0x9F0E, first) ∷ terminal 0x27)
     ∷ []
 
 keeping-adds : map adds keeping ≡ true ∷ true ∷ true ∷ true ∷ true ∷ true ∷ []
-unfolding valueAmong lowestFrom cardCode bit front both either if
+unfolding valueAmong lowestFrom iacCode numberedBit firstBytes both either if
 keeping-adds = refl
 
 keeping-ranks : map ranks keeping
@@ -244,7 +244,7 @@ keeping-ranks : map ranks keeping
     ∷ ((Online, 1) ∷ (Online, 1) ∷ [])
     ∷ ((Decline, 0) ∷ (Decline, 0) ∷ [])
     ∷ []
-unfolding valueAmong choiceOf capabilityAt heldAt lowestBit lowestFrom holdsBit cardCode bit front both either if
+unfolding valueAmong choiceOf onlineCapabilityAt stageHolds lowestBit lowestFrom stageHoldsBit iacCode numberedBit firstBytes both either if
 keeping-ranks = refl
 
 -- ---- changes that are no additions, by which the choice rises
@@ -252,20 +252,20 @@ keeping-ranks = refl
 abbrev rising : List Change
 rising =
     -- a code of zeros appears, of online and of default; a denial code with a bit goes away
-    codes first (terminal 0x22) ((0x9F0F, noBits) ∷ terminal 0x22)
-    ∷ codes first (terminal 0x23) ((0x9F0D, noBits) ∷ terminal 0x23)
+    codes first (terminal 0x22) ((0x9F0F, zeroCode) ∷ terminal 0x22)
+    ∷ codes first (terminal 0x23) ((0x9F0D, zeroCode) ∷ terminal 0x23)
     ∷ codes first ((0x9F0E, first) ∷ terminal 0x22) (terminal 0x22)
     -- the result loses a bit
-    ∷ result first noBits ((0x9F0F, first) ∷ terminal 0x22)
+    ∷ result first zeroCode ((0x9F0F, first) ∷ terminal 0x22)
     -- the terminal's online code is a greater number, by its bytes and in one byte, and loses a bit
-    ∷ codes expiry ((0x9F0F, noBits) ∷ (0xDF8122, expiry) ∷ terminal 0x22) ((0x9F0F, noBits) ∷ (0xDF8122, first) ∷ terminal 0x22)
-    ∷ codes last ((0x9F0F, noBits) ∷ (0xDF8122, last) ∷ terminal 0x22) ((0x9F0F, noBits) ∷ (0xDF8122, lastButOne) ∷ terminal 0x22)
+    ∷ codes expiry ((0x9F0F, zeroCode) ∷ (0xDF8122, expiry) ∷ terminal 0x22) ((0x9F0F, zeroCode) ∷ (0xDF8122, first) ∷ terminal 0x22)
+    ∷ codes last ((0x9F0F, zeroCode) ∷ (0xDF8122, last) ∷ terminal 0x22) ((0x9F0F, zeroCode) ∷ (0xDF8122, lastButOne) ∷ terminal 0x22)
     -- another type
-    ∷ codes first ((0x9F0F, noBits) ∷ terminal 0x21) ((0x9F0F, noBits) ∷ terminal 0x22)
+    ∷ codes first ((0x9F0F, zeroCode) ∷ terminal 0x21) ((0x9F0F, zeroCode) ∷ terminal 0x22)
     ∷ []
 
 rising-adds : map adds rising ≡ false ∷ false ∷ false ∷ false ∷ false ∷ false ∷ false ∷ []
-unfolding valueAmong lowestFrom cardCode bit front both either if
+unfolding valueAmong lowestFrom iacCode numberedBit firstBytes both either if
 rising-adds = refl
 
 rising-ranks : map ranks rising
@@ -277,7 +277,7 @@ rising-ranks : map ranks rising
     ∷ ((Online, 1) ∷ (Offline, 2) ∷ [])
     ∷ ((Online, 1) ∷ (Offline, 2) ∷ [])
     ∷ []
-unfolding valueAmong choiceOf capabilityAt heldAt lowestBit lowestFrom holdsBit cardCode bit front both either if
+unfolding valueAmong choiceOf onlineCapabilityAt stageHolds lowestBit lowestFrom stageHoldsBit iacCode numberedBit firstBytes both either if
 rising-ranks = refl
 
 -- ---- in stores
@@ -287,19 +287,19 @@ abbrev storable : Change → Bool
 storable x = haveRoom (x .old) and haveRoom (x .new)
 
 all-storable : every storable (falling ++ keeping ++ rising) ≡ true
-unfolding every both haveRoom find past if rows
+unfolding every both haveRoom findRow rowPast if dictionaryRows
 all-storable = refl
 
-same-values : (f g : ℕ → Value) → ((t : ℕ) → f t ≡ g t) → (ts : List ℕ) → map f ts ≡ map g ts
+same-values : (f g : ℕ → StoredValue) → ((t : ℕ) → f t ≡ g t) → (ts : List ℕ) → map f ts ≡ map g ts
 same-values f g e [] = refl
-same-values f g e (t ∷ ts) = ap₂ (λ (x : Value) (xs : List Value). x ∷ xs) (e t) (same-values f g e ts)
+same-values f g e (t ∷ ts) = ap₂ (λ (x : StoredValue) (xs : List StoredValue). x ∷ xs) (e t) (same-values f g e ts)
 
 -- such a store holds what the choice is made of, so the choice there is the one that is computed
 module _ (r : List ℕ) (l : List (ℕ × List ℕ)) (h : haveRoom l ≡ true) where
   in-store : inStore r (storeOf l) ≡ state r l
-  in-store = ap (λ (vs : List Value). record { bits = r; values = vs }) (same-values _ _ (stored l h) tags)
+  in-store = ap (λ (vs : List StoredValue). record { bits = r; values = vs }) (same-values _ _ (stored l h) tags)
 
-  choice-stored : chosen (storeOf l) r ≡ choice (state r l)
+  choice-stored : choiceFor (storeOf l) r ≡ choice (state r l)
   choice-stored = sym (choice-is r (storeOf l)) ∙ ap choice in-store
 
 -- and the change is an addition there exactly where the test passes

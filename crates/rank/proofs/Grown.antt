@@ -7,53 +7,53 @@ use Prim.Native.Nat.{ℕ, _≤_}
 use native.Mathlib.Omega.{arith}
 use lib.ListN.{length}
 use Rattle.basics.specs.Choice.{either}
-use Rattle.dictionary.specs.Named.{rowDF8122}
-use Rattle.dictionary.specs.Rows.{rows, storeSize}
+use Rattle.dictionary.specs.Named.{rowTacOnline}
+use Rattle.dictionary.specs.Rows.{dictionaryRows, storeSize}
 use Rattle.dictionary.proofs.Named.{at-DF8122}
-use Rattle.store.specs.Place.{Value, bytesOf, putAt, valueOf}
+use Rattle.store.specs.Place.{StoredValue, bytesOfValue, putRow, objectValue}
 use Rattle.store.proofs.Laws.{Fits}
 use Rattle.store.proofs.Rows.{fits-row}
-use Rattle.analysis.specs.Bits.{bit}
-use Rattle.analysis.specs.Value.{front}
-use Rattle.analysis.specs.Choice.{denial, online, default, cardCode}
-use Rattle.analysis.specs.Action.{findingsOf, chosen}
-use Rattle.rank.specs.Rank.{rankOf}
-use Rattle.rank.specs.Stricter.{Within, cardRead, terminalRead, CodesWithin, isCode, AlikeButCodes}
+use Rattle.analysis.specs.Bits.{numberedBit}
+use Rattle.analysis.specs.Value.{firstBytes}
+use Rattle.analysis.specs.Choice.{denialStage, onlineStage, defaultStage, iacCode}
+use Rattle.analysis.specs.Action.{findingsOf, choiceFor}
+use Rattle.rank.specs.Rank.{choiceRank}
+use Rattle.rank.specs.Stricter.{BitsWithin, iacRead, tacRead, CodesWithin, isActionCode, AlikeButCodes}
 use Rattle.rank.proofs.Laws.{apart, never-loosens}
 use Rattle.rank.proofs.Stored.{put-own, put-kept}
 
-module _ (b v : List ℕ) (l : length b ≡ storeSize) (n : length v ≤ 5) (w : Within (terminalRead b 0xDF8122) (front 5 v)) where
+module _ (b v : List ℕ) (l : length b ≡ storeSize) (n : length v ≤ 5) (w : BitsWithin (tacRead b 0xDF8122) (firstBytes 5 v)) where
   abbrev grown : List ℕ
-  grown = putAt rows b rowDF8122 v
+  grown = putRow dictionaryRows b rowTacOnline v
 
-  fits : Fits rows b rowDF8122 v
-  unfolding rows
-  fits = fits-row b rowDF8122 v l (omega arith) n
+  fits : Fits dictionaryRows b rowTacOnline v
+  unfolding dictionaryRows
+  fits = fits-row b rowTacOnline v l (omega arith) n
 
-  kept : (u : ℕ) → (u ≡ 0xDF8122 → ⊥) → valueOf b u ≡ valueOf grown u
-  kept = put-kept b 0xDF8122 rowDF8122 v at-DF8122 fits
+  kept : (u : ℕ) → (u ≡ 0xDF8122 → ⊥) → objectValue b u ≡ objectValue grown u
+  kept = put-kept b 0xDF8122 rowTacOnline v at-DF8122 fits
 
   alike : AlikeButCodes b grown
   unfolding either
-  alike u e = kept u (λ z. apart (sym e ∙ ap isCode z))
+  alike u e = kept u (λ z. apart (sym e ∙ ap isActionCode z))
 
-  card-same : (stage u : ℕ) → (u ≡ 0xDF8122 → ⊥) → Within (cardRead b stage u) (cardRead grown stage u)
-  card-same stage u ne i h e = ap (λ (x : Value). bit (cardCode stage x) i) (sym (kept u ne)) ∙ e
+  card-same : (stage u : ℕ) → (u ≡ 0xDF8122 → ⊥) → BitsWithin (iacRead b stage u) (iacRead grown stage u)
+  card-same stage u ne i h e = ap (λ (x : StoredValue). numberedBit (iacCode stage x) i) (sym (kept u ne)) ∙ e
 
-  terminal-same : (u : ℕ) → (u ≡ 0xDF8122 → ⊥) → Within (terminalRead b u) (terminalRead grown u)
-  terminal-same u ne i h e = ap (λ (x : Value). bit (front 5 (bytesOf x)) i) (sym (kept u ne)) ∙ e
+  terminal-same : (u : ℕ) → (u ≡ 0xDF8122 → ⊥) → BitsWithin (tacRead b u) (tacRead grown u)
+  terminal-same u ne i h e = ap (λ (x : StoredValue). numberedBit (firstBytes 5 (bytesOfValue x)) i) (sym (kept u ne)) ∙ e
 
   codes : CodesWithin b grown
   codes =
       record {
-        card-denial = card-same denial 0x9F0E (λ z. omega arith);
-        card-online = card-same online 0x9F0F (λ z. omega arith);
-        card-default = card-same default 0x9F0D (λ z. omega arith);
+        card-denial = card-same denialStage 0x9F0E (λ z. omega arith);
+        card-online = card-same onlineStage 0x9F0F (λ z. omega arith);
+        card-default = card-same defaultStage 0x9F0D (λ z. omega arith);
         terminal-denial = terminal-same 0xDF8121 (λ z. omega arith);
         terminal-online = λ i h e.
-            ap (λ (x : Value). bit (front 5 (bytesOf x)) i) (put-own b 0xDF8122 rowDF8122 v at-DF8122 fits) ∙ w i h e;
+            ap (λ (x : StoredValue). numberedBit (firstBytes 5 (bytesOfValue x)) i) (put-own b 0xDF8122 rowTacOnline v at-DF8122 fits) ∙ w i h e;
         terminal-default = terminal-same 0xDF8120 (λ z. omega arith);
       }
 
-  pub no-higher : rankOf (chosen grown (findingsOf grown .bits)) ≤ rankOf (chosen b (findingsOf b .bits))
+  pub no-higher : choiceRank (choiceFor grown (findingsOf grown .bits)) ≤ choiceRank (choiceFor b (findingsOf b .bits))
   no-higher = never-loosens .codes-alone b grown alike codes

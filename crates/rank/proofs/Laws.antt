@@ -13,19 +13,19 @@ use borrow.Author.Tests.{ne-eqb, not-false}
 use Rattle.basics.specs.Choice.{if, both, either}
 use Rattle.basics.proofs.Laws.{if-yes, if-no, bool-cases}
 use Rattle.store.specs.Place.{absent}
-use Rattle.analysis.specs.Bits.{bit}
-use Rattle.analysis.specs.Value.{front}
-use Rattle.analysis.specs.Choice.{denial, noBits, allBits, cardCode, holdsBit, lowestFrom, lowestBit, someBit, heldAt, capabilityOf, choiceBy, choiceOf}
-use Rattle.analysis.specs.Action.{terminalType, phoneIn, usageIn, restrictionsOf, resultOf, termsIn, verifiedIn, fullResult, findingsOf, codesOf, chosen}
-use Rattle.analysis.specs.declared.choice.Pair.{Pair}
-use Rattle.analysis.specs.declared.choice.Lowest.the-variants.{Bit}
-use Rattle.analysis.specs.declared.choice.Capability.{Capability}
-use Rattle.analysis.specs.declared.choice.Capability.the-variants.{OnlineOnly, OnlineCapable, OfflineOnly, Unlisted}
+use Rattle.analysis.specs.Bits.{numberedBit}
+use Rattle.analysis.specs.Value.{firstBytes}
+use Rattle.analysis.specs.Choice.{denialStage, zeroCode, onesCode, iacCode, stageHoldsBit, lowestFrom, lowestBit, someBit, stageHolds, onlineCapabilityOf, choiceBy, choiceOf}
+use Rattle.analysis.specs.Action.{terminalType, hasOnDeviceCvm, aucViolatedIn, restrictionsByte, tvrOf, cvmConditionsIn, cvmResultIn, tvrWithCvm, findingsOf, actionCodesOf, choiceFor}
+use Rattle.analysis.specs.declared.choice.ActionCodes.{ActionCodes}
+use Rattle.analysis.specs.declared.choice.LowestBit.the-variants.{Bit}
+use Rattle.analysis.specs.declared.choice.OnlineCapability.{OnlineCapability}
+use Rattle.analysis.specs.declared.choice.OnlineCapability.the-variants.{OnlineOnly, OnlineCapable, OfflineOnly, Unlisted}
 use Rattle.analysis.specs.declared.choice.Choice.{Choice}
 use Rattle.analysis.specs.declared.choice.Choice.the-variants.{Decline, Online, Offline}
 use Rattle.analysis.proofs.Lowest.{none-passes}
-use Rattle.rank.specs.Rank.{rankOf, Ranked}
-use Rattle.rank.specs.Stricter.{Within, AllSet, PairsWithin, CodesWithin, AlikeButCodes, NeverLoosens, AbsentCodes}
+use Rattle.rank.specs.Rank.{choiceRank, ChoicesRanked}
+use Rattle.rank.specs.Stricter.{BitsWithin, AllSet, StagesWithin, CodesWithin, AlikeButCodes, NeverLoosens, AbsentCodes}
 
 pub apart : {P : Type 0} → _≡_ {A = Bool} false true → P
 apart e = let z : _≡_ {A = ℕ} 0 1 = cc in absurd (omega arith)
@@ -62,10 +62,10 @@ both-still true false c x y z p q r e = simp (p refl, r e) (either-true y)
     either-true false = refl
 both-still false b c x y z p q r e = apart e
 
-module _ (r s : List ℕ) (ps qs : List Pair) (grown : Within r s) (codes : PairsWithin ps qs) where
+module _ (r s : List ℕ) (ps qs : List ActionCodes) (grown : BitsWithin r s) (codes : StagesWithin ps qs) where
   -- a stage that held a bit still holds one
-  held-still : (stage : ℕ) → stage < 3 → heldAt r ps stage ≡ true → heldAt s qs stage ≡ true
-  unfolding heldAt lowestBit holdsBit
+  held-still : (stage : ℕ) → stage < 3 → stageHolds r ps stage ≡ true → stageHolds s qs stage ≡ true
+  unfolding stageHolds lowestBit stageHoldsBit
   held-still stage l e =
       some-still _ _ 40 0
       (λ m u. both-still _ _ _ _ _ _ (grown m u) (codes stage l .card m u) (codes stage l .terminal m u))
@@ -73,17 +73,17 @@ module _ (r s : List ℕ) (ps qs : List Pair) (grown : Within r s) (codes : Pair
 
 -- ---- the choice
 
-pub ranked : Ranked
+pub ranked : ChoicesRanked
 ranked = record { decline-online = omega arith; online-offline = omega arith }
 
-decline-lowest : (c : Choice) → rankOf Decline ≤ rankOf c
+decline-lowest : (c : Choice) → choiceRank Decline ≤ choiceRank c
 decline-lowest Decline = omega arith
 decline-lowest Online = omega arith
 decline-lowest Offline = omega arith
 
 -- by the type and what the three stages hold
-by-held : (k : Capability) (h o d x y z : Bool) → (h ≡ true → x ≡ true) → (o ≡ true → y ≡ true) → (d ≡ true → z ≡ true)
-    → rankOf (choiceBy k x y z) ≤ rankOf (choiceBy k h o d)
+by-held : (k : OnlineCapability) (h o d x y z : Bool) → (h ≡ true → x ≡ true) → (o ≡ true → y ≡ true) → (d ≡ true → z ≡ true)
+    → choiceRank (choiceBy k x y z) ≤ choiceRank (choiceBy k h o d)
 by-held k             h     o     d     true  y     z     p q r = decline-lowest (choiceBy k h o d)
 by-held k             true  o     d     false y     z     p q r = apart (p refl)
 by-held OnlineOnly    false o     d     false y     z     p q r = omega arith
@@ -96,58 +96,58 @@ by-held OnlineCapable false true  d     false false z     p q r = apart (q refl)
 by-held OnlineCapable false false d     false false z     p q r = omega arith
 by-held Unlisted      false o     d     false y     z     p q r = omega arith
 
-lists : (r s : List ℕ) (kind : ℕ) (ps qs : List Pair) → Within r s → PairsWithin ps qs
-    → rankOf (choiceOf s kind qs) ≤ rankOf (choiceOf r kind ps)
+lists : (r s : List ℕ) (kind : ℕ) (ps qs : List ActionCodes) → BitsWithin r s → StagesWithin ps qs
+    → choiceRank (choiceOf s kind qs) ≤ choiceRank (choiceOf r kind ps)
 unfolding choiceOf
 lists r s kind ps qs g c =
-    by-held (capabilityOf kind) _ _ _ _ _ _
+    by-held (onlineCapabilityOf kind) _ _ _ _ _ _
     (held-still r s ps qs g c 0 (omega arith)) (held-still r s ps qs g c 1 (omega arith)) (held-still r s ps qs g c 2 (omega arith))
 
 -- ---- two stores
 
-store-codes : (b c : List ℕ) → CodesWithin b c → PairsWithin (codesOf b) (codesOf c)
-unfolding codesOf
+store-codes : (b c : List ℕ) → CodesWithin b c → StagesWithin (actionCodesOf b) (actionCodesOf c)
+unfolding actionCodesOf
 store-codes b c w zero l = record { card = w .card-denial; terminal = w .terminal-denial }
 store-codes b c w (suc zero) l = record { card = w .card-online; terminal = w .terminal-online }
 store-codes b c w (suc (suc zero)) l = record { card = w .card-default; terminal = w .terminal-default }
 store-codes b c w (suc (suc (suc i))) l = absurd (omega arith)
 
-stores : (r s b c : List ℕ) → terminalType c ≡ terminalType b → Within r s → CodesWithin b c → rankOf (chosen c s) ≤ rankOf (chosen b r)
-unfolding chosen
+stores : (r s b c : List ℕ) → terminalType c ≡ terminalType b → BitsWithin r s → CodesWithin b c → choiceRank (choiceFor c s) ≤ choiceRank (choiceFor b r)
+unfolding choiceFor
 stores r s b c e g w =
-    subst (λ k. rankOf (choiceOf s k (codesOf c)) ≤ rankOf (choiceOf r (terminalType b) (codesOf b))) (sym e)
-    (lists r s (terminalType b) (codesOf b) (codesOf c) g (store-codes b c w))
+    subst (λ k. choiceRank (choiceOf s k (actionCodesOf c)) ≤ choiceRank (choiceOf r (terminalType b) (actionCodesOf b))) (sym e)
+    (lists r s (terminalType b) (actionCodesOf b) (actionCodesOf c) g (store-codes b c w))
 
 -- ---- codes that grow alone
 
 -- no code is read for the result bits
 module _ (b c : List ℕ) (a : AlikeButCodes b c) where
-  terms-same : termsIn b ≡ termsIn c
-  unfolding termsIn either
+  terms-same : cvmConditionsIn b ≡ cvmConditionsIn c
+  unfolding cvmConditionsIn either
   terms-same = simp (a 0x9F33 refl, a 0x9C refl, a 0x9F35 refl, a 0x9F40 refl, a 0x5F2A refl, a 0x9F42 refl, a 0x9F02 refl, a 0x8E refl)
 
-  verified-same : verifiedIn b ≡ verifiedIn c
-  unfolding verifiedIn phoneIn either
+  verified-same : cvmResultIn b ≡ cvmResultIn c
+  unfolding cvmResultIn hasOnDeviceCvm either
   verified-same = simp (a 0x82 refl, a 0xDF811B refl, a 0x9F02 refl, a 0xDF8126 refl, a 0x8E refl, terms-same)
 
-  usage-same : usageIn b ≡ usageIn c
-  unfolding usageIn either
+  usage-same : aucViolatedIn b ≡ aucViolatedIn c
+  unfolding aucViolatedIn either
   usage-same = simp (a 0x9F07 refl, a 0x9F35 refl, a 0x9F40 refl, a 0x5F28 refl, a 0x9F1A refl, a 0x9C refl, a 0x9F03 refl)
 
-  result-same : resultOf b ≡ resultOf c
-  unfolding resultOf restrictionsOf either
+  result-same : tvrOf b ≡ tvrOf c
+  unfolding tvrOf restrictionsByte either
   result-same = simp (a 0x9F08 refl, a 0x9F09 refl, a 0x9A refl, a 0x5F24 refl, a 0x5F25 refl, a 0x9F02 refl, a 0xDF8123 refl, usage-same)
 
   bits-same : findingsOf b .bits ≡ findingsOf c .bits
-  unfolding findingsOf fullResult
+  unfolding findingsOf tvrWithCvm
   bits-same = simp (verified-same, result-same)
 
   type-same : terminalType c ≡ terminalType b
   unfolding either
   type-same = simp (a 0x9F35 refl)
 
-  codes-alone : CodesWithin b c → rankOf (chosen c (findingsOf c .bits)) ≤ rankOf (chosen b (findingsOf b .bits))
-  codes-alone w = stores (findingsOf b .bits) (findingsOf c .bits) b c type-same (λ i l e. ap (λ s. bit s i) (sym bits-same) ∙ e) w
+  codes-alone : CodesWithin b c → choiceRank (choiceFor c (findingsOf c .bits)) ≤ choiceRank (choiceFor b (findingsOf b .bits))
+  codes-alone w = stores (findingsOf b .bits) (findingsOf c .bits) b c type-same (λ i l e. ap (λ s. numberedBit s i) (sym bits-same) ∙ e) w
 
 pub never-loosens : NeverLoosens
 never-loosens = record { lists = lists; stores = stores; codes-alone = codes-alone }
@@ -155,7 +155,7 @@ never-loosens = record { lists = lists; stores = stores; codes-alone = codes-alo
 -- ---- a code that is absent
 
 -- zeros have no bit, and ones have all forty
-zeros : (j : ℕ) → getD noBits j 0 ≡ 0
+zeros : (j : ℕ) → getD zeroCode j 0 ≡ 0
 zeros zero = refl
 zeros (suc zero) = refl
 zeros (suc (suc zero)) = refl
@@ -163,27 +163,27 @@ zeros (suc (suc (suc zero))) = refl
 zeros (suc (suc (suc (suc zero)))) = refl
 zeros (suc (suc (suc (suc (suc j))))) = refl
 
-no-bit : (i : ℕ) → bit noBits i ≡ false
-unfolding bit
+no-bit : (i : ℕ) → numberedBit zeroCode i ≡ false
+unfolding numberedBit
 no-bit i = simp (zeros (i / 8 + 1 - 1), zero-div)
 
-all-bits : AllSet allBits
-unfolding lowestFrom if bit
-all-bits i l = not-false _ (none-passes (λ i. not (bit allBits i)) 40 0 refl i (omega arith) l)
+all-bits : AllSet onesCode
+unfolding lowestFrom if numberedBit
+all-bits i l = not-false _ (none-passes (λ i. not (numberedBit onesCode i)) 40 0 refl i (omega arith) l)
 
 -- an absent code that is not denial's is all ones
-ones : (stage : ℕ) → (stage ≡ denial → ⊥) → cardCode stage absent ≡ allBits
-unfolding cardCode
-ones stage n = if-no noBits allBits (ne-eqb stage denial n)
+ones : (stage : ℕ) → (stage ≡ denialStage → ⊥) → iacCode stage absent ≡ onesCode
+unfolding iacCode
+ones stage n = if-no zeroCode onesCode (ne-eqb stage denialStage n)
 
 pub absent-codes : AbsentCodes
-unfolding cardCode if
+unfolding iacCode if
 absent-codes =
     record {
       denial-appears = λ v i l e. apart (sym (no-bit i) ∙ e);
       denial-leaves = λ v none i l e. apart (sym (none i l) ∙ e);
-      only-zeros = λ v w i l. elim (bool-cases (bit (front 5 v) i)) [ inl t ↦ apart (sym (no-bit i) ∙ w i l t) | inr t ↦ t ];
+      only-zeros = λ v w i l. elim (bool-cases (numberedBit (firstBytes 5 v) i)) [ inl t ↦ apart (sym (no-bit i) ∙ w i l t) | inr t ↦ t ];
       other-appears = λ stage v n all i l e. all i l;
-      only-ones = λ stage v n w i l. w i l (ap (λ s. bit s i) (ones stage n) ∙ all-bits i l);
-      other-leaves = λ stage v n i l e. ap (λ s. bit s i) (ones stage n) ∙ all-bits i l;
+      only-ones = λ stage v n w i l. w i l (ap (λ s. numberedBit s i) (ones stage n) ∙ all-bits i l);
+      other-leaves = λ stage v n i l e. ap (λ s. numberedBit s i) (ones stage n) ∙ all-bits i l;
     }

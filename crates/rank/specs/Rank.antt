@@ -5,12 +5,12 @@ use Rattle.analysis.specs.declared.choice.Choice.{Choice}
 use Rattle.analysis.specs.declared.choice.Choice.the-variants.{Decline, Online, Offline}
 
 -- decline 0, online 1, offline 2
-abbrev pub rankOf : Choice → ℕ
-rankOf Decline = 0
-rankOf Online  = 1
-rankOf Offline = 2
+abbrev pub choiceRank : Choice → ℕ
+choiceRank Decline = 0
+choiceRank Online  = 1
+choiceRank Offline = 2
 
--- no two choices have the same rank; `rank` promises it
-pub record Ranked : Type 0 where
-  pub decline-online : rankOf Decline < rankOf Online
-  pub online-offline : rankOf Online < rankOf Offline
+-- no two choices have the same rank; `choice_rank` promises it
+pub record ChoicesRanked : Type 0 where
+  pub decline-online : choiceRank Decline < choiceRank Online
+  pub online-offline : choiceRank Online < choiceRank Offline

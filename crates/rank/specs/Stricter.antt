@@ -8,94 +8,94 @@ use mathlib.Core.List.{List}
 use Prim.Native.Nat.{ℕ, _≤_, _<_}
 use lib.ListN.{getD}
 use Rattle.basics.specs.Choice.{_or_, _=?_}
-use Rattle.store.specs.Place.{absent, present, valueOf}
-use Rattle.store.specs.Held.{bytesIn}
-use Rattle.analysis.specs.Bits.{bit}
-use Rattle.analysis.specs.Value.{front}
-use Rattle.analysis.specs.Choice.{denial, online, default, cardCode, noPair, choiceOf}
-use Rattle.analysis.specs.Action.{terminalType, findingsOf, chosen}
-use Rattle.analysis.specs.declared.choice.Pair.{Pair}
-use Rattle.rank.specs.Rank.{rankOf}
+use Rattle.store.specs.Place.{absent, present, objectValue}
+use Rattle.store.specs.Held.{storedBytes}
+use Rattle.analysis.specs.Bits.{numberedBit}
+use Rattle.analysis.specs.Value.{firstBytes}
+use Rattle.analysis.specs.Choice.{denialStage, onlineStage, defaultStage, iacCode, noActionCodes, choiceOf}
+use Rattle.analysis.specs.Action.{terminalType, findingsOf, choiceFor}
+use Rattle.analysis.specs.declared.choice.ActionCodes.{ActionCodes}
+use Rattle.rank.specs.Rank.{choiceRank}
 
 -- ---- containment, bit by bit
 
 -- the second value is the first with bits added, or with none: each of the forty bits, byte 1 b8 to byte 5 b1, that
 -- the first has is in the second too
-abbrev pub Within : List ℕ → List ℕ → Type 0
-Within s t = (i : ℕ) → i < 40 → bit s i ≡ true → bit t i ≡ true
+abbrev pub BitsWithin : List ℕ → List ℕ → Type 0
+BitsWithin s t = (i : ℕ) → i < 40 → numberedBit s i ≡ true → numberedBit t i ≡ true
 
 -- all forty bits are set
 abbrev pub AllSet : List ℕ → Type 0
-AllSet s = (i : ℕ) → i < 40 → bit s i ≡ true
+AllSet s = (i : ℕ) → i < 40 → numberedBit s i ≡ true
 
 -- none of the forty bits is set
 abbrev pub NoneSet : List ℕ → Type 0
-NoneSet s = (i : ℕ) → i < 40 → bit s i ≡ false
+NoneSet s = (i : ℕ) → i < 40 → numberedBit s i ≡ false
 
 -- of two pairs, the card's code and the terminal's
-pub record PairWithin (p q : Pair) : Type 0 where
-  pub card : Within (p .card) (q .card)
-  pub terminal : Within (p .terminal) (q .terminal)
+pub record ActionCodesWithin (p q : ActionCodes) : Type 0 where
+  pub card : BitsWithin (p .card) (q .card)
+  pub terminal : BitsWithin (p .terminal) (q .terminal)
 
 -- at each of the three stages
-abbrev pub PairsWithin : List Pair → List Pair → Type 0
-PairsWithin ps qs = (stage : ℕ) → stage < 3 → PairWithin (getD ps stage noPair) (getD qs stage noPair)
+abbrev pub StagesWithin : List ActionCodes → List ActionCodes → Type 0
+StagesWithin ps qs = (stage : ℕ) → stage < 3 → ActionCodesWithin (getD ps stage noActionCodes) (getD qs stage noActionCodes)
 
 -- ---- codes of a store, as they are read
 
 -- the card's code of a stage under its tag: zeros for denial and ones for the others where it is absent
-abbrev pub cardRead : List ℕ → ℕ → ℕ → List ℕ
-cardRead store stage tag = cardCode stage (valueOf store tag)
+abbrev pub iacRead : List ℕ → ℕ → ℕ → List ℕ
+iacRead store stage tag = iacCode stage (objectValue store tag)
 
 -- the terminal's code under its tag: zeros where it is absent, which no running session's is
-abbrev pub terminalRead : List ℕ → ℕ → List ℕ
-terminalRead store tag = front 5 (bytesIn store tag)
+abbrev pub tacRead : List ℕ → ℕ → List ℕ
+tacRead store tag = firstBytes 5 (storedBytes store tag)
 
 -- each of the six codes of the old store b is contained in the new store c's; stages and tags are document 01's pairs
 pub record CodesWithin (b c : List ℕ) : Type 0 where
-  pub card-denial      : Within (cardRead b denial 0x9F0E) (cardRead c denial 0x9F0E)
-  pub card-online      : Within (cardRead b online 0x9F0F) (cardRead c online 0x9F0F)
-  pub card-default     : Within (cardRead b default 0x9F0D) (cardRead c default 0x9F0D)
-  pub terminal-denial  : Within (terminalRead b 0xDF8121) (terminalRead c 0xDF8121)
-  pub terminal-online  : Within (terminalRead b 0xDF8122) (terminalRead c 0xDF8122)
-  pub terminal-default : Within (terminalRead b 0xDF8120) (terminalRead c 0xDF8120)
+  pub card-denial      : BitsWithin (iacRead b denialStage 0x9F0E) (iacRead c denialStage 0x9F0E)
+  pub card-online      : BitsWithin (iacRead b onlineStage 0x9F0F) (iacRead c onlineStage 0x9F0F)
+  pub card-default     : BitsWithin (iacRead b defaultStage 0x9F0D) (iacRead c defaultStage 0x9F0D)
+  pub terminal-denial  : BitsWithin (tacRead b 0xDF8121) (tacRead c 0xDF8121)
+  pub terminal-online  : BitsWithin (tacRead b 0xDF8122) (tacRead c 0xDF8122)
+  pub terminal-default : BitsWithin (tacRead b 0xDF8120) (tacRead c 0xDF8120)
 
 -- a tag is one of the six codes'
-abbrev pub isCode : ℕ → Bool
-isCode tag =
+abbrev pub isActionCode : ℕ → Bool
+isActionCode tag =
     tag =? 0x9F0E or tag =? 0x9F0F or tag =? 0x9F0D
     or tag =? 0xDF8121 or tag =? 0xDF8122 or tag =? 0xDF8120
 
 -- two stores are alike but for the six codes
 abbrev pub AlikeButCodes : List ℕ → List ℕ → Type 0
-AlikeButCodes b c = (tag : ℕ) → isCode tag ≡ false → valueOf b tag ≡ valueOf c tag
+AlikeButCodes b c = (tag : ℕ) → isActionCode tag ≡ false → objectValue b tag ≡ objectValue c tag
 
--- ---- what `rank` promises
+-- ---- what `choice_rank` promises
 
 -- added bits never raise the choice. Old are the result bits r, the pairs ps and the store b; new are s, qs and c
 pub record NeverLoosens : Type 0 where
   -- over any result bits, type and pairs of codes
-  pub lists : (r s : List ℕ) (kind : ℕ) (ps qs : List Pair) → Within r s → PairsWithin ps qs
-      → rankOf (choiceOf s kind qs) ≤ rankOf (choiceOf r kind ps)
+  pub lists : (r s : List ℕ) (kind : ℕ) (ps qs : List ActionCodes) → BitsWithin r s → StagesWithin ps qs
+      → choiceRank (choiceOf s kind qs) ≤ choiceRank (choiceOf r kind ps)
   -- over any two stores of one terminal type, on any result bits
-  pub stores : (r s b c : List ℕ) → terminalType c ≡ terminalType b → Within r s → CodesWithin b c
-      → rankOf (chosen c s) ≤ rankOf (chosen b r)
+  pub stores : (r s b c : List ℕ) → terminalType c ≡ terminalType b → BitsWithin r s → CodesWithin b c
+      → choiceRank (choiceFor c s) ≤ choiceRank (choiceFor b r)
   -- over any two stores alike but for the codes, on the result bits that are found in each: what a session asks for
   pub codes-alone : (b c : List ℕ) → AlikeButCodes b c → CodesWithin b c
-      → rankOf (chosen c (findingsOf c .bits)) ≤ rankOf (chosen b (findingsOf b .bits))
+      → choiceRank (choiceFor c (findingsOf c .bits)) ≤ choiceRank (choiceFor b (findingsOf b .bits))
 
 -- whether a card's code that appears, or goes away, is an addition; a stage other than denial is online or default
 pub record AbsentCodes : Type 0 where
   -- a denial code that appears always is
-  pub denial-appears : (v : List ℕ) → Within (cardCode denial absent) (cardCode denial (present v))
+  pub denial-appears : (v : List ℕ) → BitsWithin (iacCode denialStage absent) (iacCode denialStage (present v))
   -- a denial code that goes away is an addition where it has no bit, and only there
-  pub denial-leaves : (v : List ℕ) → NoneSet (front 5 v) → Within (cardCode denial (present v)) (cardCode denial absent)
-  pub only-zeros : (v : List ℕ) → Within (cardCode denial (present v)) (cardCode denial absent) → NoneSet (front 5 v)
+  pub denial-leaves : (v : List ℕ) → NoneSet (firstBytes 5 v) → BitsWithin (iacCode denialStage (present v)) (iacCode denialStage absent)
+  pub only-zeros : (v : List ℕ) → BitsWithin (iacCode denialStage (present v)) (iacCode denialStage absent) → NoneSet (firstBytes 5 v)
   -- an online or default code that appears is an addition where it is all ones, and only there
-  pub other-appears : (stage : ℕ) (v : List ℕ) → (stage ≡ denial → ⊥) → AllSet (front 5 v)
-      → Within (cardCode stage absent) (cardCode stage (present v))
-  pub only-ones : (stage : ℕ) (v : List ℕ) → (stage ≡ denial → ⊥)
-      → Within (cardCode stage absent) (cardCode stage (present v)) → AllSet (front 5 v)
+  pub other-appears : (stage : ℕ) (v : List ℕ) → (stage ≡ denialStage → ⊥) → AllSet (firstBytes 5 v)
+      → BitsWithin (iacCode stage absent) (iacCode stage (present v))
+  pub only-ones : (stage : ℕ) (v : List ℕ) → (stage ≡ denialStage → ⊥)
+      → BitsWithin (iacCode stage absent) (iacCode stage (present v)) → AllSet (firstBytes 5 v)
   -- an online or default code that goes away always is an addition
-  pub other-leaves : (stage : ℕ) (v : List ℕ) → (stage ≡ denial → ⊥)
-      → Within (cardCode stage (present v)) (cardCode stage absent)
+  pub other-leaves : (stage : ℕ) (v : List ℕ) → (stage ≡ denialStage → ⊥)
+      → BitsWithin (iacCode stage (present v)) (iacCode stage absent)

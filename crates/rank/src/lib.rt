@@ -2,13 +2,13 @@
 // the proofs in proofs/.
 use analysis::choice::Choice;
 ghost use mathlib.Core.Path.{_≡_};
-ghost use Rattle.rank.specs.Rank.{rankOf, Ranked};
+ghost use Rattle.rank.specs.Rank.{choiceRank, ChoicesRanked};
 ghost use Rattle.rank.specs.Stricter.{NeverLoosens, AbsentCodes};
 
 // The rank of a choice: decline, then online, then offline.
-pub fn rank(choice: Choice) -> u8
-    ensures rank { λ r. ⌜ r ≡ rankOf choice ⌝ }
-    ensures ordered { λ _. ⌜ Ranked ⌝ }
+pub fn choice_rank(choice: Choice) -> u8
+    ensures rank { λ r. ⌜ r ≡ choiceRank choice ⌝ }
+    ensures ordered { λ _. ⌜ ChoicesRanked ⌝ }
     ensures stricter { λ _. ⌜ NeverLoosens ⌝ }
     ensures absent { λ _. ⌜ AbsentCodes ⌝ }
 {

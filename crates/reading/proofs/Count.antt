@@ -11,68 +11,68 @@ use lib.ListN.{length, take, drop-of-length-le}
 use borrow.Author.Tests.{eq-eqb, ne-eqb}
 use Rattle.basics.proofs.Laws.{if-yes, if-no, if-ind, bool-cases, both-true, both-no-left}
 use Rattle.basics.proofs.Order.{equal-or-not}
-use Rattle.tlv.specs.declared.Header.{Header}
-use Rattle.tlv.specs.declared.Front.{Front}
-use Rattle.tlv.specs.declared.Front.the-variants.{Object, Broken}
-use Rattle.tlv.specs.Object.{headerOf, valueIn, behind}
-use Rattle.tlv.specs.Tree.{Forest, end, count, withLeaf, withNode, parse}
+use Rattle.tlv.specs.declared.TlvHeader.{TlvHeader}
+use Rattle.tlv.specs.declared.ObjectFront.{ObjectFront}
+use Rattle.tlv.specs.declared.ObjectFront.the-variants.{Object, Broken}
+use Rattle.tlv.specs.Object.{headerOf, headerValue, behindObject}
+use Rattle.tlv.specs.Tree.{Forest, end, objectCount, withLeaf, withNode, parseTree}
 use Rattle.tlv.proofs.NextObject.{next-empty, next-object}
 use Rattle.tlv.proofs.Tree.{parse-end, parse-leaf, parse-node}
 use Rattle.reading.specs.declared.Awaited.{Awaited}
 use Rattle.reading.specs.declared.Reading.{Reading}
-use Rattle.reading.specs.Taking.{Item}
-use Rattle.reading.specs.Answer.{Outcome, Gives, Body, template, templateBody, bodyOf, bodyCount, partsOf, takenParts, readTree, readBody, readAnswer}
-use Rattle.reading.specs.Count.{isWhole, treeCount, bodyObjects, answerObjects}
+use Rattle.reading.specs.Taking.{PrimitiveItem}
+use Rattle.reading.specs.Answer.{ReadingOutcome, GivesReading, ResponseBody, template, templateBody, responseBody, bodyCount, bodyParts, readParts, readTree, readBody, readAnswer}
+use Rattle.reading.specs.Count.{isOneObject, treeCount, bodyObjects, answerObjects}
 use Rattle.reading.proofs.Parts.{body-broken, body-behind, body-template, body-primitive}
 
 -- ---- a body
 
 -- the count of the body that the steps go by, 0 where there is none
-abbrev stepCount : Option Body → ℕ
+abbrev stepCount : Option ResponseBody → ℕ
 stepCount none = 0
 stepCount (some b) = bodyCount b
 
 leaf-alone : (t : ℕ) (v : List ℕ) → treeCount (withLeaf t v (some end)) ≡ 1
-unfolding withLeaf count
+unfolding withLeaf objectCount
 leaf-alone t v = refl
 
 node-alone : (t : ℕ) (x : Option Forest) → treeCount (withNode t x (some end)) ≡ stepCount (templateBody t x)
-unfolding withNode count
+unfolding withNode objectCount
 node-alone t none = refl
 node-alone t (some f) = omega arith
 
 module _ (s : List ℕ) where
   no-object : headerOf s ≡ Broken → bodyObjects s ≡ 0
   unfolding bodyObjects
-  no-object e = if-no _ _ (ap (isWhole s) e)
+  no-object e = if-no _ _ (ap (isOneObject s) e)
 
-  module _ (h : Header) (e : headerOf s ≡ Object h) where
+  module _ (h : TlvHeader) (e : headerOf s ≡ Object h) where
     with-more : (h .start + h .len ≡ length s → ⊥) → bodyObjects s ≡ 0
     unfolding bodyObjects
-    with-more n = if-no _ _ (ap (isWhole s) e ∙ ne-eqb _ _ n)
+    with-more n = if-no _ _ (ap (isOneObject s) e ∙ ne-eqb _ _ n)
 
     module _ (z : h .start + h .len ≡ length s) where
-      of-tree : (x : Option Forest) → parse 4 s ≡ x → bodyObjects s ≡ treeCount x
+      of-tree : (x : Option Forest) → parseTree 4 s ≡ x → bodyObjects s ≡ treeCount x
       unfolding bodyObjects
-      of-tree x p = if-yes _ _ (ap (isWhole s) e ∙ eq-eqb _ _ z) ∙ ap treeCount p
+      of-tree x p = if-yes _ _ (ap (isOneObject s) e ∙ eq-eqb _ _ z) ∙ ap treeCount p
 
-      none-behind : parse 4 (behind s h) ≡ some end
+      none-behind : parseTree 4 (behindObject s h) ≡ some end
       none-behind = let l : length s ≤ h .start + h .len = omega arith in rw (drop-of-length-le s l) (parse-end 4 [] (next-empty [] refl))
 
-      alone : bodyObjects s ≡ stepCount (bodyOf s)
+      alone : bodyObjects s ≡ stepCount (responseBody s)
       alone = elim (bool-cases (h .template)) [
         | inl t ↦
-            of-tree _ (parse-node 4 s h (next-object s h e) t (λ z. omega arith) ∙ ap (withNode (h .tag) (parse 3 (valueIn s h))) none-behind)
-            ∙ node-alone (h .tag) (parse 3 (valueIn s h)) ∙ sym (ap stepCount (body-template s h e z t))
+            of-tree _ (parse-node 4 s h (next-object s h e) t (λ z. omega arith) ∙ ap (withNode (h .tag) (parseTree 3 (headerValue s h))) none-behind)
+            ∙ node-alone (h .tag) (parseTree 3 (headerValue s h)) ∙ sym (ap stepCount (body-template s h e z t))
         | inr t ↦
-            of-tree _ (parse-leaf 4 s h (next-object s h e) t ∙ ap (withLeaf (h .tag) (valueIn s h)) none-behind)
-            ∙ leaf-alone (h .tag) (valueIn s h) ∙ sym (ap stepCount (body-primitive s h e z t))
+            of-tree _ (parse-leaf 4 s h (next-object s h e) t ∙ ap (withLeaf (h .tag) (headerValue s h)) none-behind)
+            ∙ leaf-alone (h .tag) (headerValue s h) ∙ sym (ap stepCount (body-primitive s h e z t))
       ]
 
-  by-steps : bodyObjects s ≡ stepCount (bodyOf s)
+  by-steps : bodyObjects s ≡ stepCount (responseBody s)
   by-steps = go (headerOf s) refl
     where
-      go : (x : Front) → headerOf s ≡ x → bodyObjects s ≡ stepCount (bodyOf s)
+      go : (x : ObjectFront) → headerOf s ≡ x → bodyObjects s ≡ stepCount (responseBody s)
       go Broken e = no-object e ∙ sym (ap stepCount (body-broken s e))
       go (Object h) e = elim (equal-or-not (h .start + h .len) (length s)) [
         | inl z ↦ alone h e z
@@ -82,22 +82,22 @@ module _ (s : List ℕ) where
 -- ---- the reading's steps do not change it
 
 module _ (a : Awaited) (b : List ℕ) where
-  parts-count : (n : ℕ) (x : Option (List Item)) → takenParts a b n x .objects ≡ n
+  parts-count : (n : ℕ) (x : Option (List PrimitiveItem)) → readParts a b n x .objects ≡ n
   parts-count n none = refl
-  parts-count n (some is) = if-ind (λ (o : Outcome). o .objects ≡ n) _ _ _ (λ g. refl) (λ g. refl)
+  parts-count n (some is) = if-ind (λ (o : ReadingOutcome). o .objects ≡ n) _ _ _ (λ g. refl) (λ g. refl)
 
-  tree-count : (x : Option Body) → readTree a b x .objects ≡ stepCount x
+  tree-count : (x : Option ResponseBody) → readTree a b x .objects ≡ stepCount x
   tree-count none = refl
-  tree-count (some body) = parts-count (bodyCount body) (partsOf a body)
+  tree-count (some body) = parts-count (bodyCount body) (bodyParts a body)
 
   pub body-count : (s : List ℕ) → readBody a b s .objects ≡ bodyObjects s
   unfolding readBody
-  body-count s = tree-count (bodyOf s) ∙ sym (by-steps s)
+  body-count s = tree-count (responseBody s) ∙ sym (by-steps s)
 
   pub answer-count : (s : List ℕ) → readAnswer a b s .objects ≡ answerObjects a s
   unfolding readAnswer answerObjects
   answer-count s =
-      let Q : Outcome → Type 0 = λ o. o .objects ≡ answerObjects a s in
+      let Q : ReadingOutcome → Type 0 = λ o. o .objects ≡ answerObjects a s in
       if-ind Q _ _ _
       (λ l. if-ind Q _ _ _
       (λ t. if-ind Q _ _ _
@@ -109,8 +109,8 @@ module _ (a : Awaited) (b : List ℕ) where
 -- ---- what a reading that gives these outcomes says
 
 module _ {r : Reading} (a : Awaited) (b s : List ℕ) {c : List ℕ} where
-  pub answer-tree : Gives r c (readAnswer a b s) → r .objects ≡ answerObjects a s
+  pub answer-tree : GivesReading r c (readAnswer a b s) → r .objects ≡ answerObjects a s
   answer-tree g = g .objects ∙ answer-count a b s
 
-  pub body-tree : Gives r c (readBody a b s) → r .objects ≡ bodyObjects s
+  pub body-tree : GivesReading r c (readBody a b s) → r .objects ≡ bodyObjects s
   body-tree g = g .objects ∙ body-count a b s

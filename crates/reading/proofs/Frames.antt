@@ -10,20 +10,20 @@ use native.Mathlib.Numerals.{add-one}
 use native.Mathlib.Omega.{arith}
 use lib.ListN.{length, take, drop, getD, set, length-take, length-drop, length-set}
 use lib.Seq.{take-take, drop-drop, take-all, getD-set-same, getD-set-other}
-use Rattle.tlv.specs.declared.Header.{Header}
+use Rattle.tlv.specs.declared.TlvHeader.{TlvHeader}
 use Rattle.tlv.specs.declared.Following.the-variants.{End, Inner, Malformed}
-use Rattle.tlv.specs.Object.{valueIn, behind}
-use Rattle.tlv.specs.Tree.{Forest, end, count, nextOf, withNode, parse}
+use Rattle.tlv.specs.Object.{headerValue, behindObject}
+use Rattle.tlv.specs.Tree.{Forest, end, objectCount, nextOf, withNode, parseTree}
 use Rattle.tlv.proofs.Laws.{contents, contents-is, tail, tail-is}
 use Rattle.tlv.proofs.NextObject.{next-fits}
 use Rattle.tlv.proofs.Tree.{parse-end, parse-malformed, parse-deep, parse-node, parse-leaf}
 use Rattle.dictionary.specs.Rows.{storeSize}
-use Rattle.reading.specs.declared.Contents.{Contents}
-use Rattle.reading.specs.declared.Contents.the-variants.{Whole, Broken}
-use Rattle.reading.specs.Taking.{Work, work, item, items, takeNext, takeAll}
-use Rattle.reading.specs.Inner.{tally, Has, Then, Leaves}
+use Rattle.reading.specs.declared.TemplateContents.{TemplateContents}
+use Rattle.reading.specs.declared.TemplateContents.the-variants.{Whole, Broken}
+use Rattle.reading.specs.Taking.{TakeState, takeState, primitiveItem, primitiveItems, takeNext, takeAll}
+use Rattle.reading.specs.Inner.{tally, HasVisited, ThenReads, LeavesContents}
 use Rattle.reading.proofs.Laws.{take-join}
-use Rattle.reading.specs.Listing.{Within}
+use Rattle.reading.specs.Pending.{StandsInBody}
 use Rattle.reading.proofs.Listing.{drop-take, within-part}
 use Rattle.reading.proofs.Walk.{on-leaf}
 
@@ -37,69 +37,69 @@ pub record Frame : Type 0 where
 abbrev pub frame : List ℕ → ℕ → Frame
 frame s t = record { bytes = s; tag = t }
 
-module _ (answer : ℕ) (r : Contents) (b : List ℕ) where
+module _ (answer : ℕ) (r : TemplateContents) (b : List ℕ) where
   -- the innermost first, three levels of templates inside the outer one, which is the last: r is said and b is left
-  unfoldable pub Left : List Frame → ℕ → Work → Type 0
-  Left [] n w = Has n w r b
-  Left (f ∷ fs) n w = Then answer (f .tag) (parse (3 - length fs) (f .bytes)) r (Left fs) n w
+  unfoldable pub Left : List Frame → ℕ → TakeState → Type 0
+  Left [] n w = HasVisited n w r b
+  Left (f ∷ fs) n w = ThenReads answer (f .tag) (parseTree (3 - length fs) (f .bytes)) r (Left fs) n w
 
   -- a template, what it holds, and then what is behind it
-  on-node : (around t : ℕ) (x y : Option Forest) (k : ℕ → Work → Type 0) (n : ℕ) (w : Work)
-      → Then answer t x r (Then answer around y r k) (n + 1) w → Then answer around (withNode t x y) r k n w
-  unfolding withNode count items
+  on-node : (around t : ℕ) (x y : Option Forest) (k : ℕ → TakeState → Type 0) (n : ℕ) (w : TakeState)
+      → ThenReads answer t x r (ThenReads answer around y r k) (n + 1) w → ThenReads answer around (withNode t x y) r k n w
+  unfolding withNode objectCount primitiveItems
   on-node around t none y k n w h = h
   on-node around t (some f) none k n w h = h
   on-node around t (some f) (some g) k n w h =
-      let e : n + 1 + count f + count g ≡ n + (1 + count f + count g) = omega arith in
-      subst (λ (m : ℕ). k m (takeAll answer w (items t f ++ items around g))) e
-      (subst (k (n + 1 + count f + count g)) (sym (take-join answer w (items t f) (items around g))) h)
+      let e : n + 1 + objectCount f + objectCount g ≡ n + (1 + objectCount f + objectCount g) = omega arith in
+      subst (λ (m : ℕ). k m (takeAll answer w (primitiveItems t f ++ primitiveItems around g))) e
+      (subst (k (n + 1 + objectCount f + objectCount g)) (sym (take-join answer w (primitiveItems t f) (primitiveItems around g))) h)
 
-  module _ (s : List ℕ) (around : ℕ) (fs : List Frame) (n : ℕ) (w : Work) where
+  module _ (s : List ℕ) (around : ℕ) (fs : List Frame) (n : ℕ) (w : TakeState) where
     abbrev levels : ℕ
     levels = 3 - length fs
 
     abbrev Here : Type 0
     Here = Left (frame s around ∷ fs) n w
 
-    by-parse : (x : Option Forest) → parse levels s ≡ x → Then answer around x r (Left fs) n w → Here
+    by-parse : (x : Option Forest) → parseTree levels s ≡ x → ThenReads answer around x r (Left fs) n w → Here
     unfolding Left
-    by-parse x e h = subst (λ (z : Option Forest). Then answer around z r (Left fs) n w) (sym e) h
+    by-parse x e h = subst (λ (z : Option Forest). ThenReads answer around z r (Left fs) n w) (sym e) h
 
     -- the innermost ends: what is around it is left
     pub left-end : nextOf s ≡ End → Left fs n w → Here
-    unfolding count items takeAll
+    unfolding objectCount primitiveItems takeAll
     left-end e h = let z : n ≡ n + 0 = omega arith in by-parse (some end) (parse-end levels s e) (subst (λ (m : ℕ). Left fs m w) z h)
 
     pub left-malformed : nextOf s ≡ Malformed → r ≡ Broken → Here
     left-malformed e h = by-parse none (parse-malformed levels s e) h
 
-    module _ (h : Header) (e : nextOf s ≡ Inner h) where
+    module _ (h : TlvHeader) (e : nextOf s ≡ Inner h) where
       pub left-deep : h .template ≡ true → levels ≡ 0 → r ≡ Broken → Here
       left-deep p z q = by-parse none (parse-deep levels s h e p z) q
 
-      pub left-leaf : h .template ≡ false → Left (frame (behind s h) around ∷ fs) (n + 1) (takeNext answer w (item around (h .tag) (valueIn s h))) → Here
+      pub left-leaf : h .template ≡ false → Left (frame (behindObject s h) around ∷ fs) (n + 1) (takeNext answer w (primitiveItem around (h .tag) (headerValue s h))) → Here
       unfolding Left
       left-leaf p g = by-parse _ (parse-leaf levels s h e p) (on-leaf answer around (h .tag) _ _ r (Left fs) n w g)
 
-      pub left-node : h .template ≡ true → length fs < 3 → Left (frame (valueIn s h) (h .tag) ∷ frame (behind s h) around ∷ fs) (n + 1) w → Here
+      pub left-node : h .template ≡ true → length fs < 3 → Left (frame (headerValue s h) (h .tag) ∷ frame (behindObject s h) around ∷ fs) (n + 1) w → Here
       unfolding Left
       left-node p l g =
           let m : 3 - suc (length fs) ≡ levels - 1 = omega arith in
           by-parse _ (parse-node levels s h e p (λ z. omega arith))
           (on-node around (h .tag) _ _ (Left fs) n w
-          (subst (λ (k : ℕ). Then answer (h .tag) (parse k (valueIn s h)) r (Then answer around (parse levels (behind s h)) r (Left fs)) (n + 1) w) m g))
+          (subst (λ (k : ℕ). ThenReads answer (h .tag) (parseTree k (headerValue s h)) r (ThenReads answer around (parseTree levels (behindObject s h)) r (Left fs)) (n + 1) w) m g))
 
 -- ---- a part of the bytes, as the code makes it, and the parts of an object in it
 
 abbrev pub part : List ℕ → ℕ → ℕ → List ℕ
 part s a e = take (e - a) (drop a s)
 
-module _ (s : List ℕ) (a e : ℕ) (h : Header) (x : nextOf (part s a e) ≡ Inner h) where
+module _ (s : List ℕ) (a e : ℕ) (h : TlvHeader) (x : nextOf (part s a e) ≡ Inner h) where
   -- its value starts two bytes on at least, and ends where its part ends at the latest
   object-in : (2 ≤ h .start) × (h .start + h .len ≤ e - a)
   object-in = let f = next-fits _ h x in let i = simp length-take at (f .inside) in (f .two, omega arith)
 
-  value-part : part s (a + h .start) (a + h .start + h .len) ≡ valueIn (part s a e) h
+  value-part : part s (a + h .start) (a + h .start + h .len) ≡ headerValue (part s a e) h
   value-part =
       let i = object-in in
       let n : a + h .start + h .len - (a + h .start) ≡ h .len = omega arith in
@@ -109,7 +109,7 @@ module _ (s : List ℕ) (a e : ℕ) (h : Header) (x : nextOf (part s a e) ≡ In
       ∙ take-take (h .len) (e - a - h .start) (drop (h .start) (drop a s)) m
       ∙ ap₂ take (sym n) (drop-drop (h .start) a s))
 
-  behind-part : part s (a + h .start + h .len) e ≡ behind (part s a e) h
+  behind-part : part s (a + h .start + h .len) e ≡ behindObject (part s a e) h
   behind-part =
       let n : e - a - (h .start + h .len) ≡ e - (a + h .start + h .len) = omega arith in
       let m : a + (h .start + h .len) ≡ a + h .start + h .len = omega arith in
@@ -178,8 +178,8 @@ pub record Reached (s : List ℕ) (tag answer : ℕ) (c b ends around : List ℕ
   pub nested : Nested ends (length s) depth (getD ends depth 0)
   pub half : 2 * n + length rest ≤ 2 + getD ends depth 0
   pub sized : length b ≡ storeSize
-  pub same : (r : Contents) (d : List ℕ) → Left answer r d (frame rest (getD around depth 0) ∷ opened s ends around depth (getD ends depth 0)) n (work g b)
-    → Leaves answer tag 1 (work true c) (parse 3 s) r d
+  pub same : (r : TemplateContents) (d : List ℕ) → Left answer r d (frame rest (getD around depth 0) ∷ opened s ends around depth (getD ends depth 0)) n (takeState g b)
+    → LeavesContents answer tag 1 (takeState true c) (parseTree 3 s) r d
 
 -- what is left of the bytes: of the innermost template and of those around it
 abbrev pub unread : List ℕ → List ℕ → ℕ → List ℕ → ℕ
@@ -206,8 +206,8 @@ begin s tag answer c ends around l m e t z = record {
 }
 
 module _ {s : List ℕ} {tag answer : ℕ} {c b ends around : List ℕ} {depth : ℕ} {rest : List ℕ} {n : ℕ} {g : Bool} (w : Reached s tag answer c b ends around depth rest n g) where
-  abbrev All : Contents → List ℕ → Type 0
-  All r d = Leaves answer tag 1 (work true c) (parse 3 s) r d
+  abbrev All : TemplateContents → List ℕ → Type 0
+  All r d = LeavesContents answer tag 1 (takeState true c) (parseTree 3 s) r d
 
   -- the innermost open template: its end, its tag, and what is open around it
   abbrev stop : ℕ
@@ -224,15 +224,15 @@ module _ {s : List ℕ} {tag answer : ℕ} {c b ends around : List ℕ} {depth :
   inside = nested-most ends (length s) depth stop (w .nested)
 
   pub failed : nextOf rest ≡ Malformed → (d : List ℕ) → All Broken d
-  failed q d = w .same Broken d (left-malformed answer Broken d _ _ outside n (work g b) q refl)
+  failed q d = w .same Broken d (left-malformed answer Broken d _ _ outside n (takeState g b) q refl)
 
   module _ (q : nextOf rest ≡ End) where
-    closed : (r : Contents) (d : List ℕ) → Left answer r d outside n (work g b) → All r d
-    closed r d h = w .same r d (left-end answer r d _ _ outside n (work g b) q h)
+    closed : (r : TemplateContents) (d : List ℕ) → Left answer r d outside n (takeState g b) → All r d
+    closed r d h = w .same r d (left-end answer r d _ _ outside n (takeState g b) q h)
 
     pub done : depth ≡ 0 → All (Whole (tally n g)) b
     unfolding opened Left
-    done z = closed _ _ (subst (λ (k : ℕ). Left answer (Whole (tally n g)) b (opened s ends around k stop) n (work g b)) (sym z) (refl, refl))
+    done z = closed _ _ (subst (λ (k : ℕ). Left answer (Whole (tally n g)) b (opened s ends around k stop) n (takeState g b)) (sym z) (refl, refl))
 
     module _ (z : depth ≡ 0 → ⊥) where
       abbrev next : ℕ
@@ -263,7 +263,7 @@ module _ {s : List ℕ} {tag answer : ℕ} {c b ends around : List ℕ} {depth :
             nested = nested-out .1;
             half = omega (arith, w .half);
             sized = w .sized;
-            same = λ r d h. closed r d (subst (λ (fs : List Frame). Left answer r d fs n (work g b)) (sym opened-out) h);
+            same = λ r d h. closed r d (subst (λ (fs : List Frame). Left answer r d fs n (takeState g b)) (sym opened-out) h);
           }
 
       pub close-less : ahead s ends (depth - 1) (part s stop next) < ahead s ends depth rest
@@ -278,7 +278,7 @@ module _ {s : List ℕ} {tag answer : ℕ} {c b ends around : List ℕ} {depth :
           let l = part-length s stop next (o .0) (o .1) in
           omega arith
 
-  module _ (h : Header) (q : nextOf rest ≡ Inner h) where
+  module _ (h : TlvHeader) (q : nextOf rest ≡ Inner h) where
     -- an object's value starts two bytes on at least, and ends inside what is left
     pub bounds : (2 ≤ h .start) × ((h .start + h .len ≤ length rest) × (length rest ≤ length s))
     bounds = let f = next-fits rest h q in let j = inside in (f .two, (f .inside, omega (arith, w .fits)))
@@ -287,7 +287,7 @@ module _ {s : List ℕ} {tag answer : ℕ} {c b ends around : List ℕ} {depth :
     deep p z d =
         let m = opened-length s ends around depth stop in
         let l : 3 - length outside ≡ 0 = omega arith in
-        w .same Broken d (left-deep answer Broken d _ _ outside n (work g b) h q p l refl)
+        w .same Broken d (left-deep answer Broken d _ _ outside n (takeState g b) h q p l refl)
 
     -- what is left behind the object
     abbrev after : List ℕ
@@ -307,12 +307,12 @@ module _ {s : List ℕ} {tag answer : ℕ} {c b ends around : List ℕ} {depth :
     next-at = subst (λ (v : List ℕ). nextOf v ≡ Inner h) (w .here) q
 
     value-at : contents rest (h .start) (h .len) ≡ part s (at + h .start) beyond
-    value-at = contents-is rest (h .start) (h .len) ∙ ap (λ (v : List ℕ). valueIn v h) (w .here) ∙ sym (value-part s at stop h next-at)
+    value-at = contents-is rest (h .start) (h .len) ∙ ap (λ (v : List ℕ). headerValue v h) (w .here) ∙ sym (value-part s at stop h next-at)
 
-    behind-at : part s beyond stop ≡ behind rest h
-    behind-at = behind-part s at stop h next-at ∙ ap (λ (v : List ℕ). behind v h) (sym (w .here))
+    behind-at : part s beyond stop ≡ behindObject rest h
+    behind-at = behind-part s at stop h next-at ∙ ap (λ (v : List ℕ). behindObject v h) (sym (w .here))
 
-    pub leaf : h .template ≡ false → (g′ : Bool) (b′ : List ℕ) → work g′ b′ ≡ takeNext answer (work g b) (item inmost (h .tag) (contents rest (h .start) (h .len)))
+    pub leaf : h .template ≡ false → (g′ : Bool) (b′ : List ℕ) → takeState g′ b′ ≡ takeNext answer (takeState g b) (primitiveItem inmost (h .tag) (contents rest (h .start) (h .len)))
         → length b′ ≡ storeSize → Reached s tag answer c b′ ends around depth after (n + 1) g′
     leaf p g′ b′ t z =
         let i = bounds in
@@ -331,9 +331,9 @@ module _ {s : List ℕ} {tag answer : ℕ} {c b ends around : List ℕ} {depth :
           sized = z;
           same = λ r d x.
               w .same r d
-              (left-leaf answer r d _ _ outside n (work g b) h q p
-              (subst (Left answer r d (frame (behind rest h) inmost ∷ outside) (n + 1)) (t ∙ ap (λ (v : List ℕ). takeNext answer (work g b) (item inmost (h .tag) v)) (contents-is rest (h .start) (h .len)))
-              (subst (λ (v : List ℕ). Left answer r d (frame v inmost ∷ outside) (n + 1) (work g′ b′)) v x)));
+              (left-leaf answer r d _ _ outside n (takeState g b) h q p
+              (subst (Left answer r d (frame (behindObject rest h) inmost ∷ outside) (n + 1)) (t ∙ ap (λ (v : List ℕ). takeNext answer (takeState g b) (primitiveItem inmost (h .tag) v)) (contents-is rest (h .start) (h .len)))
+              (subst (λ (v : List ℕ). Left answer r d (frame v inmost ∷ outside) (n + 1) (takeState g′ b′)) v x)));
         }
 
     pub leaf-less : ahead s ends depth after < ahead s ends depth rest
@@ -356,14 +356,14 @@ module _ {s : List ℕ} {tag answer : ℕ} {c b ends around : List ℕ} {depth :
     pub value-ends : h .len ≤ inner-end
     value-ends = omega (arith, end-beyond)
 
-    pub value-within : {body : List ℕ} {a : ℕ} → Within body a s → Within body (a + inner-end - h .len) (contents rest (h .start) (h .len))
+    pub value-within : {body : List ℕ} {a : ℕ} → StandsInBody body a s → StandsInBody body (a + inner-end - h .len) (contents rest (h .start) (h .len))
     value-within {body} {a} v =
         let i = bounds in
         let j = inside in
         let n : beyond - (at + h .start) ≡ h .len = omega arith in
         let p : a + (at + h .start) ≡ a + inner-end - h .len = omega (arith, end-beyond) in
-        subst (λ (x : ℕ). Within body x (contents rest (h .start) (h .len))) p
-        (subst (Within body (a + (at + h .start))) (ap (λ (k : ℕ). take k (drop (at + h .start) s)) (sym n) ∙ sym value-at)
+        subst (λ (x : ℕ). StandsInBody body x (contents rest (h .start) (h .len))) p
+        (subst (StandsInBody body (a + (at + h .start))) (ap (λ (k : ℕ). take k (drop (at + h .start) s)) (sym n) ∙ sym value-at)
         (within-part (at + h .start) (h .len) v (omega (arith, w .fits))))
 
     module _ (z : depth + 1 ≡ 4 → ⊥) where
@@ -384,7 +384,7 @@ module _ {s : List ℕ} {tag answer : ℕ} {c b ends around : List ℕ} {depth :
       unfolding Nested
       nested-in l = nested-set ends around (depth + 1) inner-end (h .tag) (length s) (depth + 1) beyond (omega arith) (rw (add-one depth) (l, w .nested))
 
-      opened-in : opened s ends′ around′ (depth + 1) beyond ≡ frame (behind rest h) inmost ∷ outside
+      opened-in : opened s ends′ around′ (depth + 1) beyond ≡ frame (behindObject rest h) inmost ∷ outside
       unfolding opened
       opened-in =
           opened-set ends around (depth + 1) inner-end (h .tag) s (depth + 1) beyond (omega arith)
@@ -412,9 +412,9 @@ module _ {s : List ℕ} {tag answer : ℕ} {c b ends around : List ℕ} {depth :
             sized = w .sized;
             same = λ r d x.
                 w .same r d
-                (left-node answer r d _ _ outside n (work g b) h q p (omega (arith, w .few))
-                (subst (λ (v : List ℕ). Left answer r d (frame v (h .tag) ∷ frame (behind rest h) inmost ∷ outside) (n + 1) (work g b)) (contents-is rest (h .start) (h .len))
-                (subst (λ (fs : List Frame). Left answer r d (frame (contents rest (h .start) (h .len)) (h .tag) ∷ fs) (n + 1) (work g b)) opened-in
+                (left-node answer r d _ _ outside n (takeState g b) h q p (omega (arith, w .few))
+                (subst (λ (v : List ℕ). Left answer r d (frame v (h .tag) ∷ frame (behindObject rest h) inmost ∷ outside) (n + 1) (takeState g b)) (contents-is rest (h .start) (h .len))
+                (subst (λ (fs : List Frame). Left answer r d (frame (contents rest (h .start) (h .len)) (h .tag) ∷ fs) (n + 1) (takeState g b)) opened-in
                 (rw (tag-is, end-is) at x))));
           }
 

@@ -7,31 +7,31 @@ use mathlib.Core.Option.{Option, some, none}
 use Prim.Native.Nat.{ℕ, _+_, _-_}
 use lib.ListN.{length, take}
 use Rattle.basics.specs.Choice.{if_then_else_, _and_, _=?_}
-use Rattle.tlv.specs.declared.Front.{Front}
-use Rattle.tlv.specs.declared.Front.the-variants.{Object, Broken}
+use Rattle.tlv.specs.declared.ObjectFront.{ObjectFront}
+use Rattle.tlv.specs.declared.ObjectFront.the-variants.{Object, Broken}
 use Rattle.tlv.specs.Object.{headerOf}
-use Rattle.tlv.specs.Tree.{Forest, count, parse}
+use Rattle.tlv.specs.Tree.{Forest, objectCount, parseTree}
 use Rattle.reading.specs.declared.Awaited.{Awaited}
-use Rattle.reading.specs.Answer.{goodLength, goodStatus, isRead}
+use Rattle.reading.specs.Answer.{isResponseLength, isStatus9000, isRead}
 
 -- one object at the front is all there is: no byte in front of it, none behind it
-abbrev pub isWhole : List ℕ → Front → Bool
-isWhole s Broken = false
-isWhole s (Object h) = h .start + h .len =? length s
+abbrev pub isOneObject : List ℕ → ObjectFront → Bool
+isOneObject s Broken = false
+isOneObject s (Object h) = h .start + h .len =? length s
 
 -- the objects of a tree; 0 where there is none
 abbrev pub treeCount : Option Forest → ℕ
 treeCount none = 0
-treeCount (some f) = count f
+treeCount (some f) = objectCount f
 
 -- the objects of a body that is one object, this one included; at most four levels of templates
 unfoldable pub bodyObjects : List ℕ → ℕ
 bodyObjects s =
-    if isWhole s (headerOf s) then treeCount (parse 4 s)
+    if isOneObject s (headerOf s) then treeCount (parseTree 4 s)
     else 0
 
 -- the objects of an answer: those of its body, where length and status are good and more than the status is read
 unfoldable pub answerObjects : Awaited → List ℕ → ℕ
 answerObjects a s =
-    if goodLength s and goodStatus s and isRead a then bodyObjects (take (length s - 2) s)
+    if isResponseLength s and isStatus9000 s and isRead a then bodyObjects (take (length s - 2) s)
     else 0

@@ -1,6 +1,6 @@
 pub mod Taking
 pub mod Answer
 pub mod Count
-pub mod Listing
+pub mod Pending
 pub mod Inner
 pub mod Both

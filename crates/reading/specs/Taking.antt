@@ -8,31 +8,31 @@ use Rattle.basics.specs.Choice.{if_then_else_, _and_, _=?_}
 use Rattle.basics.specs.Number.{hasBit}
 use Rattle.tlv.specs.Tag.{isPrivate}
 use Rattle.tlv.specs.Tree.{Forest, end, leaf, node}
-use Rattle.dictionary.specs.declared.Found.{Found}
-use Rattle.dictionary.specs.declared.Found.the-variants.{At, Unknown}
-use Rattle.dictionary.specs.Rows.{Row, rows, rowAt, find, card, in70, in77, inA5, inBF0C, in6F}
-use Rattle.dictionary.specs.Form.{fitting}
-use Rattle.store.specs.Place.{isFree, putAt}
+use Rattle.dictionary.specs.declared.RowFound.{RowFound}
+use Rattle.dictionary.specs.declared.RowFound.the-variants.{At, Unknown}
+use Rattle.dictionary.specs.Rows.{Row, dictionaryRows, rowAt, findRow, setByCard, in70, in77, inA5, inBF0C, in6F}
+use Rattle.dictionary.specs.Form.{fitsRow}
+use Rattle.store.specs.Place.{isFree, putRow}
 
 -- a primitive object as it stands in an answer: the tag of the template directly around it, its own tag, its value
-pub record Item : Type 0 where
+pub record PrimitiveItem : Type 0 where
   pub around : ℕ
   pub tag : ℕ
   pub value : List ℕ
 
 -- an object of these parts
-abbrev pub item : ℕ → ℕ → List ℕ → Item
-item a t v = record { around = a; tag = t; value = v }
+abbrev pub primitiveItem : ℕ → ℕ → List ℕ → PrimitiveItem
+primitiveItem a t v = record { around = a; tag = t; value = v }
 
 -- the primitive objects of a tree, in the order of the bytes
-unfoldable pub items : ℕ → Forest → List Item
-items a end = []
-items a (leaf t v r) = item a t v ∷ items a r
-items a (node t f r) = items t f ++ items a r
+unfoldable pub primitiveItems : ℕ → Forest → List PrimitiveItem
+primitiveItems a end = []
+primitiveItems a (leaf t v r) = primitiveItem a t v ∷ primitiveItems a r
+primitiveItems a (node t f r) = primitiveItems t f ++ primitiveItems a r
 
 -- a template is one of a set of templates; one other than these five is in none
-abbrev pub standsIn : ℕ → ℕ → Bool
-standsIn templates around =
+abbrev pub isTemplateIn : ℕ → ℕ → Bool
+isTemplateIn templates around =
     if around =? 0x70 then hasBit templates in70
     else if around =? 0x77 then hasBit templates in77
     else if around =? 0xA5 then hasBit templates inA5
@@ -41,57 +41,57 @@ standsIn templates around =
     else false
 
 -- a row's object may stand directly inside this template
-unfoldable pub mayStand : Row → ℕ → Bool
-mayStand r around = standsIn (r .templates) around
+unfoldable pub allowedInTemplate : Row → ℕ → Bool
+allowedInTemplate r around = isTemplateIn (r .templates) around
 
 -- a row's object may be set by the card
-abbrev pub byCard : Row → Bool
-byCard r = hasBit (r .setters) card
+abbrev pub cardMaySet : Row → Bool
+cardMaySet r = hasBit (r .setters) setByCard
 
 -- the card may bring a row's object in this answer, directly inside this template, with this value: it fits the row
-unfoldable pub mayCome : ℕ → Row → ℕ → List ℕ → Bool
-mayCome answer r around v =
-    byCard r
+unfoldable pub allowedInResponse : ℕ → Row → ℕ → List ℕ → Bool
+allowedInResponse answer r around v =
+    cardMaySet r
     and hasBit (r .answers) answer
-    and mayStand r around
-    and fitting r v
+    and allowedInTemplate r around
+    and fitsRow r v
 
 -- the card may set row k's object so, and no non-empty one is there
-unfoldable pub allowed : ℕ → List ℕ → ℕ → ℕ → List ℕ → Bool
-allowed answer b k around v = mayCome answer (rowAt k) around v and isFree rows b k
+unfoldable pub allowedNow : ℕ → List ℕ → ℕ → ℕ → List ℕ → Bool
+allowedNow answer b k around v = allowedInResponse answer (rowAt k) around v and isFree dictionaryRows b k
 
 -- the store while objects are taken, and whether every one so far was allowed
-pub record Work : Type 0 where
+pub record TakeState : Type 0 where
   pub good : Bool
   pub store : List ℕ
 
 -- a store of these parts
-abbrev pub work : Bool → List ℕ → Work
-work g b = record { good = g; store = b }
+abbrev pub takeState : Bool → List ℕ → TakeState
+takeState g b = record { good = g; store = b }
 
 -- a known object is skipped if it is private and not for the card to set, stored if it is allowed, else not allowed
-abbrev pub takeKnown : ℕ → List ℕ → Item → ℕ → Work
+abbrev pub takeKnown : ℕ → List ℕ → PrimitiveItem → ℕ → TakeState
 takeKnown answer b i k =
-    if isPrivate (i .tag) and not (byCard (rowAt k)) then work true b
-    else if allowed answer b k (i .around) (i .value) then work true (putAt rows b k (i .value))
-    else work false b
+    if isPrivate (i .tag) and not (cardMaySet (rowAt k)) then takeState true b
+    else if allowedNow answer b k (i .around) (i .value) then takeState true (putRow dictionaryRows b k (i .value))
+    else takeState false b
 
 -- by its row in the table; an unknown one is skipped
-abbrev pub takeFound : ℕ → List ℕ → Item → Found → Work
-takeFound answer b i Unknown = work true b
+abbrev pub takeFound : ℕ → List ℕ → PrimitiveItem → RowFound → TakeState
+takeFound answer b i Unknown = takeState true b
 takeFound answer b i (At k) = takeKnown answer b i k
 
 -- one object
-unfoldable pub takeItem : ℕ → List ℕ → Item → Work
-takeItem answer b i = takeFound answer b i (find rows (i .tag))
+unfoldable pub takeItem : ℕ → List ℕ → PrimitiveItem → TakeState
+takeItem answer b i = takeFound answer b i (findRow dictionaryRows (i .tag))
 
 -- nothing is taken after an object that is not allowed
-unfoldable pub takeNext : ℕ → Work → Item → Work
+unfoldable pub takeNext : ℕ → TakeState → PrimitiveItem → TakeState
 takeNext answer w i =
     if w .good then takeItem answer (w .store) i
     else w
 
 -- one object after the other
-unfoldable pub takeAll : ℕ → Work → List Item → Work
+unfoldable pub takeAll : ℕ → TakeState → List PrimitiveItem → TakeState
 takeAll answer w [] = w
 takeAll answer w (i ∷ is) = takeAll answer (takeNext answer w i) is

@@ -4,7 +4,7 @@
 // `read_answer` and `judge_answer` promise what the crate's functions of these names promise,
 // word for word, so a caller goes from one reader to the other by one line. The walk over the objects
 // is this module's own; all else is the crate's.
-use crate::{Awaited, Beginning, Contents, Outer, Reading, Tally, Verdict, LIST};
+use crate::{Awaited, Beginning, TemplateContents, OuterObject, Reading, Tally, ResponseVerdict, LIST};
 use dictionary::ROWS;
 use tlv::Following;
 ghost use mathlib.Core.Path.{_≡_};
@@ -12,12 +12,12 @@ ghost use mathlib.Core.Bool.{true};
 ghost use Prim.Native.Nat.{_+_, _-_, _*_, _^_, _≤_, _<_};
 ghost use lib.ListN.{length};
 ghost use Rattle.dictionary.specs.Rows.{storeSize};
-ghost use Rattle.dictionary.specs.Lent.{Lent};
-ghost use Rattle.tlv.specs.Tree.{parse};
+ghost use Rattle.dictionary.specs.Tables.{TablesGiven};
+ghost use Rattle.tlv.specs.Tree.{parseTree};
 ghost use Rattle.reading.specs.Count.{bodyObjects, answerObjects};
-ghost use Rattle.reading.specs.Inner.{tally, counted, GivesFrom, ReadsFrom};
-ghost use Rattle.reading.specs.Listing.{Within, Listing, countIn};
-ghost use Rattle.reading.specs.Answer.{Gives, numberOf, readBody, readAnswer};
+ghost use Rattle.reading.specs.Inner.{tally, objectsVisited, GivesFrom, ReadsPending};
+ghost use Rattle.reading.specs.Pending.{StandsInBody, PendingValues, pendingCount};
+ghost use Rattle.reading.specs.Answer.{GivesReading, verdictNumber, readBody, readAnswer};
 
 // How many templates may be open at once, the outer one counted.
 const LEVELS: usize = 4;
@@ -25,22 +25,22 @@ const LEVELS: usize = 4;
 // The whole answer to the command that was handed out, status bytes included.
 pub fn read_answer(store: &mut [u8], awaited: Awaited, answer: &[u8]) -> Reading
     requires { ⌜ length (now store) ≡ storeSize ⌝ }
-    ensures given { λ r. ⌜ Gives r (now (store .exit)) (readAnswer awaited (now (store .entry)) (now (answer .entry))) ⌝ }
+    ensures given { λ r. ⌜ GivesReading r (now (store .exit)) (readAnswer awaited (now (store .entry)) (now (answer .entry))) ⌝ }
     ensures sized { λ _. ⌜ length (now (store .exit)) ≡ storeSize ⌝ }
     ensures half { λ r. ⌜ 2 * r .objects ≤ length (now (answer .entry)) - 2 ⌝ }
     ensures tree { λ r. ⌜ r .objects ≡ answerObjects awaited (now (answer .entry)) ⌝ }
 {
     let beginning = crate::begin(awaited, answer);
     match beginning {
-        Beginning::Decided(verdict) => crate::made(verdict, 0),
+        Beginning::Decided(verdict) => crate::reading_of(verdict, 0),
         Beginning::Body(n) => read_body(store, awaited, &answer[..n]),
     }
 }
 
 // What a reading says of an answer; the store stays.
-pub fn judge_answer(store: &[u8], awaited: Awaited, answer: &[u8]) -> Verdict
+pub fn judge_answer(store: &[u8], awaited: Awaited, answer: &[u8]) -> ResponseVerdict
     requires { ⌜ length (now store) ≡ storeSize ⌝ }
-    ensures { λ r. ⌜ numberOf r ≡ readAnswer awaited (now (store .entry)) (now (answer .entry)) .reason ⌝ }
+    ensures { λ r. ⌜ verdictNumber r ≡ readAnswer awaited (now (store .entry)) (now (answer .entry)) .reason ⌝ }
 {
     let beginning = crate::begin(awaited, answer);
     match beginning {
@@ -52,31 +52,31 @@ pub fn judge_answer(store: &[u8], awaited: Awaited, answer: &[u8]) -> Verdict
 // The body of an answer: its values are listed, and put into the store where all was accepted.
 fn read_body(store: &mut [u8], awaited: Awaited, body: &[u8]) -> Reading
     requires { ⌜ (length (now store) ≡ storeSize) × (length (now body) ≤ 256) ⌝ }
-    ensures given { λ r. ⌜ Gives r (now (store .exit)) (readBody awaited (now (store .entry)) (now (body .entry))) ⌝ }
+    ensures given { λ r. ⌜ GivesReading r (now (store .exit)) (readBody awaited (now (store .entry)) (now (body .entry))) ⌝ }
     ensures sized { λ _. ⌜ length (now (store .exit)) ≡ storeSize ⌝ }
     ensures half { λ r. ⌜ 2 * r .objects ≤ length (now (body .entry)) ⌝ }
     ensures tree { λ r. ⌜ r .objects ≡ bodyObjects (now (body .entry)) ⌝ }
 {
-    let mut listed = [0u32; LIST];
+    let mut pending = [0u32; LIST];
     let mut filled = [0u8; ROWS];
     let tags = dictionary::tags();
     let codes = dictionary::codes();
-    let reading = read_object(store, awaited, body, &mut listed, &mut filled, &tags, &codes);
+    let reading = read_object(store, awaited, body, &mut pending, &mut filled, &tags, &codes);
     let verdict = reading.verdict;
-    crate::keep(store, body, &listed, verdict);
+    crate::store_pending(store, body, &pending, verdict);
     reading
 }
 
 // What a reading says of the body of an answer.
-fn judge_body(store: &[u8], awaited: Awaited, body: &[u8]) -> Verdict
+fn judge_body(store: &[u8], awaited: Awaited, body: &[u8]) -> ResponseVerdict
     requires { ⌜ (length (now store) ≡ storeSize) × (length (now body) ≤ 256) ⌝ }
-    ensures { λ r. ⌜ numberOf r ≡ readBody awaited (now (store .entry)) (now (body .entry)) .reason ⌝ }
+    ensures { λ r. ⌜ verdictNumber r ≡ readBody awaited (now (store .entry)) (now (body .entry)) .reason ⌝ }
 {
-    let mut listed = [0u32; LIST];
+    let mut pending = [0u32; LIST];
     let mut filled = [0u8; ROWS];
     let tags = dictionary::tags();
     let codes = dictionary::codes();
-    read_object(store, awaited, body, &mut listed, &mut filled, &tags, &codes).verdict
+    read_object(store, awaited, body, &mut pending, &mut filled, &tags, &codes).verdict
 }
 
 // The body's one object: its values are listed, a template's by its contents.
@@ -84,32 +84,32 @@ fn read_object(
     store: &[u8],
     awaited: Awaited,
     body: &[u8],
-    listed: &mut [u32; LIST],
+    pending: &mut [u32; LIST],
     filled: &mut [u8; ROWS],
     tags: &[u32; ROWS],
     codes: &[u32; ROWS],
 ) -> Reading
-    requires { ⌜ Listing (now body) (now store) (now listed) (now filled) ⌝ }
-    requires { ⌜ countIn (now listed) ≡ 0 ⌝ }
-    requires { ⌜ Lent (now tags) (now codes) ⌝ }
+    requires { ⌜ PendingValues (now body) (now store) (now pending) (now filled) ⌝ }
+    requires { ⌜ pendingCount (now pending) ≡ 0 ⌝ }
+    requires { ⌜ TablesGiven (now tags) (now codes) ⌝ }
     ensures given { λ r. ⌜ GivesFrom r (λ b. readBody awaited b (now (body .entry)))
-      (now (body .entry)) (now (store .entry)) (now (listed .entry)) (now (listed .exit)) ⌝ }
-    ensures kept { λ _. ⌜ Listing (now (body .entry)) (now (store .entry)) (now (listed .exit)) (now (filled .exit)) ⌝ }
+      (now (body .entry)) (now (store .entry)) (now (pending .entry)) (now (pending .exit)) ⌝ }
+    ensures kept { λ _. ⌜ PendingValues (now (body .entry)) (now (store .entry)) (now (pending .exit)) (now (filled .exit)) ⌝ }
     ensures half { λ r. ⌜ 2 * r .objects ≤ length (now (body .entry)) ⌝ }
 {
     let outer = crate::outer_of(body);
     match outer {
-        Outer::Broken => crate::made(Verdict::Malformed, 0),
-        Outer::Primitive(h) => {
+        OuterObject::Broken => crate::reading_of(ResponseVerdict::Malformed, 0),
+        OuterObject::Primitive(h) => {
             let start = h.start;
             let e = start + h.len;
-            crate::read_primitive(awaited, h.tag, &body[start..e], start, body, store, listed, filled, codes)
+            crate::read_primitive(awaited, h.tag, &body[start..e], start, body, store, pending, filled, codes)
         }
-        Outer::Template(h) => {
+        OuterObject::Template(h) => {
             let start = h.start;
             let e = start + h.len;
             let bit = crate::answer_bit(awaited);
-            let contents = read(&body[start..e], start, h.tag, bit, body, store, listed, filled, tags, codes);
+            let contents = read(&body[start..e], start, h.tag, bit, body, store, pending, filled, tags, codes);
             crate::judge_contents(awaited, h.tag, contents)
         }
     }
@@ -125,20 +125,20 @@ fn read(
     answer: u8,
     body: &[u8],
     store: &[u8],
-    listed: &mut [u32; LIST],
+    pending: &mut [u32; LIST],
     filled: &mut [u8; ROWS],
     tags: &[u32; ROWS],
     codes: &[u32; ROWS],
-) -> Contents
-    requires { ⌜ Listing (now body) (now store) (now listed) (now filled) ⌝ }
-    requires { ⌜ Within (now body) start (now bytes) ⌝ }
-    requires { ⌜ countIn (now listed) ≡ 0 ⌝ }
+) -> TemplateContents
+    requires { ⌜ PendingValues (now body) (now store) (now pending) (now filled) ⌝ }
+    requires { ⌜ StandsInBody (now body) start (now bytes) ⌝ }
+    requires { ⌜ pendingCount (now pending) ≡ 0 ⌝ }
     requires { ⌜ 0 < answer ⌝ }
-    requires { ⌜ Lent (now tags) (now codes) ⌝ }
-    ensures left { λ r. ⌜ ReadsFrom answer tag (tally 1 true) (parse 3 (now (bytes .entry))) r
-      (now (body .entry)) (now (store .entry)) (now (listed .entry)) (now (listed .exit)) ⌝ }
-    ensures half { λ r. ⌜ 2 * counted r ≤ 2 + length (now (bytes .entry)) ⌝ }
-    ensures kept { λ _. ⌜ Listing (now (body .entry)) (now (store .entry)) (now (listed .exit)) (now (filled .exit)) ⌝ }
+    requires { ⌜ TablesGiven (now tags) (now codes) ⌝ }
+    ensures left { λ r. ⌜ ReadsPending answer tag (tally 1 true) (parseTree 3 (now (bytes .entry))) r
+      (now (body .entry)) (now (store .entry)) (now (pending .entry)) (now (pending .exit)) ⌝ }
+    ensures half { λ r. ⌜ 2 * objectsVisited r ≤ 2 + length (now (bytes .entry)) ⌝ }
+    ensures kept { λ _. ⌜ PendingValues (now (body .entry)) (now (store .entry)) (now (pending .exit)) (now (filled .exit)) ⌝ }
 {
     let mut ends = [bytes.len(); LEVELS];
     let mut around = [tag; LEVELS];
@@ -149,10 +149,10 @@ fn read(
     loop {
         let following = tlv::next(s);
         match following {
-            Following::Malformed => return Contents::Broken,
+            Following::Malformed => return TemplateContents::Broken,
             Following::End => {
                 if depth == 0 {
-                    return Contents::Whole(Tally { objects: n, good });
+                    return TemplateContents::Whole(Tally { objects: n, good });
                 }
                 let from = ends[depth];
                 depth -= 1;
@@ -167,7 +167,7 @@ fn read(
                 n += 1;
                 if h.template {
                     if depth + 1 == LEVELS {
-                        return Contents::Broken;
+                        return TemplateContents::Broken;
                     }
                     ends[depth + 1] = end;
                     around[depth + 1] = h.tag;
@@ -176,7 +176,7 @@ fn read(
                 } else {
                     let place = start + end - h.len;
                     let inmost = around[depth];
-                    good = crate::take_next(good, h.tag, inmost, answer, value, place, body, store, listed, filled, tags, codes);
+                    good = crate::take_next(good, h.tag, inmost, answer, value, place, body, store, pending, filled, tags, codes);
                     s = rest;
                 }
             }

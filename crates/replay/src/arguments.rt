@@ -1,12 +1,12 @@
 // The words that the program is called with: --tree, --bits, --tell, --journal with a file's name behind it, and the name
 // of a file.
 use libc::STDERR_FILENO;
-use show::tree::View;
+use print::tree::View;
 
 // What is asked for: what is shown, whether the exit status is told on descriptor 3, which argument names the file and
 // which the journal (0: none does), whether a journal's name is next, and whether there is one name too many, one too few
 // or an unknown option.
-pub struct Arguments {
+pub struct ReplayArguments {
     pub view: View,
     pub tell: bool,
     pub file: usize,
@@ -15,7 +15,7 @@ pub struct Arguments {
     pub wrong: bool,
 }
 
-pub fn read() -> Arguments {
+pub fn replay_arguments() -> ReplayArguments {
     let out = all();
     if out.naming {
         return not_understood(out, b"expected a file's name behind --journal");
@@ -24,8 +24,8 @@ pub fn read() -> Arguments {
 }
 
 // Every argument, one behind the other.
-fn all() -> Arguments {
-    let mut out = Arguments {
+fn all() -> ReplayArguments {
+    let mut out = ReplayArguments {
         view: View {
             tree: false,
             bits: false,
@@ -46,7 +46,7 @@ fn all() -> Arguments {
 }
 
 // One argument more.
-fn with_argument(arguments: Arguments, i: usize) -> Arguments {
+fn with_argument(arguments: ReplayArguments, i: usize) -> ReplayArguments {
     let mut space = io::buffer();
     let n = os::arg(i, &mut space);
     let word = &space[..n];
@@ -74,14 +74,14 @@ fn with_argument(arguments: Arguments, i: usize) -> Arguments {
     with_file(arguments, i)
 }
 
-fn telling(arguments: Arguments) -> Arguments {
+fn telling(arguments: ReplayArguments) -> ReplayArguments {
     let mut out = arguments;
     out.tell = true;
     out
 }
 
 // The next argument names the journal.
-fn naming(arguments: Arguments) -> Arguments {
+fn naming(arguments: ReplayArguments) -> ReplayArguments {
     if arguments.journal != 0 {
         return not_understood(arguments, b"more than one journal");
     }
@@ -90,15 +90,15 @@ fn naming(arguments: Arguments) -> Arguments {
     out
 }
 
-fn with_journal(arguments: Arguments, i: usize) -> Arguments {
+fn with_journal(arguments: ReplayArguments, i: usize) -> ReplayArguments {
     let mut out = arguments;
     out.journal = i;
     out.naming = false;
     out
 }
 
-fn with_view(arguments: Arguments, tree: bool, bits: bool) -> Arguments {
-    Arguments {
+fn with_view(arguments: ReplayArguments, tree: bool, bits: bool) -> ReplayArguments {
+    ReplayArguments {
         view: View { tree, bits },
         tell: arguments.tell,
         file: arguments.file,
@@ -108,13 +108,13 @@ fn with_view(arguments: Arguments, tree: bool, bits: bool) -> Arguments {
     }
 }
 
-fn with_file(arguments: Arguments, i: usize) -> Arguments {
+fn with_file(arguments: ReplayArguments, i: usize) -> ReplayArguments {
     let mut out = arguments;
     out.file = i;
     out
 }
 
-fn not_understood(arguments: Arguments, words: &[u8]) -> Arguments {
+fn not_understood(arguments: ReplayArguments, words: &[u8]) -> ReplayArguments {
     io::write_all(STDERR_FILENO, b"replay: ");
     io::write_all(STDERR_FILENO, words);
     io::write_all(STDERR_FILENO, b"\n");

@@ -10,11 +10,12 @@ mod explained;
 mod recorded;
 mod why;
 
-use arguments::Arguments;
+
+use arguments::ReplayArguments;
 use libc::{STDERR_FILENO, STDIN_FILENO};
-use line::{Line, LONGEST, MOST};
-use record::{Answer, Phase, Reply, Session};
-use show::tree::View;
+use text_line::{Line, LONGEST, MOST};
+use session_record::{CallResult, Phase, Reply, Session};
+use print::tree::View;
 ghost use mathlib.Core.Path.{_≡_};
 ghost use Prim.Native.Nat.{_≤_};
 ghost use lib.ListN.{length};
@@ -22,7 +23,7 @@ ghost use lib.ListN.{length};
 // What is carried from line to line: the session, the length of the command buffer that is lent, what is shown, the
 // journal's descriptor (negative: none is written), whether `session` was read, the number of the line that is read, how
 // many of its characters are there, whether to go on, and the exit status that is due.
-struct Progress {
+struct ReplayProgress {
     session: Session,
     buffer: usize,
     view: View,
@@ -60,7 +61,7 @@ const UNWRITTEN: u8 = 2;
 const NO_JOURNAL: i32 = -1;
 
 fn main() {
-    let asked = arguments::read();
+    let asked = arguments::replay_arguments();
     let status = played(asked);
     if asked.tell {
         tell(status);
@@ -80,7 +81,7 @@ fn send(fd: i32, words: &[u8]) {
 }
 
 // Plays the file that an argument names, or standard input: the exit status that is due.
-fn played(asked: Arguments) -> u8 {
+fn played(asked: ReplayArguments) -> u8 {
     if asked.wrong {
         return WRONG;
     }
@@ -100,7 +101,7 @@ fn played(asked: Arguments) -> u8 {
 }
 
 // Plays a file, and keeps its journal where one is asked for.
-fn kept(fd: i32, asked: Arguments) -> u8 {
+fn kept(fd: i32, asked: ReplayArguments) -> u8 {
     if asked.journal == 0 {
         return play(fd, asked.view, NO_JOURNAL);
     }
@@ -134,9 +135,9 @@ fn play(fd: i32, view: View, journal: i32) -> u8 {
     state.status
 }
 
-fn beginning(view: View, journal: i32) -> Progress {
-    let session = record::fresh();
-    Progress {
+fn beginning(view: View, journal: i32) -> ReplayProgress {
+    let session = session_record::fresh_session();
+    ReplayProgress {
         session,
         buffer: USUAL,
         view,
@@ -150,7 +151,7 @@ fn beginning(view: View, journal: i32) -> Progress {
 }
 
 // Reads one part and plays the lines that end in it; at the file's end, what is left as the last line.
-fn play_part(state: Progress, fd: i32, line: &mut [u8]) -> Progress
+fn play_part(state: ReplayProgress, fd: i32, line: &mut [u8]) -> ReplayProgress
     ensures { λ _. ⌜ length (now (line .exit)) ≡ length (now (line .entry)) ⌝ }
 {
     let mut part = [0u8; 4096];
@@ -167,7 +168,7 @@ fn play_part(state: Progress, fd: i32, line: &mut [u8]) -> Progress
 }
 
 // Plays the lines that end in a part, and keeps what stands behind them.
-fn play_lines(state: Progress, part: &[u8], line: &mut [u8]) -> Progress
+fn play_lines(state: ReplayProgress, part: &[u8], line: &mut [u8]) -> ReplayProgress
     ensures { λ _. ⌜ length (now (line .exit)) ≡ length (now (line .entry)) ⌝ }
 {
     let mut next = state;
@@ -193,7 +194,7 @@ fn line_end(s: &[u8]) -> usize
 }
 
 // The state with more characters of its line, as many as there is room for.
-fn keep(state: Progress, chars: &[u8], line: &mut [u8]) -> Progress
+fn keep(state: ReplayProgress, chars: &[u8], line: &mut [u8]) -> ReplayProgress
     ensures { λ _. ⌜ length (now (line .exit)) ≡ length (now (line .entry)) ⌝ }
 {
     let filled = state.filled;
@@ -227,13 +228,13 @@ fn least(a: usize, b: usize) -> usize
 // ---- one line
 
 // Plays the line that is there.
-fn play_line(state: Progress, line: &[u8]) -> Progress {
+fn play_line(state: ReplayProgress, line: &[u8]) -> ReplayProgress {
     if !state.going {
         return state;
     }
     let filled = state.filled;
     let mut bytes = [0u8; LONGEST];
-    let said = line::parse(front(line, filled), &mut bytes);
+    let said = text_line::parse_line(front(line, filled), &mut bytes);
     match said {
         Line::Blank => next_line(state),
         Line::Buffer(size) => next_line(with_buffer(state, size.bytes)),
@@ -255,7 +256,7 @@ fn front(s: &[u8], n: usize) -> &[u8] {
 }
 
 // Makes a call, with its bytes in the front of `bytes`.
-fn made(state: Progress, said: Line, bytes: &[u8]) -> Progress {
+fn made(state: ReplayProgress, said: Line, bytes: &[u8]) -> ReplayProgress {
     let mut space = [0u8; LONGEST];
     let size = least(state.buffer, LONGEST);
     let after = shown(state, said, bytes, &mut space[..size]);
@@ -267,11 +268,11 @@ fn made(state: Progress, said: Line, bytes: &[u8]) -> Progress {
 }
 
 // Makes a call, puts it into the journal and shows its reply, and below it what it is due to.
-fn shown(state: Progress, said: Line, bytes: &[u8], command: &mut [u8]) -> After {
+fn shown(state: ReplayProgress, said: Line, bytes: &[u8], command: &mut [u8]) -> After {
     let session = state.session;
     let view = state.view;
     let reply = call(session, said, bytes, command);
-    show::reply_in_words(reply, command);
+    print::reply_in_words(reply, command);
     let answer = reply.answer;
     let written = recorded::keep(state.journal, said, bytes, answer, command);
     match said {
@@ -283,7 +284,7 @@ fn shown(state: Progress, said: Line, bytes: &[u8], command: &mut [u8]) -> After
             let size = brought.size;
             why::answered(front(bytes, size), reason_in(answer), view);
         }
-        _ => show::text(b""),
+        _ => print::text(b""),
     }
     let next = reply.session;
     After {
@@ -295,7 +296,7 @@ fn shown(state: Progress, said: Line, bytes: &[u8], command: &mut [u8]) -> After
 fn call(session: Session, said: Line, bytes: &[u8], command: &mut [u8]) -> Reply {
     match said {
         Line::Start(brought) => {
-            show::text(b"start: ");
+            print::text(b"start: ");
             let size = brought.size;
             session::start(session, front(bytes, size), command)
         }
@@ -305,11 +306,11 @@ fn call(session: Session, said: Line, bytes: &[u8], command: &mut [u8]) -> Reply
             session::answer(session, front(bytes, size), command)
         }
         Line::LinkFailed => {
-            show::text(b"link-failed: ");
+            print::text(b"link-failed: ");
             session::link_failed(session, command)
         }
         _ => {
-            show::text(b"stop: ");
+            print::text(b"stop: ");
             session::stop(session, command)
         }
     }
@@ -318,27 +319,27 @@ fn call(session: Session, said: Line, bytes: &[u8], command: &mut [u8]) -> Reply
 // The word for an answer, with its status bytes.
 fn answer_line(card: &[u8]) {
     if card.len() < 2 {
-        show::text(b"answer without status bytes: ");
+        print::text(b"answer without status bytes: ");
         return;
     }
     let n = card.len() - 2;
-    show::text(b"answer");
-    show::bytes(&card[n..]);
-    show::text(b": ");
+    print::text(b"answer");
+    print::bytes(&card[n..]);
+    print::text(b": ");
 }
 
 // The number of a refusal, 0 where a call is not refused.
-fn refusal_in(answer: Answer) -> u8 {
+fn refusal_in(answer: CallResult) -> u8 {
     match answer {
-        Answer::Refused(refusal) => refusal.number,
+        CallResult::Refused(refusal) => refusal.number,
         _ => 0,
     }
 }
 
 // The reason of an outcome, 0 where there is none.
-fn reason_in(answer: Answer) -> u8 {
+fn reason_in(answer: CallResult) -> u8 {
     match answer {
-        Answer::Outcome(end) => end.reason,
+        CallResult::Outcome(end) => end.reason,
         _ => 0,
     }
 }
@@ -346,7 +347,7 @@ fn reason_in(answer: Answer) -> u8 {
 // ---- the state, with one thing changed
 
 // The next line, with nothing of it there yet.
-fn next_line(state: Progress) -> Progress {
+fn next_line(state: ReplayProgress) -> ReplayProgress {
     let mut out = state;
     out.number = counted(state.number);
     out.filled = 0;
@@ -358,31 +359,31 @@ fn counted(n: usize) -> usize {
     if n < usize::MAX { n + 1 } else { n }
 }
 
-fn with_filled(state: Progress, filled: usize) -> Progress {
+fn with_filled(state: ReplayProgress, filled: usize) -> ReplayProgress {
     let mut out = state;
     out.filled = filled;
     out
 }
 
-fn with_buffer(state: Progress, buffer: usize) -> Progress {
+fn with_buffer(state: ReplayProgress, buffer: usize) -> ReplayProgress {
     let mut out = state;
     out.buffer = buffer;
     out
 }
 
-fn with_session(state: Progress, session: Session) -> Progress {
+fn with_session(state: ReplayProgress, session: Session) -> ReplayProgress {
     let mut out = state;
     out.session = session;
     out
 }
 
-fn stopped(state: Progress) -> Progress {
+fn stopped(state: ReplayProgress) -> ReplayProgress {
     let mut out = state;
     out.going = false;
     out
 }
 
-fn failed(state: Progress, status: u8) -> Progress {
+fn failed(state: ReplayProgress, status: u8) -> ReplayProgress {
     let mut out = state;
     out.going = false;
     out.status = status;
@@ -392,7 +393,7 @@ fn failed(state: Progress, status: u8) -> Progress {
 // ---- the end of a session
 
 // `session`: a journal is of one, so behind a call that was taken, and a second time, the line is wrong.
-fn session_line(state: Progress) -> Progress {
+fn session_line(state: ReplayProgress) -> ReplayProgress {
     if 0 <= state.journal && (state.renewed || !is_fresh(state.session)) {
         complain(b"replay: line ");
         io::print_decimal(STDERR_FILENO, state.number as u64);
@@ -411,31 +412,31 @@ fn is_fresh(session: Session) -> bool {
 }
 
 // A fresh session and the usual buffer; first what the session before it holds.
-fn renewed(state: Progress) -> Progress {
+fn renewed(state: ReplayProgress) -> ReplayProgress {
     if !is_fresh(state.session) {
         holding(state);
     }
-    show::text(b"session: fresh\n");
-    let mut out = with_buffer(with_session(state, record::fresh()), USUAL);
+    print::text(b"session: fresh\n");
+    let mut out = with_buffer(with_session(state, session_record::fresh_session()), USUAL);
     out.renewed = true;
     out
 }
 
 // Shows the objects held and why, unless a line was wrong, and plays no more.
-fn finish(state: Progress) -> Progress {
+fn finish(state: ReplayProgress) -> ReplayProgress {
     if state.going {
         holding(state);
     }
     stopped(state)
 }
 
-fn holding(state: Progress) {
+fn holding(state: ReplayProgress) {
     let session = state.session;
     let store = session.store;
     let bytes = store.bytes;
     let view = state.view;
-    show::text(b"objects held:\n");
-    show::held(&bytes, view.bits);
+    print::text(b"objects held:\n");
+    print::held(&bytes, view.bits);
     explained::line(session);
 }
 
@@ -446,13 +447,13 @@ fn report(number: usize, problem: u8) {
     complain(b"replay: line ");
     io::print_decimal(STDERR_FILENO, number as u64);
     match problem {
-        line::LONG => complain(b": expected at most 8,192 characters"),
-        line::WORD => complain(
+        text_line::LONG => complain(b": expected at most 8,192 characters"),
+        text_line::WORD => complain(
             b": unknown word; expected start HEX, answer HEX, link-failed, stop, buffer N or session",
         ),
-        line::HEX => complain(b": expected bytes, each two hexadecimal digits side by side"),
-        line::BEHIND => complain(b": expected nothing more but a comment, which # starts"),
-        line::NUMBER => complain(b": expected a number up to 4,096 behind buffer"),
+        text_line::HEX => complain(b": expected bytes, each two hexadecimal digits side by side"),
+        text_line::BEHIND => complain(b": expected nothing more but a comment, which # starts"),
+        text_line::NUMBER => complain(b": expected a number up to 4,096 behind buffer"),
         _ => complain(b": expected at most 4,096 bytes"),
     }
     complain(b"\n");

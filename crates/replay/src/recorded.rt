@@ -1,16 +1,16 @@
 // The journal of the session that is played: each call that is not refused, and its reply.
 use crate::front;
-use line::Line;
-use record::Answer;
+use session_record::CallResult;
+use text_line::Line;
 
 // Puts a call and its reply behind what the journal has, unless there is none or the call is refused: whether they
 // could be written.
-pub fn keep(journal: i32, said: Line, bytes: &[u8], answer: Answer, command: &[u8]) -> bool {
+pub fn keep(journal: i32, said: Line, bytes: &[u8], answer: CallResult, command: &[u8]) -> bool {
     if journal < 0 {
         return true;
     }
     match answer {
-        Answer::Refused(_) => true,
+        CallResult::Refused(_) => true,
         _ => call(journal, said, bytes) && reply(journal, answer, command),
     }
 }
@@ -18,19 +18,28 @@ pub fn keep(journal: i32, said: Line, bytes: &[u8], answer: Answer, command: &[u
 // The record of a call, with its bytes in the front of `bytes`.
 fn call(journal: i32, said: Line, bytes: &[u8]) -> bool {
     match said {
-        Line::Start(brought) => put(journal, &journal_record::start(front(bytes, brought.size))),
-        Line::Answer(brought) => put(journal, &journal_record::answer(front(bytes, brought.size))),
-        Line::LinkFailed => put(journal, &journal_record::link_failed()),
-        _ => put(journal, &journal_record::stop()),
+        Line::Start(brought) => put(
+            journal,
+            &journal_record::start_record(front(bytes, brought.size)),
+        ),
+        Line::Answer(brought) => put(
+            journal,
+            &journal_record::answer_record(front(bytes, brought.size)),
+        ),
+        Line::LinkFailed => put(journal, &journal_record::link_failed_record()),
+        _ => put(journal, &journal_record::stop_record()),
     }
 }
 
 // The record of a reply.
-fn reply(journal: i32, answer: Answer, command: &[u8]) -> bool {
+fn reply(journal: i32, answer: CallResult, command: &[u8]) -> bool {
     match answer {
-        Answer::Command(issued) => put(journal, &journal_record::command(issued.size, command)),
-        Answer::Outcome(end) => put(journal, &journal_record::outcome(end)),
-        Answer::Refused(_) => true,
+        CallResult::Command(issued) => put(
+            journal,
+            &journal_record::command_record(issued.size, command),
+        ),
+        CallResult::Outcome(end) => put(journal, &journal_record::outcome_record(end)),
+        CallResult::Refused(_) => true,
     }
 }
 

@@ -1,10 +1,10 @@
 // What is shown below a reply: the tree of an answer, the tag of a start object that is refused, those that are
 // absent, and where a malformed answer cannot be read.
 use dictionary::ROWS;
-use show::tree;
-use show::tree::{View, Walk};
-use terminal::Said;
-use tlv::Front;
+use print::tree;
+use print::tree::{View, Walk};
+use start_data::LoadResult;
+use tlv::ObjectFront;
 ghost use Prim.Native.Nat.{_≤_};
 ghost use lib.ListN.{length};
 
@@ -21,7 +21,7 @@ pub fn start_refused(start: &[u8], number: u8) {
     match number {
         basics::REFUSED_OBJECT => refused(start),
         basics::REFUSED_ABSENT => absent(start),
-        _ => show::text(b""),
+        _ => print::text(b""),
     }
 }
 
@@ -47,10 +47,10 @@ fn refused(start: &[u8]) {
 fn is_refused(start: &[u8]) -> bool {
     let store = store::empty();
     let mut bytes = store.bytes;
-    let said = terminal::load(&mut bytes, start);
+    let said = start_data::load(&mut bytes, start);
     match said {
-        Said::Taken => false,
-        Said::Refused(refusal) => refusal.number == basics::REFUSED_OBJECT,
+        LoadResult::Loaded => false,
+        LoadResult::Refused(refusal) => refusal.number == basics::REFUSED_OBJECT,
     }
 }
 
@@ -59,7 +59,7 @@ fn absent(start: &[u8]) {
     let mut row: usize = 0;
     while row < ROWS {
         if dictionary::attributes_of(row).must != 0 {
-            absent_row(start, dictionary::tag(row));
+            absent_row(start, dictionary::row_tag(row));
         }
         row += 1;
     }
@@ -93,7 +93,7 @@ fn first_of(s: &[u8]) -> First
     ensures { λ r. ⌜ r .size ≤ length (now (s .entry)) ⌝ }
 {
     let front = tlv::primitive(s);
-    let Front::Object(h) = front else {
+    let ObjectFront::Object(h) = front else {
         return First { tag: 0, size: 0 };
     };
     First {
@@ -103,10 +103,10 @@ fn first_of(s: &[u8]) -> First
 }
 
 fn tag_line(words: &[u8], tag: u32) {
-    show::margin(0);
-    show::text(words);
-    show::named(tag);
-    show::text(b"\n");
+    print::margin(0);
+    print::text(words);
+    print::named(tag);
+    print::text(b"\n");
 }
 
 // ---- an answer
@@ -118,7 +118,7 @@ pub fn answered(card: &[u8], reason: u8, view: View) {
         return;
     }
     let n = card.len() - 2;
-    let walk = show::tree::walked(&card[..n], view);
+    let walk = print::tree::walked(&card[..n], view);
     if 258 < card.len() {
         wrong_length(card.len(), reason);
         return;
@@ -130,10 +130,10 @@ pub fn answered(card: &[u8], reason: u8, view: View) {
 
 fn wrong_length(size: usize, reason: u8) {
     if reason == basics::REASON_MALFORMED {
-        show::margin(0);
-        show::text(b"malformed: length ");
-        show::number(size);
-        show::text(b", and an answer has 2 to 258 bytes\n");
+        print::margin(0);
+        print::text(b"malformed: length ");
+        print::print_number(size);
+        print::text(b", and an answer has 2 to 258 bytes\n");
     }
 }
 
@@ -150,10 +150,10 @@ fn malformed(walk: Walk) {
 }
 
 fn malformed_at(place: usize, words: &[u8]) {
-    show::margin(0);
-    show::text(b"malformed at byte ");
-    show::number(place);
-    show::text(b": ");
-    show::text(words);
-    show::text(b"\n");
+    print::margin(0);
+    print::text(b"malformed at byte ");
+    print::print_number(place);
+    print::text(b": ");
+    print::text(words);
+    print::text(b"\n");
 }

@@ -4,39 +4,39 @@
 use Prim.Native.Nat.{ℕ}
 use Rattle.basics.specs.Reason.{reasonNone, reasonNotAllowed, reasonMissing, reasonAboveLimit, reasonCryptogram}
 use Rattle.basics.specs.Reason.{reasonMode}
-use Rattle.record.specs.declared.End.{End}
-use Rattle.record.specs.Session.{endOf}
-use Rattle.terminal.specs.declared.Said.{Said}
-use Rattle.session.specs.declared.Needed.{Needed}
-use Rattle.session.specs.declared.Mode.{Mode}
-use Rattle.session.specs.declared.Limit.{Limit}
-use Rattle.session.specs.declared.Track.{Track}
-use Rattle.session.specs.declared.Decided.{Decided}
-use Rattle.session.specs.Steps.{endBy}
+use Rattle.session_record.specs.declared.Ending.{Ending}
+use Rattle.session_record.specs.Session.{endingOf}
+use Rattle.start_data.specs.declared.LoadResult.{LoadResult}
+use Rattle.session.specs.declared.NeededObjects.{NeededObjects}
+use Rattle.session.specs.declared.ModeCheck.{ModeCheck}
+use Rattle.session.specs.declared.LimitCheck.{LimitCheck}
+use Rattle.session.specs.declared.TrackCheck.{TrackCheck}
+use Rattle.session.specs.declared.CryptogramOutcome.{CryptogramOutcome}
+use Rattle.session.specs.Steps.{endingBy}
 
 -- the number of a loading that is refused
-abbrev pub refusalNumber : Said → ℕ
-refusalNumber Said.Taken = 0
-refusalNumber (Said.Refused r) = r .number
+abbrev pub loadRefusalNumber : LoadResult → ℕ
+loadRefusalNumber LoadResult.Loaded = 0
+loadRefusalNumber (LoadResult.Refused r) = r .number
 
 -- the reason that ends the session, 0 where it goes on
-abbrev pub neededNumber : Needed → ℕ
-neededNumber Needed.Complete = reasonNone
-neededNumber Needed.Missing = reasonMissing
+abbrev pub neededNumber : NeededObjects → ℕ
+neededNumber NeededObjects.Complete = reasonNone
+neededNumber NeededObjects.Missing = reasonMissing
 
-abbrev pub modeNumber : Mode → ℕ
-modeNumber Mode.Carried = reasonNone
-modeNumber Mode.Off = reasonMode
+abbrev pub modeNumber : ModeCheck → ℕ
+modeNumber ModeCheck.Supported = reasonNone
+modeNumber ModeCheck.Unsupported = reasonMode
 
-abbrev pub limitNumber : Limit → ℕ
-limitNumber Limit.Within = reasonNone
-limitNumber Limit.Above = reasonAboveLimit
+abbrev pub limitNumber : LimitCheck → ℕ
+limitNumber LimitCheck.Within = reasonNone
+limitNumber LimitCheck.Above = reasonAboveLimit
 
-abbrev pub trackNumber : Track → ℕ
-trackNumber Track.Sound = reasonNone
-trackNumber Track.Unsound = reasonNotAllowed
+abbrev pub trackNumber : TrackCheck → ℕ
+trackNumber TrackCheck.Sound = reasonNone
+trackNumber TrackCheck.Unsound = reasonNotAllowed
 
 -- what a cryptogram decides: an outcome with reason 0, or reason 8
-abbrev pub decidedEnd : Decided → End
-decidedEnd (Decided.On d) = endOf (d .outcome) reasonNone
-decidedEnd Decided.Nothing = endBy reasonCryptogram
+abbrev pub cryptogramOutcomeEnding : CryptogramOutcome → Ending
+cryptogramOutcomeEnding (CryptogramOutcome.On d) = endingOf (d .outcome) reasonNone
+cryptogramOutcomeEnding CryptogramOutcome.Nothing = endingBy reasonCryptogram

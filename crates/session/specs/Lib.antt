@@ -1,5 +1,5 @@
 pub mod Steps
 pub mod Start
-pub mod Stripe
+pub mod MagStripe
 pub mod Answer
 pub mod Inner

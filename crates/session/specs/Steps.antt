@@ -9,21 +9,21 @@ use mathlib.Core.Option.{Option, some, none}
 use Prim.Native.Nat.{ℕ, _+_}
 use lib.ListN.{length}
 use Rattle.basics.specs.Choice.{if_then_else_, _<?_}
-use Rattle.basics.specs.Front.{inFront}
-use Rattle.basics.specs.Reason.{refusedBuffer, refusedRanges, refusedPhase, reasonDataList, reasonLink, reasonStopped}
-use Rattle.dictionary.specs.Rows.{rows}
-use Rattle.dictionary.specs.Named.{placeOf}
-use Rattle.store.specs.Place.{putAt}
-use Rattle.analysis.specs.declared.action.Findings.{Findings}
-use Rattle.analysis.specs.Verification.{methodNumber, notApplicable}
-use Rattle.record.specs.declared.End.{End}
-use Rattle.record.specs.declared.Phase.{Phase}
-use Rattle.record.specs.declared.Session.{Session}
-use Rattle.record.specs.declared.Reply.{Reply}
-use Rattle.record.specs.declared.Turn.{Turn}
-use Rattle.record.specs.Numbers.{outcomeFor}
-use Rattle.record.specs.Session.{stored, endOf, refusedReply, replyOf, endsTurn, commandsTurn}
-use Rattle.record.specs.Ranges.{inRanges}
+use Rattle.basics.specs.Front.{withPrefix}
+use Rattle.basics.specs.Reason.{refusedBuffer, refusedRanges, refusedPhase, reasonDol, reasonLink, reasonStopped}
+use Rattle.dictionary.specs.Rows.{dictionaryRows}
+use Rattle.dictionary.specs.Named.{rowNumberOf}
+use Rattle.store.specs.Place.{putRow}
+use Rattle.analysis.specs.declared.action.AnalysisFindings.{AnalysisFindings}
+use Rattle.analysis.specs.Cvm.{cvmNumber, cvmNotApplicable}
+use Rattle.session_record.specs.declared.Ending.{Ending}
+use Rattle.session_record.specs.declared.Phase.{Phase}
+use Rattle.session_record.specs.declared.Session.{Session}
+use Rattle.session_record.specs.declared.Reply.{Reply}
+use Rattle.session_record.specs.declared.Transition.{Transition}
+use Rattle.session_record.specs.Numbers.{outcomeOfReason}
+use Rattle.session_record.specs.Session.{storeBytes, endingOf, refusedReply, replyOf, endingTransition, commandTransition}
+use Rattle.session_record.specs.Ranges.{inRanges}
 
 -- ---- a call's step
 
@@ -33,47 +33,47 @@ pub record Step : Type 0 where
   pub buffer : List ℕ
 
 -- the returned value r and the buffer b are those of the step s
-pub record Did (r : Reply) (b : List ℕ) (s : Step) : Type 0 where
+pub record DidStep (r : Reply) (b : List ℕ) (s : Step) : Type 0 where
   pub reply : r ≡ s .reply
   pub buffer : b ≡ s .buffer
 
 -- the same of a turn r, with the store b that it left
-abbrev pub DidIn : Turn → List ℕ → List ℕ → Step → Type 0
-DidIn r b buf s = Did (replyOf r b) buf s
+abbrev pub DidTransition : Transition → List ℕ → List ℕ → Step → Type 0
+DidTransition r b buf s = DidStep (replyOf r b) buf s
 
 -- no command: the whole buffer stays
 abbrev pub withoutCommand : Reply → List ℕ → Step
 withoutCommand r buf = record { reply = r; buffer = buf }
 
 -- a refusal, by its number: the session stays, too
-abbrev pub refuses : Session → ℕ → List ℕ → Step
-refuses s n buf = withoutCommand (refusedReply s n) buf
+abbrev pub refusedStep : Session → ℕ → List ℕ → Step
+refusedStep s n buf = withoutCommand (refusedReply s n) buf
 
 -- a session of count n and store b ends, with an outcome and its reason; m is the number of the method that is told
-abbrev pub ended : ℕ → ℕ → List ℕ → End → Reply
-ended m n b e = replyOf (endsTurn m n (e .outcome) (e .reason)) b
+abbrev pub endedReply : ℕ → ℕ → List ℕ → Ending → Reply
+endedReply m n b e = replyOf (endingTransition m n (e .outcome) (e .reason)) b
 
 -- a reason other than 0, with its outcome
-abbrev pub endBy : ℕ → End
-endBy reason = endOf (outcomeFor reason) reason
+abbrev pub endingBy : ℕ → Ending
+endingBy reason = endingOf (outcomeOfReason reason) reason
 
 -- a session of count n and store b ends for a reason other than 0
-abbrev pub fails : ℕ → ℕ → List ℕ → ℕ → List ℕ → Step
-fails m n b reason buf = withoutCommand (ended m n b (endBy reason)) buf
+abbrev pub failedStep : ℕ → ℕ → List ℕ → ℕ → List ℕ → Step
+failedStep m n b reason buf = withoutCommand (endedReply m n b (endingBy reason)) buf
 
 -- a command fills the front of the buffer: a session of count n and store b waits on its answer in a phase, with one
 -- command more
-abbrev pub commands : ℕ → List ℕ → Phase → List ℕ → List ℕ → Step
-commands n b phase command buf =
-    record { reply = replyOf (commandsTurn phase (n + 1) (length command)) b; buffer = inFront command buf }
+abbrev pub commandStep : ℕ → List ℕ → Phase → List ℕ → List ℕ → Step
+commandStep n b phase command buf =
+    record { reply = replyOf (commandTransition phase (n + 1) (length command)) b; buffer = withPrefix command buf }
 
 -- the store with these result bits in 95
-unfoldable pub withResults : List ℕ → List ℕ → List ℕ
-withResults b v = putAt rows b (placeOf 0x95) v
+unfoldable pub withTvr : List ℕ → List ℕ → List ℕ
+withTvr b v = putRow dictionaryRows b (rowNumberOf 0x95) v
 
 -- the store with what the analysis found: the results of the verification in 9F34, over what is there, and 95
-unfoldable pub withFindings : List ℕ → Findings → List ℕ
-withFindings b f = withResults (putAt rows b (placeOf 0x9F34) (f .results)) (f .bits)
+unfoldable pub withFindings : List ℕ → AnalysisFindings → List ℕ
+withFindings b f = withTvr (putRow dictionaryRows b (rowNumberOf 0x9F34) (f .results)) (f .bits)
 
 -- ---- refusals that every call checks first
 
@@ -82,39 +82,39 @@ abbrev pub leastBuffer : ℕ
 leastBuffer = 261
 
 -- a call is refused for the buffer's size (22), then for the session's ranges (25); else its own step is taken
-unfoldable pub admitted : Session → List ℕ → Step → Step
-admitted s buf step =
-    if length buf <? leastBuffer then refuses s refusedBuffer buf
-    else if not (inRanges s) then refuses s refusedRanges buf
+unfoldable pub admittedStep : Session → List ℕ → Step → Step
+admittedStep s buf step =
+    if length buf <? leastBuffer then refusedStep s refusedBuffer buf
+    else if not (inRanges s) then refusedStep s refusedRanges buf
     else step
 
 -- ---- a command that carries a filled list
 
 -- a list that is broken, or that fills to a length no command can carry, ends the session with reason 7
-abbrev pub handOut : ℕ → ℕ → List ℕ → Phase → List ℕ → Option (List ℕ) → Step
-handOut m n b phase buf none = fails m n b reasonDataList buf
-handOut m n b phase buf (some command) = commands n b phase command buf
+abbrev pub commandOrReason : ℕ → ℕ → List ℕ → Phase → List ℕ → Option (List ℕ) → Step
+commandOrReason m n b phase buf none = failedStep m n b reasonDol buf
+commandOrReason m n b phase buf (some command) = commandStep n b phase command buf
 
 -- ---- link failed and stop
 
 -- a running session ends for a reason, count and store untouched, and tells the method that it holds; others are
 -- refused (21)
-abbrev pub endsIn : Phase → Session → ℕ → List ℕ → Step
-endsIn Phase.Fresh s reason buf = refuses s refusedPhase buf
-endsIn Phase.Options s reason buf = fails notApplicable (s .count) (stored s) reason buf
-endsIn (Phase.Record p) s reason buf = fails notApplicable (s .count) (stored s) reason buf
-endsIn (Phase.Cryptogram a) s reason buf = fails (methodNumber (a .method)) (s .count) (stored s) reason buf
-endsIn (Phase.Checksum c) s reason buf = fails notApplicable (s .count) (stored s) reason buf
-endsIn (Phase.Ended e) s reason buf = refuses s refusedPhase buf
+abbrev pub endsRunning : Phase → Session → ℕ → List ℕ → Step
+endsRunning Phase.Fresh s reason buf = refusedStep s refusedPhase buf
+endsRunning Phase.Gpo s reason buf = failedStep cvmNotApplicable (s .count) (storeBytes s) reason buf
+endsRunning (Phase.Record p) s reason buf = failedStep cvmNotApplicable (s .count) (storeBytes s) reason buf
+endsRunning (Phase.Cryptogram a) s reason buf = failedStep (cvmNumber (a .cvm)) (s .count) (storeBytes s) reason buf
+endsRunning (Phase.Checksum c) s reason buf = failedStep cvmNotApplicable (s .count) (storeBytes s) reason buf
+endsRunning (Phase.Ended e) s reason buf = refusedStep s refusedPhase buf
 
 -- the refusals of every call, then the end
-abbrev pub brokenOff : Session → ℕ → List ℕ → Step
-brokenOff s reason buf = admitted s buf (endsIn (s .phase) s reason buf)
+abbrev pub abortStep : Session → ℕ → List ℕ → Step
+abortStep s reason buf = admittedStep s buf (endsRunning (s .phase) s reason buf)
 
 -- the call link failed: reason 9
-abbrev pub linkStep : Session → List ℕ → Step
-linkStep s buf = brokenOff s reasonLink buf
+abbrev pub linkFailedStep : Session → List ℕ → Step
+linkFailedStep s buf = abortStep s reasonLink buf
 
 -- the call stop: reason 10
 abbrev pub stopStep : Session → List ℕ → Step
-stopStep s buf = brokenOff s reasonStopped buf
+stopStep s buf = abortStep s reasonStopped buf

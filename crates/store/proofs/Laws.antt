@@ -17,9 +17,9 @@ use borrow.Author.Tests.{eq-eqb, ne-eqb}
 use Rattle.basics.specs.Choice.{if}
 use Rattle.basics.proofs.Laws.{if-yes, if-no}
 use Rattle.basics.proofs.Order.{le-or-gt, sides}
-use Rattle.dictionary.specs.Rows.{Row, rowIn, find}
-use Rattle.dictionary.specs.declared.Found.the-variants.{At, Unknown}
-use Rattle.store.specs.Place.{Value, absent, present, bytesOf, isThere, room, offsetIn, sizeOf, placeAt, held, valueAt, lengthByte, writtenAt, putAt, valueFound, valueIn}
+use Rattle.dictionary.specs.Rows.{Row, rowIn, findRow}
+use Rattle.dictionary.specs.declared.RowFound.the-variants.{At, Unknown}
+use Rattle.store.specs.Place.{StoredValue, absent, present, bytesOfValue, isPresent, rowRoom, rowOffset, storeSizeOf, rowPlace, placeValue, rowValue, lengthByte, withValueAt, putRow, foundValue, objectValueIn}
 use Rattle.store.proofs.Places.{inside, ends, apart}
 
 take-min : (m n : ℕ) (l : List ℕ) → take m (take n l) ≡ take (min m n) l
@@ -38,70 +38,70 @@ take-min m n l = go (le-or-gt m n)
 unfoldable pub storedLength : List Row → List ℕ → ℕ → ℕ
 storedLength table b k = min (lengthByte table b k - 1) (rowIn table k .greatest)
 
-pub byte-there : (p : List ℕ) → isThere (held p) ≡ not (eqb (getD p 0 0) 0)
-unfolding held
+pub byte-there : (p : List ℕ) → isPresent (placeValue p) ≡ not (eqb (getD p 0 0) 0)
+unfolding placeValue
 byte-there [] = refl
 byte-there (n ∷ v) = go (eqb n 0) refl
   where
-    go : (x : Bool) → eqb n 0 ≡ x → isThere (if (eqb n 0) absent (present (take (n - 1) v))) ≡ not (eqb n 0)
-    go true e = ap isThere (if-yes _ _ e) ∙ ap not (sym e)
-    go false e = ap isThere (if-no _ _ e) ∙ ap not (sym e)
+    go : (x : Bool) → eqb n 0 ≡ x → isPresent (if (eqb n 0) absent (present (take (n - 1) v))) ≡ not (eqb n 0)
+    go true e = ap isPresent (if-yes _ _ e) ∙ ap not (sym e)
+    go false e = ap isPresent (if-no _ _ e) ∙ ap not (sym e)
 
-pub zero-absent : (p : List ℕ) → getD p 0 0 ≡ 0 → held p ≡ absent
-unfolding held
+pub zero-absent : (p : List ℕ) → getD p 0 0 ≡ 0 → placeValue p ≡ absent
+unfolding placeValue
 zero-absent [] e = refl
 zero-absent (n ∷ v) e = if-yes _ _ (eq-eqb n 0 e)
 
-pub held-bytes : (n : ℕ) (v : List ℕ) → (n ≡ 0 → ⊥) → held (n ∷ v) ≡ present (take (n - 1) v)
-unfolding held
+pub held-bytes : (n : ℕ) (v : List ℕ) → (n ≡ 0 → ⊥) → placeValue (n ∷ v) ≡ present (take (n - 1) v)
+unfolding placeValue
 held-bytes n v e = if-no _ _ (ne-eqb n 0 e)
 
 module _ (table : List Row) (b : List ℕ) (k : ℕ) where
   -- the length byte is the store's byte at the place's start
-  pub length-byte-at : lengthByte table b k ≡ getD b (offsetIn table k) 0
-  unfolding lengthByte placeAt
-  length-byte-at = getD-take (room (rowIn table k)) _ 0 0 (omega arith) ∙ getD-drop (offsetIn table k) b 0 0 ∙ rw add-zero
+  pub length-byte-at : lengthByte table b k ≡ getD b (rowOffset table k) 0
+  unfolding lengthByte rowPlace
+  length-byte-at = getD-take (rowRoom (rowIn table k)) _ 0 0 (omega arith) ∙ getD-drop (rowOffset table k) b 0 0 ∙ rw add-zero
 
-  pub there-is : isThere (valueAt table b k) ≡ not (eqb (lengthByte table b k) 0)
-  unfolding valueAt lengthByte
-  there-is = byte-there (placeAt table b k)
+  pub there-is : isPresent (rowValue table b k) ≡ not (eqb (lengthByte table b k) 0)
+  unfolding rowValue lengthByte
+  there-is = byte-there (rowPlace table b k)
 
-  pub absent-is : lengthByte table b k ≡ 0 → valueAt table b k ≡ absent
-  unfolding valueAt lengthByte
-  absent-is e = zero-absent (placeAt table b k) e
+  pub absent-is : lengthByte table b k ≡ 0 → rowValue table b k ≡ absent
+  unfolding rowValue lengthByte
+  absent-is e = zero-absent (rowPlace table b k) e
 
   -- a length byte that is not 0 gives that many bytes less one, and at most the greatest length
-  pub present-is : offsetIn table k < length b → (lengthByte table b k ≡ 0 → ⊥)
-      → valueAt table b k ≡ present (take (lengthByte table b k - 1) (take (rowIn table k .greatest) (drop (offsetIn table k + 1) b)))
-  unfolding valueAt placeAt
+  pub present-is : rowOffset table k < length b → (lengthByte table b k ≡ 0 → ⊥)
+      → rowValue table b k ≡ present (take (lengthByte table b k - 1) (take (rowIn table k .greatest) (drop (rowOffset table k + 1) b)))
+  unfolding rowValue rowPlace
   present-is h e =
-      let n = getD b (offsetIn table k) 0 in
+      let n = getD b (rowOffset table k) 0 in
       let g = rowIn table k .greatest in
-      ap held (ap (take (g + 1)) (drop-cons b (offsetIn table k) 0 h) ∙ ap (λ (m : ℕ). take m (n ∷ drop (suc (offsetIn table k)) b)) (add-one g))
+      ap placeValue (ap (take (g + 1)) (drop-cons b (rowOffset table k) 0 h) ∙ ap (λ (m : ℕ). take m (n ∷ drop (suc (rowOffset table k)) b)) (add-one g))
       ∙ held-bytes n _ (λ z. e (length-byte-at ∙ z))
-      ∙ ap₂ (λ (m : ℕ) (l : List ℕ). present (take (m - 1) (take g l))) (sym length-byte-at) (ap (λ (m : ℕ). drop m b) (sym (add-one (offsetIn table k))))
+      ∙ ap₂ (λ (m : ℕ) (l : List ℕ). present (take (m - 1) (take g l))) (sym length-byte-at) (ap (λ (m : ℕ). drop m b) (sym (add-one (rowOffset table k))))
 
   -- the value's bytes, by its stored length
-  pub value-bytes : offsetIn table k < length b
-      → bytesOf (valueAt table b k) ≡ take (storedLength table b k) (drop (offsetIn table k + 1) b)
+  pub value-bytes : rowOffset table k < length b
+      → bytesOfValue (rowValue table b k) ≡ take (storedLength table b k) (drop (rowOffset table k + 1) b)
   unfolding storedLength
   value-bytes h = go (lengthByte table b k) refl
     where
-      go : (n : ℕ) → lengthByte table b k ≡ n → bytesOf (valueAt table b k) ≡ take (min (lengthByte table b k - 1) (rowIn table k .greatest)) (drop (offsetIn table k + 1) b)
+      go : (n : ℕ) → lengthByte table b k ≡ n → bytesOfValue (rowValue table b k) ≡ take (min (lengthByte table b k - 1) (rowIn table k .greatest)) (drop (rowOffset table k + 1) b)
       go zero e =
           let z : min (lengthByte table b k - 1) (rowIn table k .greatest) ≡ 0 = omega arith in
-          ap bytesOf (absent-is e) ∙ ap (λ (m : ℕ). take m (drop (offsetIn table k + 1) b)) (sym z)
+          ap bytesOfValue (absent-is e) ∙ ap (λ (m : ℕ). take m (drop (rowOffset table k + 1) b)) (sym z)
       go (suc n) e =
-          ap bytesOf (present-is h (λ z. omega arith)) ∙ take-min (lengthByte table b k - 1) (rowIn table k .greatest) (drop (offsetIn table k + 1) b)
+          ap bytesOfValue (present-is h (λ z. omega arith)) ∙ take-min (lengthByte table b k - 1) (rowIn table k .greatest) (drop (rowOffset table k + 1) b)
 
   -- where the store ends before the place there is no value
-  pub no-place : length b ≤ offsetIn table k → valueAt table b k ≡ absent
+  pub no-place : length b ≤ rowOffset table k → rowValue table b k ≡ absent
   no-place h = absent-is (length-byte-at ∙ List·getD-eq-default b 0 h)
 
-  pub there-absent : isThere (valueAt table b k) ≡ false → valueAt table b k ≡ absent
-  there-absent e = go (valueAt table b k) e
+  pub there-absent : isPresent (rowValue table b k) ≡ false → rowValue table b k ≡ absent
+  there-absent e = go (rowValue table b k) e
     where
-      go : (x : Value) → isThere x ≡ false → x ≡ absent
+      go : (x : StoredValue) → isPresent x ≡ false → x ≡ absent
       go absent p = refl
       go (present v) p = cc
 
@@ -134,7 +134,7 @@ sets-sets (y ∷ ws) vs l i j h =
 -- ---- a put is such a run
 
 -- the length byte stored, and then the value copied behind it
-pub paste-written : (b : List ℕ) (o : ℕ) (v : List ℕ) → o + 1 + length v ≤ length b → paste (set b o (length v + 1)) (o + 1) v (length v) ≡ writtenAt b o v
+pub paste-written : (b : List ℕ) (o : ℕ) (v : List ℕ) → o + 1 + length v ≤ length b → paste (set b o (length v + 1)) (o + 1) v (length v) ≡ withValueAt b o v
 paste-written b o v f =
     let h : o < length b = omega arith in
     let q : o < suc o + length v = omega arith in
@@ -145,69 +145,69 @@ paste-written b o v f =
 pub record Fits (table : List Row) (b : List ℕ) (k : ℕ) (v : List ℕ) : Type 0 where
   pub row : k < length table
   pub value : length v ≤ rowIn table k .greatest
-  pub store : sizeOf table ≤ length b
+  pub store : storeSizeOf table ≤ length b
 
 module _ (table : List Row) (b : List ℕ) (k : ℕ) (v : List ℕ) (f : Fits table b k v) where
-  pub lies : offsetIn table k + 1 + length v ≤ length b
+  pub lies : rowOffset table k + 1 + length v ≤ length b
   lies = omega (arith, inside table k (f .row))
 
-  pub put-sets : putAt table b k v ≡ sets b (offsetIn table k) ((length v + 1) ∷ v)
-  unfolding putAt
+  pub put-sets : putRow table b k v ≡ sets b (rowOffset table k) ((length v + 1) ∷ v)
+  unfolding putRow
   put-sets =
-      let e : offsetIn table k + 1 + length v ≡ offsetIn table k + suc (length v) = omega arith in
-      let h : offsetIn table k + suc (length v) ≤ length b = omega (arith, lies) in
-      ap (λ (m : ℕ). take (offsetIn table k) b ++ ((length v + 1) ∷ (v ++ drop m b))) e
-      ∙ sym (sets-eq ((length v + 1) ∷ v) b (offsetIn table k) h ∙ append-assoc (take (offsetIn table k) b) ((length v + 1) ∷ v) (drop (offsetIn table k + suc (length v)) b))
+      let e : rowOffset table k + 1 + length v ≡ rowOffset table k + suc (length v) = omega arith in
+      let h : rowOffset table k + suc (length v) ≤ length b = omega (arith, lies) in
+      ap (λ (m : ℕ). take (rowOffset table k) b ++ ((length v + 1) ∷ (v ++ drop m b))) e
+      ∙ sym (sets-eq ((length v + 1) ∷ v) b (rowOffset table k) h ∙ append-assoc (take (rowOffset table k) b) ((length v + 1) ∷ v) (drop (rowOffset table k + suc (length v)) b))
 
   -- the store keeps its length
-  pub put-length : length (putAt table b k v) ≡ length b
-  put-length = ap length put-sets ∙ length-sets b (offsetIn table k) ((length v + 1) ∷ v)
+  pub put-length : length (putRow table b k v) ≡ length b
+  put-length = ap length put-sets ∙ length-sets b (rowOffset table k) ((length v + 1) ∷ v)
 
   -- its own row holds the value
-  pub put-get : valueAt table (putAt table b k v) k ≡ present v
-  unfolding valueAt placeAt putAt
+  pub put-get : rowValue table (putRow table b k v) k ≡ present v
+  unfolding rowValue rowPlace putRow
   put-get =
       let g = rowIn table k .greatest in
-      let o = offsetIn table k in
+      let o = rowOffset table k in
       let rest = drop (o + 1 + length v) b in
       let z : length v + 1 - 1 ≡ length v = omega arith in
-      ap (λ (l : List ℕ). held (take (g + 1) l)) (drop-at (take o b) _ o (length-take-le o b (omega (arith, lies))))
-      ∙ ap (λ (m : ℕ). held (take m ((length v + 1) ∷ (v ++ rest)))) (add-one g)
+      ap (λ (l : List ℕ). placeValue (take (g + 1) l)) (drop-at (take o b) _ o (length-take-le o b (omega (arith, lies))))
+      ∙ ap (λ (m : ℕ). placeValue (take m ((length v + 1) ∷ (v ++ rest)))) (add-one g)
       ∙ held-bytes (length v + 1) _ (λ e. omega arith)
       ∙ ap present (ap (λ (m : ℕ). take m (take g (v ++ rest))) z ∙ take-take (length v) g (v ++ rest) (f .value) ∙ take-at v rest (length v) refl)
 
   -- every other place is untouched
-  pub place-other : (j : ℕ) → (j ≡ k → ⊥) → placeAt table (putAt table b k v) j ≡ placeAt table b j
-  unfolding placeAt
-  place-other j ne = ap (λ (l : List ℕ). take (room (rowIn table j)) (drop (offsetIn table j) l)) put-sets ∙ go (sides j k ne)
+  pub place-other : (j : ℕ) → (j ≡ k → ⊥) → rowPlace table (putRow table b k v) j ≡ rowPlace table b j
+  unfolding rowPlace
+  place-other j ne = ap (λ (l : List ℕ). take (rowRoom (rowIn table j)) (drop (rowOffset table j) l)) put-sets ∙ go (sides j k ne)
     where
-      go : (j < k) ⊎ (k < j) → take (room (rowIn table j)) (drop (offsetIn table j) (sets b (offsetIn table k) ((length v + 1) ∷ v))) ≡ take (room (rowIn table j)) (drop (offsetIn table j) b)
+      go : (j < k) ⊎ (k < j) → take (rowRoom (rowIn table j)) (drop (rowOffset table j) (sets b (rowOffset table k) ((length v + 1) ∷ v))) ≡ take (rowRoom (rowIn table j)) (drop (rowOffset table j) b)
       go (inl h) = part-before ((length v + 1) ∷ v) b _ _ _ (apart table j k h (omega (arith, f .row)))
       go (inr h) =
-          let behind : offsetIn table k + suc (length v) ≤ offsetIn table j = omega (arith, apart table k j h (f .row), f .value) in
-          ap (take (room (rowIn table j))) (part-behind ((length v + 1) ∷ v) b (offsetIn table k) (offsetIn table j) behind)
+          let behind : rowOffset table k + suc (length v) ≤ rowOffset table j = omega (arith, apart table k j h (f .row), f .value) in
+          ap (take (rowRoom (rowIn table j))) (part-behind ((length v + 1) ∷ v) b (rowOffset table k) (rowOffset table j) behind)
 
-  pub put-other : (j : ℕ) → (j ≡ k → ⊥) → valueAt table (putAt table b k v) j ≡ valueAt table b j
-  unfolding valueAt
-  put-other j ne = ap held (place-other j ne)
+  pub put-other : (j : ℕ) → (j ≡ k → ⊥) → rowValue table (putRow table b k v) j ≡ rowValue table b j
+  unfolding rowValue
+  put-other j ne = ap placeValue (place-other j ne)
 
 -- puts of two rows commute
 pub put-put : (table : List Row) (b : List ℕ) (j k : ℕ) (v w : List ℕ) → (j ≡ k → ⊥) → Fits table b j v → Fits table b k w
-    → putAt table (putAt table b j v) k w ≡ putAt table (putAt table b k w) j v
+    → putRow table (putRow table b j v) k w ≡ putRow table (putRow table b k w) j v
 put-put table b j k v w ne f g = go (sides j k ne)
   where
-    after : {l m : ℕ} {x y : List ℕ} → Fits table b l x → Fits table b m y → Fits table (putAt table b l x) m y
+    after : {l m : ℕ} {x y : List ℕ} → Fits table b l x → Fits table b m y → Fits table (putRow table b l x) m y
     after {l} {m} {x} {y} p q = record { row = q .row; value = q .value; store = rw (put-length table b l x p) (q .store) }
 
-    two : (l m : ℕ) (x y : List ℕ) → l < m → Fits table b l x → Fits table b m y → putAt table (putAt table b l x) m y ≡ putAt table (putAt table b m y) l x
+    two : (l m : ℕ) (x y : List ℕ) → l < m → Fits table b l x → Fits table b m y → putRow table (putRow table b l x) m y ≡ putRow table (putRow table b m y) l x
     two l m x y h p q =
-        let ol = offsetIn table l in
-        let om = offsetIn table m in
-        put-sets table (putAt table b l x) m y (after p q) ∙ ap (λ (r : List ℕ). sets r om ((length y + 1) ∷ y)) (put-sets table b l x p)
+        let ol = rowOffset table l in
+        let om = rowOffset table m in
+        put-sets table (putRow table b l x) m y (after p q) ∙ ap (λ (r : List ℕ). sets r om ((length y + 1) ∷ y)) (put-sets table b l x p)
         ∙ sets-sets ((length y + 1) ∷ y) ((length x + 1) ∷ x) b ol om (omega (arith, apart table l m h (p .row), p .value))
-        ∙ sym (put-sets table (putAt table b m y) l x (after q p) ∙ ap (λ (r : List ℕ). sets r ol ((length x + 1) ∷ x)) (put-sets table b m y q))
+        ∙ sym (put-sets table (putRow table b m y) l x (after q p) ∙ ap (λ (r : List ℕ). sets r ol ((length x + 1) ∷ x)) (put-sets table b m y q))
 
-    go : (j < k) ⊎ (k < j) → putAt table (putAt table b j v) k w ≡ putAt table (putAt table b k w) j v
+    go : (j < k) ⊎ (k < j) → putRow table (putRow table b j v) k w ≡ putRow table (putRow table b k w) j v
     go (inl h) = two j k v w h f g
     go (inr h) = sym (two k j w v h g f)
 
@@ -215,12 +215,12 @@ put-put table b j k v w ne f g = go (sides j k ne)
 
 -- the store that holds nothing
 abbrev pub emptyOf : List Row → List ℕ
-emptyOf table = replicate (sizeOf table) 0
+emptyOf table = replicate (storeSizeOf table) 0
 
 -- the values vs in the places of rows k, k + 1 and so on
 unfoldable pub putAll : List Row → List ℕ → ℕ → List (List ℕ) → List ℕ
 putAll table b k [] = b
-putAll table b k (v ∷ vs) = putAll table (putAt table b k v) (suc k) vs
+putAll table b k (v ∷ vs) = putAll table (putRow table b k v) (suc k) vs
 
 zeros : (n i : ℕ) → _≡_ {A = ℕ} (getD (replicate n 0) i 0) 0
 zeros zero i = refl
@@ -228,8 +228,8 @@ zeros (suc n) zero = refl
 zeros (suc n) (suc i) = zeros n i
 
 -- the empty store holds nothing
-pub empty-holds-nothing : (table : List Row) (k : ℕ) → valueAt table (emptyOf table) k ≡ absent
-empty-holds-nothing table k = absent-is table (emptyOf table) k (length-byte-at table (emptyOf table) k ∙ zeros (sizeOf table) (offsetIn table k))
+pub empty-holds-nothing : (table : List Row) (k : ℕ) → rowValue table (emptyOf table) k ≡ absent
+empty-holds-nothing table k = absent-is table (emptyOf table) k (length-byte-at table (emptyOf table) k ∙ zeros (storeSizeOf table) (rowOffset table k))
 
 -- values for rows k on, each of which fits its row
 pub data Values (table : List Row) : ℕ → List (List ℕ) → Type 0 where
@@ -237,44 +237,44 @@ pub data Values (table : List Row) : ℕ → List (List ℕ) → Type 0 where
   more : {k : ℕ} {v : List ℕ} {vs : List (List ℕ)} → k < length table → length v ≤ rowIn table k .greatest → Values table (suc k) vs → Values table k (v ∷ vs)
 
 module _ (table : List Row) where
-  kept-length : (b : List ℕ) (k : ℕ) (vs : List (List ℕ)) → sizeOf table ≤ length b → Values table k vs → sizeOf table ≤ length (putAll table b k vs)
+  kept-length : (b : List ℕ) (k : ℕ) (vs : List (List ℕ)) → storeSizeOf table ≤ length b → Values table k vs → storeSizeOf table ≤ length (putAll table b k vs)
   unfolding putAll
   kept-length b k [] h none = h
   kept-length b k (v ∷ vs) h (more r g w) =
-      kept-length (putAt table b k v) (suc k) vs (rw (put-length table b k v (record { row = r; value = g; store = h })) h) w
+      kept-length (putRow table b k v) (suc k) vs (rw (put-length table b k v (record { row = r; value = g; store = h })) h) w
 
   -- rows before the first are untouched
-  before-kept : (b : List ℕ) (k : ℕ) (vs : List (List ℕ)) → sizeOf table ≤ length b → Values table k vs → (j : ℕ) → j < k
-      → valueAt table (putAll table b k vs) j ≡ valueAt table b j
+  before-kept : (b : List ℕ) (k : ℕ) (vs : List (List ℕ)) → storeSizeOf table ≤ length b → Values table k vs → (j : ℕ) → j < k
+      → rowValue table (putAll table b k vs) j ≡ rowValue table b j
   unfolding putAll
   before-kept b k [] h none j lt = refl
   before-kept b k (v ∷ vs) h (more r g w) j lt =
       let f : Fits table b k v = record { row = r; value = g; store = h } in
-      before-kept (putAt table b k v) (suc k) vs (rw (put-length table b k v f) h) w j (omega arith) ∙ put-other table b k v f j (λ e. omega arith)
+      before-kept (putRow table b k v) (suc k) vs (rw (put-length table b k v f) h) w j (omega arith) ∙ put-other table b k v f j (λ e. omega arith)
 
   -- every row can be put at its greatest length at once, and all read back
-  pub all-read-back : (b : List ℕ) (k : ℕ) (vs : List (List ℕ)) → sizeOf table ≤ length b → Values table k vs → (i : ℕ) → i < length vs
-      → valueAt table (putAll table b k vs) (k + i) ≡ present (getD vs i [])
+  pub all-read-back : (b : List ℕ) (k : ℕ) (vs : List (List ℕ)) → storeSizeOf table ≤ length b → Values table k vs → (i : ℕ) → i < length vs
+      → rowValue table (putAll table b k vs) (k + i) ≡ present (getD vs i [])
   unfolding putAll
   all-read-back b k [] h none i lt = absurd (omega arith)
   all-read-back b k (v ∷ vs) h (more r g w) zero lt =
       let f : Fits table b k v = record { row = r; value = g; store = h } in
-      rw add-zero (before-kept (putAt table b k v) (suc k) vs (rw (put-length table b k v f) h) w k (omega arith) ∙ put-get table b k v f)
+      rw add-zero (before-kept (putRow table b k v) (suc k) vs (rw (put-length table b k v f) h) w k (omega arith) ∙ put-get table b k v f)
   all-read-back b k (v ∷ vs) h (more r g w) (suc i) lt =
       let f : Fits table b k v = record { row = r; value = g; store = h } in
       let e : k + suc i ≡ suc k + i = omega arith in
-      ap (valueAt table (putAll table b k (v ∷ vs))) e
-      ∙ all-read-back (putAt table b k v) (suc k) vs (rw (put-length table b k v f) h) w i (omega arith)
+      ap (rowValue table (putAll table b k (v ∷ vs))) e
+      ∙ all-read-back (putRow table b k v) (suc k) vs (rw (put-length table b k v f) h) w i (omega arith)
 
 -- ---- by tag
 
-pub by-row : (table : List Row) (b : List ℕ) (t k : ℕ) → find table t ≡ At k → valueIn table b t ≡ valueAt table b k
-unfolding valueIn
-by-row table b t k e = ap (valueFound table b) e
+pub by-row : (table : List Row) (b : List ℕ) (t k : ℕ) → findRow table t ≡ At k → objectValueIn table b t ≡ rowValue table b k
+unfolding objectValueIn
+by-row table b t k e = ap (foundValue table b) e
 
-pub unknown-absent : (table : List Row) (b : List ℕ) (t : ℕ) → find table t ≡ Unknown → valueIn table b t ≡ absent
-unfolding valueIn
-unknown-absent table b t e = ap (valueFound table b) e
+pub unknown-absent : (table : List Row) (b : List ℕ) (t : ℕ) → findRow table t ≡ Unknown → objectValueIn table b t ≡ absent
+unfolding objectValueIn
+unknown-absent table b t e = ap (foundValue table b) e
 
 -- ---- a store copied whole
 

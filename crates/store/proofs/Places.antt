@@ -10,34 +10,34 @@ use lib.ListN.{length}
 use borrow.Author.Tests.{leb-true}
 use Rattle.basics.specs.Choice.{every}
 use Rattle.basics.proofs.Table.{at}
-use Rattle.dictionary.specs.Rows.{Row, rows, blank, rowIn}
-use Rattle.store.specs.Place.{room, offsetIn, sizeOf}
+use Rattle.dictionary.specs.Rows.{Row, dictionaryRows, blankRow, rowIn}
+use Rattle.store.specs.Place.{rowRoom, rowOffset, storeSizeOf}
 
 -- a row's place lies inside the store
-pub inside : (table : List Row) (k : ℕ) → k < length table → offsetIn table k + room (rowIn table k) ≤ sizeOf table
-unfolding offsetIn sizeOf
+pub inside : (table : List Row) (k : ℕ) → k < length table → rowOffset table k + rowRoom (rowIn table k) ≤ storeSizeOf table
+unfolding rowOffset storeSizeOf
 inside [] k h = absurd (omega arith)
 inside (r ∷ rs) zero h = omega arith
 inside (r ∷ rs) (suc k) h = let ih = inside rs k (omega arith) in omega arith
 
 -- past the last row there is no place
-pub ends : (table : List Row) (k : ℕ) → length table ≤ k → offsetIn table k ≡ sizeOf table
-unfolding offsetIn sizeOf
+pub ends : (table : List Row) (k : ℕ) → length table ≤ k → rowOffset table k ≡ storeSizeOf table
+unfolding rowOffset storeSizeOf
 ends [] k h = refl
 ends (r ∷ rs) zero h = absurd (omega arith)
-ends (r ∷ rs) (suc k) h = ap (λ (n : ℕ). room r + n) (ends rs k (omega arith))
+ends (r ∷ rs) (suc k) h = ap (λ (n : ℕ). rowRoom r + n) (ends rs k (omega arith))
 
 -- the next row's place starts behind a row's place
-pub offset-next : (table : List Row) (k : ℕ) → k < length table → offsetIn table (suc k) ≡ offsetIn table k + room (rowIn table k)
-unfolding offsetIn
+pub offset-next : (table : List Row) (k : ℕ) → k < length table → rowOffset table (suc k) ≡ rowOffset table k + rowRoom (rowIn table k)
+unfolding rowOffset
 offset-next [] k h = absurd (omega arith)
 offset-next (r ∷ []) zero h = omega arith
 offset-next (r ∷ s ∷ rs) zero h = omega arith
 offset-next (r ∷ rs) (suc k) h = let ih = offset-next rs k (omega arith) in omega arith
 
 -- of two rows, the later one's place lies behind the earlier one's
-pub apart : (table : List Row) (j k : ℕ) → j < k → j < length table → offsetIn table j + room (rowIn table j) ≤ offsetIn table k
-unfolding offsetIn
+pub apart : (table : List Row) (j k : ℕ) → j < k → j < length table → rowOffset table j + rowRoom (rowIn table j) ≤ rowOffset table k
+unfolding rowOffset
 apart [] j k h i = absurd (omega arith)
 apart (r ∷ rs) zero zero h i = absurd (omega arith)
 apart (r ∷ rs) zero (suc k) h i = omega arith
@@ -50,4 +50,4 @@ storable table = every (λ r. leb (r .greatest) 254) table
 
 pub short : (table : List Row) → storable table ≡ true → (k : ℕ) → k < length table → rowIn table k .greatest ≤ 254
 unfolding storable
-short table t k h = leb-true _ _ (at (λ r. leb (r .greatest) 254) table blank t k h)
+short table t k h = leb-true _ _ (at (λ r. leb (r .greatest) 254) table blankRow t k h)

@@ -6,43 +6,43 @@ use mathlib.Core.List.{List}
 use Prim.Native.Nat.{ℕ, _-_}
 use lib.ListN.{length, getD}
 use Rattle.basics.specs.Choice.{_<?_, _=?_, every}
-use Rattle.dictionary.specs.Rows.{rows, find}
-use Rattle.dictionary.specs.declared.Found.{Found}
-use Rattle.store.specs.Place.{valueOf, bytesOf, isThere, lengthByte}
+use Rattle.dictionary.specs.Rows.{dictionaryRows, findRow}
+use Rattle.dictionary.specs.declared.RowFound.{RowFound}
+use Rattle.store.specs.Place.{objectValue, bytesOfValue, isPresent, lengthByte}
 
 -- the object is there, empty or not
-abbrev pub holds : List ℕ → ℕ → Bool
-holds b t = isThere (valueOf b t)
+abbrev pub hasObject : List ℕ → ℕ → Bool
+hasObject b t = isPresent (objectValue b t)
 
 -- it is absent
-abbrev pub lacks : List ℕ → ℕ → Bool
-lacks b t = not (holds b t)
+abbrev pub lacksObject : List ℕ → ℕ → Bool
+lacksObject b t = not (hasObject b t)
 
 -- its bytes; none where it is absent
-abbrev pub bytesIn : List ℕ → ℕ → List ℕ
-bytesIn b t = bytesOf (valueOf b t)
+abbrev pub storedBytes : List ℕ → ℕ → List ℕ
+storedBytes b t = bytesOfValue (objectValue b t)
 
 -- it is there and not empty
-abbrev pub notEmpty : List ℕ → ℕ → Bool
-notEmpty b t = 0 <? length (bytesIn b t)
+abbrev pub hasNonEmpty : List ℕ → ℕ → Bool
+hasNonEmpty b t = 0 <? length (storedBytes b t)
 
 -- its byte n, the first is byte 1; 0 past the end
-abbrev pub byteIn : List ℕ → ℕ → ℕ → ℕ
-byteIn b t n = getD (bytesIn b t) (n - 1) 0
+abbrev pub storedByte : List ℕ → ℕ → ℕ → ℕ
+storedByte b t n = getD (storedBytes b t) (n - 1) 0
 
 -- a byte is zero
-abbrev pub isZero : ℕ → Bool
-isZero x = x =? 0
+abbrev pub isZeroByte : ℕ → Bool
+isZeroByte x = x =? 0
 
 -- all its bytes are zero; so they are where it is absent
-abbrev pub zeroed : List ℕ → ℕ → Bool
-zeroed b t = every isZero (bytesIn b t)
+abbrev pub isZeroed : List ℕ → ℕ → Bool
+isZeroed b t = every isZeroByte (storedBytes b t)
 
 -- the length byte of its place as it stands: the length + 1, 0 where it is absent
-abbrev pub lengthFound : List ℕ → Found → ℕ
-lengthFound b Found.Unknown = 0
-lengthFound b (Found.At k) = lengthByte rows b k
+abbrev pub lengthFound : List ℕ → RowFound → ℕ
+lengthFound b RowFound.Unknown = 0
+lengthFound b (RowFound.At k) = lengthByte dictionaryRows b k
 
 -- by its row; 0 for an unknown tag
-unfoldable pub lengthIn : List ℕ → ℕ → ℕ
-lengthIn b t = lengthFound b (find rows t)
+unfoldable pub storedLength : List ℕ → ℕ → ℕ
+storedLength b t = lengthFound b (findRow dictionaryRows t)

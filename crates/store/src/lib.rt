@@ -7,8 +7,8 @@ use dictionary::SIZE;
 ghost use mathlib.Core.Path.{_≡_};
 ghost use Prim.Native.Nat.{_+_, _-_, _≤_, _<_, min};
 ghost use lib.ListN.{length, replicate};
-ghost use Rattle.dictionary.specs.Rows.{rows, rowAt, rowCount, storeSize};
-ghost use Rattle.store.specs.Place.{placeNumber, spanOf, spanIn, lengthByte, valueAt, bytesOf, isThere, writtenAt, putAt};
+ghost use Rattle.dictionary.specs.Rows.{dictionaryRows, rowAt, rowCount, storeSize};
+ghost use Rattle.store.specs.Place.{packedPlace, rowSpan, unpackedPlace, lengthByte, rowValue, bytesOfValue, isPresent, withValueAt, putRow};
 
 pub struct Store {
     pub bytes: [u8; SIZE],
@@ -18,7 +18,7 @@ pub struct Store {
 const START: u32 = 256;
 
 // A row's place: where it starts, and the greatest length of its value.
-pub struct Span {
+pub struct RowSpan {
     pub at: usize,
     pub most: usize,
 }
@@ -42,8 +42,8 @@ pub fn clear(bytes: &mut [u8])
 }
 
 // A row's place; past the last row it is the store's end.
-fn span_of(row: usize) -> Span
-    ensures { λ r. ⌜ r ≡ spanOf row ⌝ }
+fn span_of(row: usize) -> RowSpan
+    ensures { λ r. ⌜ r ≡ rowSpan row ⌝ }
     ensures { λ r. ⌜ r .at ≤ storeSize ⌝ }
 {
     unpacked(place_at(row))
@@ -51,16 +51,16 @@ fn span_of(row: usize) -> Span
 
 // Where a row's place starts.
 fn start_of(row: usize) -> usize
-    ensures { λ r. ⌜ r ≡ spanOf row .at ⌝ }
+    ensures { λ r. ⌜ r ≡ rowSpan row .at ⌝ }
 {
     unpacked(place_at(row)).at
 }
 
 // A place's number taken apart.
-fn unpacked(place: u32) -> Span
-    ensures { λ r. ⌜ r ≡ spanIn place ⌝ }
+fn unpacked(place: u32) -> RowSpan
+    ensures { λ r. ⌜ r ≡ unpackedPlace place ⌝ }
 {
-    Span {
+    RowSpan {
         at: (place / START) as usize,
         most: (place % START) as usize,
     }
@@ -68,14 +68,14 @@ fn unpacked(place: u32) -> Span
 
 // The length byte of a row's place as it stands: 0 where the object is absent, else its length + 1.
 pub fn length_byte(bytes: &[u8], row: usize) -> u8
-    ensures { λ r. ⌜ r ≡ lengthByte rows (now (bytes .entry)) row ⌝ }
+    ensures { λ r. ⌜ r ≡ lengthByte dictionaryRows (now (bytes .entry)) row ⌝ }
 {
     basics::byte_at(bytes, start_of(row))
 }
 
 // Whether a row's object is there.
 pub fn is_there(bytes: &[u8], row: usize) -> bool
-    ensures { λ r. ⌜ r ≡ isThere (valueAt rows (now (bytes .entry)) row) ⌝ }
+    ensures { λ r. ⌜ r ≡ isPresent (rowValue dictionaryRows (now (bytes .entry)) row) ⌝ }
 {
     length_byte(bytes, row) != 0
 }
@@ -86,7 +86,7 @@ fn value_length(stored: u8, most: usize) -> usize
     ensures { λ r. ⌜ r ≡ min (stored - 1) most ⌝ }
     ensures { λ r. ⌜ r < 256 ⌝ }
 {
-    let stored = basics::wide(stored);
+    let stored = basics::widen(stored);
     if stored == 0 {
         return 0;
     }
@@ -98,7 +98,7 @@ fn value_length(stored: u8, most: usize) -> usize
 
 // A row's value: its bytes, and no bytes where the object is absent.
 pub fn value(bytes: &[u8], row: usize) -> &[u8]
-    ensures { λ r. ⌜ now r ≡ bytesOf (valueAt rows (now (bytes .entry)) row) ⌝ }
+    ensures { λ r. ⌜ now r ≡ bytesOfValue (rowValue dictionaryRows (now (bytes .entry)) row) ⌝ }
 {
     let span = span_of(row);
     let at = span.at;
@@ -118,7 +118,7 @@ pub fn value(bytes: &[u8], row: usize) -> &[u8]
 pub fn put(bytes: &mut [u8], row: usize, v: &[u8])
     requires { ⌜ length (now bytes) ≡ storeSize ⌝ }
     requires { ⌜ (row < rowCount) × (length (now v) ≤ rowAt row .greatest) ⌝ }
-    ensures stored { λ _. ⌜ now (bytes .exit) ≡ putAt rows (now (bytes .entry)) row (now (v .entry)) ⌝ }
+    ensures stored { λ _. ⌜ now (bytes .exit) ≡ putRow dictionaryRows (now (bytes .entry)) row (now (v .entry)) ⌝ }
     ensures sized { λ _. ⌜ length (now (bytes .exit)) ≡ storeSize ⌝ }
 {
     let at = start_of(row);
@@ -128,7 +128,7 @@ pub fn put(bytes: &mut [u8], row: usize, v: &[u8])
 // Writes a length byte and a value at a place.
 fn write(bytes: &mut [u8], at: usize, v: &[u8])
     requires { ⌜ (at + 1 + length (now v) ≤ length (now bytes)) × (length (now v) ≤ 254) ⌝ }
-    ensures { λ _. ⌜ now (bytes .exit) ≡ writtenAt (now (bytes .entry)) at (now (v .entry)) ⌝ }
+    ensures { λ _. ⌜ now (bytes .exit) ≡ withValueAt (now (bytes .entry)) at (now (v .entry)) ⌝ }
 {
     let start = at + 1;
     bytes[at] = (v.len() + 1) as u8;
@@ -142,7 +142,7 @@ fn write(bytes: &mut [u8], at: usize, v: &[u8])
 // A row's place in one number: where it starts, and the greatest length of its value. The compiler keeps the cases as a table,
 // where an array would be built anew each time that it is read.
 fn place_at(row: usize) -> u32
-    ensures { λ r. ⌜ r ≡ placeNumber row ⌝ }
+    ensures { λ r. ⌜ r ≡ packedPlace row ⌝ }
 {
     match row {
         0 => 16, // 50: at 0, 16

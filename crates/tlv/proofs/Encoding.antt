@@ -12,16 +12,16 @@ use lib.ListN.{length, drop, length-append}
 use lib.Seq.{take-length, take-append-seam, drop-append-seam, drop-append-add, drop-drop}
 use borrow.Author.Tests.{eqb-true}
 use Rattle.basics.specs.Choice.{if}
-use Rattle.basics.specs.Number.{numberFrom, number}
+use Rattle.basics.specs.Number.{bigEndianFrom, bigEndian}
 use Rattle.basics.proofs.Laws.{if-yes, if-ind, both-right}
-use Rattle.tlv.specs.declared.Front.the-variants.{Object}
+use Rattle.tlv.specs.declared.ObjectFront.the-variants.{Object}
 use Rattle.tlv.specs.declared.Following.the-variants.{Inner}
-use Rattle.tlv.specs.Tag.{tagSize, tagged, tagAt}
-use Rattle.tlv.specs.Length.{oneByte, twoBytes, sized, lengthAt}
-use Rattle.tlv.specs.Object.{header, headerOf, valueIn, behind}
-use Rattle.tlv.specs.Tree.{Forest, end, leaf, node, nextOf, parse}
-use Rattle.tlv.specs.Encoding.{tagBytes, wellFormedTag, lengthBytes, objectBytes, encode, Encodable}
-use Rattle.tlv.specs.Padding.{Padded, nothing, padding, primitive, template, PassesOver}
+use Rattle.tlv.specs.Tag.{tagSize, tagParsed, tagAt}
+use Rattle.tlv.specs.Length.{lengthOneByte, lengthTwoBytes, lengthParsed, lengthAt}
+use Rattle.tlv.specs.Object.{tlvHeader, headerOf, headerValue, behindObject}
+use Rattle.tlv.specs.Tree.{Forest, end, leaf, node, nextOf, parseTree}
+use Rattle.tlv.specs.Encoding.{tagBytes, wellFormedTag, lengthBytes, objectBytes, encodeTree, Encodable}
+use Rattle.tlv.specs.Padding.{Padded, nothing, padding, primitive, template, PaddingSkipped}
 use Rattle.tlv.proofs.Laws.{tag-some, tail-is, header-with, with-whole}
 use Rattle.tlv.proofs.Prefix.{tag-kept}
 use Rattle.tlv.proofs.NextObject.{next-empty, next-object}
@@ -33,13 +33,13 @@ some-bytes : (t : ℕ) → 1 ≤ length (tagBytes t)
 unfolding tagBytes
 some-bytes t = let P : List ℕ → Type 0 = λ s. 1 ≤ length s in if-ind P _ _ _ (λ _. omega arith) (λ _. if-ind P _ _ _ (λ _. omega arith) (λ _. omega arith))
 
-pub number-tag : (t : ℕ) → number (tagBytes t) ≡ t
-unfolding tagBytes numberFrom
+pub number-tag : (t : ℕ) → bigEndian (tagBytes t) ≡ t
+unfolding tagBytes bigEndianFrom
 number-tag t =
-    let P : List ℕ → Type 0 = λ s. number s ≡ t in
+    let P : List ℕ → Type 0 = λ s. bigEndian s ≡ t in
     if-ind P _ _ _ (λ _. omega arith) (λ _. if-ind P _ _ _ (λ _. omega arith) (λ _. omega arith))
 
-pub tag-encoded : (t : ℕ) (r : List ℕ) → wellFormedTag t ≡ true → tagAt (tagBytes t ++ r) ≡ tagged t (length (tagBytes t))
+pub tag-encoded : (t : ℕ) (r : List ℕ) → wellFormedTag t ≡ true → tagAt (tagBytes t ++ r) ≡ tagParsed t (length (tagBytes t))
 unfolding wellFormedTag
 tag-encoded t r w =
     let k = length (tagBytes t) in
@@ -49,20 +49,20 @@ tag-encoded t r w =
 
 -- ---- a length's bytes
 
-in-two : (n : ℕ) (r : List ℕ) → lengthAt (0x81 ∷ n ∷ r) ≡ sized n 2
-unfolding lengthAt oneByte if
+in-two : (n : ℕ) (r : List ℕ) → lengthAt (0x81 ∷ n ∷ r) ≡ lengthParsed n 2
+unfolding lengthAt lengthOneByte if
 in-two n r = refl
 
-in-three : (a b : ℕ) (r : List ℕ) → lengthAt (0x82 ∷ a ∷ b ∷ r) ≡ sized (a * 256 + b) 3
-unfolding lengthAt twoBytes if
+in-three : (a b : ℕ) (r : List ℕ) → lengthAt (0x82 ∷ a ∷ b ∷ r) ≡ lengthParsed (a * 256 + b) 3
+unfolding lengthAt lengthTwoBytes if
 in-three a b r = refl
 
-pub length-encoded : (n : ℕ) (r : List ℕ) → lengthAt (lengthBytes n ++ r) ≡ sized n (length (lengthBytes n))
+pub length-encoded : (n : ℕ) (r : List ℕ) → lengthAt (lengthBytes n ++ r) ≡ lengthParsed n (length (lengthBytes n))
 unfolding lengthBytes lengthAt
 length-encoded n r =
-    let P : List ℕ → Type 0 = λ s. lengthAt (s ++ r) ≡ sized n (length s) in
+    let P : List ℕ → Type 0 = λ s. lengthAt (s ++ r) ≡ lengthParsed n (length s) in
     if-ind P _ _ _ (λ e. if-yes _ _ e) (λ _. if-ind P _ _ _ (λ _. in-two n r)
-    (λ _. let e : n / 0x100 * 256 + n % 0x100 ≡ n = omega arith in in-three _ _ r ∙ ap (λ (m : ℕ). sized m 3) e))
+    (λ _. let e : n / 0x100 * 256 + n % 0x100 ≡ n = omega arith in in-three _ _ r ∙ ap (λ (m : ℕ). lengthParsed m 3) e))
 
 -- ---- an object's bytes
 
@@ -82,25 +82,25 @@ module _ (t : ℕ) (v r : List ℕ) where
   behind-header : drop start bytes ≡ v ++ r
   behind-header = rw (apart, drop-append-add) (drop-append-seam (lengthBytes (length v)) (v ++ r))
 
-  object-value : valueIn bytes (header t start (length v)) ≡ v
+  object-value : headerValue bytes (tlvHeader t start (length v)) ≡ v
   object-value = rw behind-header (take-append-seam v r)
 
-  object-behind : behind bytes (header t start (length v)) ≡ r
+  object-behind : behindObject bytes (tlvHeader t start (length v)) ≡ r
   object-behind = sym (drop-drop (length v) start bytes) ∙ rw behind-header (drop-append-seam v r)
 
-  pub header-encoded : wellFormedTag t ≡ true → headerOf bytes ≡ Object (header t start (length v))
+  pub header-encoded : wellFormedTag t ≡ true → headerOf bytes ≡ Object (tlvHeader t start (length v))
   header-encoded w =
       let k = length (tagBytes t) in
       header-with bytes _ _ refl (ap tagAt apart ∙ tag-encoded t (lengthBytes (length v) ++ (v ++ r)) w)
       _ refl _ (ap lengthAt (tail-is bytes k ∙ behind-tag) ∙ length-encoded (length v) (v ++ r))
       ∙ with-whole bytes _ _ (simp length-append (omega arith))
 
-  next-encoded : wellFormedTag t ≡ true → nextOf bytes ≡ Inner (header t start (length v))
+  next-encoded : wellFormedTag t ≡ true → nextOf bytes ≡ Inner (tlvHeader t start (length v))
   next-encoded w = next-object bytes _ (header-encoded w)
 
 -- ---- a tree's bytes, padded or not
 
-pub parse-padded : {f : Forest} {s : List ℕ} → Padded f s → (l : ℕ) → Encodable f l → parse l s ≡ some f
+pub parse-padded : {f : Forest} {s : List ℕ} → Padded f s → (l : ℕ) → Encodable f l → parseTree l s ≡ some f
 parse-padded nothing l u = parse-end l [] (next-empty [] refl)
 parse-padded (padding p) l u = zeros-in-front 1 l _ ∙ parse-padded p l u
 parse-padded (primitive t v {r} {s} p) l u =
@@ -112,17 +112,17 @@ parse-padded (template t {f} {r} {v} {s} m p q) (suc l) u =
     ∙ rw (sub-one, object-value t v s, object-behind t v s) (with-node t _ _ f r (parse-padded p l (u .3)) (parse-padded q (suc l) (u .4)))
 
 -- the shortest encoding has no padding
-pub encode-padded : (f : Forest) (l : ℕ) → Encodable f l → Padded f (encode f)
-unfolding encode
+pub encode-padded : (f : Forest) (l : ℕ) → Encodable f l → Padded f (encodeTree f)
+unfolding encodeTree
 encode-padded end l u = nothing
 encode-padded (leaf t v r) l u = primitive t v (encode-padded r l (u .3))
 encode-padded (node t f r) zero u = absurd (u .3)
 encode-padded (node t f r) (suc l) u = template t (u .2) (encode-padded f l (u .3)) (encode-padded r (suc l) (u .4))
 
-pub parse-encode : (f : Forest) (l : ℕ) → Encodable f l → parse l (encode f) ≡ some f
+pub parse-encode : (f : Forest) (l : ℕ) → Encodable f l → parseTree l (encodeTree f) ≡ some f
 parse-encode f l u = parse-padded (encode-padded f l u) l u
 
-pub passes-over : (s : List ℕ) → PassesOver s
+pub passes-over : (s : List ℕ) → PaddingSkipped s
 passes-over s = record {
   in-front = λ n l. zeros-in-front n l s;
   behind = λ n l f. zeros-behind n l s f;

@@ -5,15 +5,15 @@ use mathlib.Core.List.{List, [], _∷_, map}
 use mathlib.Core.Option.{Option, some, none}
 use Prim.Native.Nat.{ℕ}
 use Rattle.basics.specs.Choice.{if}
-use Rattle.basics.specs.Number.{numberFrom}
+use Rattle.basics.specs.Number.{bigEndianFrom}
 use Rattle.basics.specs.Recursion.{recurse, recurseBy}
-use Rattle.tlv.specs.declared.Front.{Front}
+use Rattle.tlv.specs.declared.ObjectFront.{ObjectFront}
 use Rattle.tlv.specs.declared.Following.{Following}
 use Rattle.tlv.specs.declared.Following.the-variants.{End, Inner, Malformed}
-use Rattle.tlv.specs.Tag.{tagSize, secondByte, thirdByte, tagAt, firstByte, isTemplate, isPrivate}
+use Rattle.tlv.specs.Tag.{tagSize, tagSecondByte, tagThirdByte, tagAt, tagFirstByte, isTemplate, isPrivate}
 use Rattle.tlv.specs.Length.{lengthAt}
-use Rattle.tlv.specs.Object.{header, headerOf}
-use Rattle.tlv.specs.Tree.{Forest, end, leaf, node, nextOf, withLeaf, withNode, parse}
+use Rattle.tlv.specs.Object.{tlvHeader, headerOf}
+use Rattle.tlv.specs.Tree.{Forest, end, leaf, node, nextOf, withLeaf, withNode, parseTree}
 
 -- no bytes; padding alone; an object, at once and behind two bytes of padding, which its value's start counts; FF, and FF behind 00
 next : map nextOf
@@ -24,12 +24,12 @@ next : map nextOf
     ∷ (0xFF ∷ 0x95 ∷ 0x00 ∷ [])
     ∷ (0x00 ∷ 0xFF ∷ 0x00 ∷ [])
     ∷ [])
-    ≡ End ∷ End ∷ Inner (header 0x9F08 3 1) ∷ Inner (header 0x9F08 5 1) ∷ Malformed ∷ Malformed ∷ []
-unfolding nextOf headerOf tagAt tagSize secondByte thirdByte lengthAt firstByte isTemplate isPrivate numberFrom if
+    ≡ End ∷ End ∷ Inner (tlvHeader 0x9F08 3 1) ∷ Inner (tlvHeader 0x9F08 5 1) ∷ Malformed ∷ Malformed ∷ []
+unfolding nextOf headerOf tagAt tagSize tagSecondByte tagThirdByte lengthAt tagFirstByte isTemplate isPrivate bigEndianFrom if
 next = refl
 
 -- the object at the front of bytes is none behind padding
-front : headerOf (0x00 ∷ 0x95 ∷ 0x00 ∷ []) ≡ Front.Broken
+front : headerOf (0x00 ∷ 0x95 ∷ 0x00 ∷ []) ≡ ObjectFront.Broken
 unfolding headerOf tagAt tagSize if
 front = refl
 
@@ -37,7 +37,7 @@ abbrev one : Forest
 one = leaf 0x95 (0x00 ∷ []) end
 
 -- padding in front, behind and between, and within a template; a value of 00 and a length of 00 are no padding
-trees : map (parse 1)
+trees : map (parseTree 1)
     ((0x00 ∷ 0x95 ∷ 0x01 ∷ 0x00 ∷ [])
     ∷ (0x95 ∷ 0x01 ∷ 0x00 ∷ 0x00 ∷ 0x00 ∷ [])
     ∷ (0x9C ∷ 0x00 ∷ 0x00 ∷ 0x95 ∷ 0x01 ∷ 0x00 ∷ [])
@@ -45,15 +45,15 @@ trees : map (parse 1)
     ∷ (0xE1 ∷ 0x06 ∷ 0x00 ∷ 0x95 ∷ 0x01 ∷ 0x00 ∷ 0x00 ∷ 0x00 ∷ 0x00 ∷ 0x95 ∷ 0x01 ∷ 0x00 ∷ [])
     ∷ [])
     ≡ some one ∷ some one ∷ some (leaf 0x9C [] one) ∷ some (node 0xE1 end end) ∷ some (node 0xE1 one one) ∷ []
-unfolding parse recurse recurseBy nextOf withLeaf withNode headerOf tagAt tagSize lengthAt firstByte isTemplate isPrivate numberFrom if
+unfolding parseTree recurse recurseBy nextOf withLeaf withNode headerOf tagAt tagSize lengthAt tagFirstByte isTemplate isPrivate bigEndianFrom if
 trees = refl
 
 -- inside a tag, between tag and length, and in place of the value's end: read as they stand
-inside : map (parse 1)
+inside : map (parseTree 1)
     ((0x9F ∷ 0x00 ∷ 0x08 ∷ 0x02 ∷ 0x00 ∷ 0x02 ∷ [])
     ∷ (0x95 ∷ 0x00 ∷ 0x01 ∷ 0x00 ∷ [])
     ∷ (0x95 ∷ 0x02 ∷ 0x00 ∷ [])
     ∷ [])
     ≡ none ∷ some (leaf 0x95 [] (leaf 0x01 [] end)) ∷ none ∷ []
-unfolding parse recurse recurseBy nextOf withLeaf withNode headerOf tagAt tagSize secondByte lengthAt firstByte isTemplate isPrivate numberFrom if
+unfolding parseTree recurse recurseBy nextOf withLeaf withNode headerOf tagAt tagSize tagSecondByte lengthAt tagFirstByte isTemplate isPrivate bigEndianFrom if
 inside = refl

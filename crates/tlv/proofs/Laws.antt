@@ -12,20 +12,20 @@ use lib.ListN.{length, getD, take, drop, length-drop}
 use lib.Seq.{take-all, getD-drop}
 use borrow.Author.Tests.{lt-ltb, le-ltb, le-leb, lt-leb, eq-eqb, ne-eqb, ltb-false, leb-true, eqb-false}
 use Rattle.basics.specs.Choice.{if}
-use Rattle.basics.specs.Number.{numberFrom, number, hasBit}
+use Rattle.basics.specs.Number.{bigEndianFrom, bigEndian, hasBit}
 use Rattle.basics.proofs.Laws.{if-yes, if-no, if-ind}
 use Rattle.tlv.specs.declared.Tag.{Tag}
 use Rattle.tlv.specs.declared.TagFront.{TagFront}
 use Rattle.tlv.specs.declared.TagFront.the-variants.{Tagged, Untagged}
-use Rattle.tlv.specs.declared.Extent.{Extent}
+use Rattle.tlv.specs.declared.TlvLength.{TlvLength}
 use Rattle.tlv.specs.declared.LengthFront.{LengthFront}
 use Rattle.tlv.specs.declared.LengthFront.the-variants.{Sized, Unsized}
-use Rattle.tlv.specs.declared.Header.{Header}
-use Rattle.tlv.specs.declared.Front.{Front}
-use Rattle.tlv.specs.declared.Front.the-variants.{Object, Broken}
-use Rattle.tlv.specs.Tag.{isFollowed, goesOn, thirdByte, secondByte, tagSize, tagged, tagAt, firstByte, isTemplate, isPrivate}
-use Rattle.tlv.specs.Length.{sized, oneByte, twoBytes, lengthAt}
-use Rattle.tlv.specs.Object.{header, withLength, withTag, headerOf}
+use Rattle.tlv.specs.declared.TlvHeader.{TlvHeader}
+use Rattle.tlv.specs.declared.ObjectFront.{ObjectFront}
+use Rattle.tlv.specs.declared.ObjectFront.the-variants.{Object, Broken}
+use Rattle.tlv.specs.Tag.{tagContinues, tagByteContinues, tagThirdByte, tagSecondByte, tagSize, tagParsed, tagAt, tagFirstByte, isTemplate, isPrivate}
+use Rattle.tlv.specs.Length.{lengthParsed, lengthOneByte, lengthTwoBytes, lengthAt}
+use Rattle.tlv.specs.Object.{tlvHeader, headerWithLength, headerWithTag, headerOf}
 
 -- ---- by places
 
@@ -34,14 +34,14 @@ past n k h = le-ltb (suc (suc (suc n))) k (omega arith)
 
 -- what is left to test once a second byte is due, and a third
 abbrev pub fromThird : List ℕ → ℕ
-fromThird s = if (ltb (length s) 3) 0 (if (goesOn (getD s 2 0)) 0 3)
+fromThird s = if (ltb (length s) 3) 0 (if (tagByteContinues (getD s 2 0)) 0 3)
 
 abbrev pub fromSecond : List ℕ → ℕ
-fromSecond s = if (ltb (length s) 2) 0 (if (eqb (getD s 1 0) 0x80) 0 (if (goesOn (getD s 1 0)) (fromThird s) 2))
+fromSecond s = if (ltb (length s) 2) 0 (if (eqb (getD s 1 0) 0x80) 0 (if (tagByteContinues (getD s 1 0)) (fromThird s) 2))
 
 pub tag-size-by : (s : List ℕ) → tagSize s ≡
-    if (ltb (length s) 1) 0 (if (eqb (getD s 0 0) 0) 0 (if (isFollowed (getD s 0 0)) (fromSecond s) 1))
-unfolding tagSize secondByte thirdByte if
+    if (ltb (length s) 1) 0 (if (eqb (getD s 0 0) 0) 0 (if (tagContinues (getD s 0 0)) (fromSecond s) 1))
+unfolding tagSize tagSecondByte tagThirdByte if
 tag-size-by [] = refl
 tag-size-by (a ∷ []) = refl
 tag-size-by (a ∷ b ∷ []) = refl
@@ -50,11 +50,11 @@ tag-size-by (a ∷ b ∷ c ∷ s) = simp (past (length s) 1 (omega arith), past 
 -- what is left to test of a length once its first byte is no length itself
 abbrev pub fromLong : List ℕ → LengthFront
 fromLong s =
-    if (eqb (getD s 0 0) 0x81) (if (ltb (length s) 2) Unsized (sized (getD s 1 0) 2))
-    (if (eqb (getD s 0 0) 0x82) (if (ltb (length s) 3) Unsized (sized (getD s 1 0 * 256 + getD s 2 0) 3)) Unsized)
+    if (eqb (getD s 0 0) 0x81) (if (ltb (length s) 2) Unsized (lengthParsed (getD s 1 0) 2))
+    (if (eqb (getD s 0 0) 0x82) (if (ltb (length s) 3) Unsized (lengthParsed (getD s 1 0 * 256 + getD s 2 0) 3)) Unsized)
 
-pub length-by : (s : List ℕ) → lengthAt s ≡ if (ltb (length s) 1) Unsized (if (ltb (getD s 0 0) 0x80) (sized (getD s 0 0) 1) (fromLong s))
-unfolding lengthAt oneByte twoBytes if
+pub length-by : (s : List ℕ) → lengthAt s ≡ if (ltb (length s) 1) Unsized (if (ltb (getD s 0 0) 0x80) (lengthParsed (getD s 0 0) 1) (fromLong s))
+unfolding lengthAt lengthOneByte lengthTwoBytes if
 length-by [] = refl
 length-by (a ∷ []) = refl
 length-by (a ∷ b ∷ []) = refl
@@ -63,19 +63,19 @@ length-by (a ∷ b ∷ c ∷ s) = simp (past (length s) 1 (omega arith), past (l
 -- ---- the tag as the code reads it
 
 -- the number of one byte, of two and of three
-pub number-one : (s : List ℕ) → number (take 1 s) ≡ getD s 0 0
-unfolding numberFrom
+pub number-one : (s : List ℕ) → bigEndian (take 1 s) ≡ getD s 0 0
+unfolding bigEndianFrom
 number-one [] = refl
 number-one (a ∷ s) = omega arith
 
-pub number-two : (s : List ℕ) → 2 ≤ length s → number (take 2 s) ≡ getD s 0 0 * 256 + getD s 1 0
-unfolding numberFrom
+pub number-two : (s : List ℕ) → 2 ≤ length s → bigEndian (take 2 s) ≡ getD s 0 0 * 256 + getD s 1 0
+unfolding bigEndianFrom
 number-two [] h = absurd (omega arith)
 number-two (a ∷ []) h = absurd (omega arith)
 number-two (a ∷ b ∷ s) h = omega arith
 
-pub number-three : (s : List ℕ) → 3 ≤ length s → number (take 3 s) ≡ (getD s 0 0 * 256 + getD s 1 0) * 256 + getD s 2 0
-unfolding numberFrom
+pub number-three : (s : List ℕ) → 3 ≤ length s → bigEndian (take 3 s) ≡ (getD s 0 0 * 256 + getD s 1 0) * 256 + getD s 2 0
+unfolding bigEndianFrom
 number-three [] h = absurd (omega arith)
 number-three (a ∷ []) h = absurd (omega arith)
 number-three (a ∷ b ∷ []) h = absurd (omega arith)
@@ -85,7 +85,7 @@ pub tag-none : (s : List ℕ) (k : ℕ) → k ≡ tagSize s → k ≡ 0 → tagA
 unfolding tagAt
 tag-none s k p q = if-yes _ _ (eq-eqb (tagSize s) 0 (sym p ∙ q))
 
-pub tag-some : (s : List ℕ) (k : ℕ) → k ≡ tagSize s → (k ≡ 0 → ⊥) → tagAt s ≡ tagged (number (take k s)) k
+pub tag-some : (s : List ℕ) (k : ℕ) → k ≡ tagSize s → (k ≡ 0 → ⊥) → tagAt s ≡ tagParsed (bigEndian (take k s)) k
 unfolding tagAt
 tag-some s k p q = rw (← p) (if-no _ _ (ne-eqb k 0 q))
 
@@ -114,7 +114,7 @@ pub record TagFits (s : List ℕ) (t : Tag) : Type 0 where
   pub few : t .size ≤ 3
   pub inside : t .size ≤ length s
   pub is : t .size ≡ tagSize s
-  pub reads : t .number ≡ number (take (t .size) s)
+  pub reads : t .number ≡ bigEndian (take (t .size) s)
 
 abbrev TagOk : List ℕ → TagFront → Type 0
 TagOk s Untagged = Unit {0}
@@ -130,7 +130,7 @@ pub tag-fits : (s : List ℕ) (t : Tag) → tagAt s ≡ Tagged t → TagFits s t
 tag-fits s t e = rw e at (tag-ok s)
 
 -- a whole length: one to three bytes of the list
-pub record LengthFits (s : List ℕ) (e : Extent) : Type 0 where
+pub record LengthFits (s : List ℕ) (e : TlvLength) : Type 0 where
   pub some : 1 ≤ e .size
   pub few : e .size ≤ 3
   pub inside : e .size ≤ length s
@@ -151,7 +151,7 @@ length-ok s =
     (λ _. if-ind P _ _ _ (λ _. tt) (λ b. record { some = omega arith; few = omega arith; inside = omega (arith, ltb-false) }))
     (λ _. tt)))))
 
-pub length-fits : (s : List ℕ) (e : Extent) → lengthAt s ≡ Sized e → LengthFits s e
+pub length-fits : (s : List ℕ) (e : TlvLength) → lengthAt s ≡ Sized e → LengthFits s e
 length-fits s e p = rw p at (length-ok s)
 
 -- every entry is a byte (past its end a list reads as 0)
@@ -163,7 +163,7 @@ Small Unsized = Unit {0}
 Small (Sized e) = e .len < 0x10000
 
 -- a length of bytes is below 65,536
-pub length-small : (s : List ℕ) (e : Extent) → Bytes s → lengthAt s ≡ Sized e → e .len < 0x10000
+pub length-small : (s : List ℕ) (e : TlvLength) → Bytes s → lengthAt s ≡ Sized e → e .len < 0x10000
 length-small s e b p = rw p at small
   where
     small : Small (lengthAt s)
@@ -176,40 +176,40 @@ length-small s e b p = rw p at small
         (λ _. if-ind Small _ _ _ (λ _. if-ind Small _ _ _ (λ _. tt) (λ _. omega (arith, b 1, b 2))) (λ _. tt)))))
 
 -- an object lies inside its list and takes two bytes at least; its class is its tag's
-pub record HeaderFits (s : List ℕ) (h : Header) : Type 0 where
+pub record HeaderFits (s : List ℕ) (h : TlvHeader) : Type 0 where
   pub two : 2 ≤ h .start
   pub inside : h .start + h .len ≤ length s
-  pub whole : h ≡ header (h .tag) (h .start) (h .len)
+  pub whole : h ≡ tlvHeader (h .tag) (h .start) (h .len)
 
-abbrev HeaderOk : List ℕ → Front → Type 0
+abbrev HeaderOk : List ℕ → ObjectFront → Type 0
 HeaderOk s Broken = Unit {0}
 HeaderOk s (Object h) = HeaderFits s h
 
-with-length-ok : (s : List ℕ) (t : Tag) (x : LengthFront) → TagFits s t → LengthOk (drop (t .size) s) x → HeaderOk s (withLength s t x)
+with-length-ok : (s : List ℕ) (t : Tag) (x : LengthFront) → TagFits s t → LengthOk (drop (t .size) s) x → HeaderOk s (headerWithLength s t x)
 with-length-ok s t Unsized f g = tt
 with-length-ok s t (Sized e) f g =
     if-ind (HeaderOk s) _ _ _ (λ l. record { two = omega arith; inside = omega (arith, leb-true); whole = refl }) (λ _. tt)
 
-with-tag-ok : (s : List ℕ) (x : TagFront) → TagOk s x → HeaderOk s (withTag s x)
+with-tag-ok : (s : List ℕ) (x : TagFront) → TagOk s x → HeaderOk s (headerWithTag s x)
 with-tag-ok s Untagged f = tt
 with-tag-ok s (Tagged t) f = with-length-ok s t (lengthAt (drop (t .size) s)) f (length-ok (drop (t .size) s))
 
-pub header-fits : (s : List ℕ) (h : Header) → headerOf s ≡ Object h → HeaderFits s h
+pub header-fits : (s : List ℕ) (h : TlvHeader) → headerOf s ≡ Object h → HeaderFits s h
 unfolding headerOf
 header-fits s h e = rw e at (with-tag-ok s (tagAt s) (tag-ok s))
 
 -- ---- the first byte of a number
 
-pub first-one : (t : ℕ) → t < 0x100 → firstByte t ≡ t
-unfolding firstByte
+pub first-one : (t : ℕ) → t < 0x100 → tagFirstByte t ≡ t
+unfolding tagFirstByte
 first-one t h = if-yes _ _ (lt-ltb t 0x100 h)
 
-pub first-two : (t : ℕ) → 0x100 ≤ t → t < 0x10000 → firstByte t ≡ t / 0x100
-unfolding firstByte
+pub first-two : (t : ℕ) → 0x100 ≤ t → t < 0x10000 → tagFirstByte t ≡ t / 0x100
+unfolding tagFirstByte
 first-two t h k = if-no _ _ (le-ltb t 0x100 h) ∙ if-yes _ _ (lt-ltb t 0x10000 k)
 
-pub first-three : (t : ℕ) → 0x10000 ≤ t → firstByte t ≡ t / 0x10000
-unfolding firstByte
+pub first-three : (t : ℕ) → 0x10000 ≤ t → tagFirstByte t ≡ t / 0x10000
+unfolding tagFirstByte
 first-three t h = if-no _ _ (le-ltb t 0x100 (omega arith)) ∙ if-no _ _ (le-ltb t 0x10000 h)
 
 -- a tag does not begin with 00
@@ -218,7 +218,7 @@ unfolding tagSize
 starts [] n e = n refl
 starts (b ∷ s) n e = n (if-yes _ _ (eq-eqb b 0 e))
 
-first-of : (s : List ℕ) (k : ℕ) → Bytes s → (getD s 0 0 ≡ 0 → ⊥) → k ≤ 3 → k ≤ length s → (k ≡ 0 → ⊥) → firstByte (number (take k s)) ≡ getD s 0 0
+first-of : (s : List ℕ) (k : ℕ) → Bytes s → (getD s 0 0 ≡ 0 → ⊥) → k ≤ 3 → k ≤ length s → (k ≡ 0 → ⊥) → tagFirstByte (bigEndian (take k s)) ≡ getD s 0 0
 first-of s zero b f h k n = absurd (n refl)
 first-of s (suc zero) b f h k n = rw (number-one s) (first-one _ (b 0))
 first-of s (suc (suc zero)) b f h k n =
@@ -228,7 +228,7 @@ first-of s (suc (suc (suc zero))) b f h k n =
 first-of s (suc (suc (suc (suc k)))) b f h k′ n = absurd (omega arith)
 
 -- where a whole tag stands at the front of bytes, the first byte of its number is the first of them
-pub first-byte-is : (s : List ℕ) (t : Tag) → Bytes s → tagAt s ≡ Tagged t → firstByte (t .number) ≡ getD s 0 0
+pub first-byte-is : (s : List ℕ) (t : Tag) → Bytes s → tagAt s ≡ Tagged t → tagFirstByte (t .number) ≡ getD s 0 0
 first-byte-is s t b e =
     let f = tag-fits s t e in
     rw (f .reads) (first-of s (t .size) b (starts s (λ z. omega arith)) (f .few) (f .inside) (omega arith))
@@ -262,19 +262,19 @@ pub header-untagged : (s : List ℕ) (x : TagFront) → x ≡ tagAt s → x ≡ 
 unfolding headerOf
 header-untagged s x p q = rw (← p, q)
 
-pub with-whole : (s : List ℕ) (t : Tag) (e : Extent) → t .size + e .size + e .len ≤ length s
-    → withLength s t (Sized e) ≡ Object (header (t .number) (t .size + e .size) (e .len))
+pub with-whole : (s : List ℕ) (t : Tag) (e : TlvLength) → t .size + e .size + e .len ≤ length s
+    → headerWithLength s t (Sized e) ≡ Object (tlvHeader (t .number) (t .size + e .size) (e .len))
 with-whole s t e h = if-yes _ _ (le-leb (t .size + e .size + e .len) (length s) h)
 
 -- both were read from bytes: what is left is a test, on small numbers, whether the value lies inside, and the class by the first byte
-pub record HeaderRead (s : List ℕ) (t : Tag) (e : Extent) : Type 0 where
-  pub is : headerOf s ≡ withLength s t (Sized e)
+pub record HeaderRead (s : List ℕ) (t : Tag) (e : TlvLength) : Type 0 where
+  pub is : headerOf s ≡ headerWithLength s t (Sized e)
   pub some : 1 ≤ length s
   pub small : t .size + e .size + e .len < 0x10006
   pub template : isTemplate (t .number) ≡ hasBit (getD s 0 0) 32
   pub private : isPrivate (t .number) ≡ eqb (getD s 0 0 / 64) 3
 
-module _ {s : List ℕ} {t : Tag} {e : Extent} (r : HeaderRead s t e) where
+module _ {s : List ℕ} {t : Tag} {e : TlvLength} (r : HeaderRead s t e) where
   pub header-whole : t .size + e .size + e .len ≤ length s → headerOf s ≡
       Object (record { tag = t .number; start = t .size + e .size; len = e .len; template = hasBit (getD s 0 0) 32; private = eqb (getD s 0 0 / 64) 3 })
   header-whole h = r .is ∙ with-whole s t e h ∙ rw (r .template, r .private)
@@ -283,11 +283,11 @@ module _ {s : List ℕ} {t : Tag} {e : Extent} (r : HeaderRead s t e) where
   header-short h = r .is ∙ if-no _ _ (lt-leb (t .size + e .size + e .len) (length s) h)
 
 module _ (s : List ℕ) (x : TagFront) (t : Tag) (p : x ≡ tagAt s) (q : x ≡ Tagged t) (y : LengthFront) (g : y ≡ lengthAt (tail s (t .size))) where
-  pub header-with : (z : LengthFront) → y ≡ z → headerOf s ≡ withLength s t z
+  pub header-with : (z : LengthFront) → y ≡ z → headerOf s ≡ headerWithLength s t z
   unfolding headerOf
   header-with z h = rw (← p, q, ← (tail-is s (t .size)), ← g, h)
 
-  pub header-read : Bytes s → (e : Extent) → y ≡ Sized e → HeaderRead s t e
+  pub header-read : Bytes s → (e : TlvLength) → y ≡ Sized e → HeaderRead s t e
   header-read b e h =
       let told = sym p ∙ q in
       let f = tag-fits s t told in

@@ -12,35 +12,35 @@ use lib.Seq.{drop-cons}
 use borrow.Author.Tests.{ne-eqb}
 use Rattle.basics.specs.Choice.{if}
 use Rattle.basics.proofs.Laws.{if-no}
-use Rattle.tlv.specs.declared.Header.{Header}
-use Rattle.tlv.specs.declared.Front.{Front}
-use Rattle.tlv.specs.declared.Front.the-variants.{Object, Broken}
+use Rattle.tlv.specs.declared.TlvHeader.{TlvHeader}
+use Rattle.tlv.specs.declared.ObjectFront.{ObjectFront}
+use Rattle.tlv.specs.declared.ObjectFront.the-variants.{Object, Broken}
 use Rattle.tlv.specs.declared.Following.{Following}
 use Rattle.tlv.specs.declared.Following.the-variants.{End, Inner, Malformed}
 use Rattle.tlv.specs.Tag.{tagSize, tagAt}
-use Rattle.tlv.specs.Object.{headerOf, moved}
-use Rattle.tlv.specs.Tree.{frontNext, movedNext, nextOf}
+use Rattle.tlv.specs.Object.{headerOf, headerShifted}
+use Rattle.tlv.specs.Tree.{frontNext, nextShifted, nextOf}
 use Rattle.tlv.proofs.Laws.{HeaderFits, header-fits}
 use Rattle.tlv.proofs.Prefix.{header-kept}
 
 -- ---- so many places further on
 
-abbrev placed : Header → ℕ → Following
+abbrev placed : TlvHeader → ℕ → Following
 placed h n = Inner (record { tag = h .tag; start = n; len = h .len; template = h .template; private = h .private })
 
-pub moved-zero : (x : Following) → movedNext 0 x ≡ x
+pub moved-zero : (x : Following) → nextShifted 0 x ≡ x
 moved-zero End = refl
 moved-zero Malformed = refl
 moved-zero (Inner h) = let e : 0 + h .start ≡ h .start = omega arith in ap (placed h) e
 
-moved-twice : (n m : ℕ) (x : Following) → movedNext n (movedNext m x) ≡ movedNext (n + m) x
+moved-twice : (n m : ℕ) (x : Following) → nextShifted n (nextShifted m x) ≡ nextShifted (n + m) x
 moved-twice n m End = refl
 moved-twice n m Malformed = refl
 moved-twice n m (Inner h) = let e : n + (m + h .start) ≡ n + m + h .start = omega arith in ap (placed h) e
 
 -- ---- by the first byte
 
-next-zero : (s : List ℕ) → nextOf (0 ∷ s) ≡ movedNext 1 (nextOf s)
+next-zero : (s : List ℕ) → nextOf (0 ∷ s) ≡ nextShifted 1 (nextOf s)
 unfolding nextOf if
 next-zero s = refl
 
@@ -56,11 +56,11 @@ next-empty (b ∷ s) e = absurd (omega arith)
 -- ---- as the code reads it: a place up to which all bytes are padding
 
 module _ (s : List ℕ) (i : ℕ) where
-  pub passed-all : length s ≤ i → movedNext i (nextOf (drop i s)) ≡ End
+  pub passed-all : length s ≤ i → nextShifted i (nextOf (drop i s)) ≡ End
   passed-all h = rw (drop-of-length-le s h, next-empty [] refl)
 
   module _ (h : i < length s) where
-    pub pass-zero : getD s i 0 ≡ 0 → movedNext i (nextOf (drop i s)) ≡ movedNext (i + 1) (nextOf (drop (i + 1) s))
+    pub pass-zero : getD s i 0 ≡ 0 → nextShifted i (nextOf (drop i s)) ≡ nextShifted (i + 1) (nextOf (drop (i + 1) s))
     pass-zero z = rw (add-one, drop-cons s i 0 h, z, next-zero (drop (suc i) s)) (rw add-one at (moved-twice i 1 (nextOf (drop (suc i) s))))
 
     pub stop-at : (getD s i 0 ≡ 0 → ⊥) → nextOf (drop i s) ≡ frontNext (headerOf (drop i s))
@@ -70,12 +70,12 @@ module _ (s : List ℕ) (i : ℕ) where
 
 -- ---- what the parse needs
 
-moved-ends : (x : Following) → movedNext 1 x ≡ End → x ≡ End
+moved-ends : (x : Following) → nextShifted 1 x ≡ End → x ≡ End
 moved-ends End e = refl
 moved-ends Malformed e = cc
 moved-ends (Inner h) e = cc
 
-front-ends : (x : Front) → frontNext x ≡ End → ⊥
+front-ends : (x : ObjectFront) → frontNext x ≡ End → ⊥
 front-ends Broken e = let z : _≡_ {A = ℕ} 0 1 = cc in omega arith
 front-ends (Object h) e = let z : _≡_ {A = ℕ} 0 1 = cc in omega arith
 
@@ -84,7 +84,7 @@ pub next-end : (s : List ℕ) → nextOf s ≡ End ↔ s ≡ replicate (length s
 next-end [] = (λ e. refl, λ e. next-empty [] refl)
 next-end (zero ∷ s) = (
   λ e. ap (λ (r : List ℕ). 0 ∷ r) (next-end s .0 (moved-ends (nextOf s) (sym (next-zero s) ∙ e))),
-  λ e. let r : s ≡ replicate (length s) 0 = cc in next-zero s ∙ ap (movedNext 1) (next-end s .1 r),
+  λ e. let r : s ≡ replicate (length s) 0 = cc in next-zero s ∙ ap (nextShifted 1) (next-end s .1 r),
 )
 next-end (suc b ∷ s) = (
   λ e. absurd (front-ends (headerOf (suc b ∷ s)) (sym (next-first (suc b) s (λ z. omega arith)) ∙ e)),
@@ -93,32 +93,32 @@ next-end (suc b ∷ s) = (
 
 pub next-zeros : (n : ℕ) → nextOf (replicate n 0) ≡ End
 next-zeros zero = next-empty [] refl
-next-zeros (suc n) = next-zero (replicate n 0) ∙ ap (movedNext 1) (next-zeros n)
+next-zeros (suc n) = next-zero (replicate n 0) ∙ ap (nextShifted 1) (next-zeros n)
 
 -- an object at the front is next, and no object begins with padding
 zero-broken : (s : List ℕ) → headerOf (0 ∷ s) ≡ Broken
 unfolding headerOf tagAt tagSize if
 zero-broken s = refl
 
-pub next-object : (s : List ℕ) (h : Header) → headerOf s ≡ Object h → nextOf s ≡ Inner h
+pub next-object : (s : List ℕ) (h : TlvHeader) → headerOf s ≡ Object h → nextOf s ≡ Inner h
 next-object [] h e = let f = header-fits [] h e in absurd (omega arith)
 next-object (zero ∷ s) h e = cc (zero-broken s)
 next-object (suc b ∷ s) h e = next-first (suc b) s (λ z. omega arith) ∙ ap frontNext e
 
-front-object : (x : Front) (h : Header) → frontNext x ≡ Inner h → x ≡ Object h
+front-object : (x : ObjectFront) (h : TlvHeader) → frontNext x ≡ Inner h → x ≡ Object h
 front-object Broken h e = cc
 front-object (Object k) h e = cc
 
 -- the next object lies inside its list and takes two bytes at least; its class is its tag's
-moved-fits : (s : List ℕ) (h : Header) (x : Following) → movedNext 1 x ≡ Inner h → ((k : Header) → x ≡ Inner k → HeaderFits s k) → HeaderFits (0 ∷ s) h
+moved-fits : (s : List ℕ) (h : TlvHeader) (x : Following) → nextShifted 1 x ≡ Inner h → ((k : TlvHeader) → x ≡ Inner k → HeaderFits s k) → HeaderFits (0 ∷ s) h
 moved-fits s h End e f = let z : _≡_ {A = ℕ} 0 1 = cc in absurd (omega arith)
 moved-fits s h Malformed e f = let z : _≡_ {A = ℕ} 0 1 = cc in absurd (omega arith)
 moved-fits s h (Inner k) e f =
     let g = f k refl in
-    let r : moved 1 k ≡ h = cc in
-    subst (HeaderFits (0 ∷ s)) r (record { two = omega arith; inside = omega arith; whole = ap (moved 1) (g .whole) })
+    let r : headerShifted 1 k ≡ h = cc in
+    subst (HeaderFits (0 ∷ s)) r (record { two = omega arith; inside = omega arith; whole = ap (headerShifted 1) (g .whole) })
 
-pub next-fits : (s : List ℕ) (h : Header) → nextOf s ≡ Inner h → HeaderFits s h
+pub next-fits : (s : List ℕ) (h : TlvHeader) → nextOf s ≡ Inner h → HeaderFits s h
 next-fits [] h e = let z : _≡_ {A = ℕ} 0 1 = cc (next-empty [] refl) in absurd (omega arith)
 next-fits (zero ∷ s) h e = moved-fits s h (nextOf s) (sym (next-zero s) ∙ e) (next-fits s)
 next-fits (suc b ∷ s) h e =
@@ -130,16 +130,16 @@ next-fits (suc b ∷ s) h e =
 abbrev pub Joined : List ℕ → List ℕ → Following → Type 0
 Joined s r Malformed = Unit {0}
 Joined s r (Inner h) = nextOf (s ++ r) ≡ Inner h
-Joined s r End = nextOf (s ++ r) ≡ movedNext (length s) (nextOf r)
+Joined s r End = nextOf (s ++ r) ≡ nextShifted (length s) (nextOf r)
 
-moved-join : (s r : List ℕ) (x : Following) → Joined s r x → Joined (0 ∷ s) r (movedNext 1 x)
+moved-join : (s r : List ℕ) (x : Following) → Joined s r x → Joined (0 ∷ s) r (nextShifted 1 x)
 moved-join s r Malformed j = tt
-moved-join s r (Inner h) j = next-zero (s ++ r) ∙ ap (movedNext 1) j
+moved-join s r (Inner h) j = next-zero (s ++ r) ∙ ap (nextShifted 1) j
 moved-join s r End j =
     let e : 1 + length s ≡ suc (length s) = omega arith in
-    next-zero (s ++ r) ∙ ap (movedNext 1) j ∙ moved-twice 1 (length s) (nextOf r) ∙ ap (λ (n : ℕ). movedNext n (nextOf r)) e
+    next-zero (s ++ r) ∙ ap (nextShifted 1) j ∙ moved-twice 1 (length s) (nextOf r) ∙ ap (λ (n : ℕ). nextShifted n (nextOf r)) e
 
-front-join : (s r : List ℕ) (x : Front) → headerOf s ≡ x → Joined s r (frontNext x)
+front-join : (s r : List ℕ) (x : ObjectFront) → headerOf s ≡ x → Joined s r (frontNext x)
 front-join s r Broken e = tt
 front-join s r (Object h) e = next-object (s ++ r) h (header-kept s r h e)
 

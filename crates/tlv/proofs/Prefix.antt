@@ -17,11 +17,11 @@ use Rattle.tlv.specs.declared.TagFront.{TagFront}
 use Rattle.tlv.specs.declared.TagFront.the-variants.{Tagged, Untagged}
 use Rattle.tlv.specs.declared.LengthFront.{LengthFront}
 use Rattle.tlv.specs.declared.LengthFront.the-variants.{Sized, Unsized}
-use Rattle.tlv.specs.declared.Header.{Header}
-use Rattle.tlv.specs.declared.Front.the-variants.{Object, Broken}
-use Rattle.tlv.specs.Tag.{isFollowed, goesOn, thirdByte, secondByte, tagSize, tagAt}
-use Rattle.tlv.specs.Length.{sized, oneByte, twoBytes, lengthAt}
-use Rattle.tlv.specs.Object.{withLength, headerOf}
+use Rattle.tlv.specs.declared.TlvHeader.{TlvHeader}
+use Rattle.tlv.specs.declared.ObjectFront.the-variants.{Object, Broken}
+use Rattle.tlv.specs.Tag.{tagContinues, tagByteContinues, tagThirdByte, tagSecondByte, tagSize, tagAt}
+use Rattle.tlv.specs.Length.{lengthParsed, lengthOneByte, lengthTwoBytes, lengthAt}
+use Rattle.tlv.specs.Object.{headerWithLength, headerOf}
 use Rattle.tlv.proofs.Laws.{tag-some, tag-fits, header-untagged}
 
 -- x with bytes behind it is x′, unless x is the refusal z
@@ -36,20 +36,20 @@ kept-if false h k = k
 kept-same : {A : Type 0} {z : A} (x : A) → Kept z x x
 kept-same x n = refl
 
-third-kept : (s t : List ℕ) → Kept 0 (thirdByte s) (thirdByte (s ++ t))
-unfolding thirdByte
+third-kept : (s t : List ℕ) → Kept 0 (tagThirdByte s) (tagThirdByte (s ++ t))
+unfolding tagThirdByte
 third-kept [] t n = absurd (n refl)
 third-kept (b ∷ s) t n = refl
 
-second-kept : (s t : List ℕ) → Kept 0 (secondByte s) (secondByte (s ++ t))
-unfolding secondByte
+second-kept : (s t : List ℕ) → Kept 0 (tagSecondByte s) (tagSecondByte (s ++ t))
+unfolding tagSecondByte
 second-kept [] t = λ n. absurd (n refl)
-second-kept (b ∷ s) t = kept-if (eqb b 0x80) (kept-same 0) (kept-if (goesOn b) (third-kept s t) (kept-same 2))
+second-kept (b ∷ s) t = kept-if (eqb b 0x80) (kept-same 0) (kept-if (tagByteContinues b) (third-kept s t) (kept-same 2))
 
 size-kept : (s t : List ℕ) → Kept 0 (tagSize s) (tagSize (s ++ t))
 unfolding tagSize
 size-kept [] t = λ n. absurd (n refl)
-size-kept (b ∷ s) t = kept-if (eqb b 0) (kept-same 0) (kept-if (isFollowed b) (second-kept s t) (kept-same 1))
+size-kept (b ∷ s) t = kept-if (eqb b 0) (kept-same 0) (kept-if (tagContinues b) (second-kept s t) (kept-same 1))
 
 pub tag-kept : (s r : List ℕ) (t : Tag) → tagAt s ≡ Tagged t → tagAt (s ++ r) ≡ Tagged t
 tag-kept s r t e =
@@ -57,13 +57,13 @@ tag-kept s r t e =
     let k : tagSize (s ++ r) ≡ tagSize s = size-kept s r (λ z. omega arith) in
     tag-some (s ++ r) (t .size) (f .is ∙ sym k) (omega arith) ∙ rw (take-append-le (t .size) s r (f .inside), ← (f .reads))
 
-one-kept : (s t : List ℕ) → Kept Unsized (oneByte s) (oneByte (s ++ t))
-unfolding oneByte
+one-kept : (s t : List ℕ) → Kept Unsized (lengthOneByte s) (lengthOneByte (s ++ t))
+unfolding lengthOneByte
 one-kept [] t n = absurd (n refl)
 one-kept (a ∷ s) t n = refl
 
-two-kept : (s t : List ℕ) → Kept Unsized (twoBytes s) (twoBytes (s ++ t))
-unfolding twoBytes
+two-kept : (s t : List ℕ) → Kept Unsized (lengthTwoBytes s) (lengthTwoBytes (s ++ t))
+unfolding lengthTwoBytes
 two-kept [] t n = absurd (n refl)
 two-kept (a ∷ []) t n = absurd (n refl)
 two-kept (a ∷ b ∷ s) t n = refl
@@ -72,7 +72,7 @@ length-kept : (s t : List ℕ) → Kept Unsized (lengthAt s) (lengthAt (s ++ t))
 unfolding lengthAt
 length-kept [] t = λ n. absurd (n refl)
 length-kept (a ∷ s) t =
-    kept-if (ltb a 0x80) (kept-same (sized a 1))
+    kept-if (ltb a 0x80) (kept-same (lengthParsed a 1))
     (kept-if (eqb a 0x81) (one-kept s t) (kept-if (eqb a 0x82) (two-kept s t) (kept-same Unsized)))
 
 -- a longer list passes the test that a shorter one passed
@@ -81,14 +81,14 @@ unfolding if
 kept-test x true b′ h n = if-yes _ _ (h refl)
 kept-test x false b′ h n = absurd (n refl)
 
-within-kept : (s r : List ℕ) (t : Tag) (x : LengthFront) → Kept Broken (withLength s t x) (withLength (s ++ r) t x)
+within-kept : (s r : List ℕ) (t : Tag) (x : LengthFront) → Kept Broken (headerWithLength s t x) (headerWithLength (s ++ r) t x)
 within-kept s r t Unsized = λ n. absurd (n refl)
 within-kept s r t (Sized e) =
     let a = t .size + e .size + e .len in
     kept-test _ (leb a (length s)) (leb a (length (s ++ r)))
     (λ p. let h = leb-true a (length s) p in le-leb a (length (s ++ r)) (simp length-append (omega arith)))
 
-pub header-kept : (s r : List ℕ) (h : Header) → headerOf s ≡ Object h → headerOf (s ++ r) ≡ Object h
+pub header-kept : (s r : List ℕ) (h : TlvHeader) → headerOf s ≡ Object h → headerOf (s ++ r) ≡ Object h
 unfolding headerOf
 header-kept s r h e = go (tagAt s) refl
   where
@@ -99,7 +99,7 @@ header-kept s r h e = go (tagAt s) refl
     go Untagged p = absurd (never (header-untagged s (tagAt s) refl p))
     go (Tagged t) p =
         let f = tag-fits s t p in
-        let here : headerOf s ≡ withLength s t (lengthAt (drop (t .size) s)) = rw p in
+        let here : headerOf s ≡ headerWithLength s t (lengthAt (drop (t .size) s)) = rw p in
         let n : lengthAt (drop (t .size) s) ≡ Unsized → ⊥ = λ u. never (here ∙ rw u) in
         rw (tag-kept s r t p, drop-append-le (t .size) s r (f .inside), length-kept (drop (t .size) s) r n)
         (within-kept s r t (lengthAt (drop (t .size) s)) (λ b. never (here ∙ b)) ∙ sym here ∙ e)

@@ -11,22 +11,22 @@ use native.Mathlib.Omega.{arith}
 use lib.ListN.{length}
 use Rattle.basics.proofs.Laws.{if-yes, if-no, bool-cases}
 use Rattle.basics.proofs.Recursion.{AsksShorter, recurse-unroll}
-use Rattle.tlv.specs.declared.Header.{Header}
-use Rattle.tlv.specs.declared.Front.{Front}
-use Rattle.tlv.specs.declared.Front.the-variants as front
-use Rattle.tlv.specs.Object.{headerOf, valueIn, behind}
-use Rattle.tlv.specs.Primitives.{Object, object, withObject, primitiveFront, primitiveOf, oneMore, nextObject, primitives, isRun}
+use Rattle.tlv.specs.declared.TlvHeader.{TlvHeader}
+use Rattle.tlv.specs.declared.ObjectFront.{ObjectFront}
+use Rattle.tlv.specs.declared.ObjectFront.the-variants as front
+use Rattle.tlv.specs.Object.{headerOf, headerValue, behindObject}
+use Rattle.tlv.specs.Primitives.{Object, tlvObject, objectBefore, primitiveFront, primitiveOf, objectThenRest, nextObject, primitiveObjects, isPrimitiveList}
 use Rattle.tlv.proofs.Laws.{HeaderFits, header-fits, contents, contents-is, tail, tail-is}
 use Rattle.tlv.proofs.Tree.{shorter-behind}
 
 -- ---- a primitive object at the front
 
-module _ (s : List ℕ) (x : Front) (p : x ≡ headerOf s) where
+module _ (s : List ℕ) (x : ObjectFront) (p : x ≡ headerOf s) where
   pub primitive-broken : x ≡ front.Broken → primitiveOf s ≡ front.Broken
   unfolding primitiveOf
   primitive-broken q = ap primitiveFront (sym p ∙ q)
 
-  module _ (h : Header) (q : x ≡ front.Object h) where
+  module _ (h : TlvHeader) (q : x ≡ front.Object h) where
     pub primitive-template : h .template ≡ true → primitiveOf s ≡ front.Broken
     unfolding primitiveOf
     primitive-template t = ap primitiveFront (sym p ∙ q) ∙ if-yes _ _ t
@@ -36,18 +36,18 @@ module _ (s : List ℕ) (x : Front) (p : x ≡ headerOf s) where
     primitive-object t = ap primitiveFront (sym p ∙ q) ∙ if-no _ _ t
 
 -- it is the object at the front
-pub primitive-is : (s : List ℕ) (h : Header) → primitiveOf s ≡ front.Object h → headerOf s ≡ front.Object h
+pub primitive-is : (s : List ℕ) (h : TlvHeader) → primitiveOf s ≡ front.Object h → headerOf s ≡ front.Object h
 unfolding primitiveOf
 primitive-is s h e = go (headerOf s) refl
   where
-    go : (x : Front) → headerOf s ≡ x → headerOf s ≡ front.Object h
+    go : (x : ObjectFront) → headerOf s ≡ x → headerOf s ≡ front.Object h
     go front.Broken p = cc (primitive-broken s front.Broken (sym p) refl)
     go (front.Object g) p = elim (bool-cases (g .template)) [
       | inl t ↦ cc (primitive-template s (front.Object g) (sym p) g refl t)
       | inr t ↦ cc (primitive-object s (front.Object g) (sym p) g refl t)
     ]
 
-pub primitive-fits : (s : List ℕ) (h : Header) → primitiveOf s ≡ front.Object h → HeaderFits s h
+pub primitive-fits : (s : List ℕ) (h : TlvHeader) → primitiveOf s ≡ front.Object h → HeaderFits s h
 primitive-fits s h e = header-fits s h (primitive-is s h e)
 
 -- ---- the recursion ends by itself
@@ -56,61 +56,61 @@ abbrev Reader : Type 0
 Reader = List ℕ → Option (List Object)
 
 more-same : (k k′ : Reader) (s : List ℕ) → ((v : List ℕ) → length v < length s → k v ≡ k′ v)
-    → (x : Front) → primitiveOf s ≡ x → oneMore k s x ≡ oneMore k′ s x
+    → (x : ObjectFront) → primitiveOf s ≡ x → objectThenRest k s x ≡ objectThenRest k′ s x
 more-same k k′ s same front.Broken e = refl
 more-same k k′ s same (front.Object h) e =
-    ap (withObject (object (h .tag) (valueIn s h))) (same (behind s h) (shorter-behind (primitive-fits s h e)))
+    ap (objectBefore (tlvObject (h .tag) (headerValue s h))) (same (behindObject s h) (shorter-behind (primitive-fits s h e)))
 
 next-same : AsksShorter nextObject
 next-same k k′ [] same = refl
 next-same k k′ (b ∷ s) same = more-same k k′ (b ∷ s) same (primitiveOf (b ∷ s)) refl
 
-pub unroll : (s : List ℕ) → primitives s ≡ nextObject primitives s
-unfolding primitives
+pub unroll : (s : List ℕ) → primitiveObjects s ≡ nextObject primitiveObjects s
+unfolding primitiveObjects
 unroll s = recurse-unroll none nextObject next-same s
 
 -- ---- one law for each way out of a step
 
-pub primitives-end : (s : List ℕ) → length s ≡ 0 → primitives s ≡ some []
+pub primitives-end : (s : List ℕ) → length s ≡ 0 → primitiveObjects s ≡ some []
 primitives-end [] z = unroll []
 primitives-end (b ∷ s) z = absurd (omega arith)
 
-at : (s : List ℕ) → (length s ≡ 0 → ⊥) → (x : Front) → primitiveOf s ≡ x → primitives s ≡ oneMore primitives s x
+at : (s : List ℕ) → (length s ≡ 0 → ⊥) → (x : ObjectFront) → primitiveOf s ≡ x → primitiveObjects s ≡ objectThenRest primitiveObjects s x
 at [] n x e = absurd (n refl)
-at (b ∷ s) n x e = unroll (b ∷ s) ∙ ap (oneMore primitives (b ∷ s)) e
+at (b ∷ s) n x e = unroll (b ∷ s) ∙ ap (objectThenRest primitiveObjects (b ∷ s)) e
 
-pub primitives-broken : (s : List ℕ) → (length s ≡ 0 → ⊥) → primitiveOf s ≡ front.Broken → primitives s ≡ none
+pub primitives-broken : (s : List ℕ) → (length s ≡ 0 → ⊥) → primitiveOf s ≡ front.Broken → primitiveObjects s ≡ none
 primitives-broken s n e = at s n front.Broken e
 
-pub primitives-object : (s : List ℕ) → (length s ≡ 0 → ⊥) → (h : Header) → primitiveOf s ≡ front.Object h
-    → primitives s ≡ withObject (object (h .tag) (valueIn s h)) (primitives (behind s h))
+pub primitives-object : (s : List ℕ) → (length s ≡ 0 → ⊥) → (h : TlvHeader) → primitiveOf s ≡ front.Object h
+    → primitiveObjects s ≡ objectBefore (tlvObject (h .tag) (headerValue s h)) (primitiveObjects (behindObject s h))
 primitives-object s n h e = at s n (front.Object h) e
 
 -- ---- by the parts that code makes of the bytes
 
 -- the first object, and the bytes behind it
-abbrev pub firstOf : List ℕ → Header → Object
-firstOf s h = object (h .tag) (contents s (h .start) (h .len))
+abbrev pub firstOf : List ℕ → TlvHeader → Object
+firstOf s h = tlvObject (h .tag) (contents s (h .start) (h .len))
 
-abbrev pub restOf : List ℕ → Header → List ℕ
+abbrev pub restOf : List ℕ → TlvHeader → List ℕ
 restOf s h = tail s (h .start + h .len)
 
-with-run : (o : Object) (x : Option (List Object)) → isRun (withObject o x) ≡ isRun x
-unfolding withObject
+with-run : (o : Object) (x : Option (List Object)) → isPrimitiveList (objectBefore o x) ≡ isPrimitiveList x
+unfolding objectBefore
 with-run o none = refl
 with-run o (some os) = refl
 
 module _ (s : List ℕ) where
-  pub is-run-end : length s ≡ 0 → isRun (primitives s) ≡ true
-  is-run-end z = ap isRun (primitives-end s z)
+  pub is-run-end : length s ≡ 0 → isPrimitiveList (primitiveObjects s) ≡ true
+  is-run-end z = ap isPrimitiveList (primitives-end s z)
 
   module _ (n : length s ≡ 0 → ⊥) where
-    pub is-run-broken : primitiveOf s ≡ front.Broken → isRun (primitives s) ≡ false
-    is-run-broken e = ap isRun (primitives-broken s n e)
+    pub is-run-broken : primitiveOf s ≡ front.Broken → isPrimitiveList (primitiveObjects s) ≡ false
+    is-run-broken e = ap isPrimitiveList (primitives-broken s n e)
 
-    module _ (h : Header) (e : primitiveOf s ≡ front.Object h) where
-      pub parts : primitives s ≡ withObject (firstOf s h) (primitives (restOf s h))
+    module _ (h : TlvHeader) (e : primitiveOf s ≡ front.Object h) where
+      pub parts : primitiveObjects s ≡ objectBefore (firstOf s h) (primitiveObjects (restOf s h))
       parts = primitives-object s n h e ∙ rw (contents-is s (h .start) (h .len), tail-is s (h .start + h .len))
 
-      pub is-run-on : isRun (primitives s) ≡ isRun (primitives (restOf s h))
-      is-run-on = ap isRun parts ∙ with-run (firstOf s h) (primitives (restOf s h))
+      pub is-run-on : isPrimitiveList (primitiveObjects s) ≡ isPrimitiveList (primitiveObjects (restOf s h))
+      is-run-on = ap isPrimitiveList parts ∙ with-run (firstOf s h) (primitiveObjects (restOf s h))

@@ -16,22 +16,22 @@ use Rattle.basics.specs.Choice.{if}
 use Rattle.basics.proofs.Laws.{if-yes, if-no, bool-cases}
 pub use Rattle.basics.proofs.Recursion.{shorter-first}
 use Rattle.basics.proofs.Recursion.{AsksShorter, recurse-unroll}
-use Rattle.tlv.specs.declared.Header.{Header}
+use Rattle.tlv.specs.declared.TlvHeader.{TlvHeader}
 use Rattle.tlv.specs.declared.Following.{Following}
 use Rattle.tlv.specs.declared.Following.the-variants.{End, Inner, Malformed}
-use Rattle.tlv.specs.Object.{moved, valueIn, behind}
-use Rattle.tlv.specs.Tree.{Forest, end, leaf, node, count, movedNext, nextOf, withLeaf, withNode, nested, oneObject, parseNext, parse}
-use Rattle.tlv.specs.Padding.{zeros}
+use Rattle.tlv.specs.Object.{headerShifted, headerValue, behindObject}
+use Rattle.tlv.specs.Tree.{Forest, end, leaf, node, objectCount, nextShifted, nextOf, withLeaf, withNode, nestedForest, objectForest, parseTreeNext, parseTree}
+use Rattle.tlv.specs.Padding.{paddingZeros}
 use Rattle.tlv.proofs.Laws.{HeaderFits}
 use Rattle.tlv.proofs.NextObject.{next-fits, next-zeros, next-join}
 
 -- ---- both parts of an object are shorter than its list
 
-module _ {s : List ℕ} {h : Header} (f : HeaderFits s h) where
-  pub shorter-value : length (valueIn s h) < length s
+module _ {s : List ℕ} {h : TlvHeader} (f : HeaderFits s h) where
+  pub shorter-value : length (headerValue s h) < length s
   shorter-value = simp (length-take, length-drop) (omega arith)
 
-  pub shorter-behind : length (behind s h) < length s
+  pub shorter-behind : length (behindObject s h) < length s
   shorter-behind = simp length-drop (omega arith)
 
 -- ---- the steps allowed do not matter
@@ -39,12 +39,12 @@ module _ {s : List ℕ} {h : Header} (f : HeaderFits s h) where
 abbrev Parser : Type 0
 Parser = ℕ → List ℕ → Option Forest
 
-nested-same : (k k′ : Parser) (l t : ℕ) (v r : List ℕ) → ((m : ℕ) → k m v ≡ k′ m v) → ((m : ℕ) → k m r ≡ k′ m r) → nested k l t v r ≡ nested k′ l t v r
+nested-same : (k k′ : Parser) (l t : ℕ) (v r : List ℕ) → ((m : ℕ) → k m v ≡ k′ m v) → ((m : ℕ) → k m r ≡ k′ m r) → nestedForest k l t v r ≡ nestedForest k′ l t v r
 nested-same k k′ zero t v r p q = refl
 nested-same k k′ (suc l) t v r p q = ap₂ (withNode t) (p l) (q (suc l))
 
 object-same : (k k′ : Parser) (l : ℕ) (s : List ℕ) → ((m : ℕ) (v : List ℕ) → length v < length s → k m v ≡ k′ m v)
-    → (x : Following) → nextOf s ≡ x → oneObject k l s x ≡ oneObject k′ l s x
+    → (x : Following) → nextOf s ≡ x → objectForest k l s x ≡ objectForest k′ l s x
 object-same k k′ l s same End e = refl
 object-same k k′ l s same Malformed e = refl
 object-same k k′ l s same (Inner h) e =
@@ -52,46 +52,46 @@ object-same k k′ l s same (Inner h) e =
     let v = shorter-value f in
     let b = shorter-behind f in
     ap₂ (if (h .template))
-    (nested-same k k′ l (h .tag) (valueIn s h) (behind s h) (λ m. same m (valueIn s h) v) (λ m. same m (behind s h) b))
-    (ap (withLeaf (h .tag) (valueIn s h)) (same l (behind s h) b))
+    (nested-same k k′ l (h .tag) (headerValue s h) (behindObject s h) (λ m. same m (headerValue s h) v) (λ m. same m (behindObject s h) b))
+    (ap (withLeaf (h .tag) (headerValue s h)) (same l (behindObject s h) b))
 
-next-same : AsksShorter parseNext
+next-same : AsksShorter parseTreeNext
 next-same k k′ s same = λ i l. object-same (λ m v. k v m) (λ m v. k′ v m) l s (λ m v h. ap (λ (p : ℕ → Option Forest). p m) (same v h)) (nextOf s) refl i
 
-pub unroll : (l : ℕ) (s : List ℕ) → parse l s ≡ oneObject parse l s (nextOf s)
-unfolding parse
-unroll l s = ap (λ (p : ℕ → Option Forest). p l) (recurse-unroll (λ l. none) parseNext next-same s)
+pub unroll : (l : ℕ) (s : List ℕ) → parseTree l s ≡ objectForest parseTree l s (nextOf s)
+unfolding parseTree
+unroll l s = ap (λ (p : ℕ → Option Forest). p l) (recurse-unroll (λ l. none) parseTreeNext next-same s)
 
 -- ---- one law for each way out of a step
 
-at : (l : ℕ) (s : List ℕ) (x : Following) → nextOf s ≡ x → parse l s ≡ oneObject parse l s x
-at l s x e = unroll l s ∙ ap (oneObject parse l s) e
+at : (l : ℕ) (s : List ℕ) (x : Following) → nextOf s ≡ x → parseTree l s ≡ objectForest parseTree l s x
+at l s x e = unroll l s ∙ ap (objectForest parseTree l s) e
 
-pub parse-end : (l : ℕ) (s : List ℕ) → nextOf s ≡ End → parse l s ≡ some end
+pub parse-end : (l : ℕ) (s : List ℕ) → nextOf s ≡ End → parseTree l s ≡ some end
 parse-end l s e = at l s End e
 
-pub parse-malformed : (l : ℕ) (s : List ℕ) → nextOf s ≡ Malformed → parse l s ≡ none
+pub parse-malformed : (l : ℕ) (s : List ℕ) → nextOf s ≡ Malformed → parseTree l s ≡ none
 parse-malformed l s e = at l s Malformed e
 
-nested-deep : (l t : ℕ) (v r : List ℕ) → l ≡ 0 → nested parse l t v r ≡ none
+nested-deep : (l t : ℕ) (v r : List ℕ) → l ≡ 0 → nestedForest parseTree l t v r ≡ none
 nested-deep zero t v r z = refl
 nested-deep (suc l) t v r z = absurd (omega arith)
 
-nested-at : (l t : ℕ) (v r : List ℕ) → (l ≡ 0 → ⊥) → nested parse l t v r ≡ withNode t (parse (l - 1) v) (parse l r)
+nested-at : (l t : ℕ) (v r : List ℕ) → (l ≡ 0 → ⊥) → nestedForest parseTree l t v r ≡ withNode t (parseTree (l - 1) v) (parseTree l r)
 nested-at zero t v r n = absurd (n refl)
 nested-at (suc l) t v r n = rw (sub-one (suc l))
 
-module _ (l : ℕ) (s : List ℕ) (h : Header) (e : nextOf s ≡ Inner h) where
+module _ (l : ℕ) (s : List ℕ) (h : TlvHeader) (e : nextOf s ≡ Inner h) where
   -- a template with no level left
-  pub parse-deep : h .template ≡ true → l ≡ 0 → parse l s ≡ none
+  pub parse-deep : h .template ≡ true → l ≡ 0 → parseTree l s ≡ none
   parse-deep t z = at l s (Inner h) e ∙ if-yes _ _ t ∙ nested-deep l _ _ _ z
 
   -- a template: its contents with a level less, and what is behind it
-  pub parse-node : h .template ≡ true → (l ≡ 0 → ⊥) → parse l s ≡ withNode (h .tag) (parse (l - 1) (valueIn s h)) (parse l (behind s h))
+  pub parse-node : h .template ≡ true → (l ≡ 0 → ⊥) → parseTree l s ≡ withNode (h .tag) (parseTree (l - 1) (headerValue s h)) (parseTree l (behindObject s h))
   parse-node t n = at l s (Inner h) e ∙ if-yes _ _ t ∙ nested-at l _ _ _ n
 
   -- a primitive object: its value, and what is behind it
-  pub parse-leaf : h .template ≡ false → parse l s ≡ withLeaf (h .tag) (valueIn s h) (parse l (behind s h))
+  pub parse-leaf : h .template ≡ false → parseTree l s ≡ withLeaf (h .tag) (headerValue s h) (parseTree l (behindObject s h))
   parse-leaf t = at l s (Inner h) e ∙ if-no _ _ t
 
 zero-cases : (n : ℕ) → (n ≡ 0) ⊎ (n ≡ 0 → ⊥)
@@ -113,38 +113,38 @@ with-node t x y f r p q = rw (p, q)
 module _
     (P : ℕ → List ℕ → Forest → Type 0)
     (at-end : (l : ℕ) (s : List ℕ) → nextOf s ≡ End → P l s end)
-    (at-leaf : (l : ℕ) (s : List ℕ) (h : Header) (r : Forest) → nextOf s ≡ Inner h → h .template ≡ false
-    → parse l (behind s h) ≡ some r → P l (behind s h) r → P l s (leaf (h .tag) (valueIn s h) r))
-    (at-node : (l : ℕ) (s : List ℕ) (h : Header) (f r : Forest) → nextOf s ≡ Inner h → h .template ≡ true → (l ≡ 0 → ⊥)
-    → parse (l - 1) (valueIn s h) ≡ some f → P (l - 1) (valueIn s h) f → parse l (behind s h) ≡ some r → P l (behind s h) r
+    (at-leaf : (l : ℕ) (s : List ℕ) (h : TlvHeader) (r : Forest) → nextOf s ≡ Inner h → h .template ≡ false
+    → parseTree l (behindObject s h) ≡ some r → P l (behindObject s h) r → P l s (leaf (h .tag) (headerValue s h) r))
+    (at-node : (l : ℕ) (s : List ℕ) (h : TlvHeader) (f r : Forest) → nextOf s ≡ Inner h → h .template ≡ true → (l ≡ 0 → ⊥)
+    → parseTree (l - 1) (headerValue s h) ≡ some f → P (l - 1) (headerValue s h) f → parseTree l (behindObject s h) ≡ some r → P l (behindObject s h) r
     → P l s (node (h .tag) f r))
   where
     Holds : List ℕ → Type 0
-    Holds s = (l : ℕ) (f : Forest) → parse l s ≡ some f → P l s f
+    Holds s = (l : ℕ) (f : Forest) → parseTree l s ≡ some f → P l s f
 
-    module _ (s : List ℕ) (before : (v : List ℕ) → length v < length s → Holds v) (l : ℕ) (g : Forest) (e : parse l s ≡ some g) where
+    module _ (s : List ℕ) (before : (v : List ℕ) → length v < length s → Holds v) (l : ℕ) (g : Forest) (e : parseTree l s ≡ some g) where
       -- what the parse gives is the tree in hand, and it gives one
-      this : (f : Forest) → parse l s ≡ some f → P l s f → P l s g
+      this : (f : Forest) → parseTree l s ≡ some f → P l s f → P l s g
       this f p h = let q : f ≡ g = cc in subst (P l s) q h
 
-      never : parse l s ≡ none → P l s g
+      never : parseTree l s ≡ none → P l s g
       never p = let z : _≡_ {A = ℕ} 0 1 = cc in absurd (omega arith)
 
-      of-leaf : (h : Header) → nextOf s ≡ Inner h → h .template ≡ false → (x : Option Forest) → parse l (behind s h) ≡ x → P l s g
+      of-leaf : (h : TlvHeader) → nextOf s ≡ Inner h → h .template ≡ false → (x : Option Forest) → parseTree l (behindObject s h) ≡ x → P l s g
       unfolding withLeaf Holds
       of-leaf h p t none q = never (parse-leaf l s h p t ∙ rw q)
       of-leaf h p t (some r) q =
-          this _ (parse-leaf l s h p t ∙ rw q) (at-leaf l s h r p t q (before (behind s h) (shorter-behind (next-fits s h p)) l r q))
+          this _ (parse-leaf l s h p t ∙ rw q) (at-leaf l s h r p t q (before (behindObject s h) (shorter-behind (next-fits s h p)) l r q))
 
-      of-node : (h : Header) → nextOf s ≡ Inner h → h .template ≡ true → (l ≡ 0 → ⊥) → (x y : Option Forest)
-          → parse (l - 1) (valueIn s h) ≡ x → parse l (behind s h) ≡ y → P l s g
+      of-node : (h : TlvHeader) → nextOf s ≡ Inner h → h .template ≡ true → (l ≡ 0 → ⊥) → (x y : Option Forest)
+          → parseTree (l - 1) (headerValue s h) ≡ x → parseTree l (behindObject s h) ≡ y → P l s g
       unfolding withNode Holds
       of-node h p t n none y q r = never (parse-node l s h p t n ∙ rw q)
       of-node h p t n (some f) none q r = never (parse-node l s h p t n ∙ rw (q, r))
       of-node h p t n (some f) (some b) q r =
           let i = next-fits s h p in
           this _ (parse-node l s h p t n ∙ rw (q, r))
-          (at-node l s h f b p t n q (before (valueIn s h) (shorter-value i) (l - 1) f q) r (before (behind s h) (shorter-behind i) l b r))
+          (at-node l s h f b p t n q (before (headerValue s h) (shorter-value i) (l - 1) f q) r (before (behindObject s h) (shorter-behind i) l b r))
 
       of-next : (x : Following) → nextOf s ≡ x → P l s g
       of-next End p = this end (parse-end l s p) (at-end l s p)
@@ -154,16 +154,16 @@ module _
         | inr t ↦ of-leaf h p t _ refl
       ]
 
-    pub parse-ind : (l : ℕ) (s : List ℕ) (f : Forest) → parse l s ≡ some f → P l s f
+    pub parse-ind : (l : ℕ) (s : List ℕ) (f : Forest) → parseTree l s ≡ some f → P l s f
     unfolding Holds
     parse-ind l s f e = shorter-first Holds (λ s before l f e. of-next s before l f e (nextOf s) refl) s l f e
 
 -- ---- an object takes two bytes at least, so there are at most half as many as bytes
 
-pub parse-count : (l : ℕ) (s : List ℕ) (f : Forest) → parse l s ≡ some f → 2 * count f ≤ length s
-unfolding count
+pub parse-count : (l : ℕ) (s : List ℕ) (f : Forest) → parseTree l s ≡ some f → 2 * objectCount f ≤ length s
+unfolding objectCount
 parse-count l s f =
-    parse-ind (λ l s f. 2 * count f ≤ length s)
+    parse-ind (λ l s f. 2 * objectCount f ≤ length s)
     (λ l s e. omega arith)
     (λ l s h r e t q k. let i = next-fits s h e in let b = simp length-drop at k in omega arith)
     (λ l s h f r e t n p j q k.
@@ -172,9 +172,9 @@ parse-count l s f =
 
 -- ---- more levels change nothing
 
-pub parse-deeper : (l m : ℕ) (s : List ℕ) (f : Forest) → parse l s ≡ some f → l ≤ m → parse m s ≡ some f
+pub parse-deeper : (l m : ℕ) (s : List ℕ) (f : Forest) → parseTree l s ≡ some f → l ≤ m → parseTree m s ≡ some f
 parse-deeper l m s f e =
-    parse-ind (λ l s f. (m : ℕ) → l ≤ m → parse m s ≡ some f)
+    parse-ind (λ l s f. (m : ℕ) → l ≤ m → parseTree m s ≡ some f)
     (λ l s e m le. parse-end m s e)
     (λ l s h r e t q k m le. parse-leaf m s h e t ∙ with-leaf _ _ _ r (k m le))
     (λ l s h f r e t n p j q k m le. parse-node m s h e t (omega arith) ∙ with-node _ _ _ f r (j (m - 1) (omega arith)) (k m le))
@@ -189,35 +189,35 @@ join (leaf t v r) g = leaf t v (join r g)
 join (node t f r) g = node t f (join r g)
 
 -- an object's parts, with bytes behind its list
-value-kept : (s r : List ℕ) (h : Header) → HeaderFits s h → valueIn (s ++ r) h ≡ valueIn s h
+value-kept : (s r : List ℕ) (h : TlvHeader) → HeaderFits s h → headerValue (s ++ r) h ≡ headerValue s h
 value-kept s r h f =
     let a : h .start ≤ length s = omega arith in
     let l : h .len ≤ length (drop (h .start) s) = simp length-drop (omega arith) in
     rw (drop-append-le (h .start) s r, take-append-le (h .len) (drop (h .start) s) r)
 
-behind-kept : (s r : List ℕ) (h : Header) → HeaderFits s h → behind (s ++ r) h ≡ behind s h ++ r
+behind-kept : (s r : List ℕ) (h : TlvHeader) → HeaderFits s h → behindObject (s ++ r) h ≡ behindObject s h ++ r
 behind-kept s r h f = drop-append-le (h .start + h .len) s r (f .inside)
 
 -- where a list has nothing more, what is parsed is the list behind it
 module _ (s r : List ℕ) where
-  value-moved : (h : Header) → valueIn (s ++ r) (moved (length s) h) ≡ valueIn r h
+  value-moved : (h : TlvHeader) → headerValue (s ++ r) (headerShifted (length s) h) ≡ headerValue r h
   value-moved h = rw (drop-append-add s r (h .start))
 
-  behind-moved : (h : Header) → behind (s ++ r) (moved (length s) h) ≡ behind r h
+  behind-moved : (h : TlvHeader) → behindObject (s ++ r) (headerShifted (length s) h) ≡ behindObject r h
   behind-moved h = let e : length s + h .start + h .len ≡ length s + (h .start + h .len) = omega arith in rw (e, drop-append-add s r (h .start + h .len))
 
-  object-moved : (l : ℕ) (x : Following) → oneObject parse l (s ++ r) (movedNext (length s) x) ≡ oneObject parse l r x
+  object-moved : (l : ℕ) (x : Following) → objectForest parseTree l (s ++ r) (nextShifted (length s) x) ≡ objectForest parseTree l r x
   object-moved l End = refl
   object-moved l Malformed = refl
   object-moved l (Inner h) = rw (value-moved h, behind-moved h)
 
-  parse-moved : (l : ℕ) → nextOf s ≡ End → parse l (s ++ r) ≡ parse l r
+  parse-moved : (l : ℕ) → nextOf s ≡ End → parseTree l (s ++ r) ≡ parseTree l r
   parse-moved l e = at l (s ++ r) _ (next-join s r End e) ∙ object-moved l (nextOf r) ∙ sym (unroll l r)
 
-pub parse-join : (l : ℕ) (s t : List ℕ) (f g : Forest) → parse l s ≡ some f → parse l t ≡ some g → parse l (s ++ t) ≡ some (join f g)
+pub parse-join : (l : ℕ) (s t : List ℕ) (f g : Forest) → parseTree l s ≡ some f → parseTree l t ≡ some g → parseTree l (s ++ t) ≡ some (join f g)
 unfolding join
 parse-join l s t f g =
-    parse-ind (λ l s f. parse l t ≡ some g → parse l (s ++ t) ≡ some (join f g))
+    parse-ind (λ l s f. parseTree l t ≡ some g → parseTree l (s ++ t) ≡ some (join f g))
     (λ l s e p. parse-moved s t l e ∙ p)
     (λ l s h r e q y k p.
     let i = next-fits s h e in
@@ -229,8 +229,8 @@ parse-join l s t f g =
 
 -- ---- padding, in front of any bytes and behind a whole run
 
-pub zeros-in-front : (n l : ℕ) (s : List ℕ) → parse l (zeros n ++ s) ≡ parse l s
-zeros-in-front n l s = parse-moved (zeros n) s l (next-zeros n)
+pub zeros-in-front : (n l : ℕ) (s : List ℕ) → parseTree l (paddingZeros n ++ s) ≡ parseTree l s
+zeros-in-front n l s = parse-moved (paddingZeros n) s l (next-zeros n)
 
 join-end : (f : Forest) → join f end ≡ f
 unfolding join
@@ -238,8 +238,8 @@ join-end end = refl
 join-end (leaf t v r) = ap (leaf t v) (join-end r)
 join-end (node t f r) = ap (node t f) (join-end r)
 
-pub zeros-between : (n l : ℕ) (s t : List ℕ) (f g : Forest) → parse l s ≡ some f → parse l t ≡ some g → parse l (s ++ (zeros n ++ t)) ≡ parse l (s ++ t)
-zeros-between n l s t f g e d = parse-join l s (zeros n ++ t) f g e (zeros-in-front n l t ∙ d) ∙ sym (parse-join l s t f g e d)
+pub zeros-between : (n l : ℕ) (s t : List ℕ) (f g : Forest) → parseTree l s ≡ some f → parseTree l t ≡ some g → parseTree l (s ++ (paddingZeros n ++ t)) ≡ parseTree l (s ++ t)
+zeros-between n l s t f g e d = parse-join l s (paddingZeros n ++ t) f g e (zeros-in-front n l t ∙ d) ∙ sym (parse-join l s t f g e d)
 
-pub zeros-behind : (n l : ℕ) (s : List ℕ) (f : Forest) → parse l s ≡ some f → parse l (s ++ zeros n) ≡ some f
-zeros-behind n l s f e = parse-join l s (zeros n) f end e (parse-end l (zeros n) (next-zeros n)) ∙ ap some (join-end f)
+pub zeros-behind : (n l : ℕ) (s : List ℕ) (f : Forest) → parseTree l s ≡ some f → parseTree l (s ++ paddingZeros n) ≡ some f
+zeros-behind n l s f e = parse-join l s (paddingZeros n) f end e (parse-end l (paddingZeros n) (next-zeros n)) ∙ ap some (join-end f)

@@ -32,15 +32,15 @@ abbrev pub objectBytes : ℕ → List ℕ → List ℕ
 objectBytes t v = tagBytes t ++ (lengthBytes (length v) ++ v)
 
 -- a tree's bytes, object by object
-unfoldable pub encode : Forest → List ℕ
-encode end = []
-encode (leaf t v r) = objectBytes t v ++ encode r
-encode (node t f r) = objectBytes t (encode f) ++ encode r
+unfoldable pub encodeTree : Forest → List ℕ
+encodeTree end = []
+encodeTree (leaf t v r) = objectBytes t v ++ encodeTree r
+encodeTree (node t f r) = objectBytes t (encodeTree f) ++ encodeTree r
 
 -- what a template holds has one level less; with none left there is no template
-abbrev pub Deep : (ℕ → Type 0) → ℕ → Type 0
-Deep p zero = ⊥
-Deep p (suc l) = p l
+abbrev pub NestedAtMost : (ℕ → Type 0) → ℕ → Type 0
+NestedAtMost p zero = ⊥
+NestedAtMost p (suc l) = p l
 
 -- a tree that can be encoded: well-formed tags, primitive at leaves and of templates at nodes, contents of at most
 -- 65,535 bytes, templates nested at most so many levels deep
@@ -49,7 +49,7 @@ Encodable end levels = Unit {0}
 Encodable (leaf t v r) levels =
     (wellFormedTag t ≡ true) × (isTemplate t ≡ false) × (length v < 0x10000) × Encodable r levels
 Encodable (node t f r) levels =
-    (wellFormedTag t ≡ true) × (isTemplate t ≡ true) × (length (encode f) < 0x10000) × Deep (Encodable f) levels
+    (wellFormedTag t ≡ true) × (isTemplate t ≡ true) × (length (encodeTree f) < 0x10000) × NestedAtMost (Encodable f) levels
     × Encodable r levels
 
 -- ---- what holds of it, proved in proofs/Encoding for all tags, lengths, values and trees, whatever stands behind

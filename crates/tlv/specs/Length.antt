@@ -7,25 +7,25 @@ use Rattle.tlv.specs.declared.LengthFront.{LengthFront}
 use Rattle.tlv.specs.declared.LengthFront.the-variants.{Sized, Unsized}
 
 -- a length n that takes k bytes
-abbrev pub sized : ℕ → ℕ → LengthFront
-sized n k = Sized (record { len = n; size = k })
+abbrev pub lengthParsed : ℕ → ℕ → LengthFront
+lengthParsed n k = Sized (record { len = n; size = k })
 
 -- behind 81: one byte
-unfoldable pub oneByte : List ℕ → LengthFront
-oneByte [] = Unsized
-oneByte (a ∷ s) = sized a 2
+unfoldable pub lengthOneByte : List ℕ → LengthFront
+lengthOneByte [] = Unsized
+lengthOneByte (a ∷ s) = lengthParsed a 2
 
 -- behind 82: two bytes, high first
-unfoldable pub twoBytes : List ℕ → LengthFront
-twoBytes [] = Unsized
-twoBytes (a ∷ []) = Unsized
-twoBytes (a ∷ b ∷ s) = sized (a * 256 + b) 3
+unfoldable pub lengthTwoBytes : List ℕ → LengthFront
+lengthTwoBytes [] = Unsized
+lengthTwoBytes (a ∷ []) = Unsized
+lengthTwoBytes (a ∷ b ∷ s) = lengthParsed (a * 256 + b) 3
 
 -- 00 to 7F is the length itself, 81 has one byte more, 82 two; 80 and 83 up are refused
 unfoldable pub lengthAt : List ℕ → LengthFront
 lengthAt [] = Unsized
 lengthAt (a ∷ s) =
-    if a <? 0x80 then sized a 1
-    else if a =? 0x81 then oneByte s
-    else if a =? 0x82 then twoBytes s
+    if a <? 0x80 then lengthParsed a 1
+    else if a =? 0x81 then lengthOneByte s
+    else if a =? 0x82 then lengthTwoBytes s
     else Unsized

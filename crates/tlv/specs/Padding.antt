@@ -6,12 +6,12 @@ use mathlib.Core.List.{List, [], _∷_, _++_}
 use mathlib.Core.Option.{some}
 use Prim.Native.Nat.{ℕ, _*_, _≤_, _<_}
 use lib.ListN.{length, replicate, getD, drop}
-use Rattle.tlv.specs.Tree.{Forest, end, leaf, node, count, movedNext, nextOf, parse}
+use Rattle.tlv.specs.Tree.{Forest, end, leaf, node, objectCount, nextShifted, nextOf, parseTree}
 use Rattle.tlv.specs.Encoding.{objectBytes, Encodable}
 
 -- so many bytes of padding
-abbrev pub zeros : ℕ → List ℕ
-zeros n = replicate n 0
+abbrev pub paddingZeros : ℕ → List ℕ
+paddingZeros n = replicate n 0
 
 -- bytes that encode a tree, padded: a 00 may stand in front of every object and behind the last of each template;
 -- a template's length counts the padding in it
@@ -23,18 +23,18 @@ pub data Padded : Forest → List ℕ → Type 0 where
     → Padded (node t f r) (objectBytes t v ++ s)
 
 -- how bytes s are read as a template's contents
-pub record PassesOver (s : List ℕ) : Type 0 where
+pub record PaddingSkipped (s : List ℕ) : Type 0 where
   -- padding in front changes nothing, whether s is whole or malformed
-  pub in-front : (n levels : ℕ) → parse levels (zeros n ++ s) ≡ parse levels s
+  pub in-front : (n levels : ℕ) → parseTree levels (paddingZeros n ++ s) ≡ parseTree levels s
   -- padding behind a whole run changes nothing
-  pub behind : (n levels : ℕ) (f : Forest) → parse levels s ≡ some f → parse levels (s ++ zeros n) ≡ some f
+  pub behind : (n levels : ℕ) (f : Forest) → parseTree levels s ≡ some f → parseTree levels (s ++ paddingZeros n) ≡ some f
   -- padding between two whole runs changes nothing
-  pub between : (t : List ℕ) (n levels : ℕ) (f g : Forest) → parse levels s ≡ some f → parse levels t ≡ some g
-    → parse levels (s ++ (zeros n ++ t)) ≡ parse levels (s ++ t)
+  pub between : (t : List ℕ) (n levels : ℕ) (f g : Forest) → parseTree levels s ≡ some f → parseTree levels t ≡ some g
+    → parseTree levels (s ++ (paddingZeros n ++ t)) ≡ parseTree levels (s ++ t)
   -- a padded encoding of a tree that can be encoded is read as that tree
-  pub encoded : (f : Forest) (levels : ℕ) → Encodable f levels → Padded f s → parse levels s ≡ some f
+  pub encoded : (f : Forest) (levels : ℕ) → Encodable f levels → Padded f s → parseTree levels s ≡ some f
   -- padding is no object: there are at most half as many as bytes
-  pub half : (levels : ℕ) (f : Forest) → parse levels s ≡ some f → 2 * count f ≤ length s
+  pub half : (levels : ℕ) (f : Forest) → parseTree levels s ≡ some f → 2 * objectCount f ≤ length s
 
 -- ---- what holds of it, promised by `next`, proved in proofs/Tree and proofs/Encoding for all lists
 --   passes-over    PassesOver s
@@ -42,7 +42,7 @@ pub record PassesOver (s : List ℕ) : Type 0 where
 -- ---- a private promise, on the way to `nextOf`
 
 -- what is next in s is what is next from `at` on, so many bytes further on, and no 00 stands there
-pub record Leads (s : List ℕ) (at : ℕ) : Type 0 where
+pub record LeadsTo (s : List ℕ) (at : ℕ) : Type 0 where
   pub inside : at ≤ length s
-  pub next : nextOf s ≡ movedNext at (nextOf (drop at s))
+  pub next : nextOf s ≡ nextShifted at (nextOf (drop at s))
   pub stops : at < length s → getD s at 0 ≡ 0 → ⊥

@@ -6,8 +6,8 @@ use mathlib.Core.Option.{Option, some, none}
 use Prim.Native.Nat.{ℕ}
 use Rattle.basics.specs.Choice.{if_then_else_}
 use Rattle.basics.specs.Recursion.{recurse}
-use Rattle.tlv.specs.declared.Front.{Front}
-use Rattle.tlv.specs.Object.{headerOf, valueIn, behind}
+use Rattle.tlv.specs.declared.ObjectFront.{ObjectFront}
+use Rattle.tlv.specs.Object.{headerOf, headerValue, behindObject}
 
 -- a primitive object: its tag and its value
 pub record Object : Type 0 where
@@ -15,44 +15,44 @@ pub record Object : Type 0 where
   pub value : List ℕ
 
 -- an object of these parts
-abbrev pub object : ℕ → List ℕ → Object
-object t v = record { tag = t; value = v }
+abbrev pub tlvObject : ℕ → List ℕ → Object
+tlvObject t v = record { tag = t; value = v }
 
 -- an object and those behind it; none where those are none
-unfoldable pub withObject : Object → Option (List Object) → Option (List Object)
-withObject o none = none
-withObject o (some os) = some (o ∷ os)
+unfoldable pub objectBefore : Object → Option (List Object) → Option (List Object)
+objectBefore o none = none
+objectBefore o (some os) = some (o ∷ os)
 
 -- a template, known or not, is no primitive object
-abbrev pub primitiveFront : Front → Front
-primitiveFront Front.Broken = Front.Broken
-primitiveFront (Front.Object h) =
-    if h .template then Front.Broken
-    else Front.Object h
+abbrev pub primitiveFront : ObjectFront → ObjectFront
+primitiveFront ObjectFront.Broken = ObjectFront.Broken
+primitiveFront (ObjectFront.Object h) =
+    if h .template then ObjectFront.Broken
+    else ObjectFront.Object h
 
 -- the primitive object at the front of the bytes
-unfoldable pub primitiveOf : List ℕ → Front
+unfoldable pub primitiveOf : List ℕ → ObjectFront
 primitiveOf s = primitiveFront (headerOf s)
 
 -- that object, and what k reads of the bytes behind it
-abbrev pub oneMore : (List ℕ → Option (List Object)) → List ℕ → Front → Option (List Object)
-oneMore k s Front.Broken = none
-oneMore k s (Front.Object h) = withObject (object (h .tag) (valueIn s h)) (k (behind s h))
+abbrev pub objectThenRest : (List ℕ → Option (List Object)) → List ℕ → ObjectFront → Option (List Object)
+objectThenRest k s ObjectFront.Broken = none
+objectThenRest k s (ObjectFront.Object h) = objectBefore (tlvObject (h .tag) (headerValue s h)) (k (behindObject s h))
 
 -- nothing more, or one object and what k reads of the bytes behind it
 abbrev pub nextObject : (List ℕ → Option (List Object)) → List ℕ → Option (List Object)
 nextObject k [] = some []
-nextObject k (b ∷ s) = oneMore k (b ∷ s) (primitiveOf (b ∷ s))
+nextObject k (b ∷ s) = objectThenRest k (b ∷ s) (primitiveOf (b ∷ s))
 
 -- the primitive objects of the bytes in order, or none where the bytes are not a run of them.
 -- The bytes behind an object are fewer than its list's, so the recursion ends by itself (`unroll`).
-unfoldable pub primitives : List ℕ → Option (List Object)
-primitives s = recurse none nextObject s
+unfoldable pub primitiveObjects : List ℕ → Option (List Object)
+primitiveObjects s = recurse none nextObject s
 
 -- the bytes are a run of whole primitive objects
-abbrev pub isRun : Option (List Object) → Bool
-isRun none = false
-isRun (some os) = true
+abbrev pub isPrimitiveList : Option (List Object) → Bool
+isPrimitiveList none = false
+isPrimitiveList (some os) = true
 
 -- ---- what holds of it, proved in proofs/Primitives for all lists
 --   unroll            primitives s ≡ nextObject primitives s

@@ -5,31 +5,31 @@ use mathlib.Core.List.{List, [], _∷_}
 use Prim.Native.Nat.{ℕ, _/_, _%_}
 use lib.ListN.{take}
 use Rattle.basics.specs.Choice.{if_then_else_, _≤?_, _<?_, _=?_}
-use Rattle.basics.specs.Number.{number, hasBit}
+use Rattle.basics.specs.Number.{bigEndian, hasBit}
 use Rattle.tlv.specs.declared.TagFront.{TagFront}
 use Rattle.tlv.specs.declared.TagFront.the-variants.{Tagged, Untagged}
 
 -- the low five bits of a first byte, all set, say that another byte follows
-abbrev pub isFollowed : ℕ → Bool
-isFollowed b = b % 32 =? 31
+abbrev pub tagContinues : ℕ → Bool
+tagContinues b = b % 32 =? 31
 
 -- a later byte with its top bit set is followed by another
-abbrev pub goesOn : ℕ → Bool
-goesOn b = 0x80 ≤? b
+abbrev pub tagByteContinues : ℕ → Bool
+tagByteContinues b = 0x80 ≤? b
 
 -- with a third byte the tag ends: 3 bytes, or 0 where that byte asks for a fourth or is missing
-unfoldable pub thirdByte : List ℕ → ℕ
-thirdByte [] = 0
-thirdByte (b ∷ s) =
-    if goesOn b then 0
+unfoldable pub tagThirdByte : List ℕ → ℕ
+tagThirdByte [] = 0
+tagThirdByte (b ∷ s) =
+    if tagByteContinues b then 0
     else 3
 
 -- with a second byte, which is not 80
-unfoldable pub secondByte : List ℕ → ℕ
-secondByte [] = 0
-secondByte (b ∷ s) =
+unfoldable pub tagSecondByte : List ℕ → ℕ
+tagSecondByte [] = 0
+tagSecondByte (b ∷ s) =
     if b =? 0x80 then 0
-    else if goesOn b then thirdByte s
+    else if tagByteContinues b then tagThirdByte s
     else 2
 
 -- how many bytes at the front are a tag, 0 where no whole tag stands there; the first byte is not 00
@@ -37,33 +37,33 @@ unfoldable pub tagSize : List ℕ → ℕ
 tagSize [] = 0
 tagSize (b ∷ s) =
     if b =? 0 then 0
-    else if isFollowed b then secondByte s
+    else if tagContinues b then tagSecondByte s
     else 1
 
 -- a tag of k bytes that are the number n
-abbrev pub tagged : ℕ → ℕ → TagFront
-tagged n k = Tagged (record { number = n; size = k })
+abbrev pub tagParsed : ℕ → ℕ → TagFront
+tagParsed n k = Tagged (record { number = n; size = k })
 
 -- the tag at the front: its bytes as one number, and their count
 unfoldable pub tagAt : List ℕ → TagFront
 tagAt s =
     if tagSize s =? 0 then Untagged
-    else tagged (number (take (tagSize s) s)) (tagSize s)
+    else tagParsed (bigEndian (take (tagSize s) s)) (tagSize s)
 
 -- the first byte of a tag that is given as a number
-unfoldable pub firstByte : ℕ → ℕ
-firstByte t =
+unfoldable pub tagFirstByte : ℕ → ℕ
+tagFirstByte t =
     if t <? 0x100 then t
     else if t <? 0x10000 then t / 0x100
     else t / 0x10000
 
 -- a template has bit b6 set in its first byte
 unfoldable pub isTemplate : ℕ → Bool
-isTemplate t = hasBit (firstByte t) 32
+isTemplate t = hasBit (tagFirstByte t) 32
 
 -- the two top bits of the first byte mark the private class
 unfoldable pub isPrivate : ℕ → Bool
-isPrivate t = firstByte t / 64 =? 3
+isPrivate t = tagFirstByte t / 64 =? 3
 
 -- ---- what holds of it, proved in proofs/Laws and proofs/Prefix for all lists
 --   tag-fits         a tag has 1 to 3 bytes, all inside the list

@@ -7,11 +7,11 @@ use mathlib.Core.Option.{Option, some, none}
 use Prim.Native.Nat.{ℕ, zero, suc, _+_}
 use Rattle.basics.specs.Choice.{if_then_else_, _=?_}
 use Rattle.basics.specs.Recursion.{recurse}
-use Rattle.tlv.specs.declared.Front.{Front}
-use Rattle.tlv.specs.declared.Front.the-variants.{Object, Broken}
+use Rattle.tlv.specs.declared.ObjectFront.{ObjectFront}
+use Rattle.tlv.specs.declared.ObjectFront.the-variants.{Object, Broken}
 use Rattle.tlv.specs.declared.Following.{Following}
 use Rattle.tlv.specs.declared.Following.the-variants.{End, Inner, Malformed}
-use Rattle.tlv.specs.Object.{headerOf, moved, valueIn, behind}
+use Rattle.tlv.specs.Object.{headerOf, headerShifted, headerValue, behindObject}
 
 -- objects one behind the other: a leaf is a primitive object with tag and value, a node a template with what it holds
 pub data Forest : Type 0 where
@@ -20,29 +20,29 @@ pub data Forest : Type 0 where
   node : ℕ → Forest → Forest → Forest
 
 -- how many objects, templates included
-unfoldable pub count : Forest → ℕ
-count end = 0
-count (leaf t v r) = 1 + count r
-count (node t f r) = 1 + count f + count r
+unfoldable pub objectCount : Forest → ℕ
+objectCount end = 0
+objectCount (leaf t v r) = 1 + objectCount r
+objectCount (node t f r) = 1 + objectCount f + objectCount r
 
 -- ---- parsing
 
 -- an object at the front is next
-abbrev pub frontNext : Front → Following
+abbrev pub frontNext : ObjectFront → Following
 frontNext Broken = Malformed
 frontNext (Object h) = Inner h
 
 -- what is next, with so many bytes more in front
-abbrev pub movedNext : ℕ → Following → Following
-movedNext n End = End
-movedNext n Malformed = Malformed
-movedNext n (Inner h) = Inner (moved n h)
+abbrev pub nextShifted : ℕ → Following → Following
+nextShifted n End = End
+nextShifted n Malformed = Malformed
+nextShifted n (Inner h) = Inner (headerShifted n h)
 
 -- what stands next within a template's contents: a 00 where a tag would start is passed over, and its place counts
 unfoldable pub nextOf : List ℕ → Following
 nextOf [] = End
 nextOf (b ∷ s) =
-    if b =? 0 then movedNext 1 (nextOf s)
+    if b =? 0 then nextShifted 1 (nextOf s)
     else frontNext (headerOf (b ∷ s))
 
 -- a run behind a leaf, or behind a node; malformed where any part is
@@ -57,27 +57,27 @@ withNode t (some f) none = none
 withNode t (some f) (some r) = some (node t f r)
 
 -- a template takes one of the levels still allowed; with none left it is malformed
-abbrev pub nested : (ℕ → List ℕ → Option Forest) → ℕ → ℕ → List ℕ → List ℕ → Option Forest
-nested k zero t v r = none
-nested k (suc l) t v r = withNode t (k l v) (k (suc l) r)
+abbrev pub nestedForest : (ℕ → List ℕ → Option Forest) → ℕ → ℕ → List ℕ → List ℕ → Option Forest
+nestedForest k zero t v r = none
+nestedForest k (suc l) t v r = withNode t (k l v) (k (suc l) r)
 
 -- one object, and what k parses of its contents and of the bytes behind it
-abbrev pub oneObject : (ℕ → List ℕ → Option Forest) → ℕ → List ℕ → Following → Option Forest
-oneObject k levels s End = some end
-oneObject k levels s Malformed = none
-oneObject k levels s (Inner h) =
-    if h .template then nested k levels (h .tag) (valueIn s h) (behind s h)
-    else withLeaf (h .tag) (valueIn s h) (k levels (behind s h))
+abbrev pub objectForest : (ℕ → List ℕ → Option Forest) → ℕ → List ℕ → Following → Option Forest
+objectForest k levels s End = some end
+objectForest k levels s Malformed = none
+objectForest k levels s (Inner h) =
+    if h .template then nestedForest k levels (h .tag) (headerValue s h) (behindObject s h)
+    else withLeaf (h .tag) (headerValue s h) (k levels (behindObject s h))
 
 -- one step of the parse: the object that is next, and what k parses of the bytes in it and behind it, by the levels
 -- still allowed
-abbrev pub parseNext : (List ℕ → ℕ → Option Forest) → List ℕ → ℕ → Option Forest
-parseNext k s levels = oneObject (λ l v. k v l) levels s (nextOf s)
+abbrev pub parseTreeNext : (List ℕ → ℕ → Option Forest) → List ℕ → ℕ → Option Forest
+parseTreeNext k s levels = objectForest (λ l v. k v l) levels s (nextOf s)
 
 -- the objects of s, with templates nested at most `levels` deep, or none where s is malformed.
 -- An object's contents and the bytes behind it are shorter than its list, so the recursion ends by itself (`unroll`).
-unfoldable pub parse : ℕ → List ℕ → Option Forest
-parse levels s = recurse (λ l. none) parseNext s levels
+unfoldable pub parseTree : ℕ → List ℕ → Option Forest
+parseTree levels s = recurse (λ l. none) parseTreeNext s levels
 
 -- ---- what holds of it, proved in proofs/ (NextObject, Tree, Encoding) for all lists, levels and trees
 --   next-fits       an object that is next starts its value at 2 or later and ends inside the list; its class is

@@ -1,18 +1,18 @@
 // One data object at the front of some bytes: its tag, where its value starts and how long it is.
 //
-// `tag_at` reads a tag alone, as a data object list needs it; `head` reads a whole object's header;
-// `next` is what stands next within a template's contents, and `behind_padding` the same. `primitive` and `is_run`
+// `tag_at` reads a tag alone, as a data object list needs it; `object_header` reads a whole object's header;
+// `next` is what stands next within a template's contents, and `behind_padding` the same. `primitive` and `is_primitive_list`
 // are for bytes that hold primitive objects alone. The tree of an encoding, its count and its laws are in specs/.
 ghost use mathlib.Core.Path.{_≡_};
 ghost use Prim.Native.Nat.{_+_, _≤_, _<_};
 ghost use lib.ListN.{length, take, drop};
-ghost use Rattle.basics.specs.Number.{number};
-ghost use Rattle.tlv.specs.Tag.{tagSize, tagAt, firstByte, isTemplate, isPrivate};
+ghost use Rattle.basics.specs.Number.{bigEndian};
+ghost use Rattle.tlv.specs.Tag.{tagSize, tagAt, tagFirstByte, isTemplate, isPrivate};
 ghost use Rattle.tlv.specs.Length.{lengthAt};
 ghost use Rattle.tlv.specs.Object.{headerOf};
-ghost use Rattle.tlv.specs.Tree.{frontNext, movedNext, nextOf};
-ghost use Rattle.tlv.specs.Padding.{PassesOver, Leads};
-ghost use Rattle.tlv.specs.Primitives.{primitiveOf, primitives, isRun};
+ghost use Rattle.tlv.specs.Tree.{frontNext, nextShifted, nextOf};
+ghost use Rattle.tlv.specs.Padding.{PaddingSkipped, LeadsTo};
+ghost use Rattle.tlv.specs.Primitives.{primitiveOf, primitiveObjects, isPrimitiveList};
 
 // A tag: its bytes read as one number, and how many they are.
 pub struct Tag {
@@ -27,20 +27,20 @@ pub enum TagFront {
 }
 
 // A length: its value, and how many bytes carry it.
-pub struct Extent {
+pub struct TlvLength {
     pub len: usize,
     pub size: usize,
 }
 
 // What stands where a length should: a whole one, or none.
 pub enum LengthFront {
-    Sized(Extent),
+    Sized(TlvLength),
     Unsized,
 }
 
 // An object's header: the tag, where the value starts, how many bytes it has, and whether the tag is a template's
 // and of the private class.
-pub struct Header {
+pub struct TlvHeader {
     pub tag: u32,
     pub start: usize,
     pub len: usize,
@@ -49,15 +49,15 @@ pub struct Header {
 }
 
 // What stands at the front of some bytes: an object that lies whole inside them, or none.
-pub enum Front {
-    Object(Header),
+pub enum ObjectFront {
+    Object(TlvHeader),
     Broken,
 }
 
 // What stands next within a template's contents: nothing more, an object, or no object.
 pub enum Following {
     End,
-    Inner(Header),
+    Inner(TlvHeader),
     Malformed,
 }
 
@@ -96,17 +96,17 @@ fn tag_size(s: &[u8]) -> usize
 // The bytes of a tag as one number.
 fn tag_number(s: &[u8], size: usize) -> u32
     requires { ⌜ (0 < size) × (size ≤ 3) × (size ≤ length (now s)) ⌝ }
-    ensures { λ r. ⌜ r ≡ number (take size (now (s .entry))) ⌝ }
+    ensures { λ r. ⌜ r ≡ bigEndian (take size (now (s .entry))) ⌝ }
 {
-    let one = basics::wide32(s[0]);
+    let one = basics::widen32(s[0]);
     if size == 1 {
         return one;
     }
-    let two = one * 256 + basics::wide32(s[1]);
+    let two = one * 256 + basics::widen32(s[1]);
     if size == 2 {
         return two;
     }
-    two * 256 + basics::wide32(s[2])
+    two * 256 + basics::widen32(s[2])
 }
 
 // The tag at the front.
@@ -130,8 +130,8 @@ fn length_at(s: &[u8]) -> LengthFront
     }
     let b = s[0];
     if b < 0x80 {
-        return LengthFront::Sized(Extent {
-            len: basics::wide(b),
+        return LengthFront::Sized(TlvLength {
+            len: basics::widen(b),
             size: 1,
         });
     }
@@ -139,8 +139,8 @@ fn length_at(s: &[u8]) -> LengthFront
         if s.len() < 2 {
             return LengthFront::Unsized;
         }
-        return LengthFront::Sized(Extent {
-            len: basics::wide(s[1]),
+        return LengthFront::Sized(TlvLength {
+            len: basics::widen(s[1]),
             size: 2,
         });
     }
@@ -148,15 +148,15 @@ fn length_at(s: &[u8]) -> LengthFront
         if s.len() < 3 {
             return LengthFront::Unsized;
         }
-        let len = basics::wide(s[1]) * 256 + basics::wide(s[2]);
-        return LengthFront::Sized(Extent { len, size: 3 });
+        let len = basics::widen(s[1]) * 256 + basics::widen(s[2]);
+        return LengthFront::Sized(TlvLength { len, size: 3 });
     }
     LengthFront::Unsized
 }
 
 // The first byte of a tag that is given as a number.
 fn first_byte(tag: u32) -> u32
-    ensures { λ r. ⌜ r ≡ firstByte tag ⌝ }
+    ensures { λ r. ⌜ r ≡ tagFirstByte tag ⌝ }
 {
     if tag < 0x100 {
         return tag;
@@ -182,23 +182,23 @@ pub fn is_private(tag: u32) -> bool
 }
 
 // The object at the front.
-pub fn head(s: &[u8]) -> Front
+pub fn object_header(s: &[u8]) -> ObjectFront
     ensures { λ r. ⌜ r ≡ headerOf (now (s .entry)) ⌝ }
 {
     let front = tag_at(s);
     let TagFront::Tagged(t) = front else {
-        return Front::Broken;
+        return ObjectFront::Broken;
     };
     let at = t.size;
     let sized = length_at(&s[at..]);
     let LengthFront::Sized(e) = sized else {
-        return Front::Broken;
+        return ObjectFront::Broken;
     };
     let start = at + e.size;
     let len = e.len;
     if start + len <= s.len() {
         let first = s[0];
-        return Front::Object(Header {
+        return ObjectFront::Object(TlvHeader {
             tag: t.number,
             start,
             len,
@@ -206,13 +206,13 @@ pub fn head(s: &[u8]) -> Front
             private: first / 64 == 3,
         });
     }
-    Front::Broken
+    ObjectFront::Broken
 }
 
 // What stands next within a template's contents, behind any bytes of 00; the value's start counts them.
 pub fn next(s: &[u8]) -> Following
     ensures next { λ r. ⌜ r ≡ nextOf (now (s .entry)) ⌝ }
-    ensures padding { λ _. ⌜ PassesOver (now (s .entry)) ⌝ }
+    ensures padding { λ _. ⌜ PaddingSkipped (now (s .entry)) ⌝ }
 {
     let at = padding_in_front(s);
     object_behind(s, at)
@@ -229,7 +229,7 @@ pub fn behind_padding(s: &[u8]) -> Following
 
 // How many bytes of 00 stand in front; most often none.
 fn padding_in_front(s: &[u8]) -> usize
-    ensures { λ r. ⌜ Leads (now (s .entry)) r ⌝ }
+    ensures { λ r. ⌜ LeadsTo (now (s .entry)) r ⌝ }
 {
     if s.len() == 0 {
         return 0;
@@ -242,7 +242,7 @@ fn padding_in_front(s: &[u8]) -> usize
 
 // The same, byte after byte.
 fn padding(s: &[u8]) -> usize
-    ensures { λ r. ⌜ Leads (now (s .entry)) r ⌝ }
+    ensures { λ r. ⌜ LeadsTo (now (s .entry)) r ⌝ }
 {
     let mut at = 0;
     while at < s.len() {
@@ -256,7 +256,7 @@ fn padding(s: &[u8]) -> usize
 
 // What stands behind the padding, whose bytes are counted.
 fn object_behind(s: &[u8], at: usize) -> Following
-    requires { ⌜ Leads (now s) at ⌝ }
+    requires { ⌜ LeadsTo (now s) at ⌝ }
     ensures { λ r. ⌜ r ≡ nextOf (now (s .entry)) ⌝ }
 {
     if at == s.len() {
@@ -268,14 +268,14 @@ fn object_behind(s: &[u8], at: usize) -> Following
 // The object at a place, its value's start counted from the front.
 fn object_at(s: &[u8], at: usize) -> Following
     requires { ⌜ at ≤ length (now s) ⌝ }
-    ensures { λ r. ⌜ r ≡ movedNext at (frontNext (headerOf (drop at (now (s .entry))))) ⌝ }
+    ensures { λ r. ⌜ r ≡ nextShifted at (frontNext (headerOf (drop at (now (s .entry))))) ⌝ }
 {
-    let front = head(&s[at..]);
-    let Front::Object(h) = front else {
+    let front = object_header(&s[at..]);
+    let ObjectFront::Object(h) = front else {
         return Following::Malformed;
     };
     let start = at + h.start;
-    Following::Inner(Header {
+    Following::Inner(TlvHeader {
         tag: h.tag,
         start,
         len: h.len,
@@ -285,27 +285,27 @@ fn object_at(s: &[u8], at: usize) -> Following
 }
 
 // The primitive object at the front; a template is none.
-pub fn primitive(s: &[u8]) -> Front
+pub fn primitive(s: &[u8]) -> ObjectFront
     ensures { λ r. ⌜ r ≡ primitiveOf (now (s .entry)) ⌝ }
 {
-    let front = head(s);
-    let Front::Object(h) = front else {
-        return Front::Broken;
+    let front = object_header(s);
+    let ObjectFront::Object(h) = front else {
+        return ObjectFront::Broken;
     };
     if h.template {
-        return Front::Broken;
+        return ObjectFront::Broken;
     }
-    Front::Object(h)
+    ObjectFront::Object(h)
 }
 
 // Whether the bytes are a run of whole primitive objects.
-pub fn is_run(bytes: &[u8]) -> bool
-    ensures { λ r. ⌜ r ≡ isRun (primitives (now (bytes .entry))) ⌝ }
+pub fn is_primitive_list(bytes: &[u8]) -> bool
+    ensures { λ r. ⌜ r ≡ isPrimitiveList (primitiveObjects (now (bytes .entry))) ⌝ }
 {
     let mut s = bytes;
     while s.len() != 0 {
         let front = primitive(s);
-        let Front::Object(h) = front else {
+        let ObjectFront::Object(h) = front else {
             return false;
         };
         let start = h.start;

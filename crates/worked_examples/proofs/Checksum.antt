@@ -2,36 +2,36 @@
 use mathlib.Core.Path.{refl}
 use Rattle.basics.specs.Recursion.{recurse, recurseBy}
 use Rattle.basics.specs.Choice.{if, both, either, every}
-use Rattle.basics.specs.Number.{numberFrom, nibbles}
-use Rattle.tlv.specs.Tag.{tagSize, secondByte, thirdByte, tagAt, firstByte, isTemplate, isPrivate}
-use Rattle.tlv.specs.Length.{oneByte, twoBytes, lengthAt}
+use Rattle.basics.specs.Number.{bigEndianFrom, nibbles}
+use Rattle.tlv.specs.Tag.{tagSize, tagSecondByte, tagThirdByte, tagAt, tagFirstByte, isTemplate, isPrivate}
+use Rattle.tlv.specs.Length.{lengthOneByte, lengthTwoBytes, lengthAt}
 use Rattle.tlv.specs.Object.{headerOf}
-use Rattle.tlv.specs.Tree.{count, nextOf, withLeaf, withNode, parse}
+use Rattle.tlv.specs.Tree.{objectCount, nextOf, withLeaf, withNode, parseTree}
 use Rattle.tlv.specs.Encoding.{tagBytes, lengthBytes}
-use Rattle.dictionary.specs.Rows.{rows, past, find}
-use Rattle.dictionary.specs.Named.{placeOf}
-use Rattle.dictionary.specs.Form.{numeric, digitsThenFs, compressed, digitsFit, fitting}
-use Rattle.store.specs.Place.{offsetIn, placeAt, held, valueAt, putAt, valueIn}
-use Rattle.reading.specs.Taking.{mayStand, mayCome, allowed, takeItem, takeNext, takeAll, items}
-use Rattle.reading.specs.Answer.{bodyOf, optionsParts, issuerPart, cryptogramParts, primitiveParts, templateParts, readBody, isRead, goodStatus, goodLength, readAnswer}
-use Rattle.stripe.specs.Track.{before, discretionary, packed}
-use Rattle.stripe.specs.Bitmap.{placesFrom, places, within as inside, sound}
-use Rattle.stripe.specs.Digits.{digitsOf, lowest, written, filled}
-use Rattle.record.specs.Numbers.{outcomeFor}
-use Rattle.record.specs.Ranges.{isBrought, brought, completed, trackCompleted}
-use Rattle.session.specs.Steps.{withResults, withFindings}
-use Rattle.session.specs.Stripe.{askChecksum, stripeRead, withDigits, checksumRead, checksumTaken, checksumReply}
-use Rattle.session.specs.Answer.{storedReason, optionsRead, optionsStep, recordStep, recordRead, lastRead, recordsRead, analysed, askedIn, askCryptogram, decision, cryptogramEnd, cryptogramReply}
+use Rattle.dictionary.specs.Rows.{dictionaryRows, rowPast, findRow}
+use Rattle.dictionary.specs.Named.{rowNumberOf}
+use Rattle.dictionary.specs.Form.{numeric, digitsThenFs, compressed, digitsFit, fitsRow}
+use Rattle.store.specs.Place.{rowOffset, rowPlace, placeValue, rowValue, putRow, objectValueIn}
+use Rattle.reading.specs.Taking.{allowedInTemplate, allowedInResponse, allowedNow, takeItem, takeNext, takeAll, primitiveItems}
+use Rattle.reading.specs.Answer.{responseBody, gpoParts, iadPart, cryptogramParts, primitiveParts, templateParts, readBody, isRead, isStatus9000, isResponseLength, readAnswer}
+use Rattle.mag_stripe.specs.Track.{nibblesBefore, discretionaryIn, packedNibbles}
+use Rattle.mag_stripe.specs.Bitmap.{bitmapPlacesFrom, bitmapPlaces, bitmapWithin as inside, canTakeDigits}
+use Rattle.mag_stripe.specs.Digits.{trackDigits, lowestDigits, digitsWritten, trackWithDigits}
+use Rattle.session_record.specs.Numbers.{outcomeOfReason}
+use Rattle.session_record.specs.Ranges.{isPresentIfRequired, allRequiredPresent, cryptogramDataPresent, trackDataPresent}
+use Rattle.session.specs.Steps.{withTvr, withFindings}
+use Rattle.session.specs.MagStripe.{askChecksum, afterRecordsMagStripe, storeWithDigits, afterChecksumRead, checksumOutcomeOf, checksumReply}
+use Rattle.session.specs.Answer.{gpoStoreReason, afterGpoRead, gpoStep, recordStep, afterRecordRead, afterLastRecord, afterRecordsEmv, afterAnalysis, requestedCryptogram, askCryptogram, cryptogramOutcome, cryptogramEnding, cryptogramReply}
 use Rattle.worked_examples.specs.Checksum.{ChecksumExamples, waitsOnSound, waitsOnUnsound}
 use Rattle.worked_examples.proofs.Laws.{each-in, says-in, stored-in}
 use Rattle.worked_examples.proofs.Ranges.{kept}
 
 pub on-checksum : ChecksumExamples
-unfolding recurse recurseBy if both either every numberFrom nibbles tagSize secondByte thirdByte tagAt firstByte isTemplate isPrivate oneByte twoBytes lengthAt headerOf count nextOf withLeaf
-    withNode parse tagBytes lengthBytes rows past find placeOf numeric digitsThenFs compressed digitsFit fitting offsetIn placeAt held valueAt putAt valueIn mayStand mayCome allowed takeItem
-    takeNext takeAll items bodyOf optionsParts issuerPart cryptogramParts primitiveParts templateParts readBody isRead goodStatus goodLength readAnswer before discretionary packed placesFrom
-    places inside sound digitsOf lowest written filled outcomeFor isBrought brought completed trackCompleted withResults withFindings askChecksum stripeRead withDigits checksumRead
-    checksumTaken checksumReply storedReason optionsRead optionsStep recordStep recordRead lastRead recordsRead analysed askedIn askCryptogram decision cryptogramEnd cryptogramReply
+unfolding recurse recurseBy if both either every bigEndianFrom nibbles tagSize tagSecondByte tagThirdByte tagAt tagFirstByte isTemplate isPrivate lengthOneByte lengthTwoBytes lengthAt headerOf objectCount nextOf withLeaf
+    withNode parseTree tagBytes lengthBytes dictionaryRows rowPast findRow rowNumberOf numeric digitsThenFs compressed digitsFit fitsRow rowOffset rowPlace placeValue rowValue putRow objectValueIn allowedInTemplate allowedInResponse allowedNow takeItem
+    takeNext takeAll primitiveItems responseBody gpoParts iadPart cryptogramParts primitiveParts templateParts readBody isRead isStatus9000 isResponseLength readAnswer nibblesBefore discretionaryIn packedNibbles bitmapPlacesFrom
+    bitmapPlaces inside canTakeDigits trackDigits lowestDigits digitsWritten trackWithDigits outcomeOfReason isPresentIfRequired allRequiredPresent cryptogramDataPresent trackDataPresent withTvr withFindings askChecksum afterRecordsMagStripe storeWithDigits afterChecksumRead
+    checksumOutcomeOf checksumReply gpoStoreReason afterGpoRead gpoStep recordStep afterRecordRead afterLastRecord afterRecordsEmv afterAnalysis requestedCryptogram askCryptogram cryptogramOutcome cryptogramEnding cryptogramReply
 on-checksum = record {
   length-status = says-in waitsOnSound (kept .sound) _ refl;
   length-objects = says-in waitsOnSound (kept .sound) _ refl;

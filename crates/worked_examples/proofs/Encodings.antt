@@ -2,35 +2,35 @@
 use mathlib.Core.Path.{refl}
 use Rattle.basics.specs.Recursion.{recurse, recurseBy}
 use Rattle.basics.specs.Choice.{if, both, either, every}
-use Rattle.basics.specs.Number.{numberFrom, nibbles}
-use Rattle.tlv.specs.Tag.{tagSize, secondByte, thirdByte, tagAt, firstByte, isTemplate, isPrivate}
-use Rattle.tlv.specs.Length.{oneByte, twoBytes, lengthAt}
+use Rattle.basics.specs.Number.{bigEndianFrom, nibbles}
+use Rattle.tlv.specs.Tag.{tagSize, tagSecondByte, tagThirdByte, tagAt, tagFirstByte, isTemplate, isPrivate}
+use Rattle.tlv.specs.Length.{lengthOneByte, lengthTwoBytes, lengthAt}
 use Rattle.tlv.specs.Object.{headerOf}
-use Rattle.tlv.specs.Tree.{count, nextOf, withLeaf, withNode, parse}
+use Rattle.tlv.specs.Tree.{objectCount, nextOf, withLeaf, withNode, parseTree}
 use Rattle.tlv.specs.Encoding.{tagBytes, lengthBytes}
-use Rattle.dictionary.specs.Rows.{rows, past, find}
-use Rattle.dictionary.specs.Named.{placeOf}
-use Rattle.dictionary.specs.Form.{numeric, digitsThenFs, compressed, digitsFit, fitting}
-use Rattle.store.specs.Place.{offsetIn, placeAt, held, valueAt, putAt, valueIn}
-use Rattle.locator.specs.Entry.{keeps}
-use Rattle.locator.specs.Records.{entries, wholeEntries, recordsFrom, recordsOf, sumOf, accepts, nth, kth, recordAt}
-use Rattle.reading.specs.Taking.{mayStand, mayCome, allowed, takeItem, takeNext, takeAll, items}
-use Rattle.reading.specs.Answer.{bodyOf, optionsParts, issuerPart, cryptogramParts, primitiveParts, templateParts, readBody, isRead, goodStatus, goodLength, readAnswer}
-use Rattle.record.specs.Numbers.{outcomeFor}
-use Rattle.record.specs.Ranges.{isBrought, brought, completed, trackCompleted}
-use Rattle.session.specs.Steps.{withResults, withFindings}
-use Rattle.session.specs.Answer.{storedReason, optionsRead, optionsStep, recordStep, recordRead, lastRead, recordsRead, analysed, askedIn, askCryptogram, decision, cryptogramEnd, cryptogramReply}
+use Rattle.dictionary.specs.Rows.{dictionaryRows, rowPast, findRow}
+use Rattle.dictionary.specs.Named.{rowNumberOf}
+use Rattle.dictionary.specs.Form.{numeric, digitsThenFs, compressed, digitsFit, fitsRow}
+use Rattle.store.specs.Place.{rowOffset, rowPlace, placeValue, rowValue, putRow, objectValueIn}
+use Rattle.afl.specs.Entry.{validEntry}
+use Rattle.afl.specs.Records.{aflEntries, wholeEntries, consecutiveRecords, entriesRecords, sumOverEntries, acceptsAfl, nthRecord, kthRecord, aflRecordAt}
+use Rattle.reading.specs.Taking.{allowedInTemplate, allowedInResponse, allowedNow, takeItem, takeNext, takeAll, primitiveItems}
+use Rattle.reading.specs.Answer.{responseBody, gpoParts, iadPart, cryptogramParts, primitiveParts, templateParts, readBody, isRead, isStatus9000, isResponseLength, readAnswer}
+use Rattle.session_record.specs.Numbers.{outcomeOfReason}
+use Rattle.session_record.specs.Ranges.{isPresentIfRequired, allRequiredPresent, cryptogramDataPresent, trackDataPresent}
+use Rattle.session.specs.Steps.{withTvr, withFindings}
+use Rattle.session.specs.Answer.{gpoStoreReason, afterGpoRead, gpoStep, recordStep, afterRecordRead, afterLastRecord, afterRecordsEmv, afterAnalysis, requestedCryptogram, askCryptogram, cryptogramOutcome, cryptogramEnding, cryptogramReply}
 use Rattle.worked_examples.specs.Sessions.{waitsOnFirst}
 use Rattle.worked_examples.specs.Encodings.{EncodingExamples}
 use Rattle.worked_examples.proofs.Laws.{each-in}
 use Rattle.worked_examples.proofs.Ranges.{kept}
 
 pub encodings : EncodingExamples
-unfolding recurse recurseBy if both either every numberFrom nibbles tagSize secondByte thirdByte tagAt firstByte isTemplate isPrivate oneByte twoBytes lengthAt headerOf count nextOf withLeaf
-    withNode parse tagBytes lengthBytes rows past find placeOf numeric digitsThenFs compressed digitsFit fitting offsetIn placeAt held valueAt putAt valueIn keeps entries wholeEntries
-    recordsFrom recordsOf sumOf accepts nth kth recordAt mayStand mayCome allowed takeItem takeNext takeAll items bodyOf optionsParts issuerPart cryptogramParts primitiveParts templateParts
-    readBody isRead goodStatus goodLength readAnswer outcomeFor isBrought brought completed trackCompleted withResults withFindings storedReason optionsRead optionsStep recordStep recordRead
-    lastRead recordsRead analysed askedIn askCryptogram decision cryptogramEnd cryptogramReply
+unfolding recurse recurseBy if both either every bigEndianFrom nibbles tagSize tagSecondByte tagThirdByte tagAt tagFirstByte isTemplate isPrivate lengthOneByte lengthTwoBytes lengthAt headerOf objectCount nextOf withLeaf
+    withNode parseTree tagBytes lengthBytes dictionaryRows rowPast findRow rowNumberOf numeric digitsThenFs compressed digitsFit fitsRow rowOffset rowPlace placeValue rowValue putRow objectValueIn validEntry aflEntries wholeEntries
+    consecutiveRecords entriesRecords sumOverEntries acceptsAfl nthRecord kthRecord aflRecordAt allowedInTemplate allowedInResponse allowedNow takeItem takeNext takeAll primitiveItems responseBody gpoParts iadPart cryptogramParts primitiveParts templateParts
+    readBody isRead isStatus9000 isResponseLength readAnswer outcomeOfReason isPresentIfRequired allRequiredPresent cryptogramDataPresent trackDataPresent withTvr withFindings gpoStoreReason afterGpoRead gpoStep recordStep afterRecordRead
+    afterLastRecord afterRecordsEmv afterAnalysis requestedCryptogram askCryptogram cryptogramOutcome cryptogramEnding cryptogramReply
 encodings = record {
   lengths = each-in waitsOnFirst (kept .first) _ refl;
   tags = each-in waitsOnFirst (kept .first) _ refl;

@@ -7,49 +7,49 @@ use lib.Dec.{lit≤}
 use lib.ListN.{length, take}
 use Rattle.basics.specs.Recursion.{recurse, recurseBy}
 use Rattle.basics.specs.Choice.{if, both, either, every}
-use Rattle.basics.specs.Number.{numberFrom, nibbles}
-use Rattle.tlv.specs.Tag.{tagSize, secondByte, thirdByte, tagAt, firstByte, isTemplate, isPrivate}
-use Rattle.tlv.specs.Length.{oneByte, twoBytes, lengthAt}
+use Rattle.basics.specs.Number.{bigEndianFrom, nibbles}
+use Rattle.tlv.specs.Tag.{tagSize, tagSecondByte, tagThirdByte, tagAt, tagFirstByte, isTemplate, isPrivate}
+use Rattle.tlv.specs.Length.{lengthOneByte, lengthTwoBytes, lengthAt}
 use Rattle.tlv.specs.Object.{headerOf}
-use Rattle.tlv.specs.Primitives.{withObject, primitiveOf, primitives}
+use Rattle.tlv.specs.Primitives.{objectBefore, primitiveOf, primitiveObjects}
 use Rattle.tlv.specs.Encoding.{tagBytes, lengthBytes}
-use Rattle.dictionary.specs.Rows.{rows, past, find}
-use Rattle.dictionary.specs.Named.{placeOf}
-use Rattle.dictionary.specs.Form.{numeric, digitsThenFs, compressed, digitsFit, fitting}
-use Rattle.dictionary.specs.TerminalType.{listed}
-use Rattle.store.specs.Place.{offsetIn, placeAt, held, valueAt, putAt, valueIn}
-use Rattle.data_list.specs.Entries.{withLength, entryAt, withEntry, along, listEntries}
-use Rattle.data_list.specs.Filling.{cut, padding, padded, fitted, entryBytes, fillingOf, filledBy}
-use Rattle.data_list.specs.Commands.{optionsOf, processingOptions, cryptogramOf, generateAc, checksumList, checksumOf, checksumWith, computeChecksum}
-use Rattle.record.specs.Numbers.{outcomeFor}
-use Rattle.record.specs.Ranges.{isBrought, brought, completed, trackCompleted}
-use Rattle.terminal.specs.Terminal.{typeListed, settable, setObject, setAll, load}
-use Rattle.session.specs.Steps.{withResults, withFindings}
-use Rattle.session.specs.Start.{askOptions}
-use Rattle.record.specs.Session.{freshSession}
-use Rattle.record.proofs.Phases.{fresh-keeps}
-use Rattle.trace.specs.Calls.{play}
-use Rattle.trace.proofs.InRanges.{playIn, play-in}
-use Rattle.journal.specs.declared.Verdict.{Verdict}
-use Rattle.journal.specs.Record.{sizeOf, journalOf, joined, fits, isLong, callFrom}
-use Rattle.journal.specs.Verdict.{verdictOf}
+use Rattle.dictionary.specs.Rows.{dictionaryRows, rowPast, findRow}
+use Rattle.dictionary.specs.Named.{rowNumberOf}
+use Rattle.dictionary.specs.Form.{numeric, digitsThenFs, compressed, digitsFit, fitsRow}
+use Rattle.dictionary.specs.TerminalType.{listedTerminalType}
+use Rattle.store.specs.Place.{rowOffset, rowPlace, placeValue, rowValue, putRow, objectValueIn}
+use Rattle.dol.specs.Entries.{entryWithLength, dolEntryAt, entryBefore, entriesNext, dolEntries}
+use Rattle.dol.specs.Filling.{truncated, paddingByte, padded, fittedTo, dolEntryBytes, dolData, dolDataBy}
+use Rattle.dol.specs.Commands.{gpoCommandOf, getProcessingOptions, generateAcOf, generateAc, udolOrDefault, checksumCommandOf, checksumCommandWith, computeCryptographicChecksum}
+use Rattle.session_record.specs.Numbers.{outcomeOfReason}
+use Rattle.session_record.specs.Ranges.{isPresentIfRequired, allRequiredPresent, cryptogramDataPresent, trackDataPresent}
+use Rattle.start_data.specs.StartData.{terminalTypeListed, settableByStart, setObject, setObjects, loadStart}
+use Rattle.session.specs.Steps.{withTvr, withFindings}
+use Rattle.session.specs.Start.{askGpo}
+use Rattle.session_record.specs.Session.{freshSession}
+use Rattle.session_record.proofs.Phases.{fresh-keeps}
+use Rattle.session_claim.specs.Calls.{playCalls}
+use Rattle.session_claim.proofs.InRanges.{playIn, play-in}
+use Rattle.journal.specs.declared.JournalVerdict.{JournalVerdict}
+use Rattle.journal.specs.Record.{journalRecordSize, journalOf, concatenated, recordFits, isLongAnswer, callFrom}
+use Rattle.journal.specs.Verdict.{journalVerdictOf}
 use Rattle.journal.proofs.Written.{written-accepted}
 use Rattle.worked_examples.specs.Journal.{journalCalls, writtenRecords, JournalExamples}
 
-played : journalOf (play freshSession journalCalls) ≡ writtenRecords
-unfolding recurse recurseBy if both either every numberFrom nibbles tagSize secondByte thirdByte tagAt firstByte isTemplate isPrivate oneByte twoBytes lengthAt headerOf withObject
-    primitiveOf primitives tagBytes lengthBytes rows past find placeOf numeric digitsThenFs compressed digitsFit fitting listed offsetIn placeAt held valueAt putAt valueIn withLength entryAt
-    withEntry along listEntries cut padding padded fitted entryBytes fillingOf filledBy optionsOf processingOptions cryptogramOf generateAc checksumList checksumOf checksumWith
-    computeChecksum outcomeFor isBrought brought completed trackCompleted typeListed settable setObject setAll load withResults withFindings askOptions journalOf playIn
+played : journalOf (playCalls freshSession journalCalls) ≡ writtenRecords
+unfolding recurse recurseBy if both either every bigEndianFrom nibbles tagSize tagSecondByte tagThirdByte tagAt tagFirstByte isTemplate isPrivate lengthOneByte lengthTwoBytes lengthAt headerOf objectBefore
+    primitiveOf primitiveObjects tagBytes lengthBytes dictionaryRows rowPast findRow rowNumberOf numeric digitsThenFs compressed digitsFit fitsRow listedTerminalType rowOffset rowPlace placeValue rowValue putRow objectValueIn entryWithLength dolEntryAt
+    entryBefore entriesNext dolEntries truncated paddingByte padded fittedTo dolEntryBytes dolData dolDataBy gpoCommandOf getProcessingOptions generateAcOf generateAc udolOrDefault checksumCommandOf checksumCommandWith
+    computeCryptographicChecksum outcomeOfReason isPresentIfRequired allRequiredPresent cryptogramDataPresent trackDataPresent terminalTypeListed settableByStart setObject setObjects loadStart withTvr withFindings askGpo journalOf playIn
 played = ap journalOf (play-in freshSession fresh-keeps journalCalls)
 
-all-right : {r : List (List ℕ)} → journalOf (play freshSession journalCalls) ≡ r → 4 ≤ length r → verdictOf (joined (take 4 r)) ≡ Verdict.Accepted 4
+all-right : {r : List (List ℕ)} → journalOf (playCalls freshSession journalCalls) ≡ r → 4 ≤ length r → journalVerdictOf (concatenated (take 4 r)) ≡ JournalVerdict.Accepted 4
 all-right {r} e h =
-    subst (λ (l : List (List ℕ)). verdictOf (joined (take 4 l)) ≡ Verdict.Accepted 4) e
+    subst (λ (l : List (List ℕ)). journalVerdictOf (concatenated (take 4 l)) ≡ JournalVerdict.Accepted 4) e
     (written-accepted journalCalls 4 (subst (λ (l : List (List ℕ)). 4 ≤ length l) (sym e) h))
 
 pub journal : JournalExamples
-unfolding callFrom fits isLong sizeOf joined tagBytes lengthBytes every both if
+unfolding callFrom recordFits isLongAnswer journalRecordSize concatenated tagBytes lengthBytes every both if
 journal = record {
   calls-written = refl;
   calls-read = refl;

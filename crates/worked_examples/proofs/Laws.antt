@@ -7,16 +7,16 @@ use Prim.Native.Nat.{ℕ, _≤_, _<_}
 use lib.Dec.{lit≤, lit<}
 use lib.ListN.{length}
 use Rattle.basics.specs.Reason.{reasonLink, reasonStopped}
-use Rattle.store.specs.Place.{Value, valueOf}
-use Rattle.record.specs.declared.Answer.{Answer}
-use Rattle.record.specs.declared.Session.{Session}
-use Rattle.record.specs.Session.{stored}
-use Rattle.record.specs.Ranges.{inRanges}
-use Rattle.session.specs.Steps.{Step, leastBuffer, endsIn}
+use Rattle.store.specs.Place.{StoredValue, objectValue}
+use Rattle.session_record.specs.declared.CallResult.{CallResult}
+use Rattle.session_record.specs.declared.Session.{Session}
+use Rattle.session_record.specs.Session.{storeBytes}
+use Rattle.session_record.specs.Ranges.{inRanges}
+use Rattle.session.specs.Steps.{Step, leastBuffer, endsRunning}
 use Rattle.session.specs.Start.{startIn}
 use Rattle.session.specs.Answer.{answerIn}
 use Rattle.session.proofs.Laws.{admitted-short, admitted-ranges, admitted-in}
-use Rattle.trace.specs.Calls.{commandIn}
+use Rattle.session_claim.specs.Calls.{commandSent}
 use Rattle.worked_examples.specs.Calls.{fullBuffer, shortBuffer, startResult, answerResult, linkResult, stopResult, refusalResult, resultOn, resultsOn, startCommand, commandOn, valueAfter}
 
 enough : leastBuffer ≤ length fullBuffer
@@ -25,36 +25,36 @@ enough = lit≤ tt
 short : length shortBuffer < leastBuffer
 short = lit< tt
 
-abbrev told : Step → Answer
+abbrev told : Step → CallResult
 told st = st .reply .answer
 
 abbrev handed : Step → List (List ℕ)
-handed st = commandIn (st .reply .answer) (st .buffer)
+handed st = commandSent (st .reply .answer) (st .buffer)
 
 -- ---- in the ranges
 
 module _ (s : Session) (i : inRanges s ≡ true) where
-  pub start-in : (bytes : List ℕ) {a : Answer} → told (startIn (s .phase) s bytes fullBuffer) ≡ a → startResult s bytes fullBuffer ≡ a
+  pub start-in : (bytes : List ℕ) {a : CallResult} → told (startIn (s .phase) s bytes fullBuffer) ≡ a → startResult s bytes fullBuffer ≡ a
   unfolding startResult
   start-in bytes e = ap told (admitted-in s fullBuffer _ enough i) ∙ e
 
-  pub answer-in : (card : List ℕ) {a : Answer} → told (answerIn (s .phase) s card fullBuffer) ≡ a → answerResult s card fullBuffer ≡ a
+  pub answer-in : (card : List ℕ) {a : CallResult} → told (answerIn (s .phase) s card fullBuffer) ≡ a → answerResult s card fullBuffer ≡ a
   unfolding answerResult
   answer-in card e = ap told (admitted-in s fullBuffer _ enough i) ∙ e
 
-  pub link-in : {a : Answer} → told (endsIn (s .phase) s reasonLink fullBuffer) ≡ a → linkResult s fullBuffer ≡ a
+  pub link-in : {a : CallResult} → told (endsRunning (s .phase) s reasonLink fullBuffer) ≡ a → linkResult s fullBuffer ≡ a
   unfolding linkResult
   link-in e = ap told (admitted-in s fullBuffer _ enough i) ∙ e
 
-  pub stop-in : {a : Answer} → told (endsIn (s .phase) s reasonStopped fullBuffer) ≡ a → stopResult s fullBuffer ≡ a
+  pub stop-in : {a : CallResult} → told (endsRunning (s .phase) s reasonStopped fullBuffer) ≡ a → stopResult s fullBuffer ≡ a
   unfolding stopResult
   stop-in e = ap told (admitted-in s fullBuffer _ enough i) ∙ e
 
-  pub says-in : (card : List ℕ) {a : Answer} → told (answerIn (s .phase) s card fullBuffer) ≡ a → resultOn s card ≡ a
+  pub says-in : (card : List ℕ) {a : CallResult} → told (answerIn (s .phase) s card fullBuffer) ≡ a → resultOn s card ≡ a
   unfolding resultOn
   says-in card e = ap told (admitted-in s fullBuffer _ enough i) ∙ e
 
-  pub each-in : (cards : List (List ℕ)) {answers : List Answer} → map (λ card. told (answerIn (s .phase) s card fullBuffer)) cards ≡ answers → resultsOn s cards ≡ answers
+  pub each-in : (cards : List (List ℕ)) {answers : List CallResult} → map (λ card. told (answerIn (s .phase) s card fullBuffer)) cards ≡ answers → resultsOn s cards ≡ answers
   unfolding resultsOn resultOn
   each-in cards e = (λ k. map (λ card. told (admitted-in s fullBuffer (answerIn (s .phase) s card fullBuffer) enough i k)) cards) ∙ e
 
@@ -66,10 +66,10 @@ module _ (s : Session) (i : inRanges s ≡ true) where
   unfolding commandOn
   sends-in card e = ap handed (admitted-in s fullBuffer _ enough i) ∙ e
 
-  pub stored-in : (card : List ℕ) (tag : ℕ) {v : Value} → valueOf (stored (answerIn (s .phase) s card fullBuffer .reply .session)) tag ≡ v
+  pub stored-in : (card : List ℕ) (tag : ℕ) {v : StoredValue} → objectValue (storeBytes (answerIn (s .phase) s card fullBuffer .reply .session)) tag ≡ v
       → valueAfter s card tag ≡ v
   unfolding valueAfter
-  stored-in card tag e = ap (λ (x : Step). valueOf (stored (x .reply .session)) tag) (admitted-in s fullBuffer _ enough i) ∙ e
+  stored-in card tag e = ap (λ (x : Step). objectValue (storeBytes (x .reply .session)) tag) (admitted-in s fullBuffer _ enough i) ∙ e
 
 -- ---- out of them
 

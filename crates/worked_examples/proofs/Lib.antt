@@ -1,6 +1,6 @@
 pub mod Laws
 pub mod Ranges
-pub mod Options
+pub mod Gpo
 pub mod Records
 pub mod Cryptogram
 pub mod Checksum

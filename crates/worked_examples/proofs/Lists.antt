@@ -2,60 +2,60 @@
 use mathlib.Core.Path.{refl}
 use Rattle.basics.specs.Recursion.{recurse, recurseBy}
 use Rattle.basics.specs.Choice.{if, both, either, every}
-use Rattle.basics.specs.Number.{numberFrom, nibbles}
-use Rattle.basics.specs.Alike.{alike}
-use Rattle.tlv.specs.Tag.{tagSize, secondByte, thirdByte, tagAt, firstByte, isTemplate, isPrivate}
-use Rattle.tlv.specs.Length.{oneByte, twoBytes, lengthAt}
+use Rattle.basics.specs.Number.{bigEndianFrom, nibbles}
+use Rattle.basics.specs.Alike.{bytesEqual}
+use Rattle.tlv.specs.Tag.{tagSize, tagSecondByte, tagThirdByte, tagAt, tagFirstByte, isTemplate, isPrivate}
+use Rattle.tlv.specs.Length.{lengthOneByte, lengthTwoBytes, lengthAt}
 use Rattle.tlv.specs.Object.{headerOf}
-use Rattle.tlv.specs.Primitives.{withObject, primitiveOf, primitives}
-use Rattle.tlv.specs.Tree.{count, nextOf, withLeaf, withNode, parse}
+use Rattle.tlv.specs.Primitives.{objectBefore, primitiveOf, primitiveObjects}
+use Rattle.tlv.specs.Tree.{objectCount, nextOf, withLeaf, withNode, parseTree}
 use Rattle.tlv.specs.Encoding.{tagBytes, lengthBytes}
-use Rattle.dictionary.specs.Rows.{rows, past, find}
-use Rattle.dictionary.specs.Named.{placeOf}
-use Rattle.dictionary.specs.Form.{numeric, digitsThenFs, compressed, digitsFit, fitting}
-use Rattle.dictionary.specs.TerminalType.{listed}
-use Rattle.store.specs.Place.{offsetIn, placeAt, held, valueAt, putAt, valueIn}
-use Rattle.locator.specs.Entry.{keeps}
-use Rattle.locator.specs.Records.{entries, wholeEntries, recordsFrom, recordsOf, sumOf, accepts, nth, kth, recordAt}
-use Rattle.reading.specs.Taking.{mayStand, mayCome, allowed, takeItem, takeNext, takeAll, items}
-use Rattle.reading.specs.Answer.{bodyOf, optionsParts, issuerPart, cryptogramParts, primitiveParts, templateParts, readBody, isRead, goodStatus, goodLength, readAnswer}
-use Rattle.data_list.specs.Entries.{withLength, entryAt, withEntry, along, listEntries}
-use Rattle.data_list.specs.Filling.{cut, padding, padded, fitted, entryBytes, fillingOf, filledBy}
-use Rattle.data_list.specs.Commands.{optionsOf, processingOptions, cryptogramOf, generateAc, checksumList, checksumOf, checksumWith, computeChecksum}
-use Rattle.analysis.specs.Bits.{bit}
-use Rattle.analysis.specs.Value.{front}
-use Rattle.analysis.specs.Digits.{decimalFrom, yearOf, dateOf, laterThan, amountOf, amountAbove}
-use Rattle.analysis.specs.Restrictions.{otherVersion, notYetEffective, atAtm, countryOf, cashback, usageBroken}
-use Rattle.analysis.specs.Result.{withBits}
-use Rattle.analysis.specs.Choice.{holdsBit, lowestFrom, lowestBit, cardCode, heldAt, capabilityAt, choiceOf}
-use Rattle.analysis.specs.Verification.{verification, onDevice}
-use Rattle.analysis.specs.Action.{phoneIn, limitOf, aboveLimit, usageIn, restrictionsOf, resultOf, sameCurrency, termsIn, verifiedIn, fullResult, findingsOf, codesOf, chosen}
-use Rattle.record.specs.Numbers.{outcomeFor}
-use Rattle.record.specs.Ranges.{isBrought, brought, completed, trackCompleted}
-use Rattle.terminal.specs.Terminal.{typeListed, settable, setObject, setAll, load}
-use Rattle.session.specs.Steps.{withResults, withFindings}
-use Rattle.session.specs.Start.{askOptions}
-use Rattle.session.specs.Stripe.{askChecksum, stripeRead, withDigits, checksumRead, checksumTaken, checksumReply}
-use Rattle.session.specs.Answer.{storedReason, optionsRead, optionsStep, recordStep, recordRead, lastRead, recordsRead, analysed, askedIn, askCryptogram, decision, cryptogramEnd, cryptogramReply}
-use Rattle.record.specs.Session.{freshSession}
-use Rattle.record.proofs.Phases.{fresh-keeps}
-use Rattle.worked_examples.specs.Sessions.{emvProfile, stripeProfile, waitsOnLastWithPdol}
+use Rattle.dictionary.specs.Rows.{dictionaryRows, rowPast, findRow}
+use Rattle.dictionary.specs.Named.{rowNumberOf}
+use Rattle.dictionary.specs.Form.{numeric, digitsThenFs, compressed, digitsFit, fitsRow}
+use Rattle.dictionary.specs.TerminalType.{listedTerminalType}
+use Rattle.store.specs.Place.{rowOffset, rowPlace, placeValue, rowValue, putRow, objectValueIn}
+use Rattle.afl.specs.Entry.{validEntry}
+use Rattle.afl.specs.Records.{aflEntries, wholeEntries, consecutiveRecords, entriesRecords, sumOverEntries, acceptsAfl, nthRecord, kthRecord, aflRecordAt}
+use Rattle.reading.specs.Taking.{allowedInTemplate, allowedInResponse, allowedNow, takeItem, takeNext, takeAll, primitiveItems}
+use Rattle.reading.specs.Answer.{responseBody, gpoParts, iadPart, cryptogramParts, primitiveParts, templateParts, readBody, isRead, isStatus9000, isResponseLength, readAnswer}
+use Rattle.dol.specs.Entries.{entryWithLength, dolEntryAt, entryBefore, entriesNext, dolEntries}
+use Rattle.dol.specs.Filling.{truncated, paddingByte, padded, fittedTo, dolEntryBytes, dolData, dolDataBy}
+use Rattle.dol.specs.Commands.{gpoCommandOf, getProcessingOptions, generateAcOf, generateAc, udolOrDefault, checksumCommandOf, checksumCommandWith, computeCryptographicChecksum}
+use Rattle.analysis.specs.Bits.{numberedBit}
+use Rattle.analysis.specs.Value.{firstBytes}
+use Rattle.analysis.specs.Digits.{bcdFrom, yearOf, dateOf, dateLater, amountOf, amountAbove}
+use Rattle.analysis.specs.Restrictions.{versionDiffers, notYetEffective, atAtm, issuerCountryOf, cashbackRequested, aucViolated}
+use Rattle.analysis.specs.Tvr.{tvrWithBits}
+use Rattle.analysis.specs.Choice.{stageHoldsBit, lowestFrom, lowestBit, iacCode, stageHolds, onlineCapabilityAt, choiceOf}
+use Rattle.analysis.specs.Cvm.{cvmProcessing, onDeviceCvm}
+use Rattle.analysis.specs.Action.{hasOnDeviceCvm, transactionLimit, aboveTransactionLimit, aucViolatedIn, restrictionsByte, tvrOf, sameCurrency, cvmConditionsIn, cvmResultIn, tvrWithCvm, findingsOf, actionCodesOf, choiceFor}
+use Rattle.session_record.specs.Numbers.{outcomeOfReason}
+use Rattle.session_record.specs.Ranges.{isPresentIfRequired, allRequiredPresent, cryptogramDataPresent, trackDataPresent}
+use Rattle.start_data.specs.StartData.{terminalTypeListed, settableByStart, setObject, setObjects, loadStart}
+use Rattle.session.specs.Steps.{withTvr, withFindings}
+use Rattle.session.specs.Start.{askGpo}
+use Rattle.session.specs.MagStripe.{askChecksum, afterRecordsMagStripe, storeWithDigits, afterChecksumRead, checksumOutcomeOf, checksumReply}
+use Rattle.session.specs.Answer.{gpoStoreReason, afterGpoRead, gpoStep, recordStep, afterRecordRead, afterLastRecord, afterRecordsEmv, afterAnalysis, requestedCryptogram, askCryptogram, cryptogramOutcome, cryptogramEnding, cryptogramReply}
+use Rattle.session_record.specs.Session.{freshSession}
+use Rattle.session_record.proofs.Phases.{fresh-keeps}
+use Rattle.worked_examples.specs.Sessions.{emvAip, magStripeAip, waitsOnLastWithPdol}
 use Rattle.worked_examples.specs.Lists.{ListExamples}
 use Rattle.worked_examples.proofs.Laws.{sends-in, start-sends-in}
 use Rattle.worked_examples.proofs.Ranges.{kept}
 
 pub lists : ListExamples
-unfolding recurse recurseBy if both either every numberFrom nibbles alike tagSize secondByte thirdByte tagAt firstByte isTemplate isPrivate oneByte twoBytes lengthAt headerOf withObject
-    primitiveOf primitives count nextOf withLeaf withNode parse tagBytes lengthBytes rows past find placeOf numeric digitsThenFs compressed digitsFit fitting listed offsetIn placeAt held
-    valueAt putAt valueIn keeps entries wholeEntries recordsFrom recordsOf sumOf accepts nth kth recordAt mayStand mayCome allowed takeItem takeNext takeAll items bodyOf optionsParts
-    issuerPart cryptogramParts primitiveParts templateParts readBody isRead goodStatus goodLength readAnswer withLength entryAt withEntry along listEntries cut padding padded fitted
-    entryBytes fillingOf filledBy optionsOf processingOptions cryptogramOf generateAc checksumList checksumOf checksumWith computeChecksum bit front decimalFrom yearOf dateOf laterThan
-    amountOf amountAbove otherVersion notYetEffective atAtm countryOf cashback usageBroken withBits holdsBit lowestFrom lowestBit cardCode heldAt capabilityAt choiceOf verification onDevice
-    phoneIn limitOf aboveLimit usageIn restrictionsOf resultOf sameCurrency termsIn verifiedIn fullResult findingsOf codesOf chosen outcomeFor isBrought brought completed trackCompleted
-    typeListed settable setObject setAll load withResults withFindings askOptions askChecksum stripeRead withDigits checksumRead checksumTaken checksumReply storedReason optionsRead
-    optionsStep recordStep recordRead lastRead recordsRead analysed askedIn askCryptogram decision cryptogramEnd cryptogramReply
+unfolding recurse recurseBy if both either every bigEndianFrom nibbles bytesEqual tagSize tagSecondByte tagThirdByte tagAt tagFirstByte isTemplate isPrivate lengthOneByte lengthTwoBytes lengthAt headerOf objectBefore
+    primitiveOf primitiveObjects objectCount nextOf withLeaf withNode parseTree tagBytes lengthBytes dictionaryRows rowPast findRow rowNumberOf numeric digitsThenFs compressed digitsFit fitsRow listedTerminalType rowOffset rowPlace placeValue
+    rowValue putRow objectValueIn validEntry aflEntries wholeEntries consecutiveRecords entriesRecords sumOverEntries acceptsAfl nthRecord kthRecord aflRecordAt allowedInTemplate allowedInResponse allowedNow takeItem takeNext takeAll primitiveItems responseBody gpoParts
+    iadPart cryptogramParts primitiveParts templateParts readBody isRead isStatus9000 isResponseLength readAnswer entryWithLength dolEntryAt entryBefore entriesNext dolEntries truncated paddingByte padded fittedTo
+    dolEntryBytes dolData dolDataBy gpoCommandOf getProcessingOptions generateAcOf generateAc udolOrDefault checksumCommandOf checksumCommandWith computeCryptographicChecksum numberedBit firstBytes bcdFrom yearOf dateOf dateLater
+    amountOf amountAbove versionDiffers notYetEffective atAtm issuerCountryOf cashbackRequested aucViolated tvrWithBits stageHoldsBit lowestFrom lowestBit iacCode stageHolds onlineCapabilityAt choiceOf cvmProcessing onDeviceCvm
+    hasOnDeviceCvm transactionLimit aboveTransactionLimit aucViolatedIn restrictionsByte tvrOf sameCurrency cvmConditionsIn cvmResultIn tvrWithCvm findingsOf actionCodesOf choiceFor outcomeOfReason isPresentIfRequired allRequiredPresent cryptogramDataPresent trackDataPresent
+    terminalTypeListed settableByStart setObject setObjects loadStart withTvr withFindings askGpo askChecksum afterRecordsMagStripe storeWithDigits afterChecksumRead checksumOutcomeOf checksumReply gpoStoreReason afterGpoRead
+    gpoStep recordStep afterRecordRead afterLastRecord afterRecordsEmv afterAnalysis requestedCryptogram askCryptogram cryptogramOutcome cryptogramEnding cryptogramReply
 lists = record {
-  options = start-sends-in freshSession fresh-keeps _ refl;
-  cryptogram = sends-in (waitsOnLastWithPdol emvProfile) (kept .emv-pdol) _ refl;
-  checksum = sends-in (waitsOnLastWithPdol stripeProfile) (kept .stripe-pdol) _ refl;
+  gpo = start-sends-in freshSession fresh-keeps _ refl;
+  cryptogram = sends-in (waitsOnLastWithPdol emvAip) (kept .emv-pdol) _ refl;
+  checksum = sends-in (waitsOnLastWithPdol magStripeAip) (kept .mag-stripe-pdol) _ refl;
 }

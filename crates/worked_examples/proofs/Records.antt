@@ -2,99 +2,99 @@
 use mathlib.Core.Path.{refl}
 use Rattle.basics.specs.Recursion.{recurse, recurseBy}
 use Rattle.basics.specs.Choice.{if, both, either, every}
-use Rattle.basics.specs.Number.{numberFrom, nibbles}
-use Rattle.basics.specs.Alike.{alike}
-use Rattle.tlv.specs.Tag.{tagSize, secondByte, thirdByte, tagAt, firstByte, isTemplate, isPrivate}
-use Rattle.tlv.specs.Length.{oneByte, twoBytes, lengthAt}
+use Rattle.basics.specs.Number.{bigEndianFrom, nibbles}
+use Rattle.basics.specs.Alike.{bytesEqual}
+use Rattle.tlv.specs.Tag.{tagSize, tagSecondByte, tagThirdByte, tagAt, tagFirstByte, isTemplate, isPrivate}
+use Rattle.tlv.specs.Length.{lengthOneByte, lengthTwoBytes, lengthAt}
 use Rattle.tlv.specs.Object.{headerOf}
-use Rattle.tlv.specs.Tree.{count, nextOf, withLeaf, withNode, parse}
+use Rattle.tlv.specs.Tree.{objectCount, nextOf, withLeaf, withNode, parseTree}
 use Rattle.tlv.specs.Encoding.{tagBytes, lengthBytes}
-use Rattle.dictionary.specs.Rows.{rows, past, find}
-use Rattle.dictionary.specs.Named.{placeOf}
-use Rattle.dictionary.specs.Form.{numeric, digitsThenFs, compressed, digitsFit, fitting}
-use Rattle.store.specs.Place.{offsetIn, placeAt, held, valueAt, putAt, valueIn}
-use Rattle.locator.specs.Entry.{keeps}
-use Rattle.locator.specs.Records.{entries, wholeEntries, recordsFrom, recordsOf, sumOf, accepts, nth, kth, recordAt}
-use Rattle.reading.specs.Taking.{mayStand, mayCome, allowed, takeItem, takeNext, takeAll, items}
-use Rattle.reading.specs.Answer.{bodyOf, optionsParts, issuerPart, cryptogramParts, primitiveParts, templateParts, readBody, isRead, goodStatus, goodLength, readAnswer}
-use Rattle.data_list.specs.Entries.{withLength, entryAt, withEntry, along, listEntries}
-use Rattle.data_list.specs.Filling.{cut, padding, padded, fitted, entryBytes, fillingOf, filledBy}
-use Rattle.data_list.specs.Commands.{optionsOf, processingOptions, cryptogramOf, generateAc, checksumList, checksumOf, checksumWith, computeChecksum}
-use Rattle.analysis.specs.Bits.{bit}
-use Rattle.analysis.specs.Value.{front}
-use Rattle.analysis.specs.Digits.{decimalFrom, yearOf, dateOf, laterThan, amountOf, amountAbove}
-use Rattle.analysis.specs.Restrictions.{otherVersion, notYetEffective, atAtm, countryOf, cashback, usageBroken}
-use Rattle.analysis.specs.Result.{withBits}
-use Rattle.analysis.specs.Choice.{holdsBit, lowestFrom, lowestBit, cardCode, heldAt, capabilityAt, choiceOf}
-use Rattle.analysis.specs.Verification.{verification, onDevice}
-use Rattle.analysis.specs.Action.{phoneIn, limitOf, aboveLimit, usageIn, restrictionsOf, resultOf, sameCurrency, termsIn, verifiedIn, fullResult, findingsOf, codesOf, chosen}
-use Rattle.record.specs.Numbers.{outcomeFor}
-use Rattle.record.specs.Ranges.{isBrought, brought, completed, trackCompleted}
-use Rattle.session.specs.Steps.{withResults, withFindings}
-use Rattle.session.specs.Stripe.{askChecksum, stripeRead, withDigits, checksumRead, checksumTaken, checksumReply}
-use Rattle.session.specs.Answer.{storedReason, optionsRead, optionsStep, recordStep, recordRead, lastRead, recordsRead, analysed, askedIn, askCryptogram, decision, cryptogramEnd, cryptogramReply}
-use Rattle.worked_examples.specs.Sessions.{amountBelow, amountOver, emvProfile, stripeProfile, waitsOnLast}
-use Rattle.worked_examples.specs.Records.{RecordExamples, StripeExamples}
+use Rattle.dictionary.specs.Rows.{dictionaryRows, rowPast, findRow}
+use Rattle.dictionary.specs.Named.{rowNumberOf}
+use Rattle.dictionary.specs.Form.{numeric, digitsThenFs, compressed, digitsFit, fitsRow}
+use Rattle.store.specs.Place.{rowOffset, rowPlace, placeValue, rowValue, putRow, objectValueIn}
+use Rattle.afl.specs.Entry.{validEntry}
+use Rattle.afl.specs.Records.{aflEntries, wholeEntries, consecutiveRecords, entriesRecords, sumOverEntries, acceptsAfl, nthRecord, kthRecord, aflRecordAt}
+use Rattle.reading.specs.Taking.{allowedInTemplate, allowedInResponse, allowedNow, takeItem, takeNext, takeAll, primitiveItems}
+use Rattle.reading.specs.Answer.{responseBody, gpoParts, iadPart, cryptogramParts, primitiveParts, templateParts, readBody, isRead, isStatus9000, isResponseLength, readAnswer}
+use Rattle.dol.specs.Entries.{entryWithLength, dolEntryAt, entryBefore, entriesNext, dolEntries}
+use Rattle.dol.specs.Filling.{truncated, paddingByte, padded, fittedTo, dolEntryBytes, dolData, dolDataBy}
+use Rattle.dol.specs.Commands.{gpoCommandOf, getProcessingOptions, generateAcOf, generateAc, udolOrDefault, checksumCommandOf, checksumCommandWith, computeCryptographicChecksum}
+use Rattle.analysis.specs.Bits.{numberedBit}
+use Rattle.analysis.specs.Value.{firstBytes}
+use Rattle.analysis.specs.Digits.{bcdFrom, yearOf, dateOf, dateLater, amountOf, amountAbove}
+use Rattle.analysis.specs.Restrictions.{versionDiffers, notYetEffective, atAtm, issuerCountryOf, cashbackRequested, aucViolated}
+use Rattle.analysis.specs.Tvr.{tvrWithBits}
+use Rattle.analysis.specs.Choice.{stageHoldsBit, lowestFrom, lowestBit, iacCode, stageHolds, onlineCapabilityAt, choiceOf}
+use Rattle.analysis.specs.Cvm.{cvmProcessing, onDeviceCvm}
+use Rattle.analysis.specs.Action.{hasOnDeviceCvm, transactionLimit, aboveTransactionLimit, aucViolatedIn, restrictionsByte, tvrOf, sameCurrency, cvmConditionsIn, cvmResultIn, tvrWithCvm, findingsOf, actionCodesOf, choiceFor}
+use Rattle.session_record.specs.Numbers.{outcomeOfReason}
+use Rattle.session_record.specs.Ranges.{isPresentIfRequired, allRequiredPresent, cryptogramDataPresent, trackDataPresent}
+use Rattle.session.specs.Steps.{withTvr, withFindings}
+use Rattle.session.specs.MagStripe.{askChecksum, afterRecordsMagStripe, storeWithDigits, afterChecksumRead, checksumOutcomeOf, checksumReply}
+use Rattle.session.specs.Answer.{gpoStoreReason, afterGpoRead, gpoStep, recordStep, afterRecordRead, afterLastRecord, afterRecordsEmv, afterAnalysis, requestedCryptogram, askCryptogram, cryptogramOutcome, cryptogramEnding, cryptogramReply}
+use Rattle.worked_examples.specs.Sessions.{amountBelow, amountOver, emvAip, magStripeAip, waitsOnLast}
+use Rattle.worked_examples.specs.Records.{RecordExamples, MagStripeExamples}
 use Rattle.worked_examples.proofs.Laws.{each-in, says-in}
 use Rattle.worked_examples.proofs.Ranges.{kept}
 
 pub on-last-record : RecordExamples
-unfolding recurse recurseBy if both either every numberFrom nibbles alike tagSize secondByte thirdByte tagAt firstByte isTemplate isPrivate oneByte twoBytes lengthAt headerOf count nextOf
-    withLeaf withNode parse tagBytes lengthBytes rows past find placeOf numeric digitsThenFs compressed digitsFit fitting offsetIn placeAt held valueAt putAt valueIn keeps entries
-    wholeEntries recordsFrom recordsOf sumOf accepts nth kth recordAt mayStand mayCome allowed takeItem takeNext takeAll items bodyOf optionsParts issuerPart cryptogramParts primitiveParts
-    templateParts readBody isRead goodStatus goodLength readAnswer withLength entryAt withEntry along listEntries cut padding padded fitted entryBytes fillingOf filledBy optionsOf
-    processingOptions cryptogramOf generateAc checksumList checksumOf checksumWith computeChecksum bit front decimalFrom yearOf dateOf laterThan amountOf amountAbove otherVersion
-    notYetEffective atAtm countryOf cashback usageBroken withBits holdsBit lowestFrom lowestBit cardCode heldAt capabilityAt choiceOf verification onDevice phoneIn limitOf aboveLimit usageIn
-    restrictionsOf resultOf sameCurrency termsIn verifiedIn fullResult findingsOf codesOf chosen outcomeFor isBrought brought completed trackCompleted withResults withFindings askChecksum
-    stripeRead withDigits checksumRead checksumTaken checksumReply storedReason optionsRead optionsStep recordStep recordRead lastRead recordsRead analysed askedIn askCryptogram decision
-    cryptogramEnd cryptogramReply
+unfolding recurse recurseBy if both either every bigEndianFrom nibbles bytesEqual tagSize tagSecondByte tagThirdByte tagAt tagFirstByte isTemplate isPrivate lengthOneByte lengthTwoBytes lengthAt headerOf objectCount nextOf
+    withLeaf withNode parseTree tagBytes lengthBytes dictionaryRows rowPast findRow rowNumberOf numeric digitsThenFs compressed digitsFit fitsRow rowOffset rowPlace placeValue rowValue putRow objectValueIn validEntry aflEntries
+    wholeEntries consecutiveRecords entriesRecords sumOverEntries acceptsAfl nthRecord kthRecord aflRecordAt allowedInTemplate allowedInResponse allowedNow takeItem takeNext takeAll primitiveItems responseBody gpoParts iadPart cryptogramParts primitiveParts
+    templateParts readBody isRead isStatus9000 isResponseLength readAnswer entryWithLength dolEntryAt entryBefore entriesNext dolEntries truncated paddingByte padded fittedTo dolEntryBytes dolData dolDataBy gpoCommandOf
+    getProcessingOptions generateAcOf generateAc udolOrDefault checksumCommandOf checksumCommandWith computeCryptographicChecksum numberedBit firstBytes bcdFrom yearOf dateOf dateLater amountOf amountAbove versionDiffers
+    notYetEffective atAtm issuerCountryOf cashbackRequested aucViolated tvrWithBits stageHoldsBit lowestFrom lowestBit iacCode stageHolds onlineCapabilityAt choiceOf cvmProcessing onDeviceCvm hasOnDeviceCvm transactionLimit aboveTransactionLimit aucViolatedIn
+    restrictionsByte tvrOf sameCurrency cvmConditionsIn cvmResultIn tvrWithCvm findingsOf actionCodesOf choiceFor outcomeOfReason isPresentIfRequired allRequiredPresent cryptogramDataPresent trackDataPresent withTvr withFindings askChecksum
+    afterRecordsMagStripe storeWithDigits afterChecksumRead checksumOutcomeOf checksumReply gpoStoreReason afterGpoRead gpoStep recordStep afterRecordRead afterLastRecord afterRecordsEmv afterAnalysis requestedCryptogram askCryptogram cryptogramOutcome
+    cryptogramEnding cryptogramReply
 on-last-record = record {
-  length-status = says-in (waitsOnLast emvProfile amountBelow) (kept .emv-within) _ refl;
-  length-objects = says-in (waitsOnLast emvProfile amountBelow) (kept .emv-within) _ refl;
-  length-limit = says-in (waitsOnLast emvProfile amountOver) (kept .emv-above) _ refl;
-  length-missing = says-in (waitsOnLast emvProfile amountBelow) (kept .emv-within) _ refl;
-  length-list = says-in (waitsOnLast emvProfile amountBelow) (kept .emv-within) _ refl;
-  status-encoding = says-in (waitsOnLast emvProfile amountBelow) (kept .emv-within) _ refl;
-  status-outer-tag = says-in (waitsOnLast emvProfile amountBelow) (kept .emv-within) _ refl;
-  status-objects = says-in (waitsOnLast emvProfile amountBelow) (kept .emv-within) _ refl;
-  status-limit = says-in (waitsOnLast emvProfile amountOver) (kept .emv-above) _ refl;
-  status-missing = says-in (waitsOnLast emvProfile amountBelow) (kept .emv-within) _ refl;
-  status-list = says-in (waitsOnLast emvProfile amountBelow) (kept .emv-within) _ refl;
-  encoding-objects = says-in (waitsOnLast emvProfile amountBelow) (kept .emv-within) _ refl;
-  encoding-limit = says-in (waitsOnLast emvProfile amountOver) (kept .emv-above) _ refl;
-  encoding-missing = says-in (waitsOnLast emvProfile amountBelow) (kept .emv-within) _ refl;
-  encoding-list = says-in (waitsOnLast emvProfile amountBelow) (kept .emv-within) _ refl;
-  outer-tag-objects = says-in (waitsOnLast emvProfile amountBelow) (kept .emv-within) _ refl;
-  outer-tag-limit = says-in (waitsOnLast emvProfile amountOver) (kept .emv-above) _ refl;
-  outer-tag-missing = says-in (waitsOnLast emvProfile amountBelow) (kept .emv-within) _ refl;
-  outer-tag-list = says-in (waitsOnLast emvProfile amountBelow) (kept .emv-within) _ refl;
-  objects-limit = says-in (waitsOnLast emvProfile amountOver) (kept .emv-above) _ refl;
-  objects-missing = says-in (waitsOnLast emvProfile amountBelow) (kept .emv-within) _ refl;
-  objects-list = says-in (waitsOnLast emvProfile amountBelow) (kept .emv-within) _ refl;
-  limit-missing = says-in (waitsOnLast emvProfile amountOver) (kept .emv-above) _ refl;
-  limit-list = says-in (waitsOnLast emvProfile amountOver) (kept .emv-above) _ refl;
-  missing-list = says-in (waitsOnLast emvProfile amountBelow) (kept .emv-within) _ refl;
-  above-alone = says-in (waitsOnLast emvProfile amountOver) (kept .emv-above) _ refl;
-  others-alone = each-in (waitsOnLast emvProfile amountBelow) (kept .emv-within) _ refl;
+  length-status = says-in (waitsOnLast emvAip amountBelow) (kept .emv-within) _ refl;
+  length-objects = says-in (waitsOnLast emvAip amountBelow) (kept .emv-within) _ refl;
+  length-limit = says-in (waitsOnLast emvAip amountOver) (kept .emv-above) _ refl;
+  length-missing = says-in (waitsOnLast emvAip amountBelow) (kept .emv-within) _ refl;
+  length-list = says-in (waitsOnLast emvAip amountBelow) (kept .emv-within) _ refl;
+  status-encoding = says-in (waitsOnLast emvAip amountBelow) (kept .emv-within) _ refl;
+  status-outer-tag = says-in (waitsOnLast emvAip amountBelow) (kept .emv-within) _ refl;
+  status-objects = says-in (waitsOnLast emvAip amountBelow) (kept .emv-within) _ refl;
+  status-limit = says-in (waitsOnLast emvAip amountOver) (kept .emv-above) _ refl;
+  status-missing = says-in (waitsOnLast emvAip amountBelow) (kept .emv-within) _ refl;
+  status-list = says-in (waitsOnLast emvAip amountBelow) (kept .emv-within) _ refl;
+  encoding-objects = says-in (waitsOnLast emvAip amountBelow) (kept .emv-within) _ refl;
+  encoding-limit = says-in (waitsOnLast emvAip amountOver) (kept .emv-above) _ refl;
+  encoding-missing = says-in (waitsOnLast emvAip amountBelow) (kept .emv-within) _ refl;
+  encoding-list = says-in (waitsOnLast emvAip amountBelow) (kept .emv-within) _ refl;
+  outer-tag-objects = says-in (waitsOnLast emvAip amountBelow) (kept .emv-within) _ refl;
+  outer-tag-limit = says-in (waitsOnLast emvAip amountOver) (kept .emv-above) _ refl;
+  outer-tag-missing = says-in (waitsOnLast emvAip amountBelow) (kept .emv-within) _ refl;
+  outer-tag-list = says-in (waitsOnLast emvAip amountBelow) (kept .emv-within) _ refl;
+  objects-limit = says-in (waitsOnLast emvAip amountOver) (kept .emv-above) _ refl;
+  objects-missing = says-in (waitsOnLast emvAip amountBelow) (kept .emv-within) _ refl;
+  objects-list = says-in (waitsOnLast emvAip amountBelow) (kept .emv-within) _ refl;
+  limit-missing = says-in (waitsOnLast emvAip amountOver) (kept .emv-above) _ refl;
+  limit-list = says-in (waitsOnLast emvAip amountOver) (kept .emv-above) _ refl;
+  missing-list = says-in (waitsOnLast emvAip amountBelow) (kept .emv-within) _ refl;
+  above-alone = says-in (waitsOnLast emvAip amountOver) (kept .emv-above) _ refl;
+  others-alone = each-in (waitsOnLast emvAip amountBelow) (kept .emv-within) _ refl;
 }
 
-pub on-last-stripe : StripeExamples
-unfolding recurse recurseBy if both either every numberFrom nibbles alike tagSize secondByte thirdByte tagAt firstByte isTemplate isPrivate oneByte twoBytes lengthAt headerOf count nextOf
-    withLeaf withNode parse tagBytes lengthBytes rows past find placeOf numeric digitsThenFs compressed digitsFit fitting offsetIn placeAt held valueAt putAt valueIn keeps entries
-    wholeEntries recordsFrom recordsOf sumOf accepts nth kth recordAt mayStand mayCome allowed takeItem takeNext takeAll items bodyOf optionsParts issuerPart cryptogramParts primitiveParts
-    templateParts readBody isRead goodStatus goodLength readAnswer withLength entryAt withEntry along listEntries cut padding padded fitted entryBytes fillingOf filledBy optionsOf
-    processingOptions cryptogramOf generateAc checksumList checksumOf checksumWith computeChecksum bit front decimalFrom yearOf dateOf laterThan amountOf amountAbove otherVersion
-    notYetEffective atAtm countryOf cashback usageBroken withBits holdsBit lowestFrom lowestBit cardCode heldAt capabilityAt choiceOf verification onDevice phoneIn limitOf aboveLimit usageIn
-    restrictionsOf resultOf sameCurrency termsIn verifiedIn fullResult findingsOf codesOf chosen outcomeFor isBrought brought completed trackCompleted withResults withFindings askChecksum
-    stripeRead withDigits checksumRead checksumTaken checksumReply storedReason optionsRead optionsStep recordStep recordRead lastRead recordsRead analysed askedIn askCryptogram decision
-    cryptogramEnd cryptogramReply
-on-last-stripe = record {
-  objects-limit = says-in (waitsOnLast stripeProfile amountOver) (kept .stripe-above) _ refl;
-  objects-missing = says-in (waitsOnLast stripeProfile amountBelow) (kept .stripe-within) _ refl;
-  objects-list = says-in (waitsOnLast stripeProfile amountBelow) (kept .stripe-within) _ refl;
-  limit-missing = says-in (waitsOnLast stripeProfile amountOver) (kept .stripe-above) _ refl;
-  limit-list = says-in (waitsOnLast stripeProfile amountOver) (kept .stripe-above) _ refl;
-  missing-list = says-in (waitsOnLast stripeProfile amountBelow) (kept .stripe-within) _ refl;
-  above-alone = says-in (waitsOnLast stripeProfile amountOver) (kept .stripe-above) _ refl;
-  others-alone = each-in (waitsOnLast stripeProfile amountBelow) (kept .stripe-within) _ refl;
+pub on-last-mag-stripe : MagStripeExamples
+unfolding recurse recurseBy if both either every bigEndianFrom nibbles bytesEqual tagSize tagSecondByte tagThirdByte tagAt tagFirstByte isTemplate isPrivate lengthOneByte lengthTwoBytes lengthAt headerOf objectCount nextOf
+    withLeaf withNode parseTree tagBytes lengthBytes dictionaryRows rowPast findRow rowNumberOf numeric digitsThenFs compressed digitsFit fitsRow rowOffset rowPlace placeValue rowValue putRow objectValueIn validEntry aflEntries
+    wholeEntries consecutiveRecords entriesRecords sumOverEntries acceptsAfl nthRecord kthRecord aflRecordAt allowedInTemplate allowedInResponse allowedNow takeItem takeNext takeAll primitiveItems responseBody gpoParts iadPart cryptogramParts primitiveParts
+    templateParts readBody isRead isStatus9000 isResponseLength readAnswer entryWithLength dolEntryAt entryBefore entriesNext dolEntries truncated paddingByte padded fittedTo dolEntryBytes dolData dolDataBy gpoCommandOf
+    getProcessingOptions generateAcOf generateAc udolOrDefault checksumCommandOf checksumCommandWith computeCryptographicChecksum numberedBit firstBytes bcdFrom yearOf dateOf dateLater amountOf amountAbove versionDiffers
+    notYetEffective atAtm issuerCountryOf cashbackRequested aucViolated tvrWithBits stageHoldsBit lowestFrom lowestBit iacCode stageHolds onlineCapabilityAt choiceOf cvmProcessing onDeviceCvm hasOnDeviceCvm transactionLimit aboveTransactionLimit aucViolatedIn
+    restrictionsByte tvrOf sameCurrency cvmConditionsIn cvmResultIn tvrWithCvm findingsOf actionCodesOf choiceFor outcomeOfReason isPresentIfRequired allRequiredPresent cryptogramDataPresent trackDataPresent withTvr withFindings askChecksum
+    afterRecordsMagStripe storeWithDigits afterChecksumRead checksumOutcomeOf checksumReply gpoStoreReason afterGpoRead gpoStep recordStep afterRecordRead afterLastRecord afterRecordsEmv afterAnalysis requestedCryptogram askCryptogram cryptogramOutcome
+    cryptogramEnding cryptogramReply
+on-last-mag-stripe = record {
+  objects-limit = says-in (waitsOnLast magStripeAip amountOver) (kept .mag-stripe-above) _ refl;
+  objects-missing = says-in (waitsOnLast magStripeAip amountBelow) (kept .mag-stripe-within) _ refl;
+  objects-list = says-in (waitsOnLast magStripeAip amountBelow) (kept .mag-stripe-within) _ refl;
+  limit-missing = says-in (waitsOnLast magStripeAip amountOver) (kept .mag-stripe-above) _ refl;
+  limit-list = says-in (waitsOnLast magStripeAip amountOver) (kept .mag-stripe-above) _ refl;
+  missing-list = says-in (waitsOnLast magStripeAip amountBelow) (kept .mag-stripe-within) _ refl;
+  above-alone = says-in (waitsOnLast magStripeAip amountOver) (kept .mag-stripe-above) _ refl;
+  others-alone = each-in (waitsOnLast magStripeAip amountBelow) (kept .mag-stripe-within) _ refl;
 }

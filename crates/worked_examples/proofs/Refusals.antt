@@ -2,68 +2,68 @@
 use mathlib.Core.Path.{refl}
 use Rattle.basics.specs.Recursion.{recurse, recurseBy}
 use Rattle.basics.specs.Choice.{if, both, either, every}
-use Rattle.basics.specs.Number.{numberFrom, nibbles}
-use Rattle.tlv.specs.Tag.{tagSize, secondByte, thirdByte, tagAt, firstByte, isTemplate, isPrivate}
-use Rattle.tlv.specs.Length.{oneByte, twoBytes, lengthAt}
+use Rattle.basics.specs.Number.{bigEndianFrom, nibbles}
+use Rattle.tlv.specs.Tag.{tagSize, tagSecondByte, tagThirdByte, tagAt, tagFirstByte, isTemplate, isPrivate}
+use Rattle.tlv.specs.Length.{lengthOneByte, lengthTwoBytes, lengthAt}
 use Rattle.tlv.specs.Object.{headerOf}
-use Rattle.tlv.specs.Primitives.{withObject, primitiveOf, primitives}
+use Rattle.tlv.specs.Primitives.{objectBefore, primitiveOf, primitiveObjects}
 use Rattle.tlv.specs.Encoding.{tagBytes, lengthBytes}
-use Rattle.dictionary.specs.Rows.{rows, past, find}
-use Rattle.dictionary.specs.Named.{placeOf}
-use Rattle.dictionary.specs.Form.{numeric, digitsThenFs, compressed, digitsFit, fitting}
-use Rattle.dictionary.specs.TerminalType.{listed}
-use Rattle.store.specs.Place.{offsetIn, placeAt, held, valueAt, putAt, valueIn}
-use Rattle.data_list.specs.Entries.{withLength, entryAt, withEntry, along, listEntries}
-use Rattle.data_list.specs.Filling.{cut, padding, padded, fitted, entryBytes, fillingOf, filledBy}
-use Rattle.data_list.specs.Commands.{optionsOf, processingOptions, cryptogramOf, generateAc, checksumList, checksumOf, checksumWith, computeChecksum}
-use Rattle.record.specs.Numbers.{outcomeFor}
-use Rattle.record.specs.Ranges.{isBrought, brought, completed, trackCompleted}
-use Rattle.terminal.specs.Terminal.{typeListed, settable, setObject, setAll, load}
-use Rattle.session.specs.Steps.{withResults, withFindings}
-use Rattle.session.specs.Start.{askOptions}
-use Rattle.record.specs.Session.{freshSession}
-use Rattle.record.proofs.Phases.{fresh-keeps}
-use Rattle.worked_examples.specs.Sessions.{waitsOnOptions, hasEnded, brokenFresh, brokenOptions, brokenEnded}
+use Rattle.dictionary.specs.Rows.{dictionaryRows, rowPast, findRow}
+use Rattle.dictionary.specs.Named.{rowNumberOf}
+use Rattle.dictionary.specs.Form.{numeric, digitsThenFs, compressed, digitsFit, fitsRow}
+use Rattle.dictionary.specs.TerminalType.{listedTerminalType}
+use Rattle.store.specs.Place.{rowOffset, rowPlace, placeValue, rowValue, putRow, objectValueIn}
+use Rattle.dol.specs.Entries.{entryWithLength, dolEntryAt, entryBefore, entriesNext, dolEntries}
+use Rattle.dol.specs.Filling.{truncated, paddingByte, padded, fittedTo, dolEntryBytes, dolData, dolDataBy}
+use Rattle.dol.specs.Commands.{gpoCommandOf, getProcessingOptions, generateAcOf, generateAc, udolOrDefault, checksumCommandOf, checksumCommandWith, computeCryptographicChecksum}
+use Rattle.session_record.specs.Numbers.{outcomeOfReason}
+use Rattle.session_record.specs.Ranges.{isPresentIfRequired, allRequiredPresent, cryptogramDataPresent, trackDataPresent}
+use Rattle.start_data.specs.StartData.{terminalTypeListed, settableByStart, setObject, setObjects, loadStart}
+use Rattle.session.specs.Steps.{withTvr, withFindings}
+use Rattle.session.specs.Start.{askGpo}
+use Rattle.session_record.specs.Session.{freshSession}
+use Rattle.session_record.proofs.Phases.{fresh-keeps}
+use Rattle.worked_examples.specs.Sessions.{waitsOnGpo, hasEnded, freshOutOfRanges, gpoOutOfRanges, endedOutOfRanges}
 use Rattle.worked_examples.specs.Refusals.{RefusalExamples}
 use Rattle.worked_examples.proofs.Laws.{answer-in, answer-out, answer-short, link-in, link-out, link-short, start-in, start-out, start-short, stop-in, stop-out, stop-short}
 use Rattle.worked_examples.proofs.Ranges.{kept}
 
 pub refusals : RefusalExamples
-unfolding recurse recurseBy if both either every numberFrom nibbles tagSize secondByte thirdByte tagAt firstByte isTemplate isPrivate oneByte twoBytes lengthAt headerOf withObject
-    primitiveOf primitives tagBytes lengthBytes rows past find placeOf numeric digitsThenFs compressed digitsFit fitting listed offsetIn placeAt held valueAt putAt valueIn withLength entryAt
-    withEntry along listEntries cut padding padded fitted entryBytes fillingOf filledBy optionsOf processingOptions cryptogramOf generateAc checksumList checksumOf checksumWith
-    computeChecksum outcomeFor isBrought brought completed trackCompleted typeListed settable setObject setAll load withResults withFindings askOptions
+unfolding recurse recurseBy if both either every bigEndianFrom nibbles tagSize tagSecondByte tagThirdByte tagAt tagFirstByte isTemplate isPrivate lengthOneByte lengthTwoBytes lengthAt headerOf objectBefore
+    primitiveOf primitiveObjects tagBytes lengthBytes dictionaryRows rowPast findRow rowNumberOf numeric digitsThenFs compressed digitsFit fitsRow listedTerminalType rowOffset rowPlace placeValue rowValue putRow objectValueIn entryWithLength dolEntryAt
+    entryBefore entriesNext dolEntries truncated paddingByte padded fittedTo dolEntryBytes dolData dolDataBy gpoCommandOf getProcessingOptions generateAcOf generateAc udolOrDefault checksumCommandOf checksumCommandWith
+    computeCryptographicChecksum outcomeOfReason isPresentIfRequired allRequiredPresent cryptogramDataPresent trackDataPresent terminalTypeListed settableByStart setObject setObjects loadStart withTvr withFindings askGpo
 refusals = record {
-  buffer-ranges = start-short brokenFresh _;
-  buffer-phase = start-short waitsOnOptions _;
+  buffer-ranges = start-short freshOutOfRanges _;
+  buffer-phase = start-short waitsOnGpo _;
   buffer-run = start-short freshSession _;
   buffer-object = start-short freshSession _;
   buffer-absent = start-short freshSession _;
-  ranges-phase = start-out brokenOptions (kept .broken-options) _;
-  ranges-run = start-out brokenFresh (kept .broken-fresh) _;
-  ranges-object = start-out brokenFresh (kept .broken-fresh) _;
-  ranges-absent = start-out brokenFresh (kept .broken-fresh) _;
-  phase-run = start-in waitsOnOptions (kept .options) _ refl;
-  phase-object = start-in waitsOnOptions (kept .options) _ refl;
-  phase-absent = start-in waitsOnOptions (kept .options) _ refl;
+  ranges-phase = start-out gpoOutOfRanges (kept .broken-gpo) _;
+  ranges-run = start-out freshOutOfRanges (kept .broken-fresh) _;
+  ranges-object = start-out freshOutOfRanges (kept .broken-fresh) _;
+  ranges-absent = start-out freshOutOfRanges (kept .broken-fresh) _;
+  phase-run = start-in waitsOnGpo (kept .gpo) _ refl;
+  phase-object = start-in waitsOnGpo (kept .gpo) _ refl;
+  phase-absent = start-in waitsOnGpo (kept .gpo) _ refl;
   run-object = start-in freshSession fresh-keeps _ refl;
   run-absent = start-in freshSession fresh-keeps _ refl;
   object-absent = start-in freshSession fresh-keeps _ refl;
   absent-alone = start-in freshSession fresh-keeps _ refl;
   absent-list = start-in freshSession fresh-keeps _ refl;
   list-alone = start-in freshSession fresh-keeps _ refl;
-  answer-buffer-ranges = answer-short brokenOptions _;
+  answer-buffer-ranges = answer-short gpoOutOfRanges _;
   answer-buffer-phase = answer-short freshSession _;
-  answer-ranges-phase = answer-out brokenFresh (kept .broken-fresh) _;
-  answer-ranges-ended = answer-out brokenEnded (kept .broken-ended) _;
+  answer-ranges-phase = answer-out freshOutOfRanges (kept .broken-fresh) _;
+  answer-ranges-ended = answer-out endedOutOfRanges (kept .broken-ended) _;
   answer-phase = answer-in freshSession fresh-keeps _ refl;
   answer-ended = answer-in hasEnded (kept .ended) _ refl;
-  link-buffer-ranges = link-short brokenOptions;
+  link-buffer-ranges = link-short gpoOutOfRanges;
   link-buffer-phase = link-short freshSession;
-  link-ranges-phase = link-out brokenFresh (kept .broken-fresh);
+  link-ranges-phase = link-out freshOutOfRanges (kept .broken-fresh);
   link-phase = link-in hasEnded (kept .ended) refl;
-  stop-buffer-ranges = stop-short brokenOptions;
+  stop-buffer-ranges = stop-short gpoOutOfRanges;
   stop-buffer-phase = stop-short freshSession;
-  stop-ranges-phase = stop-out brokenFresh (kept .broken-fresh);
+  stop-ranges-phase = stop-out freshOutOfRanges (kept .broken-fresh);
   stop-phase = stop-in hasEnded (kept .ended) refl;
 }

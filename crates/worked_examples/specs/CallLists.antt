@@ -6,10 +6,10 @@ use mathlib.Core.List.{List, [], _∷_, _++_, map}
 use mathlib.Core.Option.{some, none}
 use Prim.Native.Nat.{ℕ}
 use lib.ListN.{replicate}
-use Rattle.record.specs.declared.Outcome.{Outcome}
-use Rattle.trace.specs.Calls.{Call, start, answer, link-failed, stop}
-use Rattle.run.specs.Encoding.{encodedCall, callsOf}
-use Rattle.run.specs.Playing.{answerBytes, saidOf, saidNumber}
+use Rattle.session_record.specs.declared.Outcome.{Outcome}
+use Rattle.session_claim.specs.Calls.{Call, start, answer, link-failed, stop}
+use Rattle.call_list.specs.Encoding.{encodedCall, callsOf}
+use Rattle.call_list.specs.Playing.{resultBytes, playResultOf, playResultNumber}
 use Rattle.worked_examples.specs.Calls.{commandResult, outcomeResult, refusalResult}
 
 -- a length in eight bytes
@@ -35,7 +35,7 @@ listedInBytes =
 
 -- the number of a run over these bytes, with this room for replies
 abbrev pub reported : List ℕ → ℕ → ℕ
-reported bytes room = saidNumber (saidOf (callsOf bytes) (replicate room 0))
+reported bytes room = playResultNumber (playResultOf (callsOf bytes) (replicate room 0))
 
 pub record CallListExamples : Type 0 where
   pub calls-written : map encodedCall listedCalls ≡ listedInBytes
@@ -45,7 +45,7 @@ pub record CallListExamples : Type 0 where
       map callsOf
       ((0 ∷ eight 0 ++ eight 0) ∷ (5 ∷ eight 0 ++ eight 0) ∷ (3 ∷ eight 1 ++ eight 0 ++ (0x07 ∷ [])) ∷ [])
       ≡ none ∷ none ∷ none ∷ []
-  pub replies : map answerBytes (commandResult 261 ∷ outcomeResult Outcome.Ended 8 2 ∷ refusalResult 25 ∷ [])
+  pub replies : map resultBytes (commandResult 261 ∷ outcomeResult Outcome.Ended 8 2 ∷ refusalResult 25 ∷ [])
       ≡ (0 ∷ 0x01 ∷ 0x05 ∷ []) ∷ (1 ∷ 3 ∷ 8 ∷ []) ∷ (2 ∷ 0 ∷ 25 ∷ []) ∷ []
   -- a stop with room for its reply; no list of calls; a stop with a byte too little room
   pub numbers : reported (4 ∷ eight 0 ++ eight 0) 4 ∷ reported (5 ∷ []) 4 ∷ reported (4 ∷ eight 0 ++ eight 0) 3 ∷ []

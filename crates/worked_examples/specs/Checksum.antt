@@ -7,13 +7,13 @@ use mathlib.Core.List.{List, [], _∷_, _++_}
 use Prim.Native.Nat.{ℕ}
 use Rattle.tlv.specs.Encoding.{objectBytes}
 use Rattle.store.specs.Place.{present}
-use Rattle.record.specs.declared.Answer.{Answer}
-use Rattle.record.specs.declared.Outcome.{Outcome}
-use Rattle.record.specs.declared.Session.{Session}
+use Rattle.session_record.specs.declared.CallResult.{CallResult}
+use Rattle.session_record.specs.declared.Outcome.{Outcome}
+use Rattle.session_record.specs.declared.Session.{Session}
 use Rattle.worked_examples.specs.Sessions.{soundTrack, unsoundTrack, waitsOnChecksum}
 use Rattle.worked_examples.specs.Calls.{resultOn, resultsOn, valueAfter, outcomeResult, endedWith, with9000}
-use Rattle.worked_examples.specs.Calls.{with6A82, long, tooLong}
-use Rattle.worked_examples.specs.Calls.{cut77, byteBehind, wrapped, forbidden}
+use Rattle.worked_examples.specs.Calls.{with6A82, answerOf259Bytes, tooLongAnswer}
+use Rattle.worked_examples.specs.Calls.{truncated77, byteBehind, wrappedBody, tvrFromCard}
 
 -- the counter 9F36, and with it the code 9F61
 abbrev pub atcObject : List ℕ
@@ -33,7 +33,7 @@ abbrev pub nothing77 : List ℕ
 nothing77 = objectBytes 0x77 []
 
 abbrev pub forbidden77 : List ℕ
-forbidden77 = objectBytes 0x77 forbidden
+forbidden77 = objectBytes 0x77 tvrFromCard
 
 -- the track that is stored can take the digits, or cannot
 abbrev pub waitsOnSound : Session
@@ -43,12 +43,12 @@ abbrev pub waitsOnUnsound : Session
 waitsOnUnsound = waitsOnChecksum unsoundTrack
 
 pub record ChecksumExamples : Type 0 where
-  pub length-status : resultOn waitsOnSound tooLong ≡ endedWith 2
-  pub length-objects : resultOn waitsOnSound (long 0x77 forbidden) ≡ endedWith 2
-  pub length-track : resultOn waitsOnUnsound (long 0x77 (atcObject ++ cvc3Object)) ≡ endedWith 2
-  pub length-missing : resultOn waitsOnSound (long 0x77 []) ≡ endedWith 2
-  pub length-declined : resultOn waitsOnSound (long 0x77 atcObject) ≡ endedWith 2
-  pub status-encoding : resultOn waitsOnSound (with6A82 cut77) ≡ endedWith 1
+  pub length-status : resultOn waitsOnSound tooLongAnswer ≡ endedWith 2
+  pub length-objects : resultOn waitsOnSound (answerOf259Bytes 0x77 tvrFromCard) ≡ endedWith 2
+  pub length-track : resultOn waitsOnUnsound (answerOf259Bytes 0x77 (atcObject ++ cvc3Object)) ≡ endedWith 2
+  pub length-missing : resultOn waitsOnSound (answerOf259Bytes 0x77 []) ≡ endedWith 2
+  pub length-declined : resultOn waitsOnSound (answerOf259Bytes 0x77 atcObject) ≡ endedWith 2
+  pub status-encoding : resultOn waitsOnSound (with6A82 truncated77) ≡ endedWith 1
   pub status-outer-tag : resultOn waitsOnSound (with6A82 (objectBytes 0x70 [])) ≡ endedWith 1
   pub status-objects : resultOn waitsOnSound (with6A82 forbidden77) ≡ endedWith 1
   pub status-track : resultOn waitsOnUnsound (with6A82 both77) ≡ endedWith 1
@@ -58,12 +58,12 @@ pub record ChecksumExamples : Type 0 where
   pub encoding-track : resultOn waitsOnUnsound (with9000 (byteBehind both77)) ≡ endedWith 2
   pub encoding-missing : resultOn waitsOnSound (with9000 (byteBehind nothing77)) ≡ endedWith 2
   pub encoding-declined : resultOn waitsOnSound (with9000 (byteBehind counter77)) ≡ endedWith 2
-  pub outer-tag-objects : resultOn waitsOnSound (with9000 (objectBytes 0x70 forbidden)) ≡ endedWith 2
-  pub outer-tag-track : resultOn waitsOnUnsound (with9000 (wrapped both77)) ≡ endedWith 2
+  pub outer-tag-objects : resultOn waitsOnSound (with9000 (objectBytes 0x70 tvrFromCard)) ≡ endedWith 2
+  pub outer-tag-track : resultOn waitsOnUnsound (with9000 (wrappedBody both77)) ≡ endedWith 2
   pub outer-tag-missing : resultOn waitsOnSound (with9000 (objectBytes 0x70 [])) ≡ endedWith 2
-  pub outer-tag-declined : resultOn waitsOnSound (with9000 (wrapped counter77)) ≡ endedWith 2
+  pub outer-tag-declined : resultOn waitsOnSound (with9000 (wrappedBody counter77)) ≡ endedWith 2
   pub objects-missing : resultOn waitsOnSound (with9000 forbidden77) ≡ endedWith 3
-  pub objects-declined : resultOn waitsOnSound (with9000 (objectBytes 0x77 (atcObject ++ forbidden))) ≡ endedWith 3
+  pub objects-declined : resultOn waitsOnSound (with9000 (objectBytes 0x77 (atcObject ++ tvrFromCard))) ≡ endedWith 3
   pub track-missing : resultOn waitsOnUnsound (with9000 nothing77) ≡ endedWith 3
   pub track-declined : resultOn waitsOnUnsound (with9000 counter77) ≡ endedWith 3
   pub missing-declined : resultOn waitsOnSound (with9000 nothing77) ≡ endedWith 4

@@ -8,13 +8,13 @@ use Prim.Native.Nat.{ℕ}
 use Rattle.tlv.specs.Encoding.{objectBytes}
 use Rattle.store.specs.Place.{absent, present}
 use Rattle.analysis.specs.declared.choice.Choice.{Choice}
-use Rattle.record.specs.declared.Answer.{Answer}
-use Rattle.record.specs.declared.Outcome.{Outcome}
-use Rattle.record.specs.declared.Session.{Session}
+use Rattle.session_record.specs.declared.CallResult.{CallResult}
+use Rattle.session_record.specs.declared.Outcome.{Outcome}
+use Rattle.session_record.specs.declared.Session.{Session}
 use Rattle.worked_examples.specs.Sessions.{objectsInBytes, waitsOnCryptogram}
-use Rattle.worked_examples.specs.Calls.{resultOn, resultsOn, valueAfter, outcomeResult, endedWithPin, with9000}
-use Rattle.worked_examples.specs.Calls.{with6A82, long}
-use Rattle.worked_examples.specs.Calls.{tooLong, cut77, byteBehind, wrapped, forbidden}
+use Rattle.worked_examples.specs.Calls.{resultOn, resultsOn, valueAfter, outcomeResult, endedResultWithPin, with9000}
+use Rattle.worked_examples.specs.Calls.{with6A82, answerOf259Bytes}
+use Rattle.worked_examples.specs.Calls.{tooLongAnswer, truncated77, byteBehind, wrappedBody, tvrFromCard}
 
 -- 9F27, 9F36 and 9F26, and these in a 77
 abbrev pub cryptogramObjects : ℕ → List ℕ
@@ -31,17 +31,17 @@ abbrev pub cryptogramTypes : List (List ℕ)
 cryptogramTypes = map (λ information. with9000 (cryptogram77 information)) (0x00 ∷ 0x40 ∷ 0x80 ∷ 0xC0 ∷ [])
 
 -- the outcomes; each reports the method that the session holds
-abbrev pub declined : Answer
+abbrev pub declined : CallResult
 declined = outcomeResult Outcome.Declined 0 2
 
-abbrev pub onlineRequest : Answer
+abbrev pub onlineRequest : CallResult
 onlineRequest = outcomeResult Outcome.OnlineRequest 0 2
 
-abbrev pub approved : Answer
+abbrev pub approved : CallResult
 approved = outcomeResult Outcome.Approved 0 2
 
-abbrev pub notAllowed : Answer
-notAllowed = endedWithPin 8
+abbrev pub notAllowed : CallResult
+notAllowed = endedResultWithPin 8
 
 -- what is awaited in the other fields: an ARQC was asked for, so that a TC is not allowed
 abbrev pub waitsOnArqc : Session
@@ -64,34 +64,34 @@ pub record CryptogramExamples : Type 0 where
   pub offline-asked : resultsOn (waitsOnCryptogram Choice.Offline) cryptogramTypes
       ≡ declined ∷ approved ∷ onlineRequest ∷ notAllowed ∷ []
   -- the order
-  pub length-status : resultOn waitsOnArqc tooLong ≡ endedWithPin 2
-  pub length-objects : resultOn waitsOnArqc (long 0x77 forbidden) ≡ endedWithPin 2
-  pub length-missing : resultOn waitsOnArqc (long 0x77 []) ≡ endedWithPin 2
-  pub length-type : resultOn waitsOnArqc (long 0x77 (cryptogramObjects 0x40)) ≡ endedWithPin 2
-  pub status-encoding : resultOn waitsOnArqc (with6A82 cut77) ≡ endedWithPin 1
-  pub status-outer-tag : resultOn waitsOnArqc (with6A82 (objectBytes 0x70 [])) ≡ endedWithPin 1
-  pub status-objects : resultOn waitsOnArqc (with6A82 (objectBytes 0x77 forbidden)) ≡ endedWithPin 1
-  pub status-missing : resultOn waitsOnArqc (with6A82 (objectBytes 0x77 [])) ≡ endedWithPin 1
-  pub status-type : resultOn waitsOnArqc (with6A82 certificate) ≡ endedWithPin 1
-  pub encoding-objects : resultOn waitsOnArqc (with9000 (byteBehind (objectBytes 0x77 forbidden))) ≡ endedWithPin 2
-  pub encoding-missing : resultOn waitsOnArqc (with9000 (byteBehind (objectBytes 0x77 []))) ≡ endedWithPin 2
-  pub encoding-type : resultOn waitsOnArqc (with9000 (byteBehind certificate)) ≡ endedWithPin 2
-  pub outer-tag-objects : resultOn waitsOnArqc (with9000 (objectBytes 0x70 forbidden)) ≡ endedWithPin 2
-  pub outer-tag-missing : resultOn waitsOnArqc (with9000 (objectBytes 0x70 [])) ≡ endedWithPin 2
-  pub outer-tag-type : resultOn waitsOnArqc (with9000 (wrapped certificate)) ≡ endedWithPin 2
-  pub body-type : resultOn waitsOnArqc (with9000 (objectBytes 0x80 (0x40 ∷ 0x00 ∷ 0x2A ∷ []))) ≡ endedWithPin 2
-  pub objects-missing : resultOn waitsOnArqc (with9000 (objectBytes 0x77 forbidden)) ≡ endedWithPin 3
-  pub objects-type : resultOn waitsOnArqc (with9000 (objectBytes 0x77 (cryptogramObjects 0x40 ++ forbidden)))
-      ≡ endedWithPin 3
+  pub length-status : resultOn waitsOnArqc tooLongAnswer ≡ endedResultWithPin 2
+  pub length-objects : resultOn waitsOnArqc (answerOf259Bytes 0x77 tvrFromCard) ≡ endedResultWithPin 2
+  pub length-missing : resultOn waitsOnArqc (answerOf259Bytes 0x77 []) ≡ endedResultWithPin 2
+  pub length-type : resultOn waitsOnArqc (answerOf259Bytes 0x77 (cryptogramObjects 0x40)) ≡ endedResultWithPin 2
+  pub status-encoding : resultOn waitsOnArqc (with6A82 truncated77) ≡ endedResultWithPin 1
+  pub status-outer-tag : resultOn waitsOnArqc (with6A82 (objectBytes 0x70 [])) ≡ endedResultWithPin 1
+  pub status-objects : resultOn waitsOnArqc (with6A82 (objectBytes 0x77 tvrFromCard)) ≡ endedResultWithPin 1
+  pub status-missing : resultOn waitsOnArqc (with6A82 (objectBytes 0x77 [])) ≡ endedResultWithPin 1
+  pub status-type : resultOn waitsOnArqc (with6A82 certificate) ≡ endedResultWithPin 1
+  pub encoding-objects : resultOn waitsOnArqc (with9000 (byteBehind (objectBytes 0x77 tvrFromCard))) ≡ endedResultWithPin 2
+  pub encoding-missing : resultOn waitsOnArqc (with9000 (byteBehind (objectBytes 0x77 []))) ≡ endedResultWithPin 2
+  pub encoding-type : resultOn waitsOnArqc (with9000 (byteBehind certificate)) ≡ endedResultWithPin 2
+  pub outer-tag-objects : resultOn waitsOnArqc (with9000 (objectBytes 0x70 tvrFromCard)) ≡ endedResultWithPin 2
+  pub outer-tag-missing : resultOn waitsOnArqc (with9000 (objectBytes 0x70 [])) ≡ endedResultWithPin 2
+  pub outer-tag-type : resultOn waitsOnArqc (with9000 (wrappedBody certificate)) ≡ endedResultWithPin 2
+  pub body-type : resultOn waitsOnArqc (with9000 (objectBytes 0x80 (0x40 ∷ 0x00 ∷ 0x2A ∷ []))) ≡ endedResultWithPin 2
+  pub objects-missing : resultOn waitsOnArqc (with9000 (objectBytes 0x77 tvrFromCard)) ≡ endedResultWithPin 3
+  pub objects-type : resultOn waitsOnArqc (with9000 (objectBytes 0x77 (cryptogramObjects 0x40 ++ tvrFromCard)))
+      ≡ endedResultWithPin 3
   pub missing-type :
       resultOn waitsOnArqc
       (with9000 (objectBytes 0x77 (objectsInBytes ((0x9F27, 0x40 ∷ []) ∷ (0x9F36, 0x00 ∷ 0x01 ∷ []) ∷ []))))
-      ≡ endedWithPin 4
+      ≡ endedResultWithPin 4
   -- a decline does not come before an object that is missing: an AAC without 9F36 and 9F26, and none of the three
   pub missing-declined :
       resultsOn waitsOnArqc
       (with9000 (objectBytes 0x77 (objectBytes 0x9F27 (0x00 ∷ []))) ∷ with9000 (objectBytes 0x77 []) ∷ [])
-      ≡ endedWithPin 4 ∷ endedWithPin 4 ∷ []
+      ≡ endedResultWithPin 4 ∷ endedResultWithPin 4 ∷ []
   -- under 80
   pub under80-says : resultOn waitsOnArqc (with9000 under80) ≡ onlineRequest
   pub under80-9F27 : valueAfter waitsOnArqc (with9000 under80) 0x9F27 ≡ present (0x80 ∷ [])

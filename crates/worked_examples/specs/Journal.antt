@@ -7,13 +7,13 @@ use mathlib.Core.List.{List, [], _∷_, _++_, map}
 use mathlib.Core.Option.{Option, some, none}
 use Prim.Native.Nat.{ℕ}
 use lib.ListN.{replicate}
-use Rattle.record.specs.declared.Answer.{Answer}
-use Rattle.record.specs.declared.Outcome.{Outcome}
-use Rattle.record.specs.Session.{freshSession}
-use Rattle.trace.specs.Calls.{Call, start, answer, link-failed, stop, play}
-use Rattle.journal.specs.declared.Verdict.{Verdict}
-use Rattle.journal.specs.Record.{sizeOf, callRecord, replyRecord, journalOf, joined, callFrom}
-use Rattle.journal.specs.Verdict.{verdictOf}
+use Rattle.session_record.specs.declared.CallResult.{CallResult}
+use Rattle.session_record.specs.declared.Outcome.{Outcome}
+use Rattle.session_record.specs.Session.{freshSession}
+use Rattle.session_claim.specs.Calls.{Call, start, answer, link-failed, stop, playCalls}
+use Rattle.journal.specs.declared.JournalVerdict.{JournalVerdict}
+use Rattle.journal.specs.Record.{journalRecordSize, journalCallRecord, journalReplyRecord, journalOf, concatenated, callFrom}
+use Rattle.journal.specs.Verdict.{journalVerdictOf}
 use Rattle.worked_examples.specs.Calls.{fullBuffer, commandResult, outcomeResult, refusalResult}
 use Rattle.worked_examples.specs.Refusals.{startBytesWhole}
 
@@ -42,7 +42,7 @@ callRecords =
 abbrev pub commandBuffer : List ℕ
 commandBuffer = 0x00 ∷ 0xB2 ∷ 0x01 ∷ 0x0C ∷ 0x00 ∷ replicate 256 0xEE
 
-abbrev pub someReplies : List Answer
+abbrev pub someReplies : List CallResult
 someReplies =
     commandResult 5
     ∷ outcomeResult Outcome.Approved 0 1
@@ -77,13 +77,13 @@ writtenRecords =
     ∷ []
 
 pub record JournalExamples : Type 0 where
-  pub calls-written : map callRecord recordedCalls ≡ callRecords
+  pub calls-written : map journalCallRecord recordedCalls ≡ callRecords
   pub calls-read : map callFrom callRecords ≡ map (λ c. some c) recordedCalls
   pub no-call : map callFrom ((5 ∷ []) ∷ (6 ∷ []) ∷ []) ≡ none ∷ none ∷ []
-  pub replies-written : map (λ a. replyRecord a commandBuffer) someReplies ≡ replyRecords
+  pub replies-written : map (λ a. journalReplyRecord a commandBuffer) someReplies ≡ replyRecords
   -- a command of 261 bytes
-  pub longest-command : replyRecord (commandResult 261) (replicate 261 0xAA) ≡ 5 ∷ 0x01 ∷ 0x05 ∷ replicate 261 0xAA
+  pub longest-command : journalReplyRecord (commandResult 261) (replicate 261 0xAA) ≡ 5 ∷ 0x01 ∷ 0x05 ∷ replicate 261 0xAA
   -- kinds 0 to 7
-  pub sizes : map sizeOf (0 ∷ 1 ∷ 2 ∷ 3 ∷ 4 ∷ 5 ∷ 6 ∷ 7 ∷ []) ≡ 0 ∷ 1027 ∷ 261 ∷ 1 ∷ 1 ∷ 264 ∷ 3 ∷ 0 ∷ []
-  pub whole : journalOf (play freshSession journalCalls) ≡ writtenRecords
-  pub accepted : verdictOf (joined writtenRecords) ≡ Verdict.Accepted 4
+  pub sizes : map journalRecordSize (0 ∷ 1 ∷ 2 ∷ 3 ∷ 4 ∷ 5 ∷ 6 ∷ 7 ∷ []) ≡ 0 ∷ 1027 ∷ 261 ∷ 1 ∷ 1 ∷ 264 ∷ 3 ∷ 0 ∷ []
+  pub whole : journalOf (playCalls freshSession journalCalls) ≡ writtenRecords
+  pub accepted : journalVerdictOf (concatenated writtenRecords) ≡ JournalVerdict.Accepted 4

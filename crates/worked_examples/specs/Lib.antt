@@ -1,6 +1,6 @@
 pub mod Sessions
 pub mod Calls
-pub mod Options
+pub mod Gpo
 pub mod Records
 pub mod Cryptogram
 pub mod Checksum

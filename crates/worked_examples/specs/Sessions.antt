@@ -6,12 +6,12 @@ use Prim.Native.Nat.{ℕ}
 use lib.ListN.{replicate}
 use Rattle.tlv.specs.Encoding.{objectBytes}
 use Rattle.analysis.specs.declared.choice.Choice.{Choice}
-use Rattle.analysis.specs.declared.verification.Method.{Method}
-use Rattle.record.specs.declared.Outcome.{Outcome}
-use Rattle.record.specs.declared.Phase.{Phase}
-use Rattle.record.specs.declared.Session.{Session}
-use Rattle.record.specs.Session.{sessionOf, endOf, freshSession, stored}
-use Rattle.record.proofs.Stores.{storing}
+use Rattle.analysis.specs.declared.cvm.Cvm.{Cvm}
+use Rattle.session_record.specs.declared.Outcome.{Outcome}
+use Rattle.session_record.specs.declared.Phase.{Phase}
+use Rattle.session_record.specs.declared.Session.{Session}
+use Rattle.session_record.specs.Session.{sessionOf, endingOf, freshSession, storeBytes}
+use Rattle.session_record.proofs.Stores.{storing}
 
 -- ---- objects
 
@@ -54,36 +54,36 @@ abbrev pub amountOver : ℕ
 amountOver = 0x30
 
 -- DF811B: mag-stripe mode is carried, or off (byte 1 b8)
-abbrev pub stripeCarried : ℕ
-stripeCarried = 0x00
+abbrev pub magStripeCarried : ℕ
+magStripeCarried = 0x00
 
-abbrev pub stripeOff : ℕ
-stripeOff = 0x80
+abbrev pub magStripeOff : ℕ
+magStripeOff = 0x80
 
 -- behind a start the result bits are zero
 abbrev pub startedObjects : ℕ → ℕ → List TagValue
 startedObjects amount configuration = (0x95, replicate 5 0) ∷ startObjects amount configuration
 
 -- 82 of EMV mode and of mag-stripe mode
-abbrev pub emvProfile : List ℕ
-emvProfile = 0x00 ∷ 0x80 ∷ []
+abbrev pub emvAip : List ℕ
+emvAip = 0x00 ∷ 0x80 ∷ []
 
-abbrev pub stripeProfile : List ℕ
-stripeProfile = 0x00 ∷ 0x00 ∷ []
+abbrev pub magStripeAip : List ℕ
+magStripeAip = 0x00 ∷ 0x00 ∷ []
 
 -- a locator of one record, one of two, and one of file 0, which breaks the rules
-abbrev pub oneRecordLocator : List ℕ
-oneRecordLocator = 0x08 ∷ 0x01 ∷ 0x01 ∷ 0x00 ∷ []
+abbrev pub oneRecordAfl : List ℕ
+oneRecordAfl = 0x08 ∷ 0x01 ∷ 0x01 ∷ 0x00 ∷ []
 
-abbrev pub twoRecordLocator : List ℕ
-twoRecordLocator = 0x08 ∷ 0x01 ∷ 0x02 ∷ 0x00 ∷ []
+abbrev pub twoRecordAfl : List ℕ
+twoRecordAfl = 0x08 ∷ 0x01 ∷ 0x02 ∷ 0x00 ∷ []
 
-abbrev pub badLocator : List ℕ
-badLocator = 0x00 ∷ 0x01 ∷ 0x01 ∷ 0x00 ∷ []
+abbrev pub badAfl : List ℕ
+badAfl = 0x00 ∷ 0x01 ∷ 0x01 ∷ 0x00 ∷ []
 
 -- behind processing options
 abbrev pub openedObjects : List ℕ → List ℕ → ℕ → List TagValue
-openedObjects profile locator amount = (0x82, profile) ∷ (0x94, locator) ∷ startedObjects amount stripeCarried
+openedObjects aip afl amount = (0x82, aip) ∷ (0x94, afl) ∷ startedObjects amount magStripeCarried
 
 -- expiry date, account number and a CDOL1 of 95, as the card's record has them
 abbrev pub accountObjects : List TagValue
@@ -106,8 +106,8 @@ unsoundTrack = 0x54 ∷ 0x13 ∷ []
 -- ---- sessions
 
 -- waiting on processing options, with mag-stripe mode off
-abbrev pub waitsOnOptions : Session
-waitsOnOptions = sessionOf Phase.Options 1 (storing (startedObjects amountBelow stripeOff))
+abbrev pub waitsOnGpo : Session
+waitsOnGpo = sessionOf Phase.Gpo 1 (storing (startedObjects amountBelow magStripeOff))
 
 -- waiting on record 1; the limit in force is 25.00
 abbrev pub waitsOnRecord : List TagValue → Session
@@ -115,42 +115,42 @@ waitsOnRecord objects = sessionOf (Phase.Record (record { number = 1; limit = 25
 
 -- the first of two; and the only one, by the mode and the amount
 abbrev pub waitsOnFirst : Session
-waitsOnFirst = waitsOnRecord (openedObjects emvProfile twoRecordLocator amountBelow)
+waitsOnFirst = waitsOnRecord (openedObjects emvAip twoRecordAfl amountBelow)
 
 abbrev pub waitsOnLast : List ℕ → ℕ → Session
-waitsOnLast profile amount = waitsOnRecord (openedObjects profile oneRecordLocator amount)
+waitsOnLast aip amount = waitsOnRecord (openedObjects aip oneRecordAfl amount)
 
 -- the same within the limit, with a PDOL of 9A in the store
 abbrev pub waitsOnLastWithPdol : List ℕ → Session
-waitsOnLastWithPdol profile =
-    waitsOnRecord ((0x9F38, 0x9A ∷ 0x03 ∷ []) ∷ openedObjects profile oneRecordLocator amountBelow)
+waitsOnLastWithPdol aip =
+    waitsOnRecord ((0x9F38, 0x9A ∷ 0x03 ∷ []) ∷ openedObjects aip oneRecordAfl amountBelow)
 
 -- waiting on the cryptogram that was asked for by a choice; the method is an online PIN, number 2
 abbrev pub waitsOnCryptogram : Choice → Session
 waitsOnCryptogram choice =
-    sessionOf (Phase.Cryptogram (record { choice = choice; method = Method.OnlinePin; limit = 2500 })) 3
+    sessionOf (Phase.Cryptogram (record { choice = choice; cvm = Cvm.OnlinePin; limit = 2500 })) 3
     (storing
-    ((0x9F34, 0x42 ∷ 0x03 ∷ 0x00 ∷ []) ∷ accountObjects ++ openedObjects emvProfile oneRecordLocator amountBelow))
+    ((0x9F34, 0x42 ∷ 0x03 ∷ 0x00 ∷ []) ∷ accountObjects ++ openedObjects emvAip oneRecordAfl amountBelow))
 
 -- waiting on the checksum, with a track
 abbrev pub waitsOnChecksum : List ℕ → Session
 waitsOnChecksum track =
     sessionOf (Phase.Checksum (record { limit = 2500 })) 3
-    (storing (trackObjects track ++ openedObjects stripeProfile oneRecordLocator amountBelow))
+    (storing (trackObjects track ++ openedObjects magStripeAip oneRecordAfl amountBelow))
 
 -- ended by the terminal
 abbrev pub hasEnded : Session
-hasEnded = sessionOf (Phase.Ended (endOf Outcome.Ended 10)) 1 (storing (startedObjects amountBelow stripeOff))
+hasEnded = sessionOf (Phase.Ended (endingOf Outcome.Ended 10)) 1 (storing (startedObjects amountBelow magStripeOff))
 
 -- ---- sessions out of their ranges
 
 -- fresh, with a command counted
-abbrev pub brokenFresh : Session
-brokenFresh = sessionOf Phase.Fresh 1 (stored freshSession)
+abbrev pub freshOutOfRanges : Session
+freshOutOfRanges = sessionOf Phase.Fresh 1 (storeBytes freshSession)
 
 -- waiting on processing options, and ended, with two commands and 131 counted
-abbrev pub brokenOptions : Session
-brokenOptions = sessionOf Phase.Options 2 (storing (startedObjects amountBelow stripeOff))
+abbrev pub gpoOutOfRanges : Session
+gpoOutOfRanges = sessionOf Phase.Gpo 2 (storing (startedObjects amountBelow magStripeOff))
 
-abbrev pub brokenEnded : Session
-brokenEnded = sessionOf (Phase.Ended (endOf Outcome.Ended 10)) 131 (storing (startedObjects amountBelow stripeOff))
+abbrev pub endedOutOfRanges : Session
+endedOutOfRanges = sessionOf (Phase.Ended (endingOf Outcome.Ended 10)) 131 (storing (startedObjects amountBelow magStripeOff))

@@ -1,8 +1,8 @@
 // Worked examples of the rules of a session, as one statement: for each pair of reasons and each pair of refusals that
 // can meet in one call an input that has both, and an input for each rule that no other promise distinguishes from a
 // wrong one. A rule that is changed in definition and source alike is refused here.
-ghost use Rattle.worked_examples.specs.Options.{OptionsExamples};
-ghost use Rattle.worked_examples.specs.Records.{RecordExamples, StripeExamples};
+ghost use Rattle.worked_examples.specs.Gpo.{GpoExamples};
+ghost use Rattle.worked_examples.specs.Records.{RecordExamples, MagStripeExamples};
 ghost use Rattle.worked_examples.specs.Cryptogram.{CryptogramExamples};
 ghost use Rattle.worked_examples.specs.Checksum.{ChecksumExamples};
 ghost use Rattle.worked_examples.specs.Encodings.{EncodingExamples};
@@ -13,9 +13,9 @@ ghost use Rattle.worked_examples.specs.CallLists.{CallListExamples};
 
 // The examples hold, over the definitions that the calls' promises cite.
 pub fn examples_hold()
-    ensures options { λ _. ⌜ OptionsExamples ⌝ }
+    ensures gpo { λ _. ⌜ GpoExamples ⌝ }
     ensures records { λ _. ⌜ RecordExamples ⌝ }
-    ensures stripe { λ _. ⌜ StripeExamples ⌝ }
+    ensures mag_stripe { λ _. ⌜ MagStripeExamples ⌝ }
     ensures cryptogram { λ _. ⌜ CryptogramExamples ⌝ }
     ensures checksum { λ _. ⌜ ChecksumExamples ⌝ }
     ensures encodings { λ _. ⌜ EncodingExamples ⌝ }

@@ -5,50 +5,50 @@ use Prim.Native.Nat.{ℕ}
 use lib.Dec.{lit≤}
 use Rattle.basics.specs.Recursion.{recurse, recurseBy}
 use Rattle.basics.specs.Choice.{if, both, either, every}
-use Rattle.basics.specs.Number.{numberFrom, nibbles}
-use Rattle.tlv.specs.Tag.{tagSize, secondByte, thirdByte, tagAt, firstByte, isTemplate, isPrivate}
-use Rattle.tlv.specs.Length.{oneByte, twoBytes, lengthAt}
+use Rattle.basics.specs.Number.{bigEndianFrom, nibbles}
+use Rattle.tlv.specs.Tag.{tagSize, tagSecondByte, tagThirdByte, tagAt, tagFirstByte, isTemplate, isPrivate}
+use Rattle.tlv.specs.Length.{lengthOneByte, lengthTwoBytes, lengthAt}
 use Rattle.tlv.specs.Object.{headerOf}
-use Rattle.tlv.specs.Primitives.{withObject, primitiveOf, primitives}
+use Rattle.tlv.specs.Primitives.{objectBefore, primitiveOf, primitiveObjects}
 use Rattle.tlv.specs.Encoding.{tagBytes, lengthBytes}
-use Rattle.dictionary.specs.Rows.{rows, past, find}
-use Rattle.dictionary.specs.Named.{placeOf}
-use Rattle.dictionary.specs.Form.{numeric, digitsThenFs, compressed, digitsFit, fitting}
-use Rattle.dictionary.specs.TerminalType.{listed}
-use Rattle.store.specs.Place.{offsetIn, placeAt, held, valueAt, putAt, valueIn}
-use Rattle.data_list.specs.Entries.{withLength, entryAt, withEntry, along, listEntries}
-use Rattle.data_list.specs.Filling.{cut, padding, padded, fitted, entryBytes, fillingOf, filledBy}
-use Rattle.data_list.specs.Commands.{optionsOf, processingOptions, cryptogramOf, generateAc, checksumList, checksumOf, checksumWith, computeChecksum}
-use Rattle.record.specs.Numbers.{outcomeFor}
-use Rattle.record.specs.Ranges.{isBrought, brought, completed, trackCompleted}
-use Rattle.terminal.specs.Terminal.{typeListed, settable, setObject, setAll, load}
-use Rattle.session.specs.Steps.{Step, withResults, withFindings}
-use Rattle.session.specs.Start.{startFresh, askOptions}
-use Rattle.analysis.specs.Value.{front}
-use Rattle.analysis.specs.Digits.{decimalFrom, amountOf}
-use Rattle.record.specs.Session.{freshSession}
-use Rattle.record.proofs.Phases.{fresh-keeps}
+use Rattle.dictionary.specs.Rows.{dictionaryRows, rowPast, findRow}
+use Rattle.dictionary.specs.Named.{rowNumberOf}
+use Rattle.dictionary.specs.Form.{numeric, digitsThenFs, compressed, digitsFit, fitsRow}
+use Rattle.dictionary.specs.TerminalType.{listedTerminalType}
+use Rattle.store.specs.Place.{rowOffset, rowPlace, placeValue, rowValue, putRow, objectValueIn}
+use Rattle.dol.specs.Entries.{entryWithLength, dolEntryAt, entryBefore, entriesNext, dolEntries}
+use Rattle.dol.specs.Filling.{truncated, paddingByte, padded, fittedTo, dolEntryBytes, dolData, dolDataBy}
+use Rattle.dol.specs.Commands.{gpoCommandOf, getProcessingOptions, generateAcOf, generateAc, udolOrDefault, checksumCommandOf, checksumCommandWith, computeCryptographicChecksum}
+use Rattle.session_record.specs.Numbers.{outcomeOfReason}
+use Rattle.session_record.specs.Ranges.{isPresentIfRequired, allRequiredPresent, cryptogramDataPresent, trackDataPresent}
+use Rattle.start_data.specs.StartData.{terminalTypeListed, settableByStart, setObject, setObjects, loadStart}
+use Rattle.session.specs.Steps.{Step, withTvr, withFindings}
+use Rattle.session.specs.Start.{startFresh, askGpo}
+use Rattle.analysis.specs.Value.{firstBytes}
+use Rattle.analysis.specs.Digits.{bcdFrom, amountOf}
+use Rattle.session_record.specs.Session.{freshSession}
+use Rattle.session_record.proofs.Phases.{fresh-keeps}
 use Rattle.layout.specs.Word.{commandWord}
 use Rattle.session.proofs.Laws.{admitted-in}
 use Rattle.worked_examples.specs.Calls.{fullBuffer}
-use Rattle.cabinet.specs.State.{cabinetIn}
-use Rattle.cabinet.specs.Calls.{admitted, startsOn, setsAside, startTaken, openWord}
+use Rattle.cabinet.specs.State.{cabinetHeldIn}
+use Rattle.cabinet.specs.Calls.{cabinetAdmitted, sessionToStart, reservesAmount, startAccepted, cabinetOpenWord}
 use Rattle.worked_words.specs.Cabinet.{startWord, CabinetWords}
 
 -- the word of a start by its step
 abbrev wordBy : ℕ → Step → ℕ
-wordBy left st = startTaken (st .reply .answer) st left [] fullBuffer .word
+wordBy left st = startAccepted (st .reply .answer) st left [] fullBuffer .word
 
 word-of : (bytes : List ℕ) (left : ℕ) {w : ℕ} → wordBy left (startFresh freshSession bytes fullBuffer) ≡ w → startWord bytes left ≡ w
-unfolding startWord startsOn if
+unfolding startWord sessionToStart if
 word-of bytes left e = ap (wordBy left) (admitted-in freshSession fullBuffer _ (lit≤ tt) fresh-keeps) ∙ e
 
 pub words : CabinetWords
-unfolding recurse recurseBy if both either every numberFrom nibbles tagSize secondByte thirdByte tagAt firstByte isTemplate isPrivate oneByte twoBytes lengthAt headerOf withObject
-    primitiveOf primitives tagBytes lengthBytes rows past find placeOf numeric digitsThenFs compressed digitsFit fitting listed offsetIn placeAt held valueAt putAt valueIn withLength entryAt
-    withEntry along listEntries cut padding padded fitted entryBytes fillingOf filledBy optionsOf processingOptions cryptogramOf generateAc checksumList checksumOf checksumWith
-    computeChecksum outcomeFor isBrought brought completed trackCompleted typeListed settable setObject setAll load withResults withFindings askOptions front decimalFrom amountOf commandWord
-    cabinetIn admitted setsAside openWord
+unfolding recurse recurseBy if both either every bigEndianFrom nibbles tagSize tagSecondByte tagThirdByte tagAt tagFirstByte isTemplate isPrivate lengthOneByte lengthTwoBytes lengthAt headerOf objectBefore
+    primitiveOf primitiveObjects tagBytes lengthBytes dictionaryRows rowPast findRow rowNumberOf numeric digitsThenFs compressed digitsFit fitsRow listedTerminalType rowOffset rowPlace placeValue rowValue putRow objectValueIn entryWithLength dolEntryAt
+    entryBefore entriesNext dolEntries truncated paddingByte padded fittedTo dolEntryBytes dolData dolDataBy gpoCommandOf getProcessingOptions generateAcOf generateAc udolOrDefault checksumCommandOf checksumCommandWith
+    computeCryptographicChecksum outcomeOfReason isPresentIfRequired allRequiredPresent cryptogramDataPresent trackDataPresent terminalTypeListed settableByStart setObject setObjects loadStart withTvr withFindings askGpo firstBytes bcdFrom amountOf commandWord
+    cabinetHeldIn cabinetAdmitted reservesAmount cabinetOpenWord
 words = record {
   opened = refl;
   left-none = refl;

@@ -8,63 +8,63 @@ use Prim.Native.Nat.{ℕ}
 use lib.ListN.{length}
 use Rattle.basics.specs.Recursion.{recurse, recurseBy}
 use Rattle.basics.specs.Choice.{if, both, either, every}
-use Rattle.basics.specs.Number.{numberFrom, nibbles}
-use Rattle.tlv.specs.Tag.{tagSize, secondByte, thirdByte, tagAt, firstByte, isTemplate, isPrivate}
-use Rattle.tlv.specs.Length.{oneByte, twoBytes, lengthAt}
+use Rattle.basics.specs.Number.{bigEndianFrom, nibbles}
+use Rattle.tlv.specs.Tag.{tagSize, tagSecondByte, tagThirdByte, tagAt, tagFirstByte, isTemplate, isPrivate}
+use Rattle.tlv.specs.Length.{lengthOneByte, lengthTwoBytes, lengthAt}
 use Rattle.tlv.specs.Object.{headerOf}
-use Rattle.tlv.specs.Tree.{count, nextOf, withLeaf, withNode, parse}
+use Rattle.tlv.specs.Tree.{objectCount, nextOf, withLeaf, withNode, parseTree}
 use Rattle.tlv.specs.Encoding.{tagBytes, lengthBytes}
-use Rattle.dictionary.specs.Rows.{rows, past, find, storeSize}
-use Rattle.dictionary.specs.Named.{placeOf}
-use Rattle.dictionary.specs.Form.{numeric, digitsThenFs, compressed, digitsFit, fitting}
-use Rattle.store.specs.Place.{offsetIn, placeAt, held, valueAt, putAt, valueIn}
-use Rattle.locator.specs.Entry.{keeps}
-use Rattle.locator.specs.Records.{entries, wholeEntries, recordsFrom, recordsOf, sumOf, accepts, nth, kth, recordAt}
-use Rattle.reading.specs.Taking.{mayStand, mayCome, allowed, takeItem, takeNext, takeAll, items}
-use Rattle.reading.specs.Answer.{bodyOf, optionsParts, issuerPart, cryptogramParts, primitiveParts, templateParts, readBody, isRead, goodStatus, goodLength, readAnswer}
-use Rattle.analysis.specs.Value.{front}
-use Rattle.analysis.specs.Digits.{decimalFrom, yearOf, dateOf, laterThan, amountOf, amountAbove}
-use Rattle.analysis.specs.Verification.{verification, onDevice}
-use Rattle.analysis.specs.Action.{phoneIn, limitOf, aboveLimit, usageIn, restrictionsOf, resultOf, sameCurrency, termsIn, verifiedIn, fullResult, findingsOf, codesOf, chosen}
-use Rattle.record.specs.Numbers.{outcomeFor}
-use Rattle.record.specs.Ranges.{isBrought, brought, completed, trackCompleted}
-use Rattle.session.specs.Steps.{withResults, withFindings}
-use Rattle.session.specs.Answer.{answerStep, storedReason, optionsRead, optionsStep, recordStep, recordRead, lastRead, recordsRead, analysed, askedIn, askCryptogram, decision, cryptogramEnd, cryptogramReply}
-use Rattle.record.specs.declared.Answer.{Answer}
-use Rattle.record.specs.declared.Session.{Session}
-use Rattle.record.specs.Session.{freshSession, stored}
-use Rattle.record.specs.Ranges.{inRanges}
-use Rattle.record.proofs.Phases.{fresh-keeps}
-use Rattle.layout.specs.Layout.{holdsRecord, decoded}
-use Rattle.layout.specs.Word.{commandWord, wordOf}
+use Rattle.dictionary.specs.Rows.{dictionaryRows, rowPast, findRow, storeSize}
+use Rattle.dictionary.specs.Named.{rowNumberOf}
+use Rattle.dictionary.specs.Form.{numeric, digitsThenFs, compressed, digitsFit, fitsRow}
+use Rattle.store.specs.Place.{rowOffset, rowPlace, placeValue, rowValue, putRow, objectValueIn}
+use Rattle.afl.specs.Entry.{validEntry}
+use Rattle.afl.specs.Records.{aflEntries, wholeEntries, consecutiveRecords, entriesRecords, sumOverEntries, acceptsAfl, nthRecord, kthRecord, aflRecordAt}
+use Rattle.reading.specs.Taking.{allowedInTemplate, allowedInResponse, allowedNow, takeItem, takeNext, takeAll, primitiveItems}
+use Rattle.reading.specs.Answer.{responseBody, gpoParts, iadPart, cryptogramParts, primitiveParts, templateParts, readBody, isRead, isStatus9000, isResponseLength, readAnswer}
+use Rattle.analysis.specs.Value.{firstBytes}
+use Rattle.analysis.specs.Digits.{bcdFrom, yearOf, dateOf, dateLater, amountOf, amountAbove}
+use Rattle.analysis.specs.Cvm.{cvmProcessing, onDeviceCvm}
+use Rattle.analysis.specs.Action.{hasOnDeviceCvm, transactionLimit, aboveTransactionLimit, aucViolatedIn, restrictionsByte, tvrOf, sameCurrency, cvmConditionsIn, cvmResultIn, tvrWithCvm, findingsOf, actionCodesOf, choiceFor}
+use Rattle.session_record.specs.Numbers.{outcomeOfReason}
+use Rattle.session_record.specs.Ranges.{isPresentIfRequired, allRequiredPresent, cryptogramDataPresent, trackDataPresent}
+use Rattle.session.specs.Steps.{withTvr, withFindings}
+use Rattle.session.specs.Answer.{answerStep, gpoStoreReason, afterGpoRead, gpoStep, recordStep, afterRecordRead, afterLastRecord, afterRecordsEmv, afterAnalysis, requestedCryptogram, askCryptogram, cryptogramOutcome, cryptogramEnding, cryptogramReply}
+use Rattle.session_record.specs.declared.CallResult.{CallResult}
+use Rattle.session_record.specs.declared.Session.{Session}
+use Rattle.session_record.specs.Session.{freshSession, storeBytes}
+use Rattle.session_record.specs.Ranges.{inRanges}
+use Rattle.session_record.proofs.Phases.{fresh-keeps}
+use Rattle.layout.specs.Layout.{holdsRecord, decodedSession}
+use Rattle.layout.specs.Word.{commandWord, resultWord}
 use Rattle.layout.proofs.Laws.{decode-encode}
-use Rattle.find.specs.Find.{firstOf, shifted, firstTagged, findOf}
-use Rattle.host.specs.Hosted.{stepped, hosted, countWord}
-use Rattle.host.specs.Object.{objectIn, objectOf}
-use Rattle.worked_examples.specs.Sessions.{waitsOnOptions}
+use Rattle.find.specs.Find.{firstFound, foundShifted, findTagIn, findTag}
+use Rattle.host.specs.Hosted.{hostStepOn, hostStepAdmitted, countWord}
+use Rattle.host.specs.Object.{objectCopiedFrom, objectOfSession}
+use Rattle.worked_examples.specs.Sessions.{waitsOnGpo}
 use Rattle.worked_examples.specs.Calls.{fullBuffer, answerResult}
 use Rattle.worked_examples.proofs.Laws.{answer-in}
 use Rattle.worked_examples.proofs.Ranges.{kept}
 use Rattle.worked_words.specs.Host.{sessionInBytes, answerWord, HostWords}
 
 -- the word of an answer on a session in bytes is that of the session's own
-word-of : (s : Session) → length (stored s) ≡ storeSize → (card : List ℕ) {a : Answer} {w : ℕ} → answerResult s card fullBuffer ≡ a → wordOf a ≡ w
+word-of : (s : Session) → length (storeBytes s) ≡ storeSize → (card : List ℕ) {a : CallResult} {w : ℕ} → answerResult s card fullBuffer ≡ a → resultWord a ≡ w
     → answerWord s card ≡ w
-unfolding answerWord answerResult hosted if
+unfolding answerWord answerResult hostStepAdmitted if
 word-of s z card e f =
-    ap (λ (x : Option Session). stepped (λ (t : Session) b. answerStep t card b) (sessionInBytes s) fullBuffer x .word) (decode-encode s (0xEE ∷ []) z) ∙ ap wordOf e ∙ f
+    ap (λ (x : Option Session). hostStepOn (λ (t : Session) b. answerStep t card b) (sessionInBytes s) fullBuffer x .word) (decode-encode s (0xEE ∷ []) z) ∙ ap resultWord e ∙ f
 
-counts : (s : Session) → length (stored s) ≡ storeSize → countWord (decoded (sessionInBytes s)) ≡ s .count
+counts : (s : Session) → length (storeBytes s) ≡ storeSize → countWord (decodedSession (sessionInBytes s)) ≡ s .count
 counts s z = ap countWord (decode-encode s (0xEE ∷ []) z)
 
 pub words : HostWords
-unfolding recurse recurseBy if both either every numberFrom nibbles tagSize secondByte thirdByte tagAt firstByte isTemplate isPrivate oneByte twoBytes lengthAt headerOf count nextOf withLeaf
-    withNode parse tagBytes lengthBytes rows past find placeOf numeric digitsThenFs compressed digitsFit fitting offsetIn placeAt held valueAt putAt valueIn keeps entries wholeEntries
-    recordsFrom recordsOf sumOf accepts nth kth recordAt mayStand mayCome allowed takeItem takeNext takeAll items bodyOf optionsParts issuerPart cryptogramParts primitiveParts templateParts
-    readBody isRead goodStatus goodLength readAnswer front decimalFrom yearOf dateOf laterThan amountOf amountAbove verification onDevice phoneIn limitOf aboveLimit usageIn restrictionsOf
-    resultOf sameCurrency termsIn verifiedIn fullResult findingsOf codesOf chosen outcomeFor isBrought brought completed trackCompleted withResults withFindings storedReason optionsRead
-    optionsStep recordStep recordRead lastRead recordsRead analysed askedIn askCryptogram decision cryptogramEnd cryptogramReply commandWord firstOf shifted firstTagged findOf holdsRecord
-    decoded hosted objectIn objectOf
+unfolding recurse recurseBy if both either every bigEndianFrom nibbles tagSize tagSecondByte tagThirdByte tagAt tagFirstByte isTemplate isPrivate lengthOneByte lengthTwoBytes lengthAt headerOf objectCount nextOf withLeaf
+    withNode parseTree tagBytes lengthBytes dictionaryRows rowPast findRow rowNumberOf numeric digitsThenFs compressed digitsFit fitsRow rowOffset rowPlace placeValue rowValue putRow objectValueIn validEntry aflEntries wholeEntries
+    consecutiveRecords entriesRecords sumOverEntries acceptsAfl nthRecord kthRecord aflRecordAt allowedInTemplate allowedInResponse allowedNow takeItem takeNext takeAll primitiveItems responseBody gpoParts iadPart cryptogramParts primitiveParts templateParts
+    readBody isRead isStatus9000 isResponseLength readAnswer firstBytes bcdFrom yearOf dateOf dateLater amountOf amountAbove cvmProcessing onDeviceCvm hasOnDeviceCvm transactionLimit aboveTransactionLimit aucViolatedIn restrictionsByte
+    tvrOf sameCurrency cvmConditionsIn cvmResultIn tvrWithCvm findingsOf actionCodesOf choiceFor outcomeOfReason isPresentIfRequired allRequiredPresent cryptogramDataPresent trackDataPresent withTvr withFindings gpoStoreReason afterGpoRead
+    gpoStep recordStep afterRecordRead afterLastRecord afterRecordsEmv afterAnalysis requestedCryptogram askCryptogram cryptogramOutcome cryptogramEnding cryptogramReply commandWord firstFound foundShifted findTagIn findTag holdsRecord
+    decodedSession hostStepAdmitted objectCopiedFrom objectOfSession
 words = record {
   commands = refl;
   outcomes = refl;
@@ -74,12 +74,12 @@ words = record {
   start-record = refl;
   answer-buffer-record = refl;
   answer-record = refl;
-  answer-command = word-of waitsOnOptions refl _ (answer-in waitsOnOptions (kept .options) _ refl) refl;
-  answer-locator = word-of waitsOnOptions refl _ (answer-in waitsOnOptions (kept .options) _ refl) refl;
-  answer-status = word-of waitsOnOptions refl _ (answer-in waitsOnOptions (kept .options) _ refl) refl;
+  answer-command = word-of waitsOnGpo refl _ (answer-in waitsOnGpo (kept .gpo) _ refl) refl;
+  answer-afl = word-of waitsOnGpo refl _ (answer-in waitsOnGpo (kept .gpo) _ refl) refl;
+  answer-status = word-of waitsOnGpo refl _ (answer-in waitsOnGpo (kept .gpo) _ refl) refl;
   answer-phase = word-of freshSession refl _ (answer-in freshSession fresh-keeps _ refl) refl;
   count-none = refl;
-  count-one = counts waitsOnOptions refl;
+  count-one = counts waitsOnGpo refl;
   object-refused = refl;
   object-unknown = refl;
   object-absent = refl;

@@ -6,35 +6,35 @@ use mathlib.Core.List.{List, [], _∷_}
 use mathlib.Core.Option.{some}
 use Prim.Native.Nat.{ℕ}
 use lib.ListN.{replicate}
-use Rattle.record.specs.Session.{freshSession}
-use Rattle.cabinet.specs.State.{cabinet, cabinetIn}
-use Rattle.cabinet.specs.Calls.{startHeld, startOver, answerOver, linkOver, stopOver, openWord, leftWord}
+use Rattle.session_record.specs.Session.{freshSession}
+use Rattle.cabinet.specs.State.{cabinet, cabinetHeldIn}
+use Rattle.cabinet.specs.Calls.{startOnCabinet, cabinetStart, cabinetAnswer, cabinetLinkFailed, cabinetStop, cabinetOpenWord, remainingWord}
 use Rattle.worked_examples.specs.Calls.{fullBuffer, shortBuffer}
 use Rattle.worked_examples.specs.Refusals.{startBytesWhole}
 
 -- the word of a start on a fresh cabinet with so much left
 unfoldable pub startWord : List ℕ → ℕ → ℕ
-startWord bytes left = startHeld bytes [] fullBuffer (cabinet freshSession left 0) .word
+startWord bytes left = startOnCabinet bytes [] fullBuffer (cabinet freshSession left 0) .word
 
 pub record CabinetWords : Type 0 where
   -- 6,037 bytes with a cap over the greatest, 6,038 with it, and with the greatest
   pub opened :
-      openWord 1000000000000 (replicate 6037 0) ∷ openWord 1000000000000 (replicate 6038 0)
-      ∷ openWord 999999999999 (replicate 6038 0) ∷ []
+      cabinetOpenWord 1000000000000 (replicate 6037 0) ∷ cabinetOpenWord 1000000000000 (replicate 6038 0)
+      ∷ cabinetOpenWord 999999999999 (replicate 6038 0) ∷ []
       ≡ 0x20019 ∷ 0x2001F ∷ 0 ∷ []
   -- bytes that hold no cabinet; a cabinet with 1,000 left
-  pub left-none : leftWord (cabinetIn []) ≡ 0xFFFFFFFFFFFFFFFF
-  pub left : leftWord (some (cabinet freshSession 1000 0)) ≡ 1000
+  pub left-none : remainingWord (cabinetHeldIn []) ≡ 0xFFFFFFFFFFFFFFFF
+  pub left : remainingWord (some (cabinet freshSession 1000 0)) ≡ 1000
   -- an amount of 10.00: with 9.99 left (30), with as much left; a start that the kernel refuses (24) with nothing left
   pub aside-too-much : startWord startBytesWhole 999 ≡ 0x2001E
   pub aside-all : startWord startBytesWhole 1000 ≡ 8
   pub absent-aside : startWord [] 0 ≡ 0x20018
   -- too short a buffer before bytes that hold no cabinet
-  pub start-buffer-state : startOver [] [] shortBuffer .word ≡ 0x20016
-  pub start-state : startOver [] [] fullBuffer .word ≡ 0x20019
-  pub answer-buffer-state : answerOver [] [] shortBuffer .word ≡ 0x20016
-  pub answer-state : answerOver [] [] fullBuffer .word ≡ 0x20019
-  pub link-buffer-state : linkOver [] shortBuffer .word ≡ 0x20016
-  pub link-state : linkOver [] fullBuffer .word ≡ 0x20019
-  pub stop-buffer-state : stopOver [] shortBuffer .word ≡ 0x20016
-  pub stop-state : stopOver [] fullBuffer .word ≡ 0x20019
+  pub start-buffer-state : cabinetStart [] [] shortBuffer .word ≡ 0x20016
+  pub start-state : cabinetStart [] [] fullBuffer .word ≡ 0x20019
+  pub answer-buffer-state : cabinetAnswer [] [] shortBuffer .word ≡ 0x20016
+  pub answer-state : cabinetAnswer [] [] fullBuffer .word ≡ 0x20019
+  pub link-buffer-state : cabinetLinkFailed [] shortBuffer .word ≡ 0x20016
+  pub link-state : cabinetLinkFailed [] fullBuffer .word ≡ 0x20019
+  pub stop-buffer-state : cabinetStop [] shortBuffer .word ≡ 0x20016
+  pub stop-state : cabinetStop [] fullBuffer .word ≡ 0x20019

@@ -6,33 +6,33 @@ use mathlib.Core.List.{List, [], _∷_, _++_, map}
 use mathlib.Core.Option.{some, none}
 use Prim.Native.Nat.{ℕ}
 use lib.ListN.{replicate}
-use Rattle.record.specs.declared.Outcome.{Outcome}
-use Rattle.record.specs.declared.Session.{Session}
-use Rattle.record.specs.Session.{freshSession}
-use Rattle.layout.specs.Layout.{encoded, decoded}
-use Rattle.layout.specs.Word.{wordOf}
-use Rattle.find.specs.Find.{findOf}
+use Rattle.session_record.specs.declared.Outcome.{Outcome}
+use Rattle.session_record.specs.declared.Session.{Session}
+use Rattle.session_record.specs.Session.{freshSession}
+use Rattle.layout.specs.Layout.{encodedSession, decodedSession}
+use Rattle.layout.specs.Word.{resultWord}
+use Rattle.find.specs.Find.{findTag}
 use Rattle.find.specs.Word.{findWord}
 use Rattle.explain.specs.declared.Stage.{Stage}
 use Rattle.explain.specs.declared.Holder.{Holder}
 use Rattle.explain.specs.declared.Explanation.{Explanation}
 use Rattle.explain.specs.Word as explain
-use Rattle.host.specs.Hosted.{openWord, startOver, answerOver, countWord}
-use Rattle.host.specs.Object.{objectIn, objectOf}
+use Rattle.host.specs.Hosted.{hostOpenWord, hostStart, hostAnswer, countWord}
+use Rattle.host.specs.Object.{objectCopiedFrom, objectOfSession}
 use Rattle.host.specs.Explain.{explainWord}
 use Rattle.host.specs.Version.{versionWord}
-use Rattle.worked_examples.specs.Sessions.{emvProfile, oneRecordLocator, badLocator, waitsOnOptions}
+use Rattle.worked_examples.specs.Sessions.{emvAip, oneRecordAfl, badAfl, waitsOnGpo}
 use Rattle.worked_examples.specs.Calls.{fullBuffer, shortBuffer, commandResult, outcomeResult, refusalResult, with9000}
 use Rattle.worked_examples.specs.Calls.{with6A82}
-use Rattle.worked_examples.specs.Options.{optionsTemplate}
+use Rattle.worked_examples.specs.Gpo.{gpoTemplate}
 
 -- a session's record with a byte behind it
 abbrev pub sessionInBytes : Session → List ℕ
-sessionInBytes s = encoded s ++ (0xEE ∷ [])
+sessionInBytes s = encodedSession s ++ (0xEE ∷ [])
 
 -- the word of an answer on a session in bytes
 unfoldable pub answerWord : Session → List ℕ → ℕ
-answerWord s card = answerOver card (sessionInBytes s) fullBuffer .word
+answerWord s card = hostAnswer card (sessionInBytes s) fullBuffer .word
 
 -- a store whose first place, that of 50, holds two bytes; and one where it is there and empty
 abbrev pub storeOfTwo : List ℕ
@@ -47,52 +47,52 @@ accountRecord = 0x70 ∷ 0x04 ∷ 0x5A ∷ 0x02 ∷ 0x54 ∷ 0x13 ∷ []
 
 pub record HostWords : Type 0 where
   -- what a call hands back: commands; each outcome; each refusal
-  pub commands : map wordOf (commandResult 5 ∷ commandResult 261 ∷ []) ≡ 5 ∷ 261 ∷ []
+  pub commands : map resultWord (commandResult 5 ∷ commandResult 261 ∷ []) ≡ 5 ∷ 261 ∷ []
   pub outcomes :
-      map wordOf
+      map resultWord
       (outcomeResult Outcome.Approved 0 0 ∷ outcomeResult Outcome.OnlineRequest 0 2 ∷ outcomeResult Outcome.Declined 0 1
       ∷ outcomeResult Outcome.Ended 9 4 ∷ outcomeResult Outcome.Ended 8 3 ∷ outcomeResult Outcome.SelectNext 6 15 ∷ [])
       ≡ 0x00010000 ∷ 0x02010100 ∷ 0x01010200 ∷ 0x04010309 ∷ 0x03010308 ∷ 0x0F010406 ∷ []
-  pub refusals : map (λ n. wordOf (refusalResult n)) (20 ∷ 21 ∷ 22 ∷ 23 ∷ 24 ∷ 25 ∷ [])
+  pub refusals : map (λ n. resultWord (refusalResult n)) (20 ∷ 21 ∷ 22 ∷ 23 ∷ 24 ∷ 25 ∷ [])
       ≡ 0x20014 ∷ 0x20015 ∷ 0x20016 ∷ 0x20017 ∷ 0x20018 ∷ 0x20019 ∷ []
   -- opening 6,021 bytes and 6,022
-  pub opened : openWord (replicate 6021 0) ∷ openWord (replicate 6022 0) ∷ [] ≡ 0x20019 ∷ 0 ∷ []
+  pub opened : hostOpenWord (replicate 6021 0) ∷ hostOpenWord (replicate 6022 0) ∷ [] ≡ 0x20019 ∷ 0 ∷ []
   -- a call on bytes: too short a buffer before bytes that hold no record, for a start and an answer
-  pub start-buffer-record : startOver [] [] shortBuffer .word ≡ 0x20016
-  pub start-record : startOver [] [] fullBuffer .word ≡ 0x20019
-  pub answer-buffer-record : answerOver [] [] shortBuffer .word ≡ 0x20016
-  pub answer-record : answerOver [] [] fullBuffer .word ≡ 0x20019
+  pub start-buffer-record : hostStart [] [] shortBuffer .word ≡ 0x20016
+  pub start-record : hostStart [] [] fullBuffer .word ≡ 0x20019
+  pub answer-buffer-record : hostAnswer [] [] shortBuffer .word ≡ 0x20016
+  pub answer-record : hostAnswer [] [] fullBuffer .word ≡ 0x20019
   -- a record command, reason 5, reason 1, and a refusal of the session
-  pub answer-command : answerWord waitsOnOptions (with9000 (optionsTemplate emvProfile oneRecordLocator)) ≡ 5
-  pub answer-locator : answerWord waitsOnOptions (with9000 (optionsTemplate emvProfile badLocator)) ≡ 0x0F010305
-  pub answer-status : answerWord waitsOnOptions (with6A82 (optionsTemplate emvProfile oneRecordLocator)) ≡ 0x0F010301
+  pub answer-command : answerWord waitsOnGpo (with9000 (gpoTemplate emvAip oneRecordAfl)) ≡ 5
+  pub answer-afl : answerWord waitsOnGpo (with9000 (gpoTemplate emvAip badAfl)) ≡ 0x0F010305
+  pub answer-status : answerWord waitsOnGpo (with6A82 (gpoTemplate emvAip oneRecordAfl)) ≡ 0x0F010301
   pub answer-phase : answerWord freshSession (0x6A ∷ 0x82 ∷ []) ≡ 0x20015
   -- no bytes; a session that has handed out one command
-  pub count-none : countWord (decoded []) ≡ 0xFFFFFFFF
-  pub count-one : countWord (decoded (sessionInBytes waitsOnOptions)) ≡ 1
+  pub count-none : countWord (decodedSession []) ≡ 0xFFFFFFFF
+  pub count-one : countWord (decodedSession (sessionInBytes waitsOnGpo)) ≡ 1
   -- an object: no record; a tag that the dictionary does not have; absent; too little room; two bytes; there and empty
-  pub object-refused : objectOf (decoded []) 0x50 [] .word ≡ 0x20019
-  pub object-unknown : objectIn storeOfTwo 0x5F60 [] .word ≡ 0x40000
-  pub object-absent : objectIn storeOfTwo 0x57 [] .word ≡ 0x30000
-  pub object-needed : objectIn storeOfTwo 0x50 (0xEE ∷ []) .word ≡ 0x50002
-  pub object-value : objectIn storeOfTwo 0x50 (0xEE ∷ 0xEE ∷ []) .word ≡ 2
-  pub object-empty : objectIn storeOfNone 0x50 [] .word ≡ 0
+  pub object-refused : objectOfSession (decodedSession []) 0x50 [] .word ≡ 0x20019
+  pub object-unknown : objectCopiedFrom storeOfTwo 0x5F60 [] .word ≡ 0x40000
+  pub object-absent : objectCopiedFrom storeOfTwo 0x57 [] .word ≡ 0x30000
+  pub object-needed : objectCopiedFrom storeOfTwo 0x50 (0xEE ∷ []) .word ≡ 0x50002
+  pub object-value : objectCopiedFrom storeOfTwo 0x50 (0xEE ∷ 0xEE ∷ []) .word ≡ 2
+  pub object-empty : objectCopiedFrom storeOfNone 0x50 [] .word ≡ 0
   -- an explanation: no record; each case; each stage and holder
-  pub explain-none : explainWord (decoded []) ≡ 0x20019
+  pub explain-none : explainWord (decodedSession []) ≡ 0x20019
   pub explain-cases :
-      map explain.wordOf
+      map explain.explanationWord
       (Explanation.Refused ∷ Explanation.Reason 6 ∷ Explanation.NoChoice ∷ Explanation.LowerCryptogram ∷ [])
       ≡ 0x20019 ∷ 0x30006 ∷ 0x40000 ∷ 0x50000 ∷ []
   pub explain-unforced :
-      map (λ s. explain.wordOf (Explanation.Unforced s))
+      map (λ s. explain.explanationWord (Explanation.Unforced s))
       (Stage.Denial ∷ Stage.OnlineOnly ∷ Stage.Default ∷ Stage.Online ∷ [])
       ≡ 0x600FF ∷ 0x610FF ∷ 0x620FF ∷ 0x630FF ∷ []
   pub explain-forced :
-      map (λ h. explain.wordOf (Explanation.Forced (record { stage = Stage.Online; bit = 9; holder = h })))
+      map (λ h. explain.explanationWord (Explanation.Forced (record { stage = Stage.Online; bit = 9; holder = h })))
       (Holder.Card ∷ Holder.Terminal ∷ Holder.Both ∷ [])
       ≡ 0x63109 ∷ 0x63209 ∷ 0x63309 ∷ []
   -- a search: the place and the length, a tag that is not there, bytes that are cut
-  pub found : map findWord (findOf 0x5A accountRecord ∷ findOf 0x57 accountRecord ∷ findOf 0x5A (0x70 ∷ 0x04 ∷ []) ∷ [])
+  pub found : map findWord (findTag 0x5A accountRecord ∷ findTag 0x57 accountRecord ∷ findTag 0x5A (0x70 ∷ 0x04 ∷ []) ∷ [])
       ≡ 0x0000000400000002 ∷ 0xFFFFFFFFFFFFFFFF ∷ 0xFFFFFFFFFFFFFFFE ∷ []
   -- 0.1.0, and version 5 of the layout
   pub version : versionWord ≡ 0x00010005

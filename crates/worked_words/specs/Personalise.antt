@@ -5,7 +5,7 @@ use mathlib.Core.Path.{_≡_}
 use mathlib.Core.List.{List, [], _∷_, _++_}
 use Prim.Native.Nat.{ℕ}
 use lib.ListN.{replicate}
-use Rattle.personalise.specs.Word.{wordFor}
+use Rattle.personalise.specs.Word.{personaliseWordFor}
 
 -- 9F08 and 5F34; a locator of two records, and one whose second entry breaks a rule; both objects in record 1, and one
 -- in record 3
@@ -18,22 +18,22 @@ twoRecordEntry = 0x08 ∷ 0x01 ∷ 0x02 ∷ 0x00 ∷ []
 abbrev pub badSecondEntry : List ℕ
 badSecondEntry = 0x08 ∷ 0x01 ∷ 0x02 ∷ 0x00 ∷ 0x10 ∷ 0x00 ∷ 0x01 ∷ 0x00 ∷ []
 
-abbrev pub inFirst : List ℕ
-inFirst = 0x01 ∷ 0x01 ∷ 0x01 ∷ 0x02 ∷ []
+abbrev pub placedInFirst : List ℕ
+placedInFirst = 0x01 ∷ 0x01 ∷ 0x01 ∷ 0x02 ∷ []
 
-abbrev pub inThird : List ℕ
-inThird = 0x01 ∷ 0x01 ∷ 0x03 ∷ 0x02 ∷ []
+abbrev pub placedInThird : List ℕ
+placedInThird = 0x01 ∷ 0x01 ∷ 0x03 ∷ 0x02 ∷ []
 
 -- the word with buffers of so many bytes
-abbrev pub personaliseWord : List ℕ → List ℕ → List ℕ → ℕ → ℕ → ℕ
-personaliseWord os es placements records locator = wordFor os es placements (replicate records 0) (replicate locator 0)
+abbrev pub personaliseExampleWord : List ℕ → List ℕ → List ℕ → ℕ → ℕ → ℕ
+personaliseExampleWord os es placements records afl = personaliseWordFor os es placements (replicate records 0) (replicate afl 0)
 
 pub record PersonaliseWords : Type 0 where
   -- 13 bytes of records and 4 of locator
-  pub written : personaliseWord twoObjects twoRecordEntry inFirst 32768 248 ≡ 0x000000040000000D
+  pub written : personaliseExampleWord twoObjects twoRecordEntry placedInFirst 32768 248 ≡ 0x000000040000000D
   -- each refusal, with those behind it given too
-  pub short-records : personaliseWord (0x95 ∷ []) badSecondEntry inThird 32767 247 ≡ 0x0001000000000000
-  pub short-locator : personaliseWord (0x95 ∷ []) badSecondEntry inThird 32768 247 ≡ 0x0002000000000000
-  pub bad-list : personaliseWord (0x95 ∷ []) badSecondEntry inThird 32768 248 ≡ 0x0003000000000000
-  pub bad-entry : personaliseWord twoObjects badSecondEntry inThird 32768 248 ≡ 0x0004000000000002
-  pub bad-record : personaliseWord twoObjects twoRecordEntry inThird 32768 248 ≡ 0x0005000000000003
+  pub short-records : personaliseExampleWord (0x95 ∷ []) badSecondEntry placedInThird 32767 247 ≡ 0x0001000000000000
+  pub short-afl : personaliseExampleWord (0x95 ∷ []) badSecondEntry placedInThird 32768 247 ≡ 0x0002000000000000
+  pub bad-list : personaliseExampleWord (0x95 ∷ []) badSecondEntry placedInThird 32768 248 ≡ 0x0003000000000000
+  pub bad-entry : personaliseExampleWord twoObjects badSecondEntry placedInThird 32768 248 ≡ 0x0004000000000002
+  pub bad-record : personaliseExampleWord twoObjects twoRecordEntry placedInThird 32768 248 ≡ 0x0005000000000003

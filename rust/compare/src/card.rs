@@ -4,8 +4,8 @@ use crate::damage;
 use crate::objects::{self, TEMPLATES, UNKNOWN};
 use crate::rng::Rng;
 use crate::track;
+use model::afl;
 use model::dictionary::{Object, Templates};
-use model::locator;
 use model::store::{self, Store};
 
 /// The objects that the last record must have brought.
@@ -153,7 +153,7 @@ fn options(rng: &mut Rng, store: &Store, fault: Option<usize>) -> Vec<u8> {
 /// The answer to READ RECORD for the k-th record.
 fn record(rng: &mut Rng, store: &Store, k: u32, fault: Option<usize>) -> Vec<u8> {
     let locator = in_store(store, Object::FileLocator).unwrap_or_default();
-    let read = |k| locator::record(locator, k).is_some_and(|record| record.is_read());
+    let read = |k| afl::record(locator, k).is_some_and(|record| record.is_read());
     if !read(k) && rng.one_in(2) {
         let length = rng.pick(&[0, 1, 5, 60, 256]);
         return rng.bytes(length);

@@ -4,7 +4,7 @@ use crate::objects;
 use crate::rng::Rng;
 use crate::track;
 use model::dictionary::{Answers, Object, Setter, REQUIRED_AT_START, ROWS};
-use model::{analysis, locator, store, HEAD_SIZE, SESSION_SIZE};
+use model::{afl, analysis, store, HEAD_SIZE, SESSION_SIZE};
 
 /// Flips, cuts, inserts, appends or replaces some bytes.
 pub fn bytes(rng: &mut Rng, bytes: &mut Vec<u8>) {
@@ -107,7 +107,7 @@ pub fn put(record: &mut [u8], object: Object, value: &[u8]) {
 pub fn records(record: &[u8]) -> Option<u32> {
     let place = place(Object::FileLocator);
     let length = usize::from(record[place]).checked_sub(1)?;
-    locator::records(record.get(place + 1..place + 1 + length)?)
+    afl::records(record.get(place + 1..place + 1 + length)?)
 }
 
 /// Fills the bytes that are free: the places of absent objects and those behind values.

@@ -11,7 +11,7 @@ use model::SESSION_SIZE;
 
 /// The side that is compared with the model: the library's word of a journal, and the right record.
 #[cfg(feature = "library")]
-use journal_test::{judge, wanted};
+use test_journal::{judge, wanted};
 
 /// Without the library the model is compared with itself.
 #[cfg(not(feature = "library"))]

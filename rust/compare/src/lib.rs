@@ -14,6 +14,7 @@
 pub mod cabinet;
 pub mod card;
 pub mod customers;
+pub mod cvm;
 pub mod damage;
 pub mod explain;
 pub mod find;
@@ -21,6 +22,7 @@ pub mod journal;
 pub mod layout;
 pub mod limit;
 pub mod lookup;
+pub mod mag_stripe;
 pub mod objects;
 pub mod padding;
 pub mod personalise;
@@ -31,10 +33,8 @@ pub mod rows;
 pub mod run;
 pub mod side;
 pub mod step;
-pub mod stripe;
 pub mod terminal;
 pub mod track;
-pub mod verification;
 
 /// The counts that are 0, each named by its place.
 fn never<'a>(counts: &'a [u64], what: &'a str) -> impl Iterator<Item = String> + 'a {

@@ -2,9 +2,9 @@
 
 use crate::damage::{self, LIMIT};
 use model::analysis;
+use model::cvm;
 use model::dictionary::Object;
 use model::store::Store;
-use model::verification;
 use model::{COMMAND_SIZE, HEAD_SIZE, SESSION_SIZE};
 
 /// How often each case was reached.
@@ -59,7 +59,7 @@ impl Reached {
 
     /// Counts the comparison of the amount with the limit, after the last record.
     pub fn count_decision(&mut self, store: &Store) {
-        let phone = verification::on_device(store);
+        let phone = cvm::on_device(store);
         let amount = analysis::amount(store, Object::AmountAuthorised);
         let limits = [Object::TransactionLimit, Object::TransactionLimitOnDevice]
             .map(|object| analysis::amount(store, object));

@@ -353,8 +353,8 @@ pub fn good_value(rng: &mut Rng, object: Object) -> Vec<u8> {
             ]
         }
         Object::FileLocator => locator(rng),
-        Object::Cdol1 | Object::Udol => data_list(rng, 250, 255),
-        Object::Pdol => data_list(rng, 240, 252),
+        Object::Cdol1 | Object::Udol => dol(rng, 250, 255),
+        Object::Pdol => dol(rng, 240, 252),
         Object::Pan => {
             let length = if rng.one_in(12) {
                 rng.within(0..=10)
@@ -448,7 +448,7 @@ fn entry(rng: &mut Rng) -> (u32, usize) {
 }
 
 /// A data object list of at most `room` bytes; its filled length is mostly at most `limit`.
-pub fn data_list(rng: &mut Rng, room: usize, limit: usize) -> Vec<u8> {
+pub fn dol(rng: &mut Rng, room: usize, limit: usize) -> Vec<u8> {
     let mut list = Vec::new();
     let mut total = 0;
     let entries = match rng.below(20) {

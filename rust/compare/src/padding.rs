@@ -3,7 +3,7 @@
 use model::dictionary::Object;
 use model::reading::{self, LEVELS};
 use model::store::{self, Store};
-use model::{data_list, tlv};
+use model::{dol, tlv};
 
 /// Where padding stands in a template: before its first object, between two, behind the last, and without any.
 #[derive(Clone, Copy)]
@@ -219,5 +219,5 @@ pub fn breaks_list(store: &Store, object: Object) -> bool {
     while let Some((_, [_, behind @ ..])) = tlv::split_tag(rest) {
         rest = tlv::skip_padding(behind);
     }
-    rest.is_empty() && data_list::filled_length(list).is_none()
+    rest.is_empty() && dol::filled_length(list).is_none()
 }

@@ -31,8 +31,8 @@ pub type Read = fn(&mut [u8], u32, u8, &[u8]) -> u32;
 /// The readers that are compared with the model.
 #[cfg(feature = "library")]
 pub const READERS: [(&str, Read); 3] = [
-    ("library", reading_test::read),
-    ("library, no recursion", reading_test::read_flat),
+    ("library", test_reading::read),
+    ("library, no recursion", test_reading::read_flat),
     ("plain", plain_reader::read),
 ];
 

@@ -1,13 +1,13 @@
 //! Makes every call on both sides and compares all that comes back.
 
+use crate::cvm::Reached;
 use crate::limit;
+use crate::mag_stripe;
 use crate::padding;
 use crate::play::Play;
 use crate::rows;
 use crate::side::Side;
 use crate::step::{Hex, Step};
-use crate::stripe;
-use crate::verification::Reached;
 use model::dictionary::{Object, ROWS};
 use model::store::{self, Store};
 use model::{HEAD_SIZE, SESSION_SIZE};
@@ -50,7 +50,7 @@ pub struct Coverage {
     /// Which limits decided, and which were refused.
     pub limit: limit::Reached,
     /// What cards without EMV mode reached.
-    pub stripe: stripe::Reached,
+    pub stripe: mag_stripe::Reached,
     /// What was reached of each row of the dictionary.
     pub rows: rows::Reached,
     /// Padded answers that were taken with reason 0, 3 or a later one, or gave a command, in the order of `AWAITED`.
@@ -95,7 +95,7 @@ impl Default for Coverage {
             longest: 0,
             verification: Reached::default(),
             limit: limit::Reached::default(),
-            stripe: stripe::Reached::default(),
+            stripe: mag_stripe::Reached::default(),
             rows: rows::Reached::default(),
             padded_answers: [0; 4],
             padding_refused: [0; 4],
@@ -265,7 +265,7 @@ impl Coverage {
             let store = store_of(session);
             let (which, list) = match phase {
                 0 => (1, Object::Pdol),
-                _ if stripe::without_emv_mode(store) => (3, Object::Udol),
+                _ if mag_stripe::without_emv_mode(store) => (3, Object::Udol),
                 _ => (2, Object::Cdol1),
             };
             self.padding_refused[which] += u64::from(padding::breaks_list(store, list));
@@ -526,7 +526,7 @@ fn count_last_record(store: &Store, reason: Option<u8>, coverage: &mut Coverage)
     if !matches!(reason, None | Some(4 | 6 | 7)) {
         return;
     }
-    let stripe_mode = stripe::without_emv_mode(store);
+    let stripe_mode = mag_stripe::without_emv_mode(store);
     if stripe_mode {
         coverage.stripe.count_last_record(store, reason);
     }

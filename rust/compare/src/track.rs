@@ -2,7 +2,7 @@
 
 use crate::rng::Rng;
 use model::dictionary::Object;
-use model::stripe;
+use model::mag_stripe;
 
 /// The objects that the last record of a card without EMV mode must have brought.
 pub const NEEDED: [Object; 4] = [
@@ -85,7 +85,7 @@ fn counter_digits(rng: &mut Rng, mask: &[u8]) -> Vec<u8> {
 pub fn values<'a>(rng: &mut Rng, held: impl Fn(Object) -> Option<&'a [u8]>) -> [Vec<u8>; 4] {
     let or_drawn = |object, drawn: Vec<u8>| held(object).map_or(drawn, <[u8]>::to_vec);
     let track = or_drawn(Object::Track2Data, track(rng));
-    let digits = stripe::places_in(&track, 0, 0, 0).map_or(13, |places| places.digits());
+    let digits = mag_stripe::places_in(&track, 0, 0, 0).map_or(13, |places| places.digits());
     let code = mask(rng, digits);
     let others = or_drawn(Object::PunatcTrack2, mask(rng, digits));
     let counter = counter_digits(rng, &others);

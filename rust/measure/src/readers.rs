@@ -5,11 +5,11 @@
 //! Prints a Markdown table of nanoseconds for one reading of a record, and one of bytes of stack.
 
 use measure::{summary, Record, BATCH};
-use reading_test::stack;
 use std::env;
 use std::error::Error;
 use std::hint::black_box;
 use std::time::Instant;
+use test_reading::stack;
 
 const STORE_SIZE: usize = model::STORE_SIZE;
 
@@ -23,8 +23,8 @@ const RECORD: u32 = 1;
 const FILE: u8 = 1;
 
 const READERS: [(&str, Read); 4] = [
-    ("first", reading_test::read),
-    ("no recursion", reading_test::read_flat),
+    ("first", test_reading::read),
+    ("no recursion", test_reading::read_flat),
     ("plain", plain_reader::read),
     ("model", by_model),
 ];
@@ -37,7 +37,7 @@ const MODEL: usize = 3;
 
 fn by_model(store: &mut [u8], _: u32, file: u8, card: &[u8]) -> u32 {
     let Ok(store) = store.try_into() else {
-        return reading_test::NOT_READ;
+        return test_reading::NOT_READ;
     };
     let (reason, count) = model::read_answer(store, model::reading::AnswerTo::Record, file, card);
     u32::from(reason) << 16 | count

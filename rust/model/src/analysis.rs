@@ -1,8 +1,8 @@
 //! The limit in force, result bits, usage and the choice (document 01, "Result bits and the choice"; document 02, Item 8).
 
+use crate::cvm;
 use crate::dictionary::Object;
 use crate::store::{self, Store};
-use crate::verification;
 
 /// The choice asked for, as P1 of GENERATE AC.
 #[derive(Clone, Copy, Debug, PartialEq, Eq)]
@@ -49,7 +49,7 @@ pub fn amount(store: &Store, object: Object) -> Option<u64> {
 
 /// The limit in force (Book C-2, S3.33 to S3.35): DF8125 for a phone that verifies its holder, else DF8124.
 pub fn transaction_limit(store: &Store) -> Option<u64> {
-    let limit = if verification::on_device(store) {
+    let limit = if cvm::on_device(store) {
         Object::TransactionLimitOnDevice
     } else {
         Object::TransactionLimit

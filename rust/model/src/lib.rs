@@ -8,7 +8,7 @@
 //! - `reason`: why a session ends early, and with which outcome
 //! - `reading`: a card's answer into a store, whole or not at all
 //! - `find`: the first object of a tag in a card's bytes
-//! - `data_list`, `locator`, `analysis`: data object lists, the file locator, result bits and choice
+//! - `dol`, `locator`, `analysis`: data object lists, the file locator, result bits and choice
 //! - `verification`: the method of cardholder verification by the card's list
 //! - `stripe`: the digits that go into the track of an old magnetic stripe card
 //! - `session`: the session record, its ranges and its steps
@@ -23,32 +23,32 @@
 
 extern crate alloc;
 
+pub mod afl;
 pub mod analysis;
 pub mod cabinet;
-pub mod data_list;
+pub mod cvm;
 pub mod dictionary;
+pub mod dol;
 pub mod explain;
 pub mod find;
 pub mod journal;
-pub mod locator;
 pub mod lookup;
+pub mod mag_stripe;
 pub mod personalise;
 pub mod reading;
 pub mod reason;
 pub mod session;
 pub mod store;
-pub mod stripe;
 pub mod tlv;
-pub mod verification;
 
 pub use dictionary::STORE_SIZE;
 pub use session::{COMMAND_SIZE, HEAD_SIZE, SESSION_SIZE};
 
+use cvm::NOT_APPLICABLE;
 use reading::AnswerTo;
 use reason::Reason;
 use session::{Refusal, Reply, Session};
 use store::Store;
-use verification::NOT_APPLICABLE;
 
 /// What `count` gives where the bytes hold no record.
 pub const NO_COUNT: u32 = 0xFFFF_FFFF;
@@ -117,7 +117,7 @@ pub fn find(bytes: &[u8], tag: u32) -> u64 {
 ///
 /// Gives the reason (0 if none) and the number of objects in the answer's tree. Above file 10 the status alone counts.
 pub fn read_answer(store: &mut Store, to: AnswerTo, file: u8, answer: &[u8]) -> (u8, u32) {
-    let record = locator::Record { file, number: 1 };
+    let record = afl::Record { file, number: 1 };
     match reading::body(answer) {
         Err(reason) => (reason as u8, 0),
         Ok(_) if to == AnswerTo::Record && !record.is_read() => (0, 0),

@@ -1,15 +1,15 @@
 //! The session record, its ranges, and the steps of the four calls.
 
+use crate::afl;
 use crate::analysis::{self, Choice};
-use crate::data_list;
+use crate::cvm::{self, Method};
 use crate::dictionary::{self, Object, REQUIRED_AT_START, STORE_SIZE};
-use crate::locator;
+use crate::dol;
+use crate::mag_stripe;
 use crate::reading::{self, AnswerTo};
 use crate::reason::{self, Outcome, Reason};
 use crate::store::{self, Store};
-use crate::stripe;
 use crate::tlv;
-use crate::verification::{self, Method};
 
 /// Bytes in front of the store: version, phase, two bytes of detail, count, method, and eight of the limit in force.
 pub const HEAD_SIZE: usize = 14;
@@ -304,7 +304,7 @@ impl<'a> Session<'a> {
     /// GET PROCESSING OPTIONS: its data are the values that the PDOL asks for, under tag 83.
     fn ask_options(&mut self, command: &mut [u8]) -> Result<Next, Reason> {
         let list = store::get(self.store, Object::Pdol).unwrap_or_default();
-        let length = data_list::filled_length(list)
+        let length = dol::filled_length(list)
             .filter(|&length| length <= 252)
             .ok_or(Reason::DataList)?;
         let front = if length <= 127 { 7 } else { 8 };
@@ -315,7 +315,7 @@ impl<'a> Session<'a> {
         } else {
             command[6..8].copy_from_slice(&[0x81, length as u8]);
         }
-        data_list::fill(self.store, list, &mut command[front..][..length]);
+        dol::fill(self.store, list, &mut command[front..][..length]);
         command[front + length] = 0x00;
         self.phase = Phase::Options;
         Ok(Next::Command(front + length + 1))
@@ -346,9 +346,9 @@ impl<'a> Session<'a> {
     }
 
     /// The k-th record of the accepted locator.
-    fn record(&self, k: u32) -> Result<locator::Record, Reason> {
+    fn record(&self, k: u32) -> Result<afl::Record, Reason> {
         store::get(self.store, Object::FileLocator)
-            .and_then(|locator| locator::record(locator, k))
+            .and_then(|locator| afl::record(locator, k))
             .ok_or(Reason::Locator)
     }
 
@@ -365,7 +365,7 @@ impl<'a> Session<'a> {
             reading::read(self.store, AnswerTo::Record, body).0?;
         }
         let locator = store::get(self.store, Object::FileLocator).unwrap_or_default();
-        if locator::record(locator, k + 1).is_some() {
+        if afl::record(locator, k + 1).is_some() {
             return self.ask_record(k + 1, limit, command);
         }
         if analysis::amount(self.store, Object::AmountAuthorised) > Some(limit) {
@@ -382,7 +382,7 @@ impl<'a> Session<'a> {
         if !holds_all(self.store, &RECORD_DATA) {
             return Err(Reason::Missing);
         }
-        let selection = verification::select(self.store);
+        let selection = cvm::select(self.store);
         let mut bits = analysis::result_bits(self.store);
         for (bits, added) in bits.iter_mut().zip(selection.bits) {
             *bits |= added;
@@ -409,7 +409,7 @@ impl<'a> Session<'a> {
         }
         let list = store::get(self.store, Object::Udol)
             .filter(|list| !list.is_empty())
-            .unwrap_or(&stripe::DEFAULT_UDOL);
+            .unwrap_or(&mag_stripe::DEFAULT_UDOL);
         let length = put_command(self.store, [0x80, 0x2A, 0x8E, 0x80], list, command)?;
         self.phase = Phase::Checksum { limit };
         Ok(Next::Command(length))
@@ -439,7 +439,7 @@ impl<'a> Session<'a> {
         let body = reading::body(answer)?;
         let mut store = *self.store;
         reading::read(&mut store, AnswerTo::Checksum, body).0?;
-        let places = stripe::places(self.store).map_err(|_| Reason::NotAllowed)?;
+        let places = mag_stripe::places(self.store).map_err(|_| Reason::NotAllowed)?;
         *self.store = store;
         let value = |object| store::get_fixed(&store, object).copied();
         let counter = value(Object::TransactionCounter).ok_or(Reason::Missing)?;
@@ -463,12 +463,12 @@ fn put_command(
     list: &[u8],
     command: &mut [u8],
 ) -> Result<usize, Reason> {
-    let length = data_list::filled_length(list)
+    let length = dol::filled_length(list)
         .filter(|length| (1..=255).contains(length))
         .ok_or(Reason::DataList)?;
     command[..4].copy_from_slice(&header);
     command[4] = length as u8;
-    data_list::fill(store, list, &mut command[5..][..length]);
+    dol::fill(store, list, &mut command[5..][..length]);
     command[5 + length] = 0x00;
     Ok(5 + length + 1)
 }
@@ -568,7 +568,7 @@ fn mode(store: &Store) -> Option<Mode> {
 
 /// The number of records of the locator, if it is there and keeps the rules.
 fn records(store: &Store) -> Option<u32> {
-    locator::records(store::get(store, Object::FileLocator)?)
+    afl::records(store::get(store, Object::FileLocator)?)
 }
 
 /// What the records must have brought for GENERATE AC.

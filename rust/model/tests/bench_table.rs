@@ -3,8 +3,8 @@
 mod common;
 
 use common::{hex, Host};
-use model::data_list;
 use model::dictionary::Object;
+use model::dol;
 use model::reading::AnswerTo;
 use model::store::{self, Store};
 use model::STORE_SIZE;
@@ -71,8 +71,8 @@ fn filling() {
     store::put(&mut stored, Object::VerificationResults, &hex("8000008000"));
     let fill = |list: &str| {
         let list = hex(list);
-        let mut out = vec![0xEE; data_list::filled_length(&list).expect("a good list")];
-        data_list::fill(&stored, &list, &mut out);
+        let mut out = vec![0xEE; dol::filled_length(&list).expect("a good list")];
+        dol::fill(&stored, &list, &mut out);
         out
     };
     assert_eq!(fill("9F02 02"), hex("1234"));

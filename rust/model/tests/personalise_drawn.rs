@@ -4,8 +4,8 @@
 mod common;
 
 use common::{hex, Draw};
+use model::afl::{self, Record};
 use model::dictionary::Object;
-use model::locator::{self, Record};
 use model::personalise::{personalise, Answer, Refusal};
 use model::reading::{self, AnswerTo};
 use model::store::{self, Store};
@@ -123,8 +123,8 @@ fn card_may_set(tag: u32, value: &[u8]) -> bool {
 
 /// Whether some entries are a locator of document 01 that also keeps the rules of the card's side.
 fn good_entries(entries: &[u8]) -> bool {
-    let records: Option<Vec<Record>> = locator::records(entries)
-        .and_then(|count| (1..=count).map(|k| locator::record(entries, k)).collect());
+    let records: Option<Vec<Record>> = afl::records(entries)
+        .and_then(|count| (1..=count).map(|k| afl::record(entries, k)).collect());
     records.is_some_and(|records| {
         let mut numbers: Vec<_> = records.iter().map(|r| (r.file, r.number)).collect();
         numbers.sort_unstable();
@@ -157,7 +157,7 @@ fn by_the_rules(input: &Input) -> Result<Vec<Vec<u8>>, Refusal> {
     if let Some(number) = (1..=last).find(|&number| !good_entries(front(number))) {
         return Err(Entry(number));
     }
-    let count = locator::records(entries).expect("good entries") as usize;
+    let count = afl::records(entries).expect("good entries") as usize;
     let mut bad = vec![];
     let mut contents = vec![vec![]; count + 1];
     for &(record, object) in &placements {
@@ -208,12 +208,12 @@ fn answer(input: &Input) -> Answer {
 
 /// Reads the written records in locator order from an empty store: it holds the list at the end, and nothing else.
 fn read_back(input: &Input, mut records: &[u8]) {
-    let count = locator::records(&input.entries).expect("document 01 takes the locator");
+    let count = afl::records(&input.entries).expect("document 01 takes the locator");
     let mut store = EMPTY;
     for k in 1..=count {
         let (_, _, behind) = tlv::split_object(records).expect("a record for each that is named");
         let (record, rest) = records.split_at(records.len() - behind.len());
-        let file = locator::record(&input.entries, k).expect("a record").file;
+        let file = afl::record(&input.entries, k).expect("a record").file;
         let with_status = [record, &[0x90, 0x00]].concat();
         let (reason, _) = read_answer(&mut store, AnswerTo::Record, file, &with_status);
         assert_eq!(reason, 0);

@@ -4,9 +4,9 @@ mod common;
 
 use common::{change, hex, is_command, outcome, refused, Host};
 use common::{CONFIRMATION_CODE, NOT_APPLICABLE, NO_CVM, ONLINE_PIN, SIGNATURE};
+use model::cvm::select;
 use model::dictionary::Object;
 use model::store::Store;
-use model::verification::select;
 use model::{HEAD_SIZE, NO_COUNT, STORE_SIZE};
 
 /// The objects of a plain store at a reader that supports verification on the device.

@@ -6,8 +6,8 @@ use common::NOT_APPLICABLE;
 use common::{change, decided, ended, hex, is_command, outcome, refused, start_with, Draw, Host};
 use model::dictionary::{Object, REQUIRED_AT_START};
 use model::journal::{check, write, Call, Verdict};
+use model::mag_stripe::{places_in, Unsound};
 use model::reading::AnswerTo;
-use model::stripe::{places_in, Unsound};
 use model::{HEAD_SIZE, NO_COUNT};
 
 /// A track of thirteen discretionary digits and an F.

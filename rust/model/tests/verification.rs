@@ -6,9 +6,9 @@ use common::{
     change, hex, outcome, start_with, Host, NOT_APPLICABLE, NO_CVM, OFFLINE_PIN, ONLINE_PIN,
     SIGNATURE,
 };
+use model::cvm::{select, Selection};
 use model::dictionary::Object;
 use model::store::Store;
-use model::verification::{select, Selection};
 use model::{HEAD_SIZE, STORE_SIZE};
 
 /// The objects of a plain store, each as one text.

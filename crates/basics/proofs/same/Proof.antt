@@ -6,13 +6,13 @@ use native.Mathlib.Omega.{arith}
 use lib.ListN.{length, drop}
 use borrow.Author.Tests.{eq-eqb, ne-eqb}
 use Rattle.basics.proofs.Laws.{both-no-left, both-true}
-use Rattle.basics.specs.Alike.{alike}
-use Rattle.basics.proofs.Alike.{unlike-length, alike-at, alike-ends}
+use Rattle.basics.specs.Alike.{bytesEqual}
+use Rattle.basics.proofs.Alike.{mismatch-length, alike-at, alike-ends}
 use Rattle.basics.proofs.same.Statement.{statement}
 use Rattle.basics.proofs.same.Tie as tie
 
 abbrev Inv-loop : tie.InvT-loop
-Inv-loop a b i₀ i = (length a ≡ length b) × ((i ≤ length a) × (alike a b ≡ alike (drop i a) (drop i b)))
+Inv-loop a b i₀ i = (length a ≡ length b) × ((i ≤ length a) × (bytesEqual a b ≡ bytesEqual (drop i a) (drop i b)))
 
 abbrev μ-loop : tie.MeasureT-loop
 μ-loop a b i₀ i = length a - i
@@ -38,7 +38,7 @@ same-spec =
     (tie.spec
     Inv-loop
     μ-loop
-    (λ c. sym (unlike-length _ _ (c .if1 .taken)))
+    (λ c. sym (mismatch-length _ _ (c .if1 .taken)))
     (λ c. (omega arith, (omega arith, refl)))
     (λ c. omega arith)
     (λ c. omega arith)

@@ -5,17 +5,17 @@ use borrow.Author.Tests.{lt-ltb, le-ltb}
 use mathlib.Core.Path.{sym, ap, _∙_}
 use Prim.Native.Nat.{ℕ}
 use Rattle.basics.proofs.Laws.{if-yes, if-no}
-use Rattle.cabinet.specs.declared.Admission.{Admission}
-use Rattle.cabinet.specs.Inner.{admissionOf}
+use Rattle.cabinet.specs.declared.CabinetAdmission.{CabinetAdmission}
+use Rattle.cabinet.specs.Inner.{cabinetAdmission}
 use Rattle.cabinet.proofs.admit.Statement.{statement}
 use Rattle.cabinet.proofs.admit.Tie as tie
 
 returns : tie.Need-returns
-unfolding admissionOf
-returns c = ap (λ (w : ℕ). Admission.Refused w) (c .refusal-word .ensures) ∙ sym (if-yes _ _ (lt-ltb _ _ (c .before .if1 .taken)))
+unfolding cabinetAdmission
+returns c = ap (λ (w : ℕ). CabinetAdmission.Refused w) (c .refusal-word .ensures) ∙ sym (if-yes _ _ (lt-ltb _ _ (c .before .if1 .taken)))
 
 returns-2 : tie.Need-returns-2
-unfolding admissionOf
+unfolding cabinetAdmission
 returns-2 c = c .holding-in .ensures ∙ sym (if-no _ _ (le-ltb _ _ (c .before .if1 .left)))
 
 pub admit-spec : {M : Type 1} → statement M

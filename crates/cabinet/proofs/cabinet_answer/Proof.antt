@@ -7,8 +7,8 @@ use Rattle.dictionary.specs.Rows.{storeSize}
 use Rattle.session.specs.Answer.{answerStep}
 use Rattle.session.proofs.Laws.{admitted-ranges}
 use Rattle.layout.specs.Layout.{headSize}
-use Rattle.trace.proofs.EveryCall.{answer-came}
-use Rattle.cabinet.specs.Calls.{stepOn}
+use Rattle.session_claim.proofs.EveryCall.{answer-came}
+use Rattle.cabinet.specs.Calls.{cabinetStepOn}
 use Rattle.cabinet.proofs.Laws.{Taken, over-refused, over-taken, over-step}
 use Rattle.cabinet.proofs.cabinet_answer.Statement.{statement}
 use Rattle.cabinet.proofs.cabinet_answer.Tie as tie
@@ -29,7 +29,7 @@ finish-requires c κs =
 returns : tie.Need-returns
 returns c =
     let a = c .before .before .before .before .before .before .before .before .args in
-    over-refused (a .state .now) (a .command .now) (stepOn (λ s b. answerStep s (a .card .now) b) (a .state .now) (a .command .now)) _ (c .before .before .before .admit .ensures) (c .before .admission .given .1)
+    over-refused (a .state .now) (a .command .now) (cabinetStepOn (λ s b. answerStep s (a .card .now) b) (a .state .now) (a .command .now)) _ (c .before .before .before .admit .ensures) (c .before .admission .given .1)
 
 returns-2 : tie.Need-returns-2
 returns-2 c =

@@ -2,10 +2,10 @@
 -- Assumes nothing.
 use borrow.Author.Needs.{needs}
 use native.Mathlib.Omega.{arith}
-use Rattle.session.specs.Steps.{linkStep}
+use Rattle.session.specs.Steps.{linkFailedStep}
 use Rattle.session.proofs.Laws.{admitted-ranges}
-use Rattle.trace.proofs.EveryCall.{link-came}
-use Rattle.cabinet.specs.Calls.{stepOn}
+use Rattle.session_claim.proofs.EveryCall.{link-came}
+use Rattle.cabinet.specs.Calls.{cabinetStepOn}
 use Rattle.cabinet.proofs.Laws.{Taken, over-refused, over-taken, over-kept}
 use Rattle.cabinet.proofs.cabinet_link_failed.Statement.{statement}
 use Rattle.cabinet.proofs.cabinet_link_failed.Tie as tie
@@ -23,13 +23,13 @@ finish-requires c κs = let k = taken (c .before .before .before .before .before
 returns : tie.Need-returns
 returns c =
     let a = c .before .before .before .before .before .before .before .args in
-    over-refused (a .state .now) (a .command .now) (stepOn linkStep (a .state .now) (a .command .now)) _ (c .before .before .before .admit .ensures) (c .before .admission .given .1)
+    over-refused (a .state .now) (a .command .now) (cabinetStepOn linkFailedStep (a .state .now) (a .command .now)) _ (c .before .before .before .admit .ensures) (c .before .admission .given .1)
 
 returns-2 : tie.Need-returns-2
 returns-2 c =
     let m = c .before .before .before .before .before .before .before .before .before in
     let a = m .before .before .before .before .before .before .before .before .before .args in
-    over-kept linkStep link-came (λ s b h e. admitted-ranges s b _ h e) (a .state .now) (a .command .now) _ (taken m) _ _ _
+    over-kept linkFailedStep link-came (λ s b h e. admitted-ranges s b _ h e) (a .state .now) (a .command .now) _ (taken m) _ _ _
     (c .before .before .before .before .before .before .link-failed-in .result) (c .before .before .before .before .before .before .link-failed-in .ensures) (c .before .before .finish .ensures)
 
 pub cabinet-link-failed-spec : {M : Type 1} → statement M

@@ -4,8 +4,8 @@ use borrow.Author.Needs.{needs}
 use native.Mathlib.Omega.{arith}
 use Rattle.session.specs.Steps.{stopStep}
 use Rattle.session.proofs.Laws.{admitted-ranges}
-use Rattle.trace.proofs.EveryCall.{stop-came}
-use Rattle.cabinet.specs.Calls.{stepOn}
+use Rattle.session_claim.proofs.EveryCall.{stop-came}
+use Rattle.cabinet.specs.Calls.{cabinetStepOn}
 use Rattle.cabinet.proofs.Laws.{Taken, over-refused, over-taken, over-kept}
 use Rattle.cabinet.proofs.cabinet_stop.Statement.{statement}
 use Rattle.cabinet.proofs.cabinet_stop.Tie as tie
@@ -23,7 +23,7 @@ finish-requires c κs = let k = taken (c .before .before .before .before .before
 returns : tie.Need-returns
 returns c =
     let a = c .before .before .before .before .before .before .before .args in
-    over-refused (a .state .now) (a .command .now) (stepOn stopStep (a .state .now) (a .command .now)) _ (c .before .before .before .admit .ensures) (c .before .admission .given .1)
+    over-refused (a .state .now) (a .command .now) (cabinetStepOn stopStep (a .state .now) (a .command .now)) _ (c .before .before .before .admit .ensures) (c .before .admission .given .1)
 
 returns-2 : tie.Need-returns-2
 returns-2 c =

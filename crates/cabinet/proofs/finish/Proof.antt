@@ -13,10 +13,10 @@ use Rattle.cabinet.proofs.finish.Tie as tie
 returns-2 : tie.Need-returns-2
 returns-2 c =
     let a = c .before .before .before .before .before .before .before .before .before .before .before .before .args in (
-      c .word2 .ensures,
+      c .result-word2 .ensures,
       c .before .before .before .put-amounts .ensures
           ∙ ap₂ (λ (x : Amounts) (y : List ℕ). withAmounts x y) (c .before .before .before .before .before .settled .ensures) (c .before .before .before .before .before .before .before .before .put-head .ensures)
-          ∙ finished-taken (a .turn .answer) (a .turn) (a .amounts) (a .state .now) (not-refused (a .turn .answer) (c .before .before .before .before .before .before .before .before .before .before .match .keys2)),
+          ∙ finished-taken (a .transition .answer) (a .transition) (a .amounts) (a .state .now) (not-refused (a .transition .answer) (c .before .before .before .before .before .before .before .before .before .before .match .keys2)),
     )
 
 pub finish-spec : {M : Type 1} → statement M

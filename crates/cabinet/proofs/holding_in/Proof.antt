@@ -6,32 +6,32 @@ use mathlib.Core.Path.{_≡_, sym, ap, ap₂, _∙_}
 use mathlib.Core.Option.{some}
 use Prim.Native.Nat.{ℕ, _+_}
 use lib.Dec.{leb}
-use Rattle.record.specs.Session.{sessionOf}
-use Rattle.layout.specs.Layout.{decoded}
+use Rattle.session_record.specs.Session.{sessionOf}
+use Rattle.layout.specs.Layout.{decodedSession}
 use Rattle.layout.proofs.Laws.{held-none}
-use Rattle.cabinet.specs.declared.Admission.{Admission}
-use Rattle.cabinet.specs.State.{mostAmount, leftIn, asideIn}
+use Rattle.cabinet.specs.declared.CabinetAdmission.{CabinetAdmission}
+use Rattle.cabinet.specs.State.{mostAmount, remainingIn, reservedIn}
 use Rattle.cabinet.proofs.Laws.{storeIn, head-session, holding-short, holding-none, holding-undue, holding-over, holding-fits}
 use Rattle.cabinet.proofs.holding_in.Statement.{statement}
 use Rattle.cabinet.proofs.holding_in.Tie as tie
 
 returns : tie.Need-returns
-returns c = ap (λ (w : ℕ). Admission.Refused w) (c .before .refusal-word .ensures) ∙ sym (holding-short _ (c .if1 .taken))
+returns c = ap (λ (w : ℕ). CabinetAdmission.Refused w) (c .before .refusal-word .ensures) ∙ sym (holding-short _ (c .if1 .taken))
 
 returns-2 : tie.Need-returns-2
 returns-2 c =
     let d = c .before .before in
-    ap (λ (w : ℕ). Admission.Refused w) (d .before .before .refusal-word .ensures)
+    ap (λ (w : ℕ). CabinetAdmission.Refused w) (d .before .before .refusal-word .ensures)
     ∙ sym (holding-none _ (d .before .if1 .left) (held-none _ (sym (d .head-in .ensures) ∙ c .enum-told .given .1)))
 
 -- the session of the head
 session : (c : tie.After-known-told) → let l = c .before .before .before .before .before .before .before .args .state .now in let h = c .before .held .given .0 .0 in
-    decoded l ≡ some (sessionOf (h .phase) (h .count) (storeIn l))
+    decodedSession l ≡ some (sessionOf (h .phase) (h .count) (storeIn l))
 session c = head-session _ _ (sym (c .before .before .before .head-in .ensures) ∙ c .before .held .given .1)
 
 -- the test of the sum is that of the bytes
 summed : (c : tie.After-is-within) → let l = c .before .before .before .before .before .before .before .before .before .before .before .before .before .before .before .args .state .now in
-    leb (leftIn l + asideIn l) mostAmount ≡ c .is-within .result
+    leb (remainingIn l + reservedIn l) mostAmount ≡ c .is-within .result
 summed c =
     sym (c .is-within .ensures ∙ ap₂ (λ (n a : ℕ). leb (n + a) mostAmount) (c .before .before .before .before .before .before .eight .ensures) (c .before .before .before .before .eight2 .ensures))
 
@@ -39,14 +39,14 @@ returns-3 : tie.Need-returns-3
 returns-3 c =
     let k = c .before .before .before .before .before .before .before in
     let l = k .before .before .before .before .before .before .before .args .state .now in
-    ap (λ (w : ℕ). Admission.Refused w) (k .before .before .before .before .before .refusal-word .ensures)
+    ap (λ (w : ℕ). CabinetAdmission.Refused w) (k .before .before .before .before .before .refusal-word .ensures)
     ∙ sym (holding-undue l (k .before .before .before .before .if1 .left) _ _ (session k) (λ e. c .if2 .taken (c .before .before .before .eight2 .ensures ∙ e ∙ sym (c .before .due .ensures))))
 
 returns-4 : tie.Need-returns-4
 returns-4 c =
     let k = c .before .before .before .before .before .before .before .before .before in
     let l = k .before .before .before .before .before .before .before .args .state .now in
-    ap (λ (w : ℕ). Admission.Refused w) (k .before .before .before .before .before .refusal-word .ensures)
+    ap (λ (w : ℕ). CabinetAdmission.Refused w) (k .before .before .before .before .before .refusal-word .ensures)
     ∙ sym (holding-over l (k .before .before .before .before .if1 .left) _ _ (session k) (summed (c .before) ∙ not-true _ (c .if3 .taken)))
 
 returns-5 : tie.Need-returns-5
@@ -55,9 +55,9 @@ returns-5 c =
     let l = k .before .before .before .before .before .before .before .args .state .now in
     let h = k .before .held .given .0 .0 in
     let d = c .before .before .before in
-    let aside = d .before .before .eight2 .ensures in
-    ap₂ (λ (n a : ℕ). Admission.Taken (record { phase = h .phase; count = h .count; amounts = record { left = n; aside = a } })) (d .before .before .before .before .eight .ensures) aside
-    ∙ sym (holding-fits l (k .before .before .before .before .if1 .left) _ _ (session k) (sym aside ∙ c .before .before .if2 .left ∙ d .due .ensures) (summed (c .before) ∙ not-false _ (c .if3 .left)))
+    let reserved = d .before .before .eight2 .ensures in
+    ap₂ (λ (n a : ℕ). CabinetAdmission.Admitted (record { phase = h .phase; count = h .count; amounts = record { remaining = n; reserved = a } })) (d .before .before .before .before .eight .ensures) reserved
+    ∙ sym (holding-fits l (k .before .before .before .before .if1 .left) _ _ (session k) (sym reserved ∙ c .before .before .if2 .left ∙ d .due .ensures) (summed (c .before) ∙ not-false _ (c .if3 .left)))
 
 pub holding-in-spec : {M : Type 1} → statement M
 holding-in-spec =

@@ -12,14 +12,14 @@ use Rattle.cabinet.proofs.is_within.Statement.{statement}
 use Rattle.cabinet.proofs.is_within.Tie as tie
 
 returns : tie.Need-returns
-returns c = let a = c .before .args in sym (lt-leb (a .left + a .aside) mostAmount (omega arith))
+returns c = let a = c .before .args in sym (lt-leb (a .remaining + a .reserved) mostAmount (omega arith))
 
 returns-2 : tie.Need-returns-2
 returns-2 c =
     let a = c .before .args in
-    elim (bool-cases (leb (a .left) (mostAmount - a .aside))) [
-      | inl t ↦ t ∙ sym (le-leb (a .left + a .aside) mostAmount (omega (arith, leb-true (a .left) (mostAmount - a .aside) t)))
-      | inr t ↦ t ∙ sym (lt-leb (a .left + a .aside) mostAmount (omega (arith, leb-false (a .left) (mostAmount - a .aside) t)))
+    elim (bool-cases (leb (a .remaining) (mostAmount - a .reserved))) [
+      | inl t ↦ t ∙ sym (le-leb (a .remaining + a .reserved) mostAmount (omega (arith, leb-true (a .remaining) (mostAmount - a .reserved) t)))
+      | inr t ↦ t ∙ sym (lt-leb (a .remaining + a .reserved) mostAmount (omega (arith, leb-false (a .remaining) (mostAmount - a .reserved) t)))
     ]
 
 pub is-within-spec : {M : Type 1} → statement M

@@ -5,9 +5,9 @@ use borrow.Author.Tests.{not-true, not-false}
 use mathlib.Core.Path.{_≡_, sym, subst, _∙_}
 use mathlib.Core.Bool.{true}
 use Rattle.basics.specs.Reason.{refusedRanges, refusedPhase}
-use Rattle.record.specs.Session.{sessionOf}
-use Rattle.record.specs.Ranges.{inRanges}
-use Rattle.cabinet.specs.Calls.{Did, startHeld}
+use Rattle.session_record.specs.Session.{sessionOf}
+use Rattle.session_record.specs.Ranges.{inRanges}
+use Rattle.cabinet.specs.Calls.{DidCabinetCall, startOnCabinet}
 use Rattle.cabinet.specs.Inner.{cabinetOf}
 use Rattle.cabinet.proofs.Laws.{storeIn, ranged-in, ranged-out, did-refuse, start-running, start-idle}
 use Rattle.cabinet.proofs.start_held.Statement.{statement}
@@ -15,13 +15,13 @@ use Rattle.cabinet.proofs.start_held.Tie as tie
 
 -- past its test the session keeps its ranges
 kept : (c : tie.Else1) → let a = c .before .before .before .before .before .before .before .args in inRanges (sessionOf (a .holding .phase) (a .holding .count) (storeIn (a .state .now))) ≡ true
-kept c = sym (c .before .keeps .ensures .test) ∙ not-false _ (c .if1 .left)
+kept c = sym (c .before .parts-in-ranges .ensures .test) ∙ not-false _ (c .if1 .left)
 
 returns : tie.Need-returns
 returns c =
     let a = c .before .before .before .before .before .before .before .before .args in
     did-refuse refusedRanges (c .refusal-word .ensures)
-    (ranged-out (startHeld (a .terminal .now) (a .state .now) (a .command .now)) _ _ (cabinetOf (a .holding) (a .state .now)) (sym (c .before .before .keeps .ensures .test) ∙ not-true _ (c .before .if1 .taken)))
+    (ranged-out (startOnCabinet (a .terminal .now) (a .state .now) (a .command .now)) _ _ (cabinetOf (a .holding) (a .state .now)) (sym (c .before .before .parts-in-ranges .ensures .test) ∙ not-true _ (c .before .if1 .taken)))
 
 returns-2 : tie.Need-returns-2
 returns-2 c =
@@ -29,17 +29,17 @@ returns-2 c =
     let st = e .before .before .before .before .before .before .before in
     let a = st .args in
     did-refuse refusedPhase (c .refusal-word2 .ensures)
-    (ranged-in (startHeld (a .terminal .now) (a .state .now) (a .command .now)) _ _ (cabinetOf (a .holding) (a .state .now)) (kept e)
-    ∙ start-running _ (a .terminal .now) (a .state .now) (a .command .now) (st .pre .1 .0) (kept e) (a .holding .amounts .left) (a .holding .amounts .aside) (sym (c .before .before .is-running .ensures) ∙ c .before .if2 .taken))
+    (ranged-in (startOnCabinet (a .terminal .now) (a .state .now) (a .command .now)) _ _ (cabinetOf (a .holding) (a .state .now)) (kept e)
+    ∙ start-running _ (a .terminal .now) (a .state .now) (a .command .now) (st .pre .1 .0) (kept e) (a .holding .amounts .remaining) (a .holding .amounts .reserved) (sym (c .before .before .is-running .ensures) ∙ c .before .if2 .taken))
 
 returns-3 : tie.Need-returns-3
 returns-3 c =
     let e = c .before .before .before .before .before .before .before .before .before .before in
     let st = e .before .before .before .before .before .before .before in
     let a = st .args in
-    subst (Did _ _ _)
-    (sym (ranged-in (startHeld (a .terminal .now) (a .state .now) (a .command .now)) (a .state .now) (a .command .now) (cabinetOf (a .holding) (a .state .now)) (kept e)
-    ∙ start-idle _ (a .terminal .now) (a .state .now) (a .command .now) (st .pre .1 .0) (kept e) (a .holding .amounts .left) (a .holding .amounts .aside) (sym (c .before .before .before .before .before .before .before .before .before .is-running .ensures) ∙ c .before .before .before .before .before .before .before .before .if2 .left)))
+    subst (DidCabinetCall _ _ _)
+    (sym (ranged-in (startOnCabinet (a .terminal .now) (a .state .now) (a .command .now)) (a .state .now) (a .command .now) (cabinetOf (a .holding) (a .state .now)) (kept e)
+    ∙ start-idle _ (a .terminal .now) (a .state .now) (a .command .now) (st .pre .1 .0) (kept e) (a .holding .amounts .remaining) (a .holding .amounts .reserved) (sym (c .before .before .before .before .before .before .before .before .before .is-running .ensures) ∙ c .before .before .before .before .before .before .before .before .if2 .left)))
     (c .before .before .before .before .start-fresh .ensures)
 
 pub start-held-spec : {M : Type 1} → statement M

@@ -6,7 +6,7 @@ use mathlib.Core.Path.{_≡_, sym, _∙_}
 use Prim.Native.Nat.{_-_}
 use native.Mathlib.Omega.{arith}
 use lib.ListN.{length}
-use Rattle.tlv.specs.declared.Front.the-variants as front
+use Rattle.tlv.specs.declared.ObjectFront.the-variants as front
 use Rattle.tlv.specs.Primitives.{primitiveOf}
 use Rattle.tlv.proofs.Laws.{tail}
 use Rattle.cabinet_lookup.proofs.Laws.{Reached, begin, stopped, bounds, met, passed}

@@ -3,18 +3,18 @@
 use borrow.Author.Needs.{needs}
 use mathlib.Core.Path.{ap, _∙_}
 use native.Mathlib.Omega.{arith}
-use Rattle.dictionary.specs.Rows.{rows}
-use Rattle.dictionary.specs.Packing.{attributesOf, codeOf, attributesIn}
+use Rattle.dictionary.specs.Rows.{dictionaryRows}
+use Rattle.dictionary.specs.Packing.{attributesOf, packedRow, unpackedRow}
 use Rattle.dictionary.proofs.Table.{column, beyond}
 use Rattle.dictionary.proofs.Packing.{code-unpacks}
 use Rattle.dictionary.proofs.attributes_of.Statement.{statement}
 use Rattle.dictionary.proofs.attributes_of.Tie as tie
 
 returns : tie.Need-returns
-unfolding rows
+unfolding dictionaryRows
 returns c =
     let k = c .before .before .args .row in
-    c .unpacked .ensures ∙ ap attributesIn (column codeOf rows k) ∙ code-unpacks k (omega arith)
+    c .unpacked .ensures ∙ ap unpackedRow (column packedRow dictionaryRows k) ∙ code-unpacks k (omega arith)
 
 returns-2 : tie.Need-returns-2
 returns-2 c = c .unpacked2 .ensures ∙ beyond attributesOf (c .before .before .args .row) (c .before .if1 .left)

@@ -11,35 +11,35 @@ use Rattle.dictionary.proofs.search.Statement.{statement}
 use Rattle.dictionary.proofs.search.Tie as tie
 
 abbrev Inv-loop : tie.InvT-loop
-Inv-loop tags tag from₀ to₀ looks₀ from to looks =
-    (to ≤ length tags) × (looks + to ≤ from + length tags) × (searchOf tags tag ≡ rest tags tag from to looks)
+Inv-loop tags tag from₀ to₀ probes₀ from to probes =
+    (to ≤ length tags) × (probes + to ≤ from + length tags) × (searchOf tags tag ≡ rest tags tag from to probes)
 
 abbrev μ-loop : tie.MeasureT-loop
-μ-loop tags tag from₀ to₀ looks₀ from to looks = to - from
+μ-loop tags tag from₀ to₀ probes₀ from to probes = to - from
 
 loop-again : tie.Need-loop-again Inv-loop μ-loop
 loop-again c =
     let lp = c .before .before .before .loop in
     let a = c .before .before .before .before .args in
-    (omega arith, omega arith, lp .inv .2 ∙ go-behind (a .tags .now) (a .tag) (lp .from) (lp .to) (lp .looks) (omega arith) (omega arith) (c .if1 .taken))
+    (omega arith, omega arith, lp .inv .2 ∙ go-behind (a .tags .now) (a .tag) (lp .from) (lp .to) (lp .probes) (omega arith) (omega arith) (c .if1 .taken))
 
 returns : tie.Need-returns Inv-loop μ-loop
 returns c =
     let lp = c .before .before .before .before .loop in
     let a = c .before .before .before .before .before .args in
-    promised (a .tags .now) (a .tag) (sym (lp .inv .2 ∙ go-here (a .tags .now) (a .tag) (lp .from) (lp .to) (lp .looks) (omega arith) (omega arith) (c .if2 .taken)))
+    promised (a .tags .now) (a .tag) (sym (lp .inv .2 ∙ go-here (a .tags .now) (a .tag) (lp .from) (lp .to) (lp .probes) (omega arith) (omega arith) (c .if2 .taken)))
 
 loop-again-2 : tie.Need-loop-again-2 Inv-loop μ-loop
 loop-again-2 c =
     let lp = c .before .before .before .before .loop in
     let a = c .before .before .before .before .before .args in
-    (omega arith, omega arith, lp .inv .2 ∙ go-before (a .tags .now) (a .tag) (lp .from) (lp .to) (lp .looks) (omega arith) (omega arith) (omega (arith, c .if2 .left)))
+    (omega arith, omega arith, lp .inv .2 ∙ go-before (a .tags .now) (a .tag) (lp .from) (lp .to) (lp .probes) (omega arith) (omega arith) (omega (arith, c .if2 .left)))
 
 returns-2 : tie.Need-returns-2 Inv-loop μ-loop
 returns-2 c =
     let lp = c .before .loop in
     let a = c .before .before .args in
-    promised (a .tags .now) (a .tag) (sym (lp .inv .2 ∙ end (a .tags .now) (a .tag) (lp .from) (lp .to) (lp .looks) (c .loop-test .left)))
+    promised (a .tags .now) (a .tag) (sym (lp .inv .2 ∙ end (a .tags .now) (a .tag) (lp .from) (lp .to) (lp .probes) (c .loop-test .left)))
 
 pub search-spec : {M : Type 1} → statement M
 search-spec =

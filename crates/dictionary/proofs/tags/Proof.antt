@@ -1,11 +1,11 @@
 -- `dictionary::tags` meets its contract: the array is the rows' tags. Assumes nothing.
 use mathlib.Core.Path.{refl}
-use Rattle.dictionary.specs.Rows.{rows}
+use Rattle.dictionary.specs.Rows.{dictionaryRows}
 use Rattle.dictionary.proofs.tags.Statement.{statement}
 use Rattle.dictionary.proofs.tags.Tie as tie
 
 returns : tie.Need-returns
-unfolding rows
+unfolding dictionaryRows
 returns c = refl
 
 pub tags-spec : {M : Type 1} → statement M

@@ -1,13 +1,13 @@
 -- `dictionary::used_rows` meets its contract: each constant's row has its tag, computed over the whole table. Assumes nothing.
 use mathlib.Core.Path.{refl}
 use Rattle.basics.specs.Choice.{if}
-use Rattle.dictionary.specs.Rows.{rows, past, find}
-use Rattle.dictionary.specs.Named.{placeOf, usedTags}
+use Rattle.dictionary.specs.Rows.{dictionaryRows, rowPast, findRow}
+use Rattle.dictionary.specs.Named.{rowNumberOf, usedTags}
 use Rattle.dictionary.proofs.used_rows.Statement.{statement}
 use Rattle.dictionary.proofs.used_rows.Tie as tie
 
 returns : tie.Need-returns
-unfolding if rows past find placeOf usedTags
+unfolding if dictionaryRows rowPast findRow rowNumberOf usedTags
 returns c = refl
 
 pub used-rows-spec : {M : Type 1} → statement M

@@ -8,14 +8,14 @@ use native.Mathlib.Omega.{arith}
 use lib.ListN.{getD}
 use mathlib.Core.List.{List}
 use Rattle.dictionary.proofs.Named.{at-9F27}
-use Rattle.store.specs.Held.{holds}
-use Rattle.record.proofs.Tags.{held-is}
+use Rattle.store.specs.Held.{hasObject}
+use Rattle.session_record.proofs.Tags.{held-is}
 use Rattle.analysis.proofs.ByRow.{bytes-by-row}
-use Rattle.analysis.specs.Choice.{p1Of}
+use Rattle.analysis.specs.Choice.{generateAcP1}
 use Rattle.analysis.specs.declared.choice.Choice.{Choice}
-use Rattle.session.specs.Answer.{decision}
+use Rattle.session.specs.Answer.{cryptogramOutcome}
 use Rattle.explain.specs.declared.Deciding.{Deciding}
-use Rattle.explain.specs.Explain.{choiceIn, decidingIn, cryptogramRank, typeIn, typeAsked, gives}
+use Rattle.explain.specs.Explain.{storedChoice, decidingIn, cryptogramRank, storedCryptogramType, requestedType, decidesOutcome}
 use Rattle.explain.proofs.Laws.{ended-reason, ended-nothing, ended-lacks, ended-other, ended-lower, ended-stage}
 use Rattle.explain.proofs.ended.Statement.{statement}
 use Rattle.explain.proofs.ended.Tie as tie
@@ -26,30 +26,30 @@ decided : (c : tie.After-known-told) → let f = c .before .before .before in
 decided c = let f = c .before .before .before in sym (f .deciding-in .ensures) ∙ c .before .stage .given .1
 
 -- 9F27 is there
-there : (c : tie.Else2) → holds (c .before .before .before .before .before .before .before .before .before .args .bytes .now) 0x9F27 ≡ true
+there : (c : tie.Else2) → hasObject (c .before .before .before .before .before .before .before .before .before .args .bytes .now) 0x9F27 ≡ true
 there c = held-is _ _ _ at-9F27 (c .before .is-there .ensures) (not-false _ (c .if2 .left))
 
 -- the type that was read is the stored one's
 type-is : (c : tie.After-byte-at) → let a = c .before .before .before .before .before .before .before .before .before .before .before .args in
-    c .byte-at .result / 64 ≡ typeIn (a .bytes .now)
+    c .byte-at .result / 64 ≡ storedCryptogramType (a .bytes .now)
 type-is c =
     ap (λ (n : ℕ). n / 64) (c .byte-at .ensures ∙ ap (λ (s : List ℕ). getD s 0 0) (bytes-by-row _ 0x9F27 at-9F27 (c .before .value .ensures)))
 
 -- what was asked of the decision
 decides-is : (c : tie.After-decides) → let a = c .before .before .before .before .before .before .before .before .before .before .before .before .before .args in
-    c .decides .result ≡ gives (decision (choiceIn (a .bytes .now)) (typeIn (a .bytes .now))) (a .end .outcome)
+    c .decides .result ≡ decidesOutcome (cryptogramOutcome (storedChoice (a .bytes .now)) (storedCryptogramType (a .bytes .now))) (a .end .outcome)
 decides-is c =
     let a = c .before .before .before .before .before .before .before .before .before .before .before .before .before .args in
     c .decides .ensures
-    ∙ ap₂ (λ (x : Choice) (n : ℕ). gives (decision x n) (a .end .outcome)) (c .before .choice-in .ensures) (type-is (c .before .before))
+    ∙ ap₂ (λ (x : Choice) (n : ℕ). decidesOutcome (cryptogramOutcome x n) (a .end .outcome)) (c .before .choice-in .ensures) (type-is (c .before .before))
 
 -- the ranks that were compared
 ranks : (c : tie.After-cryptogram-rank2) → let a = c .before .before .before .before .before .before .before .before .before .before .before .before .before .before .before .before .before .args in
-    (c .before .before .cryptogram-rank .result ≡ cryptogramRank (typeIn (a .bytes .now))) × (c .cryptogram-rank2 .result ≡ cryptogramRank (typeAsked (choiceIn (a .bytes .now))))
+    (c .before .before .cryptogram-rank .result ≡ cryptogramRank (storedCryptogramType (a .bytes .now))) × (c .cryptogram-rank2 .result ≡ cryptogramRank (requestedType (storedChoice (a .bytes .now))))
 ranks c =
     let d = c .before .before .before .before in (
       c .before .before .cryptogram-rank .ensures ∙ ap cryptogramRank (type-is (d .before .before)),
-      c .cryptogram-rank2 .ensures ∙ ap (λ (n : ℕ). cryptogramRank (n / 64)) (c .before .p1 .ensures ∙ ap p1Of (d .before .choice-in .ensures)),
+      c .cryptogram-rank2 .ensures ∙ ap (λ (n : ℕ). cryptogramRank (n / 64)) (c .before .p1 .ensures ∙ ap generateAcP1 (d .before .choice-in .ensures)),
     )
 
 returns : tie.Need-returns

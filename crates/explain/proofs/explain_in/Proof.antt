@@ -4,24 +4,24 @@ use borrow.Author.Needs.{needs}
 use borrow.Author.Tests.{not-true, not-false}
 use mathlib.Core.Path.{_≡_, sym, ap, _∙_}
 use Rattle.basics.proofs.Laws.{if-yes, if-no}
-use Rattle.record.specs.declared.Phase.{Phase}
-use Rattle.record.specs.Session.{sessionOf}
-use Rattle.explain.specs.Explain.{inPhase, explained}
+use Rattle.session_record.specs.declared.Phase.{Phase}
+use Rattle.session_record.specs.Session.{sessionOf}
+use Rattle.explain.specs.Explain.{explainedInPhase, explanationOf}
 use Rattle.explain.proofs.Laws.{told}
 use Rattle.explain.proofs.explain_in.Statement.{statement}
 use Rattle.explain.proofs.explain_in.Tie as tie
 
 -- where the ranges are kept, the phase decides
 by-phase : (c : tie.Else1) (p : Phase) → let a = c .before .before .before .args in
-    a .phase ≡ p → inPhase p (a .bytes .now) ≡ explained (sessionOf (a .phase) (a .count) (a .bytes .now))
-unfolding explained
+    a .phase ≡ p → explainedInPhase p (a .bytes .now) ≡ explanationOf (sessionOf (a .phase) (a .count) (a .bytes .now))
+unfolding explanationOf
 by-phase c p e =
     let a = c .before .before .before .args in
-    sym (if-yes _ _ (sym (c .before .keeps .ensures .test) ∙ not-false _ (c .if1 .left)) ∙ ap (λ (q : Phase). inPhase q (a .bytes .now)) e)
+    sym (if-yes _ _ (sym (c .before .parts-in-ranges .ensures .test) ∙ not-false _ (c .if1 .left)) ∙ ap (λ (q : Phase). explainedInPhase q (a .bytes .now)) e)
 
 returns : tie.Need-returns
-unfolding explained
-returns c = told _ (sym (if-no _ _ (sym (c .before .keeps .ensures .test) ∙ not-true _ (c .if1 .taken))))
+unfolding explanationOf
+returns c = told _ (sym (if-no _ _ (sym (c .before .parts-in-ranges .ensures .test) ∙ not-true _ (c .if1 .taken))))
 
 returns-2 : tie.Need-returns-2
 returns-2 c = told _ (by-phase (c .before .before) _ (c .enum-told .given .1))

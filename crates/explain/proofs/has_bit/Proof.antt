@@ -1,11 +1,11 @@
 -- `explain::has_bit` meets its contract: it is the definition of a bit by its number. Assumes nothing.
 use borrow.Author.Needs.{needs}
-use Rattle.analysis.specs.Bits.{bit}
+use Rattle.analysis.specs.Bits.{numberedBit}
 use Rattle.explain.proofs.has_bit.Statement.{statement}
 use Rattle.explain.proofs.has_bit.Tie as tie
 
 returns : tie.Need-returns
-unfolding bit
+unfolding numberedBit
 returns c = c .has .ensures
 
 pub has-bit-spec : {M : Type 1} → statement M

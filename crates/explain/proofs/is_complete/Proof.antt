@@ -6,24 +6,24 @@ use mathlib.Core.Path.{_≡_, sym, ap, _∙_}
 use Rattle.basics.specs.Choice.{every}
 use Rattle.basics.proofs.Laws.{both-true, both-no-left, both-no-right}
 use Rattle.dictionary.proofs.Named.{at-95, at-DF8120, at-DF8121, at-DF8122}
-use Rattle.store.specs.Held.{holds}
-use Rattle.record.proofs.Tags.{held-is}
+use Rattle.store.specs.Held.{hasObject}
+use Rattle.session_record.proofs.Tags.{held-is}
 use Rattle.analysis.proofs.ByRow.{there-by-row}
 use Rattle.explain.specs.declared.Stage.{Stage}
-use Rattle.explain.specs.Explain.{ownCode, neededAt}
+use Rattle.explain.specs.Explain.{tacOfStage, stageNeeds}
 use Rattle.explain.proofs.Laws.{every-one}
 use Rattle.explain.proofs.is_complete.Statement.{statement}
 use Rattle.explain.proofs.is_complete.Tie as tie
 
 -- past the first two objects
 past : (c : tie.Else2) (stage : Stage) → let a = c .before .before .before .before .before .args in
-    a .stage ≡ stage → every (holds (a .bytes .now)) (neededAt (a .stage)) ≡ every (holds (a .bytes .now)) (ownCode stage)
+    a .stage ≡ stage → every (hasObject (a .bytes .now)) (stageNeeds (a .stage)) ≡ every (hasObject (a .bytes .now)) (tacOfStage stage)
 unfolding every
 past c stage e =
     let b = c .before .before .before .before .before .args .bytes .now in
     both-true _ (held-is _ _ _ at-95 (c .before .before .before .is-there .ensures) (not-false _ (c .before .before .if1 .left)))
     ∙ both-true _ (held-is _ _ _ at-DF8121 (c .before .is-there2 .ensures) (not-false _ (c .if2 .left)))
-    ∙ ap (λ (g : Stage). every (holds b) (ownCode g)) e
+    ∙ ap (λ (g : Stage). every (hasObject b) (tacOfStage g)) e
 
 returns : tie.Need-returns
 unfolding every

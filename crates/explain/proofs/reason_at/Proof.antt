@@ -2,20 +2,20 @@
 use borrow.Author.Needs.{needs}
 use mathlib.Core.Path.{sym, ap, _∙_}
 use native.Mathlib.Omega.{arith}
-use Rattle.analysis.specs.declared.choice.Pair.{Pair}
+use Rattle.analysis.specs.declared.choice.ActionCodes.{ActionCodes}
 use Rattle.explain.specs.declared.Explanation.{Explanation}
 use Rattle.explain.specs.declared.Holder.{Holder}
-use Rattle.explain.specs.Explain.{holderOf, pairAt, byBit, reasonAt}
+use Rattle.explain.specs.Explain.{bitHolder, actionCodesOfStage, explainedByBit, explainedAt}
 use Rattle.explain.proofs.Laws.{found-at, bit-within}
 use Rattle.explain.proofs.reason_at.Statement.{statement}
 use Rattle.explain.proofs.reason_at.Tie as tie
 
 returns : tie.Need-returns
-unfolding reasonAt
+unfolding explainedAt
 returns c =
     let f = c .before .before in
     let a = f .before .before .before .before .args in
-    sym (ap (byBit (a .stage) (pairAt (a .bytes .now) (a .stage)))
+    sym (ap (explainedByBit (a .stage) (actionCodesOfStage (a .bytes .now) (a .stage)))
     (found-at _ (f .stage-bit .ensures) (f .before .result-in .ensures) _ (f .before .before .pair-at .ensures) (c .enum-told .given .1)))
 
 cast-bit : tie.Need-cast-bit
@@ -24,14 +24,14 @@ cast-bit c =
     omega (arith, bit-within _ _ (k .before .before .stage-bit .ensures) (k .i .given .1))
 
 returns-2 : tie.Need-returns-2
-unfolding reasonAt
+unfolding explainedAt
 returns-2 c =
     let k = c .before .before in
     let f = k .before .before in
     let a = f .before .before .before .before .args in
     ap (λ (h : Holder). Explanation.Forced (record { stage = a .stage; bit = k .i .given .0 .0; holder = h }))
-    (c .holder-of .ensures ∙ ap (λ (p : Pair). holderOf p (k .i .given .0 .0)) (f .before .before .pair-at .ensures))
-    ∙ sym (ap (byBit (a .stage) (pairAt (a .bytes .now) (a .stage)))
+    (c .holder-of .ensures ∙ ap (λ (p : ActionCodes). bitHolder p (k .i .given .0 .0)) (f .before .before .pair-at .ensures))
+    ∙ sym (ap (explainedByBit (a .stage) (actionCodesOfStage (a .bytes .now) (a .stage)))
     (found-at _ (f .stage-bit .ensures) (f .before .result-in .ensures) _ (f .before .before .pair-at .ensures) (k .i .given .1)))
 
 pub reason-at-spec : {M : Type 1} → statement M

@@ -5,9 +5,9 @@ use mathlib.Core.Path.{sym, ap, _∙_}
 use mathlib.Core.List.{List}
 use Prim.Native.Nat.{ℕ}
 use Rattle.basics.proofs.Laws.{if-yes, if-no}
-use Rattle.record.specs.declared.Phase.{Phase}
-use Rattle.record.specs.Session.{sessionOf}
-use Rattle.layout.specs.Layout.{withRecord}
+use Rattle.session_record.specs.declared.Phase.{Phase}
+use Rattle.session_record.specs.Session.{sessionOf}
+use Rattle.layout.specs.Layout.{withSessionRecord}
 use Rattle.host.proofs.emv_open.Statement.{statement}
 use Rattle.host.proofs.emv_open.Tie as tie
 
@@ -16,8 +16,8 @@ returns c =
     let k = c .before .before .before in
     let m = k .before .before .before .before in
     record {
-      word = sym (if-yes _ _ (sym (k .encode .ensures .enough) ∙ c .if1 .taken));
-      session = k .encode .ensures .bytes ∙ ap (λ (b : List ℕ). withRecord (sessionOf Phase.Fresh 0 b) (m .before .before .args .session .now)) (m .empty .ensures);
+      word = sym (if-yes _ _ (sym (k .encode-record .ensures .enough) ∙ c .if1 .taken));
+      session = k .encode-record .ensures .bytes ∙ ap (λ (b : List ℕ). withSessionRecord (sessionOf Phase.Fresh 0 b) (m .before .before .args .session .now)) (m .empty .ensures);
     }
 
 returns-2 : tie.Need-returns-2
@@ -25,8 +25,8 @@ returns-2 c =
     let k = c .before .before .before .before in
     let m = k .before .before .before .before in
     record {
-      word = c .refusal-word .ensures ∙ sym (if-no _ _ (sym (k .encode .ensures .enough) ∙ c .before .if1 .left));
-      session = k .encode .ensures .bytes ∙ ap (λ (b : List ℕ). withRecord (sessionOf Phase.Fresh 0 b) (m .before .before .args .session .now)) (m .empty .ensures);
+      word = c .refusal-word .ensures ∙ sym (if-no _ _ (sym (k .encode-record .ensures .enough) ∙ c .before .if1 .left));
+      session = k .encode-record .ensures .bytes ∙ ap (λ (b : List ℕ). withSessionRecord (sessionOf Phase.Fresh 0 b) (m .before .before .args .session .now)) (m .empty .ensures);
     }
 
 pub emv-open-spec : {M : Type 1} → statement M

@@ -6,8 +6,8 @@ use mathlib.Core.Path.{_≡_, sym, ap, _∙_}
 use Prim.Native.Nat.{_≤_, _<_}
 use native.Mathlib.Omega.{arith}
 use lib.ListN.{length}
-use Rattle.dictionary.specs.Rows.{rows, rowCount, find}
-use Rattle.dictionary.specs.declared.Found.{Found}
+use Rattle.dictionary.specs.Rows.{dictionaryRows, rowCount, findRow}
+use Rattle.dictionary.specs.declared.RowFound.{RowFound}
 use Rattle.dictionary.proofs.Find.{found}
 use Rattle.store.proofs.Rows.{rows-length}
 use Rattle.host.proofs.Objects.{value-small, object-unknown, object-absent, object-needed, object-copied}
@@ -16,18 +16,18 @@ use Rattle.host.proofs.object_in.Tie as tie
 
 -- the row that was found
 row-is : (c : tie.After-known-told) → let l = c .before .before .before in
-    find rows (l .before .before .before .args .tag) ≡ Found.At (c .before .found .given .0 .0)
-row-is c = let l = c .before .before .before in sym (l .lookup .ensures .0) ∙ c .before .found .given .1
+    findRow dictionaryRows (l .before .before .before .args .tag) ≡ RowFound.At (c .before .found .given .0 .0)
+row-is c = let l = c .before .before .before in sym (l .lookup-row .ensures .0) ∙ c .before .found .given .1
 
 -- its value has at most 254 bytes
 small : (c : tie.After-value) → length (c .value .result .now) ≤ 254
 small c =
     let k = c .before .before .before in
-    let h : k .before .found .given .0 .0 < rowCount = omega (arith, found rows _ _ (row-is k) .0, rows-length) in
+    let h : k .before .found .given .0 .0 < rowCount = omega (arith, found dictionaryRows _ _ (row-is k) .0, rows-length) in
     rw (c .value .ensures) (value-small _ _ h)
 
 returns : tie.Need-returns
-returns c = let l = c .before .before in object-unknown _ _ _ (sym (l .lookup .ensures .0) ∙ c .enum-told .given .1)
+returns c = let l = c .before .before in object-unknown _ _ _ (sym (l .lookup-row .ensures .0) ∙ c .enum-told .given .1)
 
 returns-2 : tie.Need-returns-2
 returns-2 c = let k = c .before .before in object-absent _ _ _ _ (row-is k) (sym (c .before .is-there .ensures) ∙ not-true _ (c .if1 .taken))

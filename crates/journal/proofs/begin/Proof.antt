@@ -3,22 +3,22 @@
 use mathlib.Core.Path.{ap, _∙_}
 use mathlib.Core.List.{[]}
 use lib.ListN.{replicate}
-use Rattle.record.specs.declared.Session.{Session}
-use Rattle.journal.specs.declared.Standing.{Standing}
-use Rattle.journal.specs.declared.Checker.{Checker}
-use Rattle.journal.specs.Verdict.{expected}
-use Rattle.journal.specs.Inner.{standingOf, firstChecker, pushedAll}
+use Rattle.session_record.specs.declared.Session.{Session}
+use Rattle.journal.specs.declared.CheckState.{CheckState}
+use Rattle.journal.specs.declared.JournalChecker.{JournalChecker}
+use Rattle.journal.specs.Verdict.{expectedNext}
+use Rattle.journal.specs.Inner.{checkStateOf, firstChecker, checkerPushedAll}
 use borrow.Author.Needs.{needs}
 use Rattle.journal.proofs.begin.Statement.{statement}
 use Rattle.journal.proofs.begin.Tie as tie
 
 -- the checker that holds nothing, by its standing
-abbrev holdingNone : Standing → Checker
+abbrev holdingNone : CheckState → JournalChecker
 holdingNone s = record { standing = s; held = replicate 1027 0; length = 0; records = 0 }
 
 returns : tie.Need-returns
-unfolding firstChecker pushedAll
-returns c = let e = ap holdingNone (c .waiting .ensures ∙ ap (λ (f : Session). standingOf (expected f [])) (c .before .fresh .ensures)) in (e, e)
+unfolding firstChecker checkerPushedAll
+returns c = let e = ap holdingNone (c .waiting .ensures ∙ ap (λ (f : Session). checkStateOf (expectedNext f [])) (c .before .fresh-session .ensures)) in (e, e)
 
 pub begin-spec : {M : Type 1} → statement M
 begin-spec = tie.close (tie.spec (λ c κs. search needs) (λ c κs. search needs) returns)

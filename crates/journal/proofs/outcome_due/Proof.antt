@@ -2,15 +2,15 @@
 -- Assumes nothing.
 use mathlib.Core.Path.{ap}
 use mathlib.Core.List.{[], _∷_}
-use Rattle.journal.specs.Verdict.{expected}
-use Rattle.journal.specs.Inner.{standingOf}
+use Rattle.journal.specs.Verdict.{expectedNext}
+use Rattle.journal.specs.Inner.{checkStateOf}
 use Prim.Native.Nat.{ℕ}
 use borrow.Author.Needs.{needs}
 use Rattle.journal.proofs.outcome_due.Statement.{statement}
 use Rattle.journal.proofs.outcome_due.Tie as tie
 
 returns : tie.Need-returns
-returns c = ap (λ (x : ℕ). standingOf (expected (c .before .args .session) (6 ∷ x ∷ c .before .args .end .reason ∷ []))) (c .outcome-number .ensures)
+returns c = ap (λ (x : ℕ). checkStateOf (expectedNext (c .before .args .session) (6 ∷ x ∷ c .before .args .end .reason ∷ []))) (c .outcome-number .ensures)
 
 pub outcome-due-spec : {M : Type 1} → statement M
 outcome-due-spec =

@@ -14,7 +14,7 @@ returns-3 : tie.Need-returns-3
 returns-3 c = rw (c .before .phase .given .1)
 
 returns-4 : tie.Need-returns-4
-returns-4 c = rw (c .before .before .before .phase2 .given .1, c .before .p1 .ensures, c .method-number .ensures)
+returns-4 c = rw (c .before .before .before .phase2 .given .1, c .before .p1 .ensures, c .cvm-number .ensures)
 
 returns-5 : tie.Need-returns-5
 returns-5 c = rw (c .enum-told3 .given .1)

@@ -5,9 +5,9 @@ use borrow.Author.Tests.{eq-eqb, ne-eqb, not-true, not-false}
 use mathlib.Core.Path.{_≡_, refl, sym, ap, _∙_}
 use mathlib.Core.List.{List}
 use Prim.Native.Nat.{ℕ}
-use Rattle.basics.specs.Alike.{alike}
-use Rattle.basics.specs.Number.{number as numberOf}
-use Rattle.layout.specs.Layout.{codeOf, heldLimit, limitBytes, phaseOf, codeIn, limitIn, phaseIn, sameCode, heldOf}
+use Rattle.basics.specs.Alike.{bytesEqual}
+use Rattle.basics.specs.Number.{bigEndian as numberOf}
+use Rattle.layout.specs.Layout.{phaseCodeOf, phaseLimit, limitBytes, phaseOfCode, phaseCodeIn, limitBytesIn, phaseIn, samePhaseCode, recordHeld}
 use Rattle.layout.proofs.Laws.{decoded-short, decoded-version, decoded-code, decoded-limit, decoded-some}
 use Rattle.layout.proofs.head_in.Statement.{statement}
 use Rattle.layout.proofs.head_in.Tie as tie
@@ -22,7 +22,7 @@ phased c =
 
 -- the test of the code is that of the bytes
 tested : (c : tie.After-is-same) → let l = c .before .before .before .before .before .before .before .before .before .before .args .bytes .now in
-    sameCode (codeOf (phaseIn l)) (codeIn l) ≡ c .is-same .result
+    samePhaseCode (phaseCodeOf (phaseIn l)) (phaseCodeIn l) ≡ c .is-same .result
 tested c =
     let o = c .before in
     let p = o .before in
@@ -31,23 +31,23 @@ tested c =
 -- and so is that of the limit
 limited : (c : tie.After-same)
     → let l = c .before .before .before .before .before .before .before .before .before .before .before .before .before .before .before .before .args .bytes .now in
-    alike (limitBytes (heldLimit (phaseIn l))) (limitIn l) ≡ c .same .result
+    bytesEqual (limitBytes (phaseLimit (phaseIn l))) (limitBytesIn l) ≡ c .same .result
 limited c =
     let b = c .before .before .before in
     let p = b .before .before .before .before .before in
     sym (c .same .ensures ∙ rw (b .limit-bytes .ensures, b .before .held-limit .ensures, phased p, p .before .before .limit-in .ensures) refl)
 
 returns : tie.Need-returns
-returns c = sym (ap heldOf (decoded-short _ (c .if1 .taken)))
+returns c = sym (ap recordHeld (decoded-short _ (c .if1 .taken)))
 
 returns-2 : tie.Need-returns-2
-returns-2 c = sym (ap heldOf (decoded-version _ (ne-eqb _ _ (c .if2 .taken))))
+returns-2 c = sym (ap recordHeld (decoded-version _ (ne-eqb _ _ (c .if2 .taken))))
 
 returns-3 : tie.Need-returns-3
-returns-3 c = sym (ap heldOf (decoded-code _ (tested (c .before) ∙ not-true _ (c .if3 .taken))))
+returns-3 c = sym (ap recordHeld (decoded-code _ (tested (c .before) ∙ not-true _ (c .if3 .taken))))
 
 returns-4 : tie.Need-returns-4
-returns-4 c = sym (ap heldOf (decoded-limit _ (limited (c .before) ∙ not-true _ (c .if4 .taken))))
+returns-4 c = sym (ap recordHeld (decoded-limit _ (limited (c .before) ∙ not-true _ (c .if4 .taken))))
 
 returns-5 : tie.Need-returns-5
 returns-5 c =
@@ -56,7 +56,7 @@ returns-5 c =
     let p = t .before .before .before in
     let v = p .before .before .before .before in
     rw (phased p)
-    (sym (ap heldOf (decoded-some _ (v .before .before .if1 .left) (eq-eqb _ _ (v .if2 .left)) (tested (t .before) ∙ not-false _ (t .if3 .left)) (limited (e .before) ∙ not-false _ (e .if4 .left)))))
+    (sym (ap recordHeld (decoded-some _ (v .before .before .if1 .left) (eq-eqb _ _ (v .if2 .left)) (tested (t .before) ∙ not-false _ (t .if3 .left)) (limited (e .before) ∙ not-false _ (e .if4 .left)))))
 
 pub head-in-spec : {M : Type 1} → statement M
 head-in-spec =

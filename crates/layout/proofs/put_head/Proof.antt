@@ -8,7 +8,7 @@ use native.Mathlib.Omega.{arith}
 use lib.ListN.{length, drop, length-set, length-take, length-drop}
 use borrow.Rule.Slice.PartMut.{putMid}
 use Rattle.store.proofs.Laws.{copied}
-use Rattle.layout.specs.Layout.{version, heldLimit, limitBytes}
+use Rattle.layout.specs.Layout.{layoutVersion, phaseLimit, limitBytes}
 use Rattle.layout.proofs.Lists.{set-head, set-limit, headed-yes, headed-no, headed-length}
 use Rattle.layout.proofs.put_head.Statement.{statement}
 use Rattle.layout.proofs.put_head.Tie as tie
@@ -29,12 +29,12 @@ written c =
     let k = code .code-of .result in
     let limit = bytes .limit-bytes .result in
     let m = copy .copy .last .1 .0 in
-    let own : limit ≡ limitBytes (heldLimit (a .phase)) = bytes .limit-bytes .ensures ∙ ap limitBytes (bytes .before .held-limit .ensures) in
+    let own : limit ≡ limitBytes (phaseLimit (a .phase)) = bytes .limit-bytes .ensures ∙ ap limitBytes (bytes .before .held-limit .ensures) in
     let eight : length limit ≡ 8 = ap length own in
-    ap (λ (x : List ℕ). putMid 6 8 x m) (set-head (a .bytes .now) version (k .number) (k .datum) (k .reason) (a .count) (k .method) (omega arith))
-    ∙ (ap (putMid 6 8 ((version ∷ k .number ∷ k .datum ∷ k .reason ∷ a .count ∷ k .method ∷ []) ++ drop 6 (a .bytes .now)))
+    ap (λ (x : List ℕ). putMid 6 8 x m) (set-head (a .bytes .now) layoutVersion (k .number) (k .datum) (k .reason) (a .count) (k .cvm) (omega arith))
+    ∙ (ap (putMid 6 8 ((layoutVersion ∷ k .number ∷ k .datum ∷ k .reason ∷ a .count ∷ k .cvm ∷ []) ++ drop 6 (a .bytes .now)))
     (copied limit _ m (simp (length-take, length-drop, length-set) (omega arith)) (copy .copy .ensures .1) ∙ own)
-    ∙ (set-limit (a .bytes .now) (limitBytes (heldLimit (a .phase))) version (k .number) (k .datum) (k .reason) (a .count) (k .method)
+    ∙ (set-limit (a .bytes .now) (limitBytes (phaseLimit (a .phase))) layoutVersion (k .number) (k .datum) (k .reason) (a .count) (k .cvm)
     ∙ (rw (code .code-of .ensures) refl
     ∙ sym (headed-yes (a .bytes .now) (a .phase) (a .count) (code .before .if1 .left)))))
 

@@ -4,10 +4,10 @@ use borrow.Author.Needs.{needs}
 use mathlib.Core.Path.{sym, _∙_}
 use native.Mathlib.Omega.{arith}
 use Rattle.personalise.specs.Placements.{placementsIn}
-use Rattle.personalise.specs.Outcome.{listed}
-use Rattle.personalise.proofs.Rules.{locator-most, total-most}
+use Rattle.personalise.specs.Outcome.{listedObjects}
+use Rattle.personalise.proofs.Rules.{afl-most, total-most}
 use Rattle.personalise.proofs.Least.{fitting-of}
-use Rattle.personalise.proofs.Stages.{record-stage, records-stay, locator-stays}
+use Rattle.personalise.proofs.Stages.{record-stage, records-stay, afl-stays}
 use Rattle.personalise.proofs.with_entries.Statement.{statement}
 use Rattle.personalise.proofs.with_entries.Tie as tie
 
@@ -20,8 +20,8 @@ write-all-requires c κs =
     let a = st .args in
     let m = total-most (a .entries .now) (st .pre .1 .1) in
     let e = k .count-records .ensures .0 in
-    (st .pre .0, (st .pre .1 .0, ((e, omega (arith, m, e), omega (arith, locator-most (a .entries .now) (st .pre .1 .1))),
-      fitting-of (listed (a .objects .now)) (placementsIn (a .placements .now)) (k .count-records .result) (sym (b .bad-record .ensures) ∙ n .enum-told .given .1) (omega (arith, m, e)))))
+    (st .pre .0, (st .pre .1 .0, ((e, omega (arith, m, e), omega (arith, afl-most (a .entries .now) (st .pre .1 .1))),
+      fitting-of (listedObjects (a .objects .now)) (placementsIn (a .placements .now)) (k .count-records .result) (sym (b .bad-record .ensures) ∙ n .enum-told .given .1) (omega (arith, m, e)))))
 
 returns : tie.Need-returns
 returns c =
@@ -30,7 +30,7 @@ returns c =
     let k = b .before in
     let a = k .before .before .before .before .before .before .args in (
       sym (record-stage (a .objects .now) (a .placements .now) (a .entries .now) (k .count-records .result) (k .count-records .ensures .0) (b .bad-record .ensures) (f .fault .given .1)),
-      (records-stay (a .objects .now) (a .entries .now) (a .placements .now) (a .records .now), locator-stays (a .entries .now) (a .locator .now)),
+      (records-stay (a .objects .now) (a .entries .now) (a .placements .now) (a .records .now), afl-stays (a .entries .now) (a .afl .now)),
     )
 
 returns-2 : tie.Need-returns-2
@@ -49,7 +49,7 @@ pub with-entries-spec : {M : Type 1} → statement M
 with-entries-spec =
     tie.close
     (tie.spec
-    (λ c κs. let st = c .before .before .before .before .before in locator-most (st .args .entries .now) (st .pre .1 .1))
+    (λ c κs. let st = c .before .before .before .before .before in afl-most (st .args .entries .now) (st .pre .1 .1))
     (λ c κs. c .before .before .before .before .before .before .pre .0 .0)
     (λ c. search needs)
     (λ c. search needs)

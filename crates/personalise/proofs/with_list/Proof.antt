@@ -3,8 +3,8 @@
 use borrow.Author.Needs.{needs}
 use mathlib.Core.Path.{sym, ap, _∙_}
 use Rattle.personalise.specs.Placements.{placementsIn}
-use Rattle.personalise.specs.Outcome.{listed, afterEntries}
-use Rattle.personalise.proofs.Stages.{records-stay, locator-stays}
+use Rattle.personalise.specs.Outcome.{listedObjects, afterEntries}
+use Rattle.personalise.proofs.Stages.{records-stay, afl-stays}
 use Rattle.personalise.proofs.with_list.Statement.{statement}
 use Rattle.personalise.proofs.with_list.Tie as tie
 
@@ -20,8 +20,8 @@ returns c =
     let f = c .before in
     let b = f .before .before in
     let a = b .before .before .before .before .before .before .args in (
-      sym (ap (afterEntries (listed (a .objects .now)) (placementsIn (a .placements .now)) (a .entries .now)) (sym (b .bad-entry .ensures) ∙ f .fault .given .1)),
-      (records-stay (a .objects .now) (a .entries .now) (a .placements .now) (a .records .now), locator-stays (a .entries .now) (a .locator .now)),
+      sym (ap (afterEntries (listedObjects (a .objects .now)) (placementsIn (a .placements .now)) (a .entries .now)) (sym (b .bad-entry .ensures) ∙ f .fault .given .1)),
+      (records-stay (a .objects .now) (a .entries .now) (a .placements .now) (a .records .now), afl-stays (a .entries .now) (a .afl .now)),
     )
 
 returns-2 : tie.Need-returns-2
@@ -31,7 +31,7 @@ returns-2 c =
     let b = n .before .before in
     let a = b .before .before .before .before .before .before .args in
     let q = w .with-entries .ensures in
-    (q .0 ∙ sym (ap (afterEntries (listed (a .objects .now)) (placementsIn (a .placements .now)) (a .entries .now)) (sym (b .bad-entry .ensures) ∙ n .enum-told .given .1)), q .1)
+    (q .0 ∙ sym (ap (afterEntries (listedObjects (a .objects .now)) (placementsIn (a .placements .now)) (a .entries .now)) (sym (b .bad-entry .ensures) ∙ n .enum-told .given .1)), q .1)
 
 pub with-list-spec : {M : Type 1} → statement M
 with-list-spec =

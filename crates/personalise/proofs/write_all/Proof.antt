@@ -7,14 +7,14 @@ use Prim.Native.Nat.{ℕ}
 use native.Mathlib.Nat.{zero-add}
 use native.Mathlib.Omega.{arith}
 use lib.ListN.{length}
-use Rattle.basics.specs.Front.{inFront}
+use Rattle.basics.specs.Front.{withPrefix}
 use Rattle.basics.proofs.Laws.{if-yes}
-use Rattle.locator.specs.Records.{total}
-use Rattle.personalise.specs.declared.Answer.the-variants.{Written}
+use Rattle.afl.specs.Records.{aflRecordCount}
+use Rattle.personalise.specs.declared.PersonaliseResult.the-variants.{Written}
 use Rattle.personalise.specs.Placements.{placementsIn}
-use Rattle.personalise.specs.Outcome.{listed, recordBytes}
+use Rattle.personalise.specs.Outcome.{listedObjects, recordBytes}
 use Rattle.personalise.proofs.Over.{over-front}
-use Rattle.personalise.proofs.Stages.{locator-copied}
+use Rattle.personalise.proofs.Stages.{afl-copied}
 use Rattle.personalise.proofs.write_all.Statement.{statement}
 use Rattle.personalise.proofs.write_all.Tie as tie
 
@@ -31,11 +31,11 @@ returns c =
     let st = w .before .before .before .before .before .before .before in
     let a = st .args in
     let q = w .put-records .ensures in
-    let b : ℕ → List ℕ = λ n. recordBytes (listed (a .objects .now)) (placementsIn (a .placements .now)) n in
-    let e : b (a .count) ≡ b (total (a .entries .now)) = ap b (st .pre .1 .1 .0 .0) in (
-      ap (λ (n : ℕ). Written (record { records = n; locator = length (a .entries .now) })) (q .next ∙ zero-add _ ∙ ap length e),
-      (q .wrote ∙ over-front (a .records .now) (b (a .count)) ∙ ap (λ (v : List ℕ). inFront v (a .records .now)) e ∙ sym (if-yes _ _ refl),
-      locator-copied (a .entries .now) (a .locator .now) _ (k .copy .ensures .1)),
+    let b : ℕ → List ℕ = λ n. recordBytes (listedObjects (a .objects .now)) (placementsIn (a .placements .now)) n in
+    let e : b (a .count) ≡ b (aflRecordCount (a .entries .now)) = ap b (st .pre .1 .1 .0 .0) in (
+      ap (λ (n : ℕ). Written (record { records = n; afl = length (a .entries .now) })) (q .next ∙ zero-add _ ∙ ap length e),
+      (q .wrote ∙ over-front (a .records .now) (b (a .count)) ∙ ap (λ (v : List ℕ). withPrefix v (a .records .now)) e ∙ sym (if-yes _ _ refl),
+      afl-copied (a .entries .now) (a .afl .now) _ (k .copy .ensures .1)),
     )
 
 pub write-all-spec : {M : Type 1} → statement M

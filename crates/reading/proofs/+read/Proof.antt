@@ -7,13 +7,13 @@ use mathlib.Core.List.{List}
 use Prim.Native.Nat.{ℕ, _+_, _-_, _*_, _≤_, _<_}
 use native.Mathlib.Omega.{arith}
 use lib.ListN.{length, length-take, length-drop}
-use Rattle.tlv.specs.Tree.{parse}
+use Rattle.tlv.specs.Tree.{parseTree}
 use Rattle.tlv.proofs.Laws.{HeaderFits}
 use Rattle.tlv.proofs.NextObject.{next-fits}
-use Rattle.reading.specs.declared.Contents.{Contents}
-use Rattle.reading.specs.Taking.{work}
-use Rattle.reading.specs.Inner.{Leaves}
-use Rattle.reading.specs.Listing.{Within, Listing, laid, countIn}
+use Rattle.reading.specs.declared.TemplateContents.{TemplateContents}
+use Rattle.reading.specs.Taking.{takeState}
+use Rattle.reading.specs.Inner.{LeavesContents}
+use Rattle.reading.specs.Pending.{StandsInBody, PendingValues, withPending, pendingCount}
 use Rattle.reading.proofs.Listing.{within-contents, within-tail}
 use Rattle.reading.proofs.Walk.{at-end, at-malformed, at-deep, at-leaf, at-node, at-broken, after-leaf, after-node}
 use borrow.Fn.Kinds.{In, Out}
@@ -36,14 +36,14 @@ abbrev read-below : ℕ → In 7 read-kinds.ps
 read-below t = and 7 read-kinds.ps (falls 7 read-kinds.ps _<_ μ-read t) read.Pre
 
 abbrev read-Inv-loop : read-lts.InvT-loop
-read-Inv-loop bytes start around levels answer body store listed₀ filled₀ tags codes s₀ at₀ n₀ good₀ listed filled s at n good =
-    ((r : Contents) (b : List ℕ) → Leaves answer around n (work good (laid body store listed)) (parse levels s) r b
-    → Leaves answer around n₀ (work good₀ (laid body store listed₀)) (parse levels s₀) r b)
-    × (Listing body store listed filled × (Within body at s
-    × ((2 * countIn listed + length s ≤ 2 * countIn listed₀ + length s₀) × (2 * n + length s ≤ 2 * n₀ + length s₀))))
+read-Inv-loop bytes start around levels answer body store pending₀ filled₀ tags codes s₀ at₀ n₀ good₀ pending filled s at n good =
+    ((r : TemplateContents) (b : List ℕ) → LeavesContents answer around n (takeState good (withPending body store pending)) (parseTree levels s) r b
+    → LeavesContents answer around n₀ (takeState good₀ (withPending body store pending₀)) (parseTree levels s₀) r b)
+    × (PendingValues body store pending filled × (StandsInBody body at s
+    × ((2 * pendingCount pending + length s ≤ 2 * pendingCount pending₀ + length s₀) × (2 * n + length s ≤ 2 * n₀ + length s₀))))
 
 abbrev read-μ-loop : read-lts.MeasureT-loop
-read-μ-loop bytes start around levels answer body store listed₀ filled₀ tags codes s₀ at₀ n₀ good₀ listed filled s at n good = length s
+read-μ-loop bytes start around levels answer body store pending₀ filled₀ tags codes s₀ at₀ n₀ good₀ pending filled s at n good = length s
 
 abbrev at : ℕ → (read-lts.Claims → In 7 read-kinds.ps → Out 7 read-kinds.ps read-kinds.r → read-lts.InvT-loop → read-lts.MeasureT-loop → Type 0) → Type 0
 at t f = f (next-reads.Asked, next-reads.Learnt, read-below t, read.Post, take-next-reads.Asked, take-next-reads.Learnt) (read-at t) read.Post read-Inv-loop read-μ-loop
@@ -57,14 +57,14 @@ read-returns t c =
     let lp = c .before .before .before .loop in
     let a = c .before .before .before .before .before .before .before .args in
     let e = sym (c .before .before .next .ensures .0) ∙ c .enum-told .given .1 in
-    (lp .inv .0 _ _ (at-end (a .answer) (a .around) (a .levels) (lp .s .now) (lp .n) (work (lp .good) (laid (a .body .now) (a .store .now) (lp .listed))) e), (omega arith, (lp .inv .1 .0, omega arith)))
+    (lp .inv .0 _ _ (at-end (a .answer) (a .around) (a .levels) (lp .s .now) (lp .n) (takeState (lp .good) (withPending (a .body .now) (a .store .now) (lp .pending))) e), (omega arith, (lp .inv .1 .0, omega arith)))
 
 read-returns-2 : (t : ℕ) → at t read-lts.Need-returns-2
 read-returns-2 t c =
     let lp = c .before .before .before .loop in
     let a = c .before .before .before .before .before .before .before .args in
     let e = sym (c .before .before .next .ensures .0) ∙ c .enum-told2 .given .1 in
-    (lp .inv .0 _ _ (at-malformed (a .answer) (a .around) (a .levels) (lp .s .now) (lp .n) (work (lp .good) (laid (a .body .now) (a .store .now) (lp .listed))) e _), (omega arith, (lp .inv .1 .0, omega arith)))
+    (lp .inv .0 _ _ (at-malformed (a .answer) (a .around) (a .levels) (lp .s .now) (lp .n) (takeState (lp .good) (withPending (a .body .now) (a .store .now) (lp .pending))) e _), (omega arith, (lp .inv .1 .0, omega arith)))
 
 read-returns-3 : (t : ℕ) → at t read-lts.Need-returns-3
 read-returns-3 t c =
@@ -72,7 +72,7 @@ read-returns-3 t c =
     let lp = c .before .before .before .before .before .before .before .before .before .loop in
     let a = c .before .before .before .before .before .before .before .before .before .before .before .before .before .args in
     let e = sym (c .before .before .before .before .before .before .before .before .next .ensures .0) ∙ f .1 in
-    (lp .inv .0 _ _ (at-deep (a .answer) (a .around) (a .levels) (lp .s .now) (lp .n) (work (lp .good) (laid (a .body .now) (a .store .now) (lp .listed))) (f .0 .0) e (c .before .if1 .taken) (c .if2 .taken) _), (omega arith, (lp .inv .1 .0, omega arith)))
+    (lp .inv .0 _ _ (at-deep (a .answer) (a .around) (a .levels) (lp .s .now) (lp .n) (takeState (lp .good) (withPending (a .body .now) (a .store .now) (lp .pending))) (f .0 .0) e (c .before .if1 .taken) (c .if2 .taken) _), (omega arith, (lp .inv .1 .0, omega arith)))
 
 read-read-requires : (t : ℕ) → at t read-lts.Need-read-requires
 read-read-requires t c κs =
@@ -91,7 +91,7 @@ read-returns-4 t c =
     let e = sym (c .before .before .before .before .before .before .before .before .before .before .before .before .before .next .ensures .0) ∙ f .1 in
     let q = rw (c .enum-told3 .given .1) at (rd .ensures .0) in
     let m = simp (length-take, length-drop) at (rd .ensures .1 .1 .1) in
-    (lp .inv .0 _ _ (at-broken (a .answer) (a .around) (a .levels) (lp .s .now) (lp .n) (work (lp .good) (laid (a .body .now) (a .store .now) (lp .listed))) (f .0 .0) e (c .before .before .before .before .before .before .if1 .taken) (c .before .before .before .before .before .if2 .left) _ q _), (omega arith, (rd .ensures .1 .1 .0, omega arith)))
+    (lp .inv .0 _ _ (at-broken (a .answer) (a .around) (a .levels) (lp .s .now) (lp .n) (takeState (lp .good) (withPending (a .body .now) (a .store .now) (lp .pending))) (f .0 .0) e (c .before .before .before .before .before .before .if1 .taken) (c .before .before .before .before .before .if2 .left) _ q _), (omega arith, (rd .ensures .1 .1 .0, omega arith)))
 
 read-loop-less : (t : ℕ) → at t read-lts.Need-loop-less
 read-loop-less t c =
@@ -109,10 +109,10 @@ read-loop-again t c =
     let e = sym (c .before .before .before .before .before .before .before .before .before .before .before .before .before .before .next .ensures .0) ∙ f .1 in
     let q = rw (i .1) at (rd .ensures .0) in
     let m = rw (i .1) at (rd .ensures .1 .0) in (
-      λ r d g. lp .inv .0 r d (at-node (a .answer) (a .around) (a .levels) (lp .s .now) (lp .n) (work (lp .good) (laid (a .body .now) (a .store .now) (lp .listed))) (f .0 .0) e (c .before .before .before .before .before .before .before .if1 .taken) (c .before .before .before .before .before .before .if2 .left) (i .0 .0) _ q r d g),
+      λ r d g. lp .inv .0 r d (at-node (a .answer) (a .around) (a .levels) (lp .s .now) (lp .n) (takeState (lp .good) (withPending (a .body .now) (a .store .now) (lp .pending))) (f .0 .0) e (c .before .before .before .before .before .before .before .if1 .taken) (c .before .before .before .before .before .before .if2 .left) (i .0 .0) _ q r d g),
       (rd .ensures .1 .1 .0,
       (within-tail _ (lp .inv .1 .1 .0) (h .inside),
-      (after-node (lp .s .now) (f .0 .0) h (countIn (lp .listed)) _ _ (omega (arith, rd .ensures .1 .1 .1)) (lp .inv .1 .1 .1 .0),
+      (after-node (lp .s .now) (f .0 .0) h (pendingCount (lp .pending)) _ _ (omega (arith, rd .ensures .1 .1 .1)) (lp .inv .1 .1 .1 .0),
       after-node (lp .s .now) (f .0 .0) h (lp .n) (i .0 .0 .objects) _ m (lp .inv .1 .1 .1 .1)))),
     )
 
@@ -136,8 +136,8 @@ read-loop-again-2 t c =
     let tk = c .take-next .ensures in
     let h = fits-at t (c .before .before .before .before .before .before .before .before) in
     let e = sym (c .before .before .before .before .before .before .before .before .before .before .next .ensures .0) ∙ f .1 in
-    let m = after-leaf (lp .s .now) (f .0 .0) h (countIn (lp .listed)) _ (lp .inv .1 .1 .1 .0) in (
-      λ r d g. lp .inv .0 r d (at-leaf (a .answer) (a .around) (a .levels) (lp .s .now) (lp .n) (work (lp .good) (laid (a .body .now) (a .store .now) (lp .listed))) (f .0 .0) e (c .before .before .before .if1 .left) _ (tk .0) r d g),
+    let m = after-leaf (lp .s .now) (f .0 .0) h (pendingCount (lp .pending)) _ (lp .inv .1 .1 .1 .0) in (
+      λ r d g. lp .inv .0 r d (at-leaf (a .answer) (a .around) (a .levels) (lp .s .now) (lp .n) (takeState (lp .good) (withPending (a .body .now) (a .store .now) (lp .pending))) (f .0 .0) e (c .before .before .before .if1 .left) _ (tk .0) r d g),
       (tk .1 .0,
       (within-tail _ (lp .inv .1 .1 .0) (h .inside),
       (omega (arith, m, tk .1 .1),
@@ -171,8 +171,8 @@ pub +read-spec : {M : Type 1} → statement M
     (λ c. let h = fits-at t (c .before .before .before) in omega arith)
     (λ c. let h = fits-at t (c .before .before .before) in omega arith)
     (λ c. let h = fits-at t (c .before .before .before) in omega arith)
-    (λ c. let h = fits-at t (c .before .before .before .before) in let i = c .before .before .before .before .before .before .before .loop .inv .1 in omega (arith, h .inside, i .1 .0 .ends, i .0 .listed .short))
-    (λ c. let h = fits-at t (c .before .before .before .before) in let i = c .before .before .before .before .before .before .before .loop .inv .1 in omega (arith, h .inside, i .1 .0 .ends, i .0 .listed .short))
+    (λ c. let h = fits-at t (c .before .before .before .before) in let i = c .before .before .before .before .before .before .before .loop .inv .1 in omega (arith, h .inside, i .1 .0 .ends, i .0 .pending .short))
+    (λ c. let h = fits-at t (c .before .before .before .before) in let i = c .before .before .before .before .before .before .before .loop .inv .1 in omega (arith, h .inside, i .1 .0 .ends, i .0 .pending .short))
     (λ c. let h = fits-at t (c .before .before .before .before) in omega (arith, c .before .before .before .before .before .before .before .before .before .before .before .pre .1 .1 .1 .1 .0))
     (read-returns-3 t)
     (λ c. omega arith)

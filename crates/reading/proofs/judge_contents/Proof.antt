@@ -10,12 +10,12 @@ use Rattle.reading.proofs.judge_contents.Tie as tie
 
 returns : tie.Need-returns
 unfolding contentsReading
-returns c = c .made .ensures ∙ sym (ap (contentsReading _ _) (c .before .enum-told .given .1))
+returns c = c .reading-of .ensures ∙ sym (ap (contentsReading _ _) (c .before .enum-told .given .1))
 
 returns-2 : tie.Need-returns-2
 unfolding contentsReading
 returns-2 c =
-    c .made2 .ensures
+    c .reading-of2 .ensures
     ∙ sym
     (ap (contentsReading _ _) (c .before .before .before .before .contents .given .1)
     ∙ if-no _ _ (ne-eqb _ _ (λ e. c .before .if1 .taken (e ∙ sym (c .before .before .template-tag .ensures)))))
@@ -23,7 +23,7 @@ returns-2 c =
 returns-3 : tie.Need-returns-3
 unfolding contentsReading
 returns-3 c =
-    c .made3 .ensures
+    c .reading-of3 .ensures
     ∙ sym
     (ap (contentsReading _ _) (c .before .before .before .before .before .before .contents .given .1)
     ∙ if-yes _ _ (eq-eqb _ _ (c .before .before .before .if1 .left ∙ c .before .before .before .before .template-tag .ensures)) ∙ if-no _ _ (not-true _ (c .before .if2 .taken)))
@@ -31,7 +31,7 @@ returns-3 c =
 returns-4 : tie.Need-returns-4
 unfolding contentsReading
 returns-4 c =
-    c .made4 .ensures
+    c .reading-of4 .ensures
     ∙ sym
     (ap (contentsReading _ _) (c .before .before .before .before .before .before .contents .given .1)
     ∙ if-yes _ _ (eq-eqb _ _ (c .before .before .before .if1 .left ∙ c .before .before .before .before .template-tag .ensures)) ∙ if-yes _ _ (not-false _ (c .before .if2 .left)))

@@ -19,7 +19,7 @@ read-body-requires c κs =
     (c .before .before .before .before .before .before .before .before .pre, simp length-take (omega arith))
 
 returns : tie.Need-returns
-returns c = decided _ _ _ _ (sym (c .before .before .before .before .begin .ensures) ∙ c .before .before .beginning .given .1) (c .made .ensures) (c .before .before .before .before .before .before .before .pre)
+returns c = decided _ _ _ _ (sym (c .before .before .before .before .begin .ensures) ∙ c .before .before .beginning .given .1) (c .reading-of .ensures) (c .before .before .before .before .before .before .before .pre)
 
 returns-2 : tie.Need-returns-2
 returns-2 c =

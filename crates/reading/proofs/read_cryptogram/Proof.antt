@@ -8,10 +8,10 @@ use borrow.Author.Tests.{not-true, not-false}
 use Rattle.dictionary.proofs.Named.{at-9F26, at-9F27, at-9F36}
 use Rattle.reading.specs.declared.Awaited.the-variants.{Cryptogram}
 use Rattle.reading.specs.declared.Reading.{Reading}
-use Rattle.reading.specs.declared.Verdict.the-variants.{Accepted, Malformed, NotAllowed}
-use Rattle.reading.specs.Answer.{takenParts}
-use Rattle.reading.specs.Inner.{storeAfter}
-use Rattle.reading.specs.Listing.{laid}
+use Rattle.reading.specs.declared.ResponseVerdict.the-variants.{Accepted, Malformed, NotAllowed}
+use Rattle.reading.specs.Answer.{readParts}
+use Rattle.reading.specs.Inner.{storeAfterVerdict}
+use Rattle.reading.specs.Pending.{withPending}
 use Rattle.reading.proofs.Listing.{within-front, within-part, within-tail}
 use Rattle.reading.proofs.Parts.{gives, judged-yes, judged-no, cryptogram-short, cryptogram-long, cryptogram-taken}
 use Rattle.reading.proofs.read_cryptogram.Statement.{statement}
@@ -20,14 +20,14 @@ use Rattle.reading.proofs.read_cryptogram.Tie as tie
 returns : tie.Need-returns
 returns c =
     let st = c .before .before .before .before .before in
-    let b = (laid (st .args .body .now) (st .args .store .now) (st .args .listed .now)) in
-    (gives Malformed 1 (storeAfter b b) (c .made .ensures) (ap (takenParts Cryptogram b 1) (cryptogram-short (st .args .value .now) (c .before .if1 .taken))), (st .pre .0, ap (λ (x : Reading). x .objects) (c .made .ensures)))
+    let b = (withPending (st .args .body .now) (st .args .store .now) (st .args .pending .now)) in
+    (gives Malformed 1 (storeAfterVerdict b b) (c .reading-of .ensures) (ap (readParts Cryptogram b 1) (cryptogram-short (st .args .value .now) (c .before .if1 .taken))), (st .pre .0, ap (λ (x : Reading). x .objects) (c .reading-of .ensures)))
 
 returns-2 : tie.Need-returns-2
 returns-2 c =
     let st = c .before .before .before .before .before .before in
-    let b = (laid (st .args .body .now) (st .args .store .now) (st .args .listed .now)) in
-    (gives Malformed 1 (storeAfter b b) (c .made2 .ensures) (ap (takenParts Cryptogram b 1) (cryptogram-long (st .args .value .now) (c .before .if2 .taken))), (st .pre .0, ap (λ (x : Reading). x .objects) (c .made2 .ensures)))
+    let b = (withPending (st .args .body .now) (st .args .store .now) (st .args .pending .now)) in
+    (gives Malformed 1 (storeAfterVerdict b b) (c .reading-of2 .ensures) (ap (readParts Cryptogram b 1) (cryptogram-long (st .args .value .now) (c .before .if2 .taken))), (st .pre .0, ap (λ (x : Reading). x .objects) (c .reading-of2 .ensures)))
 
 take-part-requires : tie.Need-take-part-requires
 take-part-requires c κs = let p = c .before .before .before .before .before .before .before .before .pre in (p .0, (within-front 1 (p .1 .0) (omega arith), (omega (arith, p .1 .1 .0), (omega arith, (at-9F27, p .1 .1 .1)))))
@@ -53,20 +53,20 @@ take-rest-requires c κs =
 returns-3 : tie.Need-returns-3
 returns-3 c =
     let st = c .before .before .before .before .before .before .before .before .before .before .before .before .before .before .before .before .before .before .before .before .before .before .before in
-    let b = (laid (st .args .body .now) (st .args .store .now) (st .args .listed .now)) in
+    let b = (withPending (st .args .body .now) (st .args .store .now) (st .args .pending .now)) in
     let y = c .before .before .take-rest .ensures in
-    (gives NotAllowed 1 (storeAfter b _) (c .made3 .ensures)
+    (gives NotAllowed 1 (storeAfterVerdict b _) (c .reading-of3 .ensures)
     (cryptogram-taken b (st .args .value .now) (c .before .before .before .before .before .before .before .before .before .before .before .before .before .before .before .before .before .before .before .if1 .left) (c .before .before .before .before .before .before .before .before .before .before .before .before .before .before .before .before .before .before .if2 .left) (c .before .before .before .before .before .before .before .before .before .before .before .before .before .before .take-part .ensures .0) (c .before .before .before .before .before .before .before .before .before .before .take-part2 .ensures .0) (c .before .before .before .before .before .before .take-part3 .ensures .0) (y .0) ∙ judged-no b 1 refl (not-true _ (c .before .if3 .taken))),
-    (y .1, ap (λ (x : Reading). x .objects) (c .made3 .ensures)))
+    (y .1, ap (λ (x : Reading). x .objects) (c .reading-of3 .ensures)))
 
 returns-4 : tie.Need-returns-4
 returns-4 c =
     let st = c .before .before .before .before .before .before .before .before .before .before .before .before .before .before .before .before .before .before .before .before .before .before .before in
-    let b = (laid (st .args .body .now) (st .args .store .now) (st .args .listed .now)) in
+    let b = (withPending (st .args .body .now) (st .args .store .now) (st .args .pending .now)) in
     let y = c .before .before .take-rest .ensures in
-    (gives Accepted 1 (storeAfter b _) (c .made4 .ensures)
+    (gives Accepted 1 (storeAfterVerdict b _) (c .reading-of4 .ensures)
     (cryptogram-taken b (st .args .value .now) (c .before .before .before .before .before .before .before .before .before .before .before .before .before .before .before .before .before .before .before .if1 .left) (c .before .before .before .before .before .before .before .before .before .before .before .before .before .before .before .before .before .before .if2 .left) (c .before .before .before .before .before .before .before .before .before .before .before .before .before .before .take-part .ensures .0) (c .before .before .before .before .before .before .before .before .before .before .take-part2 .ensures .0) (c .before .before .before .before .before .before .take-part3 .ensures .0) (y .0) ∙ judged-yes b 1 refl (not-false _ (c .before .if3 .left))),
-    (y .1, ap (λ (x : Reading). x .objects) (c .made4 .ensures)))
+    (y .1, ap (λ (x : Reading). x .objects) (c .reading-of4 .ensures)))
 
 pub read-cryptogram-spec : {M : Type 1} → statement M
 read-cryptogram-spec =
@@ -81,17 +81,17 @@ read-cryptogram-spec =
     (λ c. search needs)
     (λ c. search needs)
     (λ c. search needs)
-    (λ c. let p = c .before .before .before .before .before .before .before .before .before .before .pre in omega (arith, p .1 .0 .ends, p .0 .listed .short))
+    (λ c. let p = c .before .before .before .before .before .before .before .before .before .before .pre in omega (arith, p .1 .0 .ends, p .0 .pending .short))
     take-part-requires-2
     (λ c. search needs)
     (λ c. search needs)
     (λ c. search needs)
-    (λ c. let p = c .before .before .before .before .before .before .before .before .before .before .before .before .before .before .pre in omega (arith, p .1 .0 .ends, p .0 .listed .short))
+    (λ c. let p = c .before .before .before .before .before .before .before .before .before .before .before .before .before .before .pre in omega (arith, p .1 .0 .ends, p .0 .pending .short))
     take-part-requires-3
     (λ c. search needs)
     (λ c. search needs)
     (λ c. search needs)
-    (λ c. let p = c .before .before .before .before .before .before .before .before .before .before .before .before .before .before .before .before .before .before .pre in omega (arith, p .1 .0 .ends, p .0 .listed .short))
+    (λ c. let p = c .before .before .before .before .before .before .before .before .before .before .before .before .before .before .before .before .before .before .pre in omega (arith, p .1 .0 .ends, p .0 .pending .short))
     take-rest-requires
     (λ c κs. search needs)
     returns-3

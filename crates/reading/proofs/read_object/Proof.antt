@@ -19,10 +19,10 @@ read-requires c κs =
     let p = c .before .before .before .before .before .before .before .before .before .before .before .pre in
     let f = outer-fits _ (c .before .before .before .before .before .before .before .before .outer-of .ensures) (c .before .before .before .before .before .before .outer2 .given .1) in
     let w = within-object _ _ _ (f .0 .inside) in
-    (p .0, (w, (simp (length-take, length-drop) (omega (arith, p .1 .0, p .0 .listed .short)), (simp (length-take, length-drop) (omega (arith, p .0 .listed .short)), (c .before .before .before .answer-bit .ensures .1, p .1 .1)))))
+    (p .0, (w, (simp (length-take, length-drop) (omega (arith, p .1 .0, p .0 .pending .short)), (simp (length-take, length-drop) (omega (arith, p .0 .pending .short)), (c .before .before .before .answer-bit .ensures .1, p .1 .1)))))
 
 returns : tie.Need-returns
-returns c = broken-object _ _ _ (c .before .before .before .outer-of .ensures) (c .before .enum-told .given .1) (c .made .ensures) (c .before .before .before .before .before .before .pre .0)
+returns c = broken-object _ _ _ (c .before .before .before .outer-of .ensures) (c .before .enum-told .given .1) (c .reading-of .ensures) (c .before .before .before .before .before .before .pre .0)
 
 returns-2 : tie.Need-returns-2
 returns-2 c =

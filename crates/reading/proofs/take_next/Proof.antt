@@ -5,8 +5,8 @@ use mathlib.Core.Path.{_≡_, sym, ap, _∙_}
 use mathlib.Core.Bool.{Bool}
 use native.Mathlib.Omega.{arith}
 use borrow.Author.Tests.{not-true, not-false}
-use Rattle.reading.specs.Taking.{item, work, takeNext}
-use Rattle.reading.specs.Listing.{laid}
+use Rattle.reading.specs.Taking.{primitiveItem, takeState, takeNext}
+use Rattle.reading.specs.Pending.{withPending}
 use Rattle.reading.proofs.Laws.{item-unknown, next-good, next-bad}
 use Rattle.reading.proofs.take_next.Statement.{statement}
 use Rattle.reading.proofs.take_next.Tie as tie
@@ -15,31 +15,31 @@ returns : tie.Need-returns
 returns c =
     let st = c .before .before .before .before in
     let a = st .args in
-    let b = (laid (a .body .now) (a .store .now) (a .listed .now)) in
+    let b = (withPending (a .body .now) (a .store .now) (a .pending .now)) in
     let bad = not-true _ (c .if1 .taken) in
-    (ap (λ (g : Bool). work g b) (sym bad) ∙ sym (next-bad (a .answer) b (item (a .around) (a .tag) (a .v .now)) bad), (st .pre .0, omega arith))
+    (ap (λ (g : Bool). takeState g b) (sym bad) ∙ sym (next-bad (a .answer) b (primitiveItem (a .around) (a .tag) (a .v .now)) bad), (st .pre .0, omega arith))
 
 returns-2 : tie.Need-returns-2
 returns-2 c =
     let st = c .before .before .before .before .before .before .before .before in
     let a = st .args in
-    let b = (laid (a .body .now) (a .store .now) (a .listed .now)) in
-    let i = (item (a .around) (a .tag) (a .v .now)) in
-    let s = c .before .before .row-of in
+    let b = (withPending (a .body .now) (a .store .now) (a .pending .now)) in
+    let i = (primitiveItem (a .around) (a .tag) (a .v .now)) in
+    let s = c .before .before .find-row in
     (sym (next-good (a .answer) b i (not-false _ (c .before .before .before .before .if1 .left)) ∙ item-unknown (a .answer) b i (s .result .found) (s .ensures .0) (c .enum-told .given .1)), (st .pre .0, omega arith))
 
 take-row-requires : tie.Need-take-row-requires
 take-row-requires c κs =
     let st = c .before .before .before .before .before .before .before .before .before .before .before in
     let p = st .pre in
-    let e = c .before .before .before .before .before .row-of .ensures .0 in
+    let e = c .before .before .before .before .before .find-row .ensures .0 in
     (p .0, (p .1 .0, (p .1 .1 .0, (p .1 .1 .1 .0, (sym e ∙ c .before .before .before .found .given .1, p .1 .1 .1 .1 .codes)))))
 
 returns-3 : tie.Need-returns-3
 returns-3 c =
     let a = c .before .before .before .before .before .before .before .before .before .before .before .before .args in
     let t = c .take-row .ensures in
-    (t .0 ∙ ap (λ (g : Bool). takeNext (a .answer) (work g (laid (a .body .now) (a .store .now) (a .listed .now))) (item (a .around) (a .tag) (a .v .now))) (sym (not-false _ (c .before .before .before .before .before .before .before .before .if1 .left))), t .1)
+    (t .0 ∙ ap (λ (g : Bool). takeNext (a .answer) (takeState g (withPending (a .body .now) (a .store .now) (a .pending .now))) (primitiveItem (a .around) (a .tag) (a .v .now))) (sym (not-false _ (c .before .before .before .before .before .before .before .before .if1 .left))), t .1)
 
 pub take-next-spec : {M : Type 1} → statement M
 take-next-spec =

@@ -4,21 +4,21 @@ use borrow.Author.Needs.{needs}
 use mathlib.Core.Path.{ap, _∙_}
 use native.Mathlib.Omega.{arith}
 use lib.ListN.{length}
-use Rattle.analysis.specs.declared.action.Findings.{Findings}
+use Rattle.analysis.specs.declared.action.AnalysisFindings.{AnalysisFindings}
 use Rattle.analysis.proofs.Laws.{found-length, bits-length}
-use Rattle.session.proofs.Laws.{did-as, verification-fits, results-fit, analysed-as}
+use Rattle.session.proofs.Laws.{did-as, cvm-fits, results-fit, analysed-as}
 use Rattle.session.proofs.analyse.Statement.{statement}
 use Rattle.session.proofs.analyse.Tie as tie
 
 put-requires : tie.Need-put-requires
 put-requires c κs =
     let f = c .before .before .before .before .before .before in
-    (search needs, (omega arith, omega (arith, verification-fits, ap (λ (x : Findings). length (x .results)) (f .findings-of .ensures .0) ∙ found-length (f .before .before .before .before .args .store .now))))
+    (search needs, (omega arith, omega (arith, cvm-fits, ap (λ (x : AnalysisFindings). length (x .results)) (f .findings-of .ensures .0) ∙ found-length (f .before .before .before .before .args .store .now))))
 
 put-requires-2 : tie.Need-put-requires-2
 put-requires-2 c κs =
     let f = c .before .before .before .before .before .before .before .before .before .before .before in
-    (search needs, (omega arith, omega (arith, results-fit, ap (λ (x : Findings). length (x .bits)) (f .findings-of .ensures .0) ∙ bits-length (f .before .before .before .before .args .store .now))))
+    (search needs, (omega arith, omega (arith, results-fit, ap (λ (x : AnalysisFindings). length (x .bits)) (f .findings-of .ensures .0) ∙ bits-length (f .before .before .before .before .args .store .now))))
 
 returns : tie.Need-returns
 returns c =

@@ -5,11 +5,11 @@ use borrow.Author.Tests.{not-true, not-false}
 use mathlib.Core.Path.{_≡_, refl, sym, ap, _∙_}
 use mathlib.Core.Bool.{true}
 use native.Mathlib.Omega.{arith}
-use Rattle.record.specs.declared.Phase.{Phase}
+use Rattle.session_record.specs.declared.Phase.{Phase}
 use Rattle.basics.specs.Reason.{refusedPhase}
-use Rattle.record.specs.Session.{sessionOf, refusedTurn}
-use Rattle.record.specs.Ranges.{inRanges}
-use Rattle.record.proofs.Phases.{count-most, store-size}
+use Rattle.session_record.specs.Session.{sessionOf, refusedTransition}
+use Rattle.session_record.specs.Ranges.{inRanges}
+use Rattle.session_record.proofs.Phases.{count-most, store-size}
 use Rattle.session.specs.Answer.{answerIn, answerStep}
 use Rattle.session.proofs.Laws.{did-as, did-without-command, admitted-short, admitted-ranges, admitted-in}
 use Rattle.session.proofs.answer_in.Statement.{statement}
@@ -17,7 +17,7 @@ use Rattle.session.proofs.answer_in.Tie as tie
 
 -- past the refusals the record keeps its ranges, and the phase decides
 ranged : (c : tie.Else2) → let a = c .before .before .before .before .before .before .before .args in inRanges (sessionOf (a .phase) (a .count) (a .store .now)) ≡ true
-ranged c = sym (c .before .keeps .ensures .test) ∙ not-false _ (c .if2 .left)
+ranged c = sym (c .before .parts-in-ranges .ensures .test) ∙ not-false _ (c .if2 .left)
 
 by-phase : (c : tie.Else2) (p : Phase) → let a = c .before .before .before .before .before .before .before .args in a .phase ≡ p
     → answerStep (sessionOf (a .phase) (a .count) (a .store .now)) (a .card .now) (a .command .now) ≡ answerIn p (sessionOf p (a .count) (a .store .now)) (a .card .now) (a .command .now)
@@ -26,14 +26,14 @@ by-phase c p e =
     admitted-in _ _ _ (c .before .before .before .if1 .left) (ranged c) ∙ ap (λ (q : Phase). answerIn q (sessionOf q (a .count) (a .store .now)) (a .card .now) (a .command .now)) e
 
 returns : tie.Need-returns
-returns c = did-without-command _ (c .refused .ensures) (admitted-short _ _ _ (c .before .if1 .taken))
+returns c = did-without-command _ (c .refuse-call .ensures) (admitted-short _ _ _ (c .before .if1 .taken))
 
 returns-2 : tie.Need-returns-2
 returns-2 c =
-    did-without-command _ (c .refused2 .ensures) (admitted-ranges _ _ _ (c .before .before .before .before .if1 .left) (sym (c .before .before .keeps .ensures .test) ∙ not-true _ (c .before .if2 .taken)))
+    did-without-command _ (c .refuse-call2 .ensures) (admitted-ranges _ _ _ (c .before .before .before .before .if1 .left) (sym (c .before .before .parts-in-ranges .ensures .test) ∙ not-true _ (c .before .if2 .taken)))
 
-take-options-requires : tie.Need-take-options-requires
-take-options-requires c κs = ((search needs, omega (arith, count-most _ (ranged (c .before .before .before .before)))), store-size _ (ranged (c .before .before .before .before)))
+take-gpo-requires : tie.Need-take-gpo-requires
+take-gpo-requires c κs = ((search needs, omega (arith, count-most _ (ranged (c .before .before .before .before)))), store-size _ (ranged (c .before .before .before .before)))
 
 take-record-requires : tie.Need-take-record-requires
 take-record-requires c κs = ((search needs, omega (arith, count-most _ (ranged (c .before .before .before .before .before)))), store-size _ (ranged (c .before .before .before .before .before)))
@@ -47,11 +47,11 @@ take-checksum-requires c κs = store-size _ (ranged (c .before .before .before))
 returns-3 : tie.Need-returns-3
 returns-3 c =
     let e = c .before .enum-told .given .1 in
-    did-without-command _ (c .refused3 .ensures ∙ ap (λ (q : Phase). refusedTurn q (c .before .before .before .before .before .before .before .before .before .before .args .count) refusedPhase) e) (by-phase (c .before .before .before) _ e)
+    did-without-command _ (c .refuse-call3 .ensures ∙ ap (λ (q : Phase). refusedTransition q (c .before .before .before .before .before .before .before .before .before .before .args .count) refusedPhase) e) (by-phase (c .before .before .before) _ e)
 
 returns-4 : tie.Need-returns-4
 returns-4 c =
-    did-as (by-phase (c .before .before .before .before .before .before .before .before .before) _ (c .before .before .before .before .before .before .before .enum-told2 .given .1)) (c .before .before .before .before .take-options .ensures)
+    did-as (by-phase (c .before .before .before .before .before .before .before .before .before) _ (c .before .before .before .before .before .before .before .enum-told2 .given .1)) (c .before .before .before .before .take-gpo .ensures)
 
 returns-5 : tie.Need-returns-5
 returns-5 c =
@@ -68,7 +68,7 @@ returns-7 c =
 returns-8 : tie.Need-returns-8
 returns-8 c =
     let e = c .before .enum-told4 .given .1 in
-    did-without-command _ (c .refused4 .ensures ∙ ap (λ (q : Phase). refusedTurn q (c .before .before .before .before .before .before .before .before .before .before .args .count) refusedPhase) e) (by-phase (c .before .before .before) _ e)
+    did-without-command _ (c .refuse-call4 .ensures ∙ ap (λ (q : Phase). refusedTransition q (c .before .before .before .before .before .before .before .before .before .before .args .count) refusedPhase) e) (by-phase (c .before .before .before) _ e)
 
 pub answer-in-spec : {M : Type 1} → statement M
 answer-in-spec =
@@ -83,7 +83,7 @@ answer-in-spec =
     (λ c. search needs)
     (λ c κs. search needs)
     (λ c. search needs)
-    take-options-requires
+    take-gpo-requires
     (λ c. search needs)
     take-record-requires
     (λ c. search needs)

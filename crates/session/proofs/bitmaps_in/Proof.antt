@@ -3,8 +3,8 @@
 use borrow.Author.Needs.{needs}
 use mathlib.Core.Path.{_∙_}
 use Rattle.dictionary.proofs.Named.{at-9F65, at-9F66, at-9F67}
-use Rattle.record.proofs.Tags.{bytes-are}
-use Rattle.stripe.specs.Bitmap.{bitmapsOf}
+use Rattle.session_record.proofs.Tags.{bytes-are}
+use Rattle.mag_stripe.specs.Bitmap.{bitmapsOf}
 use Rattle.session.proofs.Laws.{three}
 use Rattle.session.proofs.bitmaps_in.Statement.{statement}
 use Rattle.session.proofs.bitmaps_in.Tie as tie

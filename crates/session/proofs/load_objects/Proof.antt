@@ -3,8 +3,8 @@
 use borrow.Author.Needs.{needs}
 use mathlib.Core.Path.{ap, _∙_}
 use native.Mathlib.Omega.{arith}
-use Rattle.record.specs.declared.Phase.{Phase}
-use Rattle.record.specs.Session.{refusedTurn}
+use Rattle.session_record.specs.declared.Phase.{Phase}
+use Rattle.session_record.specs.Session.{refusedTransition}
 use Rattle.session.proofs.Laws.{did-as, did-without-command, results-fit, loading-refused, loading-taken}
 use Rattle.session.proofs.load_objects.Statement.{statement}
 use Rattle.session.proofs.load_objects.Tie as tie
@@ -12,7 +12,7 @@ use Rattle.session.proofs.load_objects.Tie as tie
 returns : tie.Need-returns
 returns c =
     let a = c .before .before .before .before .before .before .before .before .before .before .before .args in
-    did-without-command _ (c .refused .ensures ∙ ap (refusedTurn Phase.Fresh (a .count)) (c .before .refusal-number .ensures))
+    did-without-command _ (c .refuse-call .ensures ∙ ap (refusedTransition Phase.Fresh (a .count)) (c .before .refusal-number .ensures))
     (loading-refused (a .count) (a .store .now) _ _ (c .before .before .before .before .before .before .load .ensures .0) (c .before .before .enum-told2 .given .1))
 
 put-requires : tie.Need-put-requires
@@ -22,7 +22,7 @@ returns-2 : tie.Need-returns-2
 returns-2 c =
     let a = c .before .before .before .before .before .before .before .before .before .before .before .before .before .before .before .before .before .before .before .args in
     did-as (loading-taken (a .count) (a .store .now) _ _ (c .before .before .before .before .before .before .before .before .before .before .before .before .before .before .load .ensures .0) (c .before .before .before .before .before .before .before .before .before .before .enum-told .given .1) (c .before .before .before .before .before .before .before .put .ensures .0))
-    (c .before .before .ask-options .ensures)
+    (c .before .before .ask-gpo .ensures)
 
 pub load-objects-spec : {M : Type 1} → statement M
 load-objects-spec =

@@ -3,8 +3,8 @@
 use borrow.Author.Needs.{needs}
 use mathlib.Core.Path.{sym, ap, _∙_}
 use Prim.Native.Nat.{ℕ}
-use Rattle.analysis.specs.Verification.{notApplicable}
-use Rattle.record.specs.Session.{failsTurn}
+use Rattle.analysis.specs.Cvm.{cvmNotApplicable}
+use Rattle.session_record.specs.Session.{failingTransition}
 use Rattle.session.proofs.Laws.{reply-as, unsound-read, unsound-kept}
 use Rattle.session.proofs.refuse_track.Statement.{statement}
 use Rattle.session.proofs.refuse_track.Tie as tie
@@ -13,14 +13,14 @@ returns : tie.Need-returns
 returns c =
     let j = c .before .before .before in
     let st = j .before .before .before in
-    reply-as _ (c .fails .ensures ∙ ap (failsTurn notApplicable (st .args .count)) (c .before .number .ensures))
+    reply-as _ (c .fail-session .ensures ∙ ap (failingTransition cvmNotApplicable (st .args .count)) (c .before .verdict-number .ensures))
     ∙ sym (unsound-read (st .args .count) (st .args .bytes .now) (st .args .card .now) (j .judge-answer .result) (st .pre .1) (j .judge-answer .ensures) (c .before .before .match .keys2))
 
 returns-2 : tie.Need-returns-2
 returns-2 c =
     let j = c .before .before .before in
     let st = j .before .before .before in
-    reply-as _ (c .fails2 .ensures) ∙ sym (unsound-kept (st .args .count) (st .args .bytes .now) (st .args .card .now) (j .judge-answer .result) (st .pre .1) (j .judge-answer .ensures) (c .before .enum-told .given .1))
+    reply-as _ (c .fail-session2 .ensures) ∙ sym (unsound-kept (st .args .count) (st .args .bytes .now) (st .args .card .now) (j .judge-answer .result) (st .pre .1) (j .judge-answer .ensures) (c .before .enum-told .given .1))
 
 pub refuse-track-spec : {M : Type 1} → statement M
 refuse-track-spec =

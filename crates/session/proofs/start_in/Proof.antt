@@ -5,10 +5,10 @@ use borrow.Author.Tests.{not-true, not-false}
 use mathlib.Core.Path.{_≡_, refl, sym, ap, _∙_}
 use mathlib.Core.Bool.{true}
 use native.Mathlib.Omega.{arith}
-use Rattle.record.specs.declared.Phase.{Phase}
-use Rattle.record.specs.Session.{sessionOf}
-use Rattle.record.specs.Ranges.{inRanges}
-use Rattle.record.proofs.Phases.{count-most, on-fresh}
+use Rattle.session_record.specs.declared.Phase.{Phase}
+use Rattle.session_record.specs.Session.{sessionOf}
+use Rattle.session_record.specs.Ranges.{inRanges}
+use Rattle.session_record.proofs.Phases.{count-most, on-fresh}
 use Rattle.session.specs.Start.{startIn, startStep}
 use Rattle.session.proofs.Laws.{did-as, did-without-command, admitted-short, admitted-ranges, admitted-in, not-fresh}
 use Rattle.session.proofs.start_in.Statement.{statement}
@@ -16,7 +16,7 @@ use Rattle.session.proofs.start_in.Tie as tie
 
 -- past the refusals the record keeps its ranges, and the phase decides
 ranged : (c : tie.Else2) → let a = c .before .before .before .before .before .before .before .args in inRanges (sessionOf (a .phase) (a .count) (a .store .now)) ≡ true
-ranged c = sym (c .before .keeps .ensures .test) ∙ not-false _ (c .if2 .left)
+ranged c = sym (c .before .parts-in-ranges .ensures .test) ∙ not-false _ (c .if2 .left)
 
 by-phase : (c : tie.Else2) (p : Phase) → let a = c .before .before .before .before .before .before .before .args in a .phase ≡ p
     → startStep (sessionOf (a .phase) (a .count) (a .store .now)) (a .terminal .now) (a .command .now) ≡ startIn p (sessionOf p (a .count) (a .store .now)) (a .terminal .now) (a .command .now)
@@ -25,16 +25,16 @@ by-phase c p e =
     admitted-in _ _ _ (c .before .before .before .if1 .left) (ranged c) ∙ ap (λ (q : Phase). startIn q (sessionOf q (a .count) (a .store .now)) (a .terminal .now) (a .command .now)) e
 
 returns : tie.Need-returns
-returns c = did-without-command _ (c .refused .ensures) (admitted-short _ _ _ (c .before .if1 .taken))
+returns c = did-without-command _ (c .refuse-call .ensures) (admitted-short _ _ _ (c .before .if1 .taken))
 
 returns-2 : tie.Need-returns-2
 returns-2 c =
-    did-without-command _ (c .refused2 .ensures) (admitted-ranges _ _ _ (c .before .before .before .before .if1 .left) (sym (c .before .before .keeps .ensures .test) ∙ not-true _ (c .before .if2 .taken)))
+    did-without-command _ (c .refuse-call2 .ensures) (admitted-ranges _ _ _ (c .before .before .before .before .if1 .left) (sym (c .before .before .parts-in-ranges .ensures .test) ∙ not-true _ (c .before .if2 .taken)))
 
 returns-3 : tie.Need-returns-3
 returns-3 c =
     let a = c .before .before .before .before .before .before .before .before .before .args in
-    did-without-command _ (c .refused3 .ensures) (by-phase (c .before .before) _ refl ∙ not-fresh (a .phase) _ _ _ (c .before .match .keys2))
+    did-without-command _ (c .refuse-call3 .ensures) (by-phase (c .before .before) _ refl ∙ not-fresh (a .phase) _ _ _ (c .before .match .keys2))
 
 load-objects-requires : tie.Need-load-objects-requires
 load-objects-requires c κs = ((search needs, omega (arith, count-most _ (ranged (c .before .before .before .before)))), on-fresh _ (ranged (c .before .before .before .before)) (c .before .before .enum-told .given .1) .store)

@@ -6,16 +6,16 @@ use Prim.Native.Nat.{ℕ, _≤_}
 use native.Mathlib.Omega.{arith}
 use lib.ListN.{length, length-append, length-take}
 use lib.Seq.{length-take-le, take-at}
-use Rattle.dictionary.specs.Named.{row9F6B}
+use Rattle.dictionary.specs.Named.{rowTrack2Data}
 use Rattle.dictionary.proofs.Named.{at-9F6B}
-use Rattle.record.proofs.Tags.{bytes-are}
+use Rattle.session_record.proofs.Tags.{bytes-are}
 use Rattle.session.proofs.Laws.{value-short, track-fits, digits-stored}
 use Rattle.session.proofs.store_digits.Statement.{statement}
 use Rattle.session.proofs.store_digits.Tie as tie
 
 -- the stored track has at most 19 bytes
 short : (c : tie.After-value) → length (c .value .result .now) ≤ 19
-short c = omega (arith, ap length (c .value .ensures), value-short (c .before .before .before .args .store .now) row9F6B, track-fits)
+short c = omega (arith, ap length (c .value .ensures), value-short (c .before .before .before .args .store .now) rowTrack2Data, track-fits)
 
 -- and as many with the digits in it
 sized : (c : tie.After-track-after) → length (c .track-after .last .1 .0) ≡ length (c .before .before .before .value .result .now)

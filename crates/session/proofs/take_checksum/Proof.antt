@@ -5,16 +5,16 @@ use mathlib.Core.Path.{_≡_, sym, ap, _∙_}
 use mathlib.Core.Bool.{true}
 use Prim.Native.Nat.{ℕ}
 use Rattle.reading.specs.declared.Awaited.{Awaited}
-use Rattle.analysis.specs.Verification.{notApplicable}
-use Rattle.record.specs.Session.{failsTurn}
-use Rattle.session.specs.Steps.{ended, endBy}
-use Rattle.session.specs.Stripe.{soundIn, checksumTaken, checksumReply}
+use Rattle.analysis.specs.Cvm.{cvmNotApplicable}
+use Rattle.session_record.specs.Session.{failingTransition}
+use Rattle.session.specs.Steps.{endedReply, endingBy}
+use Rattle.session.specs.MagStripe.{trackCanTakeDigits, checksumOutcomeOf, checksumReply}
 use Rattle.session.proofs.Laws.{reply-as, read-yes, read-no, is-sound, is-unsound, taken-sound}
 use Rattle.session.proofs.take_checksum.Statement.{statement}
 use Rattle.session.proofs.take_checksum.Tie as tie
 
 -- past the test the stored track can take the digits
-sound : (c : tie.After-enum-told) → soundIn (c .before .before .before .before .before .before .args .store .now) ≡ true
+sound : (c : tie.After-enum-told) → trackCanTakeDigits (c .before .before .before .before .before .before .args .store .now) ≡ true
 sound c = is-sound _ (c .before .before .track-in .ensures) (c .enum-told .given .1)
 
 refuse-track-requires : tie.Need-refuse-track-requires
@@ -27,17 +27,17 @@ returns-2 : tie.Need-returns-2
 unfolding checksumReply
 returns-2 c =
     let a = c .before .before .before .before .before .before .before .before .before .before .before .before .before .args in
-    reply-as _ (c .fails .ensures ∙ ap (failsTurn notApplicable (a .count)) (c .before .number .ensures))
+    reply-as _ (c .fail-session .ensures ∙ ap (failingTransition cvmNotApplicable (a .count)) (c .before .verdict-number .ensures))
     ∙ sym (read-no Awaited.Checksum (a .store .now) (a .card .now) (c .before .before .before .before .before .read-answer .ensures .0)
-    _ (λ b n. ended notApplicable (a .count) b (endBy n)) (c .before .before .match2 .keys2))
+    _ (λ b n. endedReply cvmNotApplicable (a .count) b (endingBy n)) (c .before .before .match2 .keys2))
 
 returns-3 : tie.Need-returns-3
 unfolding checksumReply
 returns-3 c =
     let a = c .before .before .before .before .before .before .before .before .before .before .before .before .before .before .before .before .args in
-    c .before .before .conclude .ensures
+    c .before .before .checksum-outcome .ensures
     ∙ sym (read-yes Awaited.Checksum (a .store .now) (a .card .now) (c .before .before .before .before .before .before .before .before .read-answer .ensures .0)
-    (λ d. checksumTaken (a .count) (a .store .now) d) _ (c .before .before .before .before .enum-told3 .given .1)
+    (λ d. checksumOutcomeOf (a .count) (a .store .now) d) _ (c .before .before .before .before .enum-told3 .given .1)
     ∙ taken-sound (a .count) (a .store .now) _ (sound (c .before .before .before .before .before .before .before .before .before .before)))
 
 pub take-checksum-spec : {M : Type 1} → statement M

@@ -6,17 +6,17 @@ use mathlib.Core.List.{List}
 use Prim.Native.Nat.{ℕ}
 use Rattle.basics.proofs.Laws.{if-yes, if-no}
 use Rattle.dictionary.proofs.Named.{at-9F6B}
-use Rattle.record.proofs.Tags.{bytes-are}
-use Rattle.stripe.specs.declared.Bitmaps.{Bitmaps}
-use Rattle.stripe.specs.Bitmap.{sound}
-use Rattle.session.specs.Stripe.{soundIn}
+use Rattle.session_record.proofs.Tags.{bytes-are}
+use Rattle.mag_stripe.specs.declared.Bitmaps.{Bitmaps}
+use Rattle.mag_stripe.specs.Bitmap.{canTakeDigits}
+use Rattle.session.specs.MagStripe.{trackCanTakeDigits}
 use Rattle.session.proofs.track_in.Statement.{statement}
 use Rattle.session.proofs.track_in.Tie as tie
 
-tested : (c : tie.After-is-sound) → c .is-sound .result ≡ soundIn (c .before .before .before .before .args .bytes .now)
+tested : (c : tie.After-can-take-digits) → c .can-take-digits .result ≡ trackCanTakeDigits (c .before .before .before .before .args .bytes .now)
 tested c =
-    c .is-sound .ensures
-    ∙ ap₂ (λ (t : List ℕ) (b : Bitmaps). sound t b) (c .before .value .ensures ∙ bytes-are _ _ _ at-9F6B) (c .before .before .bitmaps-in .ensures)
+    c .can-take-digits .ensures
+    ∙ ap₂ (λ (t : List ℕ) (b : Bitmaps). canTakeDigits t b) (c .before .value .ensures ∙ bytes-are _ _ _ at-9F6B) (c .before .before .bitmaps-in .ensures)
 
 returns : tie.Need-returns
 returns c = sym (if-yes _ _ (sym (tested (c .before)) ∙ c .if1 .taken))

@@ -5,7 +5,7 @@ use mathlib.Core.Path.{_≡_, sym, ap, _∙_}
 use mathlib.Core.Bool.{not}
 use Prim.Native.Nat.{ℕ}
 use lib.Dec.{eqb}
-use Rattle.dictionary.specs.Rows.{rows}
+use Rattle.dictionary.specs.Rows.{dictionaryRows}
 use Rattle.store.proofs.Laws.{there-is}
 use Rattle.store.proofs.is_there.Statement.{statement}
 use Rattle.store.proofs.is_there.Tie as tie
@@ -13,7 +13,7 @@ use Rattle.store.proofs.is_there.Tie as tie
 returns : tie.Need-returns
 returns c =
     let a = c .before .before .args in
-    ap (λ (n : ℕ). not (eqb n 0)) (c .length-byte .ensures) ∙ sym (there-is rows (a .bytes .now) (a .row))
+    ap (λ (n : ℕ). not (eqb n 0)) (c .length-byte .ensures) ∙ sym (there-is dictionaryRows (a .bytes .now) (a .row))
 
 pub is-there-spec : {M : Type 1} → statement M
 is-there-spec = tie.close (tie.spec (λ c κs. search needs) returns)

@@ -5,15 +5,15 @@ use mathlib.Core.List.{[], _∷_}
 use Prim.Native.Nat.{ℕ, zero, suc, _≤_}
 use native.Mathlib.Omega.{arith}
 use types.Run.{OneOf}
-use Rattle.dictionary.specs.Rows.{rows, rowCount}
-use Rattle.store.specs.Place.{offsetIn, placeNumber}
+use Rattle.dictionary.specs.Rows.{dictionaryRows, rowCount}
+use Rattle.store.specs.Place.{rowOffset, packedPlace}
 use Rattle.store.proofs.Rows.{past-last}
 use Rattle.store.proofs.place_at.Statement.{statement}
 use Rattle.store.proofs.place_at.Tie as tie
 
 -- in the case of a row the number is that row's
-at : (k : ℕ) {x : ℕ} → OneOf (k ∷ []) x → placeNumber k ≡ placeNumber x
-at k h = ap placeNumber (sym h)
+at : (k : ℕ) {x : ℕ} → OneOf (k ∷ []) x → packedPlace k ≡ packedPlace x
+at k h = ap packedPlace (sym h)
 
 -- none of the first n cases fits
 abbrev NoneOf : ℕ → ℕ → Type 0
@@ -25,7 +25,7 @@ beyond zero x h = omega arith
 beyond (suc n) x h = let ih = beyond n x (h .0) in omega (arith, h .1)
 
 pub place-at-spec : {M : Type 1} → statement M
-unfolding rows offsetIn
+unfolding dictionaryRows rowOffset
 place-at-spec =
     tie.close
     (tie.spec

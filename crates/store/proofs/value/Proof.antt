@@ -7,33 +7,33 @@ use Prim.Native.Nat.{ℕ, _+_, _-_, _≤_, _<_, min}
 use native.Mathlib.Omega.{arith}
 use lib.ListN.{length, getD, take, drop, length-drop}
 use lib.Seq.{take-all}
-use Rattle.dictionary.specs.Rows.{rows}
-use Rattle.store.specs.declared.Span.{Span}
-use Rattle.store.specs.Place.{offsetIn, spanOf, lengthByte, bytesOf, valueAt}
+use Rattle.dictionary.specs.Rows.{dictionaryRows}
+use Rattle.store.specs.declared.RowSpan.{RowSpan}
+use Rattle.store.specs.Place.{rowOffset, rowSpan, lengthByte, bytesOfValue, rowValue}
 use Rattle.store.proofs.Laws.{length-byte-at, storedLength, value-bytes, no-place}
 use Rattle.store.proofs.value.Statement.{statement}
 use Rattle.store.proofs.value.Tie as tie
 
 -- a part that starts behind the length byte and is cut at the stored length, or at the store's end before it
-cut : (b : List ℕ) (k start m : ℕ) → start ≡ offsetIn rows k + 1 → start ≤ length b → (m ≡ storedLength rows b k)
-    → take m (drop start b) ≡ bytesOf (valueAt rows b k)
+cut : (b : List ℕ) (k start m : ℕ) → start ≡ rowOffset dictionaryRows k + 1 → start ≤ length b → (m ≡ storedLength dictionaryRows b k)
+    → take m (drop start b) ≡ bytesOfValue (rowValue dictionaryRows b k)
 cut b k start m s l e =
-    let h : offsetIn rows k < length b = omega arith in
-    ap (λ (n : ℕ). take n (drop start b)) e ∙ ap (λ (n : ℕ). take (storedLength rows b k) (drop n b)) s ∙ sym (value-bytes rows b k h)
+    let h : rowOffset dictionaryRows k < length b = omega arith in
+    ap (λ (n : ℕ). take n (drop start b)) e ∙ ap (λ (n : ℕ). take (storedLength dictionaryRows b k) (drop n b)) s ∙ sym (value-bytes dictionaryRows b k h)
 
 -- the length that the byte at the place's start gives
-length-stored : (b : List ℕ) (k n x : ℕ) (p : Span) → p ≡ spanOf k → x ≡ getD b (p .at) 0 → n ≡ min (x - 1) (p .most) → n ≡ storedLength rows b k
+length-stored : (b : List ℕ) (k n x : ℕ) (p : RowSpan) → p ≡ rowSpan k → x ≡ getD b (p .at) 0 → n ≡ min (x - 1) (p .most) → n ≡ storedLength dictionaryRows b k
 unfolding storedLength
 length-stored b k n x p e ex en =
-    en ∙ ap (λ (m : ℕ). min (m - 1) (p .most)) (ex ∙ ap (λ (q : Span). getD b (q .at) 0) e ∙ sym (length-byte-at rows b k))
-    ∙ ap (λ (q : Span). min (lengthByte rows b k - 1) (q .most)) e
+    en ∙ ap (λ (m : ℕ). min (m - 1) (p .most)) (ex ∙ ap (λ (q : RowSpan). getD b (q .at) 0) e ∙ sym (length-byte-at dictionaryRows b k))
+    ∙ ap (λ (q : RowSpan). min (lengthByte dictionaryRows b k - 1) (q .most)) e
 
 returns : tie.Need-returns
 returns c =
     let a = c .before .before .before .before .before .before .args in
     let o = c .before .before .before .before .span-of in
     let n = c .before .before .value-length in
-    let f = ap (λ (p : Span). p .at) (o .ensures .0) in
+    let f = ap (λ (p : RowSpan). p .at) (o .ensures .0) in
     let l = length-stored (a .bytes .now) (a .row) (n .result) (c .before .before .before .byte-at .result) (o .result) (o .ensures .0) (c .before .before .before .byte-at .ensures) (n .ensures .0) in
     cut (a .bytes .now) (a .row) (o .result .at + 1) (o .result .at + 1 + n .result - (o .result .at + 1)) (omega arith) (omega arith) (omega arith)
 
@@ -43,9 +43,9 @@ returns-2 c =
     let b = a .bytes .now in
     let o = c .before .before .before .before .before .span-of in
     let m = c .before .before .before .value-length in
-    let f = ap (λ (p : Span). p .at) (o .ensures .0) in
+    let f = ap (λ (p : RowSpan). p .at) (o .ensures .0) in
     let l = length-stored b (a .row) (m .result) (c .before .before .before .before .byte-at .result) (o .result) (o .ensures .0) (c .before .before .before .before .byte-at .ensures) (m .ensures .0) in
-    let n = storedLength rows b (a .row) in
+    let n = storedLength dictionaryRows b (a .row) in
     let s : length (drop (o .result .at + 1) b) ≤ length b - (o .result .at + 1) = simp length-drop (omega arith) in
     let t : length (drop (o .result .at + 1) b) ≤ n = simp length-drop (omega arith) in
     take-all _ _ s ∙ sym (take-all n _ t) ∙ cut b (a .row) (o .result .at + 1) n (omega arith) (omega arith) (omega arith)
@@ -53,9 +53,9 @@ returns-2 c =
 returns-3 : tie.Need-returns-3
 returns-3 c =
     let a = c .before .before .before .before .before .before .before .args in
-    let f = ap (λ (p : Span). p .at) (c .before .before .before .before .before .span-of .ensures .0) in
-    let h : length (a .bytes .now) ≤ offsetIn rows (a .row) = omega arith in
-    sym (ap bytesOf (no-place rows (a .bytes .now) (a .row) h))
+    let f = ap (λ (p : RowSpan). p .at) (c .before .before .before .before .before .span-of .ensures .0) in
+    let h : length (a .bytes .now) ≤ rowOffset dictionaryRows (a .row) = omega arith in
+    sym (ap bytesOfValue (no-place dictionaryRows (a .bytes .now) (a .row) h))
 
 pub value-spec : {M : Type 1} → statement M
 value-spec =

@@ -1,23 +1,23 @@
--- `tlv::object_at` meets its contract: what `head` told of the bytes from the place on, which end where all bytes end.
+-- `tlv::object_at` meets its contract: what `object_header` told of the bytes from the place on, which end where all bytes end.
 -- Assumes nothing.
 use borrow.Author.Needs.{needs}
 use mathlib.Core.Path.{_≡_, sym, ap, _∙_}
 use native.Mathlib.Omega.{arith}
 use lib.ListN.{drop, length-drop}
-use Rattle.tlv.specs.declared.Front.the-variants.{Object}
+use Rattle.tlv.specs.declared.ObjectFront.the-variants.{Object}
 use Rattle.tlv.specs.Object.{headerOf}
-use Rattle.tlv.specs.Tree.{frontNext, movedNext}
+use Rattle.tlv.specs.Tree.{frontNext, nextShifted}
 use Rattle.tlv.proofs.Laws.{header-fits, tail-is}
 use Rattle.tlv.proofs.object_at.Statement.{statement}
 use Rattle.tlv.proofs.object_at.Tie as tie
 use Rattle.tlv.proofs.object_at.Reads as reads
 use Rattle.tlv.proofs.object_at.Lts as lts
-use Rattle.tlv.proofs.head.Reads as head-reads
+use Rattle.tlv.proofs.object_header.Reads as head-reads
 
 returns : tie.Need-returns
 returns c =
     let a = c .before .before .before .before .before .args in
-    sym (ap (λ x. movedNext (a .at) (frontNext x)) (ap headerOf (sym (tail-is (a .s .now) (a .at))) ∙ sym (c .before .before .head .ensures) ∙ c .enum-told .given .1))
+    sym (ap (λ x. nextShifted (a .at) (frontNext x)) (ap headerOf (sym (tail-is (a .s .now) (a .at))) ∙ sym (c .before .before .object-header .ensures) ∙ c .enum-told .given .1))
 
 -- where an object stands there
 abbrev At-object : Type 0
@@ -28,7 +28,7 @@ head-at : (c : At-object) →
     headerOf (drop (a .at) (a .s .now)) ≡ Object (c .before .before .front .given .0 .0)
 head-at c =
     let a = c .before .before .before .before .before .before .before .args in
-    ap headerOf (sym (tail-is (a .s .now) (a .at))) ∙ sym (c .before .before .before .before .head .ensures) ∙ c .before .before .front .given .1
+    ap headerOf (sym (tail-is (a .s .now) (a .at))) ∙ sym (c .before .before .before .before .object-header .ensures) ∙ c .before .before .front .given .1
 
 add-start : tie.Need-add-start
 add-start c =
@@ -37,7 +37,7 @@ add-start c =
     omega arith
 
 returns-2 : tie.Need-returns-2
-returns-2 c = sym (ap (λ x. movedNext (c .before .before .before .before .before .before .before .args .at) (frontNext x)) (head-at c))
+returns-2 c = sym (ap (λ x. nextShifted (c .before .before .before .before .before .before .before .args .at) (frontNext x)) (head-at c))
 
 pub object-at-spec : {M : Type 1} → statement M
 object-at-spec =

@@ -1,8 +1,8 @@
 -- The examples are computed in proofs/. Assumes nothing.
 use Rattle.worked_examples.proofs.examples_hold.Statement.{statement}
 use Rattle.worked_examples.proofs.examples_hold.Tie as tie
-use Rattle.worked_examples.proofs.Options.{on-options}
-use Rattle.worked_examples.proofs.Records.{on-last-record, on-last-stripe}
+use Rattle.worked_examples.proofs.Gpo.{on-gpo}
+use Rattle.worked_examples.proofs.Records.{on-last-record, on-last-mag-stripe}
 use Rattle.worked_examples.proofs.Cryptogram.{on-cryptogram}
 use Rattle.worked_examples.proofs.Checksum.{on-checksum}
 use Rattle.worked_examples.proofs.Encodings.{encodings}
@@ -13,7 +13,7 @@ use Rattle.worked_examples.proofs.CallLists.{lists-of-calls}
 
 returns : tie.Need-returns
 returns c =
-    (on-options, (on-last-record, (on-last-stripe, (on-cryptogram, (on-checksum, (encodings, (lists, (refusals, (journal, lists-of-calls)))))))))
+    (on-gpo, (on-last-record, (on-last-mag-stripe, (on-cryptogram, (on-checksum, (encodings, (lists, (refusals, (journal, lists-of-calls)))))))))
 
 pub examples-hold-spec : {M : Type 1} → statement M
 examples-hold-spec = tie.close (tie.spec returns)

@@ -1,20 +1,20 @@
--- `action::findings_of` meets its contract: what the verification gave, and the result with its bits; phones by `phone-rules`.
+-- `action::findings_of` meets its contract: what the verification gave, and the result with its bits; phones by `on-device-rules`.
 -- Assumes nothing.
 use mathlib.Core.Path.{_≡_, ap, _∙_}
-use Rattle.analysis.specs.Action.{findingsOf, verifiedIn}
-use Rattle.analysis.specs.declared.verification.Verified.{Verified}
-use Rattle.analysis.proofs.VerificationStore.{phone-rules}
+use Rattle.analysis.specs.Action.{findingsOf, cvmResultIn}
+use Rattle.analysis.specs.declared.cvm.CvmResult.{CvmResult}
+use Rattle.analysis.proofs.CvmStore.{on-device-rules}
 use borrow.Author.Needs.{needs}
 use Rattle.analysis.proofs.action.findings_of.Statement.{statement}
 use Rattle.analysis.proofs.action.findings_of.Tie as tie
 
-full-result-requires : tie.Need-full-result-requires
-full-result-requires c κs = (ap (λ (v : Verified). v .first) (c .verified-in .ensures), ap (λ (v : Verified). v .third) (c .verified-in .ensures))
+full-result-requires : tie.Need-tvr-with-cvm-requires
+full-result-requires c κs = (ap (λ (v : CvmResult). v .tvr1) (c .cvm-result-in .ensures), ap (λ (v : CvmResult). v .tvr3) (c .cvm-result-in .ensures))
 
 
 returns : tie.Need-returns
 unfolding findingsOf
-returns c = (simp (c .full-result .ensures, c .before .verified-in .ensures), phone-rules)
+returns c = (simp (c .tvr-with-cvm .ensures, c .before .cvm-result-in .ensures), on-device-rules)
 
 
 pub findings-of-spec : {M : Type 1} → statement M

@@ -1,6 +1,6 @@
 -- `action::is_cash` meets its contract: the tests are the definition's. Assumes nothing.
 use mathlib.Core.Path.{refl}
-use Rattle.analysis.proofs.VerificationSteps.{or-either}
+use Rattle.analysis.proofs.CvmSteps.{or-either}
 use Rattle.analysis.proofs.action.is_cash.Statement.{statement}
 use Rattle.analysis.proofs.action.is_cash.Tie as tie
 

@@ -8,14 +8,14 @@ use native.Mathlib.Omega.{arith}
 use borrow.Author.Count.{below-more}
 use borrow.Author.Needs.{needs}
 use Rattle.basics.proofs.Laws.{both-no-left, both-no-right}
-use Rattle.analysis.specs.Choice.{someBit, heldAt}
+use Rattle.analysis.specs.Choice.{someBit, stageHolds}
 use Rattle.analysis.proofs.Laws.{asks}
 use Rattle.analysis.proofs.Stages.{Unforced, choice-by-stage, choice-by-type}
 use Rattle.analysis.proofs.choice.choose.Statement.{statement}
 use Rattle.analysis.proofs.choice.choose.Tie as tie
 
 abbrev Inv-loop : tie.InvT-loop
-Inv-loop bits kind pairs capability stage₀ stage = (stage ≤ 3) × Unforced capability (heldAt bits pairs) stage
+Inv-loop bits kind pairs capability stage₀ stage = (stage ≤ 3) × Unforced capability (stageHolds bits pairs) stage
 
 abbrev μ-loop : tie.MeasureT-loop
 μ-loop bits kind pairs capability stage₀ stage = 3 - stage
@@ -24,7 +24,7 @@ loop-holds : tie.Need-loop-holds Inv-loop μ-loop
 loop-holds c = (omega arith, λ m h. absurd (omega arith))
 
 returns : tie.Need-returns Inv-loop μ-loop
-unfolding heldAt
+unfolding stageHolds
 returns c =
     let lp = c .before .before .before .before .before .before .before .before .loop in
     let a = c .before .before .before .before .before .before .before .before .before .before .args in
@@ -37,7 +37,7 @@ returns c =
     (lp .inv .1)))
 
 loop-again : tie.Need-loop-again Inv-loop μ-loop
-unfolding heldAt
+unfolding stageHolds
 loop-again c =
     let lp = c .before .before .before .loop in
     elim (c .if1 .came) [

@@ -6,7 +6,7 @@ use Prim.Native.Nat.{_+_, _*_}
 use native.Mathlib.Omega.{arith}
 use lib.ListN.{getD}
 use borrow.Author.Needs.{needs}
-use Rattle.analysis.specs.Digits.{decimal, amountOf}
+use Rattle.analysis.specs.Digits.{bcdNumber, amountOf}
 use Rattle.analysis.proofs.Decimal.{decimal-six}
 use Rattle.analysis.proofs.Value.{front-six}
 use Rattle.analysis.proofs.digits.amount_of.Statement.{statement}
@@ -16,8 +16,8 @@ returns : tie.Need-returns
 unfolding amountOf
 returns c =
     let s = c .before .before .before .args .s .now in
-    let e : c .before .six-digits .result * 1000000 + c .six-digits2 .result ≡ decimal (getD s 0 0 ∷ getD s 1 0 ∷ getD s 2 0 ∷ getD s 3 0 ∷ getD s 4 0 ∷ getD s 5 0 ∷ []) = omega (arith, decimal-six (getD s 0 0) (getD s 1 0) (getD s 2 0) (getD s 3 0) (getD s 4 0) (getD s 5 0)) in
-    e ∙ sym (ap decimal (front-six s))
+    let e : c .before .six-digits .result * 1000000 + c .six-digits2 .result ≡ bcdNumber (getD s 0 0 ∷ getD s 1 0 ∷ getD s 2 0 ∷ getD s 3 0 ∷ getD s 4 0 ∷ getD s 5 0 ∷ []) = omega (arith, decimal-six (getD s 0 0) (getD s 1 0) (getD s 2 0) (getD s 3 0) (getD s 4 0) (getD s 5 0)) in
+    e ∙ sym (ap bcdNumber (front-six s))
 
 pub amount-of-spec : {M : Type 1} → statement M
 amount-of-spec =

@@ -3,12 +3,12 @@
 use mathlib.Core.Path.{refl}
 use native.Mathlib.Omega.{arith}
 use borrow.Author.Needs.{needs}
-use Rattle.analysis.specs.Inner.{twoDigits}
+use Rattle.analysis.specs.Inner.{bcdByte}
 use Rattle.analysis.proofs.digits.two_digits.Statement.{statement}
 use Rattle.analysis.proofs.digits.two_digits.Tie as tie
 
 returns : tie.Need-returns
-unfolding twoDigits
+unfolding bcdByte
 returns c = (refl, omega arith)
 
 pub two-digits-spec : {M : Type 1} → statement M

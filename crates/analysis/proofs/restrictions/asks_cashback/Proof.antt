@@ -3,22 +3,22 @@
 use mathlib.Core.Path.{sym, ap, _∙_}
 use lib.Dec.{ltb}
 use borrow.Author.Needs.{needs}
-use Rattle.analysis.specs.Restrictions.{cashback}
+use Rattle.analysis.specs.Restrictions.{cashbackRequested}
 use Rattle.analysis.proofs.Value.{given-there, given-absent}
 use Rattle.analysis.proofs.restrictions.asks_cashback.Statement.{statement}
 use Rattle.analysis.proofs.restrictions.asks_cashback.Tie as tie
 
 returns : tie.Need-returns
-unfolding cashback
+unfolding cashbackRequested
 returns c =
     let a = c .before .before .before .args in
-    ap (ltb 0) (c .amount-of .ensures) ∙ sym (ap cashback (given-there (a .there) (a .other .now) (c .before .if1 .taken)))
+    ap (ltb 0) (c .amount-of .ensures) ∙ sym (ap cashbackRequested (given-there (a .there) (a .other .now) (c .before .if1 .taken)))
 
 returns-2 : tie.Need-returns-2
-unfolding cashback
+unfolding cashbackRequested
 returns-2 c =
     let a = c .before .before .args in
-    sym (ap cashback (given-absent (a .there) (a .other .now) (c .if1 .left)))
+    sym (ap cashbackRequested (given-absent (a .there) (a .other .now) (c .if1 .left)))
 
 pub asks-cashback-spec : {M : Type 1} → statement M
 asks-cashback-spec = tie.close (tie.spec (λ c κs. search needs) returns returns-2)

@@ -4,30 +4,30 @@ use mathlib.Core.Path.{sym, ap, _∙_}
 use borrow.Author.Needs.{needs}
 use borrow.Author.Tests.{not-true, not-false}
 use Rattle.basics.proofs.Laws.{if-yes, if-no}
-use Rattle.analysis.specs.Restrictions.{countryOf}
-use Rattle.store.specs.Place.{Value}
+use Rattle.analysis.specs.Restrictions.{issuerCountryOf}
+use Rattle.store.specs.Place.{StoredValue}
 use Rattle.analysis.proofs.Value.{given-there, given-absent}
 use Rattle.analysis.proofs.restrictions.country_of.Statement.{statement}
 use Rattle.analysis.proofs.restrictions.country_of.Tie as tie
 
 returns : tie.Need-returns
-unfolding countryOf
+unfolding issuerCountryOf
 returns c =
     let a = c .before .before .before .args in
-    sym (ap (λ (v : Value). countryOf v (a .terminal .now)) (given-absent (a .there) (a .issuer .now) (not-true _ (c .if1 .taken))))
+    sym (ap (λ (v : StoredValue). issuerCountryOf v (a .terminal .now)) (given-absent (a .there) (a .issuer .now) (not-true _ (c .if1 .taken))))
 
 returns-2 : tie.Need-returns-2
-unfolding countryOf
+unfolding issuerCountryOf
 returns-2 c =
     let a = c .before .before .before .before .before .args in
-    sym (ap (λ (v : Value). countryOf v (a .terminal .now)) (given-there (a .there) (a .issuer .now) (not-false _ (c .before .before .if1 .left)))
+    sym (ap (λ (v : StoredValue). issuerCountryOf v (a .terminal .now)) (given-there (a .there) (a .issuer .now) (not-false _ (c .before .before .if1 .left)))
     ∙ if-yes _ _ (sym (c .before .same .ensures) ∙ c .if2 .taken))
 
 returns-3 : tie.Need-returns-3
-unfolding countryOf
+unfolding issuerCountryOf
 returns-3 c =
     let a = c .before .before .before .before .before .args in
-    sym (ap (λ (v : Value). countryOf v (a .terminal .now)) (given-there (a .there) (a .issuer .now) (not-false _ (c .before .before .if1 .left)))
+    sym (ap (λ (v : StoredValue). issuerCountryOf v (a .terminal .now)) (given-there (a .there) (a .issuer .now) (not-false _ (c .before .before .if1 .left)))
     ∙ if-no _ _ (sym (c .before .same .ensures) ∙ c .if2 .left))
 
 pub country-of-spec : {M : Type 1} → statement M

@@ -4,15 +4,15 @@ use mathlib.Core.Path.{_≡_, sym, _∙_}
 use Prim.Native.Nat.{_-_, _≤_}
 use native.Mathlib.Omega.{arith}
 use Rattle.personalise.specs.Placements.{placementsIn}
-use Rattle.personalise.specs.Records.{badAt, firstOf, badRecord}
-use Rattle.personalise.specs.Outcome.{listed}
+use Rattle.personalise.specs.Records.{recordBadAt, firstFault, badRecord}
+use Rattle.personalise.specs.Outcome.{listedObjects}
 use Rattle.personalise.proofs.Least.{first-start, first-yes, first-on, first-none}
 use Rattle.personalise.proofs.contents.bad_record.Statement.{statement}
 use Rattle.personalise.proofs.contents.bad_record.Tie as tie
 
 abbrev Inv-loop : tie.InvT-loop
 Inv-loop objects placements records count k₀ k =
-    (badRecord (listed objects) (placementsIn placements) records ≡ firstOf (badAt (listed objects) (placementsIn placements) records) k (256 - k)) × (k ≤ 256)
+    (badRecord (listedObjects objects) (placementsIn placements) records ≡ firstFault (recordBadAt (listedObjects objects) (placementsIn placements) records) k (256 - k)) × (k ≤ 256)
 
 abbrev μ-loop : tie.MeasureT-loop
 μ-loop objects placements records count k₀ k = 256 - k

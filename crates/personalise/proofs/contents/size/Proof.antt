@@ -6,15 +6,15 @@ use mathlib.Core.Bool.{true}
 use Prim.Native.Nat.{_+_, _-_, _≤_}
 use native.Mathlib.Omega.{arith}
 use lib.ListN.{length}
-use Rattle.tlv.specs.declared.Front.the-variants as front
-use Rattle.tlv.specs.Primitives.{primitiveOf, primitives, isRun}
+use Rattle.tlv.specs.declared.ObjectFront.the-variants as front
+use Rattle.tlv.specs.Primitives.{primitiveOf, primitiveObjects, isPrimitiveList}
 use Rattle.tlv.proofs.Laws.{HeaderFits}
 use Rattle.tlv.proofs.Primitives.{primitive-fits}
 use Rattle.tlv.proofs.primitive.Reads as primitive
 use Rattle.personalise.specs.Placements.{placementsIn, objectsFrom}
 use Rattle.personalise.specs.Records.{contentBytes}
-use Rattle.personalise.specs.Outcome.{listed}
-use Rattle.personalise.specs.Inner.{capped}
+use Rattle.personalise.specs.Outcome.{listedObjects}
+use Rattle.personalise.specs.Inner.{cappedSize}
 use Rattle.personalise.proofs.Listed.{run-broken, rest-run, rest-less, size-on, size-end}
 use Rattle.personalise.proofs.contents.size.Statement.{statement}
 use Rattle.personalise.proofs.contents.size.Tie as tie
@@ -24,8 +24,8 @@ use Rattle.personalise.proofs.contents.placed_size.Reads as placed-size
 
 abbrev Inv-loop : tie.InvT-loop
 Inv-loop objects placements k s₀ number₀ total₀ s number total =
-    (capped (total₀ + length (contentBytes (objectsFrom (placementsIn placements) k number₀ (listed s₀)))) ≡ capped (total + length (contentBytes (objectsFrom (placementsIn placements) k number (listed s)))))
-    × (isRun (primitives s) ≡ true) × (total ≤ 253) × (number + length s ≤ 1 + length s₀)
+    (cappedSize (total₀ + length (contentBytes (objectsFrom (placementsIn placements) k number₀ (listedObjects s₀)))) ≡ cappedSize (total + length (contentBytes (objectsFrom (placementsIn placements) k number (listedObjects s)))))
+    × (isPrimitiveList (primitiveObjects s) ≡ true) × (total ≤ 253) × (number + length s ≤ 1 + length s₀)
 
 abbrev μ-loop : tie.MeasureT-loop
 μ-loop objects placements k s₀ number₀ total₀ s number total = length s

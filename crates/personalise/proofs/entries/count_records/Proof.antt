@@ -5,13 +5,13 @@ use mathlib.Core.Path.{_≡_, refl, _∙_}
 use Prim.Native.Nat.{_+_, _*_, _≤_}
 use native.Mathlib.Omega.{arith}
 use lib.ListN.{length, length-take, length-drop}
-use Rattle.locator.specs.Records.{total}
+use Rattle.afl.specs.Records.{aflRecordCount}
 use Rattle.personalise.proofs.Proposed.{tail-less, total-end, total-on}
 use Rattle.personalise.proofs.entries.count_records.Statement.{statement}
 use Rattle.personalise.proofs.entries.count_records.Tie as tie
 
 abbrev Inv-loop : tie.InvT-loop
-Inv-loop entries rest₀ total₀ rest n = (total₀ + total rest₀ ≡ n + total rest) × (n + 64 * length rest ≤ 64 * length rest₀)
+Inv-loop entries rest₀ total₀ rest n = (total₀ + aflRecordCount rest₀ ≡ n + aflRecordCount rest) × (n + 64 * length rest ≤ 64 * length rest₀)
 
 abbrev μ-loop : tie.MeasureT-loop
 μ-loop entries rest₀ total₀ rest n = length rest

@@ -7,8 +7,8 @@ use Prim.Native.Nat.{ℕ, _+_, _<_}
 use native.Mathlib.Omega.{arith}
 use lib.ListN.{length}
 use lib.Dec.{leb}
-use Rattle.locator.specs.Entry.{countOf}
-use Rattle.locator.specs.Records.{entries, sumOf}
+use Rattle.afl.specs.Entry.{entryRecordCount}
+use Rattle.afl.specs.Records.{aflEntries, sumOverEntries}
 use Rattle.personalise.specs.Entries.{mostRecords, roomBehind}
 use Rattle.personalise.proofs.Proposed.{entries-count, behind-many, behind-alone, behind-apart, behind-room}
 use Rattle.personalise.proofs.entries.keeps_behind.Statement.{statement}
@@ -43,11 +43,11 @@ returns-4 c =
     let k = a .before .before in
     let st = k .before .before .before in
     let n = entries-count (st .args .before .now) (st .pre) in
-    let q : length (entries (st .args .before .now)) < 62 = omega arith in
-    let z : r .count-records .result + c .count .result ≡ sumOf countOf (entries (st .args .before .now)) + countOf (st .args .e) =
+    let q : length (aflEntries (st .args .before .now)) < 62 = omega arith in
+    let z : r .count-records .result + c .count .result ≡ sumOverEntries entryRecordCount (aflEntries (st .args .before .now)) + entryRecordCount (st .args .e) =
         omega (arith, r .count-records .ensures .0, c .count .ensures .0) in
     ap (λ (x : ℕ). leb x mostRecords) z
-    ∙ sym (behind-room (entries (st .args .before .now)) (st .args .e) q (sym (k .keeps-alone .ensures) ∙ not-false _ (a .before .if2 .left)) (sym (a .is-apart .ensures) ∙ not-false _ (e .if3 .left)))
+    ∙ sym (behind-room (aflEntries (st .args .before .now)) (st .args .e) q (sym (k .keeps-alone .ensures) ∙ not-false _ (a .before .if2 .left)) (sym (a .is-apart .ensures) ∙ not-false _ (e .if3 .left)))
 
 pub keeps-behind-spec : {M : Type 1} → statement M
 keeps-behind-spec =

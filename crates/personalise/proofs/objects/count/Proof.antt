@@ -5,13 +5,13 @@ use mathlib.Core.Path.{_≡_, refl, sym, ap, _∙_}
 use Prim.Native.Nat.{_+_, _≤_}
 use native.Mathlib.Omega.{arith}
 use lib.ListN.{length}
-use Rattle.tlv.specs.declared.Front.the-variants as front
-use Rattle.tlv.specs.Primitives.{primitiveOf, primitives, isRun}
+use Rattle.tlv.specs.declared.ObjectFront.the-variants as front
+use Rattle.tlv.specs.Primitives.{primitiveOf, primitiveObjects, isPrimitiveList}
 use Rattle.tlv.proofs.Laws.{HeaderFits}
 use Rattle.tlv.proofs.Primitives.{primitive-fits}
 use Rattle.tlv.proofs.primitive.Reads as primitive
 use mathlib.Core.Bool.{true}
-use Rattle.personalise.specs.Outcome.{listed}
+use Rattle.personalise.specs.Outcome.{listedObjects}
 use Rattle.personalise.proofs.Listed.{listed-end, listed-on, rest-run, run-broken, rest-less}
 use Rattle.personalise.proofs.objects.count.Statement.{statement}
 use Rattle.personalise.proofs.objects.count.Tie as tie
@@ -20,7 +20,7 @@ use Rattle.personalise.proofs.objects.count.Lts as lts
 
 abbrev Inv-loop : tie.InvT-loop
 Inv-loop objects s₀ n₀ s n =
-    (n₀ + length (listed s₀) ≡ n + length (listed s)) × (isRun (primitives s) ≡ true) × (n + length s ≤ length s₀)
+    (n₀ + length (listedObjects s₀) ≡ n + length (listedObjects s)) × (isPrimitiveList (primitiveObjects s) ≡ true) × (n + length s ≤ length s₀)
 
 abbrev μ-loop : tie.MeasureT-loop
 μ-loop objects s₀ n₀ s n = length s

@@ -2,8 +2,8 @@
 -- Assumes nothing.
 use borrow.Author.Needs.{needs}
 use mathlib.Core.Path.{sym, _∙_}
-use Rattle.tlv.specs.Primitives.{object}
-use Rattle.dictionary.specs.Rows.{rowAt, cardRecord}
+use Rattle.tlv.specs.Primitives.{tlvObject}
+use Rattle.dictionary.specs.Rows.{rowAt, inRecordResponse}
 use Rattle.reading.proofs.Laws.{row-comes}
 use Rattle.personalise.specs.Objects.{recordTemplate}
 use Rattle.personalise.proofs.Listed.{settable-unknown, settable-at}
@@ -14,7 +14,7 @@ returns : tie.Need-returns
 returns c =
     let l = c .before .before in
     let a = l .before .before .args in
-    sym (settable-unknown (object (a .tag) (a .v .now)) (l .lookup .result .found) (l .lookup .ensures .0) (c .enum-told .given .1))
+    sym (settable-unknown (tlvObject (a .tag) (a .v .now)) (l .lookup-row .result .found) (l .lookup-row .ensures .0) (c .enum-told .given .1))
 
 returns-2 : tie.Need-returns-2
 returns-2 c =
@@ -23,8 +23,8 @@ returns-2 c =
     let l = f .before .before in
     let a = l .before .before .args in
     let g = f .found .given in
-    row-comes cardRecord (rowAt (g .0 .0)) recordTemplate (a .v .now) (c .may-come .ensures) (k .attributes-of .ensures)
-    ∙ sym (settable-at (object (a .tag) (a .v .now)) (l .lookup .result .found) (l .lookup .ensures .0) (g .0 .0) (g .1))
+    row-comes inRecordResponse (rowAt (g .0 .0)) recordTemplate (a .v .now) (c .may-come .ensures) (k .attributes-of .ensures)
+    ∙ sym (settable-at (tlvObject (a .tag) (a .v .now)) (l .lookup-row .result .found) (l .lookup-row .ensures .0) (g .0 .0) (g .1))
 
 pub is-settable-spec : {M : Type 1} → statement M
 is-settable-spec =

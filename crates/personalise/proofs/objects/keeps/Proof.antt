@@ -5,14 +5,14 @@ use mathlib.Core.Path.{_≡_, refl, sym, _∙_}
 use Prim.Native.Nat.{_+_, _≤_}
 use native.Mathlib.Omega.{arith}
 use lib.ListN.{length}
-use Rattle.tlv.specs.declared.Front.the-variants as front
-use Rattle.tlv.specs.Primitives.{primitiveOf, primitives}
+use Rattle.tlv.specs.declared.ObjectFront.the-variants as front
+use Rattle.tlv.specs.Primitives.{primitiveOf, primitiveObjects}
 use Rattle.tlv.proofs.Laws.{HeaderFits}
 use Rattle.tlv.proofs.Primitives.{primitive-fits}
 use Rattle.tlv.proofs.primitive.Reads as primitive
 use borrow.Author.Tests.{not-true, not-false}
 use Rattle.personalise.specs.Placements.{placementsIn}
-use Rattle.personalise.specs.Inner.{runKeeps}
+use Rattle.personalise.specs.Inner.{parsedListValid}
 use Rattle.personalise.proofs.Listed.{keeps-end, keeps-broken, run-not-set, run-twice, run-not-once, run-next, rest-less}
 use Rattle.personalise.proofs.objects.keeps.Statement.{statement}
 use Rattle.personalise.proofs.objects.keeps.Tie as tie
@@ -24,7 +24,7 @@ use Rattle.personalise.proofs.placements.count_named.Reads as count-nam
 
 abbrev Inv-loop : tie.InvT-loop
 Inv-loop objects placements s₀ number₀ s number =
-    (runKeeps (placementsIn placements) number₀ (primitives s₀) ≡ runKeeps (placementsIn placements) number (primitives s)) × (number + length s ≤ 1 + length s₀)
+    (parsedListValid (placementsIn placements) number₀ (primitiveObjects s₀) ≡ parsedListValid (placementsIn placements) number (primitiveObjects s)) × (number + length s ≤ 1 + length s₀)
 
 abbrev μ-loop : tie.MeasureT-loop
 μ-loop objects placements s₀ number₀ s number = length s

@@ -5,12 +5,12 @@ use mathlib.Core.Path.{_≡_, refl, sym, _∙_}
 use Prim.Native.Nat.{_≤_}
 use native.Mathlib.Omega.{arith}
 use lib.ListN.{length}
-use Rattle.tlv.specs.declared.Front.the-variants as front
-use Rattle.tlv.specs.Primitives.{primitiveOf, primitives}
+use Rattle.tlv.specs.declared.ObjectFront.the-variants as front
+use Rattle.tlv.specs.Primitives.{primitiveOf, primitiveObjects}
 use Rattle.tlv.proofs.Laws.{HeaderFits}
 use Rattle.tlv.proofs.Primitives.{primitive-fits}
 use Rattle.tlv.proofs.primitive.Reads as primitive
-use Rattle.personalise.specs.Inner.{lacksIn}
+use Rattle.personalise.specs.Inner.{listLacksTag}
 use Rattle.personalise.proofs.Listed.{lacks-end, lacks-broken, lacks-here, lacks-on, rest-less}
 use Rattle.personalise.proofs.objects.lacks_tag.Statement.{statement}
 use Rattle.personalise.proofs.objects.lacks_tag.Tie as tie
@@ -18,7 +18,7 @@ use Rattle.personalise.proofs.objects.lacks_tag.Reads as reads
 use Rattle.personalise.proofs.objects.lacks_tag.Lts as lts
 
 abbrev Inv-loop : tie.InvT-loop
-Inv-loop objects tag s₀ s = (lacksIn tag (primitives s₀) ≡ lacksIn tag (primitives s)) × (length s ≤ length s₀)
+Inv-loop objects tag s₀ s = (listLacksTag tag (primitiveObjects s₀) ≡ listLacksTag tag (primitiveObjects s)) × (length s ≤ length s₀)
 
 abbrev μ-loop : tie.MeasureT-loop
 μ-loop objects tag s₀ s = length s

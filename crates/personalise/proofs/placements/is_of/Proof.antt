@@ -10,13 +10,13 @@ use Rattle.personalise.proofs.placements.is_of.Statement.{statement}
 use Rattle.personalise.proofs.placements.is_of.Tie as tie
 
 returns : tie.Need-returns
-returns c = sym (both-no-left _ _ (ne-eqb _ _ (λ e. c .if1 .taken (c .before .wide .ensures .0 ∙ e))))
+returns c = sym (both-no-left _ _ (ne-eqb _ _ (λ e. c .if1 .taken (c .before .widen .ensures .0 ∙ e))))
 
 returns-2 : tie.Need-returns-2
 returns-2 c =
     let a = c .before .before .before .args in
-    ap (λ (x : ℕ). eqb x (a .object)) (c .wide2 .ensures .0)
-    ∙ sym (both-true _ (eq-eqb _ _ (sym (c .before .before .wide .ensures .0) ∙ c .before .if1 .left)))
+    ap (λ (x : ℕ). eqb x (a .object)) (c .widen2 .ensures .0)
+    ∙ sym (both-true _ (eq-eqb _ _ (sym (c .before .before .widen .ensures .0) ∙ c .before .if1 .left)))
 
 pub is-of-spec : {M : Type 1} → statement M
 is-of-spec = tie.close (tie.spec (λ c κs. search needs) returns (λ c κs. search needs) returns-2)

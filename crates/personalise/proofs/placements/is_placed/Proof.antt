@@ -4,13 +4,13 @@ use borrow.Author.Needs.{needs}
 use mathlib.Core.Path.{_≡_, refl, sym, _∙_}
 use native.Mathlib.Omega.{arith}
 use lib.ListN.{length}
-use Rattle.personalise.specs.Placements.{placementsIn, anyOf, puts}
+use Rattle.personalise.specs.Placements.{placementsIn, anyPlacement, putsObjectInto}
 use Rattle.personalise.proofs.Placed.{any-end, any-yes, any-on, tail-less}
 use Rattle.personalise.proofs.placements.is_placed.Statement.{statement}
 use Rattle.personalise.proofs.placements.is_placed.Tie as tie
 
 abbrev Inv-loop : tie.InvT-loop
-Inv-loop placements into object rest₀ rest = anyOf (puts into object) (placementsIn rest₀) ≡ anyOf (puts into object) (placementsIn rest)
+Inv-loop placements into object rest₀ rest = anyPlacement (putsObjectInto into object) (placementsIn rest₀) ≡ anyPlacement (putsObjectInto into object) (placementsIn rest)
 
 abbrev μ-loop : tie.MeasureT-loop
 μ-loop placements into object rest₀ rest = length rest

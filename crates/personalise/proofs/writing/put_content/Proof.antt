@@ -6,13 +6,13 @@ use mathlib.Core.Path.{_≡_, refl, sym, ap, _∙_}
 use Prim.Native.Nat.{_+_, _≤_}
 use native.Mathlib.Omega.{arith}
 use lib.ListN.{length}
-use Rattle.tlv.specs.declared.Front.the-variants as front
+use Rattle.tlv.specs.declared.ObjectFront.the-variants as front
 use Rattle.tlv.specs.Primitives.{primitiveOf}
 use Rattle.tlv.proofs.Laws.{HeaderFits}
 use Rattle.tlv.proofs.Primitives.{primitive-fits}
 use Rattle.tlv.proofs.primitive.Reads as primitive
 use Rattle.personalise.specs.Placements.{placementsIn}
-use Rattle.personalise.specs.Inner.{Usable, over}
+use Rattle.personalise.specs.Inner.{UsableObjects, bytesWrittenOver}
 use Rattle.personalise.proofs.Listed.{run-broken, rest-less, rest-usable, bytes-end}
 use Rattle.personalise.proofs.Over.{over-nothing}
 use Rattle.personalise.proofs.Filled.{content, first-small, first-room, left-over, left-next, left-length}
@@ -24,9 +24,9 @@ use Rattle.personalise.proofs.writing.put_placed.Reads as put-placed
 
 abbrev Inv-loop : tie.InvT-loop
 Inv-loop objects placements k out₀ at s₀ number₀ to₀ out s number to =
-    (over out₀ to₀ (content (placementsIn placements) k number₀ s₀) ≡ over out to (content (placementsIn placements) k number s))
+    (bytesWrittenOver out₀ to₀ (content (placementsIn placements) k number₀ s₀) ≡ bytesWrittenOver out to (content (placementsIn placements) k number s))
     × (to₀ + length (content (placementsIn placements) k number₀ s₀) ≡ to + length (content (placementsIn placements) k number s))
-    × (length out ≡ length out₀) × Usable s × (number + length s ≤ 1 + length s₀)
+    × (length out ≡ length out₀) × UsableObjects s × (number + length s ≤ 1 + length s₀)
 
 abbrev μ-loop : tie.MeasureT-loop
 μ-loop objects placements k out₀ at s₀ number₀ to₀ out s number to = length s
@@ -91,7 +91,7 @@ returns-2 c =
     let z = ap length e in
     record {
       next = omega (arith, lp .inv .1);
-      wrote = sym (lp .inv .0 ∙ ap (over (lp .out) (lp .to)) e ∙ over-nothing (lp .out) (lp .to));
+      wrote = sym (lp .inv .0 ∙ ap (bytesWrittenOver (lp .out) (lp .to)) e ∙ over-nothing (lp .out) (lp .to));
     }
 
 pub put-content-spec : {M : Type 1} → statement M

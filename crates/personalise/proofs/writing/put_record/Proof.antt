@@ -9,16 +9,16 @@ use lib.ListN.{length}
 use Rattle.tlv.specs.Encoding.{tagBytes, lengthBytes}
 use Rattle.personalise.specs.Objects.{recordTemplate}
 use Rattle.personalise.specs.Placements.{placementsIn}
-use Rattle.personalise.specs.Records.{contentOf, mostContent}
-use Rattle.personalise.specs.Outcome.{listed}
-use Rattle.personalise.specs.Inner.{capped, Puts}
+use Rattle.personalise.specs.Records.{recordContent, mostRecordContent}
+use Rattle.personalise.specs.Outcome.{listedObjects}
+use Rattle.personalise.specs.Inner.{cappedSize, PutsBytes}
 use Rattle.personalise.proofs.Forms.{tag-one, length-most}
 use Rattle.personalise.proofs.Over.{tag-room, length-room, value-room, all-put}
 use Rattle.personalise.proofs.writing.put_record.Statement.{statement}
 use Rattle.personalise.proofs.writing.put_record.Tie as tie
 
 -- the room for the three parts
-room : (s : List ℕ) (at : ℕ) (v : List ℕ) → length v ≤ mostContent → at + 256 ≤ length s
+room : (s : List ℕ) (at : ℕ) (v : List ℕ) → length v ≤ mostRecordContent → at + 256 ≤ length s
     → at + (length (tagBytes recordTemplate) + (length (lengthBytes (length v)) + length v)) ≤ length s
 room s at v m h =
     let t = ap length (tag-one recordTemplate (omega arith)) in
@@ -26,14 +26,14 @@ room s at v m h =
     omega arith
 
 -- the size that was measured is the content's
-exact : (n : ℕ) (v : List ℕ) → n ≡ capped (length v) → length v ≤ mostContent → n ≡ length v
+exact : (n : ℕ) (v : List ℕ) → n ≡ cappedSize (length v) → length v ≤ mostRecordContent → n ≡ length v
 exact n v e m = omega arith
 
 put-tag-requires : tie.Need-put-tag-requires
 put-tag-requires c κs =
     let st = c .before .before .before .before .before in
     let a = st .args in
-    let v = contentOf (listed (a .objects .now)) (placementsIn (a .placements .now)) (a .k) in
+    let v = recordContent (listedObjects (a .objects .now)) (placementsIn (a .placements .now)) (a .k) in
     (omega arith, tag-room (a .out .now) (a .at) (tagBytes recordTemplate) (lengthBytes (length v)) v (room (a .out .now) (a .at) v (st .pre .1 .0) (st .pre .1 .1)))
 
 put-length-requires : tie.Need-put-length-requires
@@ -42,7 +42,7 @@ put-length-requires c κs =
     let z = t .before .before in
     let st = z .before .before .before .before in
     let a = st .args in
-    let v = contentOf (listed (a .objects .now)) (placementsIn (a .placements .now)) (a .k) in
+    let v = recordContent (listedObjects (a .objects .now)) (placementsIn (a .placements .now)) (a .k) in
     let e = exact (z .size .result) v (z .size .ensures) (st .pre .1 .0) in
     (omega (arith, st .pre .1 .0),
       subst (λ (n : ℕ). t .put-tag .result + length (lengthBytes n) ≤ length (t .put-tag .last .0)) (sym e)
@@ -55,9 +55,9 @@ put-content-requires c κs =
     let z = t .before .before in
     let st = z .before .before .before .before in
     let a = st .args in
-    let v = contentOf (listed (a .objects .now)) (placementsIn (a .placements .now)) (a .k) in
+    let v = recordContent (listedObjects (a .objects .now)) (placementsIn (a .placements .now)) (a .k) in
     let e = exact (z .size .result) v (z .size .ensures) (st .pre .1 .0) in
-    let q = subst (λ (n : ℕ). Puts (l .put-length .result) (l .put-length .last .0) (t .put-tag .last .0) (t .put-tag .result) (lengthBytes n)) e (l .put-length .ensures) in
+    let q = subst (λ (n : ℕ). PutsBytes (l .put-length .result) (l .put-length .last .0) (t .put-tag .last .0) (t .put-tag .result) (lengthBytes n)) e (l .put-length .ensures) in
     (st .pre .0,
       value-room (a .out .now) (a .at) (tagBytes recordTemplate) (lengthBytes (length v)) v (room (a .out .now) (a .at) v (st .pre .1 .0) (st .pre .1 .1)) (t .put-tag .ensures) q)
 
@@ -69,9 +69,9 @@ returns c =
     let z = t .before .before in
     let st = z .before .before .before .before in
     let a = st .args in
-    let v = contentOf (listed (a .objects .now)) (placementsIn (a .placements .now)) (a .k) in
+    let v = recordContent (listedObjects (a .objects .now)) (placementsIn (a .placements .now)) (a .k) in
     let e = exact (z .size .result) v (z .size .ensures) (st .pre .1 .0) in
-    let q = subst (λ (n : ℕ). Puts (l .put-length .result) (l .put-length .last .0) (t .put-tag .last .0) (t .put-tag .result) (lengthBytes n)) e (l .put-length .ensures) in
+    let q = subst (λ (n : ℕ). PutsBytes (l .put-length .result) (l .put-length .last .0) (t .put-tag .last .0) (t .put-tag .result) (lengthBytes n)) e (l .put-length .ensures) in
     all-put (a .out .now) (a .at) (tagBytes recordTemplate) (lengthBytes (length v)) v (room (a .out .now) (a .at) v (st .pre .1 .0) (st .pre .1 .1)) (t .put-tag .ensures) q (w .put-content .ensures)
 
 pub put-record-spec : {M : Type 1} → statement M

@@ -7,19 +7,19 @@ use Prim.Native.Nat.{ℕ, _+_, _-_, _*_, _≤_}
 use native.Mathlib.Omega.{arith}
 use lib.ListN.{length}
 use Rattle.personalise.specs.Placements.{placementsIn}
-use Rattle.personalise.specs.Outcome.{listed}
-use Rattle.personalise.specs.Inner.{over}
+use Rattle.personalise.specs.Outcome.{listedObjects}
+use Rattle.personalise.specs.Inner.{bytesWrittenOver}
 use Rattle.personalise.proofs.Over.{over-nothing}
-use Rattle.personalise.proofs.Filled.{recordsLeft, records-done, records-all, turn-over, turn-next, turn-length, turn-most}
+use Rattle.personalise.proofs.Filled.{recordsLeft, records-done, records-all, transition-over, transition-next, transition-length, transition-most}
 use Rattle.personalise.proofs.writing.put_records.Statement.{statement}
 use Rattle.personalise.proofs.writing.put_records.Tie as tie
 
 abbrev left : List ℕ → List ℕ → ℕ → ℕ → List ℕ
-left objects placements n k = recordsLeft (listed objects) (placementsIn placements) n k
+left objects placements n k = recordsLeft (listedObjects objects) (placementsIn placements) n k
 
 abbrev Inv-loop : tie.InvT-loop
 Inv-loop objects placements records out₀ k₀ at₀ out k at =
-    (over out₀ at₀ (left objects placements records k₀) ≡ over out at (left objects placements records k))
+    (bytesWrittenOver out₀ at₀ (left objects placements records k₀) ≡ bytesWrittenOver out at (left objects placements records k))
     × (at₀ + length (left objects placements records k₀) ≡ at + length (left objects placements records k))
     × (length out ≡ length out₀) × (1 ≤ k) × (k ≤ records + 1) × (at + 256 * (records + 1 - k) ≤ 256 * records)
 
@@ -39,16 +39,16 @@ loop-again c =
     let lp = l .before .loop in
     let st = l .before .before .before .before .before in
     let a = st .args in
-    let os = listed (a .objects .now) in
+    let os = listedObjects (a .objects .now) in
     let ps = placementsIn (a .placements .now) in
     let h = l .loop-test .taken in
     let f = st .pre .1 .0 (lp .k) h in
     let room : lp .at + 256 ≤ length (lp .out) = omega (arith, lp .inv .2, lp .inv .3, lp .inv .4, lp .inv .5, st .pre .1 .1 .1) in
     let p = w .put-record .ensures in
-    let m = turn-most os ps (a .records) (lp .k) h f (lp .out) (lp .at) room p in (
-      lp .inv .0 ∙ turn-over os ps (a .records) (lp .k) h f (lp .out) (lp .at) room p,
-      lp .inv .1 ∙ turn-next os ps (a .records) (lp .k) h f (lp .out) (lp .at) room p,
-      turn-length os ps (a .records) (lp .k) h f (lp .out) (lp .at) room p ∙ lp .inv .2,
+    let m = transition-most os ps (a .records) (lp .k) h f (lp .out) (lp .at) room p in (
+      lp .inv .0 ∙ transition-over os ps (a .records) (lp .k) h f (lp .out) (lp .at) room p,
+      lp .inv .1 ∙ transition-next os ps (a .records) (lp .k) h f (lp .out) (lp .at) room p,
+      transition-length os ps (a .records) (lp .k) h f (lp .out) (lp .at) room p ∙ lp .inv .2,
       omega arith,
       omega arith,
       omega (arith, lp .inv .5, lp .inv .4),
@@ -58,7 +58,7 @@ returns : tie.Need-returns Inv-loop μ-loop
 returns c =
     let lp = c .before .loop in
     let a = c .before .before .before .before .before .args in
-    let os = listed (a .objects .now) in
+    let os = listedObjects (a .objects .now) in
     let ps = placementsIn (a .placements .now) in
     let e = records-done os ps (a .records) (lp .k) (c .loop-test .left) in
     let z = ap length e in
@@ -66,7 +66,7 @@ returns c =
     let y = ap length b in
     record {
       next = omega (arith, lp .inv .1);
-      wrote = sym (ap (over (a .out .now) 0) (sym b) ∙ lp .inv .0 ∙ ap (over (lp .out) (lp .at)) e ∙ over-nothing (lp .out) (lp .at));
+      wrote = sym (ap (bytesWrittenOver (a .out .now) 0) (sym b) ∙ lp .inv .0 ∙ ap (bytesWrittenOver (lp .out) (lp .at)) e ∙ over-nothing (lp .out) (lp .at));
     }
 
 pub put-records-spec : {M : Type 1} → statement M

@@ -9,7 +9,7 @@ use native.Mathlib.Omega.{arith}
 use lib.ListN.{length}
 use Rattle.tlv.specs.declared.Following.the-variants.{End, Inner}
 use Rattle.tlv.specs.Tree.{nextOf}
-use Rattle.reading.specs.Listing.{laid, countIn, Listing}
+use Rattle.reading.specs.Pending.{withPending, pendingCount, PendingValues}
 use Rattle.reading.proofs.Frames.{Reached, unread, ahead, begin, inside, failed, done, outer-end, close, close-less, close-unread, bounds, deep, leaf, leaf-less, leaf-unread, end-fits, value-ends, value-within, push, push-less, push-unread}
 use Rattle.reading.proofs.flat.read.Statement.{statement}
 use Rattle.reading.proofs.flat.read.Tie as tie
@@ -19,12 +19,12 @@ use Rattle.reading.proofs.take_next.Reads as take-next-reads
 use Rattle.tlv.proofs.next.Reads as next-reads
 
 abbrev Inv-loop : tie.InvT-loop
-Inv-loop bytes start tag answer body store listed₀ filled₀ tags codes ends₀ around₀ depth₀ s₀ n₀ good₀ listed filled ends around depth s n good =
-    Reached bytes tag answer (laid body store listed₀) (laid body store listed) ends around depth s n good
-    × (Listing body store listed filled × (2 * countIn listed + unread bytes ends depth s ≤ length bytes))
+Inv-loop bytes start tag answer body store pending₀ filled₀ tags codes ends₀ around₀ depth₀ s₀ n₀ good₀ pending filled ends around depth s n good =
+    Reached bytes tag answer (withPending body store pending₀) (withPending body store pending) ends around depth s n good
+    × (PendingValues body store pending filled × (2 * pendingCount pending + unread bytes ends depth s ≤ length bytes))
 
 abbrev μ-loop : tie.MeasureT-loop
-μ-loop bytes start tag answer body store listed₀ filled₀ tags codes ends₀ around₀ depth₀ s₀ n₀ good₀ listed filled ends around depth s n good = ahead bytes ends depth s
+μ-loop bytes start tag answer body store pending₀ filled₀ tags codes ends₀ around₀ depth₀ s₀ n₀ good₀ pending filled ends around depth s n good = ahead bytes ends depth s
 
 -- where an object is next, and where the innermost template ends and another is open
 abbrev At-object : Type 0
@@ -76,7 +76,7 @@ take-next-requires c κs =
     let v = o .before .before .before .loop .inv in
     let p = o .before .before .before .before .before .before .before .pre in
     let u = leaf-unread (v .0) _ (next-at o) in
-    (v .1 .0, (value-within (v .0) _ (next-at o) (p .1 .0), (omega (arith, v .1 .1, p .1 .0 .ends, p .0 .listed .short), p .1 .1 .1)))
+    (v .1 .0, (value-within (v .0) _ (next-at o) (p .1 .0), (omega (arith, v .1 .1, p .1 .0 .ends, p .0 .pending .short), p .1 .1 .1)))
 
 loop-again-3 : tie.Need-loop-again-3 Inv-loop μ-loop
 loop-again-3 c =
@@ -131,7 +131,7 @@ read-spec =
     (λ c. let w = c .before .before .before .before .before .before .before .before .before .loop .inv .0 in omega (arith, w .few))
     (λ c. let o = c .before .before .before .before .before .before in push-less (o .before .before .before .loop .inv .0) _ (next-at o) (c .if3 .left))
     loop-again-2
-    (λ c. let o = c .before .before .before .before .before in let w = o .before .before .before .loop .inv .0 in let p = o .before .before .before .before .before .before .before .pre in let j = inside w in omega (arith, p .1 .0 .ends, p .0 .listed .short))
+    (λ c. let o = c .before .before .before .before .before in let w = o .before .before .before .loop .inv .0 in let p = o .before .before .before .before .before .before .before .pre in let j = inside w in omega (arith, p .1 .0 .ends, p .0 .pending .short))
     (λ c. let o = c .before .before .before .before .before .before in let e = value-ends (o .before .before .before .loop .inv .0) _ (next-at o) in omega arith)
     (λ c. let w = c .before .before .before .before .before .before .before .before .before .loop .inv .0 in omega (arith, w .few))
     (λ c. let w = c .before .before .before .before .before .before .before .before .before .loop .inv .0 in omega (arith, w .few))

@@ -10,11 +10,11 @@ use Rattle.reading.proofs.flat.read_body.Tie as tie
 read-object-requires : tie.Need-read-object-requires
 read-object-requires c κs = let p = c .before .before .before .before .before .before .before .before .before .pre in (none-listed _ _ (p .1) (p .0), (refl, search needs))
 
-keep-requires : tie.Need-keep-requires
-keep-requires c κs = let o = c .before .before .read-object .ensures in (c .before .before .before .before .before .before .before .before .before .before .before .before .pre .0, o .1 .0 .listed)
+keep-requires : tie.Need-store-pending-requires
+keep-requires c κs = let o = c .before .before .read-object .ensures in (c .before .before .before .before .before .before .before .before .before .before .before .before .pre .0, o .1 .0 .pending)
 
 returns : tie.Need-returns
-returns c = body-kept _ _ _ _ _ _ (c .before .before .before .before .before .read-object .ensures) (c .before .before .keep .ensures)
+returns c = body-kept _ _ _ _ _ _ (c .before .before .before .before .before .read-object .ensures) (c .before .before .store-pending .ensures)
 
 pub read-body-spec : {M : Type 1} → statement M
 read-body-spec =

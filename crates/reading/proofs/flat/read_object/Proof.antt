@@ -21,7 +21,7 @@ read-requires c κs =
     (p .0, (w, (p .1 .0, (c .before .before .before .answer-bit .ensures .1, p .1 .1))))
 
 returns : tie.Need-returns
-returns c = broken-object _ _ _ (c .before .before .before .outer-of .ensures) (c .before .enum-told .given .1) (c .made .ensures) (c .before .before .before .before .before .before .pre .0)
+returns c = broken-object _ _ _ (c .before .before .before .outer-of .ensures) (c .before .enum-told .given .1) (c .reading-of .ensures) (c .before .before .before .before .before .before .pre .0)
 
 returns-2 : tie.Need-returns-2
 returns-2 c =

@@ -1,0 +1,34 @@
+-- The command that reads a record (document 01, "Commands and steps", Record; Book C-2, 5.8).
+-- Assumes nothing.
+use mathlib.Core.Bool.{Bool}
+use mathlib.Core.Path.{_≡_}
+use mathlib.Core.List.{List, [], _∷_}
+use Prim.Native.Nat.{ℕ, _+_, _*_}
+use lib.ListN.{length}
+use Rattle.basics.specs.Choice.{if_then_else_, _and_, _≤?_, _<?_}
+use Rattle.basics.specs.Front.{withPrefix}
+use Rattle.afl.specs.declared.CardRecord.{CardRecord}
+
+-- the command's five bytes: 00 B2, the record number, the file number x 8 + 4, 00
+abbrev pub readRecordCommand : CardRecord → List ℕ
+readRecordCommand r = 0 ∷ 0xB2 ∷ r .number ∷ (r .sfi * 8 + 4) ∷ 0 ∷ []
+
+-- what stands after writing a command: how long it is, and the whole buffer
+pub record CommandWritten : Type 0 where
+  pub size : ℕ
+  pub buffer : List ℕ
+
+-- the returned number n and the buffer b are those of w
+pub record WroteReadRecord (n : ℕ) (b : List ℕ) (w : CommandWritten) : Type 0 where
+  pub size : n ≡ w .size
+  pub buffer : b ≡ w .buffer
+
+-- a command can be written: its five bytes fit the buffer, and its file number fits five bits
+unfoldable pub readRecordFits : CardRecord → List ℕ → Bool
+readRecordFits r buffer = 5 ≤? length buffer and r .sfi <? 32
+
+-- writing the command that reads a record; where it cannot be written, size 0 and the buffer as it was
+unfoldable pub readRecordWritten : CardRecord → List ℕ → CommandWritten
+readRecordWritten r buffer =
+    if readRecordFits r buffer then record { size = 5; buffer = withPrefix (readRecordCommand r) buffer }
+    else record { size = 0; buffer = buffer }

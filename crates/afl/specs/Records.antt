@@ -1,0 +1,92 @@
+-- The file locator, tag 94, as a whole (document 01, "Commands and steps", Locator, "What demand 3 counts"): its
+-- entries, the records that it names in the published order, and when it is accepted. A locator is any list of bytes.
+-- Assumes nothing.
+use mathlib.Core.Bool.{Bool}
+use mathlib.Core.List.{List, [], _∷_, _++_}
+use Prim.Native.Nat.{ℕ, zero, suc, _+_, _%_}
+use lib.ListN.{length}
+use Rattle.basics.specs.Choice.{if_then_else_, _and_, _=?_, every}
+use Rattle.basics.specs.Reason.{reasonNone, reasonAfl}
+use Rattle.afl.specs.declared.AflEntry.{AflEntry}
+use Rattle.afl.specs.declared.CardRecord.{CardRecord}
+use Rattle.afl.specs.declared.AflCheck.{AflCheck}
+use Rattle.afl.specs.declared.AflCheck.the-variants.{Accepted, Rejected}
+use Rattle.afl.specs.declared.RecordFound.{RecordFound}
+use Rattle.afl.specs.declared.RecordFound.the-variants.{At, Nothing}
+use Rattle.afl.specs.Entry.{aflEntry, entrySfi, entryRecordCount, validEntry}
+use Rattle.basics.specs.Number.{between}
+
+-- the entries, four bytes each, from the front; one to three bytes behind the last are no entry
+unfoldable pub aflEntries : List ℕ → List AflEntry
+aflEntries [] = []
+aflEntries (a ∷ []) = []
+aflEntries (a ∷ b ∷ []) = []
+aflEntries (a ∷ b ∷ c ∷ []) = []
+aflEntries (a ∷ b ∷ c ∷ d ∷ rest) = aflEntry a b c d ∷ aflEntries rest
+
+-- the bytes are whole entries
+unfoldable pub wholeEntries : List ℕ → Bool
+wholeEntries s = length s % 4 =? 0
+
+-- n records of one file, numbered upwards from a first number
+unfoldable pub consecutiveRecords : ℕ → ℕ → ℕ → List CardRecord
+consecutiveRecords sfi number zero = []
+consecutiveRecords sfi number (suc n) = record { sfi = sfi; number = number } ∷ consecutiveRecords sfi (number + 1) n
+
+-- the records of one entry, from its first to its last
+abbrev pub entryRecords : AflEntry → List CardRecord
+entryRecords e = consecutiveRecords (entrySfi e) (e .first) (entryRecordCount e)
+
+-- the records of entries, entry by entry
+unfoldable pub entriesRecords : List AflEntry → List CardRecord
+entriesRecords [] = []
+entriesRecords (e ∷ es) = entryRecords e ++ entriesRecords es
+
+-- the sum of a number over entries
+unfoldable pub sumOverEntries : (AflEntry → ℕ) → List AflEntry → ℕ
+sumOverEntries f [] = 0
+sumOverEntries f (e ∷ es) = f e + sumOverEntries f es
+
+-- the records that a locator names, in the published order
+abbrev pub aflRecords : List ℕ → List CardRecord
+aflRecords s = entriesRecords (aflEntries s)
+
+-- R, how many records a locator names: the sum of last - first + 1
+abbrev pub aflRecordCount : List ℕ → ℕ
+aflRecordCount s = sumOverEntries entryRecordCount (aflEntries s)
+
+-- a locator is accepted: whole entries, each keeps the rules, 1 to 128 records in all
+unfoldable pub acceptsAfl : List ℕ → Bool
+acceptsAfl s =
+    wholeEntries s
+    and every validEntry (aflEntries s)
+    and between 1 (aflRecordCount s) 128
+
+-- what a check of a locator says: R if it is accepted
+unfoldable pub aflChecked : List ℕ → AflCheck
+aflChecked s =
+    if acceptsAfl s then Accepted (record { records = aflRecordCount s })
+    else Rejected
+
+-- the number of a check's answer (document 01, "Calls and their numbers"): 0 where it gives no reason, else 5, a
+-- locator that breaks its rules
+abbrev pub aflReason : AflCheck → ℕ
+aflReason (Accepted e) = reasonNone
+aflReason Rejected = reasonAfl
+
+-- the record at a place of a list, places counted from 0
+unfoldable pub nthRecord : ℕ → List CardRecord → RecordFound
+nthRecord i [] = Nothing
+nthRecord zero (r ∷ l) = At r
+nthRecord (suc i) (r ∷ l) = nthRecord i l
+
+-- the k-th record of a list, k from 1
+unfoldable pub kthRecord : ℕ → List CardRecord → RecordFound
+kthRecord zero l = Nothing
+kthRecord (suc i) l = nthRecord i l
+
+-- the k-th record of an accepted locator, k from 1 to R
+unfoldable pub aflRecordAt : List ℕ → ℕ → RecordFound
+aflRecordAt s k =
+    if acceptsAfl s then kthRecord k (aflRecords s)
+    else Nothing

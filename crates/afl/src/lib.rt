@@ -1,0 +1,172 @@
+// The file locator (tag 94) that a card hands out with its processing options: whether it keeps the
+// rules and how many records it names (`check_afl`), the k-th of them (`record_at`, k from 1), and the
+// command that reads one (`read_record`). A locator comes in as plain bytes of any length and contents.
+ghost use mathlib.Core.Path.{_≡_};
+ghost use Prim.Native.Nat.{_≤_};
+ghost use lib.ListN.{length};
+ghost use Rattle.basics.specs.Reason.{reasonAfl, unless};
+ghost use Rattle.afl.specs.Entry.{firstEntry, entryRecordCount, validEntry as keepsRules};
+ghost use Rattle.afl.specs.Records.{aflRecords as recordsIn, acceptsAfl, aflChecked, aflReason, nthRecord, aflRecordAt};
+ghost use Rattle.afl.specs.Command.{WroteReadRecord, readRecordWritten};
+
+// A record of a card: the file that it is in and its number there.
+pub struct CardRecord {
+    pub sfi: u8,
+    pub number: u8,
+}
+
+// One entry of a locator: byte 1 with the short file identifier in its top five bits, the first and the last
+// record, and how many of them offline authentication covers.
+pub struct AflEntry {
+    pub lead: u8,
+    pub first: u8,
+    pub last: u8,
+    pub offline: u8,
+}
+
+// What an accepted locator amounts to: how many records it names, 1 to 128.
+pub struct AflExtent {
+    pub records: usize,
+}
+
+pub enum AflCheck {
+    Accepted(AflExtent),
+    Rejected,
+}
+
+pub enum RecordFound {
+    At(CardRecord),
+    Nothing,
+}
+
+// Whether a locator keeps the rules, and how many records it names.
+pub fn check_afl(afl: &[u8]) -> AflCheck
+    ensures said { λ r. ⌜ r ≡ aflChecked (now (afl .entry)) ⌝ }
+    ensures reason { λ r. ⌜ aflReason r ≡ unless (acceptsAfl (now (afl .entry))) reasonAfl ⌝ }
+{
+    let mut rest = afl;
+    let mut total: usize = 0;
+    while 4 <= rest.len() {
+        let e = front(rest);
+        if !is_valid_entry(e) {
+            return AflCheck::Rejected;
+        }
+        total += count(e);
+        if 128 < total {
+            return AflCheck::Rejected;
+        }
+        rest = &rest[4..];
+    }
+    if rest.len() != 0 {
+        return AflCheck::Rejected;
+    }
+    if total == 0 {
+        return AflCheck::Rejected;
+    }
+    AflCheck::Accepted(AflExtent { records: total })
+}
+
+// The k-th record of an accepted locator, k from 1; nothing for any other k or locator.
+pub fn record_at(afl: &[u8], k: usize) -> RecordFound
+    ensures { λ r. ⌜ r ≡ aflRecordAt (now (afl .entry)) k ⌝ }
+{
+    let c = check_afl(afl);
+    let AflCheck::Accepted(_) = c else {
+        return RecordFound::Nothing;
+    };
+    if k == 0 {
+        return RecordFound::Nothing;
+    }
+    seek(afl, k - 1)
+}
+
+// Writes the command that reads a record at the front of `command`, and returns its length, 5.
+// A buffer under 5 bytes or a file number over 31 gets no command: the length is 0 and the buffer stays.
+pub fn read_record(wanted: CardRecord, command: &mut [u8]) -> usize
+    ensures { λ n. ⌜ WroteReadRecord n (now (command .exit)) (readRecordWritten wanted (now (command .entry))) ⌝ }
+{
+    if command.len() < 5 {
+        return 0;
+    }
+    if 32 <= wanted.sfi {
+        return 0;
+    }
+    command[0] = 0x00;
+    command[1] = 0xB2;
+    command[2] = wanted.number;
+    command[3] = wanted.sfi * 8 + 4;
+    command[4] = 0x00;
+    5
+}
+
+// The entry at the front of the bytes.
+fn front(s: &[u8]) -> AflEntry
+    requires { ⌜ 4 ≤ length (now s) ⌝ }
+    ensures { λ r. ⌜ r ≡ firstEntry (now (s .entry)) ⌝ }
+{
+    AflEntry {
+        lead: s[0],
+        first: s[1],
+        last: s[2],
+        offline: s[3],
+    }
+}
+
+// How many records an entry names.
+fn count(e: AflEntry) -> usize
+    ensures { λ r. ⌜ (r ≡ entryRecordCount e) × (r ≤ 256) ⌝ }
+{
+    let first = basics::widen(e.first);
+    let last = basics::widen(e.last);
+    if last < first {
+        return 0;
+    }
+    last - first + 1
+}
+
+// Whether an entry keeps the rules.
+fn is_valid_entry(e: AflEntry) -> bool
+    ensures { λ r. ⌜ r ≡ keepsRules e ⌝ }
+{
+    if e.lead % 8 != 0 {
+        return false;
+    }
+    let sfi = e.lead / 8;
+    if sfi < 1 {
+        return false;
+    }
+    if 30 < sfi {
+        return false;
+    }
+    if e.first < 1 {
+        return false;
+    }
+    if e.last < e.first {
+        return false;
+    }
+    if count(e) < basics::widen(e.offline) {
+        return false;
+    }
+    true
+}
+
+// The record at a place among those that the bytes name, places counted from 0.
+fn seek(afl: &[u8], place: usize) -> RecordFound
+    ensures { λ r. ⌜ r ≡ nthRecord place (recordsIn (now (afl .entry))) ⌝ }
+{
+    let mut rest = afl;
+    let mut left = place;
+    while 4 <= rest.len() {
+        let e = front(rest);
+        let n = count(e);
+        if left < n {
+            return RecordFound::At(CardRecord {
+                sfi: e.lead / 8,
+                number: e.first + left as u8,
+            });
+        }
+        left -= n;
+        rest = &rest[4..];
+    }
+    RecordFound::Nothing
+}

@@ -1,0 +1,137 @@
+-- What the code of the verification tests, in the specification's words. Proofs of its functions cite these.
+-- Assumes nothing.
+use mathlib.Core.Path.{_≡_, refl, sym, ap, ap₂, _∙_}
+use mathlib.Core.Bool.{Bool, true, false, not, _&&_, _||_}
+use mathlib.Core.List.{List, [], _∷_}
+use Prim.Native.Nat.{ℕ, _-_, _≤_, _<_}
+use native.Mathlib.Nat.{le-refl}
+use native.Mathlib.Omega.{arith}
+use lib.ListN.{length, take, drop, getD, length-drop}
+use lib.Seq.{take-all}
+use Rattle.basics.specs.Choice.{both, either}
+use Rattle.basics.proofs.Laws.{if-yes, if-no}
+use Rattle.store.specs.Place.{StoredValue, present}
+use Rattle.analysis.specs.Bits.{byteBit}
+use Rattle.analysis.specs.Value.{valueIf}
+use Rattle.analysis.proofs.Value.{given-there, given-absent}
+use Rattle.analysis.specs.Cvm.{cvmRule, cvmRulesFrom, cvmRecognised, cvmPerformed, cvmConditionMet, cvmSuccessful, noCvmPerformed, cvmUnsuccessful, nextCvmApplies, cvmRulesOf, byCvmRules, cvmNotPerformed, byCvmList, cvmProcessing}
+use Rattle.analysis.specs.declared.cvm.CvmConditions.{CvmConditions}
+
+-- ---- tests joined by the code's operators
+
+and-is : (a b : Bool) → (a && b) ≡ both a b
+unfolding both
+and-is true b = refl
+and-is false b = refl
+
+or-is : (a b : Bool) → (a || b) ≡ either a b
+unfolding either
+or-is true b = refl
+or-is false b = refl
+
+pub and-both : (a b x y : Bool) → a ≡ x → b ≡ y → (a && b) ≡ both x y
+and-both a b x y p q = and-is a b ∙ ap₂ both p q
+
+pub or-either : (a b x y : Bool) → a ≡ x → b ≡ y → (a || b) ≡ either x y
+or-either a b x y p q = or-is a b ∙ ap₂ either p q
+
+-- ---- the rules of a list, one at a time
+
+-- the bytes behind the first rule, as `&s[2..]` makes them
+abbrev pub tail : List ℕ → List ℕ
+tail s = take (length s - 2) (drop 2 s)
+
+tail-is : (s : List ℕ) → tail s ≡ drop 2 s
+tail-is s = take-all (length s - 2) (drop 2 s) (simp length-drop (le-refl _))
+
+pub tail-less : (s : List ℕ) → 2 ≤ length s → length (tail s) < length s
+tail-less s h = rw (tail-is s) (simp length-drop (omega arith))
+
+pub rules-short : (s : List ℕ) → length s < 2 → cvmRulesFrom s ≡ []
+unfolding cvmRulesFrom
+rules-short [] h = refl
+rules-short (c ∷ []) h = refl
+rules-short (c ∷ d ∷ s) h = absurd (omega arith)
+
+rules-cons : (s : List ℕ) → 2 ≤ length s → cvmRulesFrom s ≡ cvmRule (getD s 0 0) (getD s 1 0) ∷ cvmRulesFrom (drop 2 s)
+unfolding cvmRulesFrom
+rules-cons [] h = absurd (omega arith)
+rules-cons (c ∷ []) h = absurd (omega arith)
+rules-cons (c ∷ d ∷ s) h = refl
+
+pub rules-front : (s : List ℕ) → 2 ≤ length s → cvmRulesFrom s ≡ cvmRule (getD s 0 0) (getD s 1 0) ∷ cvmRulesFrom (tail s)
+rules-front s h = rw (tail-is s) (rules-cons s h)
+
+pub goes-on-short : (code : ℕ) (s : List ℕ) → length s < 2 → nextCvmApplies code (cvmRulesFrom s) ≡ false
+goes-on-short code s h = ap (nextCvmApplies code) (rules-short s h)
+
+pub goes-on-bit : (code : ℕ) (s : List ℕ) → 2 ≤ length s → nextCvmApplies code (cvmRulesFrom s) ≡ byteBit code 7
+goes-on-bit code s h = ap (nextCvmApplies code) (rules-front s h)
+
+-- ---- what the rules left say, before and after one of them
+
+pub rules-end : (t : CvmConditions) (u : Bool) (s : List ℕ) → length s < 2 → byCvmRules t u (cvmRulesFrom s) ≡ noCvmPerformed u
+unfolding byCvmRules
+rules-end t u s h = ap (byCvmRules t u) (rules-short s h)
+
+module _ (t : CvmConditions) (u : Bool) (s : List ℕ) (h : 2 ≤ length s) where
+  abbrev code : ℕ
+  code = getD s 0 0
+
+  abbrev condition : ℕ
+  condition = getD s 1 0
+
+  pub rule-not-met : cvmConditionMet t code condition ≡ false → byCvmRules t u (cvmRulesFrom s) ≡ byCvmRules t u (cvmRulesFrom (tail s))
+  unfolding byCvmRules
+  rule-not-met m = ap (byCvmRules t u) (rules-front s h) ∙ if-yes _ _ (ap not m)
+
+  module _ (m : cvmConditionMet t code condition ≡ true) where
+    pub rule-taken : cvmPerformed (t .capabilities) code ≡ true → byCvmRules t u (cvmRulesFrom s) ≡ cvmSuccessful code condition u
+    unfolding byCvmRules
+    rule-taken p = ap (byCvmRules t u) (rules-front s h) ∙ if-no _ _ (ap not m) ∙ if-yes _ _ p
+
+    module _ (p : cvmPerformed (t .capabilities) code ≡ false) (r : Bool) (k : r ≡ cvmRecognised code) where
+      unknown-is : (u || not r) ≡ either u (not (cvmRecognised code))
+      unknown-is = or-either _ _ _ _ refl (ap not k)
+
+      pub rule-next : nextCvmApplies code (cvmRulesFrom (tail s)) ≡ true → byCvmRules t u (cvmRulesFrom s) ≡ byCvmRules t (u || not r) (cvmRulesFrom (tail s))
+      unfolding byCvmRules
+      rule-next g = rw unknown-is (ap (byCvmRules t u) (rules-front s h) ∙ if-no _ _ (ap not m) ∙ if-no _ _ p ∙ if-yes _ _ g)
+
+      pub rule-last : nextCvmApplies code (cvmRulesFrom (tail s)) ≡ false → byCvmRules t u (cvmRulesFrom s) ≡ cvmUnsuccessful code condition (u || not r)
+      unfolding byCvmRules
+      rule-last g = rw unknown-is (ap (byCvmRules t u) (rules-front s h) ∙ if-no _ _ (ap not m) ∙ if-no _ _ p ∙ if-no _ _ g)
+
+-- ---- the list
+
+pub not-supported : (aip : ℕ) (v : StoredValue) (t : CvmConditions) → byteBit aip 5 ≡ false → cvmProcessing aip v t ≡ cvmNotPerformed false
+unfolding cvmProcessing
+not-supported aip v t e = if-no _ _ e
+
+no-bytes : (s : List ℕ) → length s ≡ 0 → s ≡ []
+no-bytes [] h = refl
+no-bytes (b ∷ s) h = absurd (omega arith)
+
+pub by-bytes : (s : List ℕ) (t : CvmConditions) → (length s ≡ 0 → ⊥) → byCvmList (present s) t ≡ byCvmRules t false (cvmRulesOf s)
+by-bytes [] t n = absurd (n refl)
+by-bytes (b ∷ s) t n = refl
+
+module _ (aip : ℕ) (t : CvmConditions) (e : byteBit aip 5 ≡ true) (there : Bool) (s : List ℕ) where
+  pub list-absent : there ≡ false → cvmProcessing aip (valueIf there s) t ≡ cvmNotPerformed true
+  unfolding cvmProcessing
+  list-absent a = if-yes _ _ e ∙ ap (λ (v : StoredValue). byCvmList v t) (given-absent there s a)
+
+  module _ (a : there ≡ true) where
+    by-list : cvmProcessing aip (valueIf there s) t ≡ byCvmList (present s) t
+    unfolding cvmProcessing
+    by-list = if-yes _ _ e ∙ ap (λ (v : StoredValue). byCvmList v t) (given-there there s a)
+
+    pub list-empty : length s ≡ 0 → cvmProcessing aip (valueIf there s) t ≡ cvmNotPerformed true
+    list-empty h = by-list ∙ ap (λ (l : List ℕ). byCvmList (present l) t) (no-bytes s h)
+
+    pub list-short : (length s ≡ 0 → ⊥) → length s < 8 → cvmProcessing aip (valueIf there s) t ≡ noCvmPerformed false
+    list-short n h = by-list ∙ by-bytes s t n ∙ rules-end t false (drop 8 s) (simp length-drop (omega arith))
+
+    pub list-rules : 8 ≤ length s → cvmProcessing aip (valueIf there s) t ≡ byCvmRules t false (cvmRulesFrom (take (length s - 8) (drop 8 s)))
+    list-rules h = by-list ∙ by-bytes s t (λ z. omega arith)
+        ∙ sym (ap (λ (l : List ℕ). byCvmRules t false (cvmRulesFrom l)) (take-all (length s - 8) (drop 8 s) (simp length-drop (le-refl _))))

@@ -1,0 +1,228 @@
+// Cardholder verification: the method by the card's own list of rules, or on a phone by the amount; the bytes of 9F34, and the
+// bits that it adds to 95.
+use crate::byte;
+ghost use mathlib.Core.Path.{_≡_};
+ghost use mathlib.Core.Bool.{false};
+ghost use Rattle.analysis.specs.Value.{valueIf};
+ghost use Rattle.analysis.specs.Cvm.{cvmNumber, cvmRecognised as isRecognised, cvmSupported as isSupported, cvmPerformed, cvmAmountMet, cvmConditionMet as isMet};
+ghost use Rattle.analysis.specs.Cvm.{cvmRulesFrom, cvmSuccessful as takenBy, noCvmPerformed, cvmUnsuccessful as unsuccessfulBy, nextCvmApplies, cvmNotPerformed, byCvmRules, cvmProcessing};
+ghost use Rattle.analysis.specs.Cvm.{onDeviceCvm, onDeviceResult};
+
+// The methods that the outcome carries.
+pub enum Cvm {
+    NoCvm,
+    Signature,
+    OnlinePin,
+    ConfirmationCode,
+    OfflinePin,
+}
+
+// What the conditions of rules are told by: byte 2 of the terminal capabilities; cash and cashback by the transaction's
+// type; an ATM; whether terminal and application have the same currency; the amount, and the list's X and Y.
+pub struct CvmConditions {
+    pub capabilities: u8,
+    pub cash: bool,
+    pub cashback: bool,
+    pub atm: bool,
+    pub currency: bool,
+    pub amount: u64,
+    pub x: u64,
+    pub y: u64,
+}
+
+// What is chosen: the three bytes of 9F34, the bits of bytes 1 and 3 of 95, and the method.
+pub struct CvmResult {
+    pub code: u8,
+    pub condition: u8,
+    pub result: u8,
+    pub tvr1: u8,
+    pub tvr3: u8,
+    pub cvm: Cvm,
+}
+
+// The number in the outcome where no method was chosen.
+pub const NOT_APPLICABLE: u8 = 15;
+
+// The method's number in the outcome.
+pub fn cvm_number(cvm: Cvm) -> u8
+    ensures { λ r. ⌜ r ≡ cvmNumber cvm ⌝ }
+{
+    match cvm {
+        Cvm::NoCvm => 0,
+        Cvm::Signature => 1,
+        Cvm::OnlinePin => 2,
+        Cvm::ConfirmationCode => 3,
+        Cvm::OfflinePin => 4,
+    }
+}
+
+// By byte 1 of the card's profile 82, its list 8E, which counts only where it is there, and the terms.
+pub fn perform_cvm(aip: u8, there: bool, list: &[u8], terms: CvmConditions) -> CvmResult
+    ensures { λ r. ⌜ r ≡ cvmProcessing aip (valueIf there (now (list .entry))) terms ⌝ }
+{
+    if !byte::bit(aip, 5) {
+        return cvm_not_performed(false);
+    }
+    if !there {
+        return cvm_not_performed(true);
+    }
+    if list.len() == 0 {
+        return cvm_not_performed(true);
+    }
+    if list.len() < 8 {
+        return no_cvm_performed(false);
+    }
+    by_cvm_rules(&list[8..], terms)
+}
+
+// A phone that checks its holder itself: b2 of byte 1 of the card's profile 82, and b6 of the kernel configuration DF811B.
+pub fn is_on_device(aip: u8, configuration: u8) -> bool
+    ensures { λ r. ⌜ r ≡ onDeviceCvm aip configuration ⌝ }
+{
+    byte::bit(aip, 2) & byte::bit(configuration, 6)
+}
+
+// What a phone has checked, by whether the amount is above the limit from which a check is required.
+pub fn on_device_cvm(above: bool) -> CvmResult
+    ensures { λ r. ⌜ r ≡ onDeviceResult above ⌝ }
+{
+    if above {
+        return CvmResult { code: 0x01, condition: 0, result: 2, tvr1: 0, tvr3: 0, cvm: Cvm::ConfirmationCode };
+    }
+    CvmResult { code: 0x3F, condition: 0, result: 2, tvr1: 0, tvr3: 0, cvm: Cvm::NoCvm }
+}
+
+// Nothing is asked of the cardholder, since the card knows no verification or its list is missing.
+fn cvm_not_performed(missing: bool) -> CvmResult
+    ensures { λ r. ⌜ r ≡ cvmNotPerformed missing ⌝ }
+{
+    let tvr1 = byte::bit_weight(missing, 0x20);
+    CvmResult { code: 0x3F, condition: 0, result: 0, tvr1, tvr3: 0, cvm: Cvm::NoCvm }
+}
+
+// Rule after rule, each of two bytes.
+fn by_cvm_rules(rules: &[u8], terms: CvmConditions) -> CvmResult
+    ensures { λ r. ⌜ r ≡ byCvmRules terms false (cvmRulesFrom (now (rules .entry))) ⌝ }
+{
+    let mut rest = rules;
+    let mut unrecognised = false;
+    while 2 <= rest.len() {
+        let code = rest[0];
+        let condition = rest[1];
+        rest = &rest[2..];
+        if cvm_condition_met(terms, code, condition) {
+            if cvm_performed(terms.capabilities, code) {
+                return cvm_successful(code, condition, unrecognised);
+            }
+            unrecognised = unrecognised | !cvm_recognised(code);
+            if !next_cvm_applies(code, rest) {
+                return cvm_unsuccessful(code, condition, unrecognised);
+            }
+        }
+    }
+    no_cvm_performed(unrecognised)
+}
+
+// The next rule follows an unsuccessful one: b7 of the code says so, and there is one.
+fn next_cvm_applies(code: u8, rest: &[u8]) -> bool
+    ensures { λ r. ⌜ r ≡ nextCvmApplies code (cvmRulesFrom (now (rest .entry))) ⌝ }
+{
+    if rest.len() < 2 {
+        return false;
+    }
+    byte::bit(code, 7)
+}
+
+// The condition of a rule is understood, has its data, and is true.
+fn cvm_condition_met(terms: CvmConditions, code: u8, condition: u8) -> bool
+    ensures { λ r. ⌜ r ≡ isMet terms code condition ⌝ }
+{
+    match condition {
+        0 => true,
+        1 => terms.cash & terms.atm,
+        2 => !terms.cash & !terms.cashback,
+        3 => cvm_supported(terms.capabilities, code),
+        4 => terms.cash & !terms.atm,
+        5 => terms.cashback,
+        _ => terms.currency & cvm_amount_met(terms, condition),
+    }
+}
+
+// The amount is under or over X or Y.
+fn cvm_amount_met(terms: CvmConditions, condition: u8) -> bool
+    ensures { λ r. ⌜ r ≡ cvmAmountMet terms condition ⌝ }
+{
+    match condition {
+        6 => terms.amount < terms.x,
+        7 => terms.x < terms.amount,
+        8 => terms.amount < terms.y,
+        9 => terms.y < terms.amount,
+        _ => false,
+    }
+}
+
+// The terminal can do what a code asks for.
+fn cvm_supported(capabilities: u8, code: u8) -> bool
+    ensures { λ r. ⌜ r ≡ isSupported capabilities code ⌝ }
+{
+    let cvm = code % 64;
+    match cvm {
+        0x00 => true,
+        0x01 => byte::bit(capabilities, 8),
+        0x02 => byte::bit(capabilities, 7),
+        0x03 => byte::bit(capabilities, 8) & byte::bit(capabilities, 6),
+        0x04 => byte::bit(capabilities, 5),
+        0x05 => byte::bit(capabilities, 5) & byte::bit(capabilities, 6),
+        0x1E => byte::bit(capabilities, 6),
+        0x1F => byte::bit(capabilities, 4),
+        _ => false,
+    }
+}
+
+// A method that is supported, and not fail.
+fn cvm_performed(capabilities: u8, code: u8) -> bool
+    ensures { λ r. ⌜ r ≡ cvmPerformed capabilities code ⌝ }
+{
+    cvm_supported(capabilities, code) & (code % 64 != 0)
+}
+
+// A method of the Books' table.
+fn cvm_recognised(code: u8) -> bool
+    ensures { λ r. ⌜ r ≡ isRecognised code ⌝ }
+{
+    let cvm = code % 64;
+    (cvm <= 5) | ((cvm == 0x1E) | (cvm == 0x1F))
+}
+
+// The method of a code is taken.
+fn cvm_successful(code: u8, condition: u8, unrecognised: bool) -> CvmResult
+    ensures { λ r. ⌜ r ≡ takenBy code condition unrecognised ⌝ }
+{
+    let cvm = code % 64;
+    let bits = byte::bit_weight(unrecognised, 0x40);
+    match cvm {
+        0x02 => CvmResult { code, condition, result: 0, tvr1: 0, tvr3: bits + 0x04, cvm: Cvm::OnlinePin },
+        0x1E => CvmResult { code, condition, result: 0, tvr1: 0, tvr3: bits, cvm: Cvm::Signature },
+        0x1F => CvmResult { code, condition, result: 2, tvr1: 0, tvr3: bits, cvm: Cvm::NoCvm },
+        _ => CvmResult { code, condition, result: 0, tvr1: 0, tvr3: bits, cvm: Cvm::OfflinePin },
+    }
+}
+
+// A rule is unsuccessful, and none follows.
+fn cvm_unsuccessful(code: u8, condition: u8, unrecognised: bool) -> CvmResult
+    ensures { λ r. ⌜ r ≡ unsuccessfulBy code condition unrecognised ⌝ }
+{
+    if code % 64 == 0 {
+        let tvr3 = 0x80 + byte::bit_weight(unrecognised, 0x40);
+        return CvmResult { code, condition, result: 1, tvr1: 0, tvr3, cvm: Cvm::NoCvm };
+    }
+    no_cvm_performed(unrecognised)
+}
+
+// No rule was taken.
+fn no_cvm_performed(unrecognised: bool) -> CvmResult
+    ensures { λ r. ⌜ r ≡ noCvmPerformed unrecognised ⌝ }
+{
+    let tvr3 = 0x80 + byte::bit_weight(unrecognised, 0x40);
+    CvmResult { code: 0x3F, condition: 0, result: 1, tvr1: 0, tvr3, cvm: Cvm::NoCvm }
+}

@@ -1,0 +1,141 @@
+-- One claim over every list of calls on a cabinet since an accepted opening (document 02, Item 14), refused calls
+-- included, each on the bytes that the call before it left: left, set aside and approved are together the cap.
+-- Bytes are any numbers: what holds of all lists of numbers holds of lists of bytes.
+-- Assumes nothing.
+use mathlib.Core.Path.{_≡_}
+use mathlib.Core.Bool.{Bool, true, not}
+use mathlib.Core.List.{List, [], _∷_}
+use mathlib.Core.Option.{some}
+use Prim.Native.Nat.{ℕ, _+_, _/_, _%_, _≤_}
+use Rattle.basics.specs.Choice.{if_then_else_, _and_, _=?_, every}
+use Rattle.basics.specs.Reason.{refusedRanges}
+use Rattle.analysis.specs.Digits.{amountOf}
+use Rattle.session_record.specs.declared.Outcome.{Outcome}
+use Rattle.session_record.specs.Numbers.{outcomeNumber}
+use Rattle.layout.specs.Word.{wordKind, kindOutcome, kindRefusal, refusalWord}
+use Rattle.cabinet_lookup.specs.Value.{lookupValue}
+use Rattle.cabinet.specs.State.{Cabinet, mostAmount, cabinetHeldIn}
+use Rattle.cabinet.specs.Calls.{cabinetOpenWord, cabinetOpenState, cabinetStart, cabinetAnswer, cabinetLinkFailed, cabinetStop}
+
+-- ---- the calls
+
+-- a call that may write the state: an opening with its cap; the others with the bytes that come in and the command
+-- buffer that is lent. What is left, a lookup and the size are asked for with no bytes to write
+pub data CabinetCall : Type 0 where
+  opening : ℕ → CabinetCall
+  start : List ℕ → List ℕ → CabinetCall
+  answer : List ℕ → List ℕ → CabinetCall
+  link-failed : List ℕ → CabinetCall
+  stop : List ℕ → CabinetCall
+
+-- the word that a call gives on the state's bytes
+abbrev pub cabinetWordBy : List ℕ → CabinetCall → ℕ
+cabinetWordBy l (opening cap)     = cabinetOpenWord cap l
+cabinetWordBy l (start bytes buf) = cabinetStart bytes l buf .word
+cabinetWordBy l (answer card buf) = cabinetAnswer card l buf .word
+cabinetWordBy l (link-failed buf) = cabinetLinkFailed l buf .word
+cabinetWordBy l (stop buf)        = cabinetStop l buf .word
+
+-- the state's bytes after it
+abbrev pub cabinetStateBy : List ℕ → CabinetCall → List ℕ
+cabinetStateBy l (opening cap)     = cabinetOpenState cap l
+cabinetStateBy l (start bytes buf) = cabinetStart bytes l buf .state
+cabinetStateBy l (answer card buf) = cabinetAnswer card l buf .state
+cabinetStateBy l (link-failed buf) = cabinetLinkFailed l buf .state
+cabinetStateBy l (stop buf)        = cabinetStop l buf .state
+
+-- a call that was made, and its word
+pub record CabinetCallMade : Type 0 where
+  pub call : CabinetCall
+  pub word : ℕ
+
+-- the same as a function of the two
+abbrev pub cabinetCallMade : CabinetCall → ℕ → CabinetCallMade
+cabinetCallMade c w = record { call = c; word = w }
+
+-- the calls of a list, each on the bytes that the call before it left
+unfoldable pub playCabinetCalls : List ℕ → List CabinetCall → List CabinetCallMade
+playCabinetCalls l [] = []
+playCabinetCalls l (c ∷ cs) = cabinetCallMade c (cabinetWordBy l c) ∷ playCabinetCalls (cabinetStateBy l c) cs
+
+-- the bytes that the last call left
+unfoldable pub finalCabinetState : List ℕ → List CabinetCall → List ℕ
+finalCabinetState l [] = l
+finalCabinetState l (c ∷ cs) = finalCabinetState (cabinetStateBy l c) cs
+
+-- ---- the account: by the calls and their words alone, not by the state
+
+-- the cap of the last accepted opening; since then the amount of the last accepted start, 0 where there is none, and
+-- the amounts approved
+pub record Account : Type 0 where
+  pub cap : ℕ
+  pub amount : ℕ
+  pub approved : ℕ
+
+-- an account of these parts
+abbrev pub account : ℕ → ℕ → ℕ → Account
+account c n a = record { cap = c; amount = n; approved = a }
+
+-- an opening: nothing is approved
+abbrev pub accountOpened : ℕ → Account
+accountOpened cap = account cap 0 0
+
+-- the number in the 9F02 of start bytes: the value of their first object of that tag, in digits
+abbrev pub startAmountIn : List ℕ → ℕ
+startAmountIn bytes = amountOf (lookupValue 0x9F02 bytes [])
+
+-- the word of a refusal, and that of an approval, whatever the method in its upper bits
+abbrev pub isRefusedWord : ℕ → Bool
+isRefusedWord w = wordKind w =? kindRefusal
+
+abbrev pub isApprovedWord : ℕ → Bool
+isApprovedWord w = wordKind w =? kindOutcome and w / 256 % 256 =? outcomeNumber Outcome.Approved
+
+-- an approval adds the amount of the last accepted start
+abbrev pub accountApproves : ℕ → Account → Account
+accountApproves w a =
+    if isApprovedWord w then account (a .cap) (a .amount) (a .approved + a .amount)
+    else a
+
+-- a call that was not refused
+abbrev pub accountAccepts : Account → CabinetCall → ℕ → Account
+accountAccepts a (opening cap)     w = accountOpened cap
+accountAccepts a (start bytes buf) w = accountApproves w (account (a .cap) (startAmountIn bytes) (a .approved))
+accountAccepts a (answer card buf) w = accountApproves w a
+accountAccepts a (link-failed buf) w = accountApproves w a
+accountAccepts a (stop buf)        w = accountApproves w a
+
+-- one call; a refused one changes nothing
+unfoldable pub accountEnters : Account → CabinetCallMade → Account
+accountEnters a m =
+    if isRefusedWord (m .word) then a
+    else accountAccepts a (m .call) (m .word)
+
+-- the account after the calls of a list
+unfoldable pub accountAfter : Account → List CabinetCallMade → Account
+accountAfter a [] = a
+accountAfter a (m ∷ ms) = accountAfter (accountEnters a m) ms
+
+-- the account of calls behind an opening with this cap
+abbrev pub accountOf : ℕ → List CabinetCallMade → Account
+accountOf cap ms = accountAfter (accountOpened cap) ms
+
+-- ---- the claim
+
+-- a call was not refused with 25
+abbrev pub notRefusedForRanges : CabinetCallMade → Bool
+notRefusedForRanges m = not (m .word =? refusalWord refusedRanges)
+
+-- ms are the calls of a list made one after the other (`playCabinetCalls`) since an opening with this cap was accepted, and l are
+-- the bytes that the last of them left (`finalCabinetState`), those of the opening where there are none
+pub record Balanced (cap : ℕ) (ms : List CabinetCallMade) (l : List ℕ) : Type 0 where
+  -- the bytes hold a cabinet in order: what is set aside is the running session's amount, 0 where none runs
+  pub state : Cabinet
+  pub held : cabinetHeldIn l ≡ some state
+  -- left, set aside and the amounts of approved sessions are together the cap
+  pub balance : state .remaining + state .reserved + accountOf cap ms .approved ≡ accountOf cap ms .cap
+  -- so approvals never come to more than the cap, and no cap is over the greatest amount
+  pub never-over : accountOf cap ms .approved ≤ accountOf cap ms .cap
+  pub cap-fits : accountOf cap ms .cap ≤ mostAmount
+  -- none of the calls was refused with 25
+  pub never-25 : every notRefusedForRanges ms ≡ true

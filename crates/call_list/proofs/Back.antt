@@ -1,0 +1,72 @@
+-- Every list of calls whose lengths eight bytes hold is read back from its bytes: the header gives the lengths, and they cut out the call's
+-- own bytes and buffer.
+-- Assumes nothing.
+use mathlib.Core.Path.{_≡_, refl, sym, ap, _∙_}
+use mathlib.Core.Bool.{true}
+use mathlib.Core.List.{List, [], _∷_, _++_, append-assoc}
+use mathlib.Core.Option.{some}
+use Prim.Native.Nat.{ℕ, _+_, _<_, _^_}
+use native.Mathlib.Omega.{arith}
+use lib.ListN.{length, take, drop, length-append}
+use lib.Seq.{take-at, drop-at, drop-drop}
+use borrow.Author.Tests.{le-leb}
+use Rattle.basics.specs.Choice.{if, both, either}
+use Rattle.basics.specs.Number.{bigEndian}
+use Rattle.session_claim.specs.Calls.{Call, start, answer, link-failed, stop}
+use Rattle.call_list.specs.declared.CallHeader.{CallHeader}
+use Rattle.call_list.specs.Encoding.{bigEndianBytes, encodedAs, encodedCalls, SizedCalls, callHeaderSize, callBufferAt, callEnd, callHeaderIn, isCallKind, callBy, callIn, withCall, callsOf}
+use Rattle.call_list.proofs.Read.{front-call, calls-end, calls-call}
+use Rattle.call_list.proofs.Number.{high-length, high-number}
+
+-- one call in front of a rest
+module _ (kind : ℕ) (bytes buf rest : List ℕ) (a : length bytes < 256 ^ 8) (b : length buf < 256 ^ 8) where
+  abbrev s : List ℕ
+  s = encodedAs kind bytes buf ++ rest
+
+  abbrev h : CallHeader
+  h = record { kind = kind; incoming = length bytes; capacity = length buf }
+
+  -- behind the kind, behind the first length, behind both, behind the bytes
+  behind-kind : drop 1 s ≡ bigEndianBytes 8 (length bytes) ++ (bigEndianBytes 8 (length buf) ++ (bytes ++ (buf ++ rest)))
+  behind-kind = simp append-assoc
+
+  behind-first : drop 9 s ≡ bigEndianBytes 8 (length buf) ++ (bytes ++ (buf ++ rest))
+  behind-first = ap (drop 8) behind-kind ∙ drop-at (bigEndianBytes 8 (length bytes)) _ 8 (high-length 8 (length bytes))
+
+  behind-both : drop callHeaderSize s ≡ bytes ++ (buf ++ rest)
+  behind-both = sym (drop-drop 8 9 s) ∙ ap (drop 8) behind-first ∙ drop-at (bigEndianBytes 8 (length buf)) _ 8 (high-length 8 (length buf))
+
+  behind-bytes : drop (callBufferAt h) s ≡ buf ++ rest
+  behind-bytes = sym (drop-drop (length bytes) callHeaderSize s) ∙ ap (drop (length bytes)) behind-both ∙ drop-at bytes _ _ refl
+
+  behind-call : drop (callEnd h) s ≡ rest
+  behind-call = sym (drop-drop (length buf) (callBufferAt h) s) ∙ ap (drop (length buf)) behind-bytes ∙ drop-at buf rest _ refl
+
+  size : length s ≡ callEnd h + length rest
+  size = simp (length-append, high-length) (omega arith)
+
+  header : h ≡ callHeaderIn s
+  header =
+      let x : bigEndian (take 8 (drop 1 s)) ≡ length bytes =
+        ap (λ (l : List ℕ). bigEndian (take 8 l)) behind-kind ∙ ap bigEndian (take-at (bigEndianBytes 8 (length bytes)) _ 8 (high-length 8 (length bytes))) ∙ high-number 8 (length bytes) a in
+      let y : bigEndian (take 8 (drop 9 s)) ≡ length buf =
+        ap (λ (l : List ℕ). bigEndian (take 8 l)) behind-first ∙ ap bigEndian (take-at (bigEndianBytes 8 (length buf)) _ 8 (high-length 8 (length buf))) ∙ high-number 8 (length buf) b in
+      cc
+
+  call : callIn s h ≡ callBy kind bytes buf
+  call =
+      ap (λ (x : List ℕ). callBy kind x (take (length buf) (drop (callBufferAt h) s))) (ap (take (length bytes)) behind-both ∙ take-at bytes _ _ refl)
+      ∙ ap (callBy kind bytes) (ap (take (length buf)) behind-bytes ∙ take-at buf rest _ refl)
+
+  one-back : isCallKind kind (length bytes) ≡ true → callsOf s ≡ withCall (callBy kind bytes buf) (callsOf rest)
+  one-back k =
+      calls-call s (λ z. omega (arith, size)) h (front-call s h header (omega (arith, size)) k (le-leb (callEnd h) (length s) (omega (arith, size))))
+      ∙ ap (λ (c : Call). withCall c (callsOf (drop (callEnd h) s))) call ∙ ap (λ (l : List ℕ). withCall (callBy kind bytes buf) (callsOf l)) behind-call
+
+pub read-back : (cs : List Call) → SizedCalls cs → callsOf (encodedCalls cs) ≡ some cs
+unfolding encodedCalls isCallKind either both callBy if
+read-back [] z = calls-end [] refl
+read-back (start bytes buf ∷ cs) z = one-back 1 bytes buf (encodedCalls cs) (z .0 .0) (z .0 .1) refl ∙ ap (withCall (start bytes buf)) (read-back cs (z .1))
+read-back (answer card buf ∷ cs) z = one-back 2 card buf (encodedCalls cs) (z .0 .0) (z .0 .1) refl ∙ ap (withCall (answer card buf)) (read-back cs (z .1))
+read-back (link-failed buf ∷ cs) z = one-back 3 [] buf (encodedCalls cs) (omega arith) (z .0) refl ∙ ap (withCall (link-failed buf)) (read-back cs (z .1))
+read-back (stop buf ∷ cs) z = one-back 4 [] buf (encodedCalls cs) (omega arith) (z .0) refl ∙ ap (withCall (stop buf)) (read-back cs (z .1))

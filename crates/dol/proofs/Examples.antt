@@ -1,0 +1,141 @@
+-- Worked examples of lists and values, computed. Assumes nothing.
+use mathlib.Core.Path.{_≡_, refl}
+use mathlib.Core.List.{List, [], _∷_, map}
+use mathlib.Core.Option.{Option, some, none}
+use Prim.Native.Nat.{ℕ}
+use lib.ListN.{length, take, replicate}
+use Rattle.basics.specs.Recursion.{recurse, recurseBy}
+use Rattle.basics.specs.Choice.{if, both}
+use Rattle.basics.specs.Number.{bigEndianFrom}
+use Rattle.tlv.specs.Encoding.{lengthBytes}
+use Rattle.tlv.specs.Tag.{tagSize, tagSecondByte, tagThirdByte, tagAt}
+use Rattle.dictionary.specs.Rows.{formB, formN, formCn}
+use Rattle.store.specs.Place.{absent, present}
+use Rattle.dol.specs.Entries.{dolEntry, entryWithLength, dolEntryAt, entryBefore, entriesNext, dolEntries}
+use Rattle.dol.specs.Commands.{gpoCommandOf, generateAcOf, udolOrDefault, checksumCommandOf}
+use Rattle.dol.specs.Filling.{truncated, paddingByte, padded, fittedTo, valueBytes}
+
+-- ---- lists
+
+-- two entries, tags of two bytes and of one
+pub two-entries : dolEntries (0x9F ∷ 0x02 ∷ 6 ∷ 0x95 ∷ 5 ∷ []) ≡ some (dolEntry 0x9F02 6 ∷ dolEntry 0x95 5 ∷ [])
+unfolding dolEntries recurse recurseBy entriesNext dolEntryAt entryWithLength entryBefore tagAt tagSize tagSecondByte tagThirdByte bigEndianFrom if
+two-entries = refl
+
+-- a tag of three bytes
+pub three-bytes : dolEntries (0xDF ∷ 0x81 ∷ 0x23 ∷ 3 ∷ []) ≡ some (dolEntry 0xDF8123 3 ∷ [])
+unfolding dolEntries recurse recurseBy entriesNext dolEntryAt entryWithLength entryBefore tagAt tagSize tagSecondByte tagThirdByte bigEndianFrom if
+three-bytes = refl
+
+-- one length byte, and no long form
+pub plain-length : dolEntries (0x95 ∷ 0x81 ∷ []) ≡ some (dolEntry 0x95 129 ∷ [])
+unfolding dolEntries recurse recurseBy entriesNext dolEntryAt entryWithLength entryBefore tagAt tagSize tagSecondByte tagThirdByte bigEndianFrom if
+plain-length = refl
+
+-- broken: a first byte 00, a second byte 80, an end inside a tag, an end before the length
+pub first-00 : dolEntries (0 ∷ 0 ∷ []) ≡ none
+unfolding dolEntries recurse recurseBy entriesNext dolEntryAt entryWithLength entryBefore tagAt tagSize tagSecondByte tagThirdByte bigEndianFrom if
+first-00 = refl
+
+pub second-80 : dolEntries (0x9F ∷ 0x80 ∷ 2 ∷ []) ≡ none
+unfolding dolEntries recurse recurseBy entriesNext dolEntryAt entryWithLength entryBefore tagAt tagSize tagSecondByte tagThirdByte bigEndianFrom if
+second-80 = refl
+
+pub half-a-tag : dolEntries (0x95 ∷ 5 ∷ 0x9F ∷ []) ≡ none
+unfolding dolEntries recurse recurseBy entriesNext dolEntryAt entryWithLength entryBefore tagAt tagSize tagSecondByte tagThirdByte bigEndianFrom if
+half-a-tag = refl
+
+pub no-length : dolEntries (0x9F ∷ 0x02 ∷ []) ≡ none
+unfolding dolEntries recurse recurseBy entriesNext dolEntryAt entryWithLength entryBefore tagAt tagSize tagSecondByte tagThirdByte bigEndianFrom if
+no-length = refl
+
+-- padding in front of the first tag, behind the last length and between two entries
+pub padding-around : map dolEntries ((0 ∷ 0x9F ∷ 0x02 ∷ 6 ∷ []) ∷ (0x9F ∷ 0x02 ∷ 6 ∷ 0 ∷ []) ∷ (0 ∷ 0x95 ∷ 5 ∷ []) ∷ (0x95 ∷ 5 ∷ 0 ∷ []) ∷ (0x9F ∷ 0x02 ∷ 6 ∷ 0 ∷ 0x95 ∷ 5 ∷ []) ∷ [])
+    ≡ none ∷ none ∷ none ∷ none ∷ none ∷ []
+unfolding dolEntries recurse recurseBy entriesNext dolEntryAt entryWithLength entryBefore tagAt tagSize tagSecondByte tagThirdByte bigEndianFrom if
+padding-around = refl
+
+-- ---- values
+
+-- an amount keeps its right end, and grows at its left
+pub amount-2 : fittedTo formN 2 (0 ∷ 0 ∷ 0 ∷ 0 ∷ 0x12 ∷ 0x34 ∷ []) ≡ 0x12 ∷ 0x34 ∷ []
+unfolding fittedTo truncated padded paddingByte if
+amount-2 = refl
+
+pub amount-7 : fittedTo formN 7 (0 ∷ 0 ∷ 0 ∷ 0 ∷ 0x12 ∷ 0x34 ∷ []) ≡ 0 ∷ 0 ∷ 0 ∷ 0 ∷ 0 ∷ 0x12 ∷ 0x34 ∷ []
+unfolding fittedTo truncated padded paddingByte if
+amount-7 = refl
+
+-- result bits keep their left end, and grow at their right
+pub results-3 : fittedTo formB 3 (0x80 ∷ 0 ∷ 0 ∷ 0x80 ∷ 0 ∷ []) ≡ 0x80 ∷ 0 ∷ 0 ∷ []
+unfolding fittedTo truncated padded paddingByte if
+results-3 = refl
+
+pub results-6 : fittedTo formB 6 (0x80 ∷ 0 ∷ 0 ∷ 0x80 ∷ 0 ∷ []) ≡ 0x80 ∷ 0 ∷ 0 ∷ 0x80 ∷ 0 ∷ 0 ∷ []
+unfolding fittedTo truncated padded paddingByte if
+results-6 = refl
+
+-- a card number grows by FF, an empty one too; an absent one gives zeros
+pub number-4 : fittedTo formCn 4 (0x12 ∷ 0x3F ∷ []) ≡ 0x12 ∷ 0x3F ∷ 0xFF ∷ 0xFF ∷ []
+unfolding fittedTo truncated padded paddingByte if
+number-4 = refl
+
+pub number-empty : valueBytes formCn 3 (present []) ≡ 0xFF ∷ 0xFF ∷ 0xFF ∷ []
+unfolding fittedTo truncated padded paddingByte if
+number-empty = refl
+
+pub number-absent : valueBytes formCn 3 absent ≡ 0 ∷ 0 ∷ 0 ∷ []
+number-absent = refl
+
+-- ---- the limits of the three commands, each on both sides of its edge
+
+-- a command's front bytes and its length, by the length of the filled list
+abbrev edge : Option (List ℕ) → List ℕ
+edge none = []
+edge (some c) = length c ∷ take 8 c
+
+gpo-edge : ℕ → List ℕ
+gpo-edge n = edge (gpoCommandOf (some (replicate n 0xAA)))
+
+cryptogram-edge : ℕ → List ℕ
+cryptogram-edge n = edge (generateAcOf 0x40 (some (replicate n 0xAA)))
+
+-- processing options: a length of 127 stands in one byte, 128 behind 81; 252 filled bytes are carried, 253 are not
+gpo-edges : map gpo-edge (0 ∷ 127 ∷ 128 ∷ 252 ∷ 253 ∷ [])
+    ≡ (8 ∷ 0x80 ∷ 0xA8 ∷ 0 ∷ 0 ∷ 2 ∷ 0x83 ∷ 0 ∷ 0 ∷ [])
+    ∷ (135 ∷ 0x80 ∷ 0xA8 ∷ 0 ∷ 0 ∷ 129 ∷ 0x83 ∷ 127 ∷ 0xAA ∷ [])
+    ∷ (137 ∷ 0x80 ∷ 0xA8 ∷ 0 ∷ 0 ∷ 131 ∷ 0x83 ∷ 0x81 ∷ 128 ∷ [])
+    ∷ (261 ∷ 0x80 ∷ 0xA8 ∷ 0 ∷ 0 ∷ 255 ∷ 0x83 ∷ 0x81 ∷ 252 ∷ [])
+    ∷ []
+    ∷ []
+unfolding gpo-edge gpoCommandOf lengthBytes if
+gpo-edges = refl
+
+-- generate AC: 1 to 255 filled bytes are carried
+cryptogram-edges : map cryptogram-edge (0 ∷ 1 ∷ 255 ∷ 256 ∷ [])
+    ≡ []
+    ∷ (7 ∷ 0x80 ∷ 0xAE ∷ 0x40 ∷ 0 ∷ 1 ∷ 0xAA ∷ 0 ∷ [])
+    ∷ (261 ∷ 0x80 ∷ 0xAE ∷ 0x40 ∷ 0 ∷ 255 ∷ 0xAA ∷ 0xAA ∷ 0xAA ∷ [])
+    ∷ []
+    ∷ []
+unfolding cryptogram-edge generateAcOf both if
+cryptogram-edges = refl
+
+-- compute cryptographic checksum: the same
+checksum-edge : ℕ → List ℕ
+checksum-edge n = edge (checksumCommandOf (some (replicate n 0xAA)))
+
+checksum-edges : map checksum-edge (0 ∷ 1 ∷ 255 ∷ 256 ∷ [])
+    ≡ []
+    ∷ (7 ∷ 0x80 ∷ 0x2A ∷ 0x8E ∷ 0x80 ∷ 1 ∷ 0xAA ∷ 0 ∷ [])
+    ∷ (261 ∷ 0x80 ∷ 0x2A ∷ 0x8E ∷ 0x80 ∷ 255 ∷ 0xAA ∷ 0xAA ∷ 0xAA ∷ [])
+    ∷ []
+    ∷ []
+unfolding checksum-edge checksumCommandOf if both
+checksum-edges = refl
+
+-- no list and an empty one are the default; one that has bytes is itself, broken or not
+checksum-lists : map udolOrDefault ([] ∷ (0x9F ∷ 0x6A ∷ 0x02 ∷ 0x95 ∷ 0x05 ∷ []) ∷ (0x9F ∷ 0x6A ∷ []) ∷ [])
+    ≡ (0x9F ∷ 0x6A ∷ 0x04 ∷ []) ∷ (0x9F ∷ 0x6A ∷ 0x02 ∷ 0x95 ∷ 0x05 ∷ []) ∷ (0x9F ∷ 0x6A ∷ []) ∷ []
+unfolding udolOrDefault
+checksum-lists = refl

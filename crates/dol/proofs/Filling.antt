@@ -1,0 +1,106 @@
+-- Filling a list: an entry's bytes by what its tag is, and what joins and measures a filling, by induction over the entries.
+-- Assumes nothing.
+use mathlib.Core.Path.{_≡_, refl, sym, ap, ap₂, _∙_}
+use mathlib.Core.Bool.{true, false}
+use mathlib.Core.List.{List, [], _∷_, _++_, append-assoc}
+use mathlib.Core.Option.{Option, some, none}
+use Prim.Native.Nat.{ℕ, _+_}
+use native.Mathlib.Omega.{arith}
+use lib.ListN.{length, length-append, length-replicate}
+use Rattle.basics.proofs.Laws.{if-yes, if-no, if-ind}
+use Rattle.tlv.specs.Tag.{isTemplate}
+use Rattle.dictionary.specs.Rows.{Row, rowIn, findRow}
+use Rattle.dictionary.specs.declared.RowFound.{RowFound}
+use Rattle.dictionary.specs.declared.RowFound.the-variants.{At, Unknown}
+use Rattle.store.specs.Place.{StoredValue, absent, present, bytesOfValue, isPresent, rowValue}
+use Rattle.dol.specs.declared.DolEntry.{DolEntry}
+use Rattle.dol.specs.Entries.{dolEntries, dolTotalLength}
+use Rattle.dol.specs.Filling.{fillZeros, fittedTo, valueBytes, foundRowBytes, dolEntryBytes, dolData, dolDataBy, dolFilled}
+use Rattle.dol.proofs.Fitting.{fitted-length}
+use Rattle.dol.proofs.Entries.{entries-end, entries-join}
+
+-- ---- an entry's bytes by what its tag is
+
+module _ (table : List Row) (store : List ℕ) (e : DolEntry) where
+  pub of-template : isTemplate (e .tag) ≡ true → dolEntryBytes table store e ≡ fillZeros (e .asked)
+  unfolding dolEntryBytes
+  of-template t = if-yes _ _ t
+
+  of-primitive : (x : RowFound) → isTemplate (e .tag) ≡ false → findRow table (e .tag) ≡ x → dolEntryBytes table store e ≡ foundRowBytes table store (e .asked) x
+  unfolding dolEntryBytes
+  of-primitive x t p = if-no _ _ t ∙ ap (foundRowBytes table store (e .asked)) p
+
+  pub of-unknown : isTemplate (e .tag) ≡ false → findRow table (e .tag) ≡ Unknown → dolEntryBytes table store e ≡ fillZeros (e .asked)
+  of-unknown t p = of-primitive Unknown t p
+
+  module _ (k : ℕ) (t : isTemplate (e .tag) ≡ false) (p : findRow table (e .tag) ≡ At k) where
+    by-value : (x : StoredValue) → rowValue table store k ≡ x → dolEntryBytes table store e ≡ valueBytes (rowIn table k .form) (e .asked) x
+    by-value x q = of-primitive (At k) t p ∙ ap (valueBytes (rowIn table k .form) (e .asked)) q
+
+    pub of-absent : isPresent (rowValue table store k) ≡ false → dolEntryBytes table store e ≡ fillZeros (e .asked)
+    of-absent q = go (rowValue table store k) refl q
+      where
+        go : (x : StoredValue) → rowValue table store k ≡ x → isPresent x ≡ false → dolEntryBytes table store e ≡ fillZeros (e .asked)
+        go absent r a = by-value absent r
+        go (present v) r a = cc
+
+    pub of-present : isPresent (rowValue table store k) ≡ true → dolEntryBytes table store e ≡ fittedTo (rowIn table k .form) (e .asked) (bytesOfValue (rowValue table store k))
+    of-present q = go (rowValue table store k) refl q
+      where
+        go : (x : StoredValue) → rowValue table store k ≡ x → isPresent x ≡ true → dolEntryBytes table store e ≡ fittedTo (rowIn table k .form) (e .asked) (bytesOfValue (rowValue table store k))
+        go absent r a = cc
+        go (present v) r a = by-value (present v) r ∙ ap (λ (x : StoredValue). fittedTo (rowIn table k .form) (e .asked) (bytesOfValue x)) (sym r)
+
+-- ---- lengths
+
+module _ (table : List Row) (store : List ℕ) where
+  value-length : (form n : ℕ) (x : StoredValue) → length (valueBytes form n x) ≡ n
+  value-length form n absent = length-replicate n 0
+  value-length form n (present v) = fitted-length form n v
+
+  found-length : (n : ℕ) (x : RowFound) → length (foundRowBytes table store n x) ≡ n
+  found-length n Unknown = length-replicate n 0
+  found-length n (At k) = value-length (rowIn table k .form) n (rowValue table store k)
+
+  -- an entry's bytes are as many as it asks for
+  pub entry-length : (e : DolEntry) → length (dolEntryBytes table store e) ≡ e .asked
+  unfolding dolEntryBytes
+  entry-length e =
+      if-ind (λ (l : List ℕ). length l ≡ e .asked) (isTemplate (e .tag)) _ _
+      (λ _. length-replicate (e .asked) 0) (λ _. found-length (e .asked) (findRow table (e .tag)))
+
+  -- a filling has as many bytes as are asked in all
+  pub filling-length : (es : List DolEntry) → length (dolData table store es) ≡ dolTotalLength es
+  unfolding dolData dolTotalLength
+  filling-length [] = refl
+  filling-length (e ∷ es) = length-append (dolEntryBytes table store e) _ ∙ ap₂ _+_ (entry-length e) (filling-length es)
+
+  -- ---- one list behind another
+
+  pub filling-join : (es fs : List DolEntry) → dolData table store (es ++ fs) ≡ dolData table store es ++ dolData table store fs
+  unfolding dolData
+  filling-join [] fs = refl
+  filling-join (e ∷ es) fs =
+      ap (λ (r : List ℕ). dolEntryBytes table store e ++ r) (filling-join es fs) ∙ sym (append-assoc (dolEntryBytes table store e) _ _)
+
+  pub filled-some : (x : Option (List DolEntry)) (es : List DolEntry) → x ≡ some es → dolDataBy table store x ≡ some (dolData table store es)
+  unfolding dolDataBy
+  filled-some x es p = rw p
+
+  -- where a filling is, there are its entries
+  filled-entries : (x : Option (List DolEntry)) (v : List ℕ) → dolDataBy table store x ≡ some v → (es : List DolEntry) × (x ≡ some es) × (dolData table store es ≡ v)
+  unfolding dolDataBy
+  filled-entries none v p = let z : _≡_ {A = ℕ} 0 1 = cc in absurd (omega arith)
+  filled-entries (some es) v p = let e : dolData table store es ≡ v = cc in (es, refl, e)
+
+  -- the filling of two whole lists, one behind the other, is the one filling behind the other
+  pub filled-join : (s t v w : List ℕ) → dolFilled table store s ≡ some v → dolFilled table store t ≡ some w → dolFilled table store (s ++ t) ≡ some (v ++ w)
+  filled-join s t v w p q =
+      let a = filled-entries (dolEntries s) v p in
+      let b = filled-entries (dolEntries t) w q in
+      filled-some _ _ (entries-join s t (a .0) (b .0) (a .1) (b .1)) ∙ ap some (filling-join (a .0) (b .0) ∙ ap₂ _++_ (a .2) (b .2))
+
+  -- nothing is asked, nothing is filled
+  pub filled-nothing : dolFilled table store [] ≡ some []
+  unfolding dolData
+  filled-nothing = filled-some _ [] (entries-end [] refl)

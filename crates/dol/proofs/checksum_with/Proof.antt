@@ -1,0 +1,78 @@
+-- `checksum_with`: a list that measures has a filling of that length, which goes in from place 5 on and is then closed.
+-- Assumes nothing.
+use mathlib.Core.Path.{_≡_, refl, sym, ap, _∙_}
+use mathlib.Core.List.{List}
+use Prim.Native.Nat.{ℕ, _+_, _<_}
+use native.Mathlib.Omega.{arith}
+use lib.ListN.{length}
+use borrow.Author.Needs.{needs}
+use Rattle.dictionary.specs.Rows.{dictionaryRows}
+use Rattle.dol.specs.Entries.{dolEntries}
+use Rattle.dol.specs.Filling.{dolFilled}
+use Rattle.dol.specs.Commands.{checksumCommandWith, checksumCommandOf, commandWith}
+use Rattle.dol.specs.Inner.{writtenOver}
+use Rattle.dol.proofs.Buffer.{over-some}
+use Rattle.dol.proofs.Parts.{Fills, fills, unfit, checksum-broken, checksum-empty, checksum-long, checksum-some, command-length, command-front, none-written, some-written}
+use Rattle.dol.proofs.checksum_with.Statement.{statement}
+use Rattle.dol.proofs.checksum_with.Tie as tie
+
+-- a measured list's filling
+filling : (c : tie.After-measured)
+    → let a = c .before .before .before .before .before .before .args in
+    Fills dictionaryRows (a .store .now) (dolEntries (a .list .now)) (c .measured .given .0 .0)
+filling c = fills dictionaryRows _ _ _ (sym (c .before .before .measure .ensures) ∙ c .measured .given .1)
+
+with-is : (list store : List ℕ) → checksumCommandWith list store ≡ checksumCommandOf (dolFilled dictionaryRows store list)
+unfolding checksumCommandWith
+with-is list store = refl
+
+returns : tie.Need-returns
+returns c =
+    let a = c .before .before .before .before .before .before .args in
+    let p = sym (c .before .before .measure .ensures) ∙ c .enum-told .given .1 in
+    none-written (checksumCommandWith (a .list .now) (a .store .now)) (a .buffer .now)
+    (with-is (a .list .now) (a .store .now) ∙ unfit dictionaryRows (a .store .now) _ checksumCommandOf checksum-broken checksum-long p)
+
+returns-2 : tie.Need-returns-2
+returns-2 c =
+    let a = c .before .before .before .before .before .before .before .before .args in
+    let f = filling (c .before .before) in
+    none-written (checksumCommandWith (a .list .now) (a .store .now)) (a .buffer .now)
+    (with-is (a .list .now) (a .store .now) ∙ ap checksumCommandOf (f .is) ∙ checksum-empty (f .bytes) (f .long ∙ c .if1 .taken))
+
+fill-requires : tie.Need-fill-requires
+fill-requires c κs = filling (c .before .before .before) .room _ _ (let f = filling (c .before .before .before) in omega arith)
+
+close-requires : tie.Need-close-requires
+close-requires c κs = let f = filling (c .before .before .before .before .before .before .before) in (omega arith, omega arith, omega arith)
+
+returns-3 : tie.Need-returns-3
+returns-3 c =
+    let st = c .before .before .before .before .before .before .before .before .before .before .before .before .before .before .before .before in
+    let a = st .args in
+    let f = filling (c .before .before .before .before .before .before .before .before .before .before) in
+    let n = c .before .before .before .before .before .before .before .before .before .before .measured .given .0 .0 in
+    let cl = c .before .before .close in
+    let h : 5 + length (f .bytes) < length (a .buffer .now) = omega (arith, st .pre, f .long, f .few) in
+    let e : 5 + n ≡ 5 + length (f .bytes) = omega (arith, f .long) in
+    let y : c .before .before .before .before .before .before .fill .last .1 .1 .0 ≡ writtenOver (a .buffer .now) 5 (f .bytes) = c .before .before .before .before .before .before .fill .ensures ∙ over-some _ _ _ _ (f .is) in
+    some-written (checksumCommandWith (a .list .now) (a .store .now)) (commandWith 0x2A 0x8E 0x80 (f .bytes)) (a .buffer .now) _ (cl .result)
+    (with-is (a .list .now) (a .store .now) ∙ ap checksumCommandOf (f .is)
+    ∙ checksum-some (f .bytes) (omega (arith, c .before .before .before .before .before .before .before .before .if1 .left, f .long)) (omega (arith, f .long, f .few)))
+    (cl .ensures .0 ∙ command-length 0x2A 0x8E 0x80 (a .buffer .now) (f .bytes) (5 + n) h e)
+    (command-front 0x2A 0x8E 0x80 (a .buffer .now) (f .bytes) (5 + n) h e _ _ y (cl .ensures .1))
+
+pub checksum-with-spec : {M : Type 1} → statement M
+checksum-with-spec =
+    tie.close
+    (tie.spec
+    (λ c κs. search needs)
+    (λ c. search needs)
+    (λ c. search needs)
+    returns
+    returns-2
+    fill-requires
+    (λ c. let f = filling (c .before .before .before .before .before .before .before) in omega arith)
+    close-requires
+    (λ c. search needs)
+    returns-3)

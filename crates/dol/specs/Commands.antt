@@ -1,0 +1,113 @@
+-- The commands that carry a filled list: processing options and generate AC (document 01, "Commands and steps"), and
+-- compute cryptographic checksum (document 02, Item 9; Book C-2, 5.2).
+-- Assumes nothing.
+use mathlib.Core.List.{List, [], _∷_, _++_}
+use mathlib.Core.Option.{Option, some, none}
+use Prim.Native.Nat.{ℕ}
+use lib.ListN.{length}
+use Rattle.basics.specs.Choice.{if_then_else_, _and_, _≤?_}
+use Rattle.basics.specs.Front.{withPrefix}
+use Rattle.basics.specs.Reason.{reasonNone, reasonDol}
+use Rattle.tlv.specs.Encoding.{lengthBytes}
+use Rattle.dictionary.specs.Rows.{dictionaryRows}
+use Rattle.store.specs.Place.{bytesOfValue, objectValue}
+use Rattle.dol.specs.declared.DolCommand.{DolCommand}
+use Rattle.dol.specs.declared.DolCommand.the-variants.{Command, NoCommand}
+use Rattle.dol.specs.Filling.{dolFilled}
+
+-- a command of class 80: instruction, P1, P2, Lc, data, Le of 00
+abbrev pub commandWith : ℕ → ℕ → ℕ → List ℕ → List ℕ
+commandWith ins p1 p2 body = 0x80 ∷ ins ∷ p1 ∷ p2 ∷ length body ∷ (body ++ (0 ∷ []))
+
+-- one of P2 00
+abbrev pub commandP2Zero : ℕ → ℕ → List ℕ → List ℕ
+commandP2Zero ins p1 body = commandWith ins p1 0 body
+
+-- ---- processing options
+
+-- tag 83, and the length in one byte to 127, in 81 and a byte above
+abbrev pub gpoDataHead : ℕ → List ℕ
+gpoDataHead n = 0x83 ∷ lengthBytes n
+
+-- then the filled list
+abbrev pub gpoData : List ℕ → List ℕ
+gpoData v = gpoDataHead (length v) ++ v
+
+-- no command for a broken list or over 252 filled bytes
+unfoldable pub gpoCommandOf : Option (List ℕ) → Option (List ℕ)
+gpoCommandOf none = none
+gpoCommandOf (some v) =
+    if length v ≤? 252 then some (commandP2Zero 0xA8 0 (gpoData v))
+    else none
+
+-- the command that a store gives; an absent 9F38 counts as an empty one
+unfoldable pub getProcessingOptions : List ℕ → Option (List ℕ)
+getProcessingOptions store = gpoCommandOf (dolFilled dictionaryRows store (bytesOfValue (objectValue store 0x9F38)))
+
+-- ---- generate AC
+
+-- a list that is broken, or that fills to no byte or to more than 255, makes no command
+unfoldable pub generateAcOf : ℕ → Option (List ℕ) → Option (List ℕ)
+generateAcOf p1 none = none
+generateAcOf p1 (some v) =
+    if 1 ≤? length v and length v ≤? 255 then some (commandP2Zero 0xAE p1 v)
+    else none
+
+-- the command that a store gives, with the type asked for in P1
+unfoldable pub generateAc : ℕ → List ℕ → Option (List ℕ)
+generateAc p1 store = generateAcOf p1 (dolFilled dictionaryRows store (bytesOfValue (objectValue store 0x8C)))
+
+-- ---- compute cryptographic checksum
+
+-- the list 9F69, or the default one where it is absent or empty: 9F6A in four bytes (Book C-2, Default UDOL)
+unfoldable pub udolOrDefault : List ℕ → List ℕ
+udolOrDefault [] = 0x9F ∷ 0x6A ∷ 0x04 ∷ []
+udolOrDefault (x ∷ l) = x ∷ l
+
+-- P1 8E and P2 80; no command as for generate AC
+unfoldable pub checksumCommandOf : Option (List ℕ) → Option (List ℕ)
+checksumCommandOf none = none
+checksumCommandOf (some v) =
+    if 1 ≤? length v and length v ≤? 255 then some (commandWith 0x2A 0x8E 0x80 v)
+    else none
+
+-- the command with a list filled from a store
+unfoldable pub checksumCommandWith : List ℕ → List ℕ → Option (List ℕ)
+checksumCommandWith list store = checksumCommandOf (dolFilled dictionaryRows store list)
+
+-- the command that a store gives
+unfoldable pub computeCryptographicChecksum : List ℕ → Option (List ℕ)
+computeCryptographicChecksum store = checksumCommandWith (udolOrDefault (bytesOfValue (objectValue store 0x9F69))) store
+
+-- ---- handed back
+
+-- a command of n bytes
+abbrev pub commandOfLength : ℕ → DolCommand
+commandOfLength n = Command (record { len = n })
+
+-- a command hands back its length
+abbrev pub dolCommandOf : Option (List ℕ) → DolCommand
+dolCommandOf none = NoCommand
+dolCommandOf (some c) = commandOfLength (length c)
+
+-- the number of what is handed back (document 01, "Calls and their numbers"): 0 with a command, else 7, a list that is
+-- broken or fills to no command
+abbrev pub dolCommandReason : DolCommand → ℕ
+dolCommandReason (Command c) = reasonNone
+dolCommandReason NoCommand = reasonDol
+
+-- the reason that a list gives: none where it makes a command
+abbrev pub dolReason : Option (List ℕ) → ℕ
+dolReason none = reasonDol
+dolReason (some c) = reasonNone
+
+-- the buffer with the command in its front, or as it was where there is none
+abbrev pub bufferWithCommand : Option (List ℕ) → List ℕ → List ℕ
+bufferWithCommand none b = b
+bufferWithCommand (some c) b = withPrefix c b
+
+-- ---- what holds of it, proved in proofs/Commands for all stores
+--   options-proper, cryptogram-proper    a command has 5 to 261 bytes and begins with 80 A8, or 80 AE;
+--   checksum-proper                      or 80 2A
+--   options-absent, options-empty        without 9F38, or with an empty one, it is 80 A8 00 00 02 83 00 00
+--   options-bytes, cryptogram-bytes, checksum-bytes    from a store of bytes it is bytes

@@ -1,0 +1,329 @@
+// Data object lists: a list that names tags and lengths is filled from a store, and the three commands
+// that carry a filled list are written into a lent buffer.
+//
+// `get_processing_options`, `generate_ac` and `compute_cryptographic_checksum` measure the list first, so that a buffer is touched only
+// where a command is handed out. The bytes behind the command stay.
+use dictionary::ROWS;
+use dictionary::RowFound;
+use tlv::TagFront;
+ghost use mathlib.Core.Path.{_≡_};
+ghost use Prim.Native.Nat.{_+_, _-_, _≤_, _<_};
+ghost use lib.ListN.{length, take, drop, replicate};
+ghost use Rattle.dictionary.specs.Rows.{dictionaryRows};
+ghost use Rattle.dictionary.specs.Tables.{TablesGiven};
+ghost use Rattle.dol.specs.Entries.{dolEntryAt, dolEntries};
+ghost use Rattle.dol.specs.Filling.{truncated, paddingByte, padded, fittedTo, dolEntryBytes, dolFilled};
+ghost use Rattle.dol.specs.Commands.{commandWith, gpoDataHead, getProcessingOptions, generateAc, checksumCommandWith, computeCryptographicChecksum, commandOfLength, dolCommandOf, dolCommandReason, dolReason, bufferWithCommand};
+ghost use Rattle.dol.specs.Inner.{dolMeasured, DolFits, writtenOver, dolWrittenOver};
+
+// A command at the front of the buffer: how many bytes it has.
+pub struct DolCommandSize {
+    pub len: usize,
+}
+
+// What a call wrote: a command, or nothing.
+pub enum DolCommand {
+    Command(DolCommandSize),
+    NoCommand,
+}
+
+// An entry of a list: the tag, and how many bytes are asked of it.
+pub struct DolEntry {
+    pub tag: u32,
+    pub asked: u8,
+}
+
+// What stands at the front of a list: an entry and its size in the list, or none.
+pub enum DolEntryFront {
+    Asked(DolEntry, usize),
+    Broken,
+}
+
+// How many bytes a list asks for: a total of at most 255, or a list that is broken or asks for more.
+pub enum DolTotal {
+    Total(usize),
+    Unfit,
+}
+
+// The command processing options, with the filled list 9F38 that the store holds.
+pub fn get_processing_options(store: &[u8], buffer: &mut [u8]) -> DolCommand
+    requires { ⌜ 261 ≤ length (now buffer) ⌝ }
+    ensures said { λ r. ⌜ r ≡ dolCommandOf (getProcessingOptions (now (store .entry))) ⌝ }
+    ensures kept { λ _. ⌜ now (buffer .exit) ≡ bufferWithCommand (getProcessingOptions (now (store .entry))) (now (buffer .entry)) ⌝ }
+    ensures reason { λ r. ⌜ dolCommandReason r ≡ dolReason (getProcessingOptions (now (store .entry))) ⌝ }
+{
+    let list = store::value(store, dictionary::ROW_PDOL);
+    let measured = measure(list);
+    let DolTotal::Total(n) = measured else {
+        return DolCommand::NoCommand;
+    };
+    if 252 < n {
+        return DolCommand::NoCommand;
+    }
+    let at = gpo_head(n, buffer);
+    fill(list, store, buffer, at);
+    close(0xA8, 0, 0, buffer, at + n)
+}
+
+// The command generate AC, with the filled list 8C that the store holds; P1 says which cryptogram.
+pub fn generate_ac(store: &[u8], p1: u8, buffer: &mut [u8]) -> DolCommand
+    requires { ⌜ 261 ≤ length (now buffer) ⌝ }
+    ensures said { λ r. ⌜ r ≡ dolCommandOf (generateAc p1 (now (store .entry))) ⌝ }
+    ensures kept { λ _. ⌜ now (buffer .exit) ≡ bufferWithCommand (generateAc p1 (now (store .entry))) (now (buffer .entry)) ⌝ }
+    ensures reason { λ r. ⌜ dolCommandReason r ≡ dolReason (generateAc p1 (now (store .entry))) ⌝ }
+{
+    let list = store::value(store, dictionary::ROW_CDOL1);
+    let measured = measure(list);
+    let DolTotal::Total(n) = measured else {
+        return DolCommand::NoCommand;
+    };
+    if n == 0 {
+        return DolCommand::NoCommand;
+    }
+    fill(list, store, buffer, 5);
+    close(0xAE, p1, 0, buffer, 5 + n)
+}
+
+// The command compute cryptographic checksum, with the filled list 9F69 that the store holds; where it is absent or
+// empty, with the default list.
+pub fn compute_cryptographic_checksum(store: &[u8], buffer: &mut [u8]) -> DolCommand
+    requires { ⌜ 261 ≤ length (now buffer) ⌝ }
+    ensures said { λ r. ⌜ r ≡ dolCommandOf (computeCryptographicChecksum (now (store .entry))) ⌝ }
+    ensures kept { λ _. ⌜ now (buffer .exit) ≡ bufferWithCommand (computeCryptographicChecksum (now (store .entry))) (now (buffer .entry)) ⌝ }
+    ensures reason { λ r. ⌜ dolCommandReason r ≡ dolReason (computeCryptographicChecksum (now (store .entry))) ⌝ }
+{
+    let list = store::value(store, dictionary::ROW_UDOL);
+    if list.len() != 0 {
+        return checksum_with(list, store, buffer);
+    }
+    let default = [0x9F, 0x6A, 0x04];
+    checksum_with(&default, store, buffer)
+}
+
+// The same with a list.
+fn checksum_with(list: &[u8], store: &[u8], buffer: &mut [u8]) -> DolCommand
+    requires { ⌜ 261 ≤ length (now buffer) ⌝ }
+    ensures said { λ r. ⌜ r ≡ dolCommandOf (checksumCommandWith (now (list .entry)) (now (store .entry))) ⌝ }
+    ensures kept { λ _. ⌜ now (buffer .exit) ≡ bufferWithCommand (checksumCommandWith (now (list .entry)) (now (store .entry))) (now (buffer .entry)) ⌝ }
+    ensures reason { λ r. ⌜ dolCommandReason r ≡ dolReason (checksumCommandWith (now (list .entry)) (now (store .entry))) ⌝ }
+{
+    let measured = measure(list);
+    let DolTotal::Total(n) = measured else {
+        return DolCommand::NoCommand;
+    };
+    if n == 0 {
+        return DolCommand::NoCommand;
+    }
+    fill(list, store, buffer, 5);
+    close(0x2A, 0x8E, 0x80, buffer, 5 + n)
+}
+
+// Writes the tag 83 and the length of n filled bytes at place 5; the place behind them.
+fn gpo_head(n: usize, buffer: &mut [u8]) -> usize
+    requires { ⌜ (n < 256) × (261 ≤ length (now buffer)) ⌝ }
+    ensures next { λ r. ⌜ r ≡ 5 + length (gpoDataHead n) ⌝ }
+    ensures kept { λ _. ⌜ now (buffer .exit) ≡ writtenOver (now (buffer .entry)) 5 (gpoDataHead n) ⌝ }
+{
+    buffer[5] = 0x83;
+    if n < 128 {
+        buffer[6] = n as u8;
+        return 7;
+    }
+    buffer[6] = 0x81;
+    buffer[7] = n as u8;
+    8
+}
+
+// Closes a command whose data stands from place 5 up to `end`: the header before it, and 00 behind it.
+fn close(ins: u8, p1: u8, p2: u8, buffer: &mut [u8], end: usize) -> DolCommand
+    requires { ⌜ (5 ≤ end) × (end ≤ 260) × (261 ≤ length (now buffer)) ⌝ }
+    ensures said { λ r. ⌜ r ≡ commandOfLength (end + 1) ⌝ }
+    ensures kept { λ _. ⌜ now (buffer .exit) ≡ writtenOver (now (buffer .entry)) 0 (commandWith ins p1 p2 (take (end - 5) (drop 5 (now (buffer .entry))))) ⌝ }
+{
+    buffer[0] = 0x80;
+    buffer[1] = ins;
+    buffer[2] = p1;
+    buffer[3] = p2;
+    buffer[4] = (end - 5) as u8;
+    buffer[end] = 0;
+    DolCommand::Command(DolCommandSize { len: end + 1 })
+}
+
+// How many bytes a list asks for.
+fn measure(list: &[u8]) -> DolTotal
+    ensures { λ r. ⌜ r ≡ dolMeasured (dolEntries (now (list .entry))) ⌝ }
+{
+    let mut rest = list;
+    let mut total = 0;
+    while rest.len() != 0 {
+        let front = entry_at(rest);
+        let DolEntryFront::Asked(entry, size) = front else {
+            return DolTotal::Unfit;
+        };
+        total += basics::widen(entry.asked);
+        if 255 < total {
+            return DolTotal::Unfit;
+        }
+        rest = &rest[size..];
+    }
+    DolTotal::Total(total)
+}
+
+// Writes the filling of a whole list from a place on.
+fn fill(list: &[u8], store: &[u8], buffer: &mut [u8], at: usize)
+    requires { ⌜ DolFits (dolEntries (now list)) at (length (now buffer)) ⌝ }
+    ensures { λ _. ⌜ now (buffer .exit) ≡ dolWrittenOver (now (buffer .entry)) at (dolFilled dictionaryRows (now (store .entry)) (now (list .entry))) ⌝ }
+{
+    let tags = dictionary::tags();
+    let codes = dictionary::codes();
+    fill_entries(list, store, buffer, at, &tags, &codes);
+}
+
+// The same with the table lent: entry by entry.
+fn fill_entries(
+    list: &[u8],
+    store: &[u8],
+    buffer: &mut [u8],
+    at: usize,
+    tags: &[u32; ROWS],
+    codes: &[u32; ROWS],
+)
+    requires { ⌜ DolFits (dolEntries (now list)) at (length (now buffer)) ⌝ }
+    requires { ⌜ TablesGiven (now tags) (now codes) ⌝ }
+    ensures { λ _. ⌜ now (buffer .exit) ≡ dolWrittenOver (now (buffer .entry)) at (dolFilled dictionaryRows (now (store .entry)) (now (list .entry))) ⌝ }
+{
+    let mut rest = list;
+    let mut to = at;
+    while rest.len() != 0 {
+        let front = entry_at(rest);
+        let DolEntryFront::Asked(entry, size) = front else {
+            return;
+        };
+        write_entry(entry, store, buffer, to, tags, codes);
+        to += basics::widen(entry.asked);
+        rest = &rest[size..];
+    }
+}
+
+// The entry at the front of a list.
+fn entry_at(list: &[u8]) -> DolEntryFront
+    ensures { λ r. ⌜ r ≡ dolEntryAt (now (list .entry)) ⌝ }
+{
+    let front = tlv::tag_at(list);
+    let TagFront::Tagged(t) = front else {
+        return DolEntryFront::Broken;
+    };
+    let size = t.size;
+    if size < list.len() {
+        return DolEntryFront::Asked(
+            DolEntry {
+                tag: t.number,
+                asked: list[size],
+            },
+            size + 1,
+        );
+    }
+    DolEntryFront::Broken
+}
+
+// Writes an entry's bytes.
+fn write_entry(
+    entry: DolEntry,
+    store: &[u8],
+    buffer: &mut [u8],
+    at: usize,
+    tags: &[u32; ROWS],
+    codes: &[u32; ROWS],
+)
+    requires { ⌜ at + entry .asked ≤ length (now buffer) ⌝ }
+    requires { ⌜ TablesGiven (now tags) (now codes) ⌝ }
+    ensures { λ _. ⌜ now (buffer .exit) ≡ writtenOver (now (buffer .entry)) at (dolEntryBytes dictionaryRows (now (store .entry)) entry) ⌝ }
+{
+    let n = basics::widen(entry.asked);
+    if tlv::is_template(entry.tag) {
+        repeat(0, n, buffer, at);
+        return;
+    }
+    let found = dictionary::search(tags, entry.tag).found;
+    let RowFound::At(row) = found else {
+        repeat(0, n, buffer, at);
+        return;
+    };
+    if !store::is_there(store, row) {
+        repeat(0, n, buffer, at);
+        return;
+    }
+    let attributes = dictionary::unpacked(codes[row]);
+    write_value(attributes.form, n, store::value(store, row), buffer, at);
+}
+
+// Writes a value as the n bytes asked.
+fn write_value(form: u8, n: usize, v: &[u8], buffer: &mut [u8], at: usize)
+    requires { ⌜ at + n ≤ length (now buffer) ⌝ }
+    ensures { λ _. ⌜ now (buffer .exit) ≡ writtenOver (now (buffer .entry)) at (fittedTo form n (now (v .entry))) ⌝ }
+{
+    if n <= v.len() {
+        write_truncated(form, n, v, buffer, at);
+    } else {
+        write_padded(form, n, v, buffer, at);
+    }
+}
+
+// Writes the part of a value that is left where fewer bytes are asked.
+fn write_truncated(form: u8, n: usize, v: &[u8], buffer: &mut [u8], at: usize)
+    requires { ⌜ (n ≤ length (now v)) × (at + n ≤ length (now buffer)) ⌝ }
+    ensures { λ _. ⌜ now (buffer .exit) ≡ writtenOver (now (buffer .entry)) at (truncated form n (now (v .entry))) ⌝ }
+{
+    if form == dictionary::FORM_N {
+        let from = v.len() - n;
+        place(&v[from..], buffer, at);
+        return;
+    }
+    place(&v[..n], buffer, at);
+}
+
+// Writes a value and what it gains where more bytes are asked.
+fn write_padded(form: u8, n: usize, v: &[u8], buffer: &mut [u8], at: usize)
+    requires { ⌜ (length (now v) ≤ n) × (at + n ≤ length (now buffer)) ⌝ }
+    ensures { λ _. ⌜ now (buffer .exit) ≡ writtenOver (now (buffer .entry)) at (padded form n (now (v .entry))) ⌝ }
+{
+    let gap = n - v.len();
+    if form != dictionary::FORM_N {
+        place(v, buffer, at);
+        repeat(padding_byte(form), gap, buffer, at + v.len());
+        return;
+    }
+    repeat(0, gap, buffer, at);
+    place(v, buffer, at + gap);
+}
+
+// The byte that a value grows by at its end.
+fn padding_byte(form: u8) -> u8
+    ensures { λ r. ⌜ r ≡ paddingByte form ⌝ }
+{
+    if form == dictionary::FORM_CN {
+        return 0xFF;
+    }
+    0
+}
+
+// Writes bytes into the buffer from a place on.
+fn place(v: &[u8], buffer: &mut [u8], at: usize)
+    requires { ⌜ at + length (now v) ≤ length (now buffer) ⌝ }
+    ensures { λ _. ⌜ now (buffer .exit) ≡ writtenOver (now (buffer .entry)) at (now (v .entry)) ⌝ }
+{
+    let e = at + v.len();
+    bytes::copy(v, &mut buffer[at..e]);
+}
+
+// Writes one byte n times from a place on.
+fn repeat(byte: u8, n: usize, buffer: &mut [u8], at: usize)
+    requires { ⌜ at + n ≤ length (now buffer) ⌝ }
+    ensures { λ _. ⌜ now (buffer .exit) ≡ writtenOver (now (buffer .entry)) at (replicate n byte) ⌝ }
+{
+    let mut i = 0;
+    while i < n {
+        buffer[at + i] = byte;
+        i += 1;
+    }
+}

@@ -1,0 +1,4 @@
+pub mod Track
+pub mod Bitmap
+pub mod Digits
+pub mod OtherDigits

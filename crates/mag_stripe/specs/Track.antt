@@ -1,0 +1,45 @@
+-- Track 2 Data, 9F6B (document 02, Item 9; Book C-2, A.1.178): where its discretionary data stand. A track is any list
+-- of bytes, read as nibbles, high one first. Behind the account number come the separator D, four nibbles of the expiry
+-- date, three of the service code, the discretionary digits, and F as padding.
+-- Assumes nothing.
+use mathlib.Core.List.{List, [], _∷_}
+use Prim.Native.Nat.{ℕ, suc, _+_, _-_, _*_}
+use lib.ListN.{drop}
+use Rattle.basics.specs.Number.{nibbles}
+use Rattle.basics.specs.Choice.{if_then_else_, _=?_}
+use Rattle.mag_stripe.specs.declared.DiscretionaryData.{DiscretionaryData}
+
+-- the field separator and the padding
+abbrev pub trackSeparator : ℕ
+trackSeparator = 0xD
+
+abbrev pub trackPadding : ℕ
+trackPadding = 0xF
+
+-- how many nibbles stand before the first x, all of them where there is none
+unfoldable pub nibblesBefore : ℕ → List ℕ → ℕ
+nibblesBefore x [] = 0
+nibblesBefore x (n ∷ s) = if n =? x then 0 else suc (nibblesBefore x s)
+
+-- where the nibble behind the first D stands
+abbrev pub behindSeparator : List ℕ → ℕ
+behindSeparator s = nibblesBefore trackSeparator s + 1
+
+-- how many nibbles stand behind the first D, up to the first F there or to the end
+abbrev pub discretionaryCount : List ℕ → ℕ
+discretionaryCount s = nibblesBefore trackPadding (drop (behindSeparator s) s)
+
+-- the discretionary data of a track's nibbles: where they end, and how many digits they have: those behind the first
+-- seven, expiry date and service code
+unfoldable pub discretionaryIn : List ℕ → DiscretionaryData
+discretionaryIn s = record { end = behindSeparator s + discretionaryCount s; count = discretionaryCount s - 7 }
+
+-- the same of a track's bytes
+abbrev pub discretionaryOf : List ℕ → DiscretionaryData
+discretionaryOf t = discretionaryIn (nibbles t)
+
+-- nibbles two by two as bytes, high one first: `nibbles` undone
+unfoldable pub packedNibbles : List ℕ → List ℕ
+packedNibbles [] = []
+packedNibbles (n ∷ []) = []
+packedNibbles (h ∷ l ∷ s) = (h * 16 + l) ∷ packedNibbles s

@@ -1,0 +1,26 @@
+-- One argument to a turn of the loop. Assumes nothing.
+use borrow.Author.Needs.{needs}
+use native.Mathlib.Omega.{arith}
+use Prim.Native.Nat.{_-_}
+use Rattle.personalise_file.proofs.arguments.personalise_arguments.Statement.{statement}
+use Rattle.personalise_file.proofs.arguments.personalise_arguments.Tie as tie
+
+abbrev Inv-loop : tie.InvT-loop
+Inv-loop out₀ n i₀ out i = Unit {0}
+
+abbrev μ-loop : tie.MeasureT-loop
+μ-loop out₀ n i₀ out i = n - i
+
+pub personalise-arguments-spec : {M : Type 1} → statement M
+personalise-arguments-spec =
+    tie.close
+    (tie.spec
+    Inv-loop
+    μ-loop
+    (λ c κs. search needs)
+    (λ c. search needs)
+    (λ c κs. search needs)
+    (λ c. omega arith)
+    (λ c. omega arith)
+    (λ c. search needs)
+    (λ c. search needs))

@@ -1,0 +1,200 @@
+// The objects of a card's answer, without its status bytes, as an indented tree, and where the first stands that
+// cannot be read (document 01, "Reading an answer").
+//
+// `walked` goes through the bytes in order. What stands next is `tlv::next`'s matter; the ends of the templates that
+// are open stand in an array. Within a template a 00 where a tag would start is passed over (document 02, Item 6).
+use crate::{bits, bytes, margin, named, object, part, text};
+use tlv::{Following, ObjectFront, TlvHeader};
+
+// What is shown: the tree, and the bits of its objects in words.
+pub struct View {
+    pub tree: bool,
+    pub bits: bool,
+}
+
+// How a walk ended. WALKING: it has not.
+pub const WALKING: u8 = 0;
+
+pub const WHOLE: u8 = 1;
+
+pub const BROKEN: u8 = 2;
+
+pub const FIFTH: u8 = 3;
+
+pub const BEHIND: u8 = 4;
+
+// How many templates may be open, the outer one counted.
+const LEVELS: usize = 4;
+
+// A walk: the place that is next, counted from 0, how many templates are open, where each ends, and how the walk
+// ended.
+pub struct Walk {
+    pub at: usize,
+    open: usize,
+    ends: [usize; LEVELS],
+    pub ended: u8,
+}
+
+// The whole walk. A proved loop has to end, so it counts its turns from a number that no answer uses up.
+pub fn walked(body: &[u8], view: View) -> Walk {
+    let mut w = Walk {
+        at: 0,
+        open: 0,
+        ends: [0; LEVELS],
+        ended: WALKING,
+    };
+    let mut turns: usize = 65536;
+    while turns > 0 && w.ended == WALKING {
+        w = step(w, body, view);
+        turns -= 1;
+    }
+    w
+}
+
+// The next object, or the end of the template that is open.
+fn step(w: Walk, body: &[u8], view: View) -> Walk {
+    let at = w.at;
+    let rest = part(body, at, end_of(w, body.len()));
+    if w.open == 0 {
+        return outer(w, rest, view);
+    }
+    if is_padded(rest) {
+        return moved(w, plus(at, 1));
+    }
+    let following = tlv::next(rest);
+    match following {
+        Following::End => closed(w),
+        Following::Malformed => stopped(w, BROKEN, rest, view),
+        Following::Inner(h) => met(w, h, rest, view),
+    }
+}
+
+// The outer object, or what stands behind it.
+fn outer(w: Walk, rest: &[u8], view: View) -> Walk {
+    if 0 < w.at {
+        return behind(w, rest, view);
+    }
+    let front = tlv::object_header(rest);
+    match front {
+        ObjectFront::Object(h) => met(w, h, rest, view),
+        ObjectFront::Broken => stopped(w, BROKEN, rest, view),
+    }
+}
+
+// Whether a 00 stands in front.
+fn is_padded(s: &[u8]) -> bool {
+    if s.len() == 0 {
+        return false;
+    }
+    s[0] == 0
+}
+
+// Where the innermost open template ends; the answer's end where none is open.
+fn end_of(w: Walk, all: usize) -> usize {
+    let ends = w.ends;
+    let open = w.open;
+    if open == 0 {
+        return all;
+    }
+    if LEVELS < open {
+        return all;
+    }
+    ends[open - 1]
+}
+
+// Behind the outer object no byte may stand.
+fn behind(w: Walk, rest: &[u8], view: View) -> Walk {
+    if rest.len() == 0 {
+        return ending(w, WHOLE);
+    }
+    stopped(w, BEHIND, rest, view)
+}
+
+// The contents are used up.
+fn closed(w: Walk) -> Walk {
+    let mut out = w;
+    if 0 < w.open {
+        out.open = w.open - 1;
+    }
+    out
+}
+
+// An object: a template is opened, unless it stands on the fifth level; past a primitive object the walk goes on.
+fn met(w: Walk, h: TlvHeader, rest: &[u8], view: View) -> Walk {
+    let at = w.at;
+    let start = plus(at, h.start);
+    let end = plus(start, h.len);
+    if !h.template {
+        if view.tree {
+            primitive(h.tag, part(rest, h.start, plus(h.start, h.len)), w.open, view);
+        }
+        return moved(w, end);
+    }
+    if LEVELS <= w.open {
+        return stopped(w, FIFTH, rest, view);
+    }
+    if view.tree {
+        template(h.tag, w.open);
+    }
+    opened(w, start, end)
+}
+
+// The sum; the greatest number where it is greater.
+fn plus(a: usize, b: usize) -> usize {
+    if a <= usize::MAX - b {
+        return a + b;
+    }
+    usize::MAX
+}
+
+// ---- the walk, with one thing changed
+
+fn moved(w: Walk, at: usize) -> Walk {
+    let mut out = w;
+    out.at = at;
+    out
+}
+
+fn ending(w: Walk, how: u8) -> Walk {
+    let mut out = w;
+    out.ended = how;
+    out
+}
+
+fn opened(w: Walk, start: usize, end: usize) -> Walk {
+    let mut out = w;
+    let open = w.open;
+    if open < LEVELS {
+        out.ends[open] = end;
+        out.open = open + 1;
+    }
+    out.at = start;
+    out
+}
+
+// The walk stops; the bytes that it does not reach are shown.
+fn stopped(w: Walk, how: u8, rest: &[u8], view: View) -> Walk {
+    if view.tree && rest.len() != 0 {
+        margin(w.open);
+        text(b"not read:");
+        bytes(rest);
+        text(b"\n");
+    }
+    ending(w, how)
+}
+
+// ---- lines
+
+fn primitive(tag: u32, value: &[u8], levels: usize, view: View) {
+    margin(levels);
+    object(tag, value);
+    if view.bits {
+        bits::bit_lines(tag, value, plus(levels, 1));
+    }
+}
+
+fn template(tag: u32, levels: usize) {
+    margin(levels);
+    named(tag);
+    text(b"\n");
+}

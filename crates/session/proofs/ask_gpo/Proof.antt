@@ -1,0 +1,39 @@
+-- `session::ask_gpo` meets its contract: what was written says which way `commandOrReason` goes.
+-- Assumes nothing.
+use borrow.Author.Needs.{needs}
+use Rattle.dol.specs.Commands.{getProcessingOptions}
+use Rattle.analysis.specs.Cvm.{cvmNotApplicable}
+use Rattle.session_record.specs.declared.Phase.{Phase}
+use Rattle.session.specs.Start.{askGpo}
+use Rattle.session.proofs.Laws.{handed-none, handed-some}
+use Rattle.session.proofs.ask_gpo.Statement.{statement}
+use Rattle.session.proofs.ask_gpo.Tie as tie
+
+returns : tie.Need-returns
+unfolding askGpo
+returns c =
+    let a = c .before .before .before .before .before .before .before .before .before .args in
+    let g = c .before .before .before .before .before .get-processing-options .ensures in
+    handed-none cvmNotApplicable (a .count) (a .bytes .now) Phase.Gpo (a .command .now) (getProcessingOptions (a .bytes .now)) (g .0) (g .1 .0) (c .before .enum-told .given .1) (c .fail-session .ensures)
+
+returns-2 : tie.Need-returns-2
+unfolding askGpo
+returns-2 c =
+    let a = c .before .before .before .before .before .before .before .before .before .before .args in
+    let g = c .before .before .before .before .before .before .get-processing-options .ensures in
+    handed-some cvmNotApplicable (a .count) (a .bytes .now) Phase.Gpo (a .command .now) (getProcessingOptions (a .bytes .now)) (g .0) (g .1 .0) (c .before .before .c .given .1) (c .issue-command .ensures)
+
+pub ask-gpo-spec : {M : Type 1} → statement M
+ask-gpo-spec =
+    tie.close
+    (tie.spec
+    (λ c κs. search needs)
+    (λ c. search needs)
+    (λ c. search needs)
+    (λ c κs. search needs)
+    (λ c. search needs)
+    returns
+    (λ c. search needs)
+    (λ c κs. search needs)
+    (λ c. search needs)
+    returns-2)

@@ -1,0 +1,74 @@
+-- `session::cryptogram_outcome` meets its contract: the objects are there, and the type that was read decides.
+-- Assumes nothing.
+use borrow.Author.Needs.{needs}
+use mathlib.Core.Path.{_≡_, sym, ap, _∙_}
+use mathlib.Core.List.{List}
+use mathlib.Core.Option.{Option, some, none}
+use Prim.Native.Nat.{ℕ, _/_}
+use lib.ListN.{getD}
+use Rattle.dictionary.proofs.Named.{at-9F27}
+use Rattle.session_record.proofs.Tags.{bytes-are}
+use Rattle.basics.specs.Reason.{reasonNone, reasonMissing, reasonCryptogram}
+use Rattle.analysis.specs.Cvm.{cvmNumber}
+use Rattle.session_record.specs.declared.Outcome.{Outcome}
+use Rattle.session_record.specs.Session.{endingTransition, failingTransition}
+use Rattle.session.specs.Steps.{endedReply}
+use Rattle.session.specs.Answer.{cryptogramOutcome, endingFor, cryptogramEnding}
+use Rattle.session.proofs.Laws.{reply-as, is-complete, is-missing, decides-nothing, decides-on, cryptogram-missing, cryptogram-decided}
+use Rattle.session.proofs.cryptogram_outcome.Statement.{statement}
+use Rattle.session.proofs.cryptogram_outcome.Tie as tie
+
+-- the decision, by the type that was read
+concludes : (c : tie.After-outcome-for-cryptogram) (o : Option Outcome) → let a = c .before .before .before .before .before .before .before .args in
+    cryptogramOutcome (a .asked .choice) (c .before .byte-at .result / 64) ≡ o → endedReply (cvmNumber (a .asked .cvm)) (a .count) (a .bytes .now) (cryptogramEnding (a .asked) (a .bytes .now))
+    ≡ endedReply (cvmNumber (a .asked .cvm)) (a .count) (a .bytes .now) (endingFor o)
+concludes c o e =
+    let a = c .before .before .before .before .before .before .before .args in
+    let t = c .before .before .before in
+    ap (endedReply (cvmNumber (a .asked .cvm)) (a .count) (a .bytes .now))
+    (cryptogram-decided _ _ (is-complete _ (t .before .before .cryptogram-present .ensures) (t .enum-told .given .1))
+    ∙ ap (λ (n : ℕ). endingFor (cryptogramOutcome (a .asked .choice) (n / 64)))
+    (sym (c .before .byte-at .ensures ∙ ap (λ (v : List ℕ). getD v 0 0) (c .before .before .value .ensures ∙ bytes-are _ _ _ at-9F27)))
+    ∙ ap endingFor e)
+
+returns : tie.Need-returns
+returns c =
+    let a = c .before .before .before .before .before .before .args in
+    reply-as _ (c .fail-session .ensures ∙ ap (λ (m : ℕ). failingTransition m (a .count) reasonMissing) (c .before .held-cvm .ensures))
+    ∙ ap (endedReply (cvmNumber (a .asked .cvm)) (a .count) (a .bytes .now)) (sym (cryptogram-missing (a .asked) _ (is-missing _ (c .before .before .before .before .cryptogram-present .ensures) (c .before .before .enum-told2 .given .1))))
+
+returns-2 : tie.Need-returns-2
+returns-2 c =
+    let a = c .before .before .before .before .before .before .before .before .before .before .before .args in
+    reply-as _ (c .fail-session2 .ensures ∙ ap (λ (m : ℕ). failingTransition m (a .count) reasonCryptogram) (c .before .held-cvm2 .ensures))
+    ∙ sym (concludes (c .before .before .before .before) none (decides-nothing _ (c .before .before .before .before .outcome-for-cryptogram .ensures) (c .before .before .enum-told3 .given .1)))
+
+returns-3 : tie.Need-returns-3
+returns-3 c =
+    let d = c .before .before .before in
+    let f = d .before .before in
+    let a = f .before .before .before .before .before .before .before .args in
+    reply-as _ (c .end-session .ensures ∙ ap (λ (m : ℕ). endingTransition m (a .count) (d .d .given .0 .0 .outcome) reasonNone) (c .before .held-cvm3 .ensures))
+    ∙ sym (concludes f (some (d .d .given .0 .0 .outcome)) (decides-on _ (f .outcome-for-cryptogram .ensures) (d .d .given .1)))
+
+pub cryptogram-outcome-spec : {M : Type 1} → statement M
+cryptogram-outcome-spec =
+    tie.close
+    (tie.spec
+    (λ c κs. search needs)
+    (λ c. search needs)
+    (λ c. search needs)
+    (λ c κs. search needs)
+    (λ c κs. search needs)
+    returns
+    (λ c κs. search needs)
+    (λ c κs. search needs)
+    (λ c κs. search needs)
+    (λ c. search needs)
+    (λ c. search needs)
+    (λ c κs. search needs)
+    (λ c κs. search needs)
+    returns-2
+    (λ c κs. search needs)
+    (λ c κs. search needs)
+    returns-3)

@@ -1,0 +1,294 @@
+-- Worked lists of calls, computed: what the step functions hand out, the locator that is accepted and where the session is left; and
+-- document 01's own example of the published order, from the card's bytes to the three commands.
+-- Assumes nothing.
+use mathlib.Core.Path.{_≡_, refl, ap}
+use mathlib.Core.List.{List, [], _∷_, map}
+use mathlib.Core.Option.{some, none}
+use Prim.Native.Nat.{ℕ}
+use lib.ListN.{length, replicate}
+use Rattle.basics.specs.Recursion.{recurse, recurseBy}
+use Rattle.basics.specs.Choice.{if, both, either, every}
+use Rattle.basics.specs.Number.{bigEndianFrom, nibbles}
+use Rattle.tlv.specs.Tag.{tagSize, tagSecondByte, tagThirdByte, tagAt, tagFirstByte, isTemplate, isPrivate}
+use Rattle.tlv.specs.Length.{lengthAt}
+use Rattle.tlv.specs.Object.{headerOf}
+use Rattle.tlv.specs.Primitives.{objectBefore, primitiveOf, primitiveObjects}
+use Rattle.tlv.specs.Encoding.{lengthBytes}
+use Rattle.dictionary.specs.Rows.{dictionaryRows, rowPast, findRow}
+use Rattle.dictionary.specs.Named.{rowNumberOf}
+use Rattle.dictionary.specs.Form.{numeric, digitsFit, fitsRow, digitsThenFs, compressed}
+use Rattle.dictionary.specs.TerminalType.{listedTerminalType}
+use Rattle.store.specs.Place.{rowOffset, rowPlace, placeValue, rowValue, putRow, objectValueIn}
+use Rattle.afl.specs.Entry.{validEntry}
+use Rattle.afl.specs.Records.{aflEntries as entriesOf, wholeEntries, consecutiveRecords as runOf, entriesRecords, sumOverEntries, acceptsAfl, nthRecord, kthRecord, aflRecordAt}
+use Rattle.reading.specs.Taking.{allowedInTemplate, allowedInResponse, allowedNow, takeItem, takeNext, takeAll, primitiveItems}
+use Rattle.reading.specs.Answer.{responseBody, gpoParts, primitiveParts, readBody, isRead, isStatus9000, isResponseLength, readAnswer, templateParts}
+use Rattle.dol.specs.Entries.{entriesNext, dolEntries, entryWithLength, dolEntryAt, entryBefore}
+use Rattle.dol.specs.Filling.{dolData, dolDataBy, truncated, paddingByte, padded, fittedTo, dolEntryBytes}
+use Rattle.dol.specs.Commands.{gpoCommandOf, getProcessingOptions, generateAcOf, generateAc, udolOrDefault, checksumCommandOf, checksumCommandWith, computeCryptographicChecksum}
+use Rattle.session_record.specs.declared.Phase.{Phase}
+use Rattle.session_record.specs.declared.Session.{Session}
+use Rattle.session_record.specs.Numbers.{outcomeOfReason}
+use Rattle.basics.specs.Reason.{reasonLink, reasonMode}
+use Rattle.session_record.specs.Ranges.{isPresentIfRequired, allRequiredPresent, cryptogramDataPresent, trackDataPresent}
+use Rattle.session_record.specs.Session.{freshSession, endingOf, outcomeParameters}
+use Rattle.session_record.proofs.Phases.{fresh-keeps}
+use Rattle.start_data.specs.StartData.{terminalTypeListed, settableByStart, setObject, setObjects, loadStart}
+use Rattle.session.specs.Steps.{withTvr, withFindings}
+use Rattle.session.specs.Start.{askGpo}
+use Rattle.session.specs.MagStripe.{askChecksum, afterRecordsMagStripe, storeWithDigits, afterChecksumRead, checksumOutcomeOf, checksumReply}
+use Rattle.mag_stripe.specs.Track.{nibblesBefore, discretionaryIn}
+use Rattle.mag_stripe.specs.Bitmap.{bitmapPlacesFrom, bitmapPlaces, bitmapWithin, canTakeDigits}
+use Rattle.session.specs.Answer.{gpoStoreReason, afterGpoRead, gpoStep, gpoReason, recordStep, afterRecordRead, afterLastRecord, afterRecordsEmv, afterAnalysis, requestedCryptogram, askCryptogram}
+use Rattle.session_claim.specs.Calls.{Call, start, answer, link-failed, stop, CallMade, playCalls, finalSession, callResult, commandsSent, callsAccepted}
+use Rattle.session_claim.specs.Order.{firstIn77, responseAfl, responseAip, firstAnswer, acceptedAfl, gpo, record-command, cryptogram, checksum, lastKindFor, lastKind, publishedOrder}
+use Rattle.basics.specs.Alike.{bytesEqual}
+use Rattle.tlv.specs.Tree.{objectCount, nextOf, withLeaf, withNode, parseTree}
+use Rattle.analysis.specs.Bits.{numberedBit}
+use Rattle.analysis.specs.Value.{firstBytes}
+use Rattle.analysis.specs.Digits.{bcdFrom, yearOf, dateOf, dateLater, amountOf, amountAbove}
+use Rattle.analysis.specs.Restrictions.{versionDiffers, notYetEffective, atAtm, issuerCountryOf, cashbackRequested, aucViolated}
+use Rattle.analysis.specs.Tvr.{tvrWithBits}
+use Rattle.analysis.specs.Choice.{stageHoldsBit, lowestFrom, lowestBit, iacCode, stageHolds, onlineCapabilityAt, choiceOf}
+use Rattle.analysis.specs.declared.choice.Choice.{Choice}
+use Rattle.analysis.specs.declared.cvm.Cvm.{Cvm}
+use Rattle.analysis.specs.Cvm.{cvmRulesFrom, cvmRecognised, cvmSupported, cvmAmountMet, cvmConditionMet, cvmSuccessful as takenBy, cvmUnsuccessful, byCvmRules, cvmProcessing, onDeviceCvm, onDeviceResult}
+use Rattle.analysis.specs.Action.{hasOnDeviceCvm, transactionLimit, aboveTransactionLimit, aucViolatedIn, restrictionsByte, tvrOf, sameCurrency, cvmConditionsIn, cvmResultIn, tvrWithCvm, findingsOf, actionCodesOf, choiceFor}
+use Rattle.session_record.specs.declared.Outcome.{Outcome}
+use Rattle.session_record.specs.declared.CallResult.{CallResult}
+use Rattle.session_claim.proofs.InRanges.{playIn, finalIn, play-in, final-in}
+
+-- ---- lists of calls
+
+-- all that a start must bring, with this DF811B, and no 9F38
+abbrev startWith : ℕ → List ℕ
+startWith configuration =
+    0x9A ∷ 0x03 ∷ 0x25 ∷ 0x11 ∷ 0x15 ∷ 0x9C ∷ 0x01 ∷ 0x00 ∷ 0x9F ∷ 0x02 ∷ 0x06 ∷ 0x00 ∷ 0x00 ∷ 0x00 ∷ 0x00 ∷ 0x12 ∷ 0x34 ∷
+    0x9F ∷ 0x09 ∷ 0x02 ∷ 0x00 ∷ 0x02 ∷ 0x9F ∷ 0x1A ∷ 0x02 ∷ 0x00 ∷ 0x56 ∷ 0x9F ∷ 0x33 ∷ 0x03 ∷ 0xE0 ∷ 0x68 ∷ 0xC8 ∷ 0x9F ∷ 0x35 ∷ 0x01 ∷ 0x22 ∷ 0x9F ∷ 0x37 ∷ 0x04 ∷ 0x01 ∷ 0x02 ∷ 0x03 ∷ 0x04 ∷
+    0xDF ∷ 0x81 ∷ 0x20 ∷ 0x05 ∷ 0x00 ∷ 0x00 ∷ 0x00 ∷ 0x00 ∷ 0x00 ∷ 0xDF ∷ 0x81 ∷ 0x21 ∷ 0x05 ∷ 0x00 ∷ 0x00 ∷ 0x00 ∷ 0x00 ∷ 0x00 ∷
+    0xDF ∷ 0x81 ∷ 0x22 ∷ 0x05 ∷ 0x00 ∷ 0x00 ∷ 0x00 ∷ 0x00 ∷ 0x00 ∷ 0xDF ∷ 0x81 ∷ 0x23 ∷ 0x06 ∷ 0x00 ∷ 0x00 ∷ 0x00 ∷ 0x01 ∷ 0x00 ∷ 0x00 ∷
+    0xDF ∷ 0x81 ∷ 0x24 ∷ 0x06 ∷ 0x00 ∷ 0x00 ∷ 0x00 ∷ 0x02 ∷ 0x00 ∷ 0x00 ∷
+    0xDF ∷ 0x81 ∷ 0x25 ∷ 0x06 ∷ 0x00 ∷ 0x00 ∷ 0x00 ∷ 0x05 ∷ 0x00 ∷ 0x00 ∷
+    0xDF ∷ 0x81 ∷ 0x26 ∷ 0x06 ∷ 0x00 ∷ 0x00 ∷ 0x00 ∷ 0x00 ∷ 0x10 ∷ 0x00 ∷ 0xDF ∷ 0x81 ∷ 0x1B ∷ 0x01 ∷ configuration ∷
+    0x9F ∷ 0x6A ∷ 0x04 ∷ 0x00 ∷ 0x00 ∷ 0x34 ∷ 0x56 ∷ []
+
+abbrev startBytes : List ℕ
+startBytes = startWith 0x20
+
+abbrev afl : List ℕ
+afl = 0x08 ∷ 0x01 ∷ 0x01 ∷ 0x00 ∷ []
+
+-- 82 of 00 80 and this locator; and the same with 82 of 00 00
+abbrev gpoAnswer : List ℕ
+gpoAnswer = 0x80 ∷ 0x06 ∷ 0x00 ∷ 0x80 ∷ 0x08 ∷ 0x01 ∷ 0x01 ∷ 0x00 ∷ 0x90 ∷ 0x00 ∷ []
+
+abbrev magStripeAnswer : List ℕ
+magStripeAnswer = 0x80 ∷ 0x06 ∷ 0x00 ∷ 0x00 ∷ 0x08 ∷ 0x01 ∷ 0x01 ∷ 0x00 ∷ 0x90 ∷ 0x00 ∷ []
+
+abbrev lent : List ℕ
+lent = replicate 261 0
+
+abbrev gpoCommand : List ℕ
+gpoCommand = 0x80 ∷ 0xA8 ∷ 0x00 ∷ 0x00 ∷ 0x02 ∷ 0x83 ∷ 0x00 ∷ 0x00 ∷ []
+
+abbrev recordCommand : List ℕ
+recordCommand = 0x00 ∷ 0xB2 ∷ 0x01 ∷ 0x0C ∷ 0x00 ∷ []
+
+-- a start and the answer to processing options
+abbrev begun : List Call
+begun = start startBytes lent ∷ answer gpoAnswer lent ∷ []
+
+-- a stop before the start, a start with a buffer of one byte and a second start are refused and change nothing
+abbrev interrupted : List Call
+interrupted = stop lent ∷ start startBytes (0x00 ∷ []) ∷ start startBytes lent ∷ start startBytes lent ∷ answer gpoAnswer lent ∷ []
+
+-- the link fails on processing options: the session has ended with reason 9, and a later answer is refused
+abbrev torn : List Call
+torn = start startBytes lent ∷ link-failed lent ∷ answer gpoAnswer lent ∷ []
+
+-- the answer has byte 2 b8 of 82 clear, and DF811B b8 is set: the rules give it reason 11, and its locator is not accepted
+abbrev notEmv : List Call
+notEmv = start (startWith 0xA0) lent ∷ answer magStripeAnswer lent ∷ []
+
+pub record Worked : Type 0 where
+  begun-sent : commandsSent (playCalls freshSession begun) ≡ gpoCommand ∷ recordCommand ∷ []
+  begun-accepted : acceptedAfl (playCalls freshSession begun) ≡ some afl
+  interrupted-sent : commandsSent (playCalls freshSession interrupted) ≡ gpoCommand ∷ recordCommand ∷ []
+  interrupted-taken : length (callsAccepted (playCalls freshSession interrupted)) ≡ 2
+  torn-sent : commandsSent (playCalls freshSession torn) ≡ gpoCommand ∷ []
+  torn-taken : length (callsAccepted (playCalls freshSession torn)) ≡ 2
+  torn-end : finalSession freshSession torn .phase ≡ Phase.Ended (endingOf (outcomeOfReason reasonLink) reasonLink)
+  not-emv-brought : responseAfl magStripeAnswer ≡ some afl
+  not-emv-accepted : acceptedAfl (playCalls freshSession notEmv) ≡ none
+  not-emv-end : finalSession freshSession notEmv .phase ≡ Phase.Ended (endingOf (outcomeOfReason reasonMode) reasonMode)
+
+pub worked : Worked
+unfolding commandsSent playIn finalIn callsAccepted acceptedAfl firstAnswer responseAfl gpoReason outcomeOfReason askGpo getProcessingOptions gpoCommandOf dolDataBy dolData dolEntries recurse
+    recurseBy entriesNext lengthBytes gpoStep gpoStoreReason afterGpoRead aflRecordAt kthRecord nthRecord acceptsAfl wholeEntries entriesOf validEntry sumOverEntries entriesRecords runOf readAnswer isResponseLength isStatus9000 isRead
+    readBody responseBody primitiveParts gpoParts takeAll takeNext takeItem allowedNow allowedInResponse allowedInTemplate withTvr rowNumberOf loadStart primitiveObjects objectBefore primitiveOf headerOf tagAt tagSize
+    tagSecondByte tagThirdByte lengthAt tagFirstByte isTemplate isPrivate bigEndianFrom if both either every dictionaryRows rowPast findRow settableByStart setObject setObjects fitsRow digitsFit numeric nibbles terminalTypeListed listedTerminalType
+    rowOffset rowPlace placeValue rowValue putRow objectValueIn allRequiredPresent isPresentIfRequired
+worked =
+    record {
+      begun-sent = ap commandsSent (play-in freshSession fresh-keeps begun);
+      begun-accepted = ap acceptedAfl (play-in freshSession fresh-keeps begun);
+      interrupted-sent = ap commandsSent (play-in freshSession fresh-keeps interrupted);
+      interrupted-taken = ap (λ (ms : List CallMade). length (callsAccepted ms)) (play-in freshSession fresh-keeps interrupted);
+      torn-sent = ap commandsSent (play-in freshSession fresh-keeps torn);
+      torn-taken = ap (λ (ms : List CallMade). length (callsAccepted ms)) (play-in freshSession fresh-keeps torn);
+      torn-end = ap (λ (s : Session). s .phase) (final-in freshSession fresh-keeps torn);
+      not-emv-brought = refl;
+      not-emv-accepted = ap acceptedAfl (play-in freshSession fresh-keeps notEmv);
+      not-emv-end = ap (λ (s : Session). s .phase) (final-in freshSession fresh-keeps notEmv);
+    }
+
+-- ---- the published order
+
+-- processing options, 00 B2 01 0C 00, cryptogram
+pub order : publishedOrder cryptogram (some afl) ≡ gpo ∷ record-command recordCommand ∷ cryptogram ∷ []
+unfolding publishedOrder entriesOf entriesRecords runOf
+order = refl
+
+-- ---- cardholder verification
+
+-- 82 of 10 80; then expiry, PAN, CDOL1 = 95 05 9F34 03 and a list: an online PIN or a signature, where it is supported
+abbrev verifyingAnswer : List ℕ
+verifyingAnswer = 0x80 ∷ 0x06 ∷ 0x10 ∷ 0x80 ∷ 0x08 ∷ 0x01 ∷ 0x01 ∷ 0x00 ∷ 0x90 ∷ 0x00 ∷ []
+
+abbrev ruleRecord : List ℕ
+ruleRecord =
+    0x70 ∷ 0x25 ∷ 0x5F ∷ 0x24 ∷ 0x03 ∷ 0x30 ∷ 0x12 ∷ 0x31 ∷ 0x5A ∷ 0x08 ∷ 0x47 ∷ 0x61 ∷ 0x73 ∷ 0x90 ∷ 0x01 ∷ 0x01 ∷ 0x00 ∷ 0x10 ∷
+    0x8C ∷ 0x05 ∷ 0x95 ∷ 0x05 ∷ 0x9F ∷ 0x34 ∷ 0x03 ∷
+    0x8E ∷ 0x0C ∷ 0x00 ∷ 0x00 ∷ 0x00 ∷ 0x00 ∷ 0x00 ∷ 0x00 ∷ 0x00 ∷ 0x00 ∷ 0x42 ∷ 0x03 ∷ 0x5E ∷ 0x03 ∷ 0x90 ∷ 0x00 ∷ []
+
+-- a start, processing options and the record; and then the link fails
+abbrev asking : List ℕ → List Call
+asking aip = start startBytes lent ∷ answer aip lent ∷ answer ruleRecord lent ∷ []
+
+abbrev failing : List ℕ → List Call
+failing aip = start startBytes lent ∷ answer aip lent ∷ answer ruleRecord lent ∷ link-failed lent ∷ []
+
+-- 8C is filled with the bit of an online PIN and with 9F34. The link fails, and the outcome tells the method
+verified : map callResult (playCalls freshSession (failing verifyingAnswer))
+    ≡ CallResult.Command (record { size = 8 }) ∷ CallResult.Command (record { size = 5 }) ∷ CallResult.Command (record { size = 14 })
+    ∷ CallResult.Outcome (outcomeParameters Outcome.Ended 9 2) ∷ []
+unfolding commandsSent playIn finalIn callsAccepted outcomeOfReason cryptogramDataPresent askGpo getProcessingOptions gpoCommandOf dolDataBy dolData dolEntries recurse recurseBy entriesNext lengthBytes entryWithLength dolEntryAt
+    entryBefore truncated paddingByte padded fittedTo dolEntryBytes generateAcOf generateAc gpoStep gpoStoreReason afterGpoRead aflRecordAt kthRecord nthRecord acceptsAfl wholeEntries entriesOf validEntry sumOverEntries entriesRecords runOf
+    readAnswer isResponseLength isStatus9000 isRead readBody responseBody primitiveParts gpoParts templateParts parseTree nextOf withLeaf withNode objectCount primitiveItems takeAll takeNext takeItem allowedNow allowedInResponse
+    allowedInTemplate withTvr withFindings rowNumberOf loadStart primitiveObjects objectBefore primitiveOf headerOf tagAt tagSize tagSecondByte tagThirdByte lengthAt tagFirstByte isTemplate isPrivate bigEndianFrom if both
+    either every dictionaryRows rowPast findRow settableByStart setObject setObjects fitsRow digitsFit numeric nibbles digitsThenFs compressed terminalTypeListed listedTerminalType rowOffset rowPlace placeValue rowValue putRow objectValueIn allRequiredPresent
+    isPresentIfRequired recordStep afterRecordRead afterLastRecord afterRecordsEmv afterAnalysis requestedCryptogram askCryptogram hasOnDeviceCvm transactionLimit aboveTransactionLimit aucViolatedIn restrictionsByte tvrOf sameCurrency cvmConditionsIn cvmResultIn tvrWithCvm
+    findingsOf actionCodesOf choiceFor numberedBit firstBytes bcdFrom yearOf dateOf dateLater amountOf amountAbove versionDiffers notYetEffective atAtm issuerCountryOf cashbackRequested aucViolated tvrWithBits stageHoldsBit
+    lowestFrom lowestBit iacCode stageHolds onlineCapabilityAt choiceOf cvmRulesFrom cvmRecognised cvmSupported cvmAmountMet cvmConditionMet takenBy cvmUnsuccessful byCvmRules cvmProcessing onDeviceCvm bytesEqual
+verified = ap (map callResult) (play-in freshSession fresh-keeps (failing verifyingAnswer))
+
+verified-sent : commandsSent (playCalls freshSession (asking verifyingAnswer))
+    ≡ gpoCommand ∷ recordCommand
+    ∷ (0x80 ∷ 0xAE ∷ 0x80 ∷ 0x00 ∷ 0x08 ∷ 0x80 ∷ 0x00 ∷ 0x04 ∷ 0x00 ∷ 0x00 ∷ 0x42 ∷ 0x03 ∷ 0x00 ∷ 0x00 ∷ []) ∷ []
+unfolding commandsSent playIn finalIn callsAccepted outcomeOfReason cryptogramDataPresent askGpo getProcessingOptions gpoCommandOf dolDataBy dolData dolEntries recurse recurseBy entriesNext lengthBytes entryWithLength dolEntryAt
+    entryBefore truncated paddingByte padded fittedTo dolEntryBytes generateAcOf generateAc gpoStep gpoStoreReason afterGpoRead aflRecordAt kthRecord nthRecord acceptsAfl wholeEntries entriesOf validEntry sumOverEntries entriesRecords runOf
+    readAnswer isResponseLength isStatus9000 isRead readBody responseBody primitiveParts gpoParts templateParts parseTree nextOf withLeaf withNode objectCount primitiveItems takeAll takeNext takeItem allowedNow allowedInResponse
+    allowedInTemplate withTvr withFindings rowNumberOf loadStart primitiveObjects objectBefore primitiveOf headerOf tagAt tagSize tagSecondByte tagThirdByte lengthAt tagFirstByte isTemplate isPrivate bigEndianFrom if both
+    either every dictionaryRows rowPast findRow settableByStart setObject setObjects fitsRow digitsFit numeric nibbles digitsThenFs compressed terminalTypeListed listedTerminalType rowOffset rowPlace placeValue rowValue putRow objectValueIn allRequiredPresent
+    isPresentIfRequired recordStep afterRecordRead afterLastRecord afterRecordsEmv afterAnalysis requestedCryptogram askCryptogram hasOnDeviceCvm transactionLimit aboveTransactionLimit aucViolatedIn restrictionsByte tvrOf sameCurrency cvmConditionsIn cvmResultIn tvrWithCvm
+    findingsOf actionCodesOf choiceFor numberedBit firstBytes bcdFrom yearOf dateOf dateLater amountOf amountAbove versionDiffers notYetEffective atAtm issuerCountryOf cashbackRequested aucViolated tvrWithBits stageHoldsBit
+    lowestFrom lowestBit iacCode stageHolds onlineCapabilityAt choiceOf cvmRulesFrom cvmRecognised cvmSupported cvmAmountMet cvmConditionMet takenBy cvmUnsuccessful byCvmRules cvmProcessing onDeviceCvm bytesEqual
+verified-sent = ap commandsSent (play-in freshSession fresh-keeps (asking verifyingAnswer))
+
+-- ---- a phone
+
+-- 82 of 12 80: the phone's own limit is held, the list is not looked at, and the outcome tells the confirmation code
+abbrev onDeviceAnswer : List ℕ
+onDeviceAnswer = 0x80 ∷ 0x06 ∷ 0x12 ∷ 0x80 ∷ 0x08 ∷ 0x01 ∷ 0x01 ∷ 0x00 ∷ 0x90 ∷ 0x00 ∷ []
+
+onDevice : map callResult (playCalls freshSession (failing onDeviceAnswer))
+    ≡ CallResult.Command (record { size = 8 }) ∷ CallResult.Command (record { size = 5 }) ∷ CallResult.Command (record { size = 14 })
+    ∷ CallResult.Outcome (outcomeParameters Outcome.Ended 9 3) ∷ []
+unfolding commandsSent playIn finalIn callsAccepted outcomeOfReason cryptogramDataPresent askGpo getProcessingOptions gpoCommandOf dolDataBy dolData dolEntries recurse recurseBy entriesNext lengthBytes entryWithLength dolEntryAt
+    entryBefore truncated paddingByte padded fittedTo dolEntryBytes generateAcOf generateAc gpoStep gpoStoreReason afterGpoRead aflRecordAt kthRecord nthRecord acceptsAfl wholeEntries entriesOf validEntry sumOverEntries entriesRecords runOf
+    readAnswer isResponseLength isStatus9000 isRead readBody responseBody primitiveParts gpoParts templateParts parseTree nextOf withLeaf withNode objectCount primitiveItems takeAll takeNext takeItem allowedNow allowedInResponse
+    allowedInTemplate withTvr withFindings rowNumberOf loadStart primitiveObjects objectBefore primitiveOf headerOf tagAt tagSize tagSecondByte tagThirdByte lengthAt tagFirstByte isTemplate isPrivate bigEndianFrom if both
+    either every dictionaryRows rowPast findRow settableByStart setObject setObjects fitsRow digitsFit numeric nibbles digitsThenFs compressed terminalTypeListed listedTerminalType rowOffset rowPlace placeValue rowValue putRow objectValueIn allRequiredPresent
+    isPresentIfRequired recordStep afterRecordRead afterLastRecord afterRecordsEmv afterAnalysis requestedCryptogram askCryptogram hasOnDeviceCvm transactionLimit aboveTransactionLimit aucViolatedIn restrictionsByte tvrOf sameCurrency cvmConditionsIn cvmResultIn tvrWithCvm
+    findingsOf actionCodesOf choiceFor numberedBit firstBytes bcdFrom yearOf dateOf dateLater amountOf amountAbove versionDiffers notYetEffective atAtm issuerCountryOf cashbackRequested aucViolated tvrWithBits stageHoldsBit
+    lowestFrom lowestBit iacCode stageHolds onlineCapabilityAt choiceOf cvmRulesFrom cvmRecognised cvmSupported cvmAmountMet cvmConditionMet takenBy cvmUnsuccessful byCvmRules cvmProcessing onDeviceCvm onDeviceResult bytesEqual
+onDevice = ap (map callResult) (play-in freshSession fresh-keeps (failing onDeviceAnswer))
+
+on-device-held : finalSession freshSession (asking onDeviceAnswer) .phase
+    ≡ Phase.Cryptogram (record { choice = Choice.Online; cvm = Cvm.ConfirmationCode; limit = 50000 })
+unfolding commandsSent playIn finalIn callsAccepted outcomeOfReason cryptogramDataPresent askGpo getProcessingOptions gpoCommandOf dolDataBy dolData dolEntries recurse recurseBy entriesNext lengthBytes entryWithLength dolEntryAt
+    entryBefore truncated paddingByte padded fittedTo dolEntryBytes generateAcOf generateAc gpoStep gpoStoreReason afterGpoRead aflRecordAt kthRecord nthRecord acceptsAfl wholeEntries entriesOf validEntry sumOverEntries entriesRecords runOf
+    readAnswer isResponseLength isStatus9000 isRead readBody responseBody primitiveParts gpoParts templateParts parseTree nextOf withLeaf withNode objectCount primitiveItems takeAll takeNext takeItem allowedNow allowedInResponse
+    allowedInTemplate withTvr withFindings rowNumberOf loadStart primitiveObjects objectBefore primitiveOf headerOf tagAt tagSize tagSecondByte tagThirdByte lengthAt tagFirstByte isTemplate isPrivate bigEndianFrom if both
+    either every dictionaryRows rowPast findRow settableByStart setObject setObjects fitsRow digitsFit numeric nibbles digitsThenFs compressed terminalTypeListed listedTerminalType rowOffset rowPlace placeValue rowValue putRow objectValueIn allRequiredPresent
+    isPresentIfRequired recordStep afterRecordRead afterLastRecord afterRecordsEmv afterAnalysis requestedCryptogram askCryptogram hasOnDeviceCvm transactionLimit aboveTransactionLimit aucViolatedIn restrictionsByte tvrOf sameCurrency cvmConditionsIn cvmResultIn tvrWithCvm
+    findingsOf actionCodesOf choiceFor numberedBit firstBytes bcdFrom yearOf dateOf dateLater amountOf amountAbove versionDiffers notYetEffective atAtm issuerCountryOf cashbackRequested aucViolated tvrWithBits stageHoldsBit
+    lowestFrom lowestBit iacCode stageHolds onlineCapabilityAt choiceOf cvmRulesFrom cvmRecognised cvmSupported cvmAmountMet cvmConditionMet takenBy cvmUnsuccessful byCvmRules cvmProcessing onDeviceCvm onDeviceResult bytesEqual
+on-device-held = ap (λ (s : Session). s .phase) (final-in freshSession fresh-keeps (asking onDeviceAnswer))
+
+on-device-sent : commandsSent (playCalls freshSession (asking onDeviceAnswer))
+    ≡ gpoCommand ∷ recordCommand
+    ∷ (0x80 ∷ 0xAE ∷ 0x80 ∷ 0x00 ∷ 0x08 ∷ 0x80 ∷ 0x00 ∷ 0x00 ∷ 0x00 ∷ 0x00 ∷ 0x01 ∷ 0x00 ∷ 0x02 ∷ 0x00 ∷ []) ∷ []
+unfolding commandsSent playIn finalIn callsAccepted outcomeOfReason cryptogramDataPresent askGpo getProcessingOptions gpoCommandOf dolDataBy dolData dolEntries recurse recurseBy entriesNext lengthBytes entryWithLength dolEntryAt
+    entryBefore truncated paddingByte padded fittedTo dolEntryBytes generateAcOf generateAc gpoStep gpoStoreReason afterGpoRead aflRecordAt kthRecord nthRecord acceptsAfl wholeEntries entriesOf validEntry sumOverEntries entriesRecords runOf
+    readAnswer isResponseLength isStatus9000 isRead readBody responseBody primitiveParts gpoParts templateParts parseTree nextOf withLeaf withNode objectCount primitiveItems takeAll takeNext takeItem allowedNow allowedInResponse
+    allowedInTemplate withTvr withFindings rowNumberOf loadStart primitiveObjects objectBefore primitiveOf headerOf tagAt tagSize tagSecondByte tagThirdByte lengthAt tagFirstByte isTemplate isPrivate bigEndianFrom if both
+    either every dictionaryRows rowPast findRow settableByStart setObject setObjects fitsRow digitsFit numeric nibbles digitsThenFs compressed terminalTypeListed listedTerminalType rowOffset rowPlace placeValue rowValue putRow objectValueIn allRequiredPresent
+    isPresentIfRequired recordStep afterRecordRead afterLastRecord afterRecordsEmv afterAnalysis requestedCryptogram askCryptogram hasOnDeviceCvm transactionLimit aboveTransactionLimit aucViolatedIn restrictionsByte tvrOf sameCurrency cvmConditionsIn cvmResultIn tvrWithCvm
+    findingsOf actionCodesOf choiceFor numberedBit firstBytes bcdFrom yearOf dateOf dateLater amountOf amountAbove versionDiffers notYetEffective atAtm issuerCountryOf cashbackRequested aucViolated tvrWithBits stageHoldsBit
+    lowestFrom lowestBit iacCode stageHolds onlineCapabilityAt choiceOf cvmRulesFrom cvmRecognised cvmSupported cvmAmountMet cvmConditionMet takenBy cvmUnsuccessful byCvmRules cvmProcessing onDeviceCvm onDeviceResult bytesEqual
+on-device-sent = ap commandsSent (play-in freshSession fresh-keeps (asking onDeviceAnswer))
+
+-- ---- mag-stripe mode
+
+-- 82 of 00 00; then track 2 with its bitmaps and the counter's digits; then the counter and the code
+abbrev trackRecord : List ℕ
+trackRecord =
+    0x70 ∷ 0x24 ∷ 0x9F ∷ 0x6B ∷ 0x13 ∷ 0x54 ∷ 0x13 ∷ 0x12 ∷ 0x34 ∷ 0x56 ∷ 0x78 ∷ 0x48 ∷ 0x00 ∷ 0xD2 ∷ 0x51 ∷ 0x21 ∷ 0x01 ∷ 0x00 ∷ 0x00 ∷ 0x00 ∷ 0x00 ∷ 0x00 ∷ 0x00 ∷ 0x0F ∷
+    0x9F ∷ 0x65 ∷ 0x02 ∷ 0x00 ∷ 0x0E ∷ 0x9F ∷ 0x66 ∷ 0x02 ∷ 0x0F ∷ 0xF0 ∷ 0x9F ∷ 0x67 ∷ 0x01 ∷ 0x04 ∷ 0x90 ∷ 0x00 ∷ []
+
+abbrev checksumAnswer : List ℕ
+checksumAnswer = 0x77 ∷ 0x0A ∷ 0x9F ∷ 0x36 ∷ 0x02 ∷ 0x00 ∷ 0x2A ∷ 0x9F ∷ 0x61 ∷ 0x02 ∷ 0x1F ∷ 0x35 ∷ 0x90 ∷ 0x00 ∷ []
+
+abbrev begunMagStripe : List Call
+begunMagStripe = start startBytes lent ∷ answer magStripeAnswer lent ∷ answer trackRecord lent ∷ []
+
+abbrev striped : List Call
+striped = start startBytes lent ∷ answer magStripeAnswer lent ∷ answer trackRecord lent ∷ answer checksumAnswer lent ∷ []
+
+-- the outcome is an online request, and tells no method
+striped-said : map callResult (playCalls freshSession striped)
+    ≡ CallResult.Command (record { size = 8 }) ∷ CallResult.Command (record { size = 5 }) ∷ CallResult.Command (record { size = 10 })
+    ∷ CallResult.Outcome (outcomeParameters Outcome.OnlineRequest 0 15) ∷ []
+unfolding commandsSent playIn finalIn callsAccepted outcomeOfReason cryptogramDataPresent askGpo getProcessingOptions gpoCommandOf dolDataBy dolData dolEntries recurse recurseBy entriesNext lengthBytes entryWithLength dolEntryAt
+    entryBefore truncated paddingByte padded fittedTo dolEntryBytes generateAcOf generateAc gpoStep gpoStoreReason afterGpoRead aflRecordAt kthRecord nthRecord acceptsAfl wholeEntries entriesOf validEntry sumOverEntries entriesRecords runOf
+    readAnswer isResponseLength isStatus9000 isRead readBody responseBody primitiveParts gpoParts templateParts parseTree nextOf withLeaf withNode objectCount primitiveItems takeAll takeNext takeItem allowedNow allowedInResponse
+    allowedInTemplate withTvr withFindings rowNumberOf loadStart primitiveObjects objectBefore primitiveOf headerOf tagAt tagSize tagSecondByte tagThirdByte lengthAt tagFirstByte isTemplate isPrivate bigEndianFrom if both
+    either every dictionaryRows rowPast findRow settableByStart setObject setObjects fitsRow digitsFit numeric nibbles digitsThenFs compressed terminalTypeListed listedTerminalType rowOffset rowPlace placeValue rowValue putRow objectValueIn allRequiredPresent
+    isPresentIfRequired recordStep afterRecordRead afterLastRecord afterRecordsEmv afterAnalysis requestedCryptogram askCryptogram hasOnDeviceCvm transactionLimit aboveTransactionLimit aucViolatedIn restrictionsByte tvrOf sameCurrency cvmConditionsIn cvmResultIn tvrWithCvm
+    findingsOf actionCodesOf choiceFor numberedBit firstBytes bcdFrom yearOf dateOf dateLater amountOf amountAbove versionDiffers notYetEffective atAtm issuerCountryOf cashbackRequested aucViolated tvrWithBits stageHoldsBit
+    lowestFrom lowestBit iacCode stageHolds onlineCapabilityAt choiceOf cvmRulesFrom cvmRecognised cvmSupported cvmAmountMet cvmConditionMet takenBy cvmUnsuccessful byCvmRules cvmProcessing onDeviceCvm bytesEqual trackDataPresent
+    udolOrDefault checksumCommandOf checksumCommandWith computeCryptographicChecksum askChecksum afterRecordsMagStripe afterChecksumRead checksumOutcomeOf checksumReply nibblesBefore discretionaryIn bitmapPlacesFrom bitmapPlaces bitmapWithin canTakeDigits
+striped-said = ap (map callResult) (play-in freshSession fresh-keeps striped)
+
+-- the list is the default one: 9F6A in four bytes
+striped-sent : commandsSent (playCalls freshSession begunMagStripe)
+    ≡ gpoCommand ∷ recordCommand ∷ (0x80 ∷ 0x2A ∷ 0x8E ∷ 0x80 ∷ 0x04 ∷ 0x00 ∷ 0x00 ∷ 0x34 ∷ 0x56 ∷ 0x00 ∷ []) ∷ []
+unfolding commandsSent playIn finalIn callsAccepted outcomeOfReason cryptogramDataPresent askGpo getProcessingOptions gpoCommandOf dolDataBy dolData dolEntries recurse recurseBy entriesNext lengthBytes entryWithLength dolEntryAt
+    entryBefore truncated paddingByte padded fittedTo dolEntryBytes generateAcOf generateAc gpoStep gpoStoreReason afterGpoRead aflRecordAt kthRecord nthRecord acceptsAfl wholeEntries entriesOf validEntry sumOverEntries entriesRecords runOf
+    readAnswer isResponseLength isStatus9000 isRead readBody responseBody primitiveParts gpoParts templateParts parseTree nextOf withLeaf withNode objectCount primitiveItems takeAll takeNext takeItem allowedNow allowedInResponse
+    allowedInTemplate withTvr withFindings rowNumberOf loadStart primitiveObjects objectBefore primitiveOf headerOf tagAt tagSize tagSecondByte tagThirdByte lengthAt tagFirstByte isTemplate isPrivate bigEndianFrom if both
+    either every dictionaryRows rowPast findRow settableByStart setObject setObjects fitsRow digitsFit numeric nibbles digitsThenFs compressed terminalTypeListed listedTerminalType rowOffset rowPlace placeValue rowValue putRow objectValueIn allRequiredPresent
+    isPresentIfRequired recordStep afterRecordRead afterLastRecord afterRecordsEmv afterAnalysis requestedCryptogram askCryptogram hasOnDeviceCvm transactionLimit aboveTransactionLimit aucViolatedIn restrictionsByte tvrOf sameCurrency cvmConditionsIn cvmResultIn tvrWithCvm
+    findingsOf actionCodesOf choiceFor numberedBit firstBytes bcdFrom yearOf dateOf dateLater amountOf amountAbove versionDiffers notYetEffective atAtm issuerCountryOf cashbackRequested aucViolated tvrWithBits stageHoldsBit
+    lowestFrom lowestBit iacCode stageHolds onlineCapabilityAt choiceOf cvmRulesFrom cvmRecognised cvmSupported cvmAmountMet cvmConditionMet takenBy cvmUnsuccessful byCvmRules cvmProcessing onDeviceCvm bytesEqual trackDataPresent
+    udolOrDefault checksumCommandOf checksumCommandWith computeCryptographicChecksum askChecksum afterRecordsMagStripe
+striped-sent = ap commandsSent (play-in freshSession fresh-keeps begunMagStripe)
+
+-- the published order's last command by the bytes of the first answer, under 80 and in a 77
+last-commands : map (λ a. lastKindFor (responseAip a))
+    (gpoAnswer ∷ magStripeAnswer
+    ∷ (0x77 ∷ 0x0A ∷ 0x82 ∷ 0x02 ∷ 0x00 ∷ 0x7F ∷ 0x94 ∷ 0x04 ∷ 0x08 ∷ 0x01 ∷ 0x01 ∷ 0x00 ∷ 0x90 ∷ 0x00 ∷ []) ∷ [])
+    ≡ cryptogram ∷ checksum ∷ checksum ∷ []
+unfolding lastKindFor responseAip firstIn77 responseBody headerOf tagAt tagSize lengthAt tagFirstByte isTemplate bigEndianFrom primitiveItems parseTree nextOf withLeaf withNode recurse recurseBy if both
+last-commands = refl

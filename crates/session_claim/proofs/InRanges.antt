@@ -1,0 +1,62 @@
+-- Calls on a session in its ranges, without the test of them: every call leaves a session in its ranges, so none after it is refused for them.
+-- Computed examples go by this, since the test reads every row's place. Assumes nothing.
+use mathlib.Core.Path.{_≡_, refl, ap, subst, _∙_}
+use mathlib.Core.Bool.{true, not}
+use mathlib.Core.List.{List, [], _∷_}
+use Prim.Native.Nat.{ℕ}
+use lib.Dec.{ltb}
+use lib.ListN.{length}
+use Rattle.basics.specs.Choice.{if}
+use Rattle.basics.specs.Reason.{refusedBuffer, reasonLink, reasonStopped}
+use Rattle.basics.proofs.Laws.{if-no}
+use Rattle.session_record.specs.declared.Session.{Session}
+use Rattle.session_record.specs.Ranges.{inRanges}
+use Rattle.session.specs.Steps.{Step, refusedStep, leastBuffer, admittedStep, endsRunning}
+use Rattle.session.specs.Start.{startIn}
+use Rattle.session.specs.Answer.{answerIn}
+use Rattle.session_claim.specs.Calls.{Call, start, answer, link-failed, stop, callStep, CallMade, callMade, playCalls, finalSession}
+use Rattle.session_claim.proofs.Trace.{call-keeps}
+
+-- the refusal for the buffer's size, then the step
+abbrev pub sized : Session → List ℕ → Step → Step
+sized s buf st = if (ltb (length buf) leastBuffer) (refusedStep s refusedBuffer buf) st
+
+abbrev pub stepIn : Session → Call → Step
+stepIn s (start bytes buf) = sized s buf (startIn (s .phase) s bytes buf)
+stepIn s (answer card buf) = sized s buf (answerIn (s .phase) s card buf)
+stepIn s (link-failed buf) = sized s buf (endsRunning (s .phase) s reasonLink buf)
+stepIn s (stop buf) = sized s buf (endsRunning (s .phase) s reasonStopped buf)
+
+-- the calls of a list, and the session after them
+unfoldable pub playIn : Session → List Call → List CallMade
+playIn s [] = []
+playIn s (c ∷ cs) = callMade s c (stepIn s c) ∷ playIn (stepIn s c .reply .session) cs
+
+unfoldable pub finalIn : Session → List Call → Session
+finalIn s [] = s
+finalIn s (c ∷ cs) = finalIn (stepIn s c .reply .session) cs
+
+module _ (s : Session) (e : inRanges s ≡ true) where
+  tested : (buf : List ℕ) (st : Step) → admittedStep s buf st ≡ sized s buf st
+  unfolding admittedStep
+  tested buf st = ap (if (ltb (length buf) leastBuffer) (refusedStep s refusedBuffer buf)) (if-no _ _ (ap not e))
+
+  step-in : (c : Call) → callStep s c ≡ stepIn s c
+  step-in (start bytes buf) = tested buf _
+  step-in (answer card buf) = tested buf _
+  step-in (link-failed buf) = tested buf _
+  step-in (stop buf) = tested buf _
+
+  after : (c : Call) → inRanges (stepIn s c .reply .session) ≡ true
+  after c = subst (λ (st : Step). inRanges (st .reply .session) ≡ true) (step-in c) (call-keeps s c e)
+
+pub play-in : (s : Session) → inRanges s ≡ true → (cs : List Call) → playCalls s cs ≡ playIn s cs
+unfolding playCalls playIn
+play-in s e [] = refl
+play-in s e (c ∷ cs) =
+    ap (λ (st : Step). callMade s c st ∷ playCalls (st .reply .session) cs) (step-in s e c) ∙ ap (λ (ms : List CallMade). callMade s c (stepIn s c) ∷ ms) (play-in _ (after s e c) cs)
+
+pub final-in : (s : Session) → inRanges s ≡ true → (cs : List Call) → finalSession s cs ≡ finalIn s cs
+unfolding finalSession finalIn
+final-in s e [] = refl
+final-in s e (c ∷ cs) = ap (λ (st : Step). finalSession (st .reply .session) cs) (step-in s e c) ∙ final-in _ (after s e c) cs

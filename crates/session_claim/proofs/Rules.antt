@@ -1,0 +1,199 @@
+-- What an answer's step hands back, by the rules: a command to a session that waits on processing options exactly where the rules give no
+-- reason (a store without one has a first record), and none taken before that one (by induction over the calls, since start alone leads out of fresh).
+-- Assumes nothing.
+use mathlib.Core.Path.{_≡_, refl, sym, ap, subst, _∙_}
+use mathlib.Core.Bool.{Bool, true, false}
+use mathlib.Core.Logic.{_⊎_, inl, inr}
+use mathlib.Core.List.{List, [], _∷_}
+use mathlib.Core.Option.{some}
+use Prim.Native.Nat.{ℕ}
+use native.Mathlib.Omega.{arith}
+use lib.Dec.{eqb}
+use borrow.Author.Tests.{eqb-true}
+use Rattle.basics.specs.Choice.{if}
+use Rattle.basics.proofs.Laws.{if-ind, if-yes, if-no, bool-cases}
+use Rattle.afl.specs.declared.RecordFound.{RecordFound}
+use Rattle.afl.specs.Records.{acceptsAfl, aflRecordAt}
+use Rattle.afl.proofs.Laws.{accepted-total, record-there}
+use Rattle.reading.specs.declared.Awaited.{Awaited}
+use Rattle.reading.specs.Answer as reading
+use Rattle.session_record.specs.declared.Phase.{Phase}
+use Rattle.session_record.specs.declared.Session.{Session}
+use Rattle.session_record.specs.Session.{storeBytes}
+use Rattle.session_record.specs.Ranges.{storedAfl}
+use Rattle.analysis.specs.Cvm.{cvmNotApplicable}
+use Rattle.session.specs.Steps.{Step, failedStep, admittedStep, abortStep}
+use Rattle.session.specs.Start.{startStep}
+use Rattle.session.specs.Answer.{askRecordFound, gpoStoreReason, afterGpoRead, gpoStep, gpoReason, answerIn, answerStep}
+use Rattle.basics.specs.Reason.{reasonLink, reasonStopped}
+use Rattle.session_claim.proofs.Ways as ways
+use Rattle.session_claim.proofs.Ways.{stored-none, GpoWay, AnswerWay, answer-way, StartWay, start-way, BrokenWay, broken-way}
+use Rattle.session_claim.specs.Calls.{Call, start, answer, link-failed, stop, callStep, CallMade, callMade, playCalls, isRefusal, isCommand, isAnswer, callsAccepted}
+use Rattle.session_claim.specs.Order.{firstAnswer}
+use Rattle.session_claim.specs.Claim.{isRunning}
+
+pub no : {P : Type 0} → false ≡ true → P
+no e = let z : _≡_ {A = ℕ} 0 1 = cc in absurd (omega arith)
+
+-- ---- a command exactly where the rules give no reason
+
+abbrev hands : Step → Bool
+hands st = isCommand (st .reply .answer)
+
+-- a locator that is accepted has a first record
+there : (l : List ℕ) → acceptsAfl l ≡ true → aflRecordAt l 1 ≡ RecordFound.Nothing → ⊥
+there l a e =
+    let f = record-there l 1 (record { sfi = 0; number = 0 }) a (omega arith) (omega (arith, accepted-total l a)) in
+    let z : _≡_ {A = ℕ} 0 1 = cc in
+    omega arith
+
+by-test : (n : ℕ) (b buf : List ℕ) (x : Bool) → eqb (gpoStoreReason b) 0 ≡ x → (f : RecordFound) → aflRecordAt (storedAfl b) 1 ≡ f
+    → hands (if x (askRecordFound n b 1 buf f) (failedStep cvmNotApplicable n b (gpoStoreReason b) buf)) ≡ x
+unfolding if
+by-test n b buf false e f g = refl
+by-test n b buf true e RecordFound.Nothing g = absurd (there (storedAfl b) (stored-none b (eqb-true (gpoStoreReason b) 0 e) .1) g)
+by-test n b buf true e (RecordFound.At r) g = refl
+
+read-hands : (n : ℕ) (b buf : List ℕ) → hands (afterGpoRead n b buf) ≡ eqb (gpoStoreReason b) 0
+unfolding afterGpoRead
+read-hands n b buf = by-test n b buf (eqb (gpoStoreReason b) 0) refl (aflRecordAt (storedAfl b) 1) refl
+
+by-reason : (n : ℕ) (b buf : List ℕ) (o : reading.ReadingOutcome) (x : Bool) → eqb (o .reason) 0 ≡ x
+    → hands (if x (afterGpoRead n (o .store) buf) (failedStep cvmNotApplicable n b (o .reason) buf)) ≡ eqb (if x (gpoStoreReason (o .store)) (o .reason)) 0
+unfolding if
+by-reason n b buf o true e = read-hands n (o .store) buf
+by-reason n b buf o false e = sym e
+
+-- a command comes exactly where the rules give no reason
+pub hands-by-rules : (n : ℕ) (b card buf : List ℕ) → hands (gpoStep n b card buf) ≡ eqb (gpoReason b card) 0
+unfolding gpoStep gpoReason
+hands-by-rules n b card buf = let o = reading.readAnswer Awaited.Gpo b card in by-reason n b buf o (eqb (o .reason) 0) refl
+
+-- ---- the call answer, by the session's phase
+
+module _ (s : Session) (card buf : List ℕ) where
+  -- on a session that waits on processing options it hands back a command only where the rules give no reason
+  pub sent-by-rules : s .phase ≡ Phase.Gpo → hands (answerStep s card buf) ≡ true → eqb (gpoReason (storeBytes s) card) 0 ≡ true
+  unfolding admittedStep
+  sent-by-rules q =
+      if-ind P _ _ _ (λ e h. no h)
+      (λ e. if-ind P _ _ _ (λ r h. no h)
+      (λ r. subst (λ (p : Phase). P (answerIn p s card buf)) (sym q) (λ h. sym (hands-by-rules (s .count) (storeBytes s) card buf) ∙ h)))
+    where
+      P : Step → Type 0
+      P st = hands st ≡ true → eqb (gpoReason (storeBytes s) card) 0 ≡ true
+
+  -- it is refused while the session does not run
+  pub answer-off : isRunning (s .phase) ≡ false → isRefusal (answerStep s card buf .reply .answer) ≡ true
+  unfolding admittedStep
+  answer-off n = if-ind P _ _ _ (λ e. refl) (λ e. if-ind P _ _ _ (λ r. refl) (λ r. go (s .phase) n))
+    where
+      P : Step → Type 0
+      P st = isRefusal (st .reply .answer) ≡ true
+
+      go : (p : Phase) → isRunning p ≡ false → P (answerIn p s card buf)
+      go Phase.Fresh e = refl
+      go Phase.Gpo e = no (sym e)
+      go (Phase.Record p) e = no (sym e)
+      go (Phase.Cryptogram a) e = no (sym e)
+      go (Phase.Checksum k) e = no (sym e)
+      go (Phase.Ended x) e = refl
+
+-- ---- the first answer that is taken
+
+-- no answer was taken yet, or the session has ended
+abbrev early : Phase → Bool
+early Phase.Fresh = true
+early Phase.Gpo = true
+early (Phase.Record p) = false
+early (Phase.Cryptogram a) = false
+early (Phase.Checksum k) = false
+early (Phase.Ended e) = true
+
+waits : (p : Phase) → early p ≡ true → isRunning p ≡ true → p ≡ Phase.Gpo
+waits Phase.Fresh e r = no r
+waits Phase.Gpo e r = refl
+waits (Phase.Record p) e r = no e
+waits (Phase.Cryptogram a) e r = no e
+waits (Phase.Checksum k) e r = no e
+waits (Phase.Ended x) e r = no r
+
+-- that stays so with a call that is refused or is no answer
+abbrev Stays : Call → Step → Type 0
+Stays c st = (isRefusal (st .reply .answer) ≡ true) ⊎ (isAnswer c ≡ false) → early (st .reply .session .phase) ≡ true
+
+module _ (s : Session) (e : early (s .phase) ≡ true) where
+  start-stays : (bytes buf : List ℕ) → Stays (start bytes buf) (startStep s bytes buf)
+  start-stays bytes buf = go (start-way s bytes buf)
+    where
+      go : {st : Step} → StartWay s bytes buf st → Stays (start bytes buf) st
+      go (StartWay.refused n l) = λ x. e
+      go (StartWay.unlisted b i q f) = λ x. refl
+      go (StartWay.asked b c i q f g) = λ x. refl
+
+  answer-stays : (card buf : List ℕ) → Stays (answer card buf) (answerStep s card buf)
+  answer-stays card buf (inl r) = go (answer-way s card buf) r
+    where
+      P : Step → Type 0
+      P st = isRefusal (st .reply .answer) ≡ true → early (st .reply .session .phase) ≡ true
+
+      first : {st : Step} → GpoWay (ways.taken Awaited.Gpo s card) buf st → P st
+      first (GpoWay.failed n r) = λ x. no x
+      first (GpoWay.first r m a f) = λ x. no x
+
+      go : {st : Step} → AnswerWay s card buf st → P st
+      go (AnswerWay.refused n l) = λ x. e
+      go (AnswerWay.unread m n i r h y) = λ x. no x
+      go (AnswerWay.gpo i q z w) = first w
+      go (AnswerWay.recorded p r i q f w) = λ x. no (sym (ap early q) ∙ e)
+      go (AnswerWay.cryptogram a i q w) = λ x. no (sym (ap early q) ∙ e)
+      go (AnswerWay.checksum k i q w) = λ x. no (sym (ap early q) ∙ e)
+  answer-stays card buf (inr f) = no (sym f)
+
+  broken-stays : (c : Call) (n : ℕ) (buf : List ℕ) → Stays c (abortStep s n buf)
+  broken-stays c n buf = go (broken-way s n buf)
+    where
+      go : {st : Step} → BrokenWay s n buf st → Stays c st
+      go (BrokenWay.refused m l) = λ x. e
+      go (BrokenWay.broken m i h) = λ x. refl
+
+  stays : (c : Call) → Stays c (callStep s c)
+  stays (start bytes buf) = start-stays bytes buf
+  stays (answer card buf) = answer-stays card buf
+  stays (link-failed buf) = broken-stays (link-failed buf) reasonLink buf
+  stays (stop buf) = broken-stays (stop buf) reasonStopped buf
+
+  -- an answer is taken on processing options alone
+  taken-waits : (c : Call) → isAnswer c ≡ true → isRefusal (callStep s c .reply .answer) ≡ false → s .phase ≡ Phase.Gpo
+  taken-waits (start bytes buf) a r = no a
+  taken-waits (answer card buf) a r = waits (s .phase) e (go (bool-cases (isRunning (s .phase))))
+    where
+      go : (isRunning (s .phase) ≡ true) ⊎ (isRunning (s .phase) ≡ false) → isRunning (s .phase) ≡ true
+      go (inl y) = y
+      go (inr n) = no (sym r ∙ answer-off s card buf n)
+  taken-waits (link-failed buf) a r = no a
+  taken-waits (stop buf) a r = no a
+
+  -- one call: it is the first answer taken, or that comes later
+  one-call : (c : Call) (tk : List CallMade) (m : CallMade) → let st = callStep s c in
+      (early (st .reply .session .phase) ≡ true → firstAnswer tk ≡ some m → m .before .phase ≡ Phase.Gpo)
+      → firstAnswer (if (isRefusal (st .reply .answer)) tk (callMade s c st ∷ tk)) ≡ some m → m .before .phase ≡ Phase.Gpo
+  unfolding firstAnswer
+  one-call c tk m later f = elim (bool-cases (isRefusal (callStep s c .reply .answer))) [
+    | inl r ↦ later (stays c (inl r)) (sym (ap firstAnswer (if-yes _ _ r)) ∙ f)
+    | inr n ↦ elim (bool-cases (isAnswer c)) [
+      | inl a ↦ (let g : some (callMade s c (callStep s c)) ≡ some m = sym (ap firstAnswer (if-no _ _ n) ∙ if-yes _ _ a) ∙ f in
+          let h : callMade s c (callStep s c) ≡ m = cc in subst (λ (x : CallMade). x .before .phase ≡ Phase.Gpo) h (taken-waits c a n))
+      | inr a ↦ later (stays c (inr a)) (sym (ap firstAnswer (if-no _ _ n) ∙ if-no _ _ a) ∙ f)
+    ]
+  ]
+
+first-in : (s : Session) (cs : List Call) (m : CallMade) → early (s .phase) ≡ true → firstAnswer (callsAccepted (playCalls s cs)) ≡ some m → m .before .phase ≡ Phase.Gpo
+unfolding playCalls callsAccepted firstAnswer
+first-in s [] m e f = let z : _≡_ {A = ℕ} 0 1 = cc in absurd (omega arith)
+first-in s (c ∷ cs) m e f = one-call s e c _ m (first-in (callStep s c .reply .session) cs m) f
+
+-- from a fresh session on, the first answer taken comes while processing options are waited on
+pub first-on-gpo : (s : Session) (cs : List Call) (m : CallMade) → s .phase ≡ Phase.Fresh → firstAnswer (callsAccepted (playCalls s cs)) ≡ some m
+    → m .before .phase ≡ Phase.Gpo
+first-on-gpo s cs m q f = first-in s cs m (ap early q) f

@@ -1,0 +1,21 @@
+// Demand 3: one claim over every list of calls. The statement is in specs/Claim, the proof in proofs/. And: every call hands back a record in its
+// ranges where it was given one, so that the limit in force stays right; and the method that each outcome tells.
+ghost use mathlib.Core.Path.{_≡_};
+ghost use mathlib.Core.Bool.{true};
+ghost use mathlib.Core.List.{List};
+ghost use Rattle.session_record.specs.declared.Session.{Session};
+ghost use Rattle.session_record.specs.declared.Phase.{Phase};
+ghost use Rattle.session_record.specs.Ranges.{inRanges};
+ghost use Rattle.session_claim.specs.Calls.{Call, playCalls, finalSession, callStep};
+ghost use Rattle.session_claim.specs.Claim.{SessionProper};
+ghost use Rattle.session_claim.specs.ReportedCvm.{ReportsCvm};
+
+// The most commands that any list of calls hands out.
+pub fn every_session_is_proper() -> usize
+    ensures most { λ r. ⌜ r ≡ 130 ⌝ }
+    ensures claim { λ _. ⌜ ((s : Session) (cs : List Call) → s .phase ≡ Phase.Fresh → inRanges s ≡ true → SessionProper (playCalls s cs) (finalSession s cs)) ⌝ }
+    ensures ranges { λ _. ⌜ ((s : Session) (c : Call) → inRanges s ≡ true → inRanges (callStep s c .reply .session) ≡ true) ⌝ }
+    ensures cvms { λ _. ⌜ ((s : Session) (c : Call) → ReportsCvm s (callStep s c)) ⌝ }
+{
+    130
+}

@@ -1,0 +1,48 @@
+-- The ranges of a record by one walk over the rows and the bytes, each place dropped once it is judged: what computed examples go by, since the
+-- rule finds each row by its tag and each place from the store's front. Assumes nothing.
+use mathlib.Core.Path.{_≡_, refl, sym, ap, ap₂, _∙_}
+use mathlib.Core.Bool.{Bool, true}
+use mathlib.Core.List.{List, [], _∷_, map}
+use Prim.Native.Nat.{ℕ, suc, _<_}
+use native.Mathlib.Omega.{arith}
+use lib.Dec.{eqb}
+use lib.ListN.{length, take, drop}
+use lib.Seq.{drop-drop}
+use Rattle.basics.specs.Choice.{both, every}
+use Rattle.dictionary.specs.Rows.{Row, dictionaryRows, rowIn, storeSize}
+use Rattle.store.specs.Place.{rowRoom, rowOffset, rowPlace}
+use Rattle.store.proofs.Rows.{rows-length}
+use Rattle.session_record.specs.declared.Session.{Session}
+use Rattle.session_record.specs.Session.{storeBytes}
+use Rattle.session_record.specs.Inner.{rowPlaceFits}
+use Rattle.session_record.specs.Ranges.{objectFits, allObjectsFit, phaseRanges, inRanges}
+use Rattle.session_record.proofs.Fit.{object-place}
+
+-- what stands in the places of a table's rows fits
+unfoldable pub fitAlong : List Row → List ℕ → Bool
+fitAlong [] b = true
+fitAlong (r ∷ rs) b = both (rowPlaceFits r (take (rowRoom r) b)) (fitAlong rs (drop (rowRoom r) b))
+
+along : (f : Row → Bool) (table : List Row) (b : List ℕ)
+    → ((k : ℕ) → k < length table → f (rowIn table k) ≡ rowPlaceFits (rowIn table k) (rowPlace table b k)) → every f table ≡ fitAlong table b
+unfolding every fitAlong rowPlace rowOffset
+along f [] b h = refl
+along f (r ∷ rs) b h =
+    ap₂ both (h 0 (omega arith))
+    (along f rs (drop (rowRoom r) b) (λ k l. h (suc k) (omega arith) ∙ ap (λ (p : List ℕ). rowPlaceFits (rowIn rs k) (take (rowRoom (rowIn rs k)) p)) (sym (drop-drop (rowOffset rs k) (rowRoom r) b))))
+
+pub all-along : (b : List ℕ) → allObjectsFit b ≡ fitAlong dictionaryRows b
+unfolding allObjectsFit
+all-along b = along (objectFits b) dictionaryRows b (λ k h. object-place b k (omega (arith, rows-length)))
+
+-- the whole test
+abbrev pub rangesAlong : Session → Bool
+rangesAlong s = both (eqb (length (storeBytes s)) storeSize) (both (fitAlong dictionaryRows (storeBytes s)) (phaseRanges (s .phase) s))
+
+pub ranges-along : (s : Session) → inRanges s ≡ rangesAlong s
+unfolding inRanges
+ranges-along s = ap (λ (x : Bool). both (eqb (length (storeBytes s)) storeSize) (both x (phaseRanges (s .phase) s))) (all-along (storeBytes s))
+
+-- of a list of records
+pub each-along : {A : Type 0} (f : A → Session) (xs : List A) → map (λ x. inRanges (f x)) xs ≡ map (λ x. rangesAlong (f x)) xs
+each-along f xs = λ i. map (λ x. ranges-along (f x) i) xs

@@ -1,0 +1,120 @@
+-- What a session that keeps its ranges is in each phase, and how a record built anew keeps them: from the clauses and back.
+-- Assumes nothing.
+use mathlib.Core.Path.{_≡_, refl, sym, subst, _∙_}
+use mathlib.Core.Logic.{inl, inr}
+use mathlib.Core.Bool.{true}
+use mathlib.Core.List.{List}
+use Prim.Native.Nat.{ℕ, _≤_}
+use native.Mathlib.Omega.{arith}
+use lib.ListN.{length, replicate}
+use Rattle.basics.proofs.Laws.{bool-cases, both-left, either-false}
+use Rattle.dictionary.specs.Rows.{storeSize}
+use Rattle.store.specs.Place.{StoredValue, absent, present, bytesOfValue, isPresent, objectValue}
+use Rattle.afl.specs.Records.{acceptsAfl}
+use Rattle.afl.proofs.Laws.{accepted-total, accepted-length}
+use Rattle.analysis.specs.Bits.{valueHasBit}
+use Rattle.session_record.specs.declared.Outcome.{Outcome}
+use Rattle.session_record.specs.declared.AwaitedRecord.{AwaitedRecord}
+use Rattle.session_record.specs.declared.RequestedCryptogram.{RequestedCryptogram}
+use Rattle.session_record.specs.declared.AwaitedChecksum.{AwaitedChecksum}
+use Rattle.session_record.specs.declared.Ending.{Ending}
+use Rattle.session_record.specs.declared.Phase.{Phase}
+use Rattle.session_record.specs.declared.Session.{Session}
+use Rattle.session_record.specs.Numbers.{reasonMatchesOutcome, outcomeOfReason}
+use Rattle.basics.specs.Reason.{reasonMode}
+use Rattle.session_record.specs.Session.{storeBytes, freshSession, waitingSession, endedSession, endingOf}
+use Rattle.store.specs.Held.{hasObject}
+use Rattle.session_record.specs.Ranges.{emvMode, magStripeMode, emvOrMagStripeMode, storedAfl, mostCommands, inRanges}
+use Rattle.session_record.specs.Clauses.{AllObjectsFit, FreshClauses, GpoClauses, RecordClauses, CryptogramClauses, ChecksumClauses, EndedClauses, PhaseClauses}
+use Rattle.session_record.proofs.Values.{bytes-there}
+use Rattle.session_record.proofs.Laws.{clauses, clauses-pass}
+use Rattle.session_record.proofs.Stored.{empty-fits}
+use Rattle.session_record.proofs.Reasons.{outcome-goes}
+
+-- ---- from the ranges
+
+module _ (s : Session) (e : inRanges s ≡ true) where
+  pub store-size : length (storeBytes s) ≡ storeSize
+  store-size = clauses s e .size
+
+  pub store-fits : AllObjectsFit (storeBytes s)
+  store-fits = clauses s e .fits
+
+  in-phase : (p : Phase) → s .phase ≡ p → PhaseClauses p s
+  in-phase p q = subst (λ (x : Phase). PhaseClauses x s) q (clauses s e .phase)
+
+  pub on-fresh : s .phase ≡ Phase.Fresh → FreshClauses (s .count) (storeBytes s)
+  on-fresh q = in-phase Phase.Fresh q
+
+  pub on-gpo : s .phase ≡ Phase.Gpo → GpoClauses (s .count) (storeBytes s)
+  on-gpo q = in-phase Phase.Gpo q
+
+  pub on-record : (p : AwaitedRecord) → s .phase ≡ Phase.Record p → RecordClauses p (s .count) (storeBytes s)
+  on-record p q = in-phase (Phase.Record p) q
+
+  pub on-cryptogram : (a : RequestedCryptogram) → s .phase ≡ Phase.Cryptogram a → CryptogramClauses a (s .count) (storeBytes s)
+  on-cryptogram a q = in-phase (Phase.Cryptogram a) q
+
+  pub on-checksum : (k : AwaitedChecksum) → s .phase ≡ Phase.Checksum k → ChecksumClauses k (s .count) (storeBytes s)
+  on-checksum k q = in-phase (Phase.Checksum k) q
+
+  pub on-ended : (x : Ending) → s .phase ≡ Phase.Ended x → EndedClauses x (s .count)
+  on-ended x q = in-phase (Phase.Ended x) q
+
+  -- a fresh record that keeps its ranges is the fresh one
+  pub is-fresh : s .phase ≡ Phase.Fresh → s ≡ freshSession
+  is-fresh q = let c = on-fresh q in built s Phase.Fresh 0 (replicate storeSize 0) q (c .count) (c .store)
+    where
+      built : (s : Session) (p : Phase) (n : ℕ) (b : List ℕ) → s .phase ≡ p → s .count ≡ n → storeBytes s ≡ b → s ≡ record { phase = p; count = n; store = record { bytes = b } }
+      built s p n b x y z = simp (sym x, sym y, sym z)
+
+-- a locator that meets the rules is there, and so is 82 with a bit set
+pub afl-there : (b : List ℕ) → acceptsAfl (storedAfl b) ≡ true → hasObject b 0x94 ≡ true
+afl-there b a = bytes-there (objectValue b 0x94) (omega (arith, accepted-length (storedAfl b) a .1))
+
+pub mode-there : (b : List ℕ) → emvMode b ≡ true → hasObject b 0x82 ≡ true
+mode-there b e = go (objectValue b 0x82) e
+  where
+    go : (x : StoredValue) → valueHasBit (bytesOfValue x) 2 8 ≡ true → isPresent x ≡ true
+    go absent m = cc
+    go (present v) m = refl
+
+-- in either mode 82 is there
+pub either-there : (b : List ℕ) → emvOrMagStripeMode b ≡ true → hasObject b 0x82 ≡ true
+either-there b e = elim (bool-cases (emvMode b)) [
+  | inl y ↦ mode-there b y
+  | inr n ↦ both-left _ _ (sym (either-false _ n) ∙ e)
+]
+
+-- a count is at most 130 in every phase
+phase-most : (p : Phase) (s : Session) → PhaseClauses p s → s .count ≤ mostCommands
+phase-most Phase.Fresh s c = omega (arith, c .count)
+phase-most Phase.Gpo s c = omega (arith, c .count)
+phase-most (Phase.Record p) s c = omega (arith, c .count, c .last, accepted-total (storedAfl (storeBytes s)) (c .afl))
+phase-most (Phase.Cryptogram a) s c = omega (arith, c .count, accepted-total (storedAfl (storeBytes s)) (c .afl))
+phase-most (Phase.Checksum x) s c = omega (arith, c .count, accepted-total (storedAfl (storeBytes s)) (c .afl))
+phase-most (Phase.Ended x) s c = c .count
+
+pub count-most : (s : Session) → inRanges s ≡ true → s .count ≤ mostCommands
+count-most s e = phase-most (s .phase) s (clauses s e .phase)
+
+-- ---- records built anew
+
+pub fresh-keeps : inRanges freshSession ≡ true
+fresh-keeps = clauses-pass freshSession (record { size = refl; fits = empty-fits; phase = record { count = refl; store = refl } })
+
+pub waiting-keeps : (s : Session) (p : Phase) (n : ℕ) → length (storeBytes s) ≡ storeSize → AllObjectsFit (storeBytes s) → PhaseClauses p (waitingSession s p n)
+    → inRanges (waitingSession s p n) ≡ true
+waiting-keeps s p n l f c = clauses-pass (waitingSession s p n) (record { size = l; fits = f; phase = c })
+
+module _ (s : Session) (o : Outcome) (n : ℕ) (g : reasonMatchesOutcome o n ≡ true) where
+  pub ended-keeps : length (storeBytes s) ≡ storeSize → AllObjectsFit (storeBytes s) → s .count ≤ mostCommands → inRanges (endedSession s (endingOf o n)) ≡ true
+  ended-keeps l f c = clauses-pass (endedSession s (endingOf o n)) (record { size = l; fits = f; phase = record { count = c; reason = g } })
+
+  -- a record that keeps its ranges keeps them when it ends
+  pub ends-keeps : inRanges s ≡ true → inRanges (endedSession s (endingOf o n)) ≡ true
+  ends-keeps e = ended-keeps (store-size s e) (store-fits s e) (count-most s e)
+
+-- and when it ends for a reason other than none
+pub fails-keeps : (s : Session) (n : ℕ) → 1 ≤ n → n ≤ reasonMode → inRanges s ≡ true → inRanges (endedSession s (endingOf (outcomeOfReason n) n)) ≡ true
+fails-keeps s n low high e = ends-keeps s (outcomeOfReason n) n (outcome-goes n low high) e

@@ -1,0 +1,114 @@
+-- `session_record::cryptogram_in_ranges` meets its contract: where a clause holds, the later ones decide; last the locator and the count.
+-- Assumes nothing.
+use borrow.Author.Needs.{needs}
+use borrow.Author.Tests.{not-true, not-false, eq-eqb, ne-eqb}
+use mathlib.Core.Path.{_≡_, sym, _∙_}
+use Prim.Native.Nat.{_+_}
+use native.Mathlib.Omega.{arith}
+use lib.Dec.{eqb}
+use Rattle.basics.specs.Choice.{both}
+use Rattle.basics.proofs.Laws.{both-true, both-assoc, both-no-left}
+use Rattle.afl.specs.Records.{acceptsAfl}
+use Rattle.analysis.specs.Action.{transactionLimit}
+use Rattle.session_record.specs.Ranges.{allObjectsFit, emvMode, cryptogramDataPresent, storedAfl, storedRecordCount, cryptogramRanges}
+use Rattle.dictionary.proofs.Named.{at-9F34}
+use Rattle.store.specs.Held.{hasObject}
+use Rattle.session_record.proofs.Tags.{held-is, located-no, located-yes}
+use Rattle.session_record.proofs.Tests.{two-less}
+use Rattle.session_record.proofs.cryptogram_in_ranges.Statement.{statement}
+use Rattle.session_record.proofs.cryptogram_in_ranges.Tie as tie
+
+past-running : (c : tie.Else1)
+    → let a = c .before .before .before .args in
+    let b = a .bytes .now in
+    both (allObjectsFit b) (cryptogramRanges (a .asked) (a .count) b) ≡ both (emvMode b) (both (cryptogramDataPresent b) (both (hasObject b 0x9F34) (both (eqb (a .asked .limit) (transactionLimit b)) (both (acceptsAfl (storedAfl b)) (eqb (a .count) (2 + storedRecordCount b))))))
+unfolding cryptogramRanges
+past-running c = both-assoc _ _ _ ∙ both-true _ (sym (c .before .is-running .ensures) ∙ not-false _ (c .if1 .left))
+
+past-mode : (c : tie.Else2)
+    → let a = c .before .before .before .before .before .args in
+    let b = a .bytes .now in
+    both (allObjectsFit b) (cryptogramRanges (a .asked) (a .count) b) ≡ both (cryptogramDataPresent b) (both (hasObject b 0x9F34) (both (eqb (a .asked .limit) (transactionLimit b)) (both (acceptsAfl (storedAfl b)) (eqb (a .count) (2 + storedRecordCount b)))))
+past-mode c = past-running (c .before .before) ∙ both-true _ (sym (c .before .is-emv .ensures) ∙ not-false _ (c .if2 .left))
+
+past-completed : (c : tie.Else3)
+    → let a = c .before .before .before .before .before .before .before .args in
+    let b = a .bytes .now in
+    both (allObjectsFit b) (cryptogramRanges (a .asked) (a .count) b) ≡ both (hasObject b 0x9F34) (both (eqb (a .asked .limit) (transactionLimit b)) (both (acceptsAfl (storedAfl b)) (eqb (a .count) (2 + storedRecordCount b))))
+past-completed c = past-mode (c .before .before) ∙ both-true _ (sym (c .before .is-complete .ensures) ∙ not-false _ (c .if3 .left))
+
+past-verified : (c : tie.Else4)
+    → let a = c .before .before .before .before .before .before .before .before .before .args in
+    let b = a .bytes .now in
+    both (allObjectsFit b) (cryptogramRanges (a .asked) (a .count) b) ≡ both (eqb (a .asked .limit) (transactionLimit b)) (both (acceptsAfl (storedAfl b)) (eqb (a .count) (2 + storedRecordCount b)))
+past-verified c = past-completed (c .before .before) ∙ both-true _ (held-is _ _ _ at-9F34 (c .before .is-there .ensures) (not-false _ (c .if4 .left)))
+
+past-limit : (c : tie.Else5)
+    → let a = c .before .before .before .before .before .before .before .before .before .before .before .before .args in
+    let b = a .bytes .now in
+    both (allObjectsFit b) (cryptogramRanges (a .asked) (a .count) b) ≡ both (acceptsAfl (storedAfl b)) (eqb (a .count) (2 + storedRecordCount b))
+past-limit c = past-verified (c .before .before .before) ∙ both-true _ (eq-eqb _ _ (c .if5 .left ∙ c .before .before .transaction-limit .ensures))
+
+-- where the locator is accepted, the count decides
+counted : (c : tie.After-known-told)
+    → let a = c .before .before .before .before .before .before .before .before .before .before .before .before .before .before .before .before .before .args in
+    (both (allObjectsFit (a .bytes .now)) (cryptogramRanges (a .asked) (a .count) (a .bytes .now)) ≡ eqb (a .count) (2 + storedRecordCount (a .bytes .now)))
+    × (c .before .c .given .0 .0 .records ≡ storedRecordCount (a .bytes .now))
+counted c =
+    let k = c .before .before .before in
+    let y = located-yes _ (k .before .value .ensures) (sym (k .check-afl .ensures .0) ∙ c .before .c .given .1) in
+    (past-limit (k .before .before) ∙ both-true _ (y .0), y .1)
+
+returns : tie.Need-returns
+unfolding cryptogramRanges
+returns c = sym (both-assoc _ _ _ ∙ both-no-left _ _ (sym (c .before .is-running .ensures) ∙ not-true _ (c .if1 .taken)))
+
+returns-2 : tie.Need-returns-2
+returns-2 c = sym (past-running (c .before .before) ∙ both-no-left _ _ (sym (c .before .is-emv .ensures) ∙ not-true _ (c .if2 .taken)))
+
+returns-3 : tie.Need-returns-3
+returns-3 c = sym (past-mode (c .before .before) ∙ both-no-left _ _ (sym (c .before .is-complete .ensures) ∙ not-true _ (c .if3 .taken)))
+
+returns-4 : tie.Need-returns-4
+returns-4 c = sym (past-completed (c .before .before) ∙ both-no-left _ _ (held-is _ _ _ at-9F34 (c .before .is-there .ensures) (not-true _ (c .if4 .taken))))
+
+returns-5 : tie.Need-returns-5
+returns-5 c = sym (past-verified (c .before .before .before) ∙ both-no-left _ _ (ne-eqb _ _ (λ e. c .if5 .taken (e ∙ sym (c .before .before .transaction-limit .ensures)))))
+
+returns-6 : tie.Need-returns-6
+returns-6 c =
+    let k = c .before .before in
+    sym (past-limit (k .before .before) ∙ both-no-left _ _ (located-no _ (k .before .value .ensures) (sym (k .check-afl .ensures .0) ∙ c .enum-told .given .1)))
+
+returns-7 : tie.Need-returns-7
+returns-7 c =
+    let a = c .before .before .before .before .before .before .before .before .before .before .before .before .before .before .before .before .before .before .before .args in
+    sym (counted (c .before .before) .0 ∙ ne-eqb (a .count) (2 + storedRecordCount (a .bytes .now)) (λ e. omega (arith, c .before .widen .ensures .0)))
+
+returns-8 : tie.Need-returns-8
+returns-8 c =
+    let y = counted (c .before .before .before) in
+    two-less (omega arith) (c .before .before .widen .ensures .0) (y .1) ∙ sym (y .0)
+
+pub cryptogram-in-ranges-spec : {M : Type 1} → statement M
+cryptogram-in-ranges-spec =
+    tie.close
+    (tie.spec
+    (λ c κs. search needs)
+    returns
+    (λ c κs. search needs)
+    returns-2
+    (λ c κs. search needs)
+    returns-3
+    (λ c κs. search needs)
+    returns-4
+    (λ c κs. search needs)
+    returns-5
+    (λ c κs. search needs)
+    (λ c κs. search needs)
+    (λ c. search needs)
+    (λ c. search needs)
+    returns-6
+    (λ c κs. search needs)
+    returns-7
+    returns-8)

@@ -1,0 +1,79 @@
+-- What private functions promise, for their callers' proofs: what is asked of a row's object by the bytes of its place,
+-- and where the next object that is there stands. No rule of document 01 stands here: a reader of the rules can pass it
+-- over. proofs/Fit, proofs/Walk and proofs/Required tie it to specs/Ranges: `object-place` to `objectFits`, `walk-end`
+-- to `allObjectsFit` and `allRequiredPresent`, `brought-rows` to `allRequiredPresent`.
+-- Assumes nothing.
+use mathlib.Core.Path.{_≡_, refl}
+use mathlib.Core.Bool.{Bool, not}
+use mathlib.Core.List.{List, [], _∷_}
+use Prim.Native.Nat.{ℕ, suc, _+_, _≤_, _<_}
+use lib.ListN.{getD}
+use Rattle.basics.specs.Choice.{if, if_then_else_, _and_, _or_, _≤?_, _=?_}
+use Rattle.dictionary.specs.Rows.{Row, dictionaryRows, rowCount, optional}
+use Rattle.dictionary.specs.Named.{rowTransactionDate, rowTransactionType, rowAmount, rowReaderVersion, rowTerminalCountry, rowTerminalCapabilities, rowTerminalType, rowUn, rowUnNumeric, rowKernelConfiguration}
+use Rattle.dictionary.specs.Named.{rowTacDefault, rowTacDenial, rowTacOnline, rowFloorLimit, rowLimitNoOnDeviceCvm, rowLimitOnDeviceCvm, rowCvmRequiredLimit}
+use Rattle.store.specs.Place.{placeValue, rowRoom, rowOffset}
+use Rattle.session_record.specs.declared.RowSpot.{RowSpot}
+use Rattle.session_record.specs.Ranges.{valueFits, allObjectsFit, allRequiredPresent}
+
+-- ---- one place
+
+-- what stands in a row's place fits: its length byte lies in the row's room, and its value fits
+unfoldable pub rowPlaceFits : Row → List ℕ → Bool
+rowPlaceFits r p =
+    getD p 0 0 ≤? rowRoom r
+    and valueFits r (placeValue p)
+
+-- ---- from a row on
+
+-- a walk came from a row to another, whose place starts at the byte `at`: by their length bytes the objects between are
+-- absent
+pub record RowsPassed (b : List ℕ) (from row at : ℕ) : Type 0 where
+  pub later : from ≤ row
+  pub within : row ≤ rowCount
+  pub place : at ≡ rowOffset dictionaryRows row
+  pub absent : (k : ℕ) → from ≤ k → k < row → getD b (rowOffset dictionaryRows k) 0 ≡ 0
+
+-- it came to the first object that is there, or to the end
+pub record NextPresent (b : List ℕ) (from : ℕ) (r : RowSpot) : Type 0 where
+  pub passed : RowsPassed b from (r .row) (r .at)
+  pub there : r .row < rowCount → 0 < getD b (r .at) 0
+
+-- ---- all rows
+
+-- how many objects of some rows a start must bring
+unfoldable pub requiredIn : List Row → ℕ
+requiredIn [] = 0
+requiredIn (r ∷ rs) = r .must + requiredIn rs
+
+-- and of all rows
+abbrev pub requiredCount : ℕ
+requiredCount = 17
+
+pub required-rows : requiredIn dictionaryRows ≡ requiredCount
+unfolding requiredIn dictionaryRows
+required-rows = refl
+
+-- the numbers of those rows of a table, whose first row has the number n
+unfoldable pub requiredFrom : ℕ → List Row → List ℕ
+requiredFrom n [] = []
+requiredFrom n (r ∷ rs) =
+    if r .must =? optional then requiredFrom (suc n) rs
+    else n ∷ requiredFrom (suc n) rs
+
+-- and of all rows
+unfoldable pub requiredRows : List ℕ
+requiredRows =
+    rowTransactionDate ∷ rowTransactionType ∷ rowAmount ∷ rowReaderVersion ∷ rowTerminalCountry ∷ rowTerminalCapabilities ∷ rowTerminalType ∷ rowUn ∷ rowUnNumeric ∷ rowKernelConfiguration ∷
+    rowTacDefault ∷ rowTacDenial ∷ rowTacOnline ∷ rowFloorLimit ∷ rowLimitNoOnDeviceCvm ∷ rowLimitOnDeviceCvm ∷ rowCvmRequiredLimit ∷
+    []
+
+pub required-numbers : requiredFrom 0 dictionaryRows ≡ requiredRows
+unfolding requiredFrom requiredRows dictionaryRows if
+required-numbers = refl
+
+-- every object fits, and where `asked` what a start must bring is there: by the rules
+abbrev pub allRowsFit : Bool → List ℕ → Bool
+allRowsFit asked b =
+    allObjectsFit b
+    and (not asked or allRequiredPresent b)

@@ -1,0 +1,638 @@
+// The session record by value: its phase, its count of commands handed out and its store; the reply of
+// a call; and the ranges that a record handed in must keep (`in_ranges`, `parts_in_ranges`).
+//
+// Inside a call the store is lent, and a turn stands for the reply without it. A record is built anew only
+// by `fresh_session`, `waiting_session` and `reply_of`, and a turn only by `refuse_call`, `end_session`, `fail_session` and `issue_command`: a new
+// field is added there.
+use analysis::choice::Choice;
+use analysis::cvm::Cvm;
+use dictionary::{
+    Attributes, ROWS, ROW_PAN, ROW_EXPIRATION_DATE, ROW_AIP, ROW_CDOL1, ROW_AFL, ROW_TVR, ROW_TRANSACTION_DATE, ROW_TRANSACTION_TYPE, ROW_AMOUNT, ROW_READER_VERSION, ROW_IAD, ROW_TERMINAL_COUNTRY,
+    ROW_AC, ROW_CID, ROW_TERMINAL_CAPABILITIES, ROW_CVM_RESULTS, ROW_TERMINAL_TYPE, ROW_ATC, ROW_UN, ROW_CVC3_TRACK2, ROW_PCVC3_TRACK2, ROW_PUNATC_TRACK2, ROW_NATC_TRACK2, ROW_UN_NUMERIC, ROW_TRACK2_DATA,
+    ROW_KERNEL_CONFIGURATION, ROW_TAC_DEFAULT, ROW_TAC_DENIAL, ROW_TAC_ONLINE, ROW_FLOOR_LIMIT, ROW_LIMIT_NO_ON_DEVICE_CVM, ROW_LIMIT_ON_DEVICE_CVM, ROW_CVM_REQUIRED_LIMIT, SIZE,
+};
+use afl::AflCheck;
+use store::Store;
+ghost use mathlib.Core.Path.{_≡_};
+ghost use mathlib.Core.Bool.{not};
+ghost use Prim.Native.Nat.{_≤_, _<_};
+ghost use lib.Dec.{eqb};
+ghost use lib.ListN.{length, getD};
+ghost use Rattle.basics.specs.Choice.{both, either, every};
+ghost use Rattle.dictionary.specs.Rows.{dictionaryRows, rowCount, storeSize};
+ghost use Rattle.dictionary.specs.Packing.{rowWithAttributes};
+ghost use Rattle.dictionary.specs.Tables.{packedRows};
+ghost use Rattle.store.specs.Place.{rowRoom, rowOffset};
+ghost use Rattle.session_record.specs.Numbers.{outcomeNumber, reasonMatchesOutcome, outcomeOfReason};
+ghost use Rattle.session_record.specs.Session.{sessionOf, freshSession, waitingSession, replyOf, refusedTransition, endingTransition, failingTransition, commandTransition};
+ghost use Rattle.store.specs.Held.{isZeroByte};
+ghost use Rattle.session_record.specs.Ranges.{allObjectsFit, allRequiredPresent, lastResponseAbsent, emvMode, magStripeMode, emvOrMagStripeMode, cryptogramDataPresent, trackDataPresent, runningRanges};
+ghost use Rattle.session_record.specs.Ranges.{freshRanges, gpoRanges, recordRanges, cryptogramRanges, checksumRanges, endedRanges};
+ghost use Rattle.session_record.specs.Clauses.{TestsRanges};
+ghost use Rattle.session_record.specs.Inner.{rowPlaceFits, requiredCount, NextPresent, allRowsFit};
+
+// How a session ends.
+pub enum Outcome {
+    Approved,
+    OnlineRequest,
+    Declined,
+    Ended,
+    SelectNext,
+}
+
+// An outcome with its reason, 0 where a decision was reached.
+pub struct Ending {
+    pub outcome: Outcome,
+    pub reason: u8,
+}
+
+// The record of the card that is awaited: its number in the locator's order, from 1; and the transaction limit in force.
+pub struct AwaitedRecord {
+    pub number: u8,
+    pub limit: u64,
+}
+
+// The cryptogram that is awaited: what was asked for, the method of cardholder verification, and the limit in force.
+pub struct RequestedCryptogram {
+    pub choice: Choice,
+    pub cvm: Cvm,
+    pub limit: u64,
+}
+
+// The checksum that is awaited (mag-stripe mode): the limit in force.
+pub struct AwaitedChecksum {
+    pub limit: u64,
+}
+
+// Fresh; waiting on processing options, on a record, on the cryptogram or on the checksum; or ended.
+pub enum Phase {
+    Fresh,
+    Gpo,
+    Record(AwaitedRecord),
+    Cryptogram(RequestedCryptogram),
+    Checksum(AwaitedChecksum),
+    Ended(Ending),
+}
+
+pub struct Session {
+    pub phase: Phase,
+    pub count: u8,
+    pub store: Store,
+}
+
+// A command in the front of the lent buffer.
+pub struct CommandLength {
+    pub size: usize,
+}
+
+// A call that was not taken.
+pub struct Refusal {
+    pub number: u8,
+}
+
+// What an outcome tells: the outcome with its reason, and the number of the method of cardholder verification.
+pub struct OutcomeParameters {
+    pub outcome: Outcome,
+    pub reason: u8,
+    pub cvm: u8,
+}
+
+pub enum CallResult {
+    Command(CommandLength),
+    Outcome(OutcomeParameters),
+    Refused(Refusal),
+}
+
+pub struct Reply {
+    pub session: Session,
+    pub answer: CallResult,
+}
+
+// Where a walk over the store stands: at a row, and at the byte where its place starts.
+pub struct RowSpot {
+    pub row: usize,
+    pub at: usize,
+}
+
+// What a call hands back beside the store.
+pub struct Transition {
+    pub phase: Phase,
+    pub count: u8,
+    pub answer: CallResult,
+}
+
+// The most commands that a session hands out.
+const MOST: u8 = 130;
+
+// How many objects a start must bring.
+const REQUIRED: usize = 17;
+
+// Their rows.
+const REQUIRED_ROWS: [usize; REQUIRED] = [
+    ROW_TRANSACTION_DATE, ROW_TRANSACTION_TYPE, ROW_AMOUNT, ROW_READER_VERSION, ROW_TERMINAL_COUNTRY, ROW_TERMINAL_CAPABILITIES, ROW_TERMINAL_TYPE, ROW_UN,
+    ROW_UN_NUMERIC, ROW_KERNEL_CONFIGURATION, ROW_TAC_DEFAULT, ROW_TAC_DENIAL, ROW_TAC_ONLINE, ROW_FLOOR_LIMIT, ROW_LIMIT_NO_ON_DEVICE_CVM, ROW_LIMIT_ON_DEVICE_CVM, ROW_CVM_REQUIRED_LIMIT,
+];
+
+// The number of an outcome.
+pub fn outcome_number(outcome: Outcome) -> u8
+    ensures { λ r. ⌜ r ≡ outcomeNumber outcome ⌝ }
+{
+    match outcome {
+        Outcome::Approved => 0,
+        Outcome::OnlineRequest => 1,
+        Outcome::Declined => 2,
+        Outcome::Ended => 3,
+        Outcome::SelectNext => 4,
+    }
+}
+
+// The outcome that goes with a reason other than 0.
+pub fn outcome_for(reason: u8) -> Outcome
+    ensures { λ r. ⌜ r ≡ outcomeOfReason reason ⌝ }
+{
+    if reason == basics::REASON_ABOVE_LIMIT {
+        return Outcome::SelectNext;
+    }
+    Outcome::Ended
+}
+
+// How many commands the session has handed out.
+pub fn count(session: Session) -> u8
+    ensures { λ r. ⌜ r ≡ session .count ⌝ }
+{
+    session.count
+}
+
+// A session that nothing has happened to.
+pub fn fresh_session() -> Session
+    ensures { λ r. ⌜ r ≡ freshSession ⌝ }
+{
+    let store = store::empty();
+    Session {
+        phase: Phase::Fresh,
+        count: 0,
+        store,
+    }
+}
+
+// The session in another phase, with another count.
+pub fn waiting_session(session: Session, phase: Phase, count: u8) -> Session
+    ensures { λ r. ⌜ r ≡ waitingSession session phase count ⌝ }
+{
+    let store = session.store;
+    Session {
+        phase,
+        count,
+        store,
+    }
+}
+
+// A refusal leaves the phase and the count as they are.
+pub fn refuse_call(phase: Phase, count: u8, number: u8) -> Transition
+    ensures { λ r. ⌜ r ≡ refusedTransition phase count number ⌝ }
+{
+    Transition {
+        phase,
+        count,
+        answer: CallResult::Refused(Refusal { number }),
+    }
+}
+
+// The session ends with an outcome and its reason, and tells the method; the record keeps no method.
+pub fn end_session(count: u8, outcome: Outcome, reason: u8, cvm: u8) -> Transition
+    ensures { λ r. ⌜ r ≡ endingTransition cvm count outcome reason ⌝ }
+{
+    Transition {
+        phase: Phase::Ended(Ending { outcome, reason }),
+        count,
+        answer: CallResult::Outcome(OutcomeParameters { outcome, reason, cvm }),
+    }
+}
+
+// The session ends for a reason other than 0, with the outcome that goes with it.
+pub fn fail_session(count: u8, reason: u8, cvm: u8) -> Transition
+    ensures { λ r. ⌜ r ≡ failingTransition cvm count reason ⌝ }
+{
+    end_session(count, outcome_for(reason), reason, cvm)
+}
+
+// The session waits, in a phase, on the answer to a command of so many bytes.
+pub fn issue_command(phase: Phase, count: u8, size: usize) -> Transition
+    ensures { λ r. ⌜ r ≡ commandTransition phase count size ⌝ }
+{
+    Transition {
+        phase,
+        count,
+        answer: CallResult::Command(CommandLength { size }),
+    }
+}
+
+// The reply of a call: its turn, with the store that it left.
+pub fn reply_of(transition: Transition, store: Store) -> Reply
+    ensures { λ r. ⌜ r ≡ replyOf transition (store .bytes) ⌝ }
+{
+    let phase = transition.phase;
+    let count = transition.count;
+    let answer = transition.answer;
+    Reply {
+        session: Session {
+            phase,
+            count,
+            store,
+        },
+        answer,
+    }
+}
+
+// Whether a session record keeps its ranges.
+pub fn in_ranges(session: Session) -> bool
+    ensures { λ r. ⌜ TestsRanges session r ⌝ }
+{
+    let phase = session.phase;
+    let store = session.store;
+    parts_in_ranges(phase, session.count, &store.bytes)
+}
+
+// The same of a session's parts, with the store's bytes shared.
+pub fn parts_in_ranges(phase: Phase, count: u8, bytes: &[u8]) -> bool
+    ensures { λ r. ⌜ TestsRanges (sessionOf phase count (now (bytes .entry))) r ⌝ }
+{
+    if bytes.len() != SIZE {
+        return false;
+    }
+    match phase {
+        Phase::Fresh => fresh_in_ranges(count, bytes),
+        Phase::Gpo => gpo_in_ranges(count, bytes),
+        Phase::Record(place) => record_in_ranges(place, count, bytes),
+        Phase::Cryptogram(asked) => cryptogram_in_ranges(asked, count, bytes),
+        Phase::Checksum(checksum) => checksum_in_ranges(checksum, count, bytes),
+        Phase::Ended(end) => ended_in_ranges(end, count, bytes),
+    }
+}
+
+// Fresh: no command was handed out and the store is all zeros, so that every object fits.
+fn fresh_in_ranges(count: u8, bytes: &[u8]) -> bool
+    requires { ⌜ length (now bytes) ≡ storeSize ⌝ }
+    ensures { λ r. ⌜ r ≡ both (allObjectsFit (now (bytes .entry))) (freshRanges count (now (bytes .entry))) ⌝ }
+{
+    if count != 0 {
+        return false;
+    }
+    all_zero(bytes)
+}
+
+// Waiting on processing options: nothing of their answer is there yet.
+fn gpo_in_ranges(count: u8, bytes: &[u8]) -> bool
+    requires { ⌜ length (now bytes) ≡ storeSize ⌝ }
+    ensures { λ r. ⌜ r ≡ both (allObjectsFit (now (bytes .entry))) (gpoRanges count (now (bytes .entry))) ⌝ }
+{
+    if !is_running(bytes) {
+        return false;
+    }
+    if store::is_there(bytes, ROW_AIP) {
+        return false;
+    }
+    if store::is_there(bytes, ROW_AFL) {
+        return false;
+    }
+    if !all_zero(store::value(bytes, ROW_TVR)) {
+        return false;
+    }
+    count == 1
+}
+
+// Waiting on a record that the stored locator names, with the limit that the store gives.
+fn record_in_ranges(place: AwaitedRecord, count: u8, bytes: &[u8]) -> bool
+    requires { ⌜ length (now bytes) ≡ storeSize ⌝ }
+    ensures { λ r. ⌜ r ≡ both (allObjectsFit (now (bytes .entry))) (recordRanges place count (now (bytes .entry))) ⌝ }
+{
+    if !is_running(bytes) {
+        return false;
+    }
+    if !is_either(bytes) {
+        return false;
+    }
+    let results = store::value(bytes, ROW_TVR);
+    if !all_zero(results) {
+        return false;
+    }
+    if place.limit != analysis::action::transaction_limit(bytes) {
+        return false;
+    }
+    let c = afl::check_afl(store::value(bytes, ROW_AFL));
+    let AflCheck::Accepted(extent) = c else {
+        return false;
+    };
+    let k = basics::widen(place.number);
+    if k < 1 {
+        return false;
+    }
+    if extent.records < k {
+        return false;
+    }
+    basics::widen(count) == 1 + k
+}
+
+// Waiting on the cryptogram: every record was asked for, what the choice needs is there, and 9F34; the limit is the store's.
+fn cryptogram_in_ranges(asked: RequestedCryptogram, count: u8, bytes: &[u8]) -> bool
+    requires { ⌜ length (now bytes) ≡ storeSize ⌝ }
+    ensures { λ r. ⌜ r ≡ both (allObjectsFit (now (bytes .entry))) (cryptogramRanges asked count (now (bytes .entry))) ⌝ }
+{
+    if !is_running(bytes) {
+        return false;
+    }
+    if !is_emv(bytes) {
+        return false;
+    }
+    if !is_complete(bytes) {
+        return false;
+    }
+    if !store::is_there(bytes, ROW_CVM_RESULTS) {
+        return false;
+    }
+    if asked.limit != analysis::action::transaction_limit(bytes) {
+        return false;
+    }
+    let c = afl::check_afl(store::value(bytes, ROW_AFL));
+    let AflCheck::Accepted(extent) = c else {
+        return false;
+    };
+    let n = basics::widen(count);
+    if n < 2 {
+        return false;
+    }
+    n - 2 == extent.records
+}
+
+// Waiting on the checksum: every record was asked for, and what the digits need is there; the limit is the store's.
+fn checksum_in_ranges(checksum: AwaitedChecksum, count: u8, bytes: &[u8]) -> bool
+    requires { ⌜ length (now bytes) ≡ storeSize ⌝ }
+    ensures { λ r. ⌜ r ≡ both (allObjectsFit (now (bytes .entry))) (checksumRanges checksum count (now (bytes .entry))) ⌝ }
+{
+    if !is_running(bytes) {
+        return false;
+    }
+    if !is_mag_stripe(bytes) {
+        return false;
+    }
+    if !all_zero(store::value(bytes, ROW_TVR)) {
+        return false;
+    }
+    if !is_track_complete(bytes) {
+        return false;
+    }
+    if checksum.limit != analysis::action::transaction_limit(bytes) {
+        return false;
+    }
+    let c = afl::check_afl(store::value(bytes, ROW_AFL));
+    let AflCheck::Accepted(extent) = c else {
+        return false;
+    };
+    let n = basics::widen(count);
+    if n < 2 {
+        return false;
+    }
+    n - 2 == extent.records
+}
+
+// Ended: a count that a session can reach, and a reason with its outcome.
+fn ended_in_ranges(end: Ending, count: u8, bytes: &[u8]) -> bool
+    requires { ⌜ length (now bytes) ≡ storeSize ⌝ }
+    ensures { λ r. ⌜ r ≡ both (allObjectsFit (now (bytes .entry))) (endedRanges end count) ⌝ }
+{
+    if !all_rows_fit(bytes, false) {
+        return false;
+    }
+    if MOST < count {
+        return false;
+    }
+    let outcome = end.outcome;
+    reason_matches_outcome(outcome, end.reason)
+}
+
+// Whether a reason goes with an outcome.
+pub fn reason_matches_outcome(outcome: Outcome, reason: u8) -> bool
+    ensures { λ r. ⌜ r ≡ reasonMatchesOutcome outcome reason ⌝ }
+{
+    match outcome {
+        Outcome::Approved => reason == basics::REASON_NONE,
+        Outcome::OnlineRequest => reason == basics::REASON_NONE,
+        Outcome::Declined => reason == basics::REASON_NONE,
+        Outcome::SelectNext => reason == basics::REASON_ABOVE_LIMIT,
+        Outcome::Ended => ends_session(reason),
+    }
+}
+
+// Whether a reason goes with the outcome ended: 1 to 11, and not 6.
+fn ends_session(reason: u8) -> bool
+    ensures { λ r. ⌜ r ≡ reasonMatchesOutcome Outcome.Ended reason ⌝ }
+{
+    if reason < basics::REASON_STATUS {
+        return false;
+    }
+    if basics::REASON_MODE < reason {
+        return false;
+    }
+    reason != basics::REASON_ABOVE_LIMIT
+}
+
+// What every running session holds and lacks; every object fits.
+fn is_running(bytes: &[u8]) -> bool
+    requires { ⌜ length (now bytes) ≡ storeSize ⌝ }
+    ensures { λ r. ⌜ r ≡ both (allObjectsFit (now (bytes .entry))) (runningRanges (now (bytes .entry))) ⌝ }
+{
+    if !all_rows_fit(bytes, true) {
+        return false;
+    }
+    if !store::is_there(bytes, ROW_TVR) {
+        return false;
+    }
+    if !dictionary::is_terminal_type(basics::byte_at(store::value(bytes, ROW_TERMINAL_TYPE), 0)) {
+        return false;
+    }
+    is_last_absent(bytes)
+}
+
+// Nothing that only the answer to the cryptogram or to the checksum brings is there.
+fn is_last_absent(bytes: &[u8]) -> bool
+    ensures { λ r. ⌜ r ≡ lastResponseAbsent (now (bytes .entry)) ⌝ }
+{
+    if store::is_there(bytes, ROW_IAD) {
+        return false;
+    }
+    if store::is_there(bytes, ROW_AC) {
+        return false;
+    }
+    if store::is_there(bytes, ROW_CID) {
+        return false;
+    }
+    if store::is_there(bytes, ROW_ATC) {
+        return false;
+    }
+    !store::is_there(bytes, ROW_CVC3_TRACK2)
+}
+
+// The card said that it is in EMV mode.
+pub fn is_emv(bytes: &[u8]) -> bool
+    ensures { λ r. ⌜ r ≡ emvMode (now (bytes .entry)) ⌝ }
+{
+    basics::byte_at(store::value(bytes, ROW_AIP), 1) / 128 % 2 == 1
+}
+
+// The card said that it is not in EMV mode, and mag-stripe mode is not off.
+pub fn is_mag_stripe(bytes: &[u8]) -> bool
+    ensures { λ r. ⌜ r ≡ magStripeMode (now (bytes .entry)) ⌝ }
+{
+    if !store::is_there(bytes, ROW_AIP) {
+        return false;
+    }
+    if is_emv(bytes) {
+        return false;
+    }
+    basics::byte_at(store::value(bytes, ROW_KERNEL_CONFIGURATION), 0) / 128 % 2 != 1
+}
+
+// One of the two modes.
+pub fn is_either(bytes: &[u8]) -> bool
+    ensures { λ r. ⌜ r ≡ emvOrMagStripeMode (now (bytes .entry)) ⌝ }
+{
+    if is_emv(bytes) {
+        return true;
+    }
+    is_mag_stripe(bytes)
+}
+
+// The track, the two bitmaps and the counter's digits are there, none empty.
+pub fn is_track_complete(bytes: &[u8]) -> bool
+    ensures { λ r. ⌜ r ≡ trackDataPresent (now (bytes .entry)) ⌝ }
+{
+    if store::value(bytes, ROW_TRACK2_DATA).len() == 0 {
+        return false;
+    }
+    if store::value(bytes, ROW_PCVC3_TRACK2).len() == 0 {
+        return false;
+    }
+    if store::value(bytes, ROW_PUNATC_TRACK2).len() == 0 {
+        return false;
+    }
+    store::value(bytes, ROW_NATC_TRACK2).len() != 0
+}
+
+// The expiry date, the account number and the list of the cryptogram's data are there, none empty.
+pub fn is_complete(bytes: &[u8]) -> bool
+    ensures { λ r. ⌜ r ≡ cryptogramDataPresent (now (bytes .entry)) ⌝ }
+{
+    if store::value(bytes, ROW_EXPIRATION_DATE).len() == 0 {
+        return false;
+    }
+    if store::value(bytes, ROW_PAN).len() == 0 {
+        return false;
+    }
+    store::value(bytes, ROW_CDOL1).len() != 0
+}
+
+// Every stored object fits its row; where `asked`, what a start must bring is there too. One walk for both, from one
+// object that is there to the next; it counts those that a start must bring.
+fn all_rows_fit(bytes: &[u8], asked: bool) -> bool
+    requires { ⌜ length (now bytes) ≡ storeSize ⌝ }
+    ensures { λ r. ⌜ r ≡ allRowsFit asked (now (bytes .entry)) ⌝ }
+{
+    let codes = dictionary::codes();
+    let mut row = 0;
+    let mut at = 0;
+    let mut brought = 0;
+    loop {
+        let held = next_held(bytes, &codes, row, at);
+        let k = held.row;
+        let first = held.at;
+        if k == ROWS {
+            return is_enough(asked, brought);
+        }
+        let a = dictionary::unpacked(codes[k]);
+        let next = first + a.greatest + 1;
+        if !row_fits(&bytes[first..next], a) {
+            return false;
+        }
+        brought += basics::widen(a.must);
+        row = k + 1;
+        at = next;
+    }
+}
+
+// The first row from a row on whose object is there, and where its place starts; the end where there is none.
+fn next_held(bytes: &[u8], codes: &[u32; ROWS], from: usize, start: usize) -> RowSpot
+    requires { ⌜ length (now bytes) ≡ storeSize ⌝ }
+    requires { ⌜ now codes ≡ packedRows dictionaryRows ⌝ }
+    requires { ⌜ (from ≤ rowCount) × (start ≡ rowOffset dictionaryRows from) ⌝ }
+    ensures { λ r. ⌜ NextPresent (now (bytes .entry)) from r ⌝ }
+{
+    let mut row = from;
+    let mut at = start;
+    while row < ROWS {
+        if bytes[at] != 0 {
+            return RowSpot { row, at };
+        }
+        at = at + dictionary::unpacked(codes[row]).greatest + 1;
+        row += 1;
+    }
+    RowSpot { row, at }
+}
+
+// Whether so many objects that a start must bring are all of them, where that is asked.
+fn is_enough(asked: bool, brought: usize) -> bool
+    ensures { λ r. ⌜ r ≡ either (not asked) (eqb brought requiredCount) ⌝ }
+{
+    if asked {
+        return brought == REQUIRED;
+    }
+    true
+}
+
+// Whether the place of an object that is there is in order: a length byte in its room, a value that is long enough and
+// digits that fit.
+fn row_fits(place: &[u8], a: Attributes) -> bool
+    requires { ⌜ length (now place) ≡ rowRoom (rowWithAttributes a) ⌝ }
+    requires { ⌜ 0 < getD (now place) 0 0 ⌝ }
+    ensures { λ r. ⌜ r ≡ rowPlaceFits (rowWithAttributes a) (now (place .entry)) ⌝ }
+{
+    let stored = basics::widen(place[0]);
+    if place.len() < stored {
+        return false;
+    }
+    if stored - 1 < a.least {
+        return false;
+    }
+    dictionary::digits_fit(a.form, &place[1..stored])
+}
+
+// Every object that a start must bring is there. The rows are bound before the loop, and its bound is a constant: the compiler
+// makes a test of one byte for each, and no table.
+pub fn all_required_present(bytes: &[u8]) -> bool
+    ensures { λ r. ⌜ r ≡ allRequiredPresent (now (bytes .entry)) ⌝ }
+{
+    let rows = REQUIRED_ROWS;
+    let mut i = 0;
+    while i < REQUIRED {
+        if !store::is_there(bytes, rows[i]) {
+            return false;
+        }
+        i += 1;
+    }
+    true
+}
+
+// Every byte is zero: the greatest is. All are looked at, so that the compiler takes many at once.
+fn all_zero(v: &[u8]) -> bool
+    ensures { λ r. ⌜ r ≡ every isZeroByte (now (v .entry)) ⌝ }
+{
+    let mut most: u8 = 0;
+    let mut i = 0;
+    while i < v.len() {
+        let b = v[i];
+        if most < b {
+            most = b;
+        }
+        i += 1;
+    }
+    most == 0
+}

@@ -1,0 +1,129 @@
+-- Start bytes (document 01, refusals 20, 23 and 24; "Dictionary"): whole primitive objects that the terminal brings.
+-- Assumes nothing.
+use mathlib.Core.Path.{_≡_}
+use mathlib.Core.Bool.{Bool, true, false, not}
+use mathlib.Core.List.{List, [], _∷_}
+use mathlib.Core.Option.{Option, some, none}
+use Prim.Native.Nat.{ℕ}
+use lib.ListN.{length, getD}
+use Rattle.basics.specs.Choice.{if_then_else_, _and_, _≤?_, _=?_}
+use Rattle.basics.specs.Number.{hasBit}
+use Rattle.tlv.specs.Primitives.{Object, primitiveObjects}
+use Rattle.dictionary.specs.declared.RowFound.{RowFound}
+use Rattle.dictionary.specs.Rows.{dictionaryRows, rowAt, findRow, setByStart}
+use Rattle.dictionary.specs.Form.{fitsRow}
+use Rattle.dictionary.specs.TerminalType.{listedTerminalType}
+use Rattle.store.specs.Place.{isPresent, rowValue, putRow}
+use Rattle.session_record.specs.Ranges.{allRequiredPresent}
+use Rattle.basics.specs.Reason.{refusedBytes, refusedObject, refusedAbsent}
+use Rattle.start_data.specs.declared.LoadResult.{LoadResult}
+
+-- ---- taking the objects
+
+-- a terminal type must be listed
+unfoldable pub terminalTypeListed : ℕ → List ℕ → Bool
+terminalTypeListed t v =
+    if t =? 0x9F35 then listedTerminalType (getD v 0 0)
+    else true
+
+-- a known object that a start may set, of a length and digits that fit, not there yet; a terminal type is listed
+unfoldable pub settableByStart : List ℕ → ℕ → Object → Bool
+settableByStart b k o =
+    hasBit (rowAt k .setters) setByStart
+    and fitsRow (rowAt k) (o .value)
+    and not (isPresent (rowValue dictionaryRows b k))
+    and terminalTypeListed (o .tag) (o .value)
+
+-- by its row in the table; an unknown one is skipped
+abbrev pub setRowFound : List ℕ → Object → RowFound → Option (List ℕ)
+setRowFound b o RowFound.Unknown = some b
+setRowFound b o (RowFound.At k) =
+    if settableByStart b k o then some (putRow dictionaryRows b k (o .value))
+    else none
+
+-- one object: unknown ones are skipped
+unfoldable pub setObject : List ℕ → Object → Option (List ℕ)
+setObject b o = setRowFound b o (findRow dictionaryRows (o .tag))
+
+-- one after the other, none where one may not be set
+abbrev pub thenSet : Option (List ℕ) → (List ℕ → Option (List ℕ)) → Option (List ℕ)
+thenSet none k = none
+thenSet (some b) k = k b
+
+-- one object after the other, none where one may not be set
+unfoldable pub setObjects : List ℕ → List Object → Option (List ℕ)
+setObjects b [] = some b
+setObjects b (o ∷ os) = thenSet (setObject b o) (λ c. setObjects c os)
+
+-- the objects of a run; none where there is no run
+unfoldable pub setParsed : List ℕ → Option (List Object) → Option (List ℕ)
+setParsed b none = none
+setParsed b (some os) = setObjects b os
+
+-- what is said and left of a store: all were set; or one may not be set, and the store is given up
+abbrev pub SetsObjects : Bool → List ℕ → Option (List ℕ) → Type 0
+SetsObjects r c none = r ≡ false
+SetsObjects r c (some d) = (r ≡ true) × (c ≡ d)
+
+-- ---- what a start loads: a store, or a refusal by its number
+
+-- a store with all objects, or the number of a refusal
+pub data LoadedStore : Type 0 where
+  refusal : ℕ → LoadedStore
+  loaded : List ℕ → LoadedStore
+
+-- all that a start must bring is there
+abbrev pub loadedIfRequired : List ℕ → LoadedStore
+loadedIfRequired b =
+    if allRequiredPresent b then loaded b
+    else refusal refusedAbsent
+
+-- an object that may not be set is 23; else what a start must bring is looked for
+abbrev pub afterSetting : Option (List ℕ) → LoadedStore
+afterSetting none = refusal refusedObject
+afterSetting (some b) = loadedIfRequired b
+
+-- bytes that are no run of primitive objects are 20; else the objects are set
+abbrev pub afterRun : List ℕ → Option (List Object) → LoadedStore
+afterRun b none = refusal refusedBytes
+afterRun b (some os) = afterSetting (setObjects b os)
+
+-- the most start bytes
+abbrev pub mostStartBytes : ℕ
+mostStartBytes = 1024
+
+-- the start bytes s into the store b
+unfoldable pub loadStart : List ℕ → List ℕ → LoadedStore
+loadStart b s =
+    if length s ≤? mostStartBytes then afterRun b (primitiveObjects s)
+    else refusal refusedBytes
+
+-- ---- what the call hands back
+
+-- by its number, or taken
+abbrev pub loadResultOf : LoadedStore → LoadResult
+loadResultOf (refusal n) = LoadResult.Refused (record { number = n })
+loadResultOf (loaded c) = LoadResult.Loaded
+
+-- a refusal leaves the store b as it came
+abbrev pub storeAfterLoad : List ℕ → LoadedStore → List ℕ
+storeAfterLoad b (refusal n) = b
+storeAfterLoad b (loaded c) = c
+
+-- what is said, and the store c that is left of b
+pub record LoadsStart (r : LoadResult) (c b : List ℕ) (x : LoadedStore) : Type 0 where
+  pub said : r ≡ loadResultOf x
+  pub store : c ≡ storeAfterLoad b x
+
+-- ---- what holds of it, proved in proofs/ (Laws, Twice, Examples) for all stores, bytes and objects
+--   load-by            a loaded store comes by at most 1,024 bytes that are a run whose objects are all set; all is
+--                      brought
+--   load-holds         what each put of a settable object keeps holds of the store that is loaded
+--   load-brought       all that a start must bring is there
+--   load-size          the store keeps its size
+--   load-fits          where every stored object fitted, every one fits
+--   load-untouched     rows that a start may not set are as they were
+--   load-kept          objects that were there are as they were
+--   load-listed        where no terminal type was there, the one that is loaded is listed
+--   load-long-same     every input over 1,024 bytes gives the same
+--   twice-refused      two objects of a known tag are refused, whatever stands around them

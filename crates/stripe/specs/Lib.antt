@@ -1,4 +1,0 @@
-pub mod Track
-pub mod Bitmap
-pub mod Digits
-pub mod Kept

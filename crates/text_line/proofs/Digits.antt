@@ -1,0 +1,209 @@
+-- What a decoding has reached (`Decoding`) and its laws: the start, one byte more, and the three ways out; and the laws of a decimal number.
+-- Assumes nothing.
+use mathlib.Core.Path.{_≡_, refl, sym, ap, _∙_}
+use mathlib.Core.Bool.{Bool, true, false}
+use mathlib.Core.List.{List, [], _∷_, _++_, append-assoc, append-nil}
+use mathlib.Core.Logic.{inl, inr}
+use Prim.Native.Nat.{ℕ, _+_, _*_, _≤_, _<_}
+use native.Mathlib.Numerals.{add-one}
+use native.Mathlib.Omega.{arith}
+use lib.Dec.{leb}
+use lib.ListN.{length, getD, take, drop, set, length-set, length-append, take-append-drop, drop-of-length-le}
+use lib.Seq.{length-take-le, take-at, take-suc-set, drop-set-lt, drop-drop, drop-cons}
+use borrow.Author.Tests.{lt-ltb, le-ltb, le-leb, lt-leb}
+use Rattle.basics.specs.Choice.{if, both, every}
+use Rattle.basics.proofs.Laws.{if-yes, if-no, bool-cases, both-yes, both-true, both-no-left, both-no-right}
+use Rattle.text_line.specs.declared.Line.{Line}
+use Rattle.text_line.specs.declared.HexPair.{HexPair}
+use Rattle.text_line.specs.declared.HexByte.{HexByte}
+use Rattle.text_line.specs.declared.CharacterKind.the-variants.{Blank}
+use Rattle.text_line.specs.Text.{isBlank, isOfKind, pastFront}
+use Rattle.text_line.specs.Digits.{hexDigit, isHexPair, hexPairOf, HexText, hexStopped, bytesBeforeHex, hexSpelled, hexWithin, DecodesHex, hexProblem, roomProblem, numberProblem, decimalTextFrom, isDecimalDigit, bufferLine}
+use Rattle.text_line.proofs.Text.{past-first}
+
+-- ---- the first two characters
+
+pub pair-short : (s : List ℕ) → length s < 2 → hexPairOf s ≡ HexPair.Broken
+unfolding hexPairOf
+pair-short [] h = refl
+pair-short (a ∷ []) h = refl
+pair-short (a ∷ b ∷ s) h = absurd (omega arith)
+
+pub pair-is : (s : List ℕ) → 2 ≤ length s
+    → hexPairOf s ≡ if (isHexPair (getD s 0 0) (getD s 1 0)) (HexPair.Byte (record { byte = hexDigit (getD s 0 0) * 16 + hexDigit (getD s 1 0) })) HexPair.Broken
+unfolding hexPairOf
+pair-is [] h = absurd (omega arith)
+pair-is (a ∷ []) h = absurd (omega arith)
+pair-is (a ∷ b ∷ s) h = refl
+
+-- ---- a spelling
+
+-- blanks in front do not count
+spelled-past : (s : List ℕ) → hexSpelled s ≡ hexSpelled (pastFront (isOfKind Blank) s)
+unfolding hexSpelled pastFront if
+spelled-past [] = refl
+spelled-past (a ∷ []) = go (isBlank a) refl
+  where
+    go : (x : Bool) → isBlank a ≡ x → hexSpelled (a ∷ []) ≡ hexSpelled (if x [] (a ∷ []))
+    go true e = if-yes _ _ e
+    go false e = refl
+spelled-past (a ∷ b ∷ s) = go (isBlank a) refl (spelled-past (b ∷ s))
+  where
+    go : (x : Bool) → isBlank a ≡ x → hexSpelled (b ∷ s) ≡ hexSpelled (pastFront (isOfKind Blank) (b ∷ s)) → hexSpelled (a ∷ b ∷ s) ≡ hexSpelled (if x (pastFront (isOfKind Blank) (b ∷ s)) (a ∷ b ∷ s))
+    go true e ih = if-yes _ _ e ∙ ih
+    go false e ih = refl
+
+-- a text that is empty or begins with no blank
+abbrev pub Trimmed : List ℕ → Type 0
+Trimmed s = 0 < length s → isBlank (getD s 0 0) ≡ false
+
+-- two digits as a byte
+abbrev byteOf : ℕ → ℕ → HexPair
+byteOf a b = HexPair.Byte (record { byte = hexDigit a * 16 + hexDigit b })
+
+none-of : (s : List ℕ) → length s ≡ 0 → s ≡ []
+none-of [] e = refl
+none-of (a ∷ s) e = absurd (omega arith)
+
+spelled-broken : (s : List ℕ) → 0 < length s → Trimmed s → hexPairOf s ≡ HexPair.Broken → hexSpelled s ≡ hexStopped hexProblem
+unfolding hexSpelled hexPairOf
+spelled-broken [] h d e = absurd (omega arith)
+spelled-broken (a ∷ []) h d e = if-no _ _ (d h)
+spelled-broken (a ∷ b ∷ s) h d e =
+    if-no _ _ (d h) ∙ if-no _ _ (elim (bool-cases (isHexPair a b)) [ inl p ↦ (cc (if-yes (byteOf a b) HexPair.Broken p)) | inr p ↦ p ])
+
+spelled-byte : (s : List ℕ) (v : HexByte) → Trimmed s → hexPairOf s ≡ HexPair.Byte v → hexSpelled s ≡ bytesBeforeHex (v .byte ∷ []) (hexSpelled (drop 2 s))
+unfolding hexSpelled hexPairOf
+spelled-byte [] v d e = cc
+spelled-byte (a ∷ []) v d e = cc
+spelled-byte (a ∷ b ∷ s) v d e =
+    if-no _ _ (d (omega arith))
+    ∙ elim (bool-cases (isHexPair a b)) [
+      | inl p ↦ let q : byteOf a b ≡ HexPair.Byte v = sym (if-yes _ _ p) ∙ e in
+          let w : record { byte = hexDigit a * 16 + hexDigit b } ≡ v = cc in
+          if-yes _ _ p ∙ ap (λ (x : HexByte). bytesBeforeHex (x .byte ∷ []) (hexSpelled s)) w
+      | inr p ↦ cc (if-no (byteOf a b) HexPair.Broken p)
+    ]
+
+pub pair-length : (s : List ℕ) (v : HexByte) → hexPairOf s ≡ HexPair.Byte v → 2 ≤ length s
+unfolding hexPairOf
+pair-length [] v e = let z : _≡_ {A = ℕ} 0 1 = cc in omega arith
+pair-length (a ∷ []) v e = let z : _≡_ {A = ℕ} 0 1 = cc in omega arith
+pair-length (a ∷ b ∷ s) v e = omega arith
+
+-- ---- a decoding
+
+-- n bytes of s are in the front of the lent bytes, the rest of s is still to decode, and the lent bytes behind are as they were
+pub record Decoding (s entry : List ℕ) (n : ℕ) (rest out : List ℕ) : Type 0 where
+  pub room : n ≤ length out
+  pub size : length out ≡ length entry
+  pub behind : drop n out ≡ drop n entry
+  pub trimmed : Trimmed rest
+  pub carried : hexSpelled s ≡ bytesBeforeHex (take n out) (hexSpelled rest)
+
+pub decoding-start : (s out : List ℕ) → Decoding s out 0 (pastFront (isOfKind Blank) s) out
+decoding-start s out = record { room = omega arith; size = refl; behind = refl; trimmed = past-first (isOfKind Blank) s; carried = spelled-past s }
+
+-- the first n lent bytes as a spelling, and what it reports
+front-of : List ℕ → ℕ → ℕ → HexText
+front-of out n p = record { bytes = take n out; problem = p }
+
+reported : (entry out : List ℕ) (n p : ℕ) → n ≤ length out → drop n out ≡ drop n entry → (r : HexText) → r ≡ front-of out n p
+    → DecodesHex (record { size = n; problem = p }) out r entry
+unfolding front-of
+reported entry out n p h k r e =
+    let l = length-take-le n out h in
+    rw e (record { report = rw l; buffer = rw (l, ← k) (sym (take-append-drop n out)) })
+
+module _ (s entry : List ℕ) (n : ℕ) (rest out : List ℕ) (g : Decoding s entry n rest out) where
+  -- nothing more is spelled
+  closed : (p : ℕ) → hexSpelled rest ≡ hexStopped p → DecodesHex (record { size = n; problem = p }) out (hexWithin (length entry) (hexSpelled s)) entry
+  unfolding hexWithin front-of
+  closed p e =
+      let l = length-take-le n out (g .room) in
+      let q : hexSpelled s ≡ front-of out n p = g .carried ∙ rw e (ap (λ (b : List ℕ). record { bytes = b; problem = p }) (append-nil _)) in
+      reported entry out n p (g .room) (g .behind) _ (rw q (if-yes _ _ (le-leb (length (take n out)) (length entry) (omega arith))))
+
+  pub decoding-ends : length rest ≡ 0 → DecodesHex (record { size = n; problem = 0 }) out (hexWithin (length entry) (hexSpelled s)) entry
+  unfolding hexSpelled
+  decoding-ends e = closed 0 (rw (none-of rest e))
+
+  pub decoding-breaks : 0 < length rest → hexPairOf rest ≡ HexPair.Broken → DecodesHex (record { size = n; problem = hexProblem }) out (hexWithin (length entry) (hexSpelled s)) entry
+  decoding-breaks h e = closed hexProblem (spelled-broken rest h (g .trimmed) e)
+
+  module _ (v : HexByte) (e : hexPairOf rest ≡ HexPair.Byte v) where
+    next : hexSpelled s ≡ bytesBeforeHex (take n out) (bytesBeforeHex (v .byte ∷ []) (hexSpelled (drop 2 rest)))
+    next = g .carried ∙ ap (bytesBeforeHex (take n out)) (spelled-byte rest v (g .trimmed) e)
+
+    pub decoding-full : length out ≤ n → DecodesHex (record { size = n; problem = roomProblem }) out (hexWithin (length entry) (hexSpelled s)) entry
+    unfolding hexWithin front-of
+    decoding-full h =
+        let l = length-take-le n out (g .room) in
+        let over : length entry < length (take n out ++ (v .byte ∷ hexSpelled (drop 2 rest) .bytes)) = simp length-append (omega arith) in
+        let cut : take (length entry) (take n out ++ (v .byte ∷ hexSpelled (drop 2 rest) .bytes)) ≡ take n out = take-at (take n out) _ (length entry) (omega arith) in
+        reported entry out n roomProblem (g .room) (g .behind) _ (rw next (if-no _ _ (lt-leb _ _ over) ∙ ap (λ (b : List ℕ). record { bytes = b; problem = roomProblem }) cut))
+
+    pub decoding-on : n < length out → Decoding s entry (n + 1) (pastFront (isOfKind Blank) (drop 2 rest)) (set out n (v .byte))
+    decoding-on h = record {
+      room = rw length-set (omega arith);
+      size = rw length-set (g .size);
+      behind = rw (drop-set-lt (n + 1) out n (v .byte) (omega arith)) (sym (drop-drop 1 n out) ∙ ap (drop 1) (g .behind) ∙ drop-drop 1 n entry);
+      trimmed = past-first (isOfKind Blank) (drop 2 rest);
+      carried = next ∙ rw (add-one, take-suc-set, ← spelled-past (drop 2 rest)) (ap (λ (b : List ℕ). record { bytes = b; problem = hexSpelled (drop 2 rest) .problem }) (sym (append-assoc (take n out) (v .byte ∷ []) _)));
+    }
+
+-- ---- a decimal number
+
+from-least : (n : ℕ) (s : List ℕ) → n ≤ decimalTextFrom n s
+unfolding decimalTextFrom
+from-least n [] = omega arith
+from-least n (c ∷ s) = let ih = from-least (n * 10 + hexDigit c) s in omega arith
+
+-- the digits before place i are read as n
+pub record Reading (w : List ℕ) (n i : ℕ) : Type 0 where
+  pub within : i ≤ length w
+  pub small : n ≤ 4096
+  pub digits : every isDecimalDigit w ≡ every isDecimalDigit (drop i w)
+  pub number : decimalTextFrom 0 w ≡ decimalTextFrom n (drop i w)
+
+not-sized : (w : List ℕ) → both (every isDecimalDigit w) (leb (decimalTextFrom 0 w) 4096) ≡ false → bufferLine w ≡ Line.Wrong (record { number = numberProblem })
+unfolding bufferLine
+not-sized w e = if-no _ _ (both-no-right _ _ e)
+
+pub sized-none : (w : List ℕ) → length w ≡ 0 → bufferLine w ≡ Line.Wrong (record { number = numberProblem })
+unfolding bufferLine
+sized-none w e = if-no _ _ (both-no-left _ _ (le-ltb 0 (length w) (omega arith)))
+
+pub reading-start : (w : List ℕ) → Reading w 0 0
+reading-start w = record { within = omega arith; small = omega arith; digits = refl; number = refl }
+
+module _ (w : List ℕ) (n i : ℕ) (r : Reading w n i) where
+  module _ (h : i < length w) (d : ℕ) (e : d ≡ hexDigit (getD w i 0)) where
+    pub not-digit : 10 ≤ d → bufferLine w ≡ Line.Wrong (record { number = numberProblem })
+    unfolding every
+    not-digit k = not-sized w (both-no-left _ _ (r .digits ∙ rw (drop-cons w i 0) (both-no-left _ _ (le-ltb (hexDigit (getD w i 0)) 10 (omega arith)))))
+
+    on : decimalTextFrom 0 w ≡ decimalTextFrom (n * 10 + d) (drop (i + 1) w)
+    unfolding decimalTextFrom
+    on = r .number ∙ rw (add-one, drop-cons w i 0, e)
+
+    pub too-large : 4096 < n * 10 + d → bufferLine w ≡ Line.Wrong (record { number = numberProblem })
+    too-large k =
+        let l = from-least (n * 10 + d) (drop (i + 1) w) in
+        not-sized w (both-no-right _ _ (lt-leb (decimalTextFrom 0 w) 4096 (rw on (omega arith))))
+
+    pub reading-on : d < 10 → n * 10 + d ≤ 4096 → Reading w (n * 10 + d) (i + 1)
+    unfolding every
+    reading-on k l = record {
+      within = omega arith;
+      small = l;
+      digits = r .digits ∙ rw (add-one, drop-cons w i 0) (both-true _ (lt-ltb (hexDigit (getD w i 0)) 10 (omega arith)));
+      number = on;
+    }
+
+  pub sized-is : 0 < length w → length w ≤ i → bufferLine w ≡ Line.Buffer (record { bytes = n })
+  unfolding bufferLine every decimalTextFrom
+  sized-is h k =
+      let q : decimalTextFrom 0 w ≡ n = r .number ∙ rw (drop-of-length-le w k) in
+      let a : every isDecimalDigit w ≡ true = r .digits ∙ rw (drop-of-length-le w k) in
+      rw q (if-yes _ _ (both-yes _ _ (lt-ltb 0 (length w) h) (both-yes _ _ a (le-leb n 4096 (r .small)))))

@@ -1,0 +1,19 @@
+-- `text_line::start_line` meets its contract. By the test for a problem.
+-- Assumes nothing.
+use mathlib.Core.Path.{sym}
+use borrow.Author.Tests.{eq-eqb, ne-eqb}
+use Rattle.basics.proofs.Laws.{if-yes, if-no}
+use Rattle.text_line.specs.Line.{startLine}
+use Rattle.text_line.proofs.start_line.Statement.{statement}
+use Rattle.text_line.proofs.start_line.Tie as tie
+
+returns : tie.Need-returns
+unfolding startLine
+returns c = sym (if-yes _ _ (eq-eqb _ _ (c .if1 .taken)))
+
+returns-2 : tie.Need-returns-2
+unfolding startLine
+returns-2 c = sym (if-no _ _ (ne-eqb _ _ (c .if1 .left)))
+
+pub start-line-spec : {M : Type 1} → statement M
+start-line-spec = tie.close (tie.spec returns returns-2)

@@ -1,0 +1,105 @@
+-- What a line of a text file of calls says. A line is any list of characters, its end not counted.
+-- Assumes nothing.
+use mathlib.Core.Path.{_≡_}
+use mathlib.Core.List.{List, [], _∷_}
+use Prim.Native.Nat.{ℕ}
+use lib.ListN.{length}
+use Rattle.basics.specs.Choice.{if_then_else_, _<?_, _=?_}
+use Rattle.text_line.specs.declared.Decoded.{Decoded}
+use Rattle.text_line.specs.declared.CharacterKind.the-variants.{Blank}
+use Rattle.text_line.specs.declared.Line.{Line}
+use Rattle.text_line.specs.declared.LineWord.{LineWord}
+use Rattle.text_line.specs.declared.LineWord.the-variants.{Absent, Start, Answer, LinkFailed, Stop, Buffer}
+use Rattle.text_line.specs.declared.LineWord.the-variants.{Session, Unknown}
+use Rattle.text_line.specs.Text.{isOfKind, pastFront, uncommented, firstWord, behindFirstWord}
+use Rattle.basics.specs.Alike.{bytesEqual}
+use Rattle.text_line.specs.Digits.{HexText, hexSpelled, hexWithin, hexDecoded, hexPlaced, bufferLine}
+
+-- a word and its characters
+pub record WordText : Type 0 where
+  pub text : List ℕ
+  pub word : LineWord
+
+-- the words: none, "start", "answer", "link-failed", "stop", "buffer" and "session"
+abbrev pub lineWords : List WordText
+lineWords =
+    record { text = []; word = Absent }
+    ∷ record { text = 115 ∷ 116 ∷ 97 ∷ 114 ∷ 116 ∷ []; word = Start }
+    ∷ record { text = 97 ∷ 110 ∷ 115 ∷ 119 ∷ 101 ∷ 114 ∷ []; word = Answer }
+    ∷ record { text = 108 ∷ 105 ∷ 110 ∷ 107 ∷ 45 ∷ 102 ∷ 97 ∷ 105 ∷ 108 ∷ 101 ∷ 100 ∷ []; word = LinkFailed }
+    ∷ record { text = 115 ∷ 116 ∷ 111 ∷ 112 ∷ []; word = Stop }
+    ∷ record { text = 98 ∷ 117 ∷ 102 ∷ 102 ∷ 101 ∷ 114 ∷ []; word = Buffer }
+    ∷ record { text = 115 ∷ 101 ∷ 115 ∷ 115 ∷ 105 ∷ 111 ∷ 110 ∷ []; word = Session }
+    ∷ []
+
+-- the word of a table with these characters
+abbrev pub wordInTable : List WordText → List ℕ → LineWord
+wordInTable [] w = Unknown
+wordInTable (e ∷ es) w =
+    if bytesEqual w (e .text) then e .word
+    else wordInTable es w
+
+-- which word it is
+unfoldable pub lineWordOf : List ℕ → LineWord
+lineWordOf w = wordInTable lineWords w
+
+-- a problem by its number: 1 the line is too long, 2 unknown word, 3 not a pair of hexadecimal digits,
+-- 4 no room for the bytes, 5 something stands behind, 6 no number up to 4,096
+abbrev pub wrongLine : ℕ → Line
+wrongLine p = Line.Wrong (record { number = p })
+
+-- a line behind whose words only blanks stand
+unfoldable pub lineAlone : List ℕ → Line → Line
+lineAlone rest line =
+    if length (pastFront (isOfKind Blank) rest) =? 0 then line
+    else wrongLine 5
+
+-- a start or an answer with the bytes that were decoded
+unfoldable pub startLine : Decoded → Line
+startLine d =
+    if d .problem =? 0 then Line.Start (record { size = d .size })
+    else wrongLine (d .problem)
+
+unfoldable pub answerLine : Decoded → Line
+answerLine d =
+    if d .problem =? 0 then Line.Answer (record { size = d .size })
+    else wrongLine (d .problem)
+
+-- what a line says, and the lent bytes then
+pub record LineMeaning : Type 0 where
+  pub line : Line
+  pub buffer : List ℕ
+
+-- a line that brings no bytes leaves the lent ones
+abbrev pub lineWithoutBytes : Line → List ℕ → LineMeaning
+lineWithoutBytes line out = record { line = line; buffer = out }
+
+-- a line that brings the bytes of a spelling, as many as there is room for
+abbrev pub lineWithBytes : (Decoded → Line) → HexText → List ℕ → LineMeaning
+lineWithBytes line r out = record { line = line (hexDecoded r); buffer = hexPlaced r out }
+
+-- by the first word, from what stands behind it
+unfoldable pub meaningByWord : LineWord → List ℕ → List ℕ → LineMeaning
+meaningByWord Absent rest out = lineWithoutBytes Line.Blank out
+meaningByWord Start rest out = lineWithBytes startLine (hexWithin (length out) (hexSpelled rest)) out
+meaningByWord Answer rest out = lineWithBytes answerLine (hexWithin (length out) (hexSpelled rest)) out
+meaningByWord LinkFailed rest out = lineWithoutBytes (lineAlone rest Line.LinkFailed) out
+meaningByWord Stop rest out = lineWithoutBytes (lineAlone rest Line.Stop) out
+meaningByWord Buffer rest out = lineWithoutBytes (lineAlone (behindFirstWord rest) (bufferLine (firstWord rest))) out
+meaningByWord Session rest out = lineWithoutBytes (lineAlone rest Line.Session) out
+meaningByWord Unknown rest out = lineWithoutBytes (wrongLine 2) out
+
+-- a text without a comment
+abbrev pub meaningOfText : List ℕ → List ℕ → LineMeaning
+meaningOfText text out = meaningByWord (lineWordOf (firstWord text)) (behindFirstWord text) out
+
+-- a line of at most 8,192 characters: what it says without its comment
+unfoldable pub lineMeaning : List ℕ → List ℕ → LineMeaning
+lineMeaning line out =
+    if 8192 <? length line then lineWithoutBytes (wrongLine 1) out
+    else meaningOfText (uncommented line) out
+
+-- the line r and the lent bytes at exit are those of a meaning
+pub record LineSays (r : Line) (exit : List ℕ) (m : LineMeaning) : Type 0 where
+  pub line : r ≡ m .line
+  pub buffer : exit ≡ m .buffer

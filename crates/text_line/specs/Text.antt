@@ -1,0 +1,44 @@
+-- The text of a line as characters: its comment, its blanks and its words.
+-- Assumes nothing.
+use mathlib.Core.Bool.{Bool, not}
+use mathlib.Core.List.{List, [], _∷_}
+use Prim.Native.Nat.{ℕ}
+use Rattle.basics.specs.Choice.{if_then_else_, _or_, _=?_}
+use Rattle.text_line.specs.declared.CharacterKind.{CharacterKind}
+use Rattle.text_line.specs.declared.CharacterKind.the-variants.{Blank, NotBlank, NotHash}
+
+-- a blank is a space, a tab or a carriage return
+unfoldable pub isBlank : ℕ → Bool
+isBlank c = c =? 32 or c =? 9 or c =? 13
+
+-- kinds of characters: a blank, no blank, and no '#'
+abbrev pub isOfKind : CharacterKind → ℕ → Bool
+isOfKind Blank c = isBlank c
+isOfKind NotBlank c = not (isBlank c)
+isOfKind NotHash c = not (c =? 35)
+
+-- the longest part at the front whose characters all pass a test
+unfoldable pub longestFront : (ℕ → Bool) → List ℕ → List ℕ
+longestFront f [] = []
+longestFront f (c ∷ s) =
+    if f c then c ∷ longestFront f s
+    else []
+
+-- what stands behind that part
+unfoldable pub pastFront : (ℕ → Bool) → List ℕ → List ℕ
+pastFront f [] = []
+pastFront f (c ∷ s) =
+    if f c then pastFront f s
+    else (c ∷ s)
+
+-- a line without its comment: what stands before the first '#'
+abbrev pub uncommented : List ℕ → List ℕ
+uncommented s = longestFront (isOfKind NotHash) s
+
+-- the first word: the characters from the first that is no blank up to the next blank
+abbrev pub firstWord : List ℕ → List ℕ
+firstWord s = longestFront (isOfKind NotBlank) (pastFront (isOfKind Blank) s)
+
+-- what stands behind the first word
+abbrev pub behindFirstWord : List ℕ → List ℕ
+behindFirstWord s = pastFront (isOfKind NotBlank) (pastFront (isOfKind Blank) s)

@@ -1,4 +1,0 @@
-pub mod Calls
-pub mod Order
-pub mod Claim
-pub mod Methods
