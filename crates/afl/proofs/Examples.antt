@@ -7,12 +7,6 @@ use Rattle.basics.specs.Choice.{if, both, every}
 use Rattle.afl.specs.declared.RecordFound.the-variants.{At}
 use Rattle.afl.specs.Entry.{validEntry}
 use Rattle.afl.specs.Records.{aflEntries, wholeEntries, consecutiveRecords, entriesRecords, sumOverEntries, aflRecords, acceptsAfl, nthRecord, kthRecord, aflRecordAt}
-use Rattle.afl.specs.Command.{readRecordCommand}
-
--- 08 01 01 00: record 1 of file 1, read by 00 B2 01 0C 00
-bench : map readRecordCommand (aflRecords (0x08 ∷ 1 ∷ 1 ∷ 0 ∷ [])) ≡ (0x00 ∷ 0xB2 ∷ 0x01 ∷ 0x0C ∷ 0x00 ∷ []) ∷ []
-unfolding aflEntries entriesRecords consecutiveRecords
-bench = refl
 
 -- entry by entry, from first to last
 two-entries : aflRecords (0x08 ∷ 1 ∷ 2 ∷ 1 ∷ 0x10 ∷ 3 ∷ 3 ∷ 0 ∷ [])

@@ -1,5 +1,5 @@
 -- What callers of this crate may rely on, over every list: what an entry that keeps the rules is, what an accepted locator is,
--- which record is the k-th, and when a command is written.
+-- and which record is the k-th.
 -- Assumes nothing.
 use mathlib.Core.Path.{_≡_, refl, sym, ap, _∙_}
 use mathlib.Core.Bool.{true, false}
@@ -21,8 +21,6 @@ use Rattle.afl.specs.declared.RecordFound.the-variants.{At, Nothing}
 use Rattle.afl.specs.declared.CardRecord.{CardRecord}
 use Rattle.afl.specs.Entry.{entrySfi, entryRecordCount, validEntry}
 use Rattle.afl.specs.Records.{aflEntries, wholeEntries, sumOverEntries, aflRecords, aflRecordCount, acceptsAfl, aflChecked, aflReason, nthRecord, kthRecord, aflRecordAt}
-use Rattle.basics.specs.Front.{withPrefix}
-use Rattle.afl.specs.Command.{readRecordCommand, CommandWritten, WroteReadRecord, readRecordFits, readRecordWritten}
 use Rattle.afl.proofs.Records.{entries-short, whole-length, records-length, records-all, last-bytes, nth-split, nth-take, nth-inside, nth-there, nth-none, not-at}
 
 -- ---- an entry
@@ -219,31 +217,3 @@ module _ (s : List ℕ) (k : ℕ) (r : CardRecord) (e : aflRecordAt s k ≡ At r
       records-all (λ (x : AflEntry). leb (x .last) 255) (λ (q : CardRecord). q .number ≤ 255)
       (λ x t i h. let l = leb-true (x .last) 255 t in omega arith)
       (aflEntries s) (last-bytes s b) (k - 1) r record-nth
-
--- ---- a command
-
-pub written-yes : (r : CardRecord) (buffer : List ℕ) → 5 ≤ length buffer → r .sfi < 32
-    → readRecordWritten r buffer ≡ record { size = 5; buffer = withPrefix (readRecordCommand r) buffer }
-unfolding readRecordWritten readRecordFits
-written-yes r buffer h f = if-yes _ _ (both-yes _ _ (le-leb 5 (length buffer) h) (lt-ltb (r .sfi) 32 f))
-
-pub written-short : (r : CardRecord) (buffer : List ℕ) → length buffer < 5 → readRecordWritten r buffer ≡ record { size = 0; buffer = buffer }
-unfolding readRecordWritten readRecordFits
-written-short r buffer h = if-no _ _ (both-no-left _ _ (lt-leb 5 (length buffer) h))
-
-pub written-widen : (r : CardRecord) (buffer : List ℕ) → 32 ≤ r .sfi → readRecordWritten r buffer ≡ record { size = 0; buffer = buffer }
-unfolding readRecordWritten readRecordFits
-written-widen r buffer h = if-no _ _ (both-no-right _ _ (le-ltb (r .sfi) 32 h))
-
--- what a caller learns who lends five bytes or more, for a record with a file number of five bits
-pub wrote-yes : (n : ℕ) (b : List ℕ) (r : CardRecord) (buffer : List ℕ) → WroteReadRecord n b (readRecordWritten r buffer) → 5 ≤ length buffer → r .sfi < 32
-    → (n ≡ 5) × (b ≡ withPrefix (readRecordCommand r) buffer)
-wrote-yes n b r buffer w h f = let e = written-yes r buffer h f in (w .size ∙ ap (λ (x : CommandWritten). x .size) e, w .buffer ∙ ap (λ (x : CommandWritten). x .buffer) e)
-
--- the five bytes handed out are the command
-pub command-front : (r : CardRecord) (buffer : List ℕ) → take 5 (withPrefix (readRecordCommand r) buffer) ≡ readRecordCommand r
-command-front r buffer = refl
-
--- the buffer keeps its length
-pub command-length : (r : CardRecord) (buffer : List ℕ) → 5 ≤ length buffer → length (withPrefix (readRecordCommand r) buffer) ≡ length buffer
-command-length r buffer h = simp length-drop (omega arith)

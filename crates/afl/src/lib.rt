@@ -7,7 +7,6 @@ ghost use lib.ListN.{length};
 ghost use Rattle.basics.specs.Reason.{reasonAfl, unless};
 ghost use Rattle.afl.specs.Entry.{firstEntry, entryRecordCount, validEntry as keepsRules};
 ghost use Rattle.afl.specs.Records.{aflRecords as recordsIn, acceptsAfl, aflChecked, aflReason, nthRecord, aflRecordAt};
-ghost use Rattle.afl.specs.Command.{WroteReadRecord, readRecordWritten};
 
 // A record of a card: the file that it is in and its number there.
 pub struct CardRecord {
@@ -78,25 +77,6 @@ pub fn record_at(afl: &[u8], k: usize) -> RecordFound
         return RecordFound::Nothing;
     }
     seek(afl, k - 1)
-}
-
-// Writes the command that reads a record at the front of `command`, and returns its length, 5.
-// A buffer under 5 bytes or a file number over 31 gets no command: the length is 0 and the buffer stays.
-pub fn read_record(wanted: CardRecord, command: &mut [u8]) -> usize
-    ensures { λ n. ⌜ WroteReadRecord n (now (command .exit)) (readRecordWritten wanted (now (command .entry))) ⌝ }
-{
-    if command.len() < 5 {
-        return 0;
-    }
-    if 32 <= wanted.sfi {
-        return 0;
-    }
-    command[0] = 0x00;
-    command[1] = 0xB2;
-    command[2] = wanted.number;
-    command[3] = wanted.sfi * 8 + 4;
-    command[4] = 0x00;
-    5
 }
 
 // The entry at the front of the bytes.

@@ -24,7 +24,7 @@ use Rattle.reading.specs.Taking.{allowedInTemplate, allowedInResponse, allowedN
 use Rattle.reading.specs.Answer.{responseBody, gpoParts, primitiveParts, readBody, isRead, isStatus9000, isResponseLength, readAnswer}
 use Rattle.dol.specs.Entries.{entriesNext, dolEntries}
 use Rattle.dol.specs.Filling.{dolData, dolDataBy}
-use Rattle.dol.specs.Commands.{gpoCommandOf, getProcessingOptions}
+use Rattle.command.specs.WithList.{gpoCommandOf, getProcessingOptions}
 use Rattle.session_record.specs.declared.Phase.{Phase}
 use Rattle.session_record.specs.declared.Session.{Session}
 use Rattle.session_record.specs.Clauses.{zeroTvr}

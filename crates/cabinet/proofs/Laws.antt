@@ -31,7 +31,7 @@ use Rattle.session_record.specs.Ranges.{inRanges}
 use Rattle.session_record.proofs.CallResult.{the-type as answer-type}
 use Rattle.session_record.proofs.Phases.{store-size, fresh-keeps, is-fresh}
 use Rattle.start_data.specs.StartData.{LoadedStore, refusal, loaded, loadStart}
-use Rattle.dol.specs.Commands.{getProcessingOptions}
+use Rattle.command.specs.WithList.{getProcessingOptions}
 use Rattle.session.specs.Steps as steps
 use Rattle.session.specs.Steps.{Step, leastBuffer, commandOrReason}
 use Rattle.session.specs.Start.{askGpo, startLoaded, startIn, startStep}

@@ -18,7 +18,7 @@ use Rattle.basics.proofs.Laws.{if-yes, if-no, if-ind, bool-cases, both-yes}
 use Rattle.dictionary.specs.Named.{rowAmount}
 use Rattle.dictionary.proofs.Named.{at-9F02}
 use Rattle.store.specs.Place.{StoredValue, bytesOfValue}
-use Rattle.dol.specs.Commands.{getProcessingOptions}
+use Rattle.command.specs.WithList.{getProcessingOptions}
 use Rattle.analysis.specs.Digits.{amountOf}
 use Rattle.analysis.specs.Cvm.{cvmNotApplicable}
 use Rattle.session_record.specs.declared.Outcome.{Outcome}

@@ -9,7 +9,7 @@ use native.Mathlib.Numerals.{add-one}
 use native.Mathlib.Omega.{arith}
 use lib.ListN.{length, take, drop, set, replicate, length-append, length-take, length-drop, take-append-drop, drop-of-length-le, length-replicate, replicate-append-replicate}
 use lib.Seq.{take-at, drop-at, drop-drop, take-length, set-split, length-take-le, sets, sets-eq}
-use Rattle.dol.specs.Inner.{writtenOver, dolWrittenOver}
+use Rattle.dol.specs.Measure.{writtenOver, dolWrittenOver}
 
 pub over-nothing : (b : List ℕ) (at : ℕ) → writtenOver b at [] ≡ b
 unfolding writtenOver

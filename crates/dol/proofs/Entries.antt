@@ -27,7 +27,7 @@ use Rattle.dol.specs.declared.DolEntryFront.the-variants.{Asked, Broken}
 use Rattle.dol.specs.declared.DolTotal.{DolTotal}
 use Rattle.dol.specs.declared.DolTotal.the-variants.{Total, Unfit}
 use Rattle.dol.specs.Entries.{dolEntry, entryWithLength, dolEntryAt, entryBefore, entryThenRest, entriesNext, dolEntries, dolTotalLength}
-use Rattle.dol.specs.Inner.{dolMeasured}
+use Rattle.dol.specs.Measure.{dolMeasured}
 
 -- ---- one entry, as the code reads it
 

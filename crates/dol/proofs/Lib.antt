@@ -4,6 +4,4 @@ pub mod Fitting
 pub mod Filling
 pub mod Writing
 pub mod Bytes
-pub mod Parts
-pub mod Commands
 pub mod Examples

@@ -12,7 +12,7 @@ use Rattle.dol.specs.declared.DolEntry.{DolEntry}
 use Rattle.dol.specs.declared.DolEntryFront.the-variants.{Asked, Broken}
 use Rattle.dol.specs.Entries.{dolEntryAt, entryBefore, dolEntries, dolTotalLength}
 use Rattle.dol.specs.Filling.{dolEntryBytes, dolData, dolDataBy, dolFilled}
-use Rattle.dol.specs.Inner.{DolFits, writtenOver, dolWrittenOver}
+use Rattle.dol.specs.Measure.{DolFits, writtenOver, dolWrittenOver}
 use Rattle.dol.proofs.Buffer.{over-nothing, over-length, over-join}
 use Rattle.dol.proofs.Entries.{entries-end, entries-broken, entries-more}
 use Rattle.dol.proofs.Filling.{entry-length}

@@ -1,4 +1,3 @@
 pub mod Entries
 pub mod Filling
-pub mod Commands
-pub mod Inner
+pub mod Measure

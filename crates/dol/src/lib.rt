@@ -1,8 +1,4 @@
-// Data object lists: a list that names tags and lengths is filled from a store, and the three commands
-// that carry a filled list are written into a lent buffer.
-//
-// `get_processing_options`, `generate_ac` and `compute_cryptographic_checksum` measure the list first, so that a buffer is touched only
-// where a command is handed out. The bytes behind the command stay.
+// Data object lists: a list that names tags and lengths is measured, and filled from a store.
 use dictionary::ROWS;
 use dictionary::RowFound;
 use tlv::TagFront;
@@ -13,19 +9,7 @@ ghost use Rattle.dictionary.specs.Rows.{dictionaryRows};
 ghost use Rattle.dictionary.specs.Tables.{TablesGiven};
 ghost use Rattle.dol.specs.Entries.{dolEntryAt, dolEntries};
 ghost use Rattle.dol.specs.Filling.{truncated, paddingByte, padded, fittedTo, dolEntryBytes, dolFilled};
-ghost use Rattle.dol.specs.Commands.{commandWith, gpoDataHead, getProcessingOptions, generateAc, checksumCommandWith, computeCryptographicChecksum, commandOfLength, dolCommandOf, dolCommandReason, dolReason, bufferWithCommand};
-ghost use Rattle.dol.specs.Inner.{dolMeasured, DolFits, writtenOver, dolWrittenOver};
-
-// A command at the front of the buffer: how many bytes it has.
-pub struct DolCommandSize {
-    pub len: usize,
-}
-
-// What a call wrote: a command, or nothing.
-pub enum DolCommand {
-    Command(DolCommandSize),
-    NoCommand,
-}
+ghost use Rattle.dol.specs.Measure.{dolMeasured, DolFits, writtenOver, dolWrittenOver};
 
 // An entry of a list: the tag, and how many bytes are asked of it.
 pub struct DolEntry {
@@ -45,112 +29,8 @@ pub enum DolTotal {
     Unfit,
 }
 
-// The command processing options, with the filled list 9F38 that the store holds.
-pub fn get_processing_options(store: &[u8], buffer: &mut [u8]) -> DolCommand
-    requires { ⌜ 261 ≤ length (now buffer) ⌝ }
-    ensures said { λ r. ⌜ r ≡ dolCommandOf (getProcessingOptions (now (store .entry))) ⌝ }
-    ensures kept { λ _. ⌜ now (buffer .exit) ≡ bufferWithCommand (getProcessingOptions (now (store .entry))) (now (buffer .entry)) ⌝ }
-    ensures reason { λ r. ⌜ dolCommandReason r ≡ dolReason (getProcessingOptions (now (store .entry))) ⌝ }
-{
-    let list = store::value(store, dictionary::ROW_PDOL);
-    let measured = measure(list);
-    let DolTotal::Total(n) = measured else {
-        return DolCommand::NoCommand;
-    };
-    if 252 < n {
-        return DolCommand::NoCommand;
-    }
-    let at = gpo_head(n, buffer);
-    fill(list, store, buffer, at);
-    close(0xA8, 0, 0, buffer, at + n)
-}
-
-// The command generate AC, with the filled list 8C that the store holds; P1 says which cryptogram.
-pub fn generate_ac(store: &[u8], p1: u8, buffer: &mut [u8]) -> DolCommand
-    requires { ⌜ 261 ≤ length (now buffer) ⌝ }
-    ensures said { λ r. ⌜ r ≡ dolCommandOf (generateAc p1 (now (store .entry))) ⌝ }
-    ensures kept { λ _. ⌜ now (buffer .exit) ≡ bufferWithCommand (generateAc p1 (now (store .entry))) (now (buffer .entry)) ⌝ }
-    ensures reason { λ r. ⌜ dolCommandReason r ≡ dolReason (generateAc p1 (now (store .entry))) ⌝ }
-{
-    let list = store::value(store, dictionary::ROW_CDOL1);
-    let measured = measure(list);
-    let DolTotal::Total(n) = measured else {
-        return DolCommand::NoCommand;
-    };
-    if n == 0 {
-        return DolCommand::NoCommand;
-    }
-    fill(list, store, buffer, 5);
-    close(0xAE, p1, 0, buffer, 5 + n)
-}
-
-// The command compute cryptographic checksum, with the filled list 9F69 that the store holds; where it is absent or
-// empty, with the default list.
-pub fn compute_cryptographic_checksum(store: &[u8], buffer: &mut [u8]) -> DolCommand
-    requires { ⌜ 261 ≤ length (now buffer) ⌝ }
-    ensures said { λ r. ⌜ r ≡ dolCommandOf (computeCryptographicChecksum (now (store .entry))) ⌝ }
-    ensures kept { λ _. ⌜ now (buffer .exit) ≡ bufferWithCommand (computeCryptographicChecksum (now (store .entry))) (now (buffer .entry)) ⌝ }
-    ensures reason { λ r. ⌜ dolCommandReason r ≡ dolReason (computeCryptographicChecksum (now (store .entry))) ⌝ }
-{
-    let list = store::value(store, dictionary::ROW_UDOL);
-    if list.len() != 0 {
-        return checksum_with(list, store, buffer);
-    }
-    let default = [0x9F, 0x6A, 0x04];
-    checksum_with(&default, store, buffer)
-}
-
-// The same with a list.
-fn checksum_with(list: &[u8], store: &[u8], buffer: &mut [u8]) -> DolCommand
-    requires { ⌜ 261 ≤ length (now buffer) ⌝ }
-    ensures said { λ r. ⌜ r ≡ dolCommandOf (checksumCommandWith (now (list .entry)) (now (store .entry))) ⌝ }
-    ensures kept { λ _. ⌜ now (buffer .exit) ≡ bufferWithCommand (checksumCommandWith (now (list .entry)) (now (store .entry))) (now (buffer .entry)) ⌝ }
-    ensures reason { λ r. ⌜ dolCommandReason r ≡ dolReason (checksumCommandWith (now (list .entry)) (now (store .entry))) ⌝ }
-{
-    let measured = measure(list);
-    let DolTotal::Total(n) = measured else {
-        return DolCommand::NoCommand;
-    };
-    if n == 0 {
-        return DolCommand::NoCommand;
-    }
-    fill(list, store, buffer, 5);
-    close(0x2A, 0x8E, 0x80, buffer, 5 + n)
-}
-
-// Writes the tag 83 and the length of n filled bytes at place 5; the place behind them.
-fn gpo_head(n: usize, buffer: &mut [u8]) -> usize
-    requires { ⌜ (n < 256) × (261 ≤ length (now buffer)) ⌝ }
-    ensures next { λ r. ⌜ r ≡ 5 + length (gpoDataHead n) ⌝ }
-    ensures kept { λ _. ⌜ now (buffer .exit) ≡ writtenOver (now (buffer .entry)) 5 (gpoDataHead n) ⌝ }
-{
-    buffer[5] = 0x83;
-    if n < 128 {
-        buffer[6] = n as u8;
-        return 7;
-    }
-    buffer[6] = 0x81;
-    buffer[7] = n as u8;
-    8
-}
-
-// Closes a command whose data stands from place 5 up to `end`: the header before it, and 00 behind it.
-fn close(ins: u8, p1: u8, p2: u8, buffer: &mut [u8], end: usize) -> DolCommand
-    requires { ⌜ (5 ≤ end) × (end ≤ 260) × (261 ≤ length (now buffer)) ⌝ }
-    ensures said { λ r. ⌜ r ≡ commandOfLength (end + 1) ⌝ }
-    ensures kept { λ _. ⌜ now (buffer .exit) ≡ writtenOver (now (buffer .entry)) 0 (commandWith ins p1 p2 (take (end - 5) (drop 5 (now (buffer .entry))))) ⌝ }
-{
-    buffer[0] = 0x80;
-    buffer[1] = ins;
-    buffer[2] = p1;
-    buffer[3] = p2;
-    buffer[4] = (end - 5) as u8;
-    buffer[end] = 0;
-    DolCommand::Command(DolCommandSize { len: end + 1 })
-}
-
 // How many bytes a list asks for.
-fn measure(list: &[u8]) -> DolTotal
+pub fn measure(list: &[u8]) -> DolTotal
     ensures { λ r. ⌜ r ≡ dolMeasured (dolEntries (now (list .entry))) ⌝ }
 {
     let mut rest = list;
@@ -169,8 +49,9 @@ fn measure(list: &[u8]) -> DolTotal
     DolTotal::Total(total)
 }
 
-// Writes the filling of a whole list from a place on.
-fn fill(list: &[u8], store: &[u8], buffer: &mut [u8], at: usize)
+// Writes the filling of a whole list from a place on. A list is measured first: this one is whole, and its filling ends
+// inside the buffer.
+pub fn fill(list: &[u8], store: &[u8], buffer: &mut [u8], at: usize)
     requires { ⌜ DolFits (dolEntries (now list)) at (length (now buffer)) ⌝ }
     ensures { λ _. ⌜ now (buffer .exit) ≡ dolWrittenOver (now (buffer .entry)) at (dolFilled dictionaryRows (now (store .entry)) (now (list .entry))) ⌝ }
 {

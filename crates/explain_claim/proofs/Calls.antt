@@ -20,11 +20,11 @@ use Rattle.dictionary.proofs.Named.{at-82, at-DF811B}
 use Rattle.basics.proofs.Laws.{if-ind, if-yes, if-no, both-yes, both-left, both-right, both-no-left, both-no-right, both-true, either-left, either-right}
 use Rattle.store.specs.Place.{StoredValue, bytesOfValue, isPresent, objectValue}
 use Rattle.analysis.specs.Bits.{valueHasBit}
-use Rattle.afl.specs.Command.{readRecordCommand}
+use Rattle.command.specs.ReadRecord.{readRecordCommand}
 use Rattle.reading.specs.declared.Awaited.{Awaited}
 use Rattle.reading.specs.Answer as reading
-use Rattle.dol.specs.Commands.{generateAc}
-use Rattle.dol.proofs.Commands as list
+use Rattle.command.specs.WithList.{generateAc}
+use Rattle.command.proofs.Commands as list
 use Rattle.analysis.specs.declared.choice.Choice.{Choice}
 use Rattle.analysis.specs.Choice.{generateAcP1}
 use Rattle.analysis.specs.Action.{transactionLimit, findingsOf}

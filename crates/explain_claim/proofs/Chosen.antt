@@ -19,9 +19,9 @@ use Rattle.basics.proofs.Laws.{bool-cases, if-ind, if-yes, if-no}
 use Rattle.basics.proofs.Laws.{both-yes, both-left, both-right, both-no-left, both-no-right}
 use Rattle.store.specs.Place.{StoredValue, bytesOfValue, objectValue}
 use Rattle.afl.specs.declared.CardRecord.{CardRecord}
-use Rattle.afl.specs.Command.{readRecordCommand}
-use Rattle.dol.specs.Commands.{commandP2Zero, generateAcOf, generateAc}
-use Rattle.dol.proofs.Commands as list
+use Rattle.command.specs.ReadRecord.{readRecordCommand}
+use Rattle.command.specs.WithList.{commandP2Zero, generateAcOf, generateAc}
+use Rattle.command.proofs.Commands as list
 use Rattle.analysis.specs.Bits.{numberedBit}
 use Rattle.analysis.specs.Value.{firstBytes}
 use Rattle.analysis.specs.Choice.{stageHoldsBit, lowestBit, denialStage, onlineStage, defaultStage, noActionCodes, stageHolds, onlineCapabilityOf, generateAcP1}

@@ -4,7 +4,7 @@
 use mathlib.Core.List.{List}
 use Prim.Native.Nat.{ℕ, _≤_}
 use native.Mathlib.Omega.{arith}
-use Rattle.dol.proofs.Commands.{gpo-proper, cryptogram-proper, checksum-proper}
+use Rattle.command.proofs.Commands.{gpo-proper, cryptogram-proper, checksum-proper}
 use Rattle.analysis.specs.Choice.{generateAcP1}
 use Rattle.session_record.specs.declared.CallResult.{CallResult}
 use Rattle.session_record.specs.declared.AwaitedRecord.{AwaitedRecord}

@@ -16,10 +16,10 @@ use Rattle.basics.proofs.Laws.{if-yes, if-no, if-ind}
 use Rattle.basics.proofs.Order.{le-or-gt}
 use Rattle.afl.specs.declared.RecordFound.{RecordFound}
 use Rattle.afl.specs.Records.{aflRecordAt}
-use Rattle.afl.specs.Command.{readRecordCommand}
+use Rattle.command.specs.ReadRecord.{readRecordCommand}
 use Rattle.reading.specs.declared.Awaited.{Awaited}
 use Rattle.reading.specs.Answer as reading
-use Rattle.dol.specs.Commands.{getProcessingOptions, generateAc, computeCryptographicChecksum}
+use Rattle.command.specs.WithList.{getProcessingOptions, generateAc, computeCryptographicChecksum}
 use Rattle.analysis.specs.Choice.{generateAcP1}
 use Rattle.analysis.specs.Action.{transactionLimit, findingsOf}
 use Rattle.analysis.specs.Cvm.{cvmNumber, cvmNotApplicable}

@@ -24,10 +24,10 @@ use Rattle.afl.specs.declared.CardRecord.{CardRecord}
 use Rattle.afl.specs.declared.RecordFound.{RecordFound}
 use Rattle.afl.specs.Records.{acceptsAfl, aflRecordAt}
 use Rattle.afl.proofs.Laws.{accepted-total, record-accepted, record-inside, record-named}
-use Rattle.dol.specs.declared.DolCommand.{DolCommand}
-use Rattle.dol.specs.declared.DolCommand.the-variants.{Command, NoCommand}
-use Rattle.dol.specs.declared.DolCommandSize.{DolCommandSize as Handed}
-use Rattle.dol.specs.Commands.{dolCommandOf, bufferWithCommand}
+use Rattle.command.specs.declared.DolCommand.{DolCommand}
+use Rattle.command.specs.declared.DolCommand.the-variants.{Command, NoCommand}
+use Rattle.command.specs.declared.DolCommandSize.{DolCommandSize as Handed}
+use Rattle.command.specs.WithList.{dolCommandOf, bufferWithCommand}
 use Rattle.reading.specs.declared.Awaited.{Awaited}
 use Rattle.reading.specs.declared.ResponseVerdict.{ResponseVerdict}
 use Rattle.reading.specs.declared.ResponseVerdict.the-variants.{Accepted, BadStatus, Malformed, NotAllowed}

@@ -11,10 +11,10 @@ use Rattle.basics.specs.Reason.{reasonCryptogram, reasonMode}
 use Rattle.store.specs.Held.{hasObject, storedByte}
 use Rattle.afl.specs.declared.RecordFound.{RecordFound}
 use Rattle.afl.specs.Records.{acceptsAfl, aflRecordAt}
-use Rattle.afl.specs.Command.{readRecordCommand}
+use Rattle.command.specs.ReadRecord.{readRecordCommand}
 use Rattle.reading.specs.declared.Awaited.{Awaited}
 use Rattle.reading.specs.Answer.{readAnswer}
-use Rattle.dol.specs.Commands.{generateAc}
+use Rattle.command.specs.WithList.{generateAc}
 use Rattle.analysis.specs.declared.choice.Choice.{Choice}
 use Rattle.analysis.specs.Choice.{generateAcP1}
 use Rattle.analysis.specs.Action.{transactionLimit, aboveTransactionLimit, findingsOf, choiceFor}

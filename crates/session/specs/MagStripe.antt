@@ -16,7 +16,7 @@ use Rattle.mag_stripe.specs.Bitmap.{bitmapsOf, canTakeDigits}
 use Rattle.mag_stripe.specs.Digits.{digitValuesOf, trackWithDigits}
 use Rattle.reading.specs.declared.Awaited.{Awaited}
 use Rattle.reading.specs.Answer.{readAnswer}
-use Rattle.dol.specs.Commands.{computeCryptographicChecksum}
+use Rattle.command.specs.WithList.{computeCryptographicChecksum}
 use Rattle.analysis.specs.Action.{aboveTransactionLimit}
 use Rattle.analysis.specs.Cvm.{cvmNotApplicable}
 use Rattle.session_record.specs.declared.Outcome.{Outcome}

@@ -9,7 +9,7 @@
 // store lent or shared: a turn is handed back, and the store is not copied.
 use analysis::choice::Choice;
 use analysis::cvm::NOT_APPLICABLE;
-use dol::DolCommand;
+use command::DolCommand;
 use dictionary::{ROW_AIP, ROW_AFL, ROW_TVR, ROW_AC, ROW_CID, ROW_CVM_RESULTS, ROW_ATC};
 use dictionary::{ROW_CVC3_TRACK2, ROW_PCVC3_TRACK2, ROW_PUNATC_TRACK2, ROW_NATC_TRACK2, ROW_UN_NUMERIC, ROW_TRACK2_DATA};
 use afl::{AflCheck, RecordFound};
@@ -27,7 +27,7 @@ ghost use Rattle.basics.specs.Front.{withPrefix};
 ghost use Rattle.basics.specs.Reason.{reasonNotAllowed, reasonMissing, reasonAboveLimit, reasonMode, unless};
 ghost use Rattle.dictionary.specs.Rows.{storeSize};
 ghost use Rattle.store.specs.Held.{hasObject};
-ghost use Rattle.afl.specs.Command.{readRecordCommand};
+ghost use Rattle.command.specs.ReadRecord.{readRecordCommand};
 ghost use Rattle.analysis.specs.Action.{aboveTransactionLimit};
 ghost use Rattle.analysis.specs.Cvm.{cvmNumber};
 ghost use Rattle.session_record.specs.Session.{sessionOf, replyOf, commandTransition};
@@ -227,7 +227,7 @@ fn ask_gpo(count: u8, bytes: &[u8], command: &mut [u8]) -> Transition
     ensures { λ r. ⌜ DidTransition r (now (bytes .entry)) (now (command .exit))
         (askGpo count (now (bytes .entry)) (now (command .entry))) ⌝ }
 {
-    let DolCommand::Command(c) = dol::get_processing_options(bytes, command) else {
+    let DolCommand::Command(c) = command::get_processing_options(bytes, command) else {
         return session_record::fail_session(count, basics::REASON_DOL, NOT_APPLICABLE);
     };
     session_record::issue_command(Phase::Gpo, count + 1, c.len)
@@ -278,7 +278,7 @@ fn ask_record(count: u8, wanted: afl::CardRecord, place: AwaitedRecord, command:
     ensures transition { λ r. ⌜ r ≡ commandTransition (Phase.Record place) (count + 1) (length (readRecordCommand wanted)) ⌝ }
     ensures buffer { λ _. ⌜ now (command .exit) ≡ withPrefix (readRecordCommand wanted) (now (command .entry)) ⌝ }
 {
-    let size = afl::read_record(wanted, command);
+    let size = command::read_record(wanted, command);
     session_record::issue_command(Phase::Record(place), count + 1, size)
 }
 
@@ -374,7 +374,7 @@ fn ask_cryptogram(asked: RequestedCryptogram, count: u8, bytes: &[u8], command: 
 {
     let choice = asked.choice;
     let p1 = analysis::choice::p1(choice);
-    let DolCommand::Command(c) = dol::generate_ac(bytes, p1, command) else {
+    let DolCommand::Command(c) = command::generate_ac(bytes, p1, command) else {
         return session_record::fail_session(count, basics::REASON_DOL, held_cvm(asked));
     };
     session_record::issue_command(Phase::Cryptogram(asked), count + 1, c.len)
@@ -463,7 +463,7 @@ fn ask_checksum(limit: u64, count: u8, bytes: &[u8], command: &mut [u8]) -> Tran
     ensures { λ r. ⌜ DidTransition r (now (bytes .entry)) (now (command .exit))
         (askChecksum limit count (now (bytes .entry)) (now (command .entry))) ⌝ }
 {
-    let DolCommand::Command(c) = dol::compute_cryptographic_checksum(bytes, command) else {
+    let DolCommand::Command(c) = command::compute_cryptographic_checksum(bytes, command) else {
         return session_record::fail_session(count, basics::REASON_DOL, NOT_APPLICABLE);
     };
     session_record::issue_command(Phase::Checksum(AwaitedChecksum { limit }), count + 1, c.len)

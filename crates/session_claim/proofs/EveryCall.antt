@@ -14,10 +14,10 @@ use Rattle.dictionary.specs.Rows.{storeSize}
 use Rattle.dictionary.proofs.Named.{at-94}
 use Rattle.store.specs.Place.{StoredValue, bytesOfValue, objectValue}
 use Rattle.afl.specs.Records.{acceptsAfl}
-use Rattle.afl.specs.Command.{readRecordCommand}
+use Rattle.command.specs.ReadRecord.{readRecordCommand}
 use Rattle.afl.proofs.Laws.{accepted-length}
 use Rattle.reading.specs.declared.Awaited.{Awaited}
-use Rattle.dol.proofs.Commands.{gpo-proper, cryptogram-proper, checksum-proper}
+use Rattle.command.proofs.Commands.{gpo-proper, cryptogram-proper, checksum-proper}
 use Rattle.analysis.specs.Action.{findingsOf}
 use Rattle.analysis.specs.Cvm.{cvmNotApplicable}
 use Rattle.analysis.specs.Choice.{generateAcP1}

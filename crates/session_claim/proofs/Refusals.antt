@@ -15,7 +15,7 @@ use Rattle.basics.proofs.Laws.{if-ind, bool-cases}
 use Rattle.afl.specs.declared.RecordFound.{RecordFound}
 use Rattle.afl.specs.Records.{aflRecordAt}
 use Rattle.reading.specs.declared.Awaited.{Awaited}
-use Rattle.dol.specs.Commands.{getProcessingOptions}
+use Rattle.command.specs.WithList.{getProcessingOptions}
 use Rattle.analysis.specs.Cvm.{cvmNotApplicable}
 use Rattle.session_record.specs.declared.CallResult.{CallResult}
 use Rattle.session_record.specs.declared.RequestedCryptogram.{RequestedCryptogram}

@@ -19,12 +19,12 @@ use Rattle.store.specs.Held.{storedBytes}
 use Rattle.afl.specs.declared.CardRecord.{CardRecord}
 use Rattle.afl.specs.declared.RecordFound.{RecordFound}
 use Rattle.afl.specs.Records.{aflRecords, aflRecordCount, acceptsAfl, aflRecordAt}
-use Rattle.afl.specs.Command.{readRecordCommand}
+use Rattle.command.specs.ReadRecord.{readRecordCommand}
 use Rattle.afl.proofs.Laws.{record-split, record-inside, record-there, accepted-length}
 use Rattle.afl.proofs.Records.{records-length}
 use Rattle.reading.specs.declared.Awaited.{Awaited}
 use Rattle.reading.specs.Answer as reading
-use Rattle.dol.proofs.Commands as list
+use Rattle.command.proofs.Commands as list
 use Rattle.analysis.specs.Action.{transactionLimit, findingsOf}
 use Rattle.analysis.specs.Choice.{generateAcP1}
 use Rattle.session_record.specs.declared.Outcome.{Outcome}

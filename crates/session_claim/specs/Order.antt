@@ -10,7 +10,7 @@ use Rattle.basics.specs.Choice.{if_then_else_, _and_, _<?_, _=?_}
 use Rattle.basics.specs.Reason.{reasonNone}
 use Rattle.afl.specs.Records.{aflRecords}
 use Rattle.analysis.specs.Bits.{valueHasBit}
-use Rattle.afl.specs.Command.{readRecordCommand}
+use Rattle.command.specs.ReadRecord.{readRecordCommand}
 use Rattle.reading.specs.Taking.{PrimitiveItem, primitiveItems}
 use Rattle.reading.specs.Answer.{ResponseBody, primitive, template, responseBody}
 use Rattle.session_record.specs.declared.Session.{Session}

@@ -19,7 +19,7 @@ use Rattle.reading.specs.Taking.{allowedInTemplate, allowedInResponse, allowedN
 use Rattle.reading.specs.Answer.{responseBody, gpoParts, iadPart, cryptogramParts, primitiveParts, templateParts, readBody, isRead, isStatus9000, isResponseLength, readAnswer}
 use Rattle.dol.specs.Entries.{entryWithLength, dolEntryAt, entryBefore, entriesNext, dolEntries}
 use Rattle.dol.specs.Filling.{truncated, paddingByte, padded, fittedTo, dolEntryBytes, dolData, dolDataBy}
-use Rattle.dol.specs.Commands.{gpoCommandOf, getProcessingOptions, generateAcOf, generateAc, udolOrDefault, checksumCommandOf, checksumCommandWith, computeCryptographicChecksum}
+use Rattle.command.specs.WithList.{gpoCommandOf, getProcessingOptions, generateAcOf, generateAc, udolOrDefault, checksumCommandOf, checksumCommandWith, computeCryptographicChecksum}
 use Rattle.analysis.specs.Bits.{numberedBit}
 use Rattle.analysis.specs.Value.{firstBytes}
 use Rattle.analysis.specs.Digits.{bcdFrom, yearOf, dateOf, dateLater, amountOf, amountAbove}

@@ -15,7 +15,7 @@ use Rattle.dictionary.specs.TerminalType.{listedTerminalType}
 use Rattle.store.specs.Place.{rowOffset, rowPlace, placeValue, rowValue, putRow, objectValueIn}
 use Rattle.dol.specs.Entries.{entryWithLength, dolEntryAt, entryBefore, entriesNext, dolEntries}
 use Rattle.dol.specs.Filling.{truncated, paddingByte, padded, fittedTo, dolEntryBytes, dolData, dolDataBy}
-use Rattle.dol.specs.Commands.{gpoCommandOf, getProcessingOptions, generateAcOf, generateAc, udolOrDefault, checksumCommandOf, checksumCommandWith, computeCryptographicChecksum}
+use Rattle.command.specs.WithList.{gpoCommandOf, getProcessingOptions, generateAcOf, generateAc, udolOrDefault, checksumCommandOf, checksumCommandWith, computeCryptographicChecksum}
 use Rattle.session_record.specs.Numbers.{outcomeOfReason}
 use Rattle.session_record.specs.Ranges.{isPresentIfRequired, allRequiredPresent, cryptogramDataPresent, trackDataPresent}
 use Rattle.start_data.specs.StartData.{terminalTypeListed, settableByStart, setObject, setObjects, loadStart}

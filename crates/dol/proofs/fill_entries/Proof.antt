@@ -9,7 +9,7 @@ use borrow.Author.Needs.{needs}
 use Rattle.dictionary.specs.Rows.{dictionaryRows}
 use Rattle.dol.specs.Entries.{dolEntries}
 use Rattle.dol.specs.Filling.{dolFilled}
-use Rattle.dol.specs.Inner.{DolFits, dolWrittenOver}
+use Rattle.dol.specs.Measure.{DolFits, dolWrittenOver}
 use Rattle.dol.proofs.Entries.{entry-inside}
 use Rattle.dol.proofs.Writing.{no-room, entry-room, fill-end, fill-step}
 use Rattle.dol.proofs.fill_entries.Statement.{statement}

@@ -8,7 +8,7 @@ use lib.ListN.{length, drop, length-take, length-drop}
 use borrow.Author.Needs.{needs}
 use Rattle.tlv.proofs.Laws.{tail-is}
 use Rattle.dol.specs.Entries.{dolEntries}
-use Rattle.dol.specs.Inner.{dolMeasured}
+use Rattle.dol.specs.Measure.{dolMeasured}
 use Rattle.dol.proofs.Entries.{entry-inside, measuredFrom, measured-from, measured-end, measured-broken, measured-more, measured-long}
 use Rattle.dol.proofs.measure.Statement.{statement}
 use Rattle.dol.proofs.measure.Tie as tie

@@ -4,7 +4,7 @@ use mathlib.Core.Path.{_≡_, refl, sym, ap, _∙_}
 use Prim.Native.Nat.{ℕ, _+_, _-_, _≤_, _<_}
 use native.Mathlib.Omega.{arith}
 use lib.ListN.{length, replicate, length-set}
-use Rattle.dol.specs.Inner.{writtenOver}
+use Rattle.dol.specs.Measure.{writtenOver}
 use Rattle.dol.proofs.Buffer.{over-nothing, repeat-more}
 use Rattle.dol.proofs.repeat.Statement.{statement}
 use Rattle.dol.proofs.repeat.Tie as tie

@@ -11,7 +11,7 @@ use Rattle.dictionary.specs.declared.RowFound.the-variants.{At}
 use Rattle.dictionary.specs.Rows.{dictionaryRows, rowCount, findRow}
 use Rattle.dictionary.proofs.Lent.{lent-found, row-found, lent-row}
 use Rattle.dol.specs.Filling.{fillZeros}
-use Rattle.dol.specs.Inner.{writtenOver}
+use Rattle.dol.specs.Measure.{writtenOver}
 use Rattle.dol.proofs.Filling.{of-template, of-unknown, of-absent, of-present}
 use Rattle.dol.proofs.write_entry.Statement.{statement}
 use Rattle.dol.proofs.write_entry.Tie as tie

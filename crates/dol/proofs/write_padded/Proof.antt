@@ -6,7 +6,7 @@ use Prim.Native.Nat.{ℕ, _+_, _-_, _≤_}
 use native.Mathlib.Omega.{arith}
 use lib.ListN.{length, replicate, length-replicate}
 use borrow.Author.Needs.{needs}
-use Rattle.dol.specs.Inner.{writtenOver}
+use Rattle.dol.specs.Measure.{writtenOver}
 use Rattle.dol.proofs.Buffer.{over-then}
 use Rattle.dol.proofs.Fitting.{padded-n, padded-other}
 use Rattle.dol.proofs.write_padded.Statement.{statement}

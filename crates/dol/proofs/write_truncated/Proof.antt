@@ -5,7 +5,7 @@ use native.Mathlib.Omega.{arith}
 use lib.ListN.{length-take}
 use borrow.Author.Needs.{needs}
 use Rattle.tlv.proofs.Laws.{tail-is}
-use Rattle.dol.specs.Inner.{writtenOver}
+use Rattle.dol.specs.Measure.{writtenOver}
 use Rattle.dol.proofs.Fitting.{cut-n, cut-other}
 use Rattle.dol.proofs.write_truncated.Statement.{statement}
 use Rattle.dol.proofs.write_truncated.Tie as tie

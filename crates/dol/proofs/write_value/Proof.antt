@@ -2,7 +2,7 @@
 -- Assumes nothing.
 use mathlib.Core.Path.{sym, ap, _∙_}
 use borrow.Author.Needs.{needs}
-use Rattle.dol.specs.Inner.{writtenOver}
+use Rattle.dol.specs.Measure.{writtenOver}
 use Rattle.dol.proofs.Fitting.{fitted-cut, fitted-short}
 use Rattle.dol.proofs.write_value.Statement.{statement}
 use Rattle.dol.proofs.write_value.Tie as tie

@@ -6,7 +6,7 @@ use mathlib.Core.Bool.{true}
 use Prim.Native.Nat.{ℕ, _+_}
 use lib.ListN.{length}
 use Rattle.afl.specs.declared.RecordFound.{RecordFound}
-use Rattle.afl.specs.Command.{readRecordCommand}
+use Rattle.command.specs.ReadRecord.{readRecordCommand}
 use Rattle.session_record.proofs.Tags.{located-no, located-yes}
 use Rattle.session_record.specs.Ranges.{emvOrMagStripeMode}
 use Rattle.session_record.specs.Session.{commandTransition}

@@ -1,7 +1,7 @@
 -- `session::ask_checksum` meets its contract: what was written says which way `commandOrReason` goes.
 -- Assumes nothing.
 use borrow.Author.Needs.{needs}
-use Rattle.dol.specs.Commands.{computeCryptographicChecksum}
+use Rattle.command.specs.WithList.{computeCryptographicChecksum}
 use Rattle.analysis.specs.Cvm.{cvmNotApplicable}
 use Rattle.session.specs.MagStripe.{checksumPhase, askChecksum}
 use Rattle.session.proofs.Laws.{handed-none, handed-some}

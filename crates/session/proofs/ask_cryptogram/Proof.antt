@@ -4,7 +4,7 @@ use borrow.Author.Needs.{needs}
 use mathlib.Core.Path.{ap, _∙_}
 use Prim.Native.Nat.{ℕ}
 use Rattle.basics.specs.Reason.{reasonDol}
-use Rattle.dol.specs.Commands.{dolCommandOf, bufferWithCommand, generateAc}
+use Rattle.command.specs.WithList.{dolCommandOf, bufferWithCommand, generateAc}
 use Rattle.analysis.specs.Choice.{generateAcP1}
 use Rattle.analysis.specs.Cvm.{cvmNumber}
 use Rattle.session_record.specs.declared.Phase.{Phase}

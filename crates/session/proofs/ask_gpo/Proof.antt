@@ -1,7 +1,7 @@
 -- `session::ask_gpo` meets its contract: what was written says which way `commandOrReason` goes.
 -- Assumes nothing.
 use borrow.Author.Needs.{needs}
-use Rattle.dol.specs.Commands.{getProcessingOptions}
+use Rattle.command.specs.WithList.{getProcessingOptions}
 use Rattle.analysis.specs.Cvm.{cvmNotApplicable}
 use Rattle.session_record.specs.declared.Phase.{Phase}
 use Rattle.session.specs.Start.{askGpo}

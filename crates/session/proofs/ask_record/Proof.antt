@@ -4,7 +4,7 @@ use borrow.Author.Needs.{needs}
 use mathlib.Core.Path.{ap, _∙_}
 use Prim.Native.Nat.{_+_}
 use native.Mathlib.Omega.{arith}
-use Rattle.afl.proofs.Laws.{wrote-yes}
+use Rattle.command.proofs.ReadRecord.{wrote-yes}
 use Rattle.session_record.specs.declared.Phase.{Phase}
 use Rattle.session_record.specs.Session.{commandTransition}
 use Rattle.session.proofs.ask_record.Statement.{statement}

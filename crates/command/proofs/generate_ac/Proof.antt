@@ -6,13 +6,13 @@ use native.Mathlib.Omega.{arith}
 use lib.ListN.{length}
 use borrow.Author.Needs.{needs}
 use Rattle.dictionary.specs.Rows.{dictionaryRows}
 use Rattle.dol.specs.Entries.{dolEntries}
-use Rattle.dol.specs.Commands.{generateAc, generateAcOf, commandP2Zero}
-use Rattle.dol.specs.Inner.{writtenOver}
+use Rattle.command.specs.WithList.{generateAc, generateAcOf, commandP2Zero}
+use Rattle.dol.specs.Measure.{writtenOver}
 use Rattle.dol.proofs.Buffer.{over-some}
-use Rattle.dol.proofs.Parts.{Fills, fills, unfit, cryptogram-of, cryptogram-broken, cryptogram-empty, cryptogram-long, cryptogram-some, command-length, command-front, none-written, some-written}
-use Rattle.dol.proofs.generate_ac.Statement.{statement}
-use Rattle.dol.proofs.generate_ac.Tie as tie
+use Rattle.command.proofs.Parts.{Fills, fills, unfit, cryptogram-of, cryptogram-broken, cryptogram-empty, cryptogram-long, cryptogram-some, command-length, command-front, none-written, some-written}
+use Rattle.command.proofs.generate_ac.Statement.{statement}
+use Rattle.command.proofs.generate_ac.Tie as tie
 
 -- a measured list's filling
 filling : (c : tie.After-measured) → Fills dictionaryRows (c .before .before .before .before .before .before .args .store .now) (dolEntries (c .before .before .before .value .result .now)) (c .measured .given .0 .0)

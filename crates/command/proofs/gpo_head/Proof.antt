@@ -6,11 +6,11 @@ use Prim.Native.Nat.{ℕ, _+_}
 use native.Mathlib.Omega.{arith}
 use lib.ListN.{length, length-set}
 use borrow.Author.Needs.{needs}
-use Rattle.dol.specs.Inner.{writtenOver}
+use Rattle.dol.specs.Measure.{writtenOver}
 use Rattle.dol.proofs.Buffer.{over-sets}
-use Rattle.dol.proofs.Parts.{head-short, head-long}
-use Rattle.dol.proofs.gpo_head.Statement.{statement}
-use Rattle.dol.proofs.gpo_head.Tie as tie
+use Rattle.command.proofs.Parts.{head-short, head-long}
+use Rattle.command.proofs.gpo_head.Statement.{statement}
+use Rattle.command.proofs.gpo_head.Tie as tie
 
 returns : tie.Need-returns
 returns c =

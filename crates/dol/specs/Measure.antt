@@ -1,6 +1,5 @@
--- What the private functions of this crate promise, for the proofs of their callers: a list measured before it is
--- filled, and a lent buffer with bytes written into it. No rule stands here, and a reader can pass it over:
--- `proofs/Parts` ties it to the commands of Commands.antt.
+-- A list measured before it is filled, and a buffer with bytes written into it: what `measure` and `fill` promise. The
+-- commands that carry a filled list go by these (`command/specs/WithList`).
 -- Assumes nothing.
 use mathlib.Core.List.{List, _++_}
 use mathlib.Core.Option.{Option, some, none}

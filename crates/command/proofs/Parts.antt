@@ -19,16 +19,16 @@ use Rattle.dictionary.specs.Named.{rowCdol1, rowPdol, rowUdol}
 use Rattle.dictionary.proofs.Named.{at-8C, at-9F38, at-9F69}
 use Rattle.store.specs.Place.{bytesOfValue, rowValue}
 use Rattle.store.proofs.Laws.{by-row}
 use Rattle.dol.specs.declared.DolEntry.{DolEntry}
-use Rattle.dol.specs.declared.DolCommand.{DolCommand}
+use Rattle.command.specs.declared.DolCommand.{DolCommand}
 use Rattle.dol.specs.declared.DolTotal.the-variants.{Total, Unfit}
 use Rattle.dol.specs.Entries.{dolTotalLength}
 use Rattle.dol.specs.Filling.{dolData, dolDataBy, dolFilled}
-use Rattle.dol.specs.Commands.{commandP2Zero, commandWith, gpoDataHead, gpoData, gpoCommandOf, getProcessingOptions, generateAcOf, generateAc, udolOrDefault, checksumCommandOf, checksumCommandWith, computeCryptographicChecksum, commandOfLength, dolCommandOf, dolCommandReason, dolReason, bufferWithCommand}
-use Rattle.dol.specs.Inner.{dolMeasured, DolFits, writtenOver}
+use Rattle.command.specs.WithList.{commandP2Zero, commandWith, gpoDataHead, gpoData, gpoCommandOf, getProcessingOptions, generateAcOf, generateAc, udolOrDefault, checksumCommandOf, checksumCommandWith, computeCryptographicChecksum, commandOfLength, dolCommandOf, dolCommandReason, dolReason, bufferWithCommand}
+use Rattle.dol.specs.Measure.{dolMeasured, DolFits, writtenOver}
 use Rattle.dol.proofs.Buffer.{over-there, over-cover}
 use Rattle.dol.proofs.Entries.{whole}
 use Rattle.dol.proofs.Filling.{filling-length, filled-some}
 
 -- ---- what a measured list gives
 

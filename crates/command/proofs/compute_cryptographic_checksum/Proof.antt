@@ -5,10 +5,10 @@ use mathlib.Core.List.{List}
 use mathlib.Core.Option.{Option}
 use Prim.Native.Nat.{ℕ}
 use borrow.Author.Needs.{needs}
-use Rattle.dol.specs.Commands.{dolCommandOf, dolReason, bufferWithCommand}
-use Rattle.dol.proofs.Parts.{checksum-own, checksum-default}
-use Rattle.dol.proofs.compute_cryptographic_checksum.Statement.{statement}
-use Rattle.dol.proofs.compute_cryptographic_checksum.Tie as tie
+use Rattle.command.specs.WithList.{dolCommandOf, dolReason, bufferWithCommand}
+use Rattle.command.proofs.Parts.{checksum-own, checksum-default}
+use Rattle.command.proofs.compute_cryptographic_checksum.Statement.{statement}
+use Rattle.command.proofs.compute_cryptographic_checksum.Tie as tie
 
 returns : tie.Need-returns
 returns c =

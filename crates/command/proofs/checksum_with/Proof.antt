@@ -7,14 +7,14 @@ use native.Mathlib.Omega.{arith}
 use lib.ListN.{length}
 use borrow.Author.Needs.{needs}
 use Rattle.dictionary.specs.Rows.{dictionaryRows}
 use Rattle.dol.specs.Entries.{dolEntries}
 use Rattle.dol.specs.Filling.{dolFilled}
-use Rattle.dol.specs.Commands.{checksumCommandWith, checksumCommandOf, commandWith}
-use Rattle.dol.specs.Inner.{writtenOver}
+use Rattle.command.specs.WithList.{checksumCommandWith, checksumCommandOf, commandWith}
+use Rattle.dol.specs.Measure.{writtenOver}
 use Rattle.dol.proofs.Buffer.{over-some}
-use Rattle.dol.proofs.Parts.{Fills, fills, unfit, checksum-broken, checksum-empty, checksum-long, checksum-some, command-length, command-front, none-written, some-written}
-use Rattle.dol.proofs.checksum_with.Statement.{statement}
-use Rattle.dol.proofs.checksum_with.Tie as tie
+use Rattle.command.proofs.Parts.{Fills, fills, unfit, checksum-broken, checksum-empty, checksum-long, checksum-some, command-length, command-front, none-written, some-written}
+use Rattle.command.proofs.checksum_with.Statement.{statement}
+use Rattle.command.proofs.checksum_with.Tie as tie
 
 -- a measured list's filling
 filling : (c : tie.After-measured)

@@ -11,9 +11,9 @@ use Rattle.basics.specs.Reason.{reasonNone, reasonDol}
 use Rattle.tlv.specs.Encoding.{lengthBytes}
 use Rattle.dictionary.specs.Rows.{dictionaryRows}
 use Rattle.store.specs.Place.{bytesOfValue, objectValue}
-use Rattle.dol.specs.declared.DolCommand.{DolCommand}
-use Rattle.dol.specs.declared.DolCommand.the-variants.{Command, NoCommand}
+use Rattle.command.specs.declared.DolCommand.{DolCommand}
+use Rattle.command.specs.declared.DolCommand.the-variants.{Command, NoCommand}
 use Rattle.dol.specs.Filling.{dolFilled}
 
 -- a command of class 80: instruction, P1, P2, Lc, data, Le of 00
 abbrev pub commandWith : ℕ → ℕ → ℕ → List ℕ → List ℕ

@@ -17,11 +17,11 @@ use Rattle.tlv.specs.Encoding.{lengthBytes}
 use Rattle.tlv.proofs.Laws.{Bytes}
 use Rattle.dictionary.specs.Rows.{dictionaryRows}
 use Rattle.store.specs.Place.{absent, bytesOfValue, objectValue}
 use Rattle.dol.specs.Filling.{dolFilled}
-use Rattle.dol.specs.Commands.{commandP2Zero, commandWith, gpoDataHead, gpoData, gpoCommandOf, getProcessingOptions, generateAcOf, generateAc, udolOrDefault, checksumCommandOf, checksumCommandWith, computeCryptographicChecksum}
+use Rattle.command.specs.WithList.{commandP2Zero, commandWith, gpoDataHead, gpoData, gpoCommandOf, getProcessingOptions, generateAcOf, generateAc, udolOrDefault, checksumCommandOf, checksumCommandWith, computeCryptographicChecksum}
 use Rattle.dol.proofs.Filling.{filled-nothing}
 use Rattle.dol.proofs.Bytes.{bytes-nil, bytes-cons, bytes-append, filled-bytes}
-use Rattle.dol.proofs.Parts.{head-short, head-long, head-length}
+use Rattle.command.proofs.Parts.{head-short, head-long, head-length}
 
 no-command : {P : Type 0} (c : List ℕ) → none ≡ some c → P
 no-command c p = let z : _≡_ {A = ℕ} 0 1 = cc in absurd (omega arith)

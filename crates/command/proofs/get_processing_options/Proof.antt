@@ -7,13 +7,13 @@ use native.Mathlib.Omega.{arith}
 use lib.ListN.{length, length-append}
 use borrow.Author.Needs.{needs}
 use Rattle.dictionary.specs.Rows.{dictionaryRows}
 use Rattle.dol.specs.Entries.{dolEntries}
-use Rattle.dol.specs.Commands.{getProcessingOptions, gpoCommandOf, gpoDataHead, gpoData, commandP2Zero}
-use Rattle.dol.specs.Inner.{writtenOver}
+use Rattle.command.specs.WithList.{getProcessingOptions, gpoCommandOf, gpoDataHead, gpoData, commandP2Zero}
+use Rattle.dol.specs.Measure.{writtenOver}
 use Rattle.dol.proofs.Buffer.{over-some, over-then}
-use Rattle.dol.proofs.Parts.{Fills, fills, unfit, head-length, gpo-of, gpo-broken, gpo-long, gpo-some, command-length, command-front, none-written, some-written}
-use Rattle.dol.proofs.get_processing_options.Statement.{statement}
-use Rattle.dol.proofs.get_processing_options.Tie as tie
+use Rattle.command.proofs.Parts.{Fills, fills, unfit, head-length, gpo-of, gpo-broken, gpo-long, gpo-some, command-length, command-front, none-written, some-written}
+use Rattle.command.proofs.get_processing_options.Statement.{statement}
+use Rattle.command.proofs.get_processing_options.Tie as tie
 
 -- a measured list's filling
 filling : (c : tie.After-measured) → Fills dictionaryRows (c .before .before .before .before .before .before .args .store .now) (dolEntries (c .before .before .before .value .result .now)) (c .measured .given .0 .0)

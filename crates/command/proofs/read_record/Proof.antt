@@ -1,4 +1,4 @@
--- `afl::read_record` meets its contract: five stores at the front are the command and the old bytes behind it.
+-- `command::read_record` meets its contract: five stores at the front are the command and the old bytes behind it.
 -- Assumes nothing.
 use borrow.Author.Needs.{needs}
 use mathlib.Core.Path.{_≡_, refl}
@@ -6,10 +6,10 @@ use mathlib.Core.List.{List, [], _∷_}
 use Prim.Native.Nat.{ℕ, _≤_}
 use native.Mathlib.Omega.{arith}
 use lib.ListN.{length, set, drop, length-set}
-use Rattle.afl.specs.Command.{CommandWritten, WroteReadRecord}
-use Rattle.afl.proofs.Laws.{written-yes, written-short, written-widen}
-use Rattle.afl.proofs.read_record.Statement.{statement}
-use Rattle.afl.proofs.read_record.Tie as tie
+use Rattle.command.specs.ReadRecord.{CommandWritten, WroteReadRecord}
+use Rattle.command.proofs.ReadRecord.{written-yes, written-short, written-widen}
+use Rattle.command.proofs.read_record.Statement.{statement}
+use Rattle.command.proofs.read_record.Tie as tie
 
 five : (l : List ℕ) (a b c d e : ℕ) → 5 ≤ length l → set (set (set (set (set l 0 a) 1 b) 2 c) 3 d) 4 e ≡ a ∷ b ∷ c ∷ d ∷ e ∷ drop 5 l
 five [] a b c d e h = absurd (omega arith)

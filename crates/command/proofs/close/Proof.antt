@@ -4,9 +4,9 @@ use mathlib.Core.Path.{refl}
 use native.Mathlib.Omega.{arith}
 use lib.ListN.{length-set}
 use borrow.Author.Needs.{needs}
-use Rattle.dol.proofs.Parts.{closed}
-use Rattle.dol.proofs.close.Statement.{statement}
-use Rattle.dol.proofs.close.Tie as tie
+use Rattle.command.proofs.Parts.{closed}
+use Rattle.command.proofs.close.Statement.{statement}
+use Rattle.command.proofs.close.Tie as tie
 
 returns : tie.Need-returns
 returns c = let a = c .args in (refl, closed (a .ins) (a .p1) (a .p2) (a .buffer .now) (a .end) (c .pre .0) (omega arith))

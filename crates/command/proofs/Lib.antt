@@ -1,0 +1,4 @@
+pub mod Commands
+pub mod Parts
+pub mod Examples
+pub mod ReadRecord

@@ -1,0 +1,38 @@
+-- READ RECORD: when the command is written, and what a caller learns of it.
+-- Assumes nothing.
+use mathlib.Core.Path.{_≡_, refl, ap, _∙_}
+use mathlib.Core.List.{List}
+use Prim.Native.Nat.{ℕ, _≤_, _<_}
+use native.Mathlib.Omega.{arith}
+use lib.ListN.{length, take, length-drop}
+use borrow.Author.Tests.{le-leb, lt-leb, lt-ltb, le-ltb}
+use Rattle.basics.specs.Front.{withPrefix}
+use Rattle.basics.proofs.Laws.{if-yes, if-no, both-yes, both-no-left, both-no-right}
+use Rattle.afl.specs.declared.CardRecord.{CardRecord}
+use Rattle.command.specs.ReadRecord.{readRecordCommand, CommandWritten, WroteReadRecord, readRecordFits, readRecordWritten}
+
+pub written-yes : (r : CardRecord) (buffer : List ℕ) → 5 ≤ length buffer → r .sfi < 32
+    → readRecordWritten r buffer ≡ record { size = 5; buffer = withPrefix (readRecordCommand r) buffer }
+unfolding readRecordWritten readRecordFits
+written-yes r buffer h f = if-yes _ _ (both-yes _ _ (le-leb 5 (length buffer) h) (lt-ltb (r .sfi) 32 f))
+
+pub written-short : (r : CardRecord) (buffer : List ℕ) → length buffer < 5 → readRecordWritten r buffer ≡ record { size = 0; buffer = buffer }
+unfolding readRecordWritten readRecordFits
+written-short r buffer h = if-no _ _ (both-no-left _ _ (lt-leb 5 (length buffer) h))
+
+pub written-widen : (r : CardRecord) (buffer : List ℕ) → 32 ≤ r .sfi → readRecordWritten r buffer ≡ record { size = 0; buffer = buffer }
+unfolding readRecordWritten readRecordFits
+written-widen r buffer h = if-no _ _ (both-no-right _ _ (le-ltb (r .sfi) 32 h))
+
+-- what a caller learns who lends five bytes or more, for a record with a file number of five bits
+pub wrote-yes : (n : ℕ) (b : List ℕ) (r : CardRecord) (buffer : List ℕ) → WroteReadRecord n b (readRecordWritten r buffer) → 5 ≤ length buffer → r .sfi < 32
+    → (n ≡ 5) × (b ≡ withPrefix (readRecordCommand r) buffer)
+wrote-yes n b r buffer w h f = let e = written-yes r buffer h f in (w .size ∙ ap (λ (x : CommandWritten). x .size) e, w .buffer ∙ ap (λ (x : CommandWritten). x .buffer) e)
+
+-- the five bytes handed out are the command
+pub command-front : (r : CardRecord) (buffer : List ℕ) → take 5 (withPrefix (readRecordCommand r) buffer) ≡ readRecordCommand r
+command-front r buffer = refl
+
+-- the buffer keeps its length
+pub command-length : (r : CardRecord) (buffer : List ℕ) → 5 ≤ length buffer → length (withPrefix (readRecordCommand r) buffer) ≡ length buffer
+command-length r buffer h = simp length-drop (omega arith)

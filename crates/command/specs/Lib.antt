@@ -1,0 +1,2 @@
+pub mod WithList
+pub mod ReadRecord
