@@ -20,7 +20,7 @@ use Rattle.analysis.specs.Action.{terminalType, actionCodesOf}
 use Rattle.analysis.specs.declared.choice.OnlineCapability.{OnlineCapability}
 use Rattle.analysis.specs.declared.choice.Choice.{Choice}
 use Rattle.analysis.specs.declared.choice.ActionCodes.{ActionCodes}
-use Rattle.rank.specs.Rank.{choiceRank}
+use Rattle.laws.specs.Rank.{choiceRank}
 use Rattle.session_record.specs.declared.Phase.{Phase}
 use Rattle.session_record.specs.declared.Session.{Session}
 use Rattle.session_record.specs.Session.{storeBytes}

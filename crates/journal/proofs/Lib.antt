@@ -16,3 +16,4 @@ pub mod Exact
 pub mod Examples
 pub mod RightRecord
 pub mod Told
+pub mod WriterLaws

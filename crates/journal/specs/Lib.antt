@@ -2,3 +2,4 @@ pub mod Record
 pub mod Verdict
 pub mod ConformingRecords
 pub mod Inner
+pub mod Writer

@@ -3,6 +3,8 @@
 //
 // A journal is records of one byte of kind and a body whose size the kind fixes. At most one record is
 // held, so a journal of any size needs the room of one `JournalChecker`.
+pub mod writer;
+
 use session_record::CallResult;
 use session_record::OutcomeParameters;
 use session_record::Reply;

@@ -3,3 +3,8 @@ pub mod Contents
 pub mod Answers
 pub mod Room
 pub mod Examples
+pub mod StricterStored
+pub mod StricterGrown
+pub mod StricterContained
+pub mod StricterLaws
+pub mod StricterExamples

@@ -1,2 +1,4 @@
 pub mod Lists
 pub mod Records
+pub mod Rank
+pub mod Stricter

@@ -1,7 +1,7 @@
 // The journal of the session that is played: each call that is not refused, and its reply.
 use crate::front;
-use session_record::CallResult;
 use text_line::Line;
+use session_record::CallResult;
 
 // Puts a call and its reply behind what the journal has, unless there is none or the call is refused: whether they
 // could be written.
@@ -18,27 +18,18 @@ pub fn keep(journal: i32, said: Line, bytes: &[u8], answer: CallResult, command:
 // The record of a call, with its bytes in the front of `bytes`.
 fn call(journal: i32, said: Line, bytes: &[u8]) -> bool {
     match said {
-        Line::Start(brought) => put(
-            journal,
-            &journal_record::start_record(front(bytes, brought.size)),
-        ),
-        Line::Answer(brought) => put(
-            journal,
-            &journal_record::answer_record(front(bytes, brought.size)),
-        ),
-        Line::LinkFailed => put(journal, &journal_record::link_failed_record()),
-        _ => put(journal, &journal_record::stop_record()),
+        Line::Start(brought) => put(journal, &journal::writer::start_record(front(bytes, brought.size))),
+        Line::Answer(brought) => put(journal, &journal::writer::answer_record(front(bytes, brought.size))),
+        Line::LinkFailed => put(journal, &journal::writer::link_failed_record()),
+        _ => put(journal, &journal::writer::stop_record()),
     }
 }
 
 // The record of a reply.
 fn reply(journal: i32, answer: CallResult, command: &[u8]) -> bool {
     match answer {
-        CallResult::Command(issued) => put(
-            journal,
-            &journal_record::command_record(issued.size, command),
-        ),
-        CallResult::Outcome(end) => put(journal, &journal_record::outcome_record(end)),
+        CallResult::Command(issued) => put(journal, &journal::writer::command_record(issued.size, command)),
+        CallResult::Outcome(end) => put(journal, &journal::writer::outcome_record(end)),
         CallResult::Refused(_) => true,
     }
 }

@@ -40,7 +40,7 @@ fn statements() {
 }
 
 fn rank_of(choice: Choice) -> u8 {
-    rank::choice_rank(choice)
+    laws::stricter::choice_rank(choice)
 }
 
 // ---- the record

@@ -17,10 +17,10 @@ use Rattle.analysis.specs.Bits.{numberedBit}
 use Rattle.analysis.specs.Value.{firstBytes}
 use Rattle.analysis.specs.Choice.{denialStage, onlineStage, defaultStage, iacCode}
 use Rattle.analysis.specs.Action.{findingsOf, choiceFor}
-use Rattle.rank.specs.Rank.{choiceRank}
-use Rattle.rank.specs.Stricter.{BitsWithin, iacRead, tacRead, CodesWithin, isActionCode, AlikeButCodes}
-use Rattle.rank.proofs.Laws.{apart, never-loosens}
-use Rattle.rank.proofs.Stored.{put-own, put-kept}
+use Rattle.laws.specs.Rank.{choiceRank}
+use Rattle.laws.specs.Stricter.{BitsWithin, iacRead, tacRead, CodesWithin, isActionCode, AlikeButCodes}
+use Rattle.laws.proofs.StricterLaws.{apart, never-loosens}
+use Rattle.laws.proofs.StricterStored.{put-own, put-kept}
 
 module _ (b v : List ℕ) (l : length b ≡ storeSize) (n : length v ≤ 5) (w : BitsWithin (tacRead b 0xDF8122) (firstBytes 5 v)) where
   abbrev grown : List ℕ

@@ -1,12 +1,12 @@
--- `journal_record::fill` meets its contract: three bytes are stored, and the bytes are copied behind them.
+-- `journal::writer::fill` meets its contract: three bytes are stored, and the bytes are copied behind them.
 -- Assumes nothing.
 use borrow.Author.Needs.{needs}
 use native.Mathlib.Omega.{arith}
 use lib.ListN.{length, length-set, length-take, length-drop}
 use Prim.Native.Nat.{_/_, _%_}
-use Rattle.journal_record.proofs.Laws.{placed, placed-length}
-use Rattle.journal_record.proofs.fill.Statement.{statement}
-use Rattle.journal_record.proofs.fill.Tie as tie
+use Rattle.journal.proofs.WriterLaws.{placed, placed-length}
+use Rattle.journal.proofs.writer.fill.Statement.{statement}
+use Rattle.journal.proofs.writer.fill.Tie as tie
 
 slice-write-out-2 : tie.Need-slice-write-out-2
 slice-write-out-2 c = simp length-set (omega arith)

@@ -1,4 +1,4 @@
--- `journal_record::start_record` meets its contract: the bytes stand in the front of zeros.
+-- `journal::writer::start_record` meets its contract: the bytes stand in the front of zeros.
 -- Assumes nothing.
 use borrow.Author.Needs.{needs}
 use borrow.Author.Tests.{le-leb, lt-leb}
@@ -6,10 +6,10 @@ use native.Mathlib.Omega.{arith}
 use mathlib.Core.Path.{sym, _∙_}
 use lib.ListN.{length, replicate}
 use Rattle.basics.proofs.Laws.{if-yes, if-no}
-use Rattle.journal_record.specs.Written.{startRecordBytes}
-use Rattle.journal_record.proofs.Laws.{in-zeros}
-use Rattle.journal_record.proofs.start_record.Statement.{statement}
-use Rattle.journal_record.proofs.start_record.Tie as tie
+use Rattle.journal.specs.Writer.{startRecordBytes}
+use Rattle.journal.proofs.WriterLaws.{in-zeros}
+use Rattle.journal.proofs.writer.start_record.Statement.{statement}
+use Rattle.journal.proofs.writer.start_record.Tie as tie
 
 returns : tie.Need-returns
 unfolding startRecordBytes

@@ -1,4 +1,4 @@
--- `journal_record::command_record` meets its contract: the front of the buffer stands in the front of zeros.
+-- `journal::writer::command_record` meets its contract: the front of the buffer stands in the front of zeros.
 -- Assumes nothing.
 use borrow.Author.Needs.{needs}
 use borrow.Author.Tests.{le-leb, lt-leb}
@@ -6,10 +6,10 @@ use native.Mathlib.Omega.{arith}
 use mathlib.Core.Path.{sym, _∙_}
 use lib.ListN.{length, take, length-take}
 use Rattle.basics.proofs.Laws.{if-yes, if-no, both-yes, both-no-left, both-no-right}
-use Rattle.journal_record.specs.Written.{commandRecordBytes}
-use Rattle.journal_record.proofs.Laws.{in-zeros, front-in}
-use Rattle.journal_record.proofs.command_record.Statement.{statement}
-use Rattle.journal_record.proofs.command_record.Tie as tie
+use Rattle.journal.specs.Writer.{commandRecordBytes}
+use Rattle.journal.proofs.WriterLaws.{in-zeros, front-in}
+use Rattle.journal.proofs.writer.command_record.Statement.{statement}
+use Rattle.journal.proofs.writer.command_record.Tie as tie
 
 returns : tie.Need-returns
 unfolding commandRecordBytes

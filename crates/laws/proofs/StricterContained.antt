@@ -11,7 +11,7 @@ use Rattle.analysis.specs.Choice.{lowestFrom, someBit}
 use Rattle.analysis.specs.declared.choice.LowestBit.{LowestBit}
 use Rattle.analysis.specs.declared.choice.LowestBit.the-variants.{Bit, NoBit}
 use Rattle.analysis.proofs.Lowest.{lowest-none, none-passes}
-use Rattle.rank.specs.Stricter.{BitsWithin}
+use Rattle.laws.specs.Stricter.{BitsWithin}
 
 -- bit i is in the first value and not in the second
 abbrev pub missing : List ℕ → List ℕ → ℕ → Bool

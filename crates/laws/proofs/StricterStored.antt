@@ -19,7 +19,7 @@ use Rattle.dictionary.proofs.Lent.{row-found}
 use Rattle.store.specs.Place.{StoredValue, absent, present, putRow, rowValue, objectValue}
 use Rattle.store.proofs.Laws.{Fits, put-get, put-length, put-other, by-row, unknown-absent, empty-holds-nothing}
 use Rattle.store.proofs.Rows.{rows-size, fits-row}
-use Rattle.rank.proofs.Laws.{apart}
+use Rattle.laws.proofs.StricterLaws.{apart}
 
 -- ---- one value put
 

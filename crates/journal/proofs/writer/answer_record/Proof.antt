@@ -1,4 +1,4 @@
--- `journal_record::answer_record` meets its contract: the card's bytes stand in the front of zeros, or the length says that they are too many.
+-- `journal::writer::answer_record` meets its contract: the card's bytes stand in the front of zeros, or the length says that they are too many.
 -- Assumes nothing.
 use borrow.Author.Needs.{needs}
 use borrow.Author.Tests.{le-leb, lt-leb}
@@ -8,10 +8,10 @@ use mathlib.Core.List.{List, [], _∷_, _++_}
 use Prim.Native.Nat.{ℕ}
 use lib.ListN.{length}
 use Rattle.basics.proofs.Laws.{if-yes, if-no}
 use Rattle.journal.specs.Record.{twoByteLength, zeroPadded, lengthAndPadded, longAnswerLength}
-use Rattle.journal_record.proofs.Laws.{in-zeros}
-use Rattle.journal_record.proofs.answer_record.Statement.{statement}
-use Rattle.journal_record.proofs.answer_record.Tie as tie
+use Rattle.journal.proofs.WriterLaws.{in-zeros}
+use Rattle.journal.proofs.writer.answer_record.Statement.{statement}
+use Rattle.journal.proofs.writer.answer_record.Tie as tie
 
 returns : tie.Need-returns
 returns c = ap (λ (b : List ℕ). 2 ∷ b) (sym (if-no _ _ (lt-leb _ _ (c .if1 .taken))))

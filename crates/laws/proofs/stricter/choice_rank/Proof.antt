@@ -2,10 +2,10 @@
 -- Assumes nothing.
 use borrow.Author.Needs.{needs}
 use mathlib.Core.Path.{sym, ap}
-use Rattle.rank.specs.Rank.{choiceRank}
-use Rattle.rank.proofs.Laws.{ranked, never-loosens, absent-codes}
-use Rattle.rank.proofs.choice_rank.Statement.{statement}
-use Rattle.rank.proofs.choice_rank.Tie as tie
+use Rattle.laws.specs.Rank.{choiceRank}
+use Rattle.laws.proofs.StricterLaws.{ranked, never-loosens, absent-codes}
+use Rattle.laws.proofs.stricter.choice_rank.Statement.{statement}
+use Rattle.laws.proofs.stricter.choice_rank.Tie as tie
 
 returns : tie.Need-returns
 returns c = (sym (ap choiceRank (c .enum-told .given .1)), (ranked, (never-loosens, absent-codes)))

@@ -24,8 +24,8 @@ use Rattle.analysis.specs.declared.choice.OnlineCapability.the-variants.{Online
 use Rattle.analysis.specs.declared.choice.Choice.{Choice}
 use Rattle.analysis.specs.declared.choice.Choice.the-variants.{Decline, Online, Offline}
 use Rattle.analysis.proofs.Lowest.{none-passes}
-use Rattle.rank.specs.Rank.{choiceRank, ChoicesRanked}
-use Rattle.rank.specs.Stricter.{BitsWithin, AllSet, StagesWithin, CodesWithin, AlikeButCodes, NeverLoosens, AbsentCodes}
+use Rattle.laws.specs.Rank.{choiceRank, ChoicesRanked}
+use Rattle.laws.specs.Stricter.{BitsWithin, AllSet, StagesWithin, CodesWithin, AlikeButCodes, NeverLoosens, AbsentCodes}
 
 pub apart : {P : Type 0} → _≡_ {A = Bool} false true → P
 apart e = let z : _≡_ {A = ℕ} 0 1 = cc in absurd (omega arith)

@@ -18,11 +18,11 @@ use Rattle.analysis.specs.Choice.{denialStage, onlineStage, defaultStage, stage
 use Rattle.analysis.specs.Action.{terminalType, actionCodesOf, choiceFor}
 use Rattle.analysis.specs.declared.choice.Choice.{Choice}
 use Rattle.analysis.specs.declared.choice.Choice.the-variants.{Decline, Online, Offline}
-use Rattle.rank.specs.Rank.{choiceRank}
-use Rattle.rank.specs.Stricter.{BitsWithin, CodesWithin}
-use Rattle.rank.proofs.Contained.{contained, contained-within, within-contained}
-use Rattle.rank.proofs.Laws.{never-loosens}
-use Rattle.rank.proofs.Stored.{valueAmong, storeOf, haveRoom, stored}
+use Rattle.laws.specs.Rank.{choiceRank}
+use Rattle.laws.specs.Stricter.{BitsWithin, CodesWithin}
+use Rattle.laws.proofs.StricterContained.{contained, contained-within, within-contained}
+use Rattle.laws.proofs.StricterLaws.{never-loosens}
+use Rattle.laws.proofs.StricterStored.{valueAmong, storeOf, haveRoom, stored}
 
 -- ---- what the choice is made of
 

@@ -15,7 +15,7 @@ use Rattle.analysis.specs.Value.{firstBytes}
 use Rattle.analysis.specs.Choice.{denialStage, onlineStage, defaultStage, iacCode, noActionCodes, choiceOf}
 use Rattle.analysis.specs.Action.{terminalType, findingsOf, choiceFor}
 use Rattle.analysis.specs.declared.choice.ActionCodes.{ActionCodes}
-use Rattle.rank.specs.Rank.{choiceRank}
+use Rattle.laws.specs.Rank.{choiceRank}
 
 -- ---- containment, bit by bit
 

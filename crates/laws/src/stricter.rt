@@ -2,8 +2,8 @@
 // the proofs in proofs/.
 use analysis::choice::Choice;
 ghost use mathlib.Core.Path.{_≡_};
-ghost use Rattle.rank.specs.Rank.{choiceRank, ChoicesRanked};
-ghost use Rattle.rank.specs.Stricter.{NeverLoosens, AbsentCodes};
+ghost use Rattle.laws.specs.Rank.{choiceRank, ChoicesRanked};
+ghost use Rattle.laws.specs.Stricter.{NeverLoosens, AbsentCodes};
 
 // The rank of a choice: decline, then online, then offline.
 pub fn choice_rank(choice: Choice) -> u8
