@@ -94,3 +94,7 @@ both-assoc false b r = refl
 pub either-false : {a : Bool} (b : Bool) → a ≡ false → either a b ≡ b
 unfolding either
 either-false {a} b e = ap (λ (t : Bool). either t b) e
+
+-- two results of a test differ
+pub no : {P : Type 0} → false ≡ true → P
+no e = let z : _≡_ {A = ℕ} 0 1 = cc in absurd (omega arith)

@@ -25,6 +25,11 @@ unfoldable pub every : {A : Type 0} → (A → Bool) → List A → Bool
 every f [] = true
 every f (x ∷ xs) = both (f x) (every f xs)
 
+-- 1 where a test passes, else 0
+abbrev pub oneIf : Bool → ℕ
+oneIf true = 1
+oneIf false = 0
+
 -- ---- the notation of specifications: tests between what they compare, and a case to a line
 
 infixr 34 _and_

@@ -42,10 +42,10 @@ use Rattle.layout.specs.Layout.{headSize, recordSize, decodedSession, recordHel
 use Rattle.layout.specs.Word.{refusalWord, resultWord}
 use Rattle.layout.proofs.Lists.{put-head}
 use Rattle.layout.proofs.Laws.{held-store}
-use Rattle.session_claim.specs.Calls.{isRefusal}
-use Rattle.session_claim.specs.Claim.{isRunning, isEnded}
-use Rattle.session_claim.proofs.EveryCall.{Came, start-came, refused-nothing, command-sent, buffer-length}
-use Rattle.session_claim.proofs.Ranges.{start-keeps}
+use Rattle.session.specs.Calls.{isRefusal}
+use Rattle.session_record.specs.Session.{isRunning, isEnded}
+use Rattle.step_laws.proofs.EveryCall.{Came, start-came, refused-nothing, command-sent, buffer-length}
+use Rattle.step_laws.proofs.Ranges.{start-keeps}
 use Rattle.cabinet.specs.declared.CabinetAdmission.{CabinetAdmission}
 use Rattle.cabinet.specs.declared.Amounts.{Amounts}
 use Rattle.cabinet.specs.declared.CabinetParts.{CabinetParts}

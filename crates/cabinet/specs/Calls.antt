@@ -16,7 +16,7 @@ use Rattle.session.specs.Steps.{Step, leastBuffer, linkFailedStep, stopStep}
 use Rattle.session.specs.Start.{startStep}
 use Rattle.session.specs.Answer.{answerStep}
 use Rattle.layout.specs.Word.{refusalWord, resultWord}
-use Rattle.session_claim.specs.Claim.{isEnded}
+use Rattle.session_record.specs.Session.{isEnded}
 use Rattle.cabinet.specs.State.{Cabinet, cabinet, mostAmount, cabinetStateSize, withCabinetState, storedAmount, cabinetHeldIn}
 
 -- ---- refusals beside the kernel's

@@ -15,7 +15,7 @@ use Rattle.session_record.specs.declared.Session.{Session}
 use Rattle.session_record.specs.Session.{storeBytes}
 use Rattle.session_record.specs.Ranges.{inRanges}
 use Rattle.layout.specs.Layout.{recordSize, encodedSession, decodedSession, limitBytes}
-use Rattle.session_claim.specs.Claim.{isRunning}
+use Rattle.session_record.specs.Session.{isRunning}
 
 -- one session, what is left of the cap, and what is set aside
 pub record Cabinet : Type 0 where

@@ -14,7 +14,7 @@ ghost use lib.ListN.{length};
 ghost use Rattle.basics.specs.Number.{bigEndian as numberOf};
 ghost use Rattle.session.specs.Steps.{leastBuffer};
 ghost use Rattle.layout.specs.Word.{resultWord};
-ghost use Rattle.session_claim.specs.Claim.{isRunning};
+ghost use Rattle.session_record.specs.Session.{isRunning};
 ghost use Rattle.cabinet_lookup.specs.Word.{placeWord};
 ghost use Rattle.cabinet.specs.State.{mostAmount, cabinetStateSize, amountBytes, storedAmount, amountToReserve, cabinetHeldIn};
 ghost use Rattle.cabinet.specs.Calls.{DidCabinetCall, CabinetOpened, remainingAfter, remainingWord, startOnCabinet, cabinetStart, cabinetAnswer, cabinetLinkFailed, cabinetStop};

@@ -23,10 +23,10 @@ use Rattle.session.specs.Steps.{Step, leastBuffer, linkFailedStep, stopStep}
 use Rattle.session.specs.Start.{startStep}
 use Rattle.session.specs.Answer.{answerStep}
 use Rattle.session.proofs.Laws.{admitted-short}
-use Rattle.session_claim.specs.Calls.{isRefusal}
-use Rattle.session_claim.specs.Claim.{isEnded}
-use Rattle.session_claim.proofs.EveryCall.{Came, start-came, answer-came, link-came, stop-came}
-use Rattle.session_claim.proofs.Ranges.{start-keeps, answer-keeps, link-keeps, stop-keeps}
+use Rattle.session.specs.Calls.{isRefusal}
+use Rattle.session_record.specs.Session.{isEnded}
+use Rattle.step_laws.proofs.EveryCall.{Came, start-came, answer-came, link-came, stop-came}
+use Rattle.step_laws.proofs.Ranges.{start-keeps, answer-keeps, link-keeps, stop-keeps}
 use Rattle.cabinet.specs.State.{Cabinet, cabinet, cabinetHeldIn}
 use Rattle.cabinet.specs.Calls.{CabinetResult, cabinetRefusal, onCabinetHeld, cabinetAdmitted, remainingAfter, settlesAmounts, cabinetStepOn, sessionToStart, reservesAmount, startAmount, startAccepted, startOnCabinet}
 use Rattle.cabinet.proofs.State.{state-decoded}

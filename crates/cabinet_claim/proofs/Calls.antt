@@ -39,13 +39,13 @@ use Rattle.session.specs.Start.{askGpo, startLoaded, startStep}
 use Rattle.session.specs.Answer.{answerStep}
 use Rattle.session.proofs.Laws.{admitted-in}
 use Rattle.layout.specs.Word.{refusalWord, commandWord, outcomeWord}
-use Rattle.session_claim.specs.Calls.{isRefusal}
-use Rattle.session_claim.specs.Claim.{isRunning}
-use Rattle.session_claim.proofs.Kept.{bits-other}
-use Rattle.session_claim.proofs.EveryCall.{Came, answer-came, link-came, stop-came}
-use Rattle.session_claim.proofs.Ranges.{start-keeps, answer-keeps, link-keeps, stop-keeps}
-use Rattle.session_claim.proofs.Refusals.{answer-goes, answer-idle, broken-goes, broken-idle}
-use Rattle.session_claim.proofs.Ways.{load-most}
+use Rattle.session.specs.Calls.{isRefusal}
+use Rattle.session_record.specs.Session.{isRunning}
+use Rattle.step_laws.proofs.Kept.{bits-other}
+use Rattle.step_laws.proofs.EveryCall.{Came, answer-came, link-came, stop-came}
+use Rattle.step_laws.proofs.Ranges.{start-keeps, answer-keeps, link-keeps, stop-keeps}
+use Rattle.step_laws.proofs.Refusals.{answer-goes, answer-idle, broken-goes, broken-idle}
+use Rattle.step_laws.proofs.Ways.{load-most}
 use Rattle.cabinet.specs.State.{Cabinet, cabinet, mostAmount, cabinetStateSize, withCabinetState, storedAmount, amountToReserve, cabinetHeldIn}
 use Rattle.cabinet.specs.Calls.{CabinetResult, refusedRemaining, refusedCap, cabinetRefusal, onCabinetHeld, cabinetAdmitted, remainingAfter, settlesAmounts, cabinetStepOn, reservesAmount, startAccepted, startOnCabinet, cabinetOpenWord, cabinetOpenState}
 use Rattle.cabinet.specs.Inner.{cabinetFreshStart}

@@ -13,7 +13,7 @@ use Rattle.session.specs.Start.{startStep}
 use Rattle.session.specs.Answer.{answerStep}
 use Rattle.layout.specs.Layout.{decodedSession}
 use Rattle.layout.specs.Word.{resultWord}
-use Rattle.session_claim.specs.Calls.{isRefusal}
+use Rattle.session.specs.Calls.{isRefusal}
 use Rattle.cabinet.specs.State.{Cabinet}
 use Rattle.cabinet.specs.Calls.{CabinetResult, refusedRemaining, cabinetRefusal, sessionToStart, startAmount}
 use Rattle.cabinet.specs.Calls.{cabinetStart, cabinetAnswer, cabinetLinkFailed, cabinetStop}

@@ -12,7 +12,7 @@ use lib.Seq.{take-at, drop-at, drop-drop}
 use borrow.Author.Tests.{le-leb}
 use Rattle.basics.specs.Choice.{if, both, either}
 use Rattle.basics.specs.Number.{bigEndian}
-use Rattle.session_claim.specs.Calls.{Call, start, answer, link-failed, stop}
+use Rattle.session.specs.Calls.{Call, start, answer, link-failed, stop}
 use Rattle.call_list.specs.declared.CallHeader.{CallHeader}
 use Rattle.call_list.specs.Encoding.{bigEndianBytes, encodedAs, encodedCalls, SizedCalls, callHeaderSize, callBufferAt, callEnd, callHeaderIn, isCallKind, callBy, callIn, withCall, callsOf}
 use Rattle.call_list.proofs.Read.{front-call, calls-end, calls-call}

@@ -18,14 +18,14 @@ use Rattle.session_record.specs.declared.CallResult.{CallResult}
 use Rattle.session_record.specs.declared.Reply.{Reply}
 use Rattle.session_record.specs.Session.{freshSession}
 use Rattle.session.specs.Steps.{Step, DidStep}
-use Rattle.session_claim.specs.Calls.{Call, callStep, playCalls, finalSession}
+use Rattle.session.specs.Calls.{Call, callStep, playCalls, finalSession}
 use Rattle.call_list.specs.declared.CallHeader.{CallHeader}
 use Rattle.call_list.specs.declared.CallFront.{CallFront}
 use Rattle.call_list.specs.declared.CallPlayed.{CallPlayed}
 use Rattle.call_list.specs.Encoding.{callHeaderSize, callBufferAt, callEnd, callHeaderIn, isWholeCall, callFrontIn, callBy, callIn, withCall, callsOf, bigEndianBytes}
 use Rattle.call_list.specs.Playing.{resultBytes, replyBytes, repliesOf, replySize, callsAfterPlay, PlaysCalls}
 use Rattle.call_list.specs.Inner.{overBuffer, PlaysOneCall}
-use Rattle.session_claim.proofs.Long.{start-long, answer-long}
+use Rattle.step_laws.proofs.Long.{start-long, answer-long}
 use Rattle.call_list.proofs.Read.{front-whole, front-is, whole-end, calls-end, calls-malformed, calls-call}
 
 -- ---- the bytes that come in

@@ -14,7 +14,7 @@ use borrow.Author.Tests.{leb-true, le-leb, lt-leb}
 use Rattle.basics.proofs.Laws.{if-ind, if-yes, if-no, both-yes, both-no-left, both-no-right, both-left, both-right}
 use Rattle.basics.proofs.Order.{le-or-gt}
 use Rattle.basics.proofs.Recursion.{AsksShorter, recurse-unroll}
-use Rattle.session_claim.specs.Calls.{Call}
+use Rattle.session.specs.Calls.{Call}
 use Rattle.call_list.specs.declared.CallHeader.{CallHeader}
 use Rattle.call_list.specs.declared.CallFront.{CallFront}
 use Rattle.call_list.specs.declared.CallsCounted.{CallsCounted}

@@ -11,7 +11,7 @@ use Rattle.basics.proofs.Laws.{if-yes, if-no}
 use Rattle.session_record.specs.declared.Session.{Session}
 use Rattle.session_record.specs.Session.{freshSession}
 use Rattle.session_record.proofs.Phases.{fresh-keeps}
-use Rattle.session_claim.specs.Calls.{Call, playCalls, finalSession}
+use Rattle.session.specs.Calls.{Call, playCalls, finalSession}
 use Rattle.session_claim.specs.Claim.{SessionProper}
 use Rattle.session_claim.proofs.Trace.{always}
 use Rattle.call_list.specs.declared.CallsCounted.{CallsCounted}

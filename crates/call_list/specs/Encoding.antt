@@ -8,7 +8,7 @@ use lib.ListN.{length, getD, take, drop}
 use Rattle.basics.specs.Choice.{if_then_else_, _and_, _or_, _≤?_, _=?_}
 use Rattle.basics.specs.Number.{bigEndian}
 use Rattle.basics.specs.Recursion.{recurse}
-use Rattle.session_claim.specs.Calls.{Call, start, answer, link-failed, stop}
+use Rattle.session.specs.Calls.{Call, start, answer, link-failed, stop}
 use Rattle.call_list.specs.declared.CallHeader.{CallHeader}
 use Rattle.call_list.specs.declared.CallFront.{CallFront}
 use Rattle.call_list.specs.declared.CallsCounted.{CallsCounted}

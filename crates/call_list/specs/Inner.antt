@@ -9,7 +9,7 @@ use Prim.Native.Nat.{ℕ, _*_, _≤_}
 use lib.ListN.{length, drop}
 use Rattle.session_record.specs.declared.Session.{Session}
 use Rattle.session.specs.Steps.{Step}
-use Rattle.session_claim.specs.Calls.{Call, callStep}
+use Rattle.session.specs.Calls.{Call, callStep}
 use Rattle.call_list.specs.declared.CallHeader.{CallHeader}
 use Rattle.call_list.specs.declared.CallPlayed.{CallPlayed}
 use Rattle.call_list.specs.Encoding.{callHeaderIn, callEnd, callIn}

@@ -11,7 +11,7 @@ use Rattle.session_record.specs.declared.CallResult.{CallResult}
 use Rattle.session_record.specs.declared.Reply.{Reply}
 use Rattle.session_record.specs.Numbers.{outcomeNumber}
 use Rattle.session_record.specs.Session.{freshSession}
-use Rattle.session_claim.specs.Calls.{Call, CallMade, playCalls, finalSession}
+use Rattle.session.specs.Calls.{Call, CallMade, playCalls, finalSession}
 use Rattle.session_claim.specs.Claim.{SessionProper}
 use Rattle.call_list.specs.declared.CallHeader.{CallHeader}
 use Rattle.call_list.specs.declared.PlayResult.{PlayResult}

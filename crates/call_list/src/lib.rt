@@ -21,7 +21,7 @@ ghost use lib.ListN.{length, take, drop};
 ghost use Rattle.basics.specs.Number.{bigEndian};
 ghost use Rattle.session_record.specs.Session.{freshSession};
 ghost use Rattle.session.specs.Steps.{DidStep};
-ghost use Rattle.session_claim.specs.Calls.{Call, callStep as stepOf};
+ghost use Rattle.session.specs.Calls.{Call, callStep as stepOf};
 ghost use Rattle.call_list.specs.Encoding.{callHeaderSize, callEnd, isCallKind, callHeaderIn, isWholeCall, callFrontIn, callBy, callIn, callsOf, callsCountedOf, SizedCalls, encodedCalls};
 ghost use Rattle.call_list.specs.Playing.{replyBytes, PlaysCalls, PlaysListOn, playResultNumber};
 ghost use Rattle.call_list.specs.Inner.{overBuffer, PlaysOneCall, ReadyToPlay, callsRead};

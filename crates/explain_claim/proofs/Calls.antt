@@ -44,12 +44,13 @@ use Rattle.session.specs.Steps.{Step, withoutCommand, endedReply, endingBy, com
 use Rattle.session.specs.Start.{startStep}
 use Rattle.session.specs.MagStripe.{checksumPhase, storeWithDigits}
 use Rattle.session.specs.Answer.{recordPhase, requestedCryptogram, cryptogramOutcome, endingFor, cryptogramPresent, cryptogramEnding, cryptogramReply, answerIn, answerStep}
-use Rattle.session_claim.specs.Calls.{Call, start, answer, link-failed, stop, callStep, CallMade, callMade, playCalls, finalSession, isRefusal, callsAccepted, lastElement, commandsSent as commandsOf}
+use Rattle.session_claim.specs.Calls.{callsAccepted, lastElement, commandsSent as commandsOf}
+use Rattle.session.specs.Calls.{Call, start, answer, link-failed, stop, callStep, CallMade, callMade, playCalls, finalSession, isRefusal}
 use Rattle.session_claim.specs.Order.{beginsWith}
-use Rattle.session_claim.proofs.Kept.{read-size, read-fits, read-mode, digits-other}
+use Rattle.step_laws.proofs.Kept.{read-size, read-fits, read-mode, digits-other}
 use Rattle.session_claim.proofs.Trace.{by, by-front, call-keeps}
-use Rattle.session_claim.proofs.Ways as ways
-use Rattle.session_claim.proofs.Ways.{Reason, unread-reason, GpoWay, RecordsWay, MagStripeWay, RecordWay, ChecksumWay, AnswerWay, answer-way, StartWay, start-way, BrokenWay, broken-way}
+use Rattle.step_laws.proofs.Ways as ways
+use Rattle.step_laws.proofs.Ways.{Reason, unread-reason, GpoWay, RecordsWay, MagStripeWay, RecordWay, ChecksumWay, AnswerWay, answer-way, StartWay, start-way, BrokenWay, broken-way}
 use Rattle.explain.specs.declared.Explanation.{Explanation}
 use Rattle.explain.specs.Explain.{storedChoice, storedCryptogramType, cardAsksMagMagStripe, explainedInPhase, explanationOf}
 use Rattle.explain.specs.Promise.{DecisionIs}

@@ -39,7 +39,8 @@ use Rattle.session_record.specs.declared.Session.{Session}
 use Rattle.session_record.specs.Session.{storeBytes}
 use Rattle.session_record.specs.Ranges.{magStripeMode, inRanges}
 use Rattle.session.specs.Steps.{Step}
-use Rattle.session_claim.specs.Calls.{CallMade, isRefusal, commandSent, commandsSent}
+use Rattle.session_claim.specs.Calls.{commandsSent}
+use Rattle.session.specs.Calls.{CallMade, isRefusal, commandSent}
 use Rattle.session_claim.specs.Order.{beginsWith}
 use Rattle.explain.specs.declared.Cause.{Cause}
 use Rattle.explain.specs.declared.Deciding.{Deciding}

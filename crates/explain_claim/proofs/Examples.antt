@@ -49,7 +49,8 @@ use Rattle.start_data.specs.StartData.{terminalTypeListed, settableByStart, set
 use Rattle.session.specs.Steps.{withTvr, withFindings}
 use Rattle.session.specs.Start.{askGpo}
 use Rattle.session.specs.Answer.{gpoStoreReason, afterGpoRead, gpoStep, gpoReason, recordStep, afterRecordRead, afterLastRecord, afterRecordsEmv, afterAnalysis, requestedCryptogram, askCryptogram, cryptogramOutcome, cryptogramEnding, cryptogramReply}
-use Rattle.session_claim.specs.Calls.{Call, start, answer, CallMade, playCalls, finalSession, commandsSent, callsAccepted, lastElement}
+use Rattle.session_claim.specs.Calls.{commandsSent, callsAccepted, lastElement}
+use Rattle.session.specs.Calls.{Call, start, answer, CallMade, playCalls, finalSession}
 use Rattle.session_claim.proofs.Trace.{call-keeps}
 use Rattle.session_claim.proofs.InRanges.{playIn, finalIn, play-in, final-in}
 use Rattle.explain.specs.declared.Stage.{Stage}

@@ -34,7 +34,7 @@ use Rattle.session_record.specs.Clauses.{AllObjectsFit}
 use Rattle.session_record.proofs.Values.{absent-of, held-length}
 use Rattle.session.specs.Steps.{withFindings}
 use Rattle.session.specs.Answer.{requestedCryptogram}
-use Rattle.session_claim.proofs.Kept.{read-value, found-95, found-other}
+use Rattle.step_laws.proofs.Kept.{read-value, found-95, found-other}
 use Rattle.explain.specs.Explain.{storedChoice}
 use Rattle.explain.proofs.Complete.{Complete}
 use Rattle.explain_claim.specs.Explained.{bringsObject, bringsIac}

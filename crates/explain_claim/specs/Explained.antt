@@ -25,7 +25,8 @@ use Rattle.session_record.specs.declared.Phase.{Phase}
 use Rattle.session_record.specs.declared.Session.{Session}
 use Rattle.session_record.specs.Session.{storeBytes}
 use Rattle.session_record.specs.Ranges.{magStripeMode}
-use Rattle.session_claim.specs.Calls.{CallMade, callResult, commandSent, commandsSent, callsAccepted, lastElement}
+use Rattle.session_claim.specs.Calls.{commandsSent, callsAccepted, lastElement}
+use Rattle.session.specs.Calls.{CallMade, callResult, commandSent}
 use Rattle.session_claim.specs.Order.{beginsWith}
 use Rattle.explain.specs.declared.Cause.{Cause}
 use Rattle.explain.specs.declared.Explanation.{Explanation}

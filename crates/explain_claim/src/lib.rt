@@ -8,7 +8,7 @@ ghost use mathlib.Core.List.{List};
 ghost use Rattle.session_record.specs.declared.Session.{Session};
 ghost use Rattle.session_record.specs.declared.Phase.{Phase};
 ghost use Rattle.session_record.specs.Ranges.{inRanges};
-ghost use Rattle.session_claim.specs.Calls.{Call, playCalls, finalSession};
+ghost use Rattle.session.specs.Calls.{Call, playCalls, finalSession};
 ghost use Rattle.explain.specs.declared.Explanation.{Explanation as Why};
 ghost use Rattle.explain.specs.Word.{explanationWord};
 ghost use Rattle.explain_claim.specs.Explained.{ExplainedSession, OneRank};

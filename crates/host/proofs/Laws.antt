@@ -22,7 +22,7 @@ use Rattle.session_record.specs.Session.{outcomeParameters, sessionOf, replyOf}
 use Rattle.session.specs.Steps.{Step, DidStep, leastBuffer, linkFailedStep, stopStep}
 use Rattle.session.specs.Start.{startStep}
 use Rattle.session.specs.Answer.{answerStep}
-use Rattle.session_claim.proofs.EveryCall.{Came, answer-came, start-came, link-came, stop-came}
+use Rattle.step_laws.proofs.EveryCall.{Came, answer-came, start-came, link-came, stop-came}
 use Rattle.layout.specs.declared.RecordHead.{RecordHead}
 use Rattle.layout.specs.declared.RecordHeld.{RecordHeld}
 use Rattle.layout.specs.Layout.{headSize, recordSize, withSessionRecord, withRecordHead, decodedSession, recordHeld}

@@ -15,7 +15,7 @@ use Rattle.session_record.specs.Session.{storeBytes}
 use Rattle.session.specs.Steps.{Step, leastBuffer, linkFailedStep, stopStep}
 use Rattle.session.specs.Start.{startStep}
 use Rattle.session.specs.Answer.{answerStep}
-use Rattle.session_claim.proofs.Ways.{GpoWay, RecordsWay, MagStripeWay, RecordWay, CryptogramWay, ChecksumWay, AnswerWay, answer-way, analysedSession, askedBy, loadedSession, StartWay, start-way, BrokenWay, broken-way}
+use Rattle.step_laws.proofs.Ways.{GpoWay, RecordsWay, MagStripeWay, RecordWay, CryptogramWay, ChecksumWay, AnswerWay, answer-way, analysedSession, askedBy, loadedSession, StartWay, start-way, BrokenWay, broken-way}
 
 abbrev pub Small : CallResult → Type 0
 Small (CallResult.Command c) = c .size ≤ leastBuffer

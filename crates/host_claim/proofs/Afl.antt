@@ -15,9 +15,11 @@ use Rattle.session_record.specs.Session.{storeBytes, freshSession}
 use Rattle.session.specs.Steps.{Step, admittedStep}
 use Rattle.session.specs.Answer.{gpoReason, answerIn, answerStep}
 use Rattle.layout.specs.Word.{resultWord}
-use Rattle.session_claim.specs.Calls.{Call, start, answer, link-failed, stop, callStep, CallMade, callMade, playCalls, isRefusal, isCommand, callRefused, callsAccepted}
+use Rattle.session_claim.specs.Calls.{callsAccepted}
+use Rattle.session.specs.Calls.{Call, start, answer, link-failed, stop, callStep, CallMade, callMade, playCalls, isRefusal, isCommand, callRefused}
 use Rattle.session_claim.specs.Order.{responseAfl, firstAnswer, aflByCall, aflByFirstAnswer, acceptedAfl}
-use Rattle.session_claim.proofs.Rules.{no, hands-by-rules, first-on-gpo}
+use Rattle.session_claim.proofs.Rules.{hands-by-rules, first-on-gpo}
+use Rattle.basics.proofs.Laws.{no}
 use Rattle.host.proofs.Sizes.{Small}
 use Rattle.host_claim.specs.Words.{isCommandWord, aflRead, hostAfl}
 use Rattle.host_claim.specs.Claim.{asCompleted}

@@ -24,7 +24,7 @@ use Rattle.session.specs.Answer.{answerStep}
 use Rattle.layout.specs.Layout.{recordSize, encodedSession, withSessionRecord, decodedSession}
 use Rattle.layout.specs.Word.{refusalWord}
 use Rattle.layout.proofs.Laws.{decode-encode, written-back, written-length}
-use Rattle.session_claim.specs.Calls.{Call, start, answer, link-failed, stop, callStep}
+use Rattle.session.specs.Calls.{Call, start, answer, link-failed, stop, callStep}
 use Rattle.host.specs.Hosted.{hostStepDone, hostStepOn, hostStepAdmitted}
 use Rattle.host_claim.specs.Calls.{callOver}
 

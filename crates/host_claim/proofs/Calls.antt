@@ -22,10 +22,10 @@ use Rattle.session_record.proofs.Phases.{fresh-keeps}
 use Rattle.layout.specs.Layout.{recordSize, withSessionRecord, decodedSession}
 use Rattle.layout.specs.Word.{wordKind, refusalWord, resultWord}
 use Rattle.layout.proofs.Laws.{command-below, outcome-kind}
-use Rattle.session_claim.specs.Calls.{Call, callStep, callMade, playCalls, finalSession}
+use Rattle.session.specs.Calls.{Call, callStep, callMade, playCalls, finalSession}
 use Rattle.session_claim.proofs.Trace.{call-keeps}
-use Rattle.session_claim.proofs.Rules.{no}
-use Rattle.session_claim.proofs.Refusals.{Other, never-ranges}
+use Rattle.basics.proofs.Laws.{no}
+use Rattle.step_laws.proofs.Refusals.{Other, never-ranges}
 use Rattle.host.specs.Hosted.{HostResult, HostOpened, hostOpenWord}
 use Rattle.host.proofs.Sizes.{Small}
 use Rattle.host_claim.specs.Calls.{HostCall, opening, on-session, CompletedCall, completedCall, completedCalls, bytesAfter}

@@ -6,7 +6,7 @@ use mathlib.Core.Bool.{true, false}
 use mathlib.Core.List.{List, [], _∷_, map}
 use Prim.Native.Nat.{ℕ}
 use Rattle.basics.specs.Choice.{if, both, either}
-use Rattle.session_claim.specs.Calls.{start, answer, link-failed}
+use Rattle.session.specs.Calls.{start, answer, link-failed}
 use Rattle.host_claim.specs.Calls.{opening, on-session, CompletedCall, completedCall}
 use Rattle.host_claim.specs.Words.{isCommandWord, isOutcomeWord, isRefusalWord, openingAmong, sinceOpening, hostCommands, notRefused, answerAmong, withoutAnswer, hostUnanswered}
 

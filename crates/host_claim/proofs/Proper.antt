@@ -11,7 +11,8 @@ use Rattle.session_record.specs.declared.Session.{Session}
 use Rattle.session_record.specs.Session.{freshSession}
 use Rattle.session_record.proofs.Phases.{fresh-keeps}
 use Rattle.layout.specs.Layout.{decodedSession}
-use Rattle.session_claim.specs.Calls.{Call, CallMade, playCalls, finalSession, commandsSent, callsAccepted, unansweredCommands, lastElement}
+use Rattle.session_claim.specs.Calls.{commandsSent, callsAccepted, unansweredCommands, lastElement}
+use Rattle.session.specs.Calls.{Call, CallMade, playCalls, finalSession}
 use Rattle.session_claim.specs.Order.{commandKind, publishedOrder, lastKind, acceptedAfl}
 use Rattle.session_claim.specs.Claim.{mostCommandsFor, SessionProper}
 use Rattle.session_claim.proofs.Trace.{always}

@@ -15,7 +15,8 @@ use Rattle.basics.proofs.Laws.{if-yes, if-no, if-ap, if-ind}
 use Rattle.session_record.specs.declared.CallResult.{CallResult}
 use Rattle.session_record.specs.declared.Session.{Session}
 use Rattle.layout.specs.Word.{wordKind, kindCommand, kindOutcome, kindRefusal, resultWord}
-use Rattle.session_claim.specs.Calls.{Call, start, answer, link-failed, stop, callStep, CallMade, playCalls, isRefusal, isCommand, isOutcome, callResult, callRefused, commandSent, commandsSent, callsAccepted, lastElement, isAnswer, hasAnswer, notAnswered, unansweredCommands}
+use Rattle.session_claim.specs.Calls.{commandsSent, callsAccepted, lastElement, isAnswer, hasAnswer, notAnswered, unansweredCommands}
+use Rattle.session.specs.Calls.{Call, start, answer, link-failed, stop, callStep, CallMade, playCalls, isRefusal, isCommand, isOutcome, callResult, callRefused, commandSent}
 use Rattle.session_claim.specs.Order.{firstAnswer, lastKindIn, lastKind}
 use Rattle.session_claim.specs.Claim.{noCallAccepted, lastCommand, lastOutcome}
 use Rattle.host.proofs.Sizes.{Small, SmallStep, start-small, answer-small, link-small, stop-small}

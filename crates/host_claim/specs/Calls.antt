@@ -8,7 +8,7 @@ use Prim.Native.Nat.{ℕ}
 use Rattle.session_record.specs.Session.{freshSession}
 use Rattle.session.specs.Steps.{linkFailedStep, stopStep}
 use Rattle.layout.specs.Layout.{withSessionRecord}
-use Rattle.session_claim.specs.Calls.{Call, start, answer, link-failed, stop}
+use Rattle.session.specs.Calls.{Call, start, answer, link-failed, stop}
 use Rattle.host.specs.Hosted.{HostResult, hostStepAdmitted, hostStart, hostAnswer, hostOpenWord}
 
 -- ---- the calls

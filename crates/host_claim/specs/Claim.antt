@@ -12,9 +12,12 @@ use Rattle.session_record.specs.declared.Session.{Session}
 use Rattle.session_record.specs.Session.{freshSession}
 use Rattle.layout.specs.Layout.{recordSize, withSessionRecord, decodedSession}
 use Rattle.layout.specs.Word.{resultWord}
-use Rattle.session_claim.specs.Calls.{Call, CallMade, callResult, playCalls, finalSession, commandsSent, callsAccepted, unansweredCommands, lastElement}
+use Rattle.session_claim.specs.Calls.{commandsSent, callsAccepted, unansweredCommands, lastElement}
+use Rattle.session.specs.Calls.{Call, CallMade, callResult, playCalls, finalSession}
 use Rattle.session_claim.specs.Order.{commandKind, publishedOrder, lastKind, acceptedAfl}
-use Rattle.session_claim.specs.Claim.{isFresh, isRunning, isEnded, mostCommandsFor, oneIf, SessionProper}
+use Rattle.session_claim.specs.Claim.{mostCommandsFor, SessionProper}
+use Rattle.basics.specs.Choice.{oneIf}
+use Rattle.session_record.specs.Session.{isFresh, isRunning, isEnded}
 use Rattle.host.specs.Hosted.{countWord}
 use Rattle.host_claim.specs.Calls.{HostCall, opening, on-session, CompletedCall, completedCall}
 use Rattle.host_claim.specs.Words.{isNotRanges, sinceOpening, hostCommands, notRefused, hostUnanswered}

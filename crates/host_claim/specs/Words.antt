@@ -9,7 +9,8 @@ use lib.ListN.{take}
 use Rattle.basics.specs.Choice.{if_then_else_, _and_, _or_, _=?_}
 use Rattle.basics.specs.Reason.{refusedRanges}
 use Rattle.layout.specs.Word.{wordKind, kindCommand, kindOutcome, kindRefusal, refusalWord}
-use Rattle.session_claim.specs.Calls.{start, answer, link-failed, stop, isAnswer}
+use Rattle.session_claim.specs.Calls.{isAnswer}
+use Rattle.session.specs.Calls.{start, answer, link-failed, stop}
 use Rattle.session_claim.specs.Order.{responseAfl, CommandKind, cryptogram, lastKindBy}
 use Rattle.host_claim.specs.Calls.{HostCall, opening, on-session, CompletedCall}
 

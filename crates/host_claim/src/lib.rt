@@ -7,7 +7,7 @@ ghost use mathlib.Core.List.{List};
 ghost use mathlib.Core.Option.{some};
 ghost use Prim.Native.Nat.{ℕ};
 ghost use Rattle.session_record.specs.declared.Session.{Session};
-ghost use Rattle.session_claim.specs.Calls.{Call, callStep};
+ghost use Rattle.session.specs.Calls.{Call, callStep};
 ghost use Rattle.layout.specs.Layout.{decodedSession};
 ghost use Rattle.host.specs.Hosted.{HostOpened, hostStepDone};
 ghost use Rattle.host_claim.specs.Calls.{HostCall, opening, callOver, hostStep, completedCalls, bytesAfter};

@@ -12,7 +12,7 @@ use borrow.Author.Tests.{le-leb, lt-leb}
 use Rattle.basics.specs.Choice.{both, every}
 use Rattle.basics.proofs.Laws.{if-yes, if-no, both-yes}
 use Rattle.store.specs.Held.{isZeroByte}
-use Rattle.session_claim.specs.Calls.{start, answer, link-failed, stop}
+use Rattle.session.specs.Calls.{start, answer, link-failed, stop}
 use Rattle.journal.specs.Record.{journalBuffer, recordLength, recordDataIn, recordFits, isLongAnswer, longAnswer, mostAnswerInRecord, zeroPadded, lengthAndPadded, answerBody, journalCallRecord, callFrom}
 use Rattle.journal.proofs.Reading.{kind-start, kind-answer, kind-link, kind-stop, long-no}
 

@@ -14,7 +14,7 @@ use Rattle.basics.specs.Choice.{if}
 use Rattle.session_record.specs.declared.Session.{Session}
 use Rattle.session_record.specs.declared.Reply.{Reply}
 use Rattle.session.specs.Steps.{Step, DidStep}
-use Rattle.session_claim.proofs.EveryCall.{Came}
+use Rattle.step_laws.proofs.EveryCall.{Came}
 use Rattle.journal.specs.declared.CheckState.{CheckState}
 use Rattle.journal.specs.Record.{twoByteLength, zeroPadded, mostCommandInRecord, journalBuffer, journalReplyRecord}
 use Rattle.journal.specs.Verdict.{ExpectedNext, expectedNext, replyExpected, replyExpectedAfter, recordJudgedBy}

@@ -15,7 +15,7 @@ use Rattle.basics.specs.Choice.{if, every}
 use Rattle.basics.proofs.Laws.{if-yes, if-no, if-ind, both-left, both-right}
 use Rattle.basics.proofs.Order.{le-or-gt}
 use Rattle.store.specs.Held.{isZeroByte}
-use Rattle.session_claim.specs.Calls.{Call, answer}
+use Rattle.session.specs.Calls.{Call, answer}
 use Rattle.journal.specs.Record.{journalRecordSize, lengthAndPadded, recordLength, recordDataIn, recordFits, isLongAnswer, journalBuffer, longAnswer}
 use Rattle.journal.specs.Record.{journalCallRecord, startCallFrom, answerCallFrom, callFrom}
 use Rattle.journal.specs.ConformingRecords.{AllBytes, CallOfBytes}

@@ -14,8 +14,8 @@ use Rattle.basics.proofs.Laws.{if-no, if-ind, both-yes}
 use Rattle.basics.proofs.Alike.{alike-eq}
 use Rattle.session_record.specs.declared.Session.{Session}
 use Rattle.session.specs.Steps.{Step}
-use Rattle.session_claim.specs.Calls.{Call, callStep, playCalls, isRefusal, callRefused}
-use Rattle.session_claim.proofs.EveryCall.{Came}
+use Rattle.session.specs.Calls.{Call, callStep, playCalls, isRefusal, callRefused}
+use Rattle.step_laws.proofs.EveryCall.{Came}
 use Rattle.journal.specs.Record.{journalCallRecord, callFrom, journalOf, concatenated}
 use Rattle.journal.specs.Verdict.{ExpectedNext, expectedNext, replyExpectedAfter, callJudged, recordJudged, recordJudgedBy}
 use Rattle.journal.specs.ConformingRecords.{AllBytes, CallOfBytes, noneRefused, KernelWritesBytes}

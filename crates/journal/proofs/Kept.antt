@@ -22,11 +22,12 @@ use Rattle.session_record.proofs.Phases.{fresh-keeps, count-most}
 use Rattle.session.specs.Steps.{Step, admittedStep, endsRunning}
 use Rattle.session.specs.Start as starts
 use Rattle.session.specs.Answer as answers
-use Rattle.session_claim.specs.Calls.{Call, start, answer, link-failed, stop, callStep, isRefusal}
-use Rattle.session_claim.specs.Claim.{isEnded, oneIf}
-use Rattle.session_claim.proofs.Ranges.{start-keeps, answer-keeps, link-keeps, stop-keeps}
-use Rattle.session_claim.proofs.Rules.{no}
-use Rattle.session_claim.proofs.EveryCall.{Came, start-came, answer-came, link-came, stop-came}
+use Rattle.session.specs.Calls.{Call, start, answer, link-failed, stop, callStep, isRefusal}
+use Rattle.basics.specs.Choice.{oneIf}
+use Rattle.session_record.specs.Session.{isEnded}
+use Rattle.step_laws.proofs.Ranges.{start-keeps, answer-keeps, link-keeps, stop-keeps}
+use Rattle.basics.proofs.Laws.{no}
+use Rattle.step_laws.proofs.EveryCall.{Came, start-came, answer-came, link-came, stop-came}
 use Rattle.journal.specs.Record.{journalRecordSize, twoByteLength, zeroPadded, mostCommandInRecord, journalBuffer, mostStartInRecord, mostAnswerInRecord, recordFits, isLongAnswer, callFrom}
 use Rattle.journal.specs.Verdict.{ExpectedNext, expectedNext, expectedAtStart, replyExpectedAfter, callJudged, recordJudgedBy, firstRecordSize}
 

@@ -15,7 +15,7 @@ use borrow.Author.Tests.{ltb-true, ltb-false}
 use Rattle.basics.specs.Choice.{if}
 use Rattle.basics.proofs.Laws.{if-ind}
 use Rattle.basics.proofs.Order.{equal-or-not}
-use Rattle.session_claim.proofs.Rules.{no}
+use Rattle.basics.proofs.Laws.{no}
 use Rattle.journal.specs.declared.JournalVerdict.{JournalVerdict}
 use Rattle.journal.specs.Verdict.{ExpectedNext, recordJudged, verdictContinues, verdictFrom, journalVerdictOf, expectedAtStart, firstRecordSize, replyDueThen, replyDueAfter, expectedReplyBy, expectedReplyOf}
 use Rattle.journal.proofs.Walk.{ends, unknown, cut, whole, due-whole, nothing-judged}

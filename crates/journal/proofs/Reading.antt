@@ -18,7 +18,7 @@ use Rattle.session_record.specs.declared.Reply.{Reply}
 use Rattle.session.specs.Steps.{DidStep}
 use Rattle.session.specs.Start.{startStep}
 use Rattle.session.specs.Answer.{answerStep}
-use Rattle.session_claim.proofs.EveryCall.{start-came, answer-came}
+use Rattle.step_laws.proofs.EveryCall.{start-came, answer-came}
 use Rattle.journal.specs.declared.CheckState.{CheckState}
 use Rattle.journal.specs.Record.{journalRecordSize, journalBuffer, recordLength, recordDataIn, recordFits, isLongAnswer, longAnswer, mostStartInRecord, mostAnswerInRecord}
 use Rattle.journal.specs.Record.{startCallFrom, answerCallFrom, linkFailedFrom, stopCallFrom, callFrom}

@@ -18,7 +18,7 @@ use Rattle.basics.proofs.Order.{equal-or-not}
 use Rattle.basics.proofs.Alike.{alike-refl, alike-eq}
 use Rattle.basics.proofs.Recursion.{shorter-first}
 use Rattle.session_record.specs.declared.Session.{Session}
-use Rattle.session_claim.specs.Calls.{Call, callStep}
+use Rattle.session.specs.Calls.{Call, callStep}
 use Rattle.journal.specs.declared.JournalVerdict.{JournalVerdict}
 use Rattle.journal.specs.Record.{journalRecordSize, callFrom, journalReplyRecord}
 use Rattle.journal.specs.Verdict.{ExpectedNext, expectedNext, expectedAtStart, replyExpected, callJudged, recordJudgedBy, recordJudged, verdictContinues, verdictFrom, journalVerdictOf, firstRecordSize, replyDueThen, replyDueAfter, expectedReplyBy, expectedReplyOf}

@@ -13,9 +13,9 @@ use Rattle.basics.proofs.Laws.{if-ind}
 use Rattle.session_record.specs.declared.Session.{Session}
 use Rattle.session_record.specs.Session.{freshSession}
 use Rattle.session.specs.Steps.{Step}
-use Rattle.session_claim.specs.Calls.{Call, callStep, isRefusal, playCalls}
-use Rattle.session_claim.proofs.Rules.{no}
-use Rattle.session_claim.proofs.EveryCall.{Came}
+use Rattle.session.specs.Calls.{Call, callStep, isRefusal, playCalls}
+use Rattle.basics.proofs.Laws.{no}
+use Rattle.step_laws.proofs.EveryCall.{Came}
 use Rattle.journal.specs.declared.JournalVerdict.{JournalVerdict}
 use Rattle.journal.specs.Record.{journalRecordSize, journalCallRecord, journalOf, concatenated}
 use Rattle.journal.specs.Verdict.{ExpectedNext, expectedNext, expectedAtStart, recordJudged, verdictContinues, verdictFrom, journalVerdictOf}

@@ -39,8 +39,8 @@ use Rattle.session.specs.Steps.{Step, withoutCommand, refusedStep, endingBy, co
 use Rattle.session.specs.Start.{askGpo, startLoaded, startIn}
 use Rattle.session.specs.Answer.{recordPhase, askRecordFound, gpoStoreReason, afterGpoRead, gpoStep, askCryptogram, requestedCryptogram, afterAnalysis, afterRecordsEmv, afterLastRecord, askNextFound, afterRecordRead, readRecordFound, recordStep, cryptogramEnding, cryptogramReply, answerIn}
 use Rattle.session.specs.MagStripe.{checksumPhase, askChecksum, afterRecordsMagStripe, storeWithDigits, afterChecksumRead, checksumOutcomeOf, checksumReply}
-use Rattle.session_claim.specs.Calls.{Call, start, answer, link-failed, stop, callStep, isRefusal}
-use Rattle.session_claim.proofs.Rules.{no}
+use Rattle.session.specs.Calls.{Call, start, answer, link-failed, stop, callStep, isRefusal}
+use Rattle.basics.proofs.Laws.{no}
 use Rattle.journal.specs.Record.{twoByteLength, zeroPadded, mostCommandInRecord, journalReplyRecord}
 
 -- ---- the same step in two buffers

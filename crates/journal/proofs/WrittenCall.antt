@@ -23,10 +23,10 @@ use Rattle.start_data.proofs.Ways.{load-long}
 use Rattle.session.specs.Steps.{Step, admittedStep}
 use Rattle.session.specs.Start.{startLoaded, startIn, startStep}
 use Rattle.session.specs.Answer.{answerStep}
-use Rattle.session_claim.specs.Calls.{Call, start, answer, link-failed, stop, callStep, isRefusal}
-use Rattle.session_claim.proofs.Rules.{no}
-use Rattle.session_claim.proofs.Long.{answer-long}
-use Rattle.session_claim.proofs.EveryCall.{Came, buffer-length, start-came, answer-came, link-came, stop-came}
+use Rattle.session.specs.Calls.{Call, start, answer, link-failed, stop, callStep, isRefusal}
+use Rattle.basics.proofs.Laws.{no}
+use Rattle.step_laws.proofs.Long.{answer-long}
+use Rattle.step_laws.proofs.EveryCall.{Came, buffer-length, start-came, answer-came, link-came, stop-came}
 use Rattle.journal.specs.Record.{journalRecordSize, lengthAndPadded, journalBuffer, longAnswer, journalCallRecord, callFrom}
 use Rattle.journal.specs.Verdict.{expectedNext, replyExpectedAfter, callJudged, recordJudged}
 use Rattle.journal.proofs.Due.{whole-is, reply-due}

@@ -11,7 +11,7 @@ use lib.ListN.{length, getD, take}
 use Rattle.basics.specs.Choice.{every}
 use Rattle.session_record.specs.declared.Session.{Session}
 use Rattle.session_record.specs.Session.{freshSession}
-use Rattle.session_claim.specs.Calls.{Call, start, answer, link-failed, stop, CallMade, playCalls, callRefused}
+use Rattle.session.specs.Calls.{Call, start, answer, link-failed, stop, CallMade, playCalls, callRefused}
 use Rattle.journal.specs.declared.JournalVerdict.{JournalVerdict}
 use Rattle.journal.specs.Record.{journalRecordSize, journalOf, concatenated}
 use Rattle.journal.specs.Verdict.{journalVerdictOf, expectedReplyOf}

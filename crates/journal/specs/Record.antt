@@ -11,7 +11,7 @@ use Rattle.store.specs.Held.{isZeroByte}
 use Rattle.session_record.specs.declared.CallResult.{CallResult}
 use Rattle.session_record.specs.Numbers.{outcomeNumber}
 use Rattle.session.specs.Steps.{leastBuffer}
-use Rattle.session_claim.specs.Calls.{Call, start, answer, link-failed, stop, CallMade, callResult, callRefused}
+use Rattle.session.specs.Calls.{Call, start, answer, link-failed, stop, CallMade, callResult, callRefused}
 
 -- ---- sizes
 

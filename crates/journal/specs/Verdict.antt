@@ -11,7 +11,7 @@ use Rattle.basics.specs.Recursion.{recurse}
 use Rattle.session_record.specs.declared.Session.{Session}
 use Rattle.session_record.specs.Session.{freshSession}
 use Rattle.session.specs.Steps.{Step}
-use Rattle.session_claim.specs.Calls.{Call, callStep}
+use Rattle.session.specs.Calls.{Call, callStep}
 use Rattle.journal.specs.declared.JournalVerdict.{JournalVerdict}
 use Rattle.journal.specs.Record.{journalRecordSize, callFrom, journalReplyRecord}
 

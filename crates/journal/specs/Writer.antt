@@ -6,7 +6,7 @@ use Prim.Native.Nat.{ℕ, _+_}
 use lib.ListN.{length, drop, replicate}
 use Rattle.basics.specs.Choice.{if_then_else_, _and_, _≤?_}
 use Rattle.session_record.specs.declared.CallResult.{CallResult}
-use Rattle.session_claim.specs.Calls.{start}
+use Rattle.session.specs.Calls.{start}
 use Rattle.journal.specs.Record.{mostStartInRecord, mostCommandInRecord, twoByteLength, journalCallRecord, journalReplyRecord}
 
 -- a start of more than 1,024 bytes is refused and has no record

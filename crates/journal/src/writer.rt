@@ -8,7 +8,7 @@ ghost use mathlib.Core.List.{[]};
 ghost use Prim.Native.Nat.{_+_, _≤_};
 ghost use lib.ListN.{length};
 ghost use Rattle.session_record.specs.declared.CallResult.{CallResult};
-ghost use Rattle.session_claim.specs.Calls.{answer as anAnswer, link-failed as aFailure, stop as aStop};
+ghost use Rattle.session.specs.Calls.{answer as anAnswer, link-failed as aFailure, stop as aStop};
 ghost use Rattle.journal.specs.Record.{journalCallRecord, journalReplyRecord};
 ghost use Rattle.journal.specs.Writer.{startRecordBytes, commandRecordBytes, recordFilledIn};
 

@@ -3,3 +3,4 @@ pub mod Start
 pub mod MagStripe
 pub mod Answer
 pub mod Inner
+pub mod Calls

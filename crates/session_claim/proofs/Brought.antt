@@ -30,7 +30,7 @@ use Rattle.reading.specs.Taking.{PrimitiveItem, primitiveItem, primitiveItems, 
 use Rattle.reading.specs.Answer.{ReadingOutcome, ResponseBody, primitive, template, responseBit, responseBody, bodyCount, gpoParts, primitiveParts, templateParts, readParts, readTree, readBody, isRead, readAnswer}
 use Rattle.reading.proofs.Kept.{All, all-holds}
 use Rattle.session_claim.specs.Order.{isIn77, firstIn77, bodyAfl, bodyAip, responseAfl, responseAip}
-use Rattle.session_claim.proofs.Rules.{no}
+use Rattle.basics.proofs.Laws.{no}
 
 -- the row k of a tag t whose object stands in a 77 alone and is never empty
 record Row77 (t k : ℕ) : Type 0 where

@@ -40,7 +40,8 @@ use Rattle.session.specs.MagStripe.{askChecksum, afterRecordsMagStripe, storeWi
 use Rattle.mag_stripe.specs.Track.{nibblesBefore, discretionaryIn}
 use Rattle.mag_stripe.specs.Bitmap.{bitmapPlacesFrom, bitmapPlaces, bitmapWithin, canTakeDigits}
 use Rattle.session.specs.Answer.{gpoStoreReason, afterGpoRead, gpoStep, gpoReason, recordStep, afterRecordRead, afterLastRecord, afterRecordsEmv, afterAnalysis, requestedCryptogram, askCryptogram}
-use Rattle.session_claim.specs.Calls.{Call, start, answer, link-failed, stop, CallMade, playCalls, finalSession, callResult, commandsSent, callsAccepted}
+use Rattle.session_claim.specs.Calls.{commandsSent, callsAccepted}
+use Rattle.session.specs.Calls.{Call, start, answer, link-failed, stop, CallMade, playCalls, finalSession, callResult}
 use Rattle.session_claim.specs.Order.{firstIn77, responseAfl, responseAip, firstAnswer, acceptedAfl, gpo, record-command, cryptogram, checksum, lastKindFor, lastKind, publishedOrder}
 use Rattle.basics.specs.Alike.{bytesEqual}
 use Rattle.tlv.specs.Tree.{objectCount, nextOf, withLeaf, withNode, parseTree}

@@ -14,7 +14,7 @@ use Rattle.session_record.specs.Ranges.{inRanges}
 use Rattle.session.specs.Steps.{Step, refusedStep, leastBuffer, admittedStep, endsRunning}
 use Rattle.session.specs.Start.{startIn}
 use Rattle.session.specs.Answer.{answerIn}
-use Rattle.session_claim.specs.Calls.{Call, start, answer, link-failed, stop, callStep, CallMade, callMade, playCalls, finalSession}
+use Rattle.session.specs.Calls.{Call, start, answer, link-failed, stop, callStep, CallMade, callMade, playCalls, finalSession}
 use Rattle.session_claim.proofs.Trace.{call-keeps}
 
 -- the refusal for the buffer's size, then the step

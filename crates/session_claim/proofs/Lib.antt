@@ -1,10 +1,4 @@
-pub mod Ways
-pub mod Kept
-pub mod Ranges
-pub mod EveryCall
 pub mod Rules
-pub mod Refusals
-pub mod Long
 pub mod Brought
 pub mod Trace
 pub mod InRanges

@@ -30,10 +30,10 @@ use Rattle.session_record.proofs.Phases.{store-size, store-fits, on-record}
 use Rattle.session.specs.Steps.{Step, withoutCommand, abortStep}
 use Rattle.session.specs.Start.{startStep}
 use Rattle.session.specs.Answer.{answerStep}
-use Rattle.session_claim.specs.Calls.{Call, start, answer, link-failed, stop, callStep}
+use Rattle.session.specs.Calls.{Call, start, answer, link-failed, stop, callStep}
 use Rattle.session_claim.specs.ReportedCvm.{choiceMade, CvmReported, ReportsCvm}
-use Rattle.session_claim.proofs.Kept.{read-mode}
-use Rattle.session_claim.proofs.Ways.{Admitted, taken, askedBy, heldNumber, GpoWay, RecordsWay, MagStripeWay, RecordWay, CryptogramWay, ChecksumWay, AnswerWay, answer-way, StartWay, start-way, BrokenWay, broken-way}
+use Rattle.step_laws.proofs.Kept.{read-mode}
+use Rattle.step_laws.proofs.Ways.{Admitted, taken, askedBy, heldNumber, GpoWay, RecordsWay, MagStripeWay, RecordWay, CryptogramWay, ChecksumWay, AnswerWay, answer-way, StartWay, start-way, BrokenWay, broken-way}
 
 -- no method has the number of none
 is-cvm : (m : Cvm) → eqb (cvmNumber m) cvmNotApplicable ≡ false

@@ -11,7 +11,7 @@ use native.Mathlib.Omega.{arith}
 use lib.Dec.{eqb}
 use borrow.Author.Tests.{eqb-true}
 use Rattle.basics.specs.Choice.{if}
-use Rattle.basics.proofs.Laws.{if-ind, if-yes, if-no, bool-cases}
+use Rattle.basics.proofs.Laws.{no, if-ind, if-yes, if-no, bool-cases}
 use Rattle.afl.specs.declared.RecordFound.{RecordFound}
 use Rattle.afl.specs.Records.{acceptsAfl, aflRecordAt}
 use Rattle.afl.proofs.Laws.{accepted-total, record-there}
@@ -26,14 +26,12 @@ use Rattle.session.specs.Steps.{Step, failedStep, admittedStep, abortStep}
 use Rattle.session.specs.Start.{startStep}
 use Rattle.session.specs.Answer.{askRecordFound, gpoStoreReason, afterGpoRead, gpoStep, gpoReason, answerIn, answerStep}
 use Rattle.basics.specs.Reason.{reasonLink, reasonStopped}
-use Rattle.session_claim.proofs.Ways as ways
-use Rattle.session_claim.proofs.Ways.{stored-none, GpoWay, AnswerWay, answer-way, StartWay, start-way, BrokenWay, broken-way}
-use Rattle.session_claim.specs.Calls.{Call, start, answer, link-failed, stop, callStep, CallMade, callMade, playCalls, isRefusal, isCommand, isAnswer, callsAccepted}
+use Rattle.step_laws.proofs.Ways as ways
+use Rattle.step_laws.proofs.Ways.{stored-none, GpoWay, AnswerWay, answer-way, StartWay, start-way, BrokenWay, broken-way}
+use Rattle.session_claim.specs.Calls.{isAnswer, callsAccepted}
+use Rattle.session.specs.Calls.{Call, start, answer, link-failed, stop, callStep, CallMade, callMade, playCalls, isRefusal, isCommand}
 use Rattle.session_claim.specs.Order.{firstAnswer}
-use Rattle.session_claim.specs.Claim.{isRunning}
-
-pub no : {P : Type 0} → false ≡ true → P
-no e = let z : _≡_ {A = ℕ} 0 1 = cc in absurd (omega arith)
+use Rattle.session_record.specs.Session.{isRunning}
 
 -- ---- a command exactly where the rules give no reason
 

@@ -42,15 +42,19 @@ use Rattle.session.specs.Steps.{Step, withoutCommand, refusedStep, withTvr, wit
 use Rattle.session.specs.Start.{startStep}
 use Rattle.session.specs.Answer.{recordPhase, gpoReason, answerStep}
 use Rattle.session.specs.MagStripe.{checksumPhase, storeWithDigits}
-use Rattle.session_claim.proofs.Kept.{read-fits, read-mode, mode-bytes, read-afl}
-use Rattle.session_claim.proofs.Ways as ways
-use Rattle.session_claim.proofs.Ways.{GpoWay, RecordsWay, MagStripeWay, RecordWay, CryptogramWay, ChecksumWay, AnswerWay, answer-way, StartWay, start-way, analysedSession, askedBy, loadedSession}
-use Rattle.session_claim.proofs.Ranges.{start-keeps, answer-keeps, link-keeps, stop-keeps}
-use Rattle.session_claim.specs.Calls.{Call, start, answer, link-failed, stop, callStep, CallMade, callMade, playCalls, finalSession, isRefusal, isCommand, isOutcome, callResult, commandSent, commandsSent, callsAccepted, lastElement, isAnswer, hasAnswer, notAnswered, unansweredCommands}
+use Rattle.step_laws.proofs.Kept.{read-fits, read-mode, mode-bytes, read-afl}
+use Rattle.step_laws.proofs.Ways as ways
+use Rattle.step_laws.proofs.Ways.{GpoWay, RecordsWay, MagStripeWay, RecordWay, CryptogramWay, ChecksumWay, AnswerWay, answer-way, StartWay, start-way, analysedSession, askedBy, loadedSession}
+use Rattle.step_laws.proofs.Ranges.{start-keeps, answer-keeps, link-keeps, stop-keeps}
+use Rattle.session_claim.specs.Calls.{commandsSent, callsAccepted, lastElement, isAnswer, hasAnswer, notAnswered, unansweredCommands}
+use Rattle.session.specs.Calls.{Call, start, answer, link-failed, stop, callStep, CallMade, callMade, playCalls, finalSession, isRefusal, isCommand, isOutcome, callResult, commandSent}
 use Rattle.session_claim.specs.Order.{responseAfl, responseAip, firstAnswer, aflByFirstAnswer, acceptedAfl, CommandKind, gpo, record-command, cryptogram, checksum, commandKind, lastKindFor, lastKindIn, lastKind, publishedOrder}
-use Rattle.session_claim.specs.Claim.{SessionProper, isFresh, isRunning, isEnded, noCallAccepted, lastCommand, lastOutcome, mostCommandsFor, oneIf}
+use Rattle.session_claim.specs.Claim.{SessionProper, noCallAccepted, lastCommand, lastOutcome, mostCommandsFor}
+use Rattle.basics.specs.Choice.{oneIf}
+use Rattle.session_record.specs.Session.{isFresh, isRunning, isEnded}
 use Rattle.session_claim.proofs.Brought.{afl-brought, aip-brought}
-use Rattle.session_claim.proofs.Rules.{no, sent-by-rules, answer-off}
+use Rattle.session_claim.proofs.Rules.{sent-by-rules, answer-off}
+use Rattle.basics.proofs.Laws.{no}
 
 -- ---- the kinds of commands
 

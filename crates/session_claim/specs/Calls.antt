@@ -1,87 +1,11 @@
--- A list of calls on one session (document 01, "What demand 3 counts"): what the host and the card put into each call,
--- and what each call hands back. Bytes are any numbers: what holds of all lists of numbers holds of lists of bytes.
+-- What a list of calls on one session handed back (document 01, "What demand 3 counts").
 -- Assumes nothing.
 use mathlib.Core.Bool.{Bool, true, false}
 use mathlib.Core.List.{List, [], _∷_, _++_}
 use mathlib.Core.Option.{Option, some, none}
 use Prim.Native.Nat.{ℕ}
-use lib.ListN.{take}
 use Rattle.basics.specs.Choice.{if_then_else_, _or_}
-use Rattle.session_record.specs.declared.Session.{Session}
-use Rattle.session_record.specs.declared.CallResult.{CallResult}
-use Rattle.session.specs.Steps.{Step, linkFailedStep, stopStep}
-use Rattle.session.specs.Start.{startStep}
-use Rattle.session.specs.Answer.{answerStep}
-
--- ---- the calls and their steps
-
--- a call, with the bytes that come in and the command buffer that is lent
-pub data Call : Type 0 where
-  start : List ℕ → List ℕ → Call
-  answer : List ℕ → List ℕ → Call
-  link-failed : List ℕ → Call
-  stop : List ℕ → Call
-
--- what a call does to a session
-abbrev pub callStep : Session → Call → Step
-callStep s (start bytes buf) = startStep s bytes buf
-callStep s (answer card buf) = answerStep s card buf
-callStep s (link-failed buf) = linkFailedStep s buf
-callStep s (stop buf) = stopStep s buf
-
--- a call that was made: the session before it, the call, and its step
-pub record CallMade : Type 0 where
-  pub before : Session
-  pub call : Call
-  pub step : Step
-
--- the same as a function of the three
-abbrev pub callMade : Session → Call → Step → CallMade
-callMade s c st = record { before = s; call = c; step = st }
-
--- the calls of a list, each on the session that the call before it handed back
-unfoldable pub playCalls : Session → List Call → List CallMade
-playCalls s [] = []
-playCalls s (c ∷ cs) = callMade s c (callStep s c) ∷ playCalls (callStep s c .reply .session) cs
-
--- the session that the last call handed back
-unfoldable pub finalSession : Session → List Call → Session
-finalSession s [] = s
-finalSession s (c ∷ cs) = finalSession (callStep s c .reply .session) cs
-
--- ---- what a call handed back
-
--- a refusal, which leaves session and buffer as given
-abbrev pub isRefusal : CallResult → Bool
-isRefusal (CallResult.Command x) = false
-isRefusal (CallResult.Outcome e) = false
-isRefusal (CallResult.Refused r) = true
-
--- a command and its length
-abbrev pub isCommand : CallResult → Bool
-isCommand (CallResult.Command x) = true
-isCommand (CallResult.Outcome e) = false
-isCommand (CallResult.Refused r) = false
-
--- an outcome with its reason
-abbrev pub isOutcome : CallResult → Bool
-isOutcome (CallResult.Command x) = false
-isOutcome (CallResult.Outcome e) = true
-isOutcome (CallResult.Refused r) = false
-
--- one of the three
-abbrev pub callResult : CallMade → CallResult
-callResult m = m .step .reply .answer
-
--- the call was refused
-abbrev pub callRefused : CallMade → Bool
-callRefused m = isRefusal (callResult m)
-
--- the command that a call hands out: as many bytes of its buffer's front as it says, read after the call
-abbrev pub commandSent : CallResult → List ℕ → List (List ℕ)
-commandSent (CallResult.Command x) buf = take (x .size) buf ∷ []
-commandSent (CallResult.Outcome e) buf = []
-commandSent (CallResult.Refused r) buf = []
+use Rattle.session.specs.Calls.{Call, start, answer, link-failed, stop, CallMade, callResult, callRefused, commandSent}
 
 -- ---- what a list of calls handed back
 

@@ -6,40 +6,13 @@ use mathlib.Core.List.{List, map}
 use mathlib.Core.Option.{Option, some, none}
 use Prim.Native.Nat.{ℕ, _+_, _≤_}
 use lib.ListN.{length, take}
+use Rattle.basics.specs.Choice.{oneIf}
 use Rattle.afl.specs.Records.{aflRecordCount}
-use Rattle.session_record.specs.declared.Phase.{Phase}
 use Rattle.session_record.specs.declared.Session.{Session}
-use Rattle.session_claim.specs.Calls.{CallMade, commandsSent, callsAccepted, callResult, isCommand, isOutcome, lastElement, unansweredCommands}
+use Rattle.session_record.specs.Session.{isFresh, isRunning, isEnded}
+use Rattle.session_claim.specs.Calls.{commandsSent, callsAccepted, lastElement, unansweredCommands}
+use Rattle.session.specs.Calls.{CallMade, callResult, isCommand, isOutcome}
 use Rattle.session_claim.specs.Order.{commandKind, lastKind, acceptedAfl, publishedOrder}
-
--- ---- what a session says of itself
-
--- no call was taken yet
-abbrev pub isFresh : Phase → Bool
-isFresh Phase.Fresh = true
-isFresh Phase.Gpo = false
-isFresh (Phase.Record p) = false
-isFresh (Phase.Cryptogram a) = false
-isFresh (Phase.Checksum c) = false
-isFresh (Phase.Ended e) = false
-
--- it waits on an answer: to processing options, to a record command, to the cryptogram, to the checksum
-abbrev pub isRunning : Phase → Bool
-isRunning Phase.Fresh = false
-isRunning Phase.Gpo = true
-isRunning (Phase.Record p) = true
-isRunning (Phase.Cryptogram a) = true
-isRunning (Phase.Checksum c) = true
-isRunning (Phase.Ended e) = false
-
--- it has an outcome
-abbrev pub isEnded : Phase → Bool
-isEnded Phase.Fresh = false
-isEnded Phase.Gpo = false
-isEnded (Phase.Record p) = false
-isEnded (Phase.Cryptogram a) = false
-isEnded (Phase.Checksum c) = false
-isEnded (Phase.Ended e) = true
 
 -- ---- what the last call that was not refused says
 
@@ -65,13 +38,8 @@ abbrev pub mostCommandsFor : Option (List ℕ) → ℕ
 mostCommandsFor none = 1
 mostCommandsFor (some l) = 2 + aflRecordCount l
 
--- 1 where a test passes, else 0
-abbrev pub oneIf : Bool → ℕ
-oneIf true = 1
-oneIf false = 0
-
--- ms are the calls of a list made one after the other from a fresh session in its ranges (`playCalls`), and s is the session
--- after them, that fresh one where there are none (`finalSession`); trace::most_commands promises it so
+-- ms are the calls of a list made one after the other from a fresh session in its ranges (`play`), and s is the session
+-- after them, that fresh one where there are none (`final`); trace::most_commands promises it so
 pub record SessionProper (ms : List CallMade) (s : Session) : Type 0 where
   -- the N commands handed out are the first N of the published order
   pub order : map commandKind (commandsSent ms) ≡ take (length (commandsSent ms)) (publishedOrder (lastKind ms) (acceptedAfl ms))

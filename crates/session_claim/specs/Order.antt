@@ -16,7 +16,8 @@ use Rattle.reading.specs.Answer.{ResponseBody, primitive, template, responseBod
 use Rattle.session_record.specs.declared.Session.{Session}
 use Rattle.session_record.specs.Session.{storeBytes}
 use Rattle.session.specs.Answer.{gpoReason}
-use Rattle.session_claim.specs.Calls.{Call, start, answer, link-failed, stop, CallMade, callsAccepted, isAnswer}
+use Rattle.session_claim.specs.Calls.{callsAccepted, isAnswer}
+use Rattle.session.specs.Calls.{Call, start, answer, link-failed, stop, CallMade}
 
 -- ---- the locator and the profile that card bytes bring: read from their objects alone, not from the store
 

@@ -6,7 +6,7 @@ ghost use mathlib.Core.List.{List};
 ghost use Rattle.session_record.specs.declared.Session.{Session};
 ghost use Rattle.session_record.specs.declared.Phase.{Phase};
 ghost use Rattle.session_record.specs.Ranges.{inRanges};
-ghost use Rattle.session_claim.specs.Calls.{Call, playCalls, finalSession, callStep};
+ghost use Rattle.session.specs.Calls.{Call, playCalls, finalSession, callStep};
 ghost use Rattle.session_claim.specs.Claim.{SessionProper};
 ghost use Rattle.session_claim.specs.ReportedCvm.{ReportsCvm};
 

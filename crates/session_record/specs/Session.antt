@@ -1,6 +1,7 @@
 -- The session record and the reply of a call (document 01, "Calls and their numbers"), built anew only here: a new
 -- field is added here.
 -- Assumes nothing.
+use mathlib.Core.Bool.{Bool, true, false}
 use mathlib.Core.List.{List}
 use Prim.Native.Nat.{ℕ}
 use lib.ListN.{replicate}
@@ -81,3 +82,32 @@ failingTransition m k n = endingTransition m k (outcomeOfReason n) n
 -- a command of n bytes is handed out, and the session waits in a phase on its answer
 abbrev pub commandTransition : Phase → ℕ → ℕ → Transition
 commandTransition p k n = record { phase = p; count = k; answer = CallResult.Command (record { size = n }) }
+
+-- ---- the stage of a session: fresh, running or ended
+
+-- no call was taken yet
+abbrev pub isFresh : Phase → Bool
+isFresh Phase.Fresh = true
+isFresh Phase.Gpo = false
+isFresh (Phase.Record p) = false
+isFresh (Phase.Cryptogram a) = false
+isFresh (Phase.Checksum c) = false
+isFresh (Phase.Ended e) = false
+
+-- it waits on an answer: to processing options, to a record command, to the cryptogram, to the checksum
+abbrev pub isRunning : Phase → Bool
+isRunning Phase.Fresh = false
+isRunning Phase.Gpo = true
+isRunning (Phase.Record p) = true
+isRunning (Phase.Cryptogram a) = true
+isRunning (Phase.Checksum c) = true
+isRunning (Phase.Ended e) = false
+
+-- it has an outcome
+abbrev pub isEnded : Phase → Bool
+isEnded Phase.Fresh = false
+isEnded Phase.Gpo = false
+isEnded (Phase.Record p) = false
+isEnded (Phase.Cryptogram a) = false
+isEnded (Phase.Checksum c) = false
+isEnded (Phase.Ended e) = true

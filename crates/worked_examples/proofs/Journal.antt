@@ -28,7 +28,7 @@ use Rattle.session.specs.Steps.{withTvr, withFindings}
 use Rattle.session.specs.Start.{askGpo}
 use Rattle.session_record.specs.Session.{freshSession}
 use Rattle.session_record.proofs.Phases.{fresh-keeps}
-use Rattle.session_claim.specs.Calls.{playCalls}
+use Rattle.session.specs.Calls.{playCalls}
 use Rattle.session_claim.proofs.InRanges.{playIn, play-in}
 use Rattle.journal.specs.declared.JournalVerdict.{JournalVerdict}
 use Rattle.journal.specs.Record.{journalRecordSize, journalOf, concatenated, recordFits, isLongAnswer, callFrom}

@@ -16,7 +16,7 @@ use Rattle.session.specs.Steps.{Step, leastBuffer, endsRunning}
 use Rattle.session.specs.Start.{startIn}
 use Rattle.session.specs.Answer.{answerIn}
 use Rattle.session.proofs.Laws.{admitted-short, admitted-ranges, admitted-in}
-use Rattle.session_claim.specs.Calls.{commandSent}
+use Rattle.session.specs.Calls.{commandSent}
 use Rattle.worked_examples.specs.Calls.{fullBuffer, shortBuffer, startResult, answerResult, linkResult, stopResult, refusalResult, resultOn, resultsOn, startCommand, commandOn, valueAfter}
 
 enough : leastBuffer ≤ length fullBuffer

@@ -7,7 +7,7 @@ use mathlib.Core.Option.{some, none}
 use Prim.Native.Nat.{ℕ}
 use lib.ListN.{replicate}
 use Rattle.session_record.specs.declared.Outcome.{Outcome}
-use Rattle.session_claim.specs.Calls.{Call, start, answer, link-failed, stop}
+use Rattle.session.specs.Calls.{Call, start, answer, link-failed, stop}
 use Rattle.call_list.specs.Encoding.{encodedCall, callsOf}
 use Rattle.call_list.specs.Playing.{resultBytes, playResultOf, playResultNumber}
 use Rattle.worked_examples.specs.Calls.{commandResult, outcomeResult, refusalResult}

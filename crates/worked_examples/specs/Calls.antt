@@ -13,7 +13,7 @@ use Rattle.session_record.specs.Session.{storeBytes, outcomeParameters}
 use Rattle.session.specs.Steps.{linkFailedStep, stopStep}
 use Rattle.session.specs.Start.{startStep}
 use Rattle.session.specs.Answer.{answerStep}
-use Rattle.session_claim.specs.Calls.{commandSent}
+use Rattle.session.specs.Calls.{commandSent}
 
 -- ---- the calls
 

@@ -10,7 +10,7 @@ use lib.ListN.{replicate}
 use Rattle.session_record.specs.declared.CallResult.{CallResult}
 use Rattle.session_record.specs.declared.Outcome.{Outcome}
 use Rattle.session_record.specs.Session.{freshSession}
-use Rattle.session_claim.specs.Calls.{Call, start, answer, link-failed, stop, playCalls}
+use Rattle.session.specs.Calls.{Call, start, answer, link-failed, stop, playCalls}
 use Rattle.journal.specs.declared.JournalVerdict.{JournalVerdict}
 use Rattle.journal.specs.Record.{journalRecordSize, journalCallRecord, journalReplyRecord, journalOf, concatenated, callFrom}
 use Rattle.journal.specs.Verdict.{journalVerdictOf}

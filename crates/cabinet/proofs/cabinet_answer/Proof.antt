@@ -7,7 +7,7 @@ use Rattle.dictionary.specs.Rows.{storeSize}
 use Rattle.session.specs.Answer.{answerStep}
 use Rattle.session.proofs.Laws.{admitted-ranges}
 use Rattle.layout.specs.Layout.{headSize}
-use Rattle.session_claim.proofs.EveryCall.{answer-came}
+use Rattle.step_laws.proofs.EveryCall.{answer-came}
 use Rattle.cabinet.specs.Calls.{cabinetStepOn}
 use Rattle.cabinet.proofs.Laws.{Taken, over-refused, over-taken, over-step}
 use Rattle.cabinet.proofs.cabinet_answer.Statement.{statement}

@@ -4,7 +4,7 @@ use borrow.Author.Needs.{needs}
 use native.Mathlib.Omega.{arith}
 use Rattle.session.specs.Steps.{stopStep}
 use Rattle.session.proofs.Laws.{admitted-ranges}
-use Rattle.session_claim.proofs.EveryCall.{stop-came}
+use Rattle.step_laws.proofs.EveryCall.{stop-came}
 use Rattle.cabinet.specs.Calls.{cabinetStepOn}
 use Rattle.cabinet.proofs.Laws.{Taken, over-refused, over-taken, over-kept}
 use Rattle.cabinet.proofs.cabinet_stop.Statement.{statement}

@@ -8,7 +8,7 @@ use native.Mathlib.Omega.{arith}
 use lib.ListN.{length, length-take, length-drop}
 use borrow.Author.Needs.{needs}
 use Rattle.tlv.proofs.Laws.{tail-is}
-use Rattle.session_claim.specs.Calls.{Call}
+use Rattle.session.specs.Calls.{Call}
 use Rattle.call_list.specs.declared.CallFront.{CallFront}
 use Rattle.call_list.specs.declared.CallsCounted.{CallsCounted}
 use Rattle.call_list.specs.Encoding.{callEnd, callFrontIn, callsOf, callsCountedOf}

@@ -5,7 +5,7 @@ use borrow.Author.Tests.{eq-eqb, ne-eqb}
 use borrow.Author.Needs.{needs}
 use Rattle.basics.proofs.Laws.{if-yes, if-no}
 use Rattle.session.proofs.Laws.{did-as}
-use Rattle.session_claim.specs.Calls.{callStep}
+use Rattle.session.specs.Calls.{callStep}
 use Rattle.call_list.specs.Encoding.{callBy}
 use Rattle.call_list.proofs.make.Statement.{statement}
 use Rattle.call_list.proofs.make.Tie as tie

@@ -1,6 +1,6 @@
 -- `journal::link_failed` meets its contract: the call's promise is the step's.
 -- Assumes nothing.
-use Rattle.session_claim.proofs.EveryCall.{link-came}
+use Rattle.step_laws.proofs.EveryCall.{link-came}
 use Rattle.journal.specs.Record.{journalBuffer}
 use Rattle.journal.proofs.Due.{did-due}
 use borrow.Author.Needs.{needs}

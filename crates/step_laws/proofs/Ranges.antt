@@ -45,8 +45,8 @@ use Rattle.session.specs.Steps.{Step, withTvr, withFindings, abortStep, linkFai
 use Rattle.session.specs.Start.{startStep}
 use Rattle.session.specs.Answer.{recordPhase, requestedCryptogram, answerStep}
 use Rattle.session.specs.MagStripe.{checksumPhase, storeWithDigits}
-use Rattle.session_claim.proofs.Kept.{Waits, gpo-plain, record-plain, read-waits, read-fits, read-mode, read-either, read-afl, read-limit, bits-size, bits-fits, bits-runs, bits-here, bits-other, bits-hold, found-size, found-fits, found-runs, found-9F34, found-other, found-limit, digits-size, digits-fits}
-use Rattle.session_claim.proofs.Ways.{Reason, withStore, taken, GpoWay, RecordsWay, MagStripeWay, RecordWay, CryptogramWay, ChecksumWay, AnswerWay, answer-way, loadedSession, analysedSession, StartWay, start-way, BrokenWay, broken-way}
+use Rattle.step_laws.proofs.Kept.{Waits, gpo-plain, record-plain, read-waits, read-fits, read-mode, read-either, read-afl, read-limit, bits-size, bits-fits, bits-runs, bits-here, bits-other, bits-hold, found-size, found-fits, found-runs, found-9F34, found-other, found-limit, digits-size, digits-fits}
+use Rattle.step_laws.proofs.Ways.{Reason, withStore, taken, GpoWay, RecordsWay, MagStripeWay, RecordWay, CryptogramWay, ChecksumWay, AnswerWay, answer-way, loadedSession, analysedSession, StartWay, start-way, BrokenWay, broken-way}
 
 -- a session that ends for a reason
 failing : (t : Session) (n : ℕ) → Reason n → length (storeBytes t) ≡ storeSize → AllObjectsFit (storeBytes t) → t .count ≤ mostCommands

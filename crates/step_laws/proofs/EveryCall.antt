@@ -41,8 +41,8 @@ use Rattle.session.specs.Steps as steps
 use Rattle.session.specs.Steps.{Step, withoutCommand, refusedStep, commandStep, abortStep, linkFailedStep, stopStep}
 use Rattle.session.specs.Start.{startStep}
 use Rattle.session.specs.Answer.{answerStep}
-use Rattle.session_claim.proofs.Kept.{read-size, read-fits, read-value, found-other, digits-other}
-use Rattle.session_claim.proofs.Ways.{Admitted, withStore, taken, GpoWay, RecordsWay, MagStripeWay, RecordWay, CryptogramWay, ChecksumWay, AnswerWay, answer-way, analysedSession, askedBy, loadedSession, StartWay, start-way, BrokenWay, broken-way}
+use Rattle.step_laws.proofs.Kept.{read-size, read-fits, read-value, found-other, digits-other}
+use Rattle.step_laws.proofs.Ways.{Admitted, withStore, taken, GpoWay, RecordsWay, MagStripeWay, RecordWay, CryptogramWay, ChecksumWay, AnswerWay, answer-way, analysedSession, askedBy, loadedSession, StartWay, start-way, BrokenWay, broken-way}
 
 -- ---- how a call comes out: refused, ended, or with a command; another store, and nothing else of the record
 

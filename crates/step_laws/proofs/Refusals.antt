@@ -32,10 +32,10 @@ use Rattle.session.specs.Start.{askGpo, startLoaded, startIn, startStep}
 use Rattle.session.specs.Answer.{gpoStep, readRecordFound, recordStep, cryptogramReply, answerIn, answerStep}
 use Rattle.session.specs.MagStripe.{afterChecksumRead, checksumOutcomeOf, checksumReply}
 use Rattle.session.proofs.Laws.{admitted-in}
-use Rattle.session_claim.proofs.Ways.{taken, GpoWay, gpo-way, RecordsWay, MagStripeWay, RecordWay, record-way, load-most}
-use Rattle.session_claim.proofs.Rules.{no}
-use Rattle.session_claim.specs.Calls.{Call, start, answer, link-failed, stop, callStep, isRefusal}
-use Rattle.session_claim.specs.Claim.{isRunning}
+use Rattle.step_laws.proofs.Ways.{taken, GpoWay, gpo-way, RecordsWay, MagStripeWay, RecordWay, record-way, load-most}
+use Rattle.basics.proofs.Laws.{no}
+use Rattle.session.specs.Calls.{Call, start, answer, link-failed, stop, callStep, isRefusal}
+use Rattle.session_record.specs.Session.{isRunning}
 
 -- ---- a session that does not run is refused (21), one that runs is not
 
