@@ -57,17 +57,14 @@ use Rattle.session_record.proofs.Phase.{the-type as phase-type}
 use Rattle.start_data.specs.declared.LoadResult.{LoadResult}
 use Rattle.start_data.specs.StartData.{LoadedStore, LoadsStart}
 use Rattle.start_data.proofs.Laws.{was-taken, was-refused}
-use Rattle.session.specs.declared.NeededObjects.{NeededObjects}
-use Rattle.session.specs.declared.ModeCheck.{ModeCheck}
-use Rattle.session.specs.declared.LimitCheck.{LimitCheck}
-use Rattle.session.specs.declared.TrackCheck.{TrackCheck}
+use Rattle.session.specs.declared.Check.{Check}
 use Rattle.session.specs.declared.CryptogramOutcome.{CryptogramOutcome}
 use Rattle.session.specs.declared.Decision.{Decision}
 use Rattle.session.specs.Steps.{Step, DidStep, withoutCommand, refusedStep, endedReply, endingBy, failedStep, withTvr, withFindings, leastBuffer, admittedStep, commandOrReason}
 use Rattle.session.specs.Start.{askGpo, startLoaded, startIn}
 use Rattle.session.specs.Answer.{askRecordFound, aipAndAflPresent, gpoStoreReason, afterGpoRead, askCryptogram, requestedCryptogram, afterAnalysis, afterRecordsEmv, afterLastRecord, cryptogramOutcome, endingFor, cryptogramPresent, cryptogramEnding}
 use Rattle.session.specs.MagStripe.{askChecksum, afterRecordsMagStripe, storedTrack, storedBitmaps, storedDigitValues, trackCanTakeDigits, storeWithDigits, afterChecksumRead, checksumOutcomeOf, checksumReply}
-use Rattle.session.specs.Inner.{loadRefusalNumber, neededNumber, modeNumber, limitNumber, trackNumber, cryptogramOutcomeEnding}
+use Rattle.session.specs.Inner.{loadRefusalNumber, checkNumber, cryptogramOutcomeEnding}
 
 -- ---- a step by an equation
 
@@ -146,39 +143,28 @@ module _ (a : Awaited) (b s : List ℕ) {r : Reading} {d : List ℕ} (g : readin
 -- ---- what the code's two-case answers say of their tests
 
 -- the test passed where its number is none, and failed where it is another
-passed : {n : ℕ} (m : ℕ) (b : Bool) → n ≡ unless b (suc m) → n ≡ reasonNone → b ≡ true
+passed : {n : ℕ} (m : ℕ) (b : Bool) → 0 < m → n ≡ unless b m → n ≡ reasonNone → b ≡ true
 unfolding if
-passed m true e f = refl
-passed m false e f = absurd (omega arith)
+passed m true h e f = refl
+passed m false h e f = absurd (omega arith)
 
 failed : {n : ℕ} (m : ℕ) (b : Bool) → n ≡ unless b m → (n ≡ reasonNone → ⊥) → b ≡ false
 unfolding if
 failed m true e f = absurd (f e)
 failed m false e f = refl
 
-pub is-complete : {x : NeededObjects} (b : Bool) → neededNumber x ≡ unless b reasonMissing → x ≡ NeededObjects.Complete → b ≡ true
-is-complete b e f = passed 3 b e (ap neededNumber f)
+pub is-passed : {x : Check} {n : ℕ} (b : Bool) → 0 < n → checkNumber n x ≡ unless b n → x ≡ Check.Passed → b ≡ true
+is-passed {x} {n} b h e f = passed n b h e (ap (checkNumber n) f)
 
-pub is-missing : {x : NeededObjects} (b : Bool) → neededNumber x ≡ unless b reasonMissing → x ≡ NeededObjects.Missing → b ≡ false
-is-missing b e f = failed reasonMissing b e (λ z. omega (arith, ap neededNumber f))
+pub is-failed : {x : Check} {n : ℕ} (b : Bool) → 0 < n → checkNumber n x ≡ unless b n → x ≡ Check.Failed → b ≡ false
+is-failed {x} {n} b h e f = failed n b e (λ z. omega (arith, ap (checkNumber n) f))
 
-pub is-carried : {x : ModeCheck} (b : Bool) → modeNumber x ≡ unless b reasonMode → x ≡ ModeCheck.Supported → b ≡ true
-is-carried b e f = passed 10 b e (ap modeNumber f)
+-- a test of the opposite
+pub is-above : {x : Check} (b : Bool) → checkNumber reasonAboveLimit x ≡ unless (not b) reasonAboveLimit → x ≡ Check.Failed → b ≡ true
+is-above b e f = not-false _ (is-failed (not b) (omega arith) e f)
 
-pub is-off : {x : ModeCheck} (b : Bool) → modeNumber x ≡ unless b reasonMode → x ≡ ModeCheck.Unsupported → b ≡ false
-is-off b e f = failed reasonMode b e (λ z. omega (arith, ap modeNumber f))
-
-pub is-sound : {x : TrackCheck} (b : Bool) → trackNumber x ≡ unless b reasonNotAllowed → x ≡ TrackCheck.Sound → b ≡ true
-is-sound b e f = passed 2 b e (ap trackNumber f)
-
-pub is-unsound : {x : TrackCheck} (b : Bool) → trackNumber x ≡ unless b reasonNotAllowed → x ≡ TrackCheck.Unsound → b ≡ false
-is-unsound b e f = failed reasonNotAllowed b e (λ z. omega (arith, ap trackNumber f))
-
-pub is-above : {x : LimitCheck} (b : Bool) → limitNumber x ≡ unless (not b) reasonAboveLimit → x ≡ LimitCheck.Above → b ≡ true
-is-above b e f = not-false _ (failed reasonAboveLimit (not b) e (λ z. omega (arith, ap limitNumber f)))
-
-pub is-within : {x : LimitCheck} (b : Bool) → limitNumber x ≡ unless (not b) reasonAboveLimit → x ≡ LimitCheck.Within → b ≡ false
-is-within b e f = not-true _ (passed 5 (not b) e (ap limitNumber f))
+pub is-within : {x : Check} (b : Bool) → checkNumber reasonAboveLimit x ≡ unless (not b) reasonAboveLimit → x ≡ Check.Passed → b ≡ false
+is-within b e f = not-true _ (is-passed (not b) (omega arith) e f)
 
 pub decides-nothing : {x : CryptogramOutcome} (o : Option Outcome) → cryptogramOutcomeEnding x ≡ endingFor o → x ≡ CryptogramOutcome.Nothing → o ≡ none
 decides-nothing none e f = refl

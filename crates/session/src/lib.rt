@@ -39,33 +39,15 @@ ghost use Rattle.session.specs.Answer.{askCryptogram, afterAnalysis, aft
 ghost use Rattle.session.specs.MagStripe.{askChecksum, afterRecordsMagStripe, storedTrack, storedBitmaps, storedDigitValues, trackCanTakeDigits, storeWithDigits, afterChecksumRead, checksumReply};
 ghost use Rattle.mag_stripe.specs.Digits.{trackWithDigits};
 ghost use Rattle.session.specs.Answer.{cryptogramOutcome, endingFor, cryptogramPresent, cryptogramEnding, cryptogramReply, answerStep, answerOnParts};
-ghost use Rattle.session.specs.Inner.{loadRefusalNumber, neededNumber, modeNumber, limitNumber, trackNumber, cryptogramOutcomeEnding};
+ghost use Rattle.session.specs.Inner.{loadRefusalNumber, checkNumber, cryptogramOutcomeEnding};
 
 // The least command buffer.
 pub const LEAST_BUFFER: usize = 261;
 
-// Whether the objects that a step needs are there.
-pub enum NeededObjects {
-    Complete,
-    Missing,
-}
-
-// Whether a session can go on in the mode that the card's interchange profile tells.
-pub enum ModeCheck {
-    Supported,
-    Unsupported,
-}
-
-// Whether a track can take the digits.
-pub enum TrackCheck {
-    Sound,
-    Unsound,
-}
-
-// The amount against the transaction limit.
-pub enum LimitCheck {
-    Within,
-    Above,
+// A test that a step makes before it goes on. Which reason a failed one gives stands at the step that makes it.
+pub enum Check {
+    Passed,
+    Failed,
 }
 
 // What a cryptogram decides: an outcome, or nothing where the one asked for does not allow its type.
@@ -254,10 +236,10 @@ fn after_gpo(count: u8, bytes: &[u8], command: &mut [u8]) -> Transition
     ensures { λ r. ⌜ DidTransition r (now (bytes .entry)) (now (command .exit))
         (afterGpoRead count (now (bytes .entry)) (now (command .entry))) ⌝ }
 {
-    let NeededObjects::Complete = gpo_data_present(bytes) else {
+    let Check::Passed = gpo_data_present(bytes) else {
         return session_record::fail_session(count, basics::REASON_MISSING, NOT_APPLICABLE);
     };
-    let ModeCheck::Supported = mode_in(bytes) else {
+    let Check::Passed = mode_in(bytes) else {
         return session_record::fail_session(count, basics::REASON_MODE, NOT_APPLICABLE);
     };
     let entries = store::value(bytes, ROW_AFL);
@@ -340,10 +322,10 @@ fn emv_mode_analysis(limit: u64, count: u8, store: &mut [u8], command: &mut [u8]
     ensures { λ r. ⌜ DidTransition r (now (store .exit)) (now (command .exit))
         (afterRecordsEmv limit count (now (store .entry)) (now (command .entry))) ⌝ }
 {
-    let LimitCheck::Within = limit_in(limit, &store[..]) else {
+    let Check::Passed = limit_in(limit, &store[..]) else {
         return session_record::fail_session(count, basics::REASON_ABOVE_LIMIT, NOT_APPLICABLE);
     };
-    let NeededObjects::Complete = card_complete(&store[..]) else {
+    let Check::Passed = card_complete(&store[..]) else {
         return session_record::fail_session(count, basics::REASON_MISSING, NOT_APPLICABLE);
     };
     analyse(limit, count, store, command)
@@ -406,7 +388,7 @@ fn cryptogram_outcome(asked: RequestedCryptogram, count: u8, bytes: &[u8]) -> Tr
     ensures { λ r. ⌜ replyOf r (now (bytes .entry)) 
         ≡ endedReply (cvmNumber (asked .cvm)) count (now (bytes .entry)) (cryptogramEnding asked (now (bytes .entry))) ⌝ }
 {
-    let NeededObjects::Complete = cryptogram_present(bytes) else {
+    let Check::Passed = cryptogram_present(bytes) else {
         return session_record::fail_session(count, basics::REASON_MISSING, held_cvm(asked));
     };
     let kind = basics::byte_at(store::value(bytes, ROW_CID), 0) / 64;
@@ -448,10 +430,10 @@ fn mag_stripe_checks(limit: u64, count: u8, bytes: &[u8], command: &mut [u8]) ->
     ensures { λ r. ⌜ DidTransition r (now (bytes .entry)) (now (command .exit))
         (afterRecordsMagStripe limit count (now (bytes .entry)) (now (command .entry))) ⌝ }
 {
-    let LimitCheck::Within = limit_in(limit, bytes) else {
+    let Check::Passed = limit_in(limit, bytes) else {
         return session_record::fail_session(count, basics::REASON_ABOVE_LIMIT, NOT_APPLICABLE);
     };
-    let NeededObjects::Complete = track_complete(bytes) else {
+    let Check::Passed = track_complete(bytes) else {
         return session_record::fail_session(count, basics::REASON_MISSING, NOT_APPLICABLE);
     };
     ask_checksum(limit, count, bytes, command)
@@ -475,7 +457,7 @@ fn take_checksum(count: u8, store: &mut [u8], card: &[u8]) -> Transition
     requires { ⌜ length (now store) ≡ storeSize ⌝ }
     ensures { λ r. ⌜ replyOf r (now (store .exit)) ≡ checksumReply count (now (store .entry)) (now (card .entry)) ⌝ }
 {
-    let TrackCheck::Sound = track_in(&store[..]) else {
+    let Check::Passed = track_in(&store[..]) else {
         return refuse_track(count, &store[..], card);
     };
     let read = reader::read_answer(store, Awaited::Checksum, card);
@@ -504,7 +486,7 @@ fn checksum_outcome(count: u8, store: &mut [u8]) -> Transition
     requires { ⌜ length (now store) ≡ storeSize ⌝ }
     ensures { λ r. ⌜ replyOf r (now (store .exit)) ≡ afterChecksumRead count (now (store .entry)) ⌝ }
 {
-    let NeededObjects::Complete = atc_present(&store[..]) else {
+    let Check::Passed = atc_present(&store[..]) else {
         return session_record::fail_session(count, basics::REASON_MISSING, NOT_APPLICABLE);
     };
     if !store::is_there(&store[..], ROW_CVC3_TRACK2) {
@@ -556,88 +538,88 @@ fn values_in(bytes: &[u8]) -> DigitValues
 }
 
 // The stored track against the bitmaps.
-fn track_in(bytes: &[u8]) -> TrackCheck
-    ensures { λ r. ⌜ trackNumber r ≡ unless (trackCanTakeDigits (now (bytes .entry))) reasonNotAllowed ⌝ }
+fn track_in(bytes: &[u8]) -> Check
+    ensures { λ r. ⌜ checkNumber reasonNotAllowed r ≡ unless (trackCanTakeDigits (now (bytes .entry))) reasonNotAllowed ⌝ }
 {
     let bitmaps = bitmaps_in(bytes);
     if mag_stripe::can_take_digits(store::value(bytes, ROW_TRACK2_DATA), bitmaps) {
-        return TrackCheck::Sound;
+        return Check::Passed;
     }
-    TrackCheck::Unsound
+    Check::Failed
 }
 
 // 9F6B, 9F65, 9F66 and 9F67 are there, none empty.
-fn track_complete(bytes: &[u8]) -> NeededObjects
-    ensures { λ r. ⌜ neededNumber r ≡ unless (trackDataPresent (now (bytes .entry))) reasonMissing ⌝ }
+fn track_complete(bytes: &[u8]) -> Check
+    ensures { λ r. ⌜ checkNumber reasonMissing r ≡ unless (trackDataPresent (now (bytes .entry))) reasonMissing ⌝ }
 {
     if session_record::is_track_complete(bytes) {
-        return NeededObjects::Complete;
+        return Check::Passed;
     }
-    NeededObjects::Missing
+    Check::Failed
 }
 
 // 9F36 is there.
-fn atc_present(bytes: &[u8]) -> NeededObjects
-    ensures { λ r. ⌜ neededNumber r ≡ unless (hasObject (now (bytes .entry)) 0x9F36) reasonMissing ⌝ }
+fn atc_present(bytes: &[u8]) -> Check
+    ensures { λ r. ⌜ checkNumber reasonMissing r ≡ unless (hasObject (now (bytes .entry)) 0x9F36) reasonMissing ⌝ }
 {
     if store::is_there(bytes, ROW_ATC) {
-        return NeededObjects::Complete;
+        return Check::Passed;
     }
-    NeededObjects::Missing
+    Check::Failed
 }
 
 // 82 and 94 are there.
-fn gpo_data_present(bytes: &[u8]) -> NeededObjects
-    ensures { λ r. ⌜ neededNumber r ≡ unless (aipAndAflPresent (now (bytes .entry))) reasonMissing ⌝ }
+fn gpo_data_present(bytes: &[u8]) -> Check
+    ensures { λ r. ⌜ checkNumber reasonMissing r ≡ unless (aipAndAflPresent (now (bytes .entry))) reasonMissing ⌝ }
 {
     if store::is_there(bytes, ROW_AIP) {
         if store::is_there(bytes, ROW_AFL) {
-            return NeededObjects::Complete;
+            return Check::Passed;
         }
     }
-    NeededObjects::Missing
+    Check::Failed
 }
 
 // The mode that 82 tells, against the kernel configuration.
-fn mode_in(bytes: &[u8]) -> ModeCheck
-    ensures { λ r. ⌜ modeNumber r ≡ unless (emvOrMagStripeMode (now (bytes .entry))) reasonMode ⌝ }
+fn mode_in(bytes: &[u8]) -> Check
+    ensures { λ r. ⌜ checkNumber reasonMode r ≡ unless (emvOrMagStripeMode (now (bytes .entry))) reasonMode ⌝ }
 {
     if session_record::is_either(bytes) {
-        return ModeCheck::Supported;
+        return Check::Passed;
     }
-    ModeCheck::Unsupported
+    Check::Failed
 }
 
 // The amount against a limit.
-fn limit_in(limit: u64, bytes: &[u8]) -> LimitCheck
-    ensures { λ r. ⌜ limitNumber r ≡ unless (not (aboveTransactionLimit limit (now (bytes .entry)))) reasonAboveLimit ⌝ }
+fn limit_in(limit: u64, bytes: &[u8]) -> Check
+    ensures { λ r. ⌜ checkNumber reasonAboveLimit r ≡ unless (not (aboveTransactionLimit limit (now (bytes .entry)))) reasonAboveLimit ⌝ }
 {
     if analysis::action::above_transaction_limit(bytes, limit) {
-        return LimitCheck::Above;
+        return Check::Failed;
     }
-    LimitCheck::Within
+    Check::Passed
 }
 
 // 5F24, 5A and 8C are there, none empty.
-fn card_complete(bytes: &[u8]) -> NeededObjects
-    ensures { λ r. ⌜ neededNumber r ≡ unless (cryptogramDataPresent (now (bytes .entry))) reasonMissing ⌝ }
+fn card_complete(bytes: &[u8]) -> Check
+    ensures { λ r. ⌜ checkNumber reasonMissing r ≡ unless (cryptogramDataPresent (now (bytes .entry))) reasonMissing ⌝ }
 {
     if session_record::is_complete(bytes) {
-        return NeededObjects::Complete;
+        return Check::Passed;
     }
-    NeededObjects::Missing
+    Check::Failed
 }
 
 // 9F27, 9F36 and 9F26 are there.
-fn cryptogram_present(bytes: &[u8]) -> NeededObjects
-    ensures { λ r. ⌜ neededNumber r ≡ unless (cryptogramPresent (now (bytes .entry))) reasonMissing ⌝ }
+fn cryptogram_present(bytes: &[u8]) -> Check
+    ensures { λ r. ⌜ checkNumber reasonMissing r ≡ unless (cryptogramPresent (now (bytes .entry))) reasonMissing ⌝ }
 {
     if store::is_there(bytes, ROW_CID) {
         if store::is_there(bytes, ROW_ATC) {
             if store::is_there(bytes, ROW_AC) {
-                return NeededObjects::Complete;
+                return Check::Passed;
             }
         }
     }
-    NeededObjects::Missing
+    Check::Failed
 }

@@ -1,6 +1,7 @@
 -- `session::after_gpo` meets its contract: three tests in turn, then the first record of the locator that keeps its rules, with the limit.
 -- Assumes nothing.
 use borrow.Author.Needs.{needs}
+use native.Mathlib.Omega.{arith}
 use mathlib.Core.Path.{_≡_, refl, sym, ap, _∙_}
 use mathlib.Core.Bool.{true}
 use Prim.Native.Nat.{ℕ, _+_}
@@ -11,16 +12,16 @@ use Rattle.session_record.proofs.Tags.{located-no, located-yes}
 use Rattle.session_record.specs.Ranges.{emvOrMagStripeMode}
 use Rattle.session_record.specs.Session.{commandTransition}
 use Rattle.session.specs.Answer.{recordPhase, askRecordFound, aipAndAflPresent, afterGpoRead}
-use Rattle.session.proofs.Laws.{did-as, reply-as, did-without-command, is-complete, is-missing, is-carried, is-off, found-as, found-there, gpo-missing, gpo-mode, gpo-afl, gpo-ask}
+use Rattle.session.proofs.Laws.{did-as, reply-as, did-without-command, is-passed, is-failed, found-as, found-there, gpo-missing, gpo-mode, gpo-afl, gpo-ask}
 use Rattle.session.proofs.after_gpo.Statement.{statement}
 use Rattle.session.proofs.after_gpo.Tie as tie
 
 -- what holds past the first test, and past the second
 there : (c : tie.After-enum-told) → let b = c .before .before .before .before .before .args .bytes .now in aipAndAflPresent b ≡ true
-there c = is-complete _ (c .before .before .gpo-data-present .ensures) (c .enum-told .given .1)
+there c = is-passed _ (omega arith) (c .before .before .gpo-data-present .ensures) (c .enum-told .given .1)
 
 carried : (c : tie.After-enum-told3) → emvOrMagStripeMode (c .before .before .before .before .before .before .before .before .args .bytes .now) ≡ true
-carried c = is-carried _ (c .before .before .mode-in .ensures) (c .enum-told3 .given .1)
+carried c = is-passed _ (omega arith) (c .before .before .mode-in .ensures) (c .enum-told3 .given .1)
 
 -- past all three, the first record decides
 asked : (c : tie.After-record-at) (x : RecordFound) → let a = c .before .before .before .before .before .before .before .before .before .before .before .before .before .args in c .record-at .result ≡ x
@@ -32,11 +33,11 @@ asked c x e =
     (found-as (c .record-at .ensures) e _ 1 (v .value .ensures) refl)
 
 returns : tie.Need-returns
-returns c = did-without-command _ (c .fail-session .ensures) (gpo-missing _ _ _ (is-missing _ (c .before .before .before .gpo-data-present .ensures) (c .before .enum-told2 .given .1)))
+returns c = did-without-command _ (c .fail-session .ensures) (gpo-missing _ _ _ (is-failed _ (omega arith) (c .before .before .before .gpo-data-present .ensures) (c .before .enum-told2 .given .1)))
 
 returns-2 : tie.Need-returns-2
 returns-2 c =
-    did-without-command _ (c .fail-session2 .ensures) (gpo-mode _ _ _ (there (c .before .before .before .before)) (is-off _ (c .before .before .before .mode-in .ensures) (c .before .enum-told4 .given .1)))
+    did-without-command _ (c .fail-session2 .ensures) (gpo-mode _ _ _ (there (c .before .before .before .before)) (is-failed _ (omega arith) (c .before .before .before .mode-in .ensures) (c .before .enum-told4 .given .1)))
 
 returns-3 : tie.Need-returns-3
 returns-3 c =

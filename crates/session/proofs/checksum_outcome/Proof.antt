@@ -1,22 +1,23 @@
 -- `session::checksum_outcome` meets its contract: counter and code are there or not, and each way out has its law.
 -- Assumes nothing.
 use borrow.Author.Needs.{needs}
+use native.Mathlib.Omega.{arith}
 use borrow.Author.Tests.{not-true, not-false}
 use mathlib.Core.Path.{_≡_, sym, _∙_}
 use mathlib.Core.Bool.{true}
 use Rattle.dictionary.proofs.Named.{at-9F61}
 use Rattle.store.specs.Held.{hasObject}
 use Rattle.session_record.proofs.Tags.{held-is}
-use Rattle.session.proofs.Laws.{reply-as, is-complete, is-missing, counter-missing, code-missing, digits-go-in}
+use Rattle.session.proofs.Laws.{reply-as, is-passed, is-failed, counter-missing, code-missing, digits-go-in}
 use Rattle.session.proofs.checksum_outcome.Statement.{statement}
 use Rattle.session.proofs.checksum_outcome.Tie as tie
 
 -- behind the first answer the counter is there
 counted : (c : tie.After-enum-told) → hasObject (c .before .before .before .before .before .args .store .now) 0x9F36 ≡ true
-counted c = is-complete _ (c .before .before .atc-present .ensures) (c .enum-told .given .1)
+counted c = is-passed _ (omega arith) (c .before .before .atc-present .ensures) (c .enum-told .given .1)
 
 returns : tie.Need-returns
-returns c = reply-as _ (c .fail-session .ensures) ∙ sym (counter-missing _ _ (is-missing _ (c .before .before .before .atc-present .ensures) (c .before .enum-told2 .given .1)))
+returns c = reply-as _ (c .fail-session .ensures) ∙ sym (counter-missing _ _ (is-failed _ (omega arith) (c .before .before .before .atc-present .ensures) (c .before .enum-told2 .given .1)))
 
 returns-2 : tie.Need-returns-2
 returns-2 c =

@@ -1,6 +1,7 @@
 -- `session::cryptogram_outcome` meets its contract: the objects are there, and the type that was read decides.
 -- Assumes nothing.
 use borrow.Author.Needs.{needs}
+use native.Mathlib.Omega.{arith}
 use mathlib.Core.Path.{_≡_, sym, ap, _∙_}
 use mathlib.Core.List.{List}
 use mathlib.Core.Option.{Option, some, none}
@@ -14,7 +15,7 @@ use Rattle.session_record.specs.declared.Outcome.{Outcome}
 use Rattle.session_record.specs.Session.{endingTransition, failingTransition}
 use Rattle.session.specs.Steps.{endedReply}
 use Rattle.session.specs.Answer.{cryptogramOutcome, endingFor, cryptogramEnding}
-use Rattle.session.proofs.Laws.{reply-as, is-complete, is-missing, decides-nothing, decides-on, cryptogram-missing, cryptogram-decided}
+use Rattle.session.proofs.Laws.{reply-as, is-passed, is-failed, decides-nothing, decides-on, cryptogram-missing, cryptogram-decided}
 use Rattle.session.proofs.cryptogram_outcome.Statement.{statement}
 use Rattle.session.proofs.cryptogram_outcome.Tie as tie
 
@@ -26,7 +27,7 @@ concludes c o e =
     let a = c .before .before .before .before .before .before .before .args in
     let t = c .before .before .before in
     ap (endedReply (cvmNumber (a .asked .cvm)) (a .count) (a .bytes .now))
-    (cryptogram-decided _ _ (is-complete _ (t .before .before .cryptogram-present .ensures) (t .enum-told .given .1))
+    (cryptogram-decided _ _ (is-passed _ (omega arith) (t .before .before .cryptogram-present .ensures) (t .enum-told .given .1))
     ∙ ap (λ (n : ℕ). endingFor (cryptogramOutcome (a .asked .choice) (n / 64)))
     (sym (c .before .byte-at .ensures ∙ ap (λ (v : List ℕ). getD v 0 0) (c .before .before .value .ensures ∙ bytes-are _ _ _ at-9F27)))
     ∙ ap endingFor e)
@@ -35,7 +36,7 @@ returns : tie.Need-returns
 returns c =
     let a = c .before .before .before .before .before .before .args in
     reply-as _ (c .fail-session .ensures ∙ ap (λ (m : ℕ). failingTransition m (a .count) reasonMissing) (c .before .held-cvm .ensures))
-    ∙ ap (endedReply (cvmNumber (a .asked .cvm)) (a .count) (a .bytes .now)) (sym (cryptogram-missing (a .asked) _ (is-missing _ (c .before .before .before .before .cryptogram-present .ensures) (c .before .before .enum-told2 .given .1))))
+    ∙ ap (endedReply (cvmNumber (a .asked .cvm)) (a .count) (a .bytes .now)) (sym (cryptogram-missing (a .asked) _ (is-failed _ (omega arith) (c .before .before .before .before .cryptogram-present .ensures) (c .before .before .enum-told2 .given .1))))
 
 returns-2 : tie.Need-returns-2
 returns-2 c =

@@ -1,10 +1,11 @@
 -- `session::emv_mode_analysis` meets its contract: two tests in turn, each the law of its way out.
 -- Assumes nothing.
 use borrow.Author.Needs.{needs}
+use native.Mathlib.Omega.{arith}
 use mathlib.Core.Path.{_≡_}
 use mathlib.Core.Bool.{false}
 use Rattle.analysis.specs.Action.{aboveTransactionLimit}
-use Rattle.session.proofs.Laws.{did-as, did-without-command, is-complete, is-missing, is-above, is-within, records-limit, records-missing, records-analysed}
+use Rattle.session.proofs.Laws.{did-as, did-without-command, is-passed, is-failed, is-above, is-within, records-limit, records-missing, records-analysed}
 use Rattle.session.proofs.emv_mode_analysis.Statement.{statement}
 use Rattle.session.proofs.emv_mode_analysis.Tie as tie
 
@@ -22,13 +23,13 @@ returns-2 c =
     let k = c .before .before .before in
     let a = k .before .before .before .before .before .before .before .before .args in
     did-without-command _ (c .fail-session2 .ensures)
-    (records-missing (a .count) (a .store .now) _ (a .limit) (within (k .before .before)) (is-missing _ (k .card-complete .ensures) (c .before .enum-told4 .given .1)))
+    (records-missing (a .count) (a .store .now) _ (a .limit) (within (k .before .before)) (is-failed _ (omega arith) (k .card-complete .ensures) (c .before .enum-told4 .given .1)))
 
 returns-3 : tie.Need-returns-3
 returns-3 c =
     let k = c .before .before .before .before .before .before .before .before .before in
     let a = k .before .before .before .before .before .before .before .before .args in
-    did-as (records-analysed (a .count) (a .store .now) _ (a .limit) (within (k .before .before)) (is-complete _ (k .card-complete .ensures) (c .before .before .before .before .before .before .before .enum-told3 .given .1)))
+    did-as (records-analysed (a .count) (a .store .now) _ (a .limit) (within (k .before .before)) (is-passed _ (omega arith) (k .card-complete .ensures) (c .before .before .before .before .before .before .before .enum-told3 .given .1)))
     (c .before .before .before .before .analyse .ensures)
 
 pub emv-mode-analysis-spec : {M : Type 1} → statement M

@@ -1,6 +1,7 @@
 -- `session::take_checksum` meets its contract: a track that cannot take the digits apart, the reading is accepted or not, and each has its law.
 -- Assumes nothing.
 use borrow.Author.Needs.{needs}
+use native.Mathlib.Omega.{arith}
 use mathlib.Core.Path.{_≡_, sym, ap, _∙_}
 use mathlib.Core.Bool.{true}
 use Prim.Native.Nat.{ℕ}
@@ -9,16 +10,16 @@ use Rattle.analysis.specs.Cvm.{cvmNotApplicable}
 use Rattle.session_record.specs.Session.{failingTransition}
 use Rattle.session.specs.Steps.{endedReply, endingBy}
 use Rattle.session.specs.MagStripe.{trackCanTakeDigits, checksumOutcomeOf, checksumReply}
-use Rattle.session.proofs.Laws.{reply-as, read-yes, read-no, is-sound, is-unsound, taken-sound}
+use Rattle.session.proofs.Laws.{reply-as, read-yes, read-no, is-passed, is-failed, taken-sound}
 use Rattle.session.proofs.take_checksum.Statement.{statement}
 use Rattle.session.proofs.take_checksum.Tie as tie
 
 -- past the test the stored track can take the digits
 sound : (c : tie.After-enum-told) → trackCanTakeDigits (c .before .before .before .before .before .before .args .store .now) ≡ true
-sound c = is-sound _ (c .before .before .track-in .ensures) (c .enum-told .given .1)
+sound c = is-passed _ (omega arith) (c .before .before .track-in .ensures) (c .enum-told .given .1)
 
 refuse-track-requires : tie.Need-refuse-track-requires
-refuse-track-requires c κs = (search needs, is-unsound _ (c .before .before .before .track-in .ensures) (c .before .enum-told2 .given .1))
+refuse-track-requires c κs = (search needs, is-failed _ (omega arith) (c .before .before .before .track-in .ensures) (c .before .enum-told2 .given .1))
 
 returns : tie.Need-returns
 returns c = c .refuse-track .ensures
