@@ -62,56 +62,127 @@ cvmAmountY list = bigEndian (firstBytes 4 (drop 4 list))
 
 -- ---- a rule's code
 
+-- the codes of the CVMs (Book 3, Annex C3): fail, plaintext PIN, online PIN, plaintext PIN and signature, enciphered PIN,
+-- enciphered PIN and signature, signature, no CVM
+abbrev pub cvmFail : ℕ
+cvmFail = 0x00
+
+abbrev pub cvmPlaintextPin : ℕ
+cvmPlaintextPin = 0x01
+
+abbrev pub cvmOnlinePin : ℕ
+cvmOnlinePin = 0x02
+
+abbrev pub cvmPlaintextPinAndSignature : ℕ
+cvmPlaintextPinAndSignature = 0x03
+
+abbrev pub cvmEncipheredPin : ℕ
+cvmEncipheredPin = 0x04
+
+abbrev pub cvmEncipheredPinAndSignature : ℕ
+cvmEncipheredPinAndSignature = 0x05
+
+abbrev pub cvmSignature : ℕ
+cvmSignature = 0x1E
+
+abbrev pub cvmNoCvm : ℕ
+cvmNoCvm = 0x1F
+
 -- the method: b6 to b1; b7 says that the next rule applies where this one is unsuccessful, b8 is reserved
 abbrev pub cvmCode : ℕ → ℕ
 cvmCode code = code % 64
 
 -- CVM.15: fail, the offline PINs and the online one, signature and no CVM are recognised
 unfoldable pub cvmRecognised : ℕ → Bool
-cvmRecognised code = cvmCode code ≤? 5 or isOneOf (cvmCode code) 0x1E 0x1F
+cvmRecognised code = cvmCode code ≤? cvmEncipheredPinAndSignature or isOneOf (cvmCode code) cvmSignature cvmNoCvm
 
 -- CVM.17: by byte 2 of the terminal capabilities 9F33: b8 plaintext PIN, b7 online PIN, b6 signature, b5 enciphered
 -- PIN, b4 no CVM; of a combination both are needed; to fail is always supported
 unfoldable pub cvmSupported : ℕ → ℕ → Bool
 cvmSupported capabilities code =
-    if cvmCode code =? 0x00 then true
-    else if cvmCode code =? 0x01 then byteBit capabilities 8
-    else if cvmCode code =? 0x02 then byteBit capabilities 7
-    else if cvmCode code =? 0x03 then byteBit capabilities 8 and byteBit capabilities 6
-    else if cvmCode code =? 0x04 then byteBit capabilities 5
-    else if cvmCode code =? 0x05 then byteBit capabilities 5 and byteBit capabilities 6
-    else if cvmCode code =? 0x1E then byteBit capabilities 6
-    else if cvmCode code =? 0x1F then byteBit capabilities 4
+    if cvmCode code =? cvmFail then true
+    else if cvmCode code =? cvmPlaintextPin then byteBit capabilities 8
+    else if cvmCode code =? cvmOnlinePin then byteBit capabilities 7
+    else if cvmCode code =? cvmPlaintextPinAndSignature then byteBit capabilities 8 and byteBit capabilities 6
+    else if cvmCode code =? cvmEncipheredPin then byteBit capabilities 5
+    else if cvmCode code =? cvmEncipheredPinAndSignature then byteBit capabilities 5 and byteBit capabilities 6
+    else if cvmCode code =? cvmSignature then byteBit capabilities 6
+    else if cvmCode code =? cvmNoCvm then byteBit capabilities 4
     else false
 
 -- CVM.17: a supported method other than fail is taken
 abbrev pub cvmPerformed : ℕ → ℕ → Bool
-cvmPerformed capabilities code = cvmSupported capabilities code and not (cvmCode code =? 0)
+cvmPerformed capabilities code = cvmSupported capabilities code and not (cvmCode code =? cvmFail)
 
 -- ---- a rule's condition (CVM.10 to CVM.12): understood, with its data, and true
+
+-- the codes of the conditions: always; unattended cash; neither cash nor cashback; the CVM supported; manual cash;
+-- cashback; the amount under X, over X, under Y, over Y
+abbrev pub always : ℕ
+always = 0
+
+abbrev pub unattendedCash : ℕ
+unattendedCash = 1
+
+abbrev pub notCash : ℕ
+notCash = 2
+
+abbrev pub cvmIsSupported : ℕ
+cvmIsSupported = 3
+
+abbrev pub manualCash : ℕ
+manualCash = 4
+
+abbrev pub purchaseWithCashback : ℕ
+purchaseWithCashback = 5
+
+abbrev pub underX : ℕ
+underX = 6
+
+abbrev pub overX : ℕ
+overX = 7
+
+abbrev pub underY : ℕ
+underY = 8
+
+abbrev pub overY : ℕ
+overY = 9
 
 -- under and over X and Y; an equal amount is neither
 unfoldable pub cvmAmountMet : CvmConditions → ℕ → Bool
 cvmAmountMet t condition =
-    if condition =? 6 then t .amount <? t .x
-    else if condition =? 7 then t .x <? t .amount
-    else if condition =? 8 then t .amount <? t .y
-    else if condition =? 9 then t .y <? t .amount
+    if condition =? underX then t .amount <? t .x
+    else if condition =? overX then t .x <? t .amount
+    else if condition =? underY then t .amount <? t .y
+    else if condition =? overY then t .y <? t .amount
     else false
 
 -- always; cash at an ATM; neither cash nor cashback; the method supported; cash elsewhere; cashback; the amount, in the
 -- application's currency
 unfoldable pub cvmConditionMet : CvmConditions → ℕ → ℕ → Bool
 cvmConditionMet t code condition =
-    if condition =? 0 then true
-    else if condition =? 1 then t .cash and t .atm
-    else if condition =? 2 then not (t .cash) and not (t .cashback)
-    else if condition =? 3 then cvmSupported (t .capabilities) code
-    else if condition =? 4 then t .cash and not (t .atm)
-    else if condition =? 5 then t .cashback
+    if condition =? always then true
+    else if condition =? unattendedCash then t .cash and t .atm
+    else if condition =? notCash then not (t .cash) and not (t .cashback)
+    else if condition =? cvmIsSupported then cvmSupported (t .capabilities) code
+    else if condition =? manualCash then t .cash and not (t .atm)
+    else if condition =? purchaseWithCashback then t .cashback
     else t .currency and cvmAmountMet t condition
 
 -- ---- what comes of it
+
+-- CVM Results: byte 1 where no CVM was performed, and the results of byte 3: unknown, failed, successful
+abbrev pub codeNotPerformed : ℕ
+codeNotPerformed = 0x3F
+
+abbrev pub resultUnknown : ℕ
+resultUnknown = 0
+
+abbrev pub resultFailed : ℕ
+resultFailed = 1
+
+abbrev pub resultSuccessful : ℕ
+resultSuccessful = 2
 
 -- byte 3 of 95: verification not successful b8, unrecognised method b7, online PIN entered b3
 abbrev pub tvrByte3 : Bool → Bool → Bool → ℕ
@@ -124,19 +195,19 @@ cvmResult c d r bits m = record { code = c; condition = d; result = r; tvr1 = 0;
 -- CVM.18: a supported method is taken; the result of no CVM is successful (02), of the others unknown (00)
 unfoldable pub cvmSuccessful : ℕ → ℕ → Bool → CvmResult
 cvmSuccessful code condition unrecognised =
-    if cvmCode code =? 0x02 then cvmResult code condition 0 (tvrByte3 false unrecognised true) OnlinePin
-    else if cvmCode code =? 0x1E then cvmResult code condition 0 (tvrByte3 false unrecognised false) Signature
-    else if cvmCode code =? 0x1F then cvmResult code condition 2 (tvrByte3 false unrecognised false) NoCvm
-    else cvmResult code condition 0 (tvrByte3 false unrecognised false) OfflinePin
+    if cvmCode code =? cvmOnlinePin then cvmResult code condition resultUnknown (tvrByte3 false unrecognised true) OnlinePin
+    else if cvmCode code =? cvmSignature then cvmResult code condition resultUnknown (tvrByte3 false unrecognised false) Signature
+    else if cvmCode code =? cvmNoCvm then cvmResult code condition resultSuccessful (tvrByte3 false unrecognised false) NoCvm
+    else cvmResult code condition resultUnknown (tvrByte3 false unrecognised false) OfflinePin
 
 -- CVM.14 and CVM.25: no rule is left, or an unsuccessful one, other than fail, ends the list
 abbrev pub noCvmPerformed : Bool → CvmResult
-noCvmPerformed unrecognised = cvmResult 0x3F 0 1 (tvrByte3 true unrecognised false) NoCvm
+noCvmPerformed unrecognised = cvmResult codeNotPerformed always resultFailed (tvrByte3 true unrecognised false) NoCvm
 
 -- CVM.22 to CVM.25: fail keeps its code and condition
 unfoldable pub cvmUnsuccessful : ℕ → ℕ → Bool → CvmResult
 cvmUnsuccessful code condition unrecognised =
-    if cvmCode code =? 0 then cvmResult code condition 1 (tvrByte3 true unrecognised false) NoCvm
+    if cvmCode code =? cvmFail then cvmResult code condition resultFailed (tvrByte3 true unrecognised false) NoCvm
     else noCvmPerformed unrecognised
 
 -- CVM.19, CVM.20: the next rule follows an unsuccessful one with b7 where there is one
@@ -155,7 +226,7 @@ byCvmRules t u (r ∷ rs) =
 
 -- CVM.6 and CVM.8: no CVM, of which nothing is known; a list that is missing is byte 1 b6 of 95
 abbrev pub cvmNotPerformed : Bool → CvmResult
-cvmNotPerformed missing = record { code = 0x3F; condition = 0; result = 0; tvr1 = bitWeight 6 missing; tvr3 = 0; cvm = NoCvm }
+cvmNotPerformed missing = record { code = codeNotPerformed; condition = always; result = resultUnknown; tvr1 = bitWeight 6 missing; tvr3 = 0; cvm = NoCvm }
 
 -- CVM.7: by the list, where there is one; an empty one counts as missing
 abbrev pub byCvmList : StoredValue → CvmConditions → CvmResult
@@ -179,8 +250,8 @@ onDeviceCvm aip configuration = byteBit aip 2 and byteBit configuration 6
 -- either is successful, and adds no bit to 95
 unfoldable pub onDeviceResult : Bool → CvmResult
 onDeviceResult above =
-    if above then cvmResult 0x01 0 2 0 ConfirmationCode
-    else cvmResult 0x3F 0 2 0 NoCvm
+    if above then cvmResult cvmPlaintextPin always resultSuccessful 0 ConfirmationCode
+    else cvmResult codeNotPerformed always resultSuccessful 0 NoCvm
 
 -- ---- where it is stored
 

@@ -40,6 +40,34 @@ pub struct CvmResult {
     pub cvm: Cvm,
 }
 
+// The codes of the CVMs, b6 to b1 of a rule's first byte (Book C-2, Annex A; Book 3, Annex C3).
+const CVM_FAIL: u8 = 0x00;
+const CVM_PLAINTEXT_PIN: u8 = 0x01;
+const CVM_ONLINE_PIN: u8 = 0x02;
+const CVM_PLAINTEXT_PIN_AND_SIGNATURE: u8 = 0x03;
+const CVM_ENCIPHERED_PIN: u8 = 0x04;
+const CVM_ENCIPHERED_PIN_AND_SIGNATURE: u8 = 0x05;
+const CVM_SIGNATURE: u8 = 0x1E;
+const CVM_NO_CVM: u8 = 0x1F;
+
+// The codes of the conditions, a rule's second byte.
+const ALWAYS: u8 = 0;
+const UNATTENDED_CASH: u8 = 1;
+const NOT_CASH: u8 = 2;
+const CVM_SUPPORTED: u8 = 3;
+const MANUAL_CASH: u8 = 4;
+const CASHBACK: u8 = 5;
+const UNDER_X: u8 = 6;
+const OVER_X: u8 = 7;
+const UNDER_Y: u8 = 8;
+const OVER_Y: u8 = 9;
+
+// CVM Results: byte 1 where no CVM was performed, and the results of byte 3.
+const CODE_NOT_PERFORMED: u8 = 0x3F;
+const RESULT_UNKNOWN: u8 = 0;
+const RESULT_FAILED: u8 = 1;
+const RESULT_SUCCESSFUL: u8 = 2;
+
 // The number in the outcome where no method was chosen.
 pub const NOT_APPLICABLE: u8 = 15;
 
@@ -87,9 +115,9 @@ pub fn on_device_cvm(above: bool) -> CvmResult
     ensures { λ r. ⌜ r ≡ onDeviceResult above ⌝ }
 {
     if above {
-        return CvmResult { code: 0x01, condition: 0, result: 2, tvr1: 0, tvr3: 0, cvm: Cvm::ConfirmationCode };
+        return CvmResult { code: CVM_PLAINTEXT_PIN, condition: ALWAYS, result: RESULT_SUCCESSFUL, tvr1: 0, tvr3: 0, cvm: Cvm::ConfirmationCode };
     }
-    CvmResult { code: 0x3F, condition: 0, result: 2, tvr1: 0, tvr3: 0, cvm: Cvm::NoCvm }
+    CvmResult { code: CODE_NOT_PERFORMED, condition: ALWAYS, result: RESULT_SUCCESSFUL, tvr1: 0, tvr3: 0, cvm: Cvm::NoCvm }
 }
 
 // Nothing is asked of the cardholder, since the card knows no verification or its list is missing.
@@ -97,7 +125,7 @@ fn cvm_not_performed(missing: bool) -> CvmResult
     ensures { λ r. ⌜ r ≡ cvmNotPerformed missing ⌝ }
 {
     let tvr1 = byte::bit_weight(missing, 0x20);
-    CvmResult { code: 0x3F, condition: 0, result: 0, tvr1, tvr3: 0, cvm: Cvm::NoCvm }
+    CvmResult { code: CODE_NOT_PERFORMED, condition: ALWAYS, result: RESULT_UNKNOWN, tvr1, tvr3: 0, cvm: Cvm::NoCvm }
 }
 
 // Rule after rule, each of two bytes.
@@ -138,12 +166,12 @@ fn cvm_condition_met(terms: CvmConditions, code: u8, condition: u8) -> bool
     ensures { λ r. ⌜ r ≡ isMet terms code condition ⌝ }
 {
     match condition {
-        0 => true,
-        1 => terms.cash & terms.atm,
-        2 => !terms.cash & !terms.cashback,
-        3 => cvm_supported(terms.capabilities, code),
-        4 => terms.cash & !terms.atm,
-        5 => terms.cashback,
+        ALWAYS => true,
+        UNATTENDED_CASH => terms.cash & terms.atm,
+        NOT_CASH => !terms.cash & !terms.cashback,
+        CVM_SUPPORTED => cvm_supported(terms.capabilities, code),
+        MANUAL_CASH => terms.cash & !terms.atm,
+        CASHBACK => terms.cashback,
         _ => terms.currency & cvm_amount_met(terms, condition),
     }
 }
@@ -153,10 +181,10 @@ fn cvm_amount_met(terms: CvmConditions, condition: u8) -> bool
     ensures { λ r. ⌜ r ≡ cvmAmountMet terms condition ⌝ }
 {
     match condition {
-        6 => terms.amount < terms.x,
-        7 => terms.x < terms.amount,
-        8 => terms.amount < terms.y,
-        9 => terms.y < terms.amount,
+        UNDER_X => terms.amount < terms.x,
+        OVER_X => terms.x < terms.amount,
+        UNDER_Y => terms.amount < terms.y,
+        OVER_Y => terms.y < terms.amount,
         _ => false,
     }
 }
@@ -167,14 +195,14 @@ fn cvm_supported(capabilities: u8, code: u8) -> bool
 {
     let cvm = code % 64;
     match cvm {
-        0x00 => true,
-        0x01 => byte::bit(capabilities, 8),
-        0x02 => byte::bit(capabilities, 7),
-        0x03 => byte::bit(capabilities, 8) & byte::bit(capabilities, 6),
-        0x04 => byte::bit(capabilities, 5),
-        0x05 => byte::bit(capabilities, 5) & byte::bit(capabilities, 6),
-        0x1E => byte::bit(capabilities, 6),
-        0x1F => byte::bit(capabilities, 4),
+        CVM_FAIL => true,
+        CVM_PLAINTEXT_PIN => byte::bit(capabilities, 8),
+        CVM_ONLINE_PIN => byte::bit(capabilities, 7),
+        CVM_PLAINTEXT_PIN_AND_SIGNATURE => byte::bit(capabilities, 8) & byte::bit(capabilities, 6),
+        CVM_ENCIPHERED_PIN => byte::bit(capabilities, 5),
+        CVM_ENCIPHERED_PIN_AND_SIGNATURE => byte::bit(capabilities, 5) & byte::bit(capabilities, 6),
+        CVM_SIGNATURE => byte::bit(capabilities, 6),
+        CVM_NO_CVM => byte::bit(capabilities, 4),
         _ => false,
     }
 }
@@ -183,7 +211,7 @@ fn cvm_supported(capabilities: u8, code: u8) -> bool
 fn cvm_performed(capabilities: u8, code: u8) -> bool
     ensures { λ r. ⌜ r ≡ cvmPerformed capabilities code ⌝ }
 {
-    cvm_supported(capabilities, code) & (code % 64 != 0)
+    cvm_supported(capabilities, code) & (code % 64 != CVM_FAIL)
 }
 
 // A method of the Books' table.
@@ -191,7 +219,7 @@ fn cvm_recognised(code: u8) -> bool
     ensures { λ r. ⌜ r ≡ isRecognised code ⌝ }
 {
     let cvm = code % 64;
-    (cvm <= 5) | ((cvm == 0x1E) | (cvm == 0x1F))
+    (cvm <= CVM_ENCIPHERED_PIN_AND_SIGNATURE) | ((cvm == CVM_SIGNATURE) | (cvm == CVM_NO_CVM))
 }
 
 // The method of a code is taken.
@@ -201,10 +229,10 @@ fn cvm_successful(code: u8, condition: u8, unrecognised: bool) -> CvmResult
     let cvm = code % 64;
     let bits = byte::bit_weight(unrecognised, 0x40);
     match cvm {
-        0x02 => CvmResult { code, condition, result: 0, tvr1: 0, tvr3: bits + 0x04, cvm: Cvm::OnlinePin },
-        0x1E => CvmResult { code, condition, result: 0, tvr1: 0, tvr3: bits, cvm: Cvm::Signature },
-        0x1F => CvmResult { code, condition, result: 2, tvr1: 0, tvr3: bits, cvm: Cvm::NoCvm },
-        _ => CvmResult { code, condition, result: 0, tvr1: 0, tvr3: bits, cvm: Cvm::OfflinePin },
+        CVM_ONLINE_PIN => CvmResult { code, condition, result: RESULT_UNKNOWN, tvr1: 0, tvr3: bits + 0x04, cvm: Cvm::OnlinePin },
+        CVM_SIGNATURE => CvmResult { code, condition, result: RESULT_UNKNOWN, tvr1: 0, tvr3: bits, cvm: Cvm::Signature },
+        CVM_NO_CVM => CvmResult { code, condition, result: RESULT_SUCCESSFUL, tvr1: 0, tvr3: bits, cvm: Cvm::NoCvm },
+        _ => CvmResult { code, condition, result: RESULT_UNKNOWN, tvr1: 0, tvr3: bits, cvm: Cvm::OfflinePin },
     }
 }
 
@@ -212,9 +240,9 @@ fn cvm_successful(code: u8, condition: u8, unrecognised: bool) -> CvmResult
 fn cvm_unsuccessful(code: u8, condition: u8, unrecognised: bool) -> CvmResult
     ensures { λ r. ⌜ r ≡ unsuccessfulBy code condition unrecognised ⌝ }
 {
-    if code % 64 == 0 {
+    if code % 64 == CVM_FAIL {
         let tvr3 = 0x80 + byte::bit_weight(unrecognised, 0x40);
-        return CvmResult { code, condition, result: 1, tvr1: 0, tvr3, cvm: Cvm::NoCvm };
+        return CvmResult { code, condition, result: RESULT_FAILED, tvr1: 0, tvr3, cvm: Cvm::NoCvm };
     }
     no_cvm_performed(unrecognised)
 }
@@ -224,5 +252,5 @@ fn no_cvm_performed(unrecognised: bool) -> CvmResult
     ensures { λ r. ⌜ r ≡ noCvmPerformed unrecognised ⌝ }
 {
     let tvr3 = 0x80 + byte::bit_weight(unrecognised, 0x40);
-    CvmResult { code: 0x3F, condition: 0, result: 1, tvr1: 0, tvr3, cvm: Cvm::NoCvm }
+    CvmResult { code: CODE_NOT_PERFORMED, condition: ALWAYS, result: RESULT_FAILED, tvr1: 0, tvr3, cvm: Cvm::NoCvm }
 }

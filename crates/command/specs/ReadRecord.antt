@@ -9,9 +9,16 @@ use Rattle.basics.specs.Choice.{if_then_else_, _and_, _≤?_, _<?_}
 use Rattle.basics.specs.Front.{withPrefix}
 use Rattle.afl.specs.declared.CardRecord.{CardRecord}
 
+-- the class byte of the commands that all industries share, and the instruction byte of READ RECORD
+abbrev pub claInterindustry : ℕ
+claInterindustry = 0x00
+
+abbrev pub insReadRecord : ℕ
+insReadRecord = 0xB2
+
 -- the command's five bytes: 00 B2, the record number, the file number x 8 + 4, 00
 abbrev pub readRecordCommand : CardRecord → List ℕ
-readRecordCommand r = 0 ∷ 0xB2 ∷ r .number ∷ (r .sfi * 8 + 4) ∷ 0 ∷ []
+readRecordCommand r = claInterindustry ∷ insReadRecord ∷ r .number ∷ (r .sfi * 8 + 4) ∷ 0 ∷ []
 
 -- what stands after writing a command: how long it is, and the whole buffer
 pub record CommandWritten : Type 0 where

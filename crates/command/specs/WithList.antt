@@ -15,9 +15,45 @@ use Rattle.command.specs.declared.DolCommand.{DolCommand}
 use Rattle.command.specs.declared.DolCommand.the-variants.{Command, NoCommand}
 use Rattle.dol.specs.Filling.{dolFilled}
 
--- a command of class 80: instruction, P1, P2, Lc, data, Le of 00
+-- ---- the bytes of a command's header (Book C-2, 5.2, 5.4 and 5.5)
+
+-- the class byte of the payment application's own commands
+abbrev pub claProprietary : ℕ
+claProprietary = 0x80
+
+-- the instruction bytes of GET PROCESSING OPTIONS, GENERATE AC and COMPUTE CRYPTOGRAPHIC CHECKSUM
+abbrev pub insGpo : ℕ
+insGpo = 0xA8
+
+abbrev pub insGenerateAc : ℕ
+insGenerateAc = 0xAE
+
+abbrev pub insComputeChecksum : ℕ
+insComputeChecksum = 0x2A
+
+-- P1 and P2 of COMPUTE CRYPTOGRAPHIC CHECKSUM
+abbrev pub p1ComputeChecksum : ℕ
+p1ComputeChecksum = 0x8E
+
+abbrev pub p2ComputeChecksum : ℕ
+p2ComputeChecksum = 0x80
+
+-- the tag of the command template, which the filled PDOL stands in
+abbrev pub commandTemplate : ℕ
+commandTemplate = 0x83
+
+-- the most bytes that a command carries, and the most of a filled PDOL: tag and length of its template take three
+abbrev pub mostData : ℕ
+mostData = 255
+
+abbrev pub mostPdolBytes : ℕ
+mostPdolBytes = 252
+
+-- ---- a command that carries data
+
+-- class 80, instruction, P1, P2, Lc, data, Le of 00
 abbrev pub commandWith : ℕ → ℕ → ℕ → List ℕ → List ℕ
-commandWith ins p1 p2 body = 0x80 ∷ ins ∷ p1 ∷ p2 ∷ length body ∷ (body ++ (0 ∷ []))
+commandWith ins p1 p2 body = claProprietary ∷ ins ∷ p1 ∷ p2 ∷ length body ∷ (body ++ (0 ∷ []))
 
 -- one of P2 00
 abbrev pub commandP2Zero : ℕ → ℕ → List ℕ → List ℕ
@@ -27,7 +63,7 @@ commandP2Zero ins p1 body = commandWith ins p1 0 body
 
 -- tag 83, and the length in one byte to 127, in 81 and a byte above
 abbrev pub gpoDataHead : ℕ → List ℕ
-gpoDataHead n = 0x83 ∷ lengthBytes n
+gpoDataHead n = commandTemplate ∷ lengthBytes n
 
 -- then the filled list
 abbrev pub gpoData : List ℕ → List ℕ
@@ -37,7 +73,7 @@ gpoData v = gpoDataHead (length v) ++ v
 unfoldable pub gpoCommandOf : Option (List ℕ) → Option (List ℕ)
 gpoCommandOf none = none
 gpoCommandOf (some v) =
-    if length v ≤? 252 then some (commandP2Zero 0xA8 0 (gpoData v))
+    if length v ≤? mostPdolBytes then some (commandP2Zero insGpo 0 (gpoData v))
     else none
 
 -- the command that a store gives; an absent 9F38 counts as an empty one
@@ -50,7 +86,7 @@ getProcessingOptions store = gpoCommandOf (dolFilled dictionaryRows store (bytes
 unfoldable pub generateAcOf : ℕ → Option (List ℕ) → Option (List ℕ)
 generateAcOf p1 none = none
 generateAcOf p1 (some v) =
-    if 1 ≤? length v and length v ≤? 255 then some (commandP2Zero 0xAE p1 v)
+    if 1 ≤? length v and length v ≤? mostData then some (commandP2Zero insGenerateAc p1 v)
     else none
 
 -- the command that a store gives, with the type asked for in P1
@@ -68,7 +104,8 @@ udolOrDefault (x ∷ l) = x ∷ l
 unfoldable pub checksumCommandOf : Option (List ℕ) → Option (List ℕ)
 checksumCommandOf none = none
 checksumCommandOf (some v) =
-    if 1 ≤? length v and length v ≤? 255 then some (commandWith 0x2A 0x8E 0x80 v)
+    if 1 ≤? length v and length v ≤? mostData then
+      some (commandWith insComputeChecksum p1ComputeChecksum p2ComputeChecksum v)
     else none
 
 -- the command with a list filled from a store

@@ -2,14 +2,31 @@
 //
 // Those that carry a filled list measure it first, so that a buffer is touched only where a command is handed out. The bytes
 // behind the command stay.
-use afl::CardRecord;
 use dol::DolTotal;
+use afl::CardRecord;
 ghost use mathlib.Core.Path.{_≡_};
 ghost use Prim.Native.Nat.{_+_, _-_, _≤_, _<_};
 ghost use lib.ListN.{length, take, drop};
 ghost use Rattle.dol.specs.Measure.{writtenOver};
 ghost use Rattle.command.specs.WithList.{commandWith, gpoDataHead, getProcessingOptions, generateAc, checksumCommandWith, computeCryptographicChecksum, commandOfLength, dolCommandOf, dolCommandReason, dolReason, bufferWithCommand};
 ghost use Rattle.command.specs.ReadRecord.{WroteReadRecord, readRecordWritten};
+
+// Class bytes, instruction bytes and parameters (Book C-2, 5.2, 5.4, 5.5 and 5.8). P2 of READ RECORD is the SFI times 8, and 4.
+const CLA_INTERINDUSTRY: u8 = 0x00;
+const CLA_PROPRIETARY: u8 = 0x80;
+const INS_READ_RECORD: u8 = 0xB2;
+const INS_GET_PROCESSING_GPO: u8 = 0xA8;
+const INS_GENERATE_AC: u8 = 0xAE;
+const INS_COMPUTE_CHECKSUM: u8 = 0x2A;
+const P1_COMPUTE_CHECKSUM: u8 = 0x8E;
+const P2_COMPUTE_CHECKSUM: u8 = 0x80;
+const P2_ZERO: u8 = 0x00;
+
+// The tag of the command template, which the filled PDOL stands in.
+const COMMAND_TEMPLATE: u8 = 0x83;
+
+// The most bytes of a filled PDOL: with tag and length they are the 255 that a command carries.
+const MOST_PDOL_BYTES: usize = 252;
 
 // A command at the front of the buffer: how many bytes it has.
 pub struct DolCommandSize {
@@ -34,12 +51,12 @@ pub fn get_processing_options(store: &[u8], buffer: &mut [u8]) -> DolCommand
     let DolTotal::Total(n) = measured else {
         return DolCommand::NoCommand;
     };
-    if 252 < n {
+    if MOST_PDOL_BYTES < n {
         return DolCommand::NoCommand;
     }
     let at = gpo_head(n, buffer);
     dol::fill(list, store, buffer, at);
-    close(0xA8, 0, 0, buffer, at + n)
+    close(INS_GET_PROCESSING_GPO, 0, P2_ZERO, buffer, at + n)
 }
 
 // The command generate AC, with the filled list 8C that the store holds; P1 says which cryptogram.
@@ -58,7 +75,7 @@ pub fn generate_ac(store: &[u8], p1: u8, buffer: &mut [u8]) -> DolCommand
         return DolCommand::NoCommand;
     }
     dol::fill(list, store, buffer, 5);
-    close(0xAE, p1, 0, buffer, 5 + n)
+    close(INS_GENERATE_AC, p1, P2_ZERO, buffer, 5 + n)
 }
 
 // The command compute cryptographic checksum, with the filled list 9F69 that the store holds; where it is absent or
@@ -92,7 +109,7 @@ fn checksum_with(list: &[u8], store: &[u8], buffer: &mut [u8]) -> DolCommand
         return DolCommand::NoCommand;
     }
     dol::fill(list, store, buffer, 5);
-    close(0x2A, 0x8E, 0x80, buffer, 5 + n)
+    close(INS_COMPUTE_CHECKSUM, P1_COMPUTE_CHECKSUM, P2_COMPUTE_CHECKSUM, buffer, 5 + n)
 }
 
 // Writes the tag 83 and the length of n filled bytes at place 5; the place behind them.
@@ -101,7 +118,7 @@ fn gpo_head(n: usize, buffer: &mut [u8]) -> usize
     ensures next { λ r. ⌜ r ≡ 5 + length (gpoDataHead n) ⌝ }
     ensures kept { λ _. ⌜ now (buffer .exit) ≡ writtenOver (now (buffer .entry)) 5 (gpoDataHead n) ⌝ }
 {
-    buffer[5] = 0x83;
+    buffer[5] = COMMAND_TEMPLATE;
     if n < 128 {
         buffer[6] = n as u8;
         return 7;
@@ -117,7 +134,7 @@ fn close(ins: u8, p1: u8, p2: u8, buffer: &mut [u8], end: usize) -> DolCommand
     ensures said { λ r. ⌜ r ≡ commandOfLength (end + 1) ⌝ }
     ensures kept { λ _. ⌜ now (buffer .exit) ≡ writtenOver (now (buffer .entry)) 0 (commandWith ins p1 p2 (take (end - 5) (drop 5 (now (buffer .entry))))) ⌝ }
 {
-    buffer[0] = 0x80;
+    buffer[0] = CLA_PROPRIETARY;
     buffer[1] = ins;
     buffer[2] = p1;
     buffer[3] = p2;
@@ -137,8 +154,8 @@ pub fn read_record(wanted: CardRecord, command: &mut [u8]) -> usize
     if 32 <= wanted.sfi {
         return 0;
     }
-    command[0] = 0x00;
-    command[1] = 0xB2;
+    command[0] = CLA_INTERINDUSTRY;
+    command[1] = INS_READ_RECORD;
     command[2] = wanted.number;
     command[3] = wanted.sfi * 8 + 4;
     command[4] = 0x00;

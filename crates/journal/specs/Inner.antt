@@ -15,8 +15,12 @@ use Rattle.journal.specs.declared.JournalVerdict.{JournalVerdict}
 use Rattle.journal.specs.declared.CheckState.{CheckState}
 use Rattle.journal.specs.declared.JournalChecker.{JournalChecker}
 use Rattle.journal.specs.declared.ExpectedRecord.{ExpectedRecord}
-use Rattle.journal.specs.Record.{twoByteLength, zeroPadded}
+use Rattle.journal.specs.Record.{twoByteLength, zeroPadded, startRecordSize, commandRecordSize}
 use Rattle.journal.specs.Verdict.{ExpectedNext, expectedNext, expectedAtStart, recordJudged, firstRecordSize}
+
+-- more records than this no session has: 131 calls and their replies
+abbrev pub mostJournalRecords : ℕ
+mostJournalRecords = 1000
 
 -- ---- what is due
 
@@ -32,7 +36,7 @@ expectedIn s = expectedNext (s .session) (take (s .size) (s .due))
 
 -- the standing in which this is due
 abbrev pub checkStateOf : ExpectedNext → CheckState
-checkStateOf e = record { session = e .session; due = zeroPadded 264 (e .due); size = length (e .due); conforming = true }
+checkStateOf e = record { session = e .session; due = zeroPadded commandRecordSize (e .due); size = length (e .due); conforming = true }
 
 -- behind a record that was judged; behind an unlike one all stays but that it is no longer right
 abbrev pub checkStateBy : CheckState → Option ExpectedNext → CheckState
@@ -43,11 +47,11 @@ checkStateBy s (some e) = checkStateOf e
 
 -- nothing was fed
 unfoldable pub firstChecker : JournalChecker
-firstChecker = record { standing = checkStateOf expectedAtStart; held = replicate 1027 0; length = 0; records = 0 }
+firstChecker = record { standing = checkStateOf expectedAtStart; held = replicate startRecordSize 0; length = 0; records = 0 }
 
 -- no record was unlike, and every number is within its bound; else a checker stays as it is
 abbrev pub checkerContinues : JournalChecker → Bool
-checkerContinues c = c .standing .conforming and c .length <? 1027 and c .standing .size ≤? 264 and c .records <? 1000
+checkerContinues c = c .standing .conforming and c .length <? startRecordSize and c .standing .size ≤? commandRecordSize and c .records <? mostJournalRecords
 
 -- the bytes h are held, one more than before
 abbrev pub checkerHolding : JournalChecker → List ℕ → JournalChecker
@@ -89,7 +93,7 @@ CheckerFollows c s = c ≡ checkerPushedAll firstChecker s
 -- the number of the record that is held, behind n others
 abbrev pub heldRecordNumber : ℕ → ℕ
 heldRecordNumber n =
-    if n <? 1000 then n + 1
+    if n <? mostJournalRecords then n + 1
     else n
 
 -- an unlike record is named, a record that is held is cut; else all were right
@@ -102,5 +106,5 @@ checkerVerdict c =
 -- what was due where a record was unlike, of size 0 where none was
 unfoldable pub checkerExpected : JournalChecker → ExpectedRecord
 checkerExpected c =
-    if c .standing .conforming or 264 <? c .standing .size then record { bytes = replicate 264 0; size = 0 }
+    if c .standing .conforming or commandRecordSize <? c .standing .size then record { bytes = replicate commandRecordSize 0; size = 0 }
     else record { bytes = c .standing .due; size = c .standing .size }

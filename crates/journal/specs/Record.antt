@@ -13,6 +13,27 @@ use Rattle.session_record.specs.Numbers.{outcomeNumber}
 use Rattle.session.specs.Steps.{leastBuffer}
 use Rattle.session.specs.Calls.{Call, start, answer, link-failed, stop, CallMade, callResult, callRefused}
 
+-- ---- kinds
+
+-- 1 start, 2 card answer, 3 link failed, 4 stop, 5 command handed out, 6 outcome
+abbrev pub recordKindStart : ℕ
+recordKindStart = 1
+
+abbrev pub recordKindAnswer : ℕ
+recordKindAnswer = 2
+
+abbrev pub recordKindLinkFailed : ℕ
+recordKindLinkFailed = 3
+
+abbrev pub recordKindStop : ℕ
+recordKindStop = 4
+
+abbrev pub recordKindCommand : ℕ
+recordKindCommand = 5
+
+abbrev pub recordKindOutcome : ℕ
+recordKindOutcome = 6
+
 -- ---- sizes
 
 -- the most bytes that a start, a card answer and a command have in a record
@@ -25,16 +46,25 @@ mostAnswerInRecord = 258
 abbrev pub mostCommandInRecord : ℕ
 mostCommandInRecord = 261
 
--- the size of a record, its kind byte counted in: 1 start, 2 card answer, 3 link failed, 4 stop, 5 command, 6 outcome;
--- 0 for every other kind
+-- the sizes of their records: kind and two length bytes before them
+abbrev pub startRecordSize : ℕ
+startRecordSize = 1027
+
+abbrev pub answerRecordSize : ℕ
+answerRecordSize = 261
+
+abbrev pub commandRecordSize : ℕ
+commandRecordSize = 264
+
+-- the size of a record, its kind byte counted in; 0 for every other kind
 unfoldable pub journalRecordSize : ℕ → ℕ
 journalRecordSize kind =
-    if kind =? 1 then 1027
-    else if kind =? 2 then 261
-    else if kind =? 3 then 1
-    else if kind =? 4 then 1
-    else if kind =? 5 then 264
-    else if kind =? 6 then 3
+    if kind =? recordKindStart then startRecordSize
+    else if kind =? recordKindAnswer then answerRecordSize
+    else if kind =? recordKindLinkFailed then 1
+    else if kind =? recordKindStop then 1
+    else if kind =? recordKindCommand then commandRecordSize
+    else if kind =? recordKindOutcome then 3
     else 0
 
 -- ---- written
@@ -63,16 +93,16 @@ answerBody card =
 
 -- a call
 abbrev pub journalCallRecord : Call → List ℕ
-journalCallRecord (start bytes buf) = 1 ∷ lengthAndPadded mostStartInRecord bytes
-journalCallRecord (answer card buf) = 2 ∷ answerBody card
-journalCallRecord (link-failed buf) = 3 ∷ []
-journalCallRecord (stop buf) = 4 ∷ []
+journalCallRecord (start bytes buf) = recordKindStart ∷ lengthAndPadded mostStartInRecord bytes
+journalCallRecord (answer card buf) = recordKindAnswer ∷ answerBody card
+journalCallRecord (link-failed buf) = recordKindLinkFailed ∷ []
+journalCallRecord (stop buf) = recordKindStop ∷ []
 
 -- what a call hands back: the command in the front of the buffer, or the outcome and its reason; a refusal is not
 -- written
 abbrev pub journalReplyRecord : CallResult → List ℕ → List ℕ
-journalReplyRecord (CallResult.Command x) buf = 5 ∷ (twoByteLength (x .size) ++ zeroPadded mostCommandInRecord (take (x .size) buf))
-journalReplyRecord (CallResult.Outcome e) buf = 6 ∷ outcomeNumber (e .outcome) ∷ e .reason ∷ []
+journalReplyRecord (CallResult.Command x) buf = recordKindCommand ∷ (twoByteLength (x .size) ++ zeroPadded mostCommandInRecord (take (x .size) buf))
+journalReplyRecord (CallResult.Outcome e) buf = recordKindOutcome ∷ outcomeNumber (e .outcome) ∷ e .reason ∷ []
 journalReplyRecord (CallResult.Refused r) buf = []
 
 -- the records of calls that were made: each call that is not refused, then its reply
@@ -115,7 +145,7 @@ isLongAnswer r = recordLength r =? longAnswerLength and every isZeroByte (record
 
 -- every answer of more than 258 bytes gets the same reply; this is one
 abbrev pub longAnswer : List ℕ
-longAnswer = replicate 259 0
+longAnswer = replicate (mostAnswerInRecord + 1) 0
 
 abbrev pub startCallFrom : List ℕ → Option Call
 startCallFrom r =

@@ -7,19 +7,19 @@ use lib.ListN.{length, drop, replicate}
 use Rattle.basics.specs.Choice.{if_then_else_, _and_, _≤?_}
 use Rattle.session_record.specs.declared.CallResult.{CallResult}
 use Rattle.session.specs.Calls.{start}
-use Rattle.journal.specs.Record.{mostStartInRecord, mostCommandInRecord, twoByteLength, journalCallRecord, journalReplyRecord}
+use Rattle.journal.specs.Record.{mostStartInRecord, mostCommandInRecord, startRecordSize, commandRecordSize, twoByteLength, journalCallRecord, journalReplyRecord}
 
 -- a start of more than 1,024 bytes is refused and has no record
 unfoldable pub startRecordBytes : List ℕ → List ℕ
 startRecordBytes v =
     if length v ≤? mostStartInRecord then journalCallRecord (start v [])
-    else replicate 1027 0
+    else replicate startRecordSize 0
 
 -- a command of n bytes in the front of a buffer; one that is longer than a record or the buffer is none
 unfoldable pub commandRecordBytes : ℕ → List ℕ → List ℕ
 commandRecordBytes n buf =
     if n ≤? mostCommandInRecord and n ≤? length buf then journalReplyRecord (CallResult.Command (record { size = n })) buf
-    else replicate 264 0
+    else replicate commandRecordSize 0
 
 -- kind, length in two bytes and the bytes v in front of the list l, whose bytes behind stay
 abbrev pub recordFilledIn : ℕ → List ℕ → List ℕ → List ℕ

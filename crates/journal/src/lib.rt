@@ -5,6 +5,28 @@
 // held, so a journal of any size needs the room of one `JournalChecker`.
 pub mod writer;
 
+// The kinds of records.
+pub const KIND_START: u8 = 1;
+pub const KIND_ANSWER: u8 = 2;
+pub const KIND_LINK_FAILED: u8 = 3;
+pub const KIND_STOP: u8 = 4;
+pub const KIND_COMMAND: u8 = 5;
+pub const KIND_OUTCOME: u8 = 6;
+
+// The most bytes that a start, a card answer and a command have in a record, and the sizes of the records: kind and two length
+// bytes before them. A start's is the longest.
+pub const MOST_START: usize = 1024;
+pub const MOST_ANSWER: usize = 258;
+pub const MOST_COMMAND: usize = 261;
+pub const START_RECORD: usize = 1027;
+pub const ANSWER_RECORD: usize = 261;
+pub const COMMAND_RECORD: usize = 264;
+pub const OUTCOME_RECORD: usize = 3;
+
+// More records than this no session has: 131 calls and their replies.
+const MOST_RECORDS: usize = 1000;
+
+
 use session_record::CallResult;
 use session_record::OutcomeParameters;
 use session_record::Reply;
@@ -36,7 +58,7 @@ pub enum JournalVerdict {
 // once a record was unlike, with what was due there.
 pub struct CheckState {
     pub session: Session,
-    pub due: [u8; 264],
+    pub due: [u8; COMMAND_RECORD],
     pub size: usize,
     pub conforming: bool,
 }
@@ -45,7 +67,7 @@ pub struct CheckState {
 // record that is held.
 pub struct JournalChecker {
     pub standing: CheckState,
-    pub held: [u8; 1027],
+    pub held: [u8; START_RECORD],
     pub length: usize,
     pub records: usize,
 }
@@ -53,7 +75,7 @@ pub struct JournalChecker {
 // The one right record in the place of an unlike one, in the front of `bytes`; of size 0 where no record is
 // unlike, and where a call was due, as then none or more than one would be right.
 pub struct ExpectedRecord {
-    pub bytes: [u8; 264],
+    pub bytes: [u8; COMMAND_RECORD],
     pub size: usize,
 }
 
@@ -61,23 +83,23 @@ pub struct ExpectedRecord {
 pub fn size_of(kind: u8) -> usize
     ensures { λ r. ⌜ r ≡ journalRecordSize kind ⌝ }
 {
-    if kind == 1 {
-        return 1027;
+    if kind == KIND_START {
+        return START_RECORD;
     }
-    if kind == 2 {
-        return 261;
+    if kind == KIND_ANSWER {
+        return ANSWER_RECORD;
     }
-    if kind == 3 {
+    if kind == KIND_LINK_FAILED {
         return 1;
     }
-    if kind == 4 {
+    if kind == KIND_STOP {
         return 1;
     }
-    if kind == 5 {
-        return 264;
+    if kind == KIND_COMMAND {
+        return COMMAND_RECORD;
     }
-    if kind == 6 {
-        return 3;
+    if kind == KIND_OUTCOME {
+        return OUTCOME_RECORD;
     }
     0
 }
@@ -91,7 +113,7 @@ pub fn begin() -> JournalChecker
     let standing = waiting(session);
     JournalChecker {
         standing,
-        held: [0u8; 1027],
+        held: [0u8; START_RECORD],
         length: 0,
         records: 0,
     }
@@ -131,7 +153,7 @@ pub fn finish(checker: JournalChecker) -> JournalVerdict
     if checker.length == 0 {
         return JournalVerdict::Accepted(checker.records);
     }
-    if 1000 <= checker.records {
+    if MOST_RECORDS <= checker.records {
         return JournalVerdict::Truncated(checker.records);
     }
     JournalVerdict::Truncated(checker.records + 1)
@@ -147,9 +169,9 @@ pub fn expected_record(checker: JournalChecker) -> ExpectedRecord
 {
     let standing = checker.standing;
     let size = standing.size;
-    if standing.conforming || 264 < size {
+    if standing.conforming || COMMAND_RECORD < size {
         return ExpectedRecord {
-            bytes: [0u8; 264],
+            bytes: [0u8; COMMAND_RECORD],
             size: 0,
         };
     }
@@ -166,13 +188,13 @@ fn push(checker: JournalChecker, byte: u8) -> JournalChecker
     if !standing.conforming {
         return checker;
     }
-    if 1027 <= length {
+    if START_RECORD <= length {
         return checker;
     }
-    if 264 < standing.size {
+    if COMMAND_RECORD < standing.size {
         return checker;
     }
-    if 1000 <= checker.records {
+    if MOST_RECORDS <= checker.records {
         return checker;
     }
     let mut held = checker.held;
@@ -218,7 +240,7 @@ fn waiting(session: Session) -> CheckState
 {
     CheckState {
         session,
-        due: [0u8; 264],
+        due: [0u8; COMMAND_RECORD],
         size: 0,
         conforming: true,
     }
@@ -244,16 +266,16 @@ fn called(standing: CheckState, whole: &[u8]) -> CheckState
     ensures { λ r. ⌜ r ≡ checkStateBy standing (calledOf (standing .session) (callFrom (now (whole .entry)))) ⌝ }
 {
     let kind = basics::byte_at(whole, 0);
-    if kind == 1 {
+    if kind == KIND_START {
         return started(standing, whole);
     }
-    if kind == 2 {
+    if kind == KIND_ANSWER {
         return answered(standing, whole);
     }
-    if kind == 3 {
+    if kind == KIND_LINK_FAILED {
         return link_failed(standing);
     }
-    if kind == 4 {
+    if kind == KIND_STOP {
         return stopped(standing);
     }
     wrong(standing)
@@ -265,11 +287,11 @@ fn started(standing: CheckState, whole: &[u8]) -> CheckState
     ensures { λ r. ⌜ r ≡ checkStateBy standing (calledOf (standing .session) (startCallFrom (now (whole .entry)))) ⌝ }
 {
     let session = standing.session;
-    if !fits(whole, 1024) {
+    if !fits(whole, MOST_START) {
         return wrong(standing);
     }
     let end = 3 + length_in(whole);
-    let mut buffer = [0u8; 261];
+    let mut buffer = [0u8; MOST_COMMAND];
     let reply = session::start(session, &whole[3..end], &mut buffer);
     due_of(standing, reply, buffer)
 }
@@ -280,13 +302,13 @@ fn answered(standing: CheckState, whole: &[u8]) -> CheckState
     ensures { λ r. ⌜ r ≡ checkStateBy standing (calledOf (standing .session) (answerCallFrom (now (whole .entry)))) ⌝ }
 {
     let session = standing.session;
-    let mut buffer = [0u8; 261];
+    let mut buffer = [0u8; MOST_COMMAND];
     if is_long(whole) {
-        let long = [0u8; 259];
+        let long = [0u8; MOST_ANSWER + 1];
         let reply = session::answer(session, &long, &mut buffer);
         return due_of(standing, reply, buffer);
     }
-    if !fits(whole, 258) {
+    if !fits(whole, MOST_ANSWER) {
         return wrong(standing);
     }
     let end = 3 + length_in(whole);
@@ -299,7 +321,7 @@ fn link_failed(standing: CheckState) -> CheckState
     ensures { λ r. ⌜ r ≡ checkStateBy standing (calledOf (standing .session) linkFailedFrom) ⌝ }
 {
     let session = standing.session;
-    let mut buffer = [0u8; 261];
+    let mut buffer = [0u8; MOST_COMMAND];
     let reply = session::link_failed(session, &mut buffer);
     due_of(standing, reply, buffer)
 }
@@ -309,7 +331,7 @@ fn stopped(standing: CheckState) -> CheckState
     ensures { λ r. ⌜ r ≡ checkStateBy standing (calledOf (standing .session) stopCallFrom) ⌝ }
 {
     let session = standing.session;
-    let mut buffer = [0u8; 261];
+    let mut buffer = [0u8; MOST_COMMAND];
     let reply = session::stop(session, &mut buffer);
     due_of(standing, reply, buffer)
 }
@@ -362,7 +384,7 @@ fn is_zero(v: &[u8]) -> bool
 }
 
 // What is due behind a call that handed this back with this buffer.
-fn due_of(standing: CheckState, reply: Reply, buffer: [u8; 261]) -> CheckState
+fn due_of(standing: CheckState, reply: Reply, buffer: [u8; MOST_COMMAND]) -> CheckState
     ensures { λ r. ⌜ r ≡ checkStateBy standing (repliedOf (reply .session) (replyRecordWithBuffer (reply .answer) buffer)) ⌝ }
 {
     let session = reply.session;
@@ -375,10 +397,10 @@ fn due_of(standing: CheckState, reply: Reply, buffer: [u8; 261]) -> CheckState
 }
 
 // A command's record is due.
-fn command_due(session: Session, size: usize, buffer: [u8; 261]) -> CheckState
+fn command_due(session: Session, size: usize, buffer: [u8; MOST_COMMAND]) -> CheckState
     ensures { λ r. ⌜ r ≡ checkStateOf (expectedNext session (5 ∷ (twoByteLength size ++ buffer))) ⌝ }
 {
-    let mut due = [0u8; 264];
+    let mut due = [0u8; COMMAND_RECORD];
     due[0] = 5;
     due[1] = (size / 256 % 256) as u8;
     due[2] = (size % 256) as u8;
@@ -386,7 +408,7 @@ fn command_due(session: Session, size: usize, buffer: [u8; 261]) -> CheckState
     CheckState {
         session,
         due,
-        size: 264,
+        size: COMMAND_RECORD,
         conforming: true,
     }
 }
@@ -396,7 +418,7 @@ fn outcome_due(session: Session, end: OutcomeParameters) -> CheckState
     ensures { λ r. ⌜ r ≡ checkStateOf (expectedNext session (6 ∷ outcomeNumber (end .outcome) ∷ end .reason ∷ [])) ⌝ }
 {
     let outcome = end.outcome;
-    let mut due = [0u8; 264];
+    let mut due = [0u8; COMMAND_RECORD];
     due[0] = 6;
     due[1] = session_record::outcome_number(outcome);
     due[2] = end.reason;

@@ -2,6 +2,8 @@
 //
 // A record is one byte of kind and a body whose size the kind fixes. What stands in each is defined with the library
 // `journal`, which checks them.
+use crate::{ANSWER_RECORD, COMMAND_RECORD, MOST_ANSWER, MOST_COMMAND, MOST_START, OUTCOME_RECORD, START_RECORD};
+use crate::{KIND_ANSWER, KIND_COMMAND, KIND_LINK_FAILED, KIND_OUTCOME, KIND_START, KIND_STOP};
 use session_record::OutcomeParameters;
 ghost use mathlib.Core.Path.{_≡_};
 ghost use mathlib.Core.List.{[]};
@@ -13,29 +15,29 @@ ghost use Rattle.journal.specs.Record.{journalCallRecord, journalReplyRe
 ghost use Rattle.journal.specs.Writer.{startRecordBytes, commandRecordBytes, recordFilledIn};
 
 // A start. More than 1,024 bytes are refused and have no record: zeros.
-pub fn start_record(bytes: &[u8]) -> [u8; 1027]
+pub fn start_record(bytes: &[u8]) -> [u8; START_RECORD]
     ensures { λ r. ⌜ r ≡ startRecordBytes (now (bytes .entry)) ⌝ }
 {
-    let mut out = [0u8; 1027];
-    if 1024 < bytes.len() {
+    let mut out = [0u8; START_RECORD];
+    if MOST_START < bytes.len() {
         return out;
     }
-    fill(1, bytes, &mut out);
+    fill(KIND_START, bytes, &mut out);
     out
 }
 
 // A card answer; one of more than 258 bytes has length FF FF and a zero body.
-pub fn answer_record(card: &[u8]) -> [u8; 261]
+pub fn answer_record(card: &[u8]) -> [u8; ANSWER_RECORD]
     ensures { λ r. ⌜ r ≡ journalCallRecord (anAnswer (now (card .entry)) []) ⌝ }
 {
-    let mut out = [0u8; 261];
-    if 258 < card.len() {
-        out[0] = 2;
+    let mut out = [0u8; ANSWER_RECORD];
+    if MOST_ANSWER < card.len() {
+        out[0] = KIND_ANSWER;
         out[1] = 0xFF;
         out[2] = 0xFF;
         return out;
     }
-    fill(2, card, &mut out);
+    fill(KIND_ANSWER, card, &mut out);
     out
 }
 
@@ -43,37 +45,37 @@ pub fn answer_record(card: &[u8]) -> [u8; 261]
 pub fn link_failed_record() -> [u8; 1]
     ensures { λ r. ⌜ r ≡ journalCallRecord (aFailure []) ⌝ }
 {
-    [3]
+    [KIND_LINK_FAILED]
 }
 
 // A stop.
 pub fn stop_record() -> [u8; 1]
     ensures { λ r. ⌜ r ≡ journalCallRecord (aStop []) ⌝ }
 {
-    [4]
+    [KIND_STOP]
 }
 
 // A command that stands in the front of a buffer. One of more bytes than a record or the buffer has is none: zeros.
-pub fn command_record(size: usize, buffer: &[u8]) -> [u8; 264]
+pub fn command_record(size: usize, buffer: &[u8]) -> [u8; COMMAND_RECORD]
     ensures { λ r. ⌜ r ≡ commandRecordBytes size (now (buffer .entry)) ⌝ }
 {
-    let mut out = [0u8; 264];
-    if 261 < size {
+    let mut out = [0u8; COMMAND_RECORD];
+    if MOST_COMMAND < size {
         return out;
     }
     if buffer.len() < size {
         return out;
     }
-    fill(5, &buffer[..size], &mut out);
+    fill(KIND_COMMAND, &buffer[..size], &mut out);
     out
 }
 
 // An outcome and its reason.
-pub fn outcome_record(end: OutcomeParameters) -> [u8; 3]
+pub fn outcome_record(end: OutcomeParameters) -> [u8; OUTCOME_RECORD]
     ensures { λ r. ⌜ r ≡ journalReplyRecord (CallResult.Outcome end) [] ⌝ }
 {
     let outcome = end.outcome;
-    [6, session_record::outcome_number(outcome), end.reason]
+    [KIND_OUTCOME, session_record::outcome_number(outcome), end.reason]
 }
 
 // Kind, length in two bytes and the bytes, in front of what stands there.

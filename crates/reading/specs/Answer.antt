@@ -93,11 +93,25 @@ templateTag (Record f) = 0x70
 templateTag Cryptogram = 0x77
 templateTag Checksum = 0x77
 
+-- the lengths of a body under 80: of GPO two bytes of AIP and an AFL of 4 to 248; of GENERATE AC one byte of CID, two of
+-- ATC and eight of AC, and at most 32 of IAD
+abbrev pub leastGpoBody : ℕ
+leastGpoBody = 6
+
+abbrev pub mostGpoBody : ℕ
+mostGpoBody = 250
+
+abbrev pub leastAcBody : ℕ
+leastAcBody = 11
+
+abbrev pub mostAcBody : ℕ
+mostAcBody = 43
+
 -- under 80, processing options: two bytes for 82 and the rest, a multiple of 4, for 94; both are taken as if a 77 stood
 -- directly around them
 unfoldable pub gpoParts : List ℕ → Option (List PrimitiveItem)
 gpoParts v =
-    if between 6 (length v) 250 and (length v - 2) % 4 =? 0 then
+    if between leastGpoBody (length v) mostGpoBody and (length v - 2) % 4 =? 0 then
       some (primitiveItem 0x77 0x82 (take 2 v) ∷ primitiveItem 0x77 0x94 (drop 2 v) ∷ [])
     else none
 
@@ -109,12 +123,12 @@ iadPart (a ∷ v) = primitiveItem 0x77 0x9F10 (a ∷ v) ∷ []
 -- under 80, cryptogram: 9F27, 9F36, 9F26, and 9F10 if any bytes are left; 11 to 43 in all; taken the same way
 unfoldable pub cryptogramParts : List ℕ → Option (List PrimitiveItem)
 cryptogramParts v =
-    if between 11 (length v) 43 then
+    if between leastAcBody (length v) mostAcBody then
       some
       (primitiveItem 0x77 0x9F27 (take 1 v) ∷
       primitiveItem 0x77 0x9F36 (take 2 (drop 1 v)) ∷
       primitiveItem 0x77 0x9F26 (take 8 (drop 3 v)) ∷
-      iadPart (drop 11 v))
+      iadPart (drop leastAcBody v))
     else none
 
 -- what a primitive body brings, or none where the outer tag or body is wrong; a record and the checksum (Book C-2,
@@ -173,9 +187,13 @@ isRead Checksum = true
 unfoldable pub isStatus9000 : List ℕ → Bool
 isStatus9000 s = getD s (length s - 2) 0 =? 0x90 and getD s (length s - 1) 0 =? 0
 
+-- the most bytes of an answer: 256 and the two status bytes
+abbrev pub longestAnswer : ℕ
+longestAnswer = 258
+
 -- an answer has 2 to 258 bytes
 unfoldable pub isResponseLength : List ℕ → Bool
-isResponseLength s = between 2 (length s) 258
+isResponseLength s = between 2 (length s) longestAnswer
 
 -- a whole answer, status bytes included, into the store b
 unfoldable pub readAnswer : Awaited → List ℕ → List ℕ → ReadingOutcome

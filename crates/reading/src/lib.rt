@@ -35,6 +35,16 @@ ghost use Rattle.reading.specs.Inner.{GivesFrom, ReadsPending, TakesItem
 ghost use Rattle.reading.specs.Pending.{StandsInBody, PendingList, PendingValues, withPending, pendingCount, mostPending};
 ghost use Rattle.reading.specs.Answer.{GivesReading, verdictNumber, responseBit, templateTag, primitive, iadPart, readTree, readBody, isRead, isStatus9000, readAnswer};
 
+// An answer has at most 256 bytes and the two status bytes.
+const MOST_ANSWER: usize = 258;
+
+// The bodies under 80: of GPO the AIP, two bytes, and an AFL of 4 to 248 bytes; of GENERATE AC the CID, the ATC and the AC, 11
+// bytes, and at most 32 of IAD.
+const LEAST_GPO_BODY: usize = 6;
+const MOST_GPO_BODY: usize = 250;
+const LEAST_AC_BODY: usize = 11;
+const MOST_AC_BODY: usize = 43;
+
 // The values that are listed, behind their count: room for more than the longest body can have.
 const LIST: usize = 130;
 
@@ -202,7 +212,7 @@ fn begin(awaited: Awaited, answer: &[u8]) -> Beginning
     if n < 2 {
         return Beginning::Decided(ResponseVerdict::Malformed);
     }
-    if 258 < n {
+    if MOST_ANSWER < n {
         return Beginning::Decided(ResponseVerdict::Malformed);
     }
     if !is_good(answer) {
@@ -443,10 +453,10 @@ fn read_gpo(
     ensures one { λ r. ⌜ r .objects ≡ 1 ⌝ }
 {
     let n = value.len();
-    if n < 6 {
+    if n < LEAST_GPO_BODY {
         return reading_of(ResponseVerdict::Malformed, 1);
     }
-    if 250 < n {
+    if MOST_GPO_BODY < n {
         return reading_of(ResponseVerdict::Malformed, 1);
     }
     if (n - 2) % 4 != 0 {
@@ -481,10 +491,10 @@ fn read_cryptogram(
     ensures one { λ r. ⌜ r .objects ≡ 1 ⌝ }
 {
     let n = value.len();
-    if n < 11 {
+    if n < LEAST_AC_BODY {
         return reading_of(ResponseVerdict::Malformed, 1);
     }
-    if 43 < n {
+    if MOST_AC_BODY < n {
         return reading_of(ResponseVerdict::Malformed, 1);
     }
     let bit = dictionary::CRYPTOGRAM;

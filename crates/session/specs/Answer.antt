@@ -131,6 +131,16 @@ recordStep p n b card buf = readRecordFound p n b card buf (aflRecordAt (storedA
 
 -- ---- the answer to the cryptogram
 
+-- the types of an application cryptogram, in the top two bits of the CID: 00 AAC, 01 TC, 10 ARQC
+abbrev pub cidAac : ℕ
+cidAac = 0
+
+abbrev pub cidTc : ℕ
+cidTc = 1
+
+abbrev pub cidArqc : ℕ
+cidArqc = 2
+
 -- a cryptogram of type 10 (ARQC) goes online unless a decline was asked for
 abbrev pub onlineByArqc : Choice → Option Outcome
 onlineByArqc Choice.Decline = none
@@ -147,9 +157,9 @@ approvedByTc Choice.Offline = some Outcome.Approved
 -- above; else none
 unfoldable pub cryptogramOutcome : Choice → ℕ → Option Outcome
 cryptogramOutcome c kind =
-    if kind =? 0 then some Outcome.Declined
-    else if kind =? 2 then onlineByArqc c
-    else if kind =? 1 then approvedByTc c
+    if kind =? cidAac then some Outcome.Declined
+    else if kind =? cidArqc then onlineByArqc c
+    else if kind =? cidTc then approvedByTc c
     else none
 
 -- a decision has reason 0; a cryptogram of a type that the one asked for does not allow ends the session with reason 8

@@ -44,6 +44,11 @@ ghost use Rattle.session.specs.Inner.{loadRefusalNumber, checkNumber, cr
 // The least command buffer.
 pub const LEAST_BUFFER: usize = 261;
 
+// The types of an application cryptogram, in the top two bits of the CID.
+pub const CID_AAC: u8 = 0;
+pub const CID_TC: u8 = 1;
+pub const CID_ARQC: u8 = 2;
+
 // A test that a step makes before it goes on. Which reason a failed one gives stands at the step that makes it.
 pub enum Check {
     Passed,
@@ -404,17 +409,17 @@ fn cryptogram_outcome(asked: RequestedCryptogram, count: u8, bytes: &[u8]) -> Tr
 pub fn outcome_for_cryptogram(choice: Choice, kind: u8) -> CryptogramOutcome
     ensures { λ r. ⌜ cryptogramOutcomeEnding r ≡ endingFor (cryptogramOutcome choice kind) ⌝ }
 {
-    if kind == 0 {
+    if kind == CID_AAC {
         return CryptogramOutcome::On(Decision { outcome: Outcome::Declined });
     }
-    if kind == 2 {
+    if kind == CID_ARQC {
         return match choice {
             Choice::Decline => CryptogramOutcome::Nothing, // a decline is never taken online
             Choice::Online => CryptogramOutcome::On(Decision { outcome: Outcome::OnlineRequest }),
             Choice::Offline => CryptogramOutcome::On(Decision { outcome: Outcome::OnlineRequest }),
         };
     }
-    if kind == 1 {
+    if kind == CID_TC {
         return match choice {
             Choice::Decline => CryptogramOutcome::Nothing,
             Choice::Online => CryptogramOutcome::Nothing,

@@ -10,6 +10,7 @@ use Rattle.basics.specs.Choice.{if_then_else_, _and_, _<?_, _=?_}
 use Rattle.basics.specs.Reason.{reasonNone}
 use Rattle.afl.specs.Records.{aflRecords}
 use Rattle.analysis.specs.Bits.{valueHasBit}
+use Rattle.command.specs.WithList.{claProprietary, insGpo, insGenerateAc, insComputeChecksum}
 use Rattle.command.specs.ReadRecord.{readRecordCommand}
 use Rattle.reading.specs.Taking.{PrimitiveItem, primitiveItems}
 use Rattle.reading.specs.Answer.{ResponseBody, primitive, template, responseBody}
@@ -107,9 +108,9 @@ beginsWith a b c = getD c 0 0 =? a and getD c 1 0 =? b
 -- by its first two bytes
 unfoldable pub commandKind : List ℕ → CommandKind
 commandKind c =
-    if beginsWith 0x80 0xA8 c then gpo
-    else if beginsWith 0x80 0xAE c then cryptogram
-    else if beginsWith 0x80 0x2A c then checksum
+    if beginsWith claProprietary insGpo c then gpo
+    else if beginsWith claProprietary insGenerateAc c then cryptogram
+    else if beginsWith claProprietary insComputeChecksum c then checksum
     else record-command c
 
 -- the last command by the profile that card bytes bring: the checksum where byte 2 b8 is clear, else the cryptogram
