@@ -37,7 +37,7 @@ use Rattle.session.specs.Answer.{cryptogramOutcome}
 use Rattle.explain.specs.declared.Stage.{Stage}
 use Rattle.explain.specs.declared.Deciding.{Deciding}
 use Rattle.explain.specs.declared.Explanation.{Explanation}
-use Rattle.explain.specs.Explain.{storedTvr, storedChoice, stageBy, stageIn, stageNeeds, stageIfComplete, decidingIn, actionCodesOfStage, explainedByBit, explainedAt, explainedWaiting, storedCryptogramType, decidesOutcome, explainedDecision, explainedEnd, cardAsksMagMagStripe, explainedEndBy, explainedInPhase, explanationOf}
+use Rattle.explain.specs.Explain.{storedTvr, storedChoice, stageBy, stageIn, stageNeeds, stageIfComplete, decidingIn, actionCodesOfStage, explainedByBit, explainedAt, explainedWaiting, storedCryptogramType, decidesOutcome, explainedDecision, explainedEnd, cardAsksMagStripe, explainedEndBy, explainedInPhase, explanationOf}
 use Rattle.explain.specs.Promise.{DecisionIs}
 use Rattle.explain.proofs.Laws.{ended-reason, by-reason, by-mag-stripe, by-choice}
 
@@ -156,7 +156,7 @@ module _ (b : List ℕ) (w : Complete b) where
           (λ t. if-ind P _ _ _ (λ u e. (let z : _≡_ {A = Bool} false true = sym (ap not given) ∙ u in let y : _≡_ {A = ℕ} 0 1 = cc in omega arith))
           (λ u. if-ind P _ _ _ (λ v e. (let z : _≡_ {A = ℕ} 0 1 = cc in omega arith)) (λ v e. says b stage e)))
 
-  pub ended-answers : (x : Ending) → x .reason ≡ reasonNone → cardAsksMagMagStripe b ≡ false → hasObject b 0x9F27 ≡ true → DecisionIs b (x .outcome) → explainedEndBy x b ≡ Explanation.Refused → ⊥
+  pub ended-answers : (x : Ending) → x .reason ≡ reasonNone → cardAsksMagStripe b ≡ false → hasObject b 0x9F27 ≡ true → DecisionIs b (x .outcome) → explainedEndBy x b ≡ Explanation.Refused → ⊥
   unfolding explainedEnd
   ended-answers x z m h g e = decided-answers x h g (sym (if-yes _ _ (eq-eqb _ _ z)) ∙ sym (by-choice x b m) ∙ e)
 
@@ -165,7 +165,7 @@ pub reason-answers : (x : Ending) (b : List ℕ) → (x .reason ≡ reasonNone �
 reason-answers x b n e = let w = sym (by-reason x b n ∙ ended-reason x b n) ∙ e in let z : _≡_ {A = ℕ} 0 1 = cc in omega arith
 
 -- ended in mag-stripe mode
-pub mag-stripe-answers : (x : Ending) (b : List ℕ) → x .reason ≡ reasonNone → cardAsksMagMagStripe b ≡ true → explainedEndBy x b ≡ Explanation.Refused → ⊥
+pub mag-stripe-answers : (x : Ending) (b : List ℕ) → x .reason ≡ reasonNone → cardAsksMagStripe b ≡ true → explainedEndBy x b ≡ Explanation.Refused → ⊥
 mag-stripe-answers x b z m e = let w = sym (by-mag-stripe x b z m) ∙ e in let y : _≡_ {A = ℕ} 0 1 = cc in omega arith
 
 -- ---- a session in its ranges is what its phase says

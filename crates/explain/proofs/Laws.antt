@@ -38,7 +38,7 @@ use Rattle.explain.specs.declared.Stage.{Stage}
 use Rattle.explain.specs.declared.Deciding.{Deciding}
 use Rattle.explain.specs.declared.Cause.{Cause}
 use Rattle.explain.specs.declared.Explanation.{Explanation}
-use Rattle.explain.specs.Explain.{storedTvr, storedChoice, stageBy, stageIn, stageNeeds, stageIfComplete, decidingIn, bitHolder, actionCodesOfStage, explainedByBit, explainedAt, explainedWaiting, cryptogramRank, storedCryptogramType, requestedType, decidesOutcome, explainedDecision, explainedEnd, cardAsksMagMagStripe, explainedEndBy, explainedInPhase, explanationOf}
+use Rattle.explain.specs.Explain.{storedTvr, storedChoice, stageBy, stageIn, stageNeeds, stageIfComplete, decidingIn, bitHolder, actionCodesOfStage, explainedByBit, explainedAt, explainedWaiting, cryptogramRank, storedCryptogramType, requestedType, decidesOutcome, explainedDecision, explainedEnd, cardAsksMagStripe, explainedEndBy, explainedInPhase, explanationOf}
 use Rattle.explain.specs.Promise.{choiceForcedBy, choiceUnforcedAt, BitNamed, NoBitNamed, LowerType, DecisionIs, ExplanationHolds}
 
 -- ---- the stage that decided
@@ -279,7 +279,7 @@ module _ (x : Ending) (b : List ℕ) where
           ended-stage k = decided e ∙ if-no _ _ (ap not h) ∙ if-no _ _ (ap not g) ∙ if-no _ _ (le-ltb _ _ k)
 
 -- record's mag-stripe mode: the card asks for it, and the terminal's configuration does not say that it is off
-pub mag-stripe-mode-is : (b : List ℕ) → magStripeMode b ≡ both (cardAsksMagMagStripe b) (not (valueHasBit (storedBytes b 0xDF811B) 1 8))
+pub mag-stripe-mode-is : (b : List ℕ) → magStripeMode b ≡ both (cardAsksMagStripe b) (not (valueHasBit (storedBytes b 0xDF811B) 1 8))
 mag-stripe-mode-is b = both-assoc _ _ _
 
 -- ended, by the mode
@@ -288,11 +288,11 @@ module _ (x : Ending) (b : List ℕ) where
   unfolding explainedEndBy
   by-reason n = if-no _ _ (both-no-left _ _ (ne-eqb _ _ n))
 
-  pub by-mag-stripe : x .reason ≡ reasonNone → cardAsksMagMagStripe b ≡ true → explainedEndBy x b ≡ Explanation.NoChoice
+  pub by-mag-stripe : x .reason ≡ reasonNone → cardAsksMagStripe b ≡ true → explainedEndBy x b ≡ Explanation.NoChoice
   unfolding explainedEndBy
   by-mag-stripe z e = if-yes _ _ (both-yes _ _ (eq-eqb _ _ z) e)
 
-  pub by-choice : cardAsksMagMagStripe b ≡ false → explainedEndBy x b ≡ explainedEnd x b
+  pub by-choice : cardAsksMagStripe b ≡ false → explainedEndBy x b ≡ explainedEnd x b
   unfolding explainedEndBy
   by-choice e = if-no _ _ (both-no-right _ _ e)
 
@@ -349,7 +349,7 @@ module _ (b : List ℕ) where
   ended-given x e n = decided-given x (decidingIn b) (λ z. n (if-yes _ _ (eq-eqb _ _ e) ∙ z))
 
   -- outside mag-stripe mode
-  chosen-given : (x : Ending) → x .reason ≡ reasonNone → (explainedEndBy x b ≡ Explanation.Refused → ⊥) → cardAsksMagMagStripe b ≡ false → DecisionIs b (x .outcome)
+  chosen-given : (x : Ending) → x .reason ≡ reasonNone → (explainedEndBy x b ≡ Explanation.Refused → ⊥) → cardAsksMagStripe b ≡ false → DecisionIs b (x .outcome)
   chosen-given x e n m = ended-given x e (λ z. n (by-choice x b m ∙ z))
 
   -- a choice is told of
@@ -379,8 +379,8 @@ module _ (b : List ℕ) where
   ended-tells x = if-ind Tells _ _ _ (λ t. decided-tells x (decidingIn b)) (λ t. tt)
 
   -- so no choice is told of in mag-stripe mode alone
-  no-choice-mag-stripe : (x : Ending) → explainedEndBy x b ≡ Explanation.NoChoice → cardAsksMagMagStripe b ≡ true
-  no-choice-mag-stripe x e = elim (bool-cases (cardAsksMagMagStripe b)) [ inl y ↦ y | inr n ↦ absurd (subst Tells (sym (by-choice x b n) ∙ e) (ended-tells x)) ]
+  no-choice-mag-stripe : (x : Ending) → explainedEndBy x b ≡ Explanation.NoChoice → cardAsksMagStripe b ≡ true
+  no-choice-mag-stripe x e = elim (bool-cases (cardAsksMagStripe b)) [ inl y ↦ y | inr n ↦ absurd (subst Tells (sym (by-choice x b n) ∙ e) (ended-tells x)) ]
 
 -- ---- the promise
 

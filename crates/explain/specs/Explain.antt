@@ -158,13 +158,13 @@ explainedEnd e b =
 -- in mag-stripe mode no choice is made (document 02, Item 9). Here the card's side alone: 82 is there with byte 2 b8
 -- clear. `magStripeMode` of record is this and that the terminal's DF811B does not say by b8 that the mode is off
 -- (`mag-stripe-mode-is` in proofs/Laws); where calls reached a decision the two are the same (`mode` in explain_calls)
-abbrev pub cardAsksMagMagStripe : List ℕ → Bool
-cardAsksMagMagStripe b = hasObject b 0x82 and not (emvMode b)
+abbrev pub cardAsksMagStripe : List ℕ → Bool
+cardAsksMagStripe b = hasObject b 0x82 and not (emvMode b)
 
 -- ended so with reason 0, nothing else of the record is looked at
 unfoldable pub explainedEndBy : Ending → List ℕ → Explanation
 explainedEndBy e b =
-    if e .reason =? reasonNone and cardAsksMagMagStripe b then Explanation.NoChoice
+    if e .reason =? reasonNone and cardAsksMagStripe b then Explanation.NoChoice
     else explainedEnd e b
 
 -- ---- the answer

@@ -23,7 +23,7 @@ use Rattle.explain.specs.declared.Deciding.{Deciding}
 use Rattle.explain.specs.declared.Cause.{Cause}
 use Rattle.explain.specs.declared.Explanation.{Explanation}
 use Rattle.explain.specs.Explain.{storedTvr, storedChoice, decidingIn, bitHolder, actionCodesOfStage, cryptogramRank, storedCryptogramType}
-use Rattle.explain.specs.Explain.{requestedType, cardAsksMagMagStripe, explanationOf}
+use Rattle.explain.specs.Explain.{requestedType, cardAsksMagStripe, explanationOf}
 
 -- the choice that a bit held at a stage forces
 abbrev pub choiceForcedBy : Stage → Choice
@@ -75,6 +75,6 @@ pub record ExplanationHolds (s : Session) (r : Explanation) : Type 0 where
   pub held : (a : RequestedCryptogram) → s .phase ≡ Phase.Cryptogram a → (r ≡ Explanation.Refused → ⊥)
       → a .choice ≡ storedChoice (storeBytes s)
   pub decided : (e : Ending) → s .phase ≡ Phase.Ended e → e .reason ≡ reasonNone → (r ≡ Explanation.Refused → ⊥)
-      → cardAsksMagMagStripe (storeBytes s) ≡ false → DecisionIs (storeBytes s) (e .outcome)
+      → cardAsksMagStripe (storeBytes s) ≡ false → DecisionIs (storeBytes s) (e .outcome)
   pub without : (e : Ending) → s .phase ≡ Phase.Ended e → e .reason ≡ reasonNone → r ≡ Explanation.NoChoice
-      → cardAsksMagMagStripe (storeBytes s) ≡ true
+      → cardAsksMagStripe (storeBytes s) ≡ true

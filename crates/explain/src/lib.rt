@@ -15,7 +15,7 @@ ghost use Rattle.analysis.specs.Bits.{numberedBit as bitOf};
 ghost use Rattle.session_record.specs.Session.{sessionOf};
 ghost use Rattle.session.specs.Answer.{cryptogramOutcome};
 ghost use Rattle.explain.specs.Explain.{storedTvr, storedChoice, stageBy, stageIn, stageNeeds, decidingIn, holderBy, bitHolder, actionCodesOfStage, explainedAt};
-ghost use Rattle.explain.specs.Explain.{explainedWaiting, cryptogramRank, decidesOutcome, explainedEnd, cardAsksMagMagStripe, explainedEndBy};
+ghost use Rattle.explain.specs.Explain.{explainedWaiting, cryptogramRank, decidesOutcome, explainedEnd, cardAsksMagStripe, explainedEndBy};
 ghost use Rattle.explain.specs.Promise.{ExplanationHolds};
 ghost use Rattle.explain.specs.Word.{stageNumber, holderNumber, choiceWord, explanationWord};
 
@@ -114,15 +114,15 @@ fn ended_by(end: Ending, bytes: &[u8]) -> Explanation
     if end.reason != basics::REASON_NONE {
         return ended(end, bytes);
     }
-    if card_asks_mag_mag_stripe(bytes) {
+    if card_asks_mag_stripe(bytes) {
         return Explanation::NoChoice;
     }
     ended(end, bytes)
 }
 
 // 82 is there with byte 2 b8 clear.
-fn card_asks_mag_mag_stripe(bytes: &[u8]) -> bool
-    ensures { λ r. ⌜ r ≡ cardAsksMagMagStripe (now (bytes .entry)) ⌝ }
+fn card_asks_mag_stripe(bytes: &[u8]) -> bool
+    ensures { λ r. ⌜ r ≡ cardAsksMagStripe (now (bytes .entry)) ⌝ }
 {
     if !store::is_there(bytes, ROW_AIP) {
         return false;

@@ -52,7 +52,7 @@ use Rattle.session_claim.proofs.Trace.{by, by-front, call-keeps}
 use Rattle.step_laws.proofs.Ways as ways
 use Rattle.step_laws.proofs.Ways.{Reason, unread-reason, GpoWay, RecordsWay, MagStripeWay, RecordWay, ChecksumWay, AnswerWay, answer-way, StartWay, start-way, BrokenWay, broken-way}
 use Rattle.explain.specs.declared.Explanation.{Explanation}
-use Rattle.explain.specs.Explain.{storedChoice, storedCryptogramType, cardAsksMagMagStripe, explainedInPhase, explanationOf}
+use Rattle.explain.specs.Explain.{storedChoice, storedCryptogramType, cardAsksMagStripe, explainedInPhase, explanationOf}
 use Rattle.explain.specs.Promise.{DecisionIs}
 use Rattle.explain.proofs.Laws.{mag-stripe-mode-is}
 use Rattle.explain.proofs.Complete.{Complete, running-complete, waiting-answers, ended-answers, reason-answers, mag-stripe-answers, phase-answers}
@@ -176,7 +176,7 @@ module _ (s : Session) (a : RequestedCryptogram) (card buf : List ℕ) (i : inRa
       })
     where
       -- the reading leaves the mode
-      not-mag-stripe : cardAsksMagMagStripe (o .store) ≡ false
+      not-mag-stripe : cardAsksMagStripe (o .store) ≡ false
       not-mag-stripe =
           let m = on-cryptogram s i a q .mode in
           both-no-right _ _
@@ -300,7 +300,7 @@ module _ (s : Session) (card buf : List ℕ) (i : inRanges s ≡ true) where
             ap₂ (λ (y w : StoredValue). both (isPresent y) (both (not (valueHasBit (bytesOfValue y) 2 8)) (not (valueHasBit (bytesOfValue w) 1 8)))) e g
             ∙ on-checksum s i k q .mode
 
-        magStripe : cardAsksMagMagStripe d ≡ true
+        magStripe : cardAsksMagStripe d ≡ true
         magStripe =
             let m = on-checksum s i k q .mode in
             ap (λ (y : StoredValue). both (isPresent y) (not (valueHasBit (bytesOfValue y) 2 8))) e ∙ both-yes _ _ (both-left _ _ m) (both-left _ _ (both-right _ _ m))

@@ -49,7 +49,7 @@ use Rattle.explain.specs.declared.Holder.{Holder}
 use Rattle.explain.specs.declared.Stage.{Stage}
 use Rattle.explain.specs.Explain.{storedTvr, storedChoice, stageBy, stageIn, decidingIn, holderBy, bitHolder, actionCodesOfStage, explainedByBit}
 use Rattle.explain.specs.Explain.{explainedAt, explainedWaiting, cryptogramRank, storedCryptogramType, requestedType, explainedDecision, explainedEnd}
-use Rattle.explain.specs.Explain.{cardAsksMagMagStripe, explainedInPhase, explanationOf}
+use Rattle.explain.specs.Explain.{cardAsksMagStripe, explainedInPhase, explanationOf}
 use Rattle.explain.specs.Promise.{choiceForcedBy, choiceUnforcedAt, BitNamed, NoBitNamed, ExplanationHolds}
 use Rattle.explain.proofs.Laws.{deciding-stage, ended-reason, by-reason, by-mag-stripe, by-choice, same-p1, told}
 use Rattle.explain_claim.specs.Explained.{awaitsCryptogram, isDecided, hasChoice, endsWithCode, generateAcs, p1s}
@@ -200,9 +200,9 @@ isEarly (Phase.Ended e)      = false
 pub record Traced (ps : List ℕ) (qs : List (List ℕ)) (code : Bool) (s : Session) : Type 0 where
   pub early : isEarly (s .phase) ≡ true → (ps ≡ []) × (qs ≡ [])
   pub waiting : awaitsCryptogram (s .phase) ≡ true → KeptChoice ps qs (storeBytes s)
-  pub decided : code ≡ false → isDecided (s .phase) ≡ true → cardAsksMagMagStripe (storeBytes s) ≡ false
+  pub decided : code ≡ false → isDecided (s .phase) ≡ true → cardAsksMagStripe (storeBytes s) ≡ false
       → KeptChoice ps qs (storeBytes s)
-  pub mode : isDecided (s .phase) ≡ true → cardAsksMagMagStripe (storeBytes s) ≡ magStripeMode (storeBytes s)
+  pub mode : isDecided (s .phase) ≡ true → cardAsksMagStripe (storeBytes s) ≡ magStripeMode (storeBytes s)
 
 -- a fresh session
 pub fresh-traced : (s : Session) → s .phase ≡ Phase.Fresh → Traced [] [] false s
@@ -436,7 +436,7 @@ module _ (ms : List CallMade) (s : Session) (i : inRanges s ≡ true) (t : Trace
       go (Phase.Ended x) q e =
           elim (bool-cases (eqb (x .reason) reasonNone)) [
             | inl z ↦
-                elim (bool-cases (cardAsksMagMagStripe (storeBytes s))) [
+                elim (bool-cases (cardAsksMagStripe (storeBytes s))) [
                   | inl m ↦ apart (sym (ap ofChoice (by-mag-stripe x (storeBytes s) (eqb-true _ _ z) m)) ∙ e)
                   | inr m ↦ t .decided n (ap isDecided q ∙ z) m
                 ]
@@ -454,7 +454,7 @@ module _ (ms : List CallMade) (s : Session) (i : inRanges s ≡ true) (t : Trace
   phase-says p q = if-yes _ _ i ∙ ap (λ (x : Phase). explainedInPhase x (storeBytes s)) q
 
   decided-says : (x : Ending) → s .phase ≡ Phase.Ended x → eqb (x .reason) reasonNone ≡ true
-      → cardAsksMagMagStripe (storeBytes s) ≡ false → explanationOf s ≡ explainedDecision x (storeBytes s) (decidingIn (storeBytes s))
+      → cardAsksMagStripe (storeBytes s) ≡ false → explanationOf s ≡ explainedDecision x (storeBytes s) (decidingIn (storeBytes s))
   unfolding explainedEnd
   decided-says x q z m = phase-says (Phase.Ended x) q ∙ by-choice x (storeBytes s) m ∙ if-yes _ _ z
 
@@ -562,7 +562,7 @@ module _ (ms : List CallMade) (s : Session) (i : inRanges s ≡ true) (t : Trace
       go (Phase.Cryptogram a) q w = apart w
       go (Phase.Checksum k) q w = apart w
       go (Phase.Ended x) q w =
-          elim (bool-cases (cardAsksMagMagStripe (storeBytes s))) [
+          elim (bool-cases (cardAsksMagStripe (storeBytes s))) [
             | inl m ↦
                 let y = phase-says (Phase.Ended x) q ∙ by-mag-stripe x (storeBytes s) (eqb-true _ _ w) m in
                 none-some (sym (ap explainedStage y) ∙ f)

@@ -32,7 +32,7 @@ use Rattle.explain.specs.declared.Cause.{Cause}
 use Rattle.explain.specs.declared.Explanation.{Explanation}
 use Rattle.explain.specs.declared.Holder.{Holder}
 use Rattle.explain.specs.declared.Stage.{Stage}
-use Rattle.explain.specs.Explain.{storedChoice, cryptogramRank, storedCryptogramType, requestedType, cardAsksMagMagStripe, explanationOf}
+use Rattle.explain.specs.Explain.{storedChoice, cryptogramRank, storedCryptogramType, requestedType, cardAsksMagStripe, explanationOf}
 use Rattle.explain.specs.Promise.{choiceForcedBy, choiceUnforcedAt}
 
 -- ---- an answer that brought a code
@@ -218,7 +218,7 @@ pub record ExplainedSession (ms : List CallMade) (s : Session) : Type 0 where
       → (stage : Stage) → explainedStage (explanationOf s) ≡ some stage → (choice : Choice)
       → p1s (commandsSent ms) ≡ generateAcP1 choice ∷ [] → choiceRank choice ≤ cryptogramRank (storedCryptogramType (storeBytes s))
   -- where a decision was reached, the card asks for mag-stripe mode exactly where the session is in it
-  pub mode : isDecided (s .phase) ≡ true → cardAsksMagMagStripe (storeBytes s) ≡ magStripeMode (storeBytes s)
+  pub mode : isDecided (s .phase) ≡ true → cardAsksMagStripe (storeBytes s) ≡ magStripeMode (storeBytes s)
 
 -- one rank: a choice ranks as the type of cryptogram that it asks for
 abbrev pub OneRank : Type 0
