@@ -1,4 +1,4 @@
--- Worked locators, by computation: the one of document 01's bench, two entries in order, and each rule at its edge.
+-- Worked AFLs, by computation: the one of document 01's bench, two entries in order, and each rule at its edge.
 -- Assumes nothing.
 use mathlib.Core.Path.{_≡_, refl}
 use mathlib.Core.Bool.{true, false}
@@ -23,7 +23,8 @@ inside : map acceptsAfl ((0x08 ∷ 1 ∷ 128 ∷ 128 ∷ []) ∷ (0xF0 ∷ 255 �
 unfolding acceptsAfl wholeEntries aflEntries every validEntry both sumOverEntries
 inside = refl
 
--- 129 records; file 0; file 31; a low bit of byte 1; first record 0; last below first; byte 4 one too many; no entry; five bytes
+-- 129 records; file 0; file 31; a low bit of byte 1; first record 0; last below first; byte 4 one too many; no
+-- entry; five bytes
 outside : map acceptsAfl
     ((0x08 ∷ 1 ∷ 129 ∷ 0 ∷ [])
     ∷ (0x00 ∷ 1 ∷ 1 ∷ 0 ∷ [])

@@ -1,5 +1,5 @@
--- What callers of this crate may rely on, over every list: what an entry that keeps the rules is, what an accepted locator is,
--- and which record is the k-th.
+-- What callers of this crate may rely on, over every list: what an entry that satisfies the rules is, what an accepted
+-- AFL is, and which record is the k-th.
 -- Assumes nothing.
 use mathlib.Core.Path.{_≡_, refl, sym, ap, _∙_}
 use mathlib.Core.Bool.{true, false}
@@ -58,7 +58,7 @@ keeps-kept e t =
       offline = leb-true _ _ (both-right _ _ d);
     }
 
--- of an entry that keeps the rules, the records are last - first + 1, and at least one
+-- of an entry that satisfies the rules, the records are last - first + 1, and at least one
 pub count-kept : (e : AflEntry) → validEntry e ≡ true → (entryRecordCount e ≡ e .last - e .first + 1) × (1 ≤ entryRecordCount e)
 count-kept e t = let k = keeps-kept e t in omega arith
 
@@ -67,7 +67,7 @@ unfolding sumOverEntries every
 sum-kept [] t = refl
 sum-kept (e ∷ x) t = let c = count-kept e (both-left _ _ t) .0 in rw (c, sum-kept x (both-right _ _ t))
 
--- ---- an accepted locator
+-- ---- an accepted AFL
 
 module _ (s : List ℕ) (a : acceptsAfl s ≡ true) where
   pub accepted-whole : wholeEntries s ≡ true
@@ -121,7 +121,7 @@ is-rejected s e =
       | inr n ↦ n
     ]
 
--- the reason is that of the locator's rules, unless it is accepted
+-- the reason is that of the AFL's rules, unless it is accepted
 pub checked-number : (s : List ℕ) → aflReason (aflChecked s) ≡ unless (acceptsAfl s) reasonAfl
 checked-number s =
     elim (bool-cases (acceptsAfl s)) [
@@ -145,7 +145,7 @@ pub kth-zero : (k : ℕ) (l : List CardRecord) → k ≡ 0 → kthRecord k l ≡
 unfolding kthRecord
 kth-zero k l e = rw e
 
--- the k-th record of an accepted locator is that of its records; no other locator has one
+-- the k-th record of an accepted AFL is that of its records; no other AFL has one
 pub record-yes : (s : List ℕ) (k : ℕ) → acceptsAfl s ≡ true → aflRecordAt s k ≡ kthRecord k (aflRecords s)
 unfolding aflRecordAt
 record-yes s k a = if-yes _ _ a
@@ -190,7 +190,7 @@ module _ (s : List ℕ) (k : ℕ) (r : CardRecord) (e : aflRecordAt s k ≡ At r
   pub record-inside : (1 ≤ k) × (k ≤ aflRecordCount s)
   record-inside = let h = nth-inside (k - 1) (aflRecords s) r record-nth in (record-from, omega (arith, records-length s))
 
-  -- the records before it, itself, and the records behind it
+  -- the records before it, itself, and the records after it
   pub record-split : aflRecords s ≡ take (k - 1) (aflRecords s) ++ (r ∷ drop k (aflRecords s))
   record-split =
       let h = record-from in
@@ -211,7 +211,7 @@ module _ (s : List ℕ) (k : ℕ) (r : CardRecord) (e : aflRecordAt s k ≡ At r
       (λ x t i h. let kept = keeps-kept x t in (kept .sfi, kept .most, omega arith))
       (aflEntries s) (accepted-keeps s record-accepted) (k - 1) r record-nth
 
-  -- of a locator of bytes, its number is a byte
+  -- of an AFL of bytes, its number is a byte
   pub record-byte : ((i : ℕ) → getD s i 0 < 256) → r .number ≤ 255
   record-byte b =
       records-all (λ (x : AflEntry). leb (x .last) 255) (λ (q : CardRecord). q .number ≤ 255)

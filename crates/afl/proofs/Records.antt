@@ -1,5 +1,5 @@
--- The entries and the records of a list of bytes: four bytes at the front are one entry, whole entries join, and there are
--- as many records as the entries' counts sum to. By clauses on the list, as the definitions go.
+-- The entries and the records of a list of bytes: four bytes at the front are one entry, whole entries join, and there
+-- are as many records as the entries' counts sum to. By clauses on the list, as the definitions go.
 -- Assumes nothing.
 use mathlib.Core.Path.{_≡_, refl, sym, ap, _∙_}
 use mathlib.Core.Bool.{Bool, true, false}
@@ -59,7 +59,7 @@ whole-front s h =
     let e : length s % 4 ≡ length (drop 4 s) % 4 = rw length-drop (omega arith) in
     ap (λ (n : ℕ). eqb n 0) e
 
--- the entries of whole entries with more behind them
+-- the entries of whole entries with more after them
 pub entries-join : (s t : List ℕ) → length s % 4 ≡ 0 → aflEntries (s ++ t) ≡ aflEntries s ++ aflEntries t
 unfolding aflEntries
 entries-join [] t w = refl
@@ -132,7 +132,7 @@ nth-run (suc i) f k (suc n) h =
     let e : k + 1 + i ≡ k + suc i = omega arith in
     nth-run i f (k + 1) n (omega arith) ∙ ap (λ (m : ℕ). At (record { sfi = f; number = m })) e
 
--- an entry's records in front of others: a place below its count is its own, any other one of theirs
+-- an entry's records before others: a place below its count is its own, any other one of theirs
 module _ (e : AflEntry) (l : List CardRecord) (i : ℕ) where
   pub nth-named : i < entryRecordCount e → nthRecord i (entryRecords e ++ l) ≡ At (record { sfi = entrySfi e; number = e .first + i })
   nth-named h = nth-left i (entryRecords e) l (rw (length-named e) h) ∙ nth-run i (entrySfi e) (e .first) (entryRecordCount e) h

@@ -1,4 +1,5 @@
--- One entry at a time: what a check and a search say of the bytes that are left, before and after an entry. The loops cite these.
+-- One entry at a time: what a check and a search say of the bytes that are left, before and after an entry. The
+-- loops cite these.
 -- Assumes nothing.
 use mathlib.Core.Path.{_≡_, refl, sym, ap, _∙_}
 use mathlib.Core.Bool.{Bool, true, false}
@@ -20,7 +21,7 @@ use Rattle.basics.specs.Number.{between}
 use Rattle.afl.specs.Records.{aflEntries, wholeEntries, entryRecords, entriesRecords, sumOverEntries, aflRecords, aflRecordCount, acceptsAfl, aflChecked, nthRecord}
 use Rattle.afl.proofs.Records.{entries-front, entries-short, whole-front, whole-of, part-of, total-front, records-front, nth-named, nth-beyond}
 
--- the bytes behind the first entry, as `&s[4..]` makes them
+-- the bytes after the first entry, as `&s[4..]` makes them
 abbrev pub tail : List ℕ → List ℕ
 tail s = take (length s - 4) (drop 4 s)
 
@@ -32,11 +33,11 @@ tail-less s h = rw (tail-is s) (simp length-drop (omega arith))
 
 -- ---- a check
 
--- what a check says of R, given whether the entries are whole and keep the rules
+-- what a check reports of R, given whether the entries are whole and keep the rules
 abbrev verdict : Bool → Bool → ℕ → AflCheck
 verdict w k n = if (both w (both k (between 1 n 128))) (Accepted (record { records = n })) Rejected
 
--- what a check says of the bytes s, where entries with n records stood before them
+-- what a check reports of the bytes s, where entries with n records stood before them
 unfoldable pub onwards : ℕ → List ℕ → AflCheck
 onwards n s = verdict (wholeEntries s) (every validEntry (aflEntries s)) (n + aflRecordCount s)
 

@@ -1,5 +1,5 @@
--- One entry of the file locator, tag 94 (document 01, "Commands and steps", Locator; Book C-2, A.1.15; Book 3, the
--- application file locator): the file and the records that its four bytes name, and the rules that they keep.
+-- One entry of the AFL, tag 94 (document 01, "Commands and steps", Locator; Book C-2, A.1.15; Book 3, the application
+-- file locator): the file and the records that its four bytes name, and the rules that they satisfy.
 -- Assumes nothing.
 use mathlib.Core.Bool.{Bool}
 use mathlib.Core.List.{List}
@@ -25,8 +25,8 @@ entrySfi e = e .lead / 8
 abbrev pub entryRecordCount : AflEntry → ℕ
 entryRecordCount e = e .last + 1 - e .first
 
--- an entry keeps the rules: no low bit in byte 1, a file number from 1 to 30, records numbered from 1 on, in order, and
--- no more of them for offline authentication than there are
+-- an entry satisfies the rules: no low bit in byte 1, a file number from 1 to 30, records numbered from 1 on, in order,
+-- and no more of them for offline authentication than there are
 unfoldable pub validEntry : AflEntry → Bool
 validEntry e =
     e .lead % 8 =? 0

@@ -1,5 +1,5 @@
--- The file locator, tag 94, as a whole (document 01, "Commands and steps", Locator, "What demand 3 counts"): its
--- entries, the records that it names in the published order, and when it is accepted. A locator is any list of bytes.
+-- The AFL, tag 94, as a whole (document 01, "Commands and steps", Locator, "What demand 3 counts"): its entries, the
+-- records that it names in the published order, and when it is accepted. An AFL is any list of bytes.
 -- Assumes nothing.
 use mathlib.Core.Bool.{Bool}
 use mathlib.Core.List.{List, [], _∷_, _++_}
@@ -16,7 +16,7 @@ use Rattle.afl.specs.declared.RecordFound.the-variants.{At, Nothing}
 use Rattle.afl.specs.Entry.{aflEntry, entrySfi, entryRecordCount, validEntry}
 use Rattle.basics.specs.Number.{between}
 
--- the entries, four bytes each, from the front; one to three bytes behind the last are no entry
+-- the entries, four bytes each, from the front; one to three bytes after the last are no entry
 unfoldable pub aflEntries : List ℕ → List AflEntry
 aflEntries [] = []
 aflEntries (a ∷ []) = []
@@ -47,29 +47,29 @@ unfoldable pub sumOverEntries : (AflEntry → ℕ) → List AflEntry → ℕ
 sumOverEntries f [] = 0
 sumOverEntries f (e ∷ es) = f e + sumOverEntries f es
 
--- the records that a locator names, in the published order
+-- the records that an AFL names, in the published order
 abbrev pub aflRecords : List ℕ → List CardRecord
 aflRecords s = entriesRecords (aflEntries s)
 
--- R, how many records a locator names: the sum of last - first + 1
+-- R, how many records an AFL names: the sum of last - first + 1
 abbrev pub aflRecordCount : List ℕ → ℕ
 aflRecordCount s = sumOverEntries entryRecordCount (aflEntries s)
 
--- a locator is accepted: whole entries, each keeps the rules, 1 to 128 records in all
+-- an AFL is accepted (document 01's accepted locator): whole entries, each satisfies the rules, 1 to 128 records in all
 unfoldable pub acceptsAfl : List ℕ → Bool
 acceptsAfl s =
     wholeEntries s
     and every validEntry (aflEntries s)
     and between 1 (aflRecordCount s) 128
 
--- what a check of a locator says: R if it is accepted
+-- what a check of an AFL reports: R if it is accepted
 unfoldable pub aflChecked : List ℕ → AflCheck
 aflChecked s =
     if acceptsAfl s then Accepted (record { records = aflRecordCount s })
     else Rejected
 
--- the number of a check's answer (document 01, "Calls and their numbers"): 0 where it gives no reason, else 5, a
--- locator that breaks its rules
+-- the number of a check's answer (document 01, "Calls and their numbers"): 0 where it gives no reason, else 5, an AFL
+-- that breaks its rules
 abbrev pub aflReason : AflCheck → ℕ
 aflReason (Accepted e) = reasonNone
 aflReason Rejected = reasonAfl
@@ -85,7 +85,7 @@ unfoldable pub kthRecord : ℕ → List CardRecord → RecordFound
 kthRecord zero l = Nothing
 kthRecord (suc i) l = nthRecord i l
 
--- the k-th record of an accepted locator, k from 1 to R
+-- the k-th record of an accepted AFL, k from 1 to R
 unfoldable pub aflRecordAt : List ℕ → ℕ → RecordFound
 aflRecordAt s k =
     if acceptsAfl s then kthRecord k (aflRecords s)

@@ -1,6 +1,6 @@
-// The file locator (tag 94) that a card hands out with its processing options: whether it keeps the
-// rules and how many records it names (`check_afl`), the k-th of them (`record_at`, k from 1), and the
-// command that reads one (`read_record`). A locator comes in as plain bytes of any length and contents.
+// The AFL (94) that a card returns in its answer to GPO: whether it satisfies the rules and how many records it names
+// (`check_afl`), the k-th of them (`record_at`, k from 1), and the command that reads one (`read_record`). An AFL comes
+// in as plain bytes of any length and contents.
 ghost use mathlib.Core.Path.{_≡_};
 ghost use Prim.Native.Nat.{_≤_};
 ghost use lib.ListN.{length};
@@ -14,8 +14,8 @@ pub struct CardRecord {
     pub number: u8,
 }
 
-// One entry of a locator: byte 1 with the short file identifier in its top five bits, the first and the last
-// record, and how many of them offline authentication covers.
+// One entry of an AFL: byte 1 with the short file identifier in its top five bits, the first and the last record, and
+// how many of them offline authentication covers.
 pub struct AflEntry {
     pub lead: u8,
     pub first: u8,
@@ -23,7 +23,7 @@ pub struct AflEntry {
     pub offline: u8,
 }
 
-// What an accepted locator amounts to: how many records it names, 1 to 128.
+// What an accepted AFL amounts to: how many records it names, 1 to 128.
 pub struct AflExtent {
     pub records: usize,
 }
@@ -38,7 +38,7 @@ pub enum RecordFound {
     Nothing,
 }
 
-// Whether a locator keeps the rules, and how many records it names.
+// Whether an AFL satisfies the rules, and how many records it names.
 pub fn check_afl(afl: &[u8]) -> AflCheck
     ensures said { λ r. ⌜ r ≡ aflChecked (now (afl .entry)) ⌝ }
     ensures reason { λ r. ⌜ aflReason r ≡ unless (acceptsAfl (now (afl .entry))) reasonAfl ⌝ }
@@ -65,7 +65,7 @@ pub fn check_afl(afl: &[u8]) -> AflCheck
     AflCheck::Accepted(AflExtent { records: total })
 }
 
-// The k-th record of an accepted locator, k from 1; nothing for any other k or locator.
+// The k-th record of an accepted AFL, k from 1; nothing for any other k or AFL.
 pub fn record_at(afl: &[u8], k: usize) -> RecordFound
     ensures { λ r. ⌜ r ≡ aflRecordAt (now (afl .entry)) k ⌝ }
 {
@@ -104,7 +104,7 @@ fn count(e: AflEntry) -> usize
     last - first + 1
 }
 
-// Whether an entry keeps the rules.
+// Whether an entry satisfies the rules.
 fn is_valid_entry(e: AflEntry) -> bool
     ensures { λ r. ⌜ r ≡ keepsRules e ⌝ }
 {

@@ -1,5 +1,5 @@
--- Rows of the bench table (document 01) that speak of the choice, at every store that holds what a row names: the choice over its
--- values is computed. Assumes nothing.
+-- Rows of the bench table (document 01) that speak of the choice, at every store that holds what a row names: the
+-- choice over its values is computed. Assumes nothing.
 use mathlib.Core.List.{List, [], _∷_}
 use mathlib.Core.Path.{_≡_, refl, ap, _∙_}
 use Prim.Native.Nat.{ℕ}

@@ -1,4 +1,5 @@
--- Each of the forty result bits is the test that the rules give it, or clear: one test computed over all tests and all bits.
+-- Each of the forty TVR bits is the test that the rules give it, or clear: one test computed over all tests
+-- and all bits.
 -- Assumes nothing.
 use mathlib.Core.Bool.{Bool, true, false, not}
 use mathlib.Core.List.{List, [], _∷_}

@@ -15,7 +15,7 @@ use Rattle.analysis.specs.declared.cvm.CvmResult.{CvmResult}
 
 -- ---- whole lists
 
--- 12.34 by byte 2 of 9F33 and the list 8E: cash, cashback, at an ATM, in the application's currency
+-- 12.34 by byte 2 of 9F33 and the CVM List (8E): cash, cashback, at an ATM, in the application's currency
 abbrev terms : Bool → Bool → Bool → Bool → ℕ → List ℕ → CvmConditions
 terms k b a u c l = record { capabilities = c; cash = k; cashback = b; atm = a; currency = u; amount = 1234; x = cvmAmountX l; y = cvmAmountY l }
 
@@ -31,7 +31,7 @@ cashOf atm = terms true false atm true
 abbrev withCashback : ℕ → List ℕ → CvmConditions
 withCashback = terms false true false true
 
--- 9F34, what bytes 1 and 3 of 95 get, and the method's number
+-- 9F34, what bytes 1 and 3 of 95 get, and the CVM's number
 shown : CvmResult → List ℕ
 shown v = v .code ∷ v .condition ∷ v .result ∷ v .tvr1 ∷ v .tvr3 ∷ cvmNumber (v .cvm) ∷ []
 
@@ -42,7 +42,7 @@ byRulesOf t s = shown (cvmProcessing 0x10 (present (replicate 8 0 ++ s)) (t (rep
 abbrev byWhole : (List ℕ → CvmConditions) → List ℕ → List ℕ
 byWhole t l = shown (cvmProcessing 0x10 (present l) (t l))
 
--- no verification by the card's profile, whatever the list; no list; an empty one
+-- no verification by the AIP, whatever the list; no list; an empty one
 not-asked :
     shown (cvmProcessing 0xEF (present (replicate 8 0 ++ 0x42 ∷ 0x00 ∷ [])) (purchase 0x68 (replicate 8 0)))
     ∷ shown (cvmProcessing 0xEF absent (purchase 0x68 []))
@@ -72,8 +72,8 @@ by-support :
 unfolding shown cvmProcessing byCvmRules cvmRulesFrom cvmConditionMet cvmAmountMet cvmSupported cvmRecognised cvmSuccessful cvmUnsuccessful if both either firstBytes bigEndianFrom
 by-support = refl
 
--- amounts equal to X and Y are neither under nor over; fail keeps its code and condition; one under and one over; X and Y
--- read as binary numbers; another currency, and the highest and the lowest amounts
+-- amounts equal to X and Y are neither under nor over; fail keeps its code and condition; one under and one over; X and
+-- Y read as binary numbers; another currency, and the highest and the lowest amounts
 by-amount :
     byWhole (purchase 0x68) (0x00 ∷ 0x00 ∷ 0x04 ∷ 0xD2 ∷ 0x00 ∷ 0x00 ∷ 0x04 ∷ 0xD2 ∷ 0x1E ∷ 0x06 ∷ 0x1E ∷ 0x07 ∷ 0x1E ∷ 0x08 ∷ 0x1E ∷ 0x09 ∷ 0x00 ∷ 0x00 ∷ [])
     ∷ byWhole (purchase 0x68) (0x00 ∷ 0x00 ∷ 0x04 ∷ 0xD1 ∷ 0x00 ∷ 0x00 ∷ 0x04 ∷ 0xD3 ∷ 0x42 ∷ 0x06 ∷ 0x5E ∷ 0x08 ∷ [])
@@ -96,8 +96,8 @@ by-amount :
 unfolding shown cvmProcessing byCvmRules cvmRulesFrom cvmConditionMet cvmAmountMet cvmSupported cvmRecognised cvmSuccessful cvmUnsuccessful if both either firstBytes bigEndianFrom
 by-amount = refl
 
--- an unrecognised method: the next rule where b7 says so, and the bit stays; none where b7 is clear or no rule is left; no
--- bit where the condition does not hold
+-- an unrecognised CVM: the next rule where b7 indicates so, and the bit stays; none where b7 is clear or no rule is
+-- left; no bit where the condition does not hold
 unrecognised :
     byRulesOf (purchase 0x68) (0x46 ∷ 0x00 ∷ 0x1F ∷ 0x00 ∷ [])
     ∷ byRulesOf (purchase 0x68) (0x06 ∷ 0x00 ∷ 0x1F ∷ 0x00 ∷ [])
@@ -244,7 +244,7 @@ high-bits :
 unfolding cvmSupported if both
 high-bits = refl
 
--- the methods of the table, whatever b7 and b8; their neighbours
+-- the CVMs of the table, whatever b7 and b8; their neighbours
 recognises :
     map cvmRecognised (codes ++ 0x45 ∷ 0x46 ∷ 0xDE ∷ 0xDD ∷ [])
     ≡ true ∷ true ∷ true ∷ true ∷ true ∷ true ∷ false ∷ false ∷ true ∷ true ∷ false ∷ false ∷ true ∷ false ∷ true ∷ false ∷ []

@@ -1,4 +1,5 @@
--- Laws of the cardholder verification: what lies behind the rule that decides, the odd last byte, and the bits added to 95.
+-- Laws of the cardholder verification: what lies after the rule that decides, the odd last byte, and the bits
+-- added to 95.
 -- Assumes nothing.
 use mathlib.Core.Path.{_≡_, refl, sym, ap, _∙_}
 use mathlib.Core.Bool.{Bool, true, false, not}
@@ -23,7 +24,7 @@ use Rattle.analysis.proofs.CvmSteps.{rules-short, by-bytes}
 
 -- ---- the rule that decides
 
--- a rule decides where its condition holds, and its method is taken or is unsuccessful with b7 clear
+-- a rule decides where its condition holds, and its CVM is taken or is unsuccessful with b7 clear
 unfoldable pub decides : CvmConditions → CvmRule → Bool
 decides t r = both (cvmConditionMet t (r .code) (r .condition)) (either (cvmPerformed (t .capabilities) (r .code)) (not (byteBit (r .code) 7)))
 
@@ -31,7 +32,7 @@ goes-on-not : (code : ℕ) (rs : List CvmRule) → not (byteBit code 7) ≡ true
 goes-on-not code [] e = refl
 goes-on-not code (r ∷ rs) e = not-true _ e
 
--- what it says, whatever lies behind it
+-- what it says, whatever lies after it
 decided : (t : CvmConditions) (u : Bool) (r : CvmRule) → CvmResult
 decided t u r =
     if (cvmPerformed (t .capabilities) (r .code)) (cvmSuccessful (r .code) (r .condition) u)
@@ -53,7 +54,7 @@ goes-on-same : (code : ℕ) (before : List CvmRule) (r : CvmRule) (rs ss : List 
 goes-on-same code [] r rs ss = refl
 goes-on-same code (b ∷ before) r rs ss = refl
 
--- rules behind one that decides do not matter, whatever stands before it
+-- rules after one that decides do not matter, whatever is before it
 pub rules-behind : (t : CvmConditions) (u : Bool) (before : List CvmRule) (r : CvmRule) (rs ss : List CvmRule) → decides t r ≡ true
     → byCvmRules t u (before ++ r ∷ rs) ≡ byCvmRules t u (before ++ r ∷ ss)
 unfolding byCvmRules
@@ -67,7 +68,7 @@ rules-behind t u (b ∷ before) r rs ss d =
 
 -- ---- the same on the bytes of a list
 
--- behind whole rules the bytes make rules of their own
+-- after whole rules the bytes make rules of their own
 rules-append : (s l : List ℕ) → length s % 2 ≡ 0 → cvmRulesFrom (s ++ l) ≡ cvmRulesFrom s ++ cvmRulesFrom l
 unfolding cvmRulesFrom
 rules-append [] l e = refl
@@ -86,7 +87,7 @@ alike aip t s l n m e = ap (λ (v : CvmResult). if (byteBit aip 5) v (cvmNotPerf
 not-empty : (s l : List ℕ) → (length s ≡ 0 → ⊥) → length (s ++ l) ≡ 0 → ⊥
 not-empty s l n z = n (omega (arith, length-append s l))
 
--- bytes behind a rule that decides do not matter; before it the list has its amounts and whole rules
+-- bytes after a rule that decides do not matter; before it the list has its amounts and whole rules
 module _ (aip : ℕ) (t : CvmConditions) (s : List ℕ) (h : 8 ≤ length s) (e : length s % 2 ≡ 0) where
   pub bytes-behind : (c d : ℕ) (l m : List ℕ) → decides t (cvmRule c d) ≡ true
       → cvmProcessing aip (present (s ++ c ∷ d ∷ l)) t ≡ cvmProcessing aip (present (s ++ c ∷ d ∷ m)) t
@@ -97,7 +98,7 @@ module _ (aip : ℕ) (t : CvmConditions) (s : List ℕ) (h : 8 ≤ length s) (e 
       ∙ rules-behind t false (cvmRulesOf s) (cvmRule c d) (cvmRulesFrom l) (cvmRulesFrom m) k
       ∙ sym (ap (byCvmRules t false) (of-append s (c ∷ d ∷ m) h e)))
 
--- one byte behind a list of even length is no rule
+-- one byte after a list of even length is no rule
 rules-odd : (s : List ℕ) (b : ℕ) → length s % 2 ≡ 0 → cvmRulesOf (s ++ b ∷ []) ≡ cvmRulesOf s
 unfolding cvmRulesFrom
 rules-odd s b e =
@@ -109,7 +110,7 @@ rules-odd s b e =
           ∙ sym (rules-short (drop 8 s) (simp length-drop (omega arith)))
     ]
 
--- one byte behind a list of even length changes nothing
+-- one byte after a list of even length changes nothing
 pub odd-byte : (aip : ℕ) (t : CvmConditions) (s : List ℕ) (b : ℕ) → (length s ≡ 0 → ⊥) → length s % 2 ≡ 0
     → cvmProcessing aip (present (s ++ b ∷ [])) t ≡ cvmProcessing aip (present s) t
 odd-byte aip t s b n e = alike aip t (s ++ b ∷ []) s (not-empty s _ n) n (ap (byCvmRules t false) (rules-odd s b e))
@@ -217,7 +218,7 @@ pub other-third : (aip : ℕ) (v : StoredValue) (t : CvmConditions)
 other-third aip v t =
     let a = bits-added aip v t in rw (a .third-is) (clear-third (a .failed) (a .unrecognised) (a .pin))
 
--- a phone adds none at all
+-- on-device CVM adds none at all
 pub on-device-bits : (above : Bool) → (onDeviceResult above .tvr1 ≡ 0) × (onDeviceResult above .tvr3 ≡ 0)
 unfolding onDeviceResult if
 on-device-bits true = (refl, refl)

@@ -37,7 +37,7 @@ or-either a b x y p q = or-is a b ∙ ap₂ either p q
 
 -- ---- the rules of a list, one at a time
 
--- the bytes behind the first rule, as `&s[2..]` makes them
+-- the bytes after the first rule, as `&s[2..]` makes them
 abbrev pub tail : List ℕ → List ℕ
 tail s = take (length s - 2) (drop 2 s)
 

@@ -1,5 +1,5 @@
--- Cardholder verification over a store: one byte behind a list of even length; and for a phone, that neither 8E nor a bit of 82 but byte 1
--- b2 matters, and that no bit of 95 is added.
+-- Cardholder verification over a store: one byte after a list of even length; and for on-device CVM, that neither 8E
+-- nor a bit of 82 but byte 1 b2 matters, and that no bit of 95 is added.
 -- Assumes nothing.
 use mathlib.Core.Path.{_≡_, refl, sym, ap, ap₂, _∙_}
 use mathlib.Core.Bool.{Bool, true}
@@ -23,14 +23,14 @@ use Rattle.analysis.specs.declared.action.AnalysisFindings.{AnalysisFind
 use Rattle.analysis.specs.declared.cvm.CvmResult.{CvmResult}
 use Rattle.analysis.proofs.CvmLaws.{odd-byte, on-device-bits}
 
--- bytes behind n others are not among the first n
+-- bytes after n others are not among the first n
 front-append : (n : ℕ) (s l : List ℕ) → n ≤ length s → firstBytes n (s ++ l) ≡ firstBytes n s
 unfolding firstBytes
 front-append zero s l h = refl
 front-append (suc n) [] l h = absurd (omega arith)
 front-append (suc n) (x ∷ s) l h = ap (λ (t : List ℕ). x ∷ t) (front-append n s l (omega arith))
 
--- X and Y stand in the first eight bytes
+-- X and Y are in the first eight bytes
 amount-x : (s l : List ℕ) → 8 ≤ length s → cvmAmountX (s ++ l) ≡ cvmAmountX s
 amount-x s l h = ap bigEndian (front-append 4 s l (omega arith))
 
@@ -50,7 +50,7 @@ pub record ApartFromList (b c : List ℕ) : Type 0 where
   pub same-DF811B : objectValue b 0xDF811B ≡ objectValue c 0xDF811B
   pub same-DF8126 : objectValue b 0xDF8126 ≡ objectValue c 0xDF8126
 
--- one byte behind an 8E of even length changes nothing
+-- one byte after an 8E of even length changes nothing
 module _ (b c s : List ℕ) (x : ℕ) (h : 8 ≤ length s) (e : length s % 2 ≡ 0) (a : ApartFromList b c) (f : objectValue b 0x8E ≡ present (s ++ x ∷ [])) (g : objectValue c 0x8E ≡ present s) where
   same-terms : cvmConditionsIn b ≡ cvmConditionsIn c
   unfolding cvmConditionsIn
@@ -66,14 +66,14 @@ module _ (b c s : List ℕ) (x : ℕ) (h : 8 ≤ length s) (e : length s % 2 ≡
       (ap (λ (v : CvmResult). if (hasOnDeviceCvm c) (onDeviceResult (amountAbove (storedBytes c 0x9F02) (storedBytes c 0xDF8126))) v)
       (odd-byte (storedByte c 0x82 1) (cvmConditionsIn c) s x (λ z. omega arith) e))
 
--- ---- phones
+-- ---- on-device CVM
 
--- on a phone the method is by the amount and DF8126 alone
+-- with on-device CVM the CVM is by the amount and DF8126 alone
 pub on-device-verified : (b : List ℕ) → hasOnDeviceCvm b ≡ true → cvmResultIn b ≡ onDeviceResult (amountAbove (storedBytes b 0x9F02) (storedBytes b 0xDF8126))
 unfolding cvmResultIn
 on-device-verified b p = if-yes _ _ p
 
--- of two phones alike but for 82 and 8E, 9F34, 95 and the method are the same
+-- of two devices with on-device CVM alike but for 82 and 8E, 9F34, 95 and the CVM are the same
 module _ (b c : List ℕ) (p : hasOnDeviceCvm b ≡ true) (q : hasOnDeviceCvm c ≡ true) (a : AlikeButAipAndCvmList b c) where
   on-device-same : cvmResultIn b ≡ cvmResultIn c
   on-device-same =

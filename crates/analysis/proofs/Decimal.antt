@@ -1,5 +1,5 @@
--- Decimal numbers of three bytes, of six from two of three, whole amounts, dates by their digits, and the order of dates
--- of one century.
+-- Decimal numbers of three bytes, of six from two of three, whole amounts, dates by their digits, and the order of
+-- dates of one century.
 -- Assumes nothing.
 use mathlib.Core.Bool.{Bool, true, false}
 use mathlib.Core.List.{List, [], _∷_}

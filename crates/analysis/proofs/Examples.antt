@@ -1,4 +1,5 @@
--- Result bits and the choice on both sides of each rule's edge, by computation: each needed bit alone, and all bits but it.
+-- TVR bits and the choice on both sides of each rule's edge, by computation: each needed bit alone, and all
+-- bits but it.
 -- Assumes nothing.
 use mathlib.Core.Path.{_≡_, refl}
 use mathlib.Core.Bool.{Bool, true, false}
@@ -32,7 +33,8 @@ dates : map (dateLater (0x25 ∷ 0x12 ∷ 0x31 ∷ []))
 unfolding dateLater dateOf yearOf if firstBytes bcdFrom nibbles
 dates = refl
 
--- expired by the transaction date after the expiration date, not yet effective by the effective date after the transaction date
+-- expired by the transaction date after the expiration date, not yet effective by the effective date after the
+-- transaction date
 expirations : map (applicationExpired (0x25 ∷ 0x12 ∷ 0x31 ∷ [])) ((0x25 ∷ 0x12 ∷ 0x30 ∷ []) ∷ (0x25 ∷ 0x12 ∷ 0x31 ∷ []) ∷ []) ≡ true ∷ false ∷ []
 unfolding dateLater dateOf yearOf if firstBytes bcdFrom nibbles
 expirations = refl
@@ -87,7 +89,7 @@ other-amounts : map cashbackRequested (absent ∷ present (0 ∷ 0 ∷ 0 ∷ 0 �
 unfolding cashbackRequested amountOf firstBytes bcdFrom nibbles
 other-amounts = refl
 
--- the card's version: absent, the reader's, unlike it in the last byte and in the first
+-- the card's version: absent, the reader's, different from it in the last byte and in the first
 versions : map (λ (v : StoredValue). versionDiffers v (0x00 ∷ 0x02 ∷ [])) (absent ∷ present (0x00 ∷ 0x02 ∷ []) ∷ present (0x00 ∷ 0x03 ∷ []) ∷ present (0x01 ∷ 0x02 ∷ []) ∷ [])
     ≡ false ∷ false ∷ true ∷ true ∷ []
 unfolding versionDiffers bytesEqual both
@@ -153,7 +155,7 @@ goods-abroad : map (λ u. aucGoodsMet u Abroad 0x09) ((0x10 ∷ 0x00 ∷ []) ∷
 unfolding aucGoodsMet if either
 goods-abroad = refl
 
--- cashback: byte 2 b8 at home, b7 abroad, nothing where none is asked for
+-- cashback: byte 2 b8 at home, b7 abroad, nothing where none is requested
 cashback-home : map (λ u. aucAllowsCashback u Home true) ((0x00 ∷ 0x80 ∷ []) ∷ (0xFF ∷ 0x7F ∷ []) ∷ []) ≡ true ∷ false ∷ []
 unfolding aucAllowsCashback if
 cashback-home = refl
@@ -180,7 +182,7 @@ usage-cash : map (λ (v : StoredValue). aucViolatedBy v 0x14 (present (0x80 ∷ 
 unfolding aucViolated aucTerminalMet aucCashMet aucGoodsMet aucAllowsCashback atAtm issuerCountryOf cashbackRequested bytesEqual both either if
 usage-cash = refl
 
--- ---- result bits
+-- ---- TVR bits
 
 -- byte 2: each test at its bit
 restriction-bits : tvrByte2 true false false false ∷ tvrByte2 false true false false ∷ tvrByte2 false false true false ∷ tvrByte2 false false false true
@@ -257,7 +259,8 @@ choice-numbers = refl
 abbrev with : List ℕ → ℕ → List ℕ → List ℕ
 with b t v = putRow dictionaryRows b (rowNumberOf t) v
 
--- 10.00 on 31 December 2025 at both limits, with a card of the reader's version that expires on that day; type 22, codes of zeros
+-- 10.00 on 31 December 2025 at both limits, with a card of the reader's version that expires on that day; type 22,
+-- codes of zeros
 abbrev purchase : List ℕ
 purchase =
     with (with (with (with (with (with (with (with (with (with (with (with (replicate storeSize 0)
@@ -266,7 +269,7 @@ purchase =
     0x9F09 (0x00 ∷ 0x02 ∷ [])) 0x9F1A (0x08 ∷ 0x40 ∷ [])) 0x9F35 (0x22 ∷ []))
     0xDF8120 zeroCode) 0xDF8121 zeroCode) 0xDF8122 zeroCode
 
--- one object more, or changed
+-- one more object, or changed
 abbrev changed : ℕ → List ℕ → List ℕ
 changed t v = tvrOf (with purchase t v)
 
@@ -289,8 +292,8 @@ unfolding tvrOf restrictionsByte aucViolatedIn versionDiffers notYetEffective au
     putRow rowNumberOf objectValueIn rowValue rowPlace placeValue rowOffset findRow rowPast dictionaryRows
 results = refl
 
--- usage: 9F07 lets goods at home be bought at no ATM; then abroad by 5F28, at home by it, with cashback by 9F03, cash by 9C,
--- at an ATM by 9F35 and 9F40
+-- usage: 9F07 lets goods at home be bought at no ATM; then abroad by 5F28, at home by it, with cashback by 9F03, cash
+-- by 9C, at an ATM by 9F35 and 9F40
 abbrev used : List (ℕ × List ℕ) → List ℕ
 used [] = with purchase 0x9F07 (0x21 ∷ 0x00 ∷ [])
 used ((t, v) ∷ more) = with (used more) t v

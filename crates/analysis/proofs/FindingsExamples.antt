@@ -1,5 +1,5 @@
--- What is found in a store before the choice, by computation: 9F34, the five bytes of 95 and the method's number, for the plain store and
--- changes to it. The rules one by one are in VerificationExamples, phones in PhoneExamples.
+-- What is found in a store before the choice, by computation: 9F34, the five bytes of 95 and the CVM's number, for the
+-- plain store and changes to it. The rules one by one are in VerificationExamples, on-device CVM in PhoneExamples.
 -- Assumes nothing.
 use mathlib.Core.Path.{_≡_, refl}
 use mathlib.Core.List.{List, [], _∷_, _++_}
@@ -42,7 +42,7 @@ shown f = f .results ++ f .bits ++ cvmNumber (f .cvm) ∷ []
 abbrev found : List (ℕ × List ℕ) → List ℕ
 found l = shown (findingsOf (storing l))
 
--- no verification in the profile; no list; the list by what is supported
+-- no verification in the AIP; no list; the list by what is supported
 supports :
     found ((0x82, 0xEF ∷ 0x80 ∷ []) ∷ (0x8E, 0x00 ∷ 0x00 ∷ 0x00 ∷ 0x00 ∷ 0x00 ∷ 0x00 ∷ 0x00 ∷ 0x00 ∷ 0x42 ∷ 0x00 ∷ []) ∷ plain)
     ∷ found (plain)
@@ -76,7 +76,7 @@ unfolding shown storing findingsOf tvrWithCvm cvmResultIn hasOnDeviceCvm onDevic
     putRow rowNumberOf objectValueIn rowValue rowPlace placeValue rowOffset findRow rowPast dictionaryRows if both either
 amounts = refl
 
--- an unrecognised method and fail, each with the next rule; an odd last byte
+-- an unrecognised CVM and fail, each with the next rule; an odd last byte
 unsuccessful-rules :
     found ((0x8E, 0x00 ∷ 0x00 ∷ 0x00 ∷ 0x00 ∷ 0x00 ∷ 0x00 ∷ 0x00 ∷ 0x00 ∷ 0x46 ∷ 0x00 ∷ 0x1F ∷ 0x00 ∷ []) ∷ plain)
     ∷ found ((0x8E, 0x00 ∷ 0x00 ∷ 0x00 ∷ 0x00 ∷ 0x00 ∷ 0x00 ∷ 0x00 ∷ 0x00 ∷ 0x40 ∷ 0x00 ∷ 0x1F ∷ 0x00 ∷ []) ∷ plain)
@@ -125,7 +125,8 @@ unfolding shown storing findingsOf tvrWithCvm cvmResultIn hasOnDeviceCvm onDevic
     putRow rowNumberOf objectValueIn rowValue rowPlace placeValue rowOffset findRow rowPast dictionaryRows if both either
 currencies = refl
 
--- cash, type 17, at a type of ATM without 9F40, and with b8 of it clear; cash at another type with it; type 20 is neither cash nor cashback
+-- cash, type 17, at a type of ATM without 9F40, and with b8 of it clear; cash at another type with it; type 20 is
+-- neither cash nor cashback
 places :
     found ((0x8E, 0x00 ∷ 0x00 ∷ 0x00 ∷ 0x00 ∷ 0x00 ∷ 0x00 ∷ 0x00 ∷ 0x00 ∷ 0x1E ∷ 0x04 ∷ 0x1F ∷ 0x02 ∷ 0x42 ∷ 0x01 ∷ []) ∷ (0x9C, 0x17 ∷ []) ∷ (0x9F35, 0x14 ∷ []) ∷ plain)
     ∷ found ((0x8E, 0x00 ∷ 0x00 ∷ 0x00 ∷ 0x00 ∷ 0x00 ∷ 0x00 ∷ 0x00 ∷ 0x00 ∷ 0x1E ∷ 0x04 ∷ 0x1F ∷ 0x02 ∷ 0x42 ∷ 0x01 ∷ []) ∷ (0x9C, 0x17 ∷ []) ∷ (0x9F35, 0x14 ∷ []) ∷ (0x9F40, 0x7F ∷ 0xFF ∷ 0xFF ∷ 0xFF ∷ 0xFF ∷ []) ∷ plain)

@@ -1,5 +1,6 @@
--- What the session builds on: the result has five bytes, the first always 80, P1 is one of three, the one that the rule gives by number,
--- and the limit in force goes by four objects. Each from its definition, a byte's bits being different powers of two. Assumes nothing.
+-- What the session builds on: the TVR has five bytes, the first always 80, P1 is one of three, the one that the rule
+-- gives by number, and the transaction limit goes by four objects. Each from its definition, a byte's bits being
+-- different powers of two. Assumes nothing.
 use mathlib.Core.Bool.{Bool, true, false}
 use mathlib.Core.List.{List}
 use mathlib.Core.Logic.{_⊎_, inl, inr}
@@ -101,12 +102,12 @@ pub p1-is : (result : List ℕ) (kind : ℕ) (pairs : List ActionCodes) → gene
 unfolding choiceOf generateAcP1For onlineCapabilityAt
 p1-is result kind pairs = p1-by _ _ _ _ _ _ (one-ending (typeLastDigit kind))
 
--- what is handed back, and its number
+-- what is returned, and its number
 pub asks : (result : List ℕ) (kind : ℕ) (pairs : List ActionCodes) {r : Choice} → r ≡ choiceOf result kind pairs
     → (r ≡ choiceOf result kind pairs) × (generateAcP1 r ≡ generateAcP1For result kind pairs)
 asks result kind pairs e = (e, ap generateAcP1 e ∙ p1-is result kind pairs)
 
--- the limit in force goes by 82, DF811B, DF8124 and DF8125 alone
+-- the transaction limit goes by 82, DF811B, DF8124 and DF8125 alone
 pub limit-same : (b c : List ℕ) → objectValue b 0x82 ≡ objectValue c 0x82 → objectValue b 0xDF811B ≡ objectValue c 0xDF811B
     → objectValue b 0xDF8124 ≡ objectValue c 0xDF8124 → objectValue b 0xDF8125 ≡ objectValue c 0xDF8125 → transactionLimit b ≡ transactionLimit c
 unfolding transactionLimit hasOnDeviceCvm

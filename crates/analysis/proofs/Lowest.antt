@@ -1,4 +1,5 @@
--- The lowest number that passes a test: it passes, no lower one does, and where there is none, none passes; and the other way round.
+-- The lowest number that passes a test: it passes, no lower one does, and where there is none, none passes; and the
+-- other way round.
 -- Assumes nothing.
 use mathlib.Core.Bool.{Bool, true, false}
 use mathlib.Core.Logic.{inl, inr}

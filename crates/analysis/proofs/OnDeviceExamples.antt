@@ -1,4 +1,5 @@
--- Phones by computation: 9F34, 95 and the method of a store, and the limit in force against the amount; on both sides of each bit and limit.
+-- On-device CVM by computation: 9F34, 95 and the CVM of a store, and the transaction limit against the amount; on both
+-- sides of each bit and limit.
 -- Assumes nothing.
 use mathlib.Core.Path.{_≡_, refl}
 use mathlib.Core.Bool.{Bool, true, false}
@@ -19,7 +20,7 @@ use Rattle.analysis.specs.Cvm.{cvmRulesFrom, cvmRecognised, cvmSupported
 use Rattle.analysis.specs.Action.{hasOnDeviceCvm, transactionLimit, aboveTransactionLimit, aucViolatedIn, restrictionsByte, tvrOf, sameCurrency, cvmConditionsIn, cvmResultIn, tvrWithCvm, findingsOf}
 use Rattle.analysis.proofs.FindingsExamples.{storing, plain, shown}
 
--- the plain store of a purchase of 12.34, with a configuration that takes phones
+-- the plain store of a purchase of 12.34, with a configuration that takes on-device CVM
 abbrev ready : List (ℕ × List ℕ)
 ready = (0xDF811B, 0x20 ∷ []) ∷ plain
 
@@ -37,7 +38,8 @@ highest = replicate 6 0x99
 abbrev onlyRule : ℕ → List ℕ
 onlyRule code = 0 ∷ 0 ∷ 0 ∷ 0 ∷ 0 ∷ 0 ∷ 0 ∷ 0 ∷ code ∷ 0 ∷ []
 
--- a phone with a list: at the limit DF8126, and above it; without a list: above it without b5 of 82, and below it with or without b5
+-- on-device CVM with a list: at the limit DF8126, and above it; without a list: above it without b5 of 82, and below it
+-- with or without b5
 phones :
     found ((0x82, 0x12 ∷ 0x80 ∷ []) ∷ (0xDF8126, amount 0x12 0x34) ∷ (0x8E, onlyRule 0x42) ∷ ready)
     ∷ found ((0x82, 0x12 ∷ 0x80 ∷ []) ∷ (0xDF8126, amount 0x12 0x33) ∷ (0x8E, onlyRule 0x42) ∷ ready)
@@ -55,7 +57,7 @@ unfolding shown storing findingsOf tvrWithCvm cvmResultIn hasOnDeviceCvm onDevic
     cashbackRequested dateLater dateOf yearOf amountAbove amountOf bcdFrom nibbles bytesEqual firstBytes putRow rowNumberOf objectValueIn rowValue rowPlace placeValue rowOffset findRow rowPast dictionaryRows if both either
 phones = refl
 
--- no phone: every bit of DF811B but b6, and every bit of 82 byte 1 but b2; the list is obeyed
+-- no on-device CVM: every bit of DF811B but b6, and every bit of 82 byte 1 but b2; the list is obeyed
 not-phones :
     found ((0x82, 0x12 ∷ 0x80 ∷ []) ∷ (0xDF811B, 0xDF ∷ []) ∷ (0x8E, onlyRule 0x42) ∷ ready)
     ∷ found ((0x82, 0xFD ∷ 0x80 ∷ []) ∷ (0xDF811B, 0xFF ∷ []) ∷ (0x8E, onlyRule 0x5E) ∷ ready)
@@ -68,7 +70,8 @@ unfolding shown storing findingsOf tvrWithCvm cvmResultIn hasOnDeviceCvm onDevic
     putRow rowNumberOf objectValueIn rowValue rowPlace placeValue rowOffset findRow rowPast dictionaryRows if both either
 not-phones = refl
 
--- the amount is above the limit in force: a phone by DF8125, above and at it; b2 of 82 alone clear and b6 of DF811B alone clear by DF8124
+-- the amount is above the transaction limit: with on-device CVM by DF8125, above and at it; b2 of 82 alone clear and b6
+-- of DF811B alone clear by DF8124
 abbrev limited : List (ℕ × List ℕ) → Bool
 limited l = aboveTransactionLimit (transactionLimit (storing l)) (storing l)
 

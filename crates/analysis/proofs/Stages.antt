@@ -1,4 +1,5 @@
--- The choice, walked: a byte's bits are the stage's bits eight at a time, and the first stage that is consulted and holds a bit decides.
+-- The choice, walked: a byte's bits are the stage's bits eight at a time, and the first stage that is consulted and
+-- holds a bit decides.
 -- Assumes nothing.
 use mathlib.Core.Bool.{Bool, true, false}
 use mathlib.Core.List.{List}
@@ -41,7 +42,7 @@ module _ (result : List ℕ) (pair : ActionCodes) where
   abbrev pub Clear : ℕ → Type 0
   Clear n = (m : ℕ) → m < n → stageHoldsBit result pair m ≡ false
 
-  -- byte i of the result and of the two codes
+  -- byte i of the TVR and of the two codes
   abbrev pub at-byte : ℕ → ℕ → Bool
   at-byte i = bitHeldIn (getD result i 0) (getD (pair .card) i 0) (getD (pair .terminal) i 0)
 
@@ -84,7 +85,7 @@ nothing-in-zero : (card terminal m : ℕ) → bitHeldIn 0 card terminal m ≡ fa
 unfolding bitHeldIn both
 nothing-in-zero card terminal m = simp zero-div
 
--- a zero byte of the result holds nothing
+-- a zero byte of the TVR holds nothing
 pub zero-byte : (card terminal : ℕ) → lowestFrom (bitHeldIn 0 card terminal) 0 8 ≡ NoBit
 zero-byte card terminal = lowest-none (bitHeldIn 0 card terminal) 8 0 (λ m u v. nothing-in-zero card terminal m)
 

@@ -1,10 +1,11 @@
 -- Action analysis over a session's store (document 01, "Result bits and the choice" and, for the limit, "Commands
--- and steps"; document 02, Item 5 for cardholder verification and Item 8 for phones): the result bits 95, the method,
--- the three pairs of action codes, the choice and the transaction limit, from the values of the tags that the rules
--- name. A running session in its ranges holds 9A, 9C, 9F02, 9F09, 9F1A, 9F33, 9F35, DF811B and DF8120 to DF8126, each
--- at its length, and 5F24 when the bits are made. The papers leave open what comes of a store that lacks one of them.
--- Here an absent value reads as no bytes, and a byte past a value's end as 0: so a missing date, amount, limit, type,
--- capability, configuration or terminal's code is zero, and a missing version or country is unlike any that has bytes.
+-- and steps"; document 02, Item 5 for cardholder verification and Item 8 for phones): the TVR (95), the CVM, the
+-- three pairs of action codes, the choice and the transaction limit, from the values of the tags that the rules
+-- name. A running session in its ranges holds 9A, 9C, 9F02, 9F09, 9F1A, 9F33, 9F35, DF811B and DF8120 to DF8126,
+-- each at its length, and 5F24 when the bits are made. Documents 01 and 02 leave open what comes of a store that
+-- lacks one of them. Here an absent value reads as no bytes, and a byte past a value's end as 0: so a missing date,
+-- amount, limit, type, capability, configuration or terminal's code is zero, and a missing version or country
+-- differs from any that has bytes.
 -- Assumes nothing.
 use mathlib.Core.Path.{_≡_}
 use mathlib.Core.Bool.{Bool, true, false}
@@ -35,13 +36,14 @@ terminalType store = storedByte store 0x9F35 1
 abbrev pub transactionType : List ℕ → ℕ
 transactionType store = storedByte store 0x9C 1
 
--- a phone that checks its holder itself, by the card's profile 82 and the terminal's configuration DF811B
+-- a device with on-device CVM, by the AIP (82) and the terminal's configuration DF811B
 unfoldable pub hasOnDeviceCvm : List ℕ → Bool
 hasOnDeviceCvm store = onDeviceCvm (storedByte store 0x82 1) (storedByte store 0xDF811B 1)
 
 -- ---- the transaction limit
 
--- the limit in force (document 02, Item 8; Book C-2, S3.33 to S3.35): DF8125 for a phone, else DF8124
+-- the Reader Contactless Transaction Limit of this session (document 02, Item 8; Book C-2, S3.33 to S3.35): DF8125 with
+-- on-device CVM, else DF8124
 unfoldable pub transactionLimit : List ℕ → ℕ
 transactionLimit store =
     if hasOnDeviceCvm store then amountOf (storedBytes store 0xDF8125)
@@ -51,7 +53,7 @@ transactionLimit store =
 unfoldable pub aboveTransactionLimit : ℕ → List ℕ → Bool
 aboveTransactionLimit limit store = limit <? amountOf (storedBytes store 0x9F02)
 
--- ---- the result bits
+-- ---- the TVR
 
 -- byte 2 b5: the application usage control against type, capabilities, countries, transaction type and other amount
 unfoldable pub aucViolatedIn : List ℕ → Bool
@@ -82,8 +84,8 @@ sameCurrency absent application = false
 sameCurrency (present transaction) absent = false
 sameCurrency (present transaction) (present application) = bytesEqual transaction application
 
--- what the conditions of the card's rules are told by: byte 2 of 9F33; cash, type 01 or 17, and cashback, type 09; an
--- ATM; the currency; the amount 9F02, and X and Y of the list 8E
+-- what the conditions of the CVM List's rules depend on: byte 2 of 9F33; cash, type 01 or 17, and cashback, type 09; an
+-- ATM; the currency; the amount 9F02, and X and Y of the CVM List (8E)
 unfoldable pub cvmConditionsIn : List ℕ → CvmConditions
 cvmConditionsIn store =
     record {
@@ -97,7 +99,7 @@ cvmConditionsIn store =
       y = cvmAmountY (storedBytes store 0x8E);
     }
 
--- the method: on a phone by the limit DF8126 alone, else by the card's profile 82 and its list 8E
+-- the CVM: with on-device CVM by the limit DF8126 alone, else by the AIP (82) and the CVM List (8E)
 unfoldable pub cvmResultIn : List ℕ → CvmResult
 cvmResultIn store =
     if hasOnDeviceCvm store then onDeviceResult (amountAbove (storedBytes store 0x9F02) (storedBytes store 0xDF8126))
@@ -107,7 +109,7 @@ cvmResultIn store =
 unfoldable pub tvrWithCvm : List ℕ → List ℕ
 tvrWithCvm store = tvrWithBits (tvrOf store) (cvmTvrBits (cvmResultIn store))
 
--- what is found before the choice: 9F34, 95 and the method
+-- what is found before the choice: 9F34, 95 and the CVM
 unfoldable pub findingsOf : List ℕ → AnalysisFindings
 findingsOf store =
     record { results = cvmResultsBytes (cvmResultIn store); bits = tvrWithCvm store; cvm = cvmResultIn store .cvm }
@@ -122,22 +124,22 @@ actionCodesOf store =
     ∷ actionCodesAt defaultStage (objectValue store 0x9F0D) (storedBytes store 0xDF8120)
     ∷ []
 
--- what is asked for on a result
+-- what is requested for a TVR
 unfoldable pub choiceFor : List ℕ → List ℕ → Choice
 choiceFor store result = choiceOf result (terminalType store) (actionCodesOf store)
 
 -- ---- what holds of it, proved in proofs/VerificationStore
 
---   odd-byte-stored   of two stores alike but for an 8E that is even in the one and has a byte more in the other, the
+--   odd-byte-stored   of two stores alike but for an 8E that is even in the one and has one more byte in the other, the
 --                     verification is the same
 
 -- two stores are alike but for 82 and 8E
 abbrev pub AlikeButAipAndCvmList : List ℕ → List ℕ → Type 0
 AlikeButAipAndCvmList b c = (t : ℕ) → (t ≡ 0x82 → ⊥) → (t ≡ 0x8E → ⊥) → objectValue b t ≡ objectValue c t
 
--- on a phone the list and the other bits of the profile do not matter; `action::findings_of` promises it
+-- with on-device CVM the list and the other bits of the AIP do not matter; `action::findings_of` promises it
 pub record OnDeviceRules : Type 0 where
-  -- of two phones alike but for 82 and 8E, 9F34, 95 and the method are the same
+  -- of two devices with on-device CVM alike but for 82 and 8E, 9F34, 95 and the CVM are the same
   pub same : (b c : List ℕ) → hasOnDeviceCvm b ≡ true → hasOnDeviceCvm c ≡ true → AlikeButAipAndCvmList b c → findingsOf b ≡ findingsOf c
   -- the verification adds no bit to 95
   pub no-bits : (b : List ℕ) → hasOnDeviceCvm b ≡ true → findingsOf b .bits ≡ tvrOf b

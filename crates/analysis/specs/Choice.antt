@@ -1,5 +1,5 @@
--- The choice (document 01, "Result bits and the choice"; Book C-2, 7.8), over result bits, a terminal's type and three
--- pairs of action codes: which bit a stage holds, where the type lets the terminal decide, and what is asked for.
+-- The choice (document 01, "Result bits and the choice"; Book C-2, 7.8), over a TVR, a terminal's type and three pairs
+-- of action codes: which bit a stage holds, where the type lets the terminal decide, and what is requested.
 -- Assumes nothing.
 use mathlib.Core.Bool.{Bool, true, false}
 use mathlib.Core.List.{List, [], _∷_}
@@ -21,7 +21,7 @@ use Rattle.analysis.specs.declared.choice.Choice.the-variants.{Decline, 
 
 -- ---- the bit that a stage holds
 
--- a stage holds bit i: the result has it, and so has the card's code or the terminal's
+-- a stage holds bit i: the TVR has it, and so has the card's code or the terminal's
 unfoldable pub stageHoldsBit : List ℕ → ActionCodes → ℕ → Bool
 stageHoldsBit result pair i = numberedBit result i and (numberedBit (pair .card) i or numberedBit (pair .terminal) i)
 
@@ -77,7 +77,7 @@ actionCodesAt stage card terminal = record { card = iacCode stage card; terminal
 abbrev pub noActionCodes : ActionCodes
 noActionCodes = record { card = []; terminal = [] }
 
--- a bit of the result is held at a stage
+-- a bit of the TVR is held at a stage
 unfoldable pub stageHolds : List ℕ → List ActionCodes → ℕ → Bool
 stageHolds result pairs stage = someBit (lowestBit result (getD pairs stage noActionCodes))
 
@@ -100,8 +100,8 @@ typeLastDigit kind = kind % 16
 abbrev pub onlineCapabilityOf : ℕ → OnlineCapability
 onlineCapabilityOf kind = onlineCapabilityAt (typeLastDigit kind)
 
--- what is asked for, by the type and by whether a bit is held at denial, at online and at default;
--- the rules leave an unlisted type open, and here it declines
+-- what is requested, by the type and by whether a bit is held at denial, at online and at default; the rules leave an
+-- unlisted type open, and here it declines
 abbrev pub choiceBy : OnlineCapability → Bool → Bool → Bool → Choice
 choiceBy r             true  o     d     = Decline
 choiceBy OnlineOnly    false o     d     = Online
@@ -111,7 +111,7 @@ choiceBy OnlineCapable false true  d     = Online
 choiceBy OnlineCapable false false d     = Offline
 choiceBy Unlisted      false o     d     = Decline
 
--- the choice from result bits, terminal's type and pairs of codes
+-- the choice from a TVR, terminal's type and pairs of codes
 unfoldable pub choiceOf : List ℕ → ℕ → List ActionCodes → Choice
 choiceOf result kind pairs =
     choiceBy (onlineCapabilityOf kind)
@@ -121,7 +121,7 @@ choiceOf result kind pairs =
 
 -- ---- its number
 
--- P1 of the command that asks for it (document 01, "Commands and steps"): 00 decline, 40 offline, 80 online
+-- P1 of the command that requests it (document 01, "Commands and steps"): 00 decline, 40 offline, 80 online
 abbrev pub generateAcP1 : Choice → ℕ
 generateAcP1 Decline = 0x00
 generateAcP1 Offline = 0x40

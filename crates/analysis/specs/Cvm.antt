@@ -1,6 +1,6 @@
--- Cardholder verification (document 02, Item 5; Book C-2 7.5, steps CVM.5 to CVM.25): the method by the card's own list
--- 8E, the three bytes of 9F34, and the bits that the choice adds to 95. On a phone that checks its holder itself
--- (document 02, Item 8; CVM.1 to CVM.4) the method is by the amount.
+-- Cardholder verification (document 02, Item 5; Book C-2 7.5, steps CVM.5 to CVM.25): the CVM by the CVM List (8E), the
+-- three bytes of 9F34, and the bits that the choice adds to 95. On a device with on-device CVM (document 02, Item 8;
+-- CVM.1 to CVM.4) the CVM is by the amount.
 -- Assumes nothing.
 use mathlib.Core.Bool.{Bool, true, false, not}
 use mathlib.Core.List.{List, [], _∷_}
@@ -18,7 +18,7 @@ use Rattle.analysis.specs.declared.cvm.Cvm.the-variants.{ConfirmationCod
 use Rattle.analysis.specs.declared.cvm.CvmConditions.{CvmConditions}
 use Rattle.analysis.specs.declared.cvm.CvmResult.{CvmResult}
 
--- ---- the methods
+-- ---- the CVMs
 
 -- their numbers (Book C-2 A.1.117): 0 no CVM, 1 signature, 2 online PIN, 3 confirmation code verified. An offline PIN
 -- has a proprietary value (CVM.18); ours is 4, and its result is unknown, since nobody has verified anything.
@@ -29,13 +29,13 @@ cvmNumber OnlinePin = 2
 cvmNumber ConfirmationCode = 3
 cvmNumber OfflinePin = 4
 
--- the number where no method was chosen: not applicable
+-- the number where no CVM was chosen: not applicable
 abbrev pub cvmNotApplicable : ℕ
 cvmNotApplicable = 15
 
 -- ---- the list
 
--- a rule: the code of a method, and the code of the condition under which it applies
+-- a rule of the CVM List: the code of a CVM, and the code of the condition under which it applies
 pub record CvmRule : Type 0 where
   pub code : ℕ
   pub condition : ℕ
@@ -62,8 +62,8 @@ cvmAmountY list = bigEndian (firstBytes 4 (drop 4 list))
 
 -- ---- a rule's code
 
--- the codes of the CVMs (Book 3, Annex C3): fail, plaintext PIN, online PIN, plaintext PIN and signature, enciphered PIN,
--- enciphered PIN and signature, signature, no CVM
+-- the codes of the CVMs (Book 3, Annex C3): fail, plaintext PIN, online PIN, plaintext PIN and signature, enciphered
+-- PIN, enciphered PIN and signature, signature, no CVM
 abbrev pub cvmFail : ℕ
 cvmFail = 0x00
 
@@ -88,7 +88,7 @@ cvmSignature = 0x1E
 abbrev pub cvmNoCvm : ℕ
 cvmNoCvm = 0x1F
 
--- the method: b6 to b1; b7 says that the next rule applies where this one is unsuccessful, b8 is reserved
+-- the CVM: b6 to b1; b7 indicates that the next rule applies where this one is unsuccessful, b8 is reserved
 abbrev pub cvmCode : ℕ → ℕ
 cvmCode code = code % 64
 
@@ -110,7 +110,7 @@ cvmSupported capabilities code =
     else if cvmCode code =? cvmNoCvm then byteBit capabilities 4
     else false
 
--- CVM.17: a supported method other than fail is taken
+-- CVM.17: a supported CVM other than fail is taken
 abbrev pub cvmPerformed : ℕ → ℕ → Bool
 cvmPerformed capabilities code = cvmSupported capabilities code and not (cvmCode code =? cvmFail)
 
@@ -157,7 +157,7 @@ cvmAmountMet t condition =
     else if condition =? overY then t .y <? t .amount
     else false
 
--- always; cash at an ATM; neither cash nor cashback; the method supported; cash elsewhere; cashback; the amount, in the
+-- always; cash at an ATM; neither cash nor cashback; the CVM supported; cash elsewhere; cashback; the amount, in the
 -- application's currency
 unfoldable pub cvmConditionMet : CvmConditions → ℕ → ℕ → Bool
 cvmConditionMet t code condition =
@@ -184,15 +184,15 @@ resultFailed = 1
 abbrev pub resultSuccessful : ℕ
 resultSuccessful = 2
 
--- byte 3 of 95: verification not successful b8, unrecognised method b7, online PIN entered b3
+-- byte 3 of 95: verification not successful b8, unrecognised CVM b7, online PIN entered b3
 abbrev pub tvrByte3 : Bool → Bool → Bool → ℕ
 tvrByte3 failed unrecognised pin = bitWeight 8 failed + bitWeight 7 unrecognised + bitWeight 3 pin
 
--- the three bytes of 9F34 (code, condition, result), byte 3 of 95, and the method
+-- the three bytes of 9F34 (code, condition, result), byte 3 of 95, and the CVM
 abbrev pub cvmResult : ℕ → ℕ → ℕ → ℕ → Cvm → CvmResult
 cvmResult c d r bits m = record { code = c; condition = d; result = r; tvr1 = 0; tvr3 = bits; cvm = m }
 
--- CVM.18: a supported method is taken; the result of no CVM is successful (02), of the others unknown (00)
+-- CVM.18: a supported CVM is taken; the result of no CVM is successful (02), of the others unknown (00)
 unfoldable pub cvmSuccessful : ℕ → ℕ → Bool → CvmResult
 cvmSuccessful code condition unrecognised =
     if cvmCode code =? cvmOnlinePin then cvmResult code condition resultUnknown (tvrByte3 false unrecognised true) OnlinePin
@@ -215,7 +215,7 @@ abbrev pub nextCvmApplies : ℕ → List CvmRule → Bool
 nextCvmApplies code [] = false
 nextCvmApplies code (r ∷ rs) = byteBit code 7
 
--- CVM.9 to CVM.25, rule after rule; whether an unrecognised method was met so far
+-- CVM.9 to CVM.25, rule after rule; whether an unrecognised CVM was met so far
 unfoldable pub byCvmRules : CvmConditions → Bool → List CvmRule → CvmResult
 byCvmRules t u [] = noCvmPerformed u
 byCvmRules t u (r ∷ rs) =
@@ -234,20 +234,20 @@ byCvmList absent t = cvmNotPerformed true
 byCvmList (present []) t = cvmNotPerformed true
 byCvmList (present (b ∷ s)) t = byCvmRules t false (cvmRulesOf (b ∷ s))
 
--- CVM.5: the card's profile 82 byte 1 b5 says whether verification is supported
+-- CVM.5: byte 1 b5 of the AIP (82) indicates whether verification is supported
 unfoldable pub cvmProcessing : ℕ → StoredValue → CvmConditions → CvmResult
 cvmProcessing aip list t =
     if byteBit aip 5 then byCvmList list t
     else cvmNotPerformed false
 
--- ---- on a phone
+-- ---- with on-device CVM
 
--- CVM.1: byte 1 of the card's profile 82 has b2, and the terminal's kernel configuration DF811B has b6
+-- CVM.1: byte 1 of the AIP (82) has b2, and the terminal's kernel configuration DF811B has b6
 unfoldable pub onDeviceCvm : ℕ → ℕ → Bool
 onDeviceCvm aip configuration = byteBit aip 2 and byteBit configuration 6
 
--- CVM.2 to CVM.4: the phone has verified its holder where the amount is above the limit DF8126, else there is no CVM;
--- either is successful, and adds no bit to 95
+-- CVM.2 to CVM.4: the device has verified its holder where the amount is above the Reader CVM Required Limit DF8126,
+-- else there is no CVM; either is successful, and adds no bit to 95
 unfoldable pub onDeviceResult : Bool → CvmResult
 onDeviceResult above =
     if above then cvmResult cvmPlaintextPin always resultSuccessful 0 ConfirmationCode
@@ -255,7 +255,7 @@ onDeviceResult above =
 
 -- ---- where it is stored
 
--- the three bytes of 9F34: the code of the method, the condition, the result
+-- the three bytes of 9F34: the code of the CVM, the condition, the result
 abbrev pub cvmResultsBytes : CvmResult → List ℕ
 cvmResultsBytes v = v .code ∷ v .condition ∷ v .result ∷ []
 
@@ -264,10 +264,10 @@ abbrev pub cvmTvrBits : CvmResult → List ℕ
 cvmTvrBits v = v .tvr1 ∷ 0 ∷ v .tvr3 ∷ 0 ∷ 0 ∷ []
 
 -- ---- what holds of it, proved in proofs/VerificationLaws
---   rules-behind   rules behind one that decides do not matter, whatever stands before it: one whose condition holds,
---                  and whose method is taken, or is unsuccessful with b7 clear (`decides`)
+--   rules-behind   rules after one that decides do not matter, whatever is before it: one whose condition holds, and
+--                  whose CVM is taken, or is unsuccessful with b7 clear (`decides`)
 --   bytes-behind   the same on the bytes of a list, with its amounts and whole rules before that one
---   odd-byte       one byte behind a list of even length, which is not empty, changes nothing
+--   odd-byte       one byte after a list of even length, which is not empty, changes nothing
 --   bits-added     byte 1 of 95 gets at most b6, byte 3 at most b8, b7 and b3
 --   other-first, other-third
 --                  so the other bits are clear

@@ -13,7 +13,7 @@ use Rattle.analysis.specs.Value.{firstBytes}
 abbrev pub isOneOf : ℕ → ℕ → ℕ → Bool
 isOneOf x a b = x =? a or x =? b
 
--- the digits s behind the number n
+-- the digits s appended to the number n
 unfoldable pub bcdFrom : ℕ → List ℕ → ℕ
 bcdFrom n [] = n
 bcdFrom n (d ∷ s) = bcdFrom (n * 10 + d) s

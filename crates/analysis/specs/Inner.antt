@@ -1,7 +1,7 @@
--- What private functions promise, for their callers' proofs: digits byte by byte, a stage's bits within one byte,
--- and the choice stage by stage. No rule of document 01 stands here: a reader of the rules can pass it over. Laws
--- tie it to the rules: `decimal-three` and `decimal-six` (proofs/Decimal) to specs/Digits; `byte-found`,
--- `byte-clear`, `all-clear`, `choice-by-stage` and `choice-by-type` (proofs/Stages) to specs/Choice.
+-- What private functions promise, for their callers' proofs: digits byte by byte, a stage's bits within one byte, and
+-- the choice stage by stage. This file states no rule of document 01: a reader of the rules can skip it. Laws tie it to
+-- the rules: `decimal-three` and `decimal-six` (proofs/Decimal) to specs/Digits; `byte-found`, `byte-clear`,
+-- `all-clear`, `choice-by-stage` and `choice-by-type` (proofs/Stages) to specs/Choice.
 -- Assumes nothing.
 use mathlib.Core.Bool.{Bool, false}
 use mathlib.Core.List.{List, [], _∷_}
@@ -29,7 +29,7 @@ bcdThreeBytes s i = bcdNumber (getD s i 0 ∷ getD s (i + 1) 0 ∷ getD s (i + 2
 
 -- ---- the bits of a byte
 
--- bit k of a byte of the result is in the card's code or the terminal's: 0 is b8, 7 is b1
+-- bit k of a byte of the TVR is in the card's code or the terminal's: 0 is b8, 7 is b1
 unfoldable pub bitHeldIn : ℕ → ℕ → ℕ → ℕ → Bool
 bitHeldIn result card terminal k = byteBit result (8 - k) and (byteBit card (8 - k) or byteBit terminal (8 - k))
 
@@ -52,7 +52,7 @@ forcedChoice stage =
     if stage =? onlineStage then Online
     else Decline
 
--- what is asked for where no stage that is consulted holds a bit
+-- what is requested where no stage that is consulted holds a bit
 abbrev pub unforcedChoice : OnlineCapability → Choice
 unforcedChoice OnlineOnly = Online
 unforcedChoice OnlineCapable = Offline

@@ -12,7 +12,7 @@ use Rattle.basics.specs.Alike.{bytesEqual}
 use Rattle.analysis.specs.declared.restrictions.IssuerCountry.{IssuerCountry}
 use Rattle.analysis.specs.declared.restrictions.IssuerCountry.the-variants.{Home, Abroad, NotGiven}
 
--- b8: the card's application version 9F08 is there and unlike the reader's 9F09
+-- b8: the card's application version 9F08 is present and differs from the reader's 9F09
 unfoldable pub versionDiffers : StoredValue → List ℕ → Bool
 versionDiffers absent reader = false
 versionDiffers (present card) reader = not (bytesEqual card reader)
@@ -21,7 +21,7 @@ versionDiffers (present card) reader = not (bytesEqual card reader)
 abbrev pub applicationExpired : List ℕ → List ℕ → Bool
 applicationExpired today expiration = dateLater today expiration
 
--- b6: the effective date 5F25 is there and later than the transaction date 9A
+-- b6: the effective date 5F25 is present and later than the transaction date 9A
 unfoldable pub notYetEffective : StoredValue → List ℕ → Bool
 notYetEffective absent today = false
 notYetEffective (present effective) today = dateLater effective today
@@ -32,7 +32,7 @@ notYetEffective (present effective) today = dateLater effective today
 abbrev pub isAtmType : ℕ → Bool
 isAtmType kind = kind =? 0x14 or kind =? 0x15 or kind =? 0x16
 
--- at an ATM: such a type, and the additional capabilities 9F40 there with byte 1 b8, cash
+-- at an ATM: such a type, and the additional capabilities 9F40 present with byte 1 b8, cash
 unfoldable pub atAtm : ℕ → StoredValue → Bool
 atAtm kind absent = false
 atAtm kind (present capabilities) = isAtmType kind and valueHasBit capabilities 1 8
@@ -44,7 +44,7 @@ issuerCountryOf (present issuer) terminal =
     if bytesEqual issuer terminal then Home
     else Abroad
 
--- cashback is asked for: the other amount 9F03 is there and not zero
+-- cashback is requested: the other amount 9F03 is present and not zero
 unfoldable pub cashbackRequested : StoredValue → Bool
 cashbackRequested absent = false
 cashbackRequested (present other) = 0 <? amountOf other
@@ -88,7 +88,7 @@ aucMet usage atm country transaction asked =
     and aucGoodsMet usage country transaction
     and aucAllowsCashback usage country asked
 
--- the application usage control 9F07 is there and something needed is not met
+-- the application usage control 9F07 is present and something needed is not met
 unfoldable pub aucViolated : StoredValue → Bool → IssuerCountry → ℕ → Bool → Bool
 aucViolated absent atm country transaction asked = false
 aucViolated (present usage) atm country transaction asked = not (aucMet usage atm country transaction asked)

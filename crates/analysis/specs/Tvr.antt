@@ -1,5 +1,5 @@
--- The result bits, 95 (document 01, "Result bits and the choice"): the floor limit's byte, the five bytes put
--- together, and bits added to them.
+-- The TVR, tag 95 (document 01, "Result bits and the choice"): the floor limit's byte, the five bytes put together, and
+-- bits added to them.
 -- Assumes nothing.
 use mathlib.Core.List.{List, [], _∷_}
 use Prim.Native.Nat.{ℕ, _+_}
@@ -14,7 +14,7 @@ tvrByte4 amount limit = bitWeight 8 (amountAbove amount limit)
 abbrev pub tvrFrom : ℕ → ℕ → List ℕ
 tvrFrom restrictions floor = 0x80 ∷ restrictions ∷ 0 ∷ floor ∷ 0 ∷ []
 
--- bits added to a result that has none of them, byte by byte
+-- bits added to a TVR that has none of them, byte by byte
 unfoldable pub tvrWithBits : List ℕ → List ℕ → List ℕ
 tvrWithBits [] t = []
 tvrWithBits (x ∷ s) [] = x ∷ s

@@ -1,5 +1,5 @@
-// Action analysis over a session's store, lent as its bytes: the result bits, cardholder verification, the action codes, the choice, the
-// transaction limit.
+// Action analysis over the bytes of a session's store: the TVR, cardholder verification, the action codes, the choice,
+// the transaction limit.
 use crate::byte;
 use crate::choice;
 use crate::choice::Choice;
@@ -27,7 +27,7 @@ ghost use Rattle.analysis.specs.Action.{hasOnDeviceCvm, transactionLimit
 ghost use Rattle.analysis.specs.Cvm.{onDeviceResult};
 ghost use Rattle.analysis.specs.Action.{sameCurrency, cvmConditionsIn, cvmResultIn, tvrWithCvm, findingsOf, OnDeviceRules};
 
-// What the analysis finds before the choice: the three bytes of 9F34, the five of 95, and the method.
+// What the analysis finds before the choice: the three bytes of 9F34, the five of 95, and the CVM.
 pub struct AnalysisFindings {
     pub results: [u8; 3],
     pub bits: [u8; 5],
@@ -43,7 +43,7 @@ pub fn tvr_of(bytes: &[u8]) -> [u8; 5]
     tvr::tvr_from(restrictions_byte(bytes), tvr::tvr_byte4(amount, floor))
 }
 
-// What the restrictions, the limit and cardholder verification give: 9F34, 95 and the method.
+// What the restrictions, the limit and cardholder verification give: 9F34, 95 and the CVM.
 pub fn findings_of(bytes: &[u8]) -> AnalysisFindings
     ensures findings { λ r. ⌜ r ≡ findingsOf (now (bytes .entry)) ⌝ }
     ensures phones { λ _. ⌜ OnDeviceRules ⌝ }
@@ -55,7 +55,7 @@ pub fn findings_of(bytes: &[u8]) -> AnalysisFindings
     AnalysisFindings { results, bits, cvm }
 }
 
-// What cardholder verification gives: the method, the bytes of 9F34 and the bits for 95.
+// What cardholder verification gives: the CVM, the bytes of 9F34 and the bits for 95.
 pub fn cvm_result_in(bytes: &[u8]) -> CvmResult
     ensures { λ r. ⌜ r ≡ cvmResultIn (now (bytes .entry)) ⌝ }
 {
@@ -79,7 +79,7 @@ pub fn action_codes_of(bytes: &[u8]) -> [ActionCodes; 3]
     ]
 }
 
-// What is asked for on a result.
+// What is requested for a TVR.
 pub fn choice_for(bytes: &[u8], result: [u8; 5]) -> Choice
     ensures choice { λ r. ⌜ r ≡ choiceFor (now (bytes .entry)) result ⌝ }
     ensures number { λ r. ⌜ generateAcP1 r ≡ generateAcP1For result (terminalType (now (bytes .entry))) (actionCodesOf (now (bytes .entry))) ⌝ }
@@ -94,7 +94,7 @@ pub fn above_transaction_limit(bytes: &[u8], limit: u64) -> bool
     limit < digits::amount_of(store::value(bytes, dictionary::ROW_AMOUNT))
 }
 
-// The transaction limit in force: a phone has its own.
+// The Reader Contactless Transaction Limit of this session: on-device CVM has its own.
 pub fn transaction_limit(bytes: &[u8]) -> u64
     ensures { λ r. ⌜ r ≡ transactionLimit (now (bytes .entry)) ⌝ }
 {
@@ -104,7 +104,7 @@ pub fn transaction_limit(bytes: &[u8]) -> u64
     digits::amount_of(store::value(bytes, dictionary::ROW_LIMIT_NO_ON_DEVICE_CVM))
 }
 
-// A phone that checks its holder itself, by the card's profile and the terminal's configuration.
+// A device with on-device CVM, by the AIP and the terminal's configuration.
 pub fn has_on_device_cvm(bytes: &[u8]) -> bool
     ensures { λ r. ⌜ r ≡ hasOnDeviceCvm (now (bytes .entry)) ⌝ }
 {
@@ -127,7 +127,7 @@ fn restrictions_byte(bytes: &[u8]) -> u8
     restrictions::tvr_byte2(version_differs_in(bytes), expired, not_yet_effective_in(bytes), auc_violated_in(bytes))
 }
 
-// Byte 2 b8: the card's application version is there and unlike the reader's.
+// Byte 2 b8: the card's application version is present and differs from the reader's.
 fn version_differs_in(bytes: &[u8]) -> bool
     ensures { λ r. ⌜ r ≡ versionDiffers (objectValue (now (bytes .entry)) 0x9F08) (storedBytes (now (bytes .entry)) 0x9F09) ⌝ }
 {
@@ -136,7 +136,7 @@ fn version_differs_in(bytes: &[u8]) -> bool
     restrictions::version_differs(there, card, store::value(bytes, dictionary::ROW_READER_VERSION))
 }
 
-// Byte 2 b6: the effective date is there and later than the transaction date.
+// Byte 2 b6: the effective date is present and later than the transaction date.
 fn not_yet_effective_in(bytes: &[u8]) -> bool
     ensures { λ r. ⌜ r ≡ notYetEffective (objectValue (now (bytes .entry)) 0x5F25) (storedBytes (now (bytes .entry)) 0x9A) ⌝ }
 {
@@ -145,7 +145,7 @@ fn not_yet_effective_in(bytes: &[u8]) -> bool
     restrictions::not_yet_effective(there, effective, store::value(bytes, dictionary::ROW_TRANSACTION_DATE))
 }
 
-// Byte 2 b5: the application usage control is there and something needed is not met.
+// Byte 2 b5: the application usage control is present and something needed is not met.
 fn auc_violated_in(bytes: &[u8]) -> bool
     ensures { λ r. ⌜ r ≡ aucViolatedIn (now (bytes .entry)) ⌝ }
 {
@@ -175,7 +175,7 @@ fn country_in(bytes: &[u8]) -> IssuerCountry
     restrictions::country_of(there, issuer, store::value(bytes, dictionary::ROW_TERMINAL_COUNTRY))
 }
 
-// Cashback is asked for, by the other amount.
+// Cashback is requested, by the other amount.
 fn cashback_in(bytes: &[u8]) -> bool
     ensures { λ r. ⌜ r ≡ cashbackRequested (objectValue (now (bytes .entry)) 0x9F03) ⌝ }
 {
@@ -183,7 +183,7 @@ fn cashback_in(bytes: &[u8]) -> bool
     restrictions::asks_cashback(there, store::value(bytes, dictionary::ROW_AMOUNT_OTHER))
 }
 
-// What a phone has checked: by the amount, against the limit from which a check is required.
+// What on-device CVM has verified: by the amount, against the Reader CVM Required Limit.
 fn on_device_result(bytes: &[u8]) -> CvmResult
     ensures { λ r. ⌜ r ≡ onDeviceResult (amountAbove (storedBytes (now (bytes .entry)) 0x9F02) (storedBytes (now (bytes .entry)) 0xDF8126)) ⌝ }
 {
@@ -192,7 +192,7 @@ fn on_device_result(bytes: &[u8]) -> CvmResult
     cvm::on_device_cvm(digits::above(amount, required))
 }
 
-// What the conditions of the card's rules are told by.
+// What the conditions of the CVM List's rules depend on.
 fn cvm_conditions_in(bytes: &[u8]) -> CvmConditions
     ensures { λ r. ⌜ r ≡ cvmConditionsIn (now (bytes .entry)) ⌝ }
 {
@@ -216,7 +216,7 @@ fn is_cash(transaction: u8) -> bool
     (transaction == 0x01) | (transaction == 0x17)
 }
 
-// The transaction's currency is the application's, and both are there.
+// The transaction's currency is the application's, and both are present.
 fn currency_in(bytes: &[u8]) -> bool
     ensures { λ r. ⌜ r ≡ sameCurrency (objectValue (now (bytes .entry)) 0x5F2A) (objectValue (now (bytes .entry)) 0x9F42) ⌝ }
 {

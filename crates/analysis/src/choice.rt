@@ -1,4 +1,4 @@
-// The choice of the cryptogram to ask for, from the result bits, the terminal's type and three pairs of action codes.
+// The choice of the cryptogram to request, from the TVR, the terminal's type and three pairs of action codes.
 use crate::byte;
 ghost use mathlib.Core.Path.{_≡_};
 ghost use Prim.Native.Nat.{_<_};
@@ -39,7 +39,7 @@ pub const ONLINE: usize = 1;
 
 pub const DEFAULT: usize = 2;
 
-// The pair of a stage, from the card's code, which counts only where it is there, and the terminal's.
+// The pair of a stage, from the card's code, which counts only where it is present, and the terminal's.
 pub fn action_codes(stage: usize, there: bool, card: &[u8], terminal: &[u8]) -> ActionCodes
     ensures { λ r. ⌜ r ≡ actionCodesAt stage (valueIf there (now (card .entry))) (now (terminal .entry)) ⌝ }
 {
@@ -83,7 +83,7 @@ pub fn choose(bits: [u8; 5], kind: u8, pairs: [ActionCodes; 3]) -> Choice
     unforced(capability)
 }
 
-// The lowest result bit, 0 to 39, that the card's code or the terminal's has.
+// The lowest TVR bit, 0 to 39, that the card's code or the terminal's has.
 pub fn stage_bit(bits: [u8; 5], pair: ActionCodes) -> LowestBit
     ensures { λ r. ⌜ r ≡ lowestBit bits pair ⌝ }
 {
@@ -116,7 +116,7 @@ fn byte_bit(result: u8, card: u8, terminal: u8) -> LowestBit
     LowestBit::NoBit
 }
 
-// Bit k of the result is in the card's code or the terminal's.
+// Bit k of the TVR is in the card's code or the terminal's.
 fn holds_bit(result: u8, card: u8, terminal: u8, k: usize) -> bool
     requires { ⌜ k < 8 ⌝ }
     ensures { λ r. ⌜ r ≡ bitHeldIn result card terminal k ⌝ }
@@ -131,7 +131,7 @@ fn holds_bit(result: u8, card: u8, terminal: u8, k: usize) -> bool
     byte::bit(terminal, b)
 }
 
-// P1 of the command that asks for the choice.
+// P1 of the command that requests the choice.
 pub fn p1(choice: Choice) -> u8
     ensures { λ r. ⌜ r ≡ generateAcP1 choice ⌝ }
 {
@@ -181,7 +181,7 @@ fn forced(stage: usize) -> Choice
     }
 }
 
-// What is asked for where no bit forces it. The rules leave an unlisted type open: it declines.
+// What is requested where no bit forces it. The rules leave an unlisted type open: it declines.
 fn unforced(capability: OnlineCapability) -> Choice
     ensures { λ r. ⌜ r ≡ unforcedChoice capability ⌝ }
 {

@@ -1,4 +1,4 @@
-// Cardholder verification: the method by the card's own list of rules, or on a phone by the amount; the bytes of 9F34, and the
+// Cardholder verification: the CVM by the CVM List, or with on-device CVM by the amount; the bytes of 9F34, and the
 // bits that it adds to 95.
 use crate::byte;
 ghost use mathlib.Core.Path.{_≡_};
@@ -8,7 +8,7 @@ ghost use Rattle.analysis.specs.Cvm.{cvmNumber, cvmRecognised as isRecog
 ghost use Rattle.analysis.specs.Cvm.{cvmRulesFrom, cvmSuccessful as takenBy, noCvmPerformed, cvmUnsuccessful as unsuccessfulBy, nextCvmApplies, cvmNotPerformed, byCvmRules, cvmProcessing};
 ghost use Rattle.analysis.specs.Cvm.{onDeviceCvm, onDeviceResult};
 
-// The methods that the outcome carries.
+// The CVMs that the outcome carries.
 pub enum Cvm {
     NoCvm,
     Signature,
@@ -17,8 +17,9 @@ pub enum Cvm {
     OfflinePin,
 }
 
-// What the conditions of rules are told by: byte 2 of the terminal capabilities; cash and cashback by the transaction's
-// type; an ATM; whether terminal and application have the same currency; the amount, and the list's X and Y.
+// What the conditions of the CVM List's rules depend on: byte 2 of the terminal capabilities; cash and cashback by
+// the transaction's type; an ATM; whether terminal and application have the same currency; the amount, and the
+// list's X and Y.
 pub struct CvmConditions {
     pub capabilities: u8,
     pub cash: bool,
@@ -30,7 +31,7 @@ pub struct CvmConditions {
     pub y: u64,
 }
 
-// What is chosen: the three bytes of 9F34, the bits of bytes 1 and 3 of 95, and the method.
+// What is chosen: the three bytes of 9F34, the bits of bytes 1 and 3 of 95, and the CVM.
 pub struct CvmResult {
     pub code: u8,
     pub condition: u8,
@@ -68,10 +69,10 @@ const RESULT_UNKNOWN: u8 = 0;
 const RESULT_FAILED: u8 = 1;
 const RESULT_SUCCESSFUL: u8 = 2;
 
-// The number in the outcome where no method was chosen.
+// The number in the outcome where no CVM was chosen.
 pub const NOT_APPLICABLE: u8 = 15;
 
-// The method's number in the outcome.
+// The CVM's number in the outcome.
 pub fn cvm_number(cvm: Cvm) -> u8
     ensures { λ r. ⌜ r ≡ cvmNumber cvm ⌝ }
 {
@@ -84,7 +85,7 @@ pub fn cvm_number(cvm: Cvm) -> u8
     }
 }
 
-// By byte 1 of the card's profile 82, its list 8E, which counts only where it is there, and the terms.
+// By byte 1 of the AIP (82), the CVM List (8E), which counts only where it is present, and the terms.
 pub fn perform_cvm(aip: u8, there: bool, list: &[u8], terms: CvmConditions) -> CvmResult
     ensures { λ r. ⌜ r ≡ cvmProcessing aip (valueIf there (now (list .entry))) terms ⌝ }
 {
@@ -103,14 +104,14 @@ pub fn perform_cvm(aip: u8, there: bool, list: &[u8], terms: CvmConditions) -> C
     by_cvm_rules(&list[8..], terms)
 }
 
-// A phone that checks its holder itself: b2 of byte 1 of the card's profile 82, and b6 of the kernel configuration DF811B.
+// A device with on-device CVM: b2 of byte 1 of the AIP (82), and b6 of the kernel configuration DF811B.
 pub fn is_on_device(aip: u8, configuration: u8) -> bool
     ensures { λ r. ⌜ r ≡ onDeviceCvm aip configuration ⌝ }
 {
     byte::bit(aip, 2) & byte::bit(configuration, 6)
 }
 
-// What a phone has checked, by whether the amount is above the limit from which a check is required.
+// What on-device CVM has verified, by whether the amount is above the Reader CVM Required Limit.
 pub fn on_device_cvm(above: bool) -> CvmResult
     ensures { λ r. ⌜ r ≡ onDeviceResult above ⌝ }
 {
@@ -120,7 +121,7 @@ pub fn on_device_cvm(above: bool) -> CvmResult
     CvmResult { code: CODE_NOT_PERFORMED, condition: ALWAYS, result: RESULT_SUCCESSFUL, tvr1: 0, tvr3: 0, cvm: Cvm::NoCvm }
 }
 
-// Nothing is asked of the cardholder, since the card knows no verification or its list is missing.
+// No verification is requested, since the card does not support it or its CVM List is missing.
 fn cvm_not_performed(missing: bool) -> CvmResult
     ensures { λ r. ⌜ r ≡ cvmNotPerformed missing ⌝ }
 {
@@ -151,7 +152,7 @@ fn by_cvm_rules(rules: &[u8], terms: CvmConditions) -> CvmResult
     no_cvm_performed(unrecognised)
 }
 
-// The next rule follows an unsuccessful one: b7 of the code says so, and there is one.
+// The next rule follows an unsuccessful one: b7 of the code indicates so, and there is one.
 fn next_cvm_applies(code: u8, rest: &[u8]) -> bool
     ensures { λ r. ⌜ r ≡ nextCvmApplies code (cvmRulesFrom (now (rest .entry))) ⌝ }
 {
@@ -189,7 +190,7 @@ fn cvm_amount_met(terms: CvmConditions, condition: u8) -> bool
     }
 }
 
-// The terminal can do what a code asks for.
+// The terminal can perform what a code requires.
 fn cvm_supported(capabilities: u8, code: u8) -> bool
     ensures { λ r. ⌜ r ≡ isSupported capabilities code ⌝ }
 {
@@ -207,14 +208,14 @@ fn cvm_supported(capabilities: u8, code: u8) -> bool
     }
 }
 
-// A method that is supported, and not fail.
+// A CVM that is supported, and not fail.
 fn cvm_performed(capabilities: u8, code: u8) -> bool
     ensures { λ r. ⌜ r ≡ cvmPerformed capabilities code ⌝ }
 {
     cvm_supported(capabilities, code) & (code % 64 != CVM_FAIL)
 }
 
-// A method of the Books' table.
+// A CVM of the Books' table.
 fn cvm_recognised(code: u8) -> bool
     ensures { λ r. ⌜ r ≡ isRecognised code ⌝ }
 {
@@ -222,7 +223,7 @@ fn cvm_recognised(code: u8) -> bool
     (cvm <= CVM_ENCIPHERED_PIN_AND_SIGNATURE) | ((cvm == CVM_SIGNATURE) | (cvm == CVM_NO_CVM))
 }
 
-// The method of a code is taken.
+// The CVM of a code is taken.
 fn cvm_successful(code: u8, condition: u8, unrecognised: bool) -> CvmResult
     ensures { λ r. ⌜ r ≡ takenBy code condition unrecognised ⌝ }
 {

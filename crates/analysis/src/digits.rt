@@ -4,7 +4,8 @@ ghost use Prim.Native.Nat.{_≤_};
 ghost use Rattle.analysis.specs.Digits.{yearOf, dateOf, dateLater, amountOf, amountAbove};
 ghost use Rattle.analysis.specs.Inner.{bcdByte, bcdThreeBytes};
 
-// Date a, YYMMDD, is later than date b, by years from 1950 to 2049. Of each the first three bytes count, and bytes past the end are 0.
+// Date a, YYMMDD, is later than date b, by years from 1950 to 2049. Of each the first three bytes count, and bytes past
+// the end are 0.
 pub fn later(a: &[u8], b: &[u8]) -> bool
     ensures { λ r. ⌜ r ≡ dateLater (now (a .entry)) (now (b .entry)) ⌝ }
 {

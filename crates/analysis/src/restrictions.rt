@@ -1,4 +1,4 @@
-// The restrictions: version, dates and usage, and byte 2 of the result that they make.
+// The restrictions: version, dates and usage, and byte 2 of the TVR that they make.
 use crate::byte;
 use crate::digits;
 ghost use mathlib.Core.Path.{_≡_};
@@ -25,7 +25,7 @@ pub fn tvr_byte2(version: bool, expired: bool, early: bool, usage: bool) -> u8
         + byte::bit_weight(usage, 0x10)
 }
 
-// The card's application version is there and unlike the reader's.
+// The card's application version is present and differs from the reader's.
 pub fn version_differs(there: bool, card: &[u8], reader: &[u8]) -> bool
     ensures { λ r. ⌜ r ≡ versionDiffers (valueIf there (now (card .entry))) (now (reader .entry)) ⌝ }
 {
@@ -35,7 +35,8 @@ pub fn version_differs(there: bool, card: &[u8], reader: &[u8]) -> bool
     false
 }
 
-// The effective date is there and later than the transaction date. (That a card has expired is `digits::later` alone.)
+// The effective date is present and later than the transaction date. (That a card has expired is
+// `digits::later` alone.)
 pub fn not_yet_effective(there: bool, effective: &[u8], today: &[u8]) -> bool
     ensures { λ r. ⌜ r ≡ notYetEffective (valueIf there (now (effective .entry))) (now (today .entry)) ⌝ }
 {
@@ -45,7 +46,7 @@ pub fn not_yet_effective(there: bool, effective: &[u8], today: &[u8]) -> bool
     false
 }
 
-// Usage: the application usage control is there and something needed is not met.
+// Usage: the application usage control is present and something needed is not met.
 pub fn auc_violated(
     there: bool,
     usage: &[u8],
@@ -97,7 +98,7 @@ pub fn country_of(there: bool, issuer: &[u8], terminal: &[u8]) -> IssuerCountry
     IssuerCountry::Abroad
 }
 
-// Cashback is asked for: another amount is there and not zero.
+// Cashback is requested: another amount is present and not zero.
 pub fn asks_cashback(there: bool, other: &[u8]) -> bool
     ensures { λ r. ⌜ r ≡ asksCashback (valueIf there (now (other .entry))) ⌝ }
 {
@@ -117,7 +118,7 @@ fn auc_terminal_met(usage: &[u8], atm: bool) -> bool
     byte::has(usage, 1, 1)
 }
 
-// Cash is allowed where it is asked for.
+// Cash is allowed where it is requested.
 fn auc_cash_met(usage: &[u8], country: IssuerCountry, transaction: u8) -> bool
     ensures { λ r. ⌜ r ≡ aucCashMet (now (usage .entry)) country transaction ⌝ }
 {
@@ -127,7 +128,7 @@ fn auc_cash_met(usage: &[u8], country: IssuerCountry, transaction: u8) -> bool
     }
 }
 
-// Goods or services are allowed where they are asked for.
+// Goods or services are allowed where they are requested.
 fn auc_goods_met(usage: &[u8], country: IssuerCountry, transaction: u8) -> bool
     ensures { λ r. ⌜ r ≡ aucGoodsMet (now (usage .entry)) country transaction ⌝ }
 {
@@ -137,7 +138,7 @@ fn auc_goods_met(usage: &[u8], country: IssuerCountry, transaction: u8) -> bool
     }
 }
 
-// Cashback is allowed where it is asked for.
+// Cashback is allowed where it is requested.
 fn auc_cashback_met(usage: &[u8], country: IssuerCountry, cashback: bool) -> bool
     ensures { λ r. ⌜ r ≡ aucAllowsCashback (now (usage .entry)) country cashback ⌝ }
 {

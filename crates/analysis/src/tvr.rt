@@ -1,4 +1,4 @@
-// The result bits: the floor limit's byte, and the five bytes put together.
+// The TVR: the floor limit's byte, and the five bytes put together.
 use crate::byte;
 use crate::digits;
 ghost use mathlib.Core.Path.{_≡_};

@@ -1,5 +1,5 @@
--- Recursion over bytes. A step that asks only for fewer bytes gives the same by any number of steps above the length (`enough`), so the
--- bound does not matter (`recurse-unroll`); and induction that goes the same way.
+-- Recursion over bytes. A step that recurses only on fewer bytes gives the same by any number of steps above the length
+-- (`enough`), so the bound does not matter (`recurse-unroll`); and induction that goes the same way.
 -- Assumes nothing.
 use mathlib.Core.Path.{_≡_}
 use mathlib.Core.List.{List}
@@ -8,7 +8,7 @@ use native.Mathlib.Omega.{arith}
 use lib.ListN.{length}
 use Rattle.basics.specs.Recursion.{recurseBy, recurse}
 
--- a step asks only for fewer bytes: two results that agree on all lists shorter than s give the same at s
+-- a step recurses only on fewer bytes: two results that agree on all lists shorter than s give the same at s
 abbrev pub AsksShorter : {R : Type 0} → ((List ℕ → R) → List ℕ → R) → Type 0
 AsksShorter {R} step =
     (k k′ : List ℕ → R) (s : List ℕ) → ((v : List ℕ) → length v < length s → k v ≡ k′ v) → step k s ≡ step k′ s

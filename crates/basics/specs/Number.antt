@@ -5,7 +5,7 @@ use mathlib.Core.List.{List, [], _∷_}
 use Prim.Native.Nat.{ℕ, _+_, _*_, _/_, _%_}
 use Rattle.basics.specs.Choice.{_and_, _≤?_, _=?_}
 
--- the bytes s behind the number n, high byte first
+-- the bytes s appended to the number n, high byte first
 unfoldable pub bigEndianFrom : ℕ → List ℕ → ℕ
 bigEndianFrom n [] = n
 bigEndianFrom n (b ∷ s) = bigEndianFrom (n * 256 + b) s
@@ -23,6 +23,6 @@ nibbles (b ∷ s) = b / 16 ∷ b % 16 ∷ nibbles s
 abbrev pub hasBit : ℕ → ℕ → Bool
 hasBit b weight = b / weight % 2 =? 1
 
--- a number lies between two others, both counted in
+-- a number lies between two others, inclusive
 abbrev pub between : ℕ → ℕ → ℕ → Bool
 between low n high = low ≤? n and n ≤? high

@@ -52,7 +52,7 @@ reasonNotAllowed = 3
 abbrev pub reasonMissing : ℕ
 reasonMissing = 4
 
--- a file locator that breaks its rules
+-- an AFL that breaks its rules
 abbrev pub reasonAfl : ℕ
 reasonAfl = 5
 
@@ -60,11 +60,11 @@ reasonAfl = 5
 abbrev pub reasonAboveLimit : ℕ
 reasonAboveLimit = 6
 
--- a data object list that is broken, or that fills to a length no command can carry
+-- a DOL that is broken, or that fills to a length no command can carry
 abbrev pub reasonDol : ℕ
 reasonDol = 7
 
--- a cryptogram of a type that the one asked for does not allow
+-- a cryptogram of a type that the one requested does not allow
 abbrev pub reasonCryptogram : ℕ
 reasonCryptogram = 8
 
@@ -76,7 +76,7 @@ reasonLink = 9
 abbrev pub reasonStopped : ℕ
 reasonStopped = 10
 
--- the card's profile says no EMV mode
+-- the AIP indicates no EMV mode
 abbrev pub reasonMode : ℕ
 reasonMode = 11
 

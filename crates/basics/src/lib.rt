@@ -52,7 +52,7 @@ pub fn byte_at(v: &[u8], i: usize) -> u8
     0
 }
 
-// Whether x lies between two bytes, both counted in.
+// Whether x lies between two bytes, inclusive.
 pub fn is_between(low: u8, x: u8, high: u8) -> bool
     ensures { λ r. ⌜ r ≡ between low x high ⌝ }
 {

@@ -1,4 +1,5 @@
--- The start and the first record: ranges, loading and reading are computed, and the refusals that come first are ruled out by law.
+-- The start and the first record: ranges, loading and reading are computed, and the refusals that come first are
+-- ruled out by law.
 -- Assumes nothing.
 use mathlib.Core.Path.{_≡_, refl, ap, _∙_}
 use mathlib.Core.Bool.{true}

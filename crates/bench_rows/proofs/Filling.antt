@@ -1,4 +1,4 @@
--- The rows of filling, at every store that holds the amount and the result bits: the list and the fitting are computed.
+-- The rows of filling, at every store that holds the amount and the TVR: the list and the fitting are computed.
 -- Assumes nothing.
 use mathlib.Core.Path.{_≡_, refl, ap, _∙_}
 use mathlib.Core.List.{List, [], _∷_, _++_}
@@ -14,7 +14,7 @@ use Rattle.dol.specs.Entries.{entryWithLength, dolEntryAt, entryBefore, entries
 use Rattle.dol.specs.Filling.{truncated, paddingByte, padded, fittedTo, valueBytes, dolEntryBytes, dolData, dolDataBy, dolFilled}
 use Rattle.bench_rows.specs.BenchTable.{benchAmount, benchTvr, FillsBench}
 
--- a list that asks for n bytes of one tag gives those of its value
+-- a list that requests n bytes of one tag gives those of its value
 amount-asked : (store : List ℕ) (n : ℕ) → dolFilled dictionaryRows store (0x9F ∷ 0x02 ∷ n ∷ []) ≡ some (valueBytes formN n (objectValue store 0x9F02) ++ [])
 unfolding dolEntries recurse recurseBy entriesNext dolEntryAt entryWithLength entryBefore tagAt tagSize tagSecondByte bigEndianFrom if tagFirstByte isTemplate dictionaryRows rowPast findRow dolDataBy dolData dolEntryBytes objectValueIn
 amount-asked store n = refl

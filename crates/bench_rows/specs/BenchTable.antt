@@ -27,7 +27,7 @@ use Rattle.session.specs.Answer.{answerStep}
 abbrev pub emptyStoreList : List ℕ
 emptyStoreList = storeBytes freshSession
 
--- the answer to a record command of file 1, with this body and 90 00 behind it as a card sends it, read into it
+-- the answer to a record command of file 1, with this body and 90 00 after it as a card sends it, read into it
 abbrev pub recordAnswer : List ℕ → ReadingOutcome
 recordAnswer body = readAnswer (Awaited.Record (record { number = 1 })) emptyStoreList (body ++ (0x90 ∷ 0x00 ∷ []))
 
@@ -71,40 +71,40 @@ startBytes =
     0xDF ∷ 0x81 ∷ 0x26 ∷ 0x06 ∷ 0x00 ∷ 0x00 ∷ 0x00 ∷ 0x00 ∷ 0x10 ∷ 0x00 ∷
     []
 
--- the start of a fresh session with them, and the card's answer to processing options after it
+-- the start of a fresh session with them, and the card's answer to GPO after it
 abbrev pub benchStart : List ℕ → Step
 benchStart buffer = startStep freshSession startBytes buffer
 
--- 82 of 00 80 and the locator 08 01 01 00
+-- 82 of 00 80 and the AFL 08 01 01 00
 abbrev pub gpoAnswer : List ℕ
 gpoAnswer = 0x80 ∷ 0x06 ∷ 0x00 ∷ 0x80 ∷ 0x08 ∷ 0x01 ∷ 0x01 ∷ 0x00 ∷ 0x90 ∷ 0x00 ∷ []
 
--- the two commands, whatever buffers are lent
+-- the two commands, whatever the caller's buffers
 pub record BenchBegins (first second : List ℕ) : Type 0 where
   pub gpo : HandsOutCommand (0x80 ∷ 0xA8 ∷ 0x00 ∷ 0x00 ∷ 0x02 ∷ 0x83 ∷ 0x00 ∷ 0x00 ∷ []) first (benchStart first)
   pub record-1 : HandsOutCommand (0x00 ∷ 0xB2 ∷ 0x01 ∷ 0x0C ∷ 0x00 ∷ []) second
     (answerStep (benchStart first .reply .session) gpoAnswer second)
 
--- an amount and result bits as a data object list asks for them
+-- an amount and a TVR as a DOL requests them
 abbrev pub benchAmount : List ℕ
 benchAmount = 0x00 ∷ 0x00 ∷ 0x00 ∷ 0x00 ∷ 0x12 ∷ 0x34 ∷ []
 
--- result bits of 80 00 00 80 00
+-- a TVR of 80 00 00 80 00
 abbrev pub benchTvr : List ℕ
 benchTvr = 0x80 ∷ 0x00 ∷ 0x00 ∷ 0x80 ∷ 0x00 ∷ []
 
--- each asked for at a shorter and at a longer length
+-- each requested at a shorter and at a longer length
 pub record FillsBench (store : List ℕ) : Type 0 where
   pub amount-2 : dolFilled dictionaryRows store (0x9F ∷ 0x02 ∷ 0x02 ∷ []) ≡ some (0x12 ∷ 0x34 ∷ [])
   pub amount-7 : dolFilled dictionaryRows store (0x9F ∷ 0x02 ∷ 0x07 ∷ []) ≡ some (0x00 ∷ benchAmount)
   pub results-3 : dolFilled dictionaryRows store (0x95 ∷ 0x03 ∷ []) ≡ some (0x80 ∷ 0x00 ∷ 0x00 ∷ [])
   pub results-6 : dolFilled dictionaryRows store (0x95 ∷ 0x06 ∷ []) ≡ some (benchTvr ++ (0x00 ∷ []))
 
--- a code with no bit set, and the result bits that the choice is made on
+-- a code with no bit set, and the TVR that the choice is made on
 abbrev pub zeroActionCode : List ℕ
 zeroActionCode = 0x00 ∷ 0x00 ∷ 0x00 ∷ 0x00 ∷ 0x00 ∷ []
 
--- result bits of 80 00 00 00 00
+-- a TVR of 80 00 00 00 00
 abbrev pub tvrOneBit : List ℕ
 tvrOneBit = 0x80 ∷ 0x00 ∷ 0x00 ∷ 0x00 ∷ 0x00 ∷ []
 
@@ -136,7 +136,7 @@ pub record BenchTable : Type 0 where
   pub empty : recordAnswer (0x70 ∷ 0x00 ∷ []) ≡ readingOutcome 0 1 emptyStoreList
   -- two objects, stored
   pub version : VersionStored (recordAnswer (0x70 ∷ 0x05 ∷ 0x9F ∷ 0x08 ∷ 0x02 ∷ 0x00 ∷ 0x02 ∷ []))
-  -- reason 3: result bits are not the card's to set
+  -- reason 3: the TVR is not the card's to set
   pub results-sent : recordAnswer (0x70 ∷ 0x03 ∷ 0x95 ∷ 0x01 ∷ 0x00 ∷ []) ≡ readingOutcome 3 2 emptyStoreList
   -- accepted, nothing stored: a terminal's private object
   pub private : recordAnswer (0x70 ∷ 0x05 ∷ 0xDF ∷ 0x81 ∷ 0x23 ∷ 0x01 ∷ 0x00 ∷ []) ≡ readingOutcome 0 2 emptyStoreList

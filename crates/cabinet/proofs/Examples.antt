@@ -31,18 +31,18 @@ bytes : map amountBytes (0 ∷ 1000 ∷ 999999999999 ∷ 0xFFFFFFFFFFFFFFFF ∷ 
     ∷ []
 bytes = refl
 
--- approved, online request, declined, ended, select next, with 600 left and 400 set aside
+-- approved, online request, declined, ended, select next, with 600 left and 400 reserved
 ends : map (λ o. remainingAfter o 600 400) (Outcome.Approved ∷ Outcome.OnlineRequest ∷ Outcome.Declined ∷ Outcome.Ended ∷ Outcome.SelectNext ∷ [])
     ≡ 600 ∷ 1000 ∷ 1000 ∷ 1000 ∷ 1000 ∷ []
 ends = refl
 
--- an approval spends whatever its method: no CVM, signature, none told
+-- an approval spends whatever its CVM: no CVM, signature, none reported
 module _ (st : Step) (l buf : List ℕ) where
   approvals : map (λ m. settlesAmounts (CallResult.Outcome (outcomeParameters Outcome.Approved 0 m)) st 600 400 l buf) (0 ∷ 1 ∷ 15 ∷ [])
       ≡ cabinetStepDone st 600 0 l ∷ cabinetStepDone st 600 0 l ∷ cabinetStepDone st 600 0 l ∷ []
   approvals = refl
 
-  -- an amount that is all that is left passes, one more is 30
+  -- an amount that is all that remains passes, one more is 30
   equal : reservesAmount st 1000 1000 l buf ≡ settlesAmounts (st .reply .answer) st 0 1000 l buf
   unfolding reservesAmount if
   equal = refl
@@ -60,26 +60,26 @@ openings : cabinetOpenWord 999999999999 (replicate cabinetStateSize 0) ∷ cabin
 unfolding cabinetOpenWord if
 openings = refl
 
--- a store with an amount of 1, and a session on processing options with it
+-- a store with an amount of 1, and a session on GPO with it
 one : List ℕ
 one = putRow dictionaryRows (replicate storeSize 0) rowAmount (0 ∷ 0 ∷ 0 ∷ 0 ∷ 0 ∷ 1 ∷ [])
 
 running : Session
 running = sessionOf Phase.Gpo 1 one
 
--- 1 is due while it runs, nothing once it has ended
+-- 1 is expected while it runs, nothing once it has ended
 dues : amountToReserve Phase.Gpo one ∷ amountToReserve (Phase.Ended (endingOf Outcome.Approved 0)) one ∷ [] ≡ 1 ∷ 0 ∷ []
 unfolding one amountToReserve if dictionaryRows findRow rowPast putRow objectValueIn rowValue rowPlace placeValue rowOffset amountOf firstBytes nibbles bcdFrom
 dues = refl
 
--- set aside 1; 0; 2; then with what is left at the greatest amount, over it by one, and all ones
+-- reserved 1; 0; 2; then with what remains at the greatest amount, over it by one, and all ones
 fits : map amountsFit (cabinet running 4 1 ∷ cabinet running 4 0 ∷ cabinet running 4 2
     ∷ cabinet running 999999999998 1 ∷ cabinet running 999999999999 1 ∷ cabinet running 0xFFFFFFFFFFFFFFFF 1 ∷ [])
     ≡ true ∷ false ∷ false ∷ true ∷ false ∷ false ∷ []
 unfolding amountsFit one running amountToReserve if both dictionaryRows findRow rowPast putRow objectValueIn rowValue rowPlace placeValue rowOffset amountOf firstBytes nibbles bcdFrom
 fits = refl
 
--- a fresh session has nothing set aside
+-- a fresh session has nothing reserved
 fresh : map amountsFit (cabinet freshSession 1000 0 ∷ cabinet freshSession 1000 1 ∷ []) ≡ true ∷ false ∷ []
 unfolding amountsFit amountToReserve if both
 fresh = refl

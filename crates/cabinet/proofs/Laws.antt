@@ -1,5 +1,6 @@
--- How a call on a state comes about: the first tests as the code makes them, with the session's ranges left to the kernel's step; the state
--- around the store that a step left in its place; and a start on a fresh session and a buffer of its own.
+-- How a call on a state comes about: the first tests as the code makes them, with the session's ranges left to the
+-- kernel's step; the state around the store that a step left in its place; and a start on a fresh session and a
+-- buffer of its own.
 -- Assumes nothing.
 use mathlib.Core.Path.{_≡_, refl, sym, ap, subst, _∙_}
 use mathlib.Core.Bool.{Bool, true, false}
@@ -54,7 +55,7 @@ use Rattle.cabinet.specs.Calls.{CabinetResult, DidCabinetCall, refusedRe
 use Rattle.cabinet.specs.Inner.{cabinetParts, cabinetRefusedBy, fittingCabinet, cabinetHeldAdmission, cabinetPartsIn, cabinetAdmission, cabinetOf, ifInRanges, cabinetFreshStart, commandSizeIn, commandHandedOver, withAmounts, amountsSettled, finishedBy, cabinetFinished}
 use Rattle.cabinet.proofs.State.{amounts-behind}
 
--- ---- what a state says
+-- ---- what a state reports
 
 -- the store of a state, as many bytes as it has
 abbrev pub storeIn : List ℕ → List ℕ
@@ -74,7 +75,8 @@ head-session l h e = go (decodedSession l) refl e
         let k = held-store l s d .1 in
         λ i. some (sessionOf (g i .phase) (g i .count) (k i))
 
--- what is said of bytes that are too few, that hold no record, and of those that hold one, by the two tests of the amounts
+-- what is said of bytes that are too few, that hold no record, and of those that hold one, by the two tests
+-- of the amounts
 module _ (l : List ℕ) where
   pub holding-short : length l < cabinetStateSize → cabinetPartsIn l ≡ cabinetRefusedBy refusedRanges
   unfolding cabinetPartsIn
@@ -110,7 +112,8 @@ both-passed true b e = e
 both-passed false b e = refl
 
 module _ (l : List ℕ) where
-  -- what is known of a state that a call is taken on: the bytes are enough, the amounts fit, and the ranges of the session alone decide
+  -- what is known of a state that a call is taken on: the bytes are enough, the amounts fit, and the ranges of the
+  -- session alone decide
   pub record Told (h : CabinetParts) : Type 0 where
     pub enough : cabinetStateSize ≤ length l
     pub fits : h .amounts .remaining + h .amounts .reserved ≤ mostAmount
@@ -207,7 +210,7 @@ module _ (l buf : List ℕ) where
         subst (DidCabinetCall w l buf) (sym (if-no _ _ t ∙ ap (λ (x : Option Cabinet). onCabinetHeld does l buf x) (k .held))) (record { word = k .word; state = refl; buffer = refl })
   ]
 
-  -- of one that is taken the buffer has room, and the state is as told
+  -- of one that is taken the buffer has room, and the state is as reported
   pub record Taken (h : CabinetParts) : Type 0 where
     pub room : leastBuffer ≤ length buf
     pub told : Told l h
@@ -261,7 +264,7 @@ finished-taken (CallResult.Refused r) t a l e = let z : _≡_ {A = ℕ} 0 1 = cc
 
 module _ (l buf : List ℕ) (h : cabinetStateSize ≤ length l) (st : Step) (t : Transition) (c : List ℕ) (z : length c ≡ storeSize) (did : replyOf t c ≡ st .reply)
     (kept : (r : Refusal) → t .answer ≡ CallResult.Refused r → (putMid headSize storeSize l c ≡ l) × (st .buffer ≡ buf)) where
-  -- with amounts behind it
+  -- with amounts after it
   around : (a : Amounts) → withAmounts a (withRecordHead (t .phase) (t .count) (putMid headSize storeSize l c)) ≡ withCabinetState (cabinet (st .reply .session) (a .remaining) (a .reserved)) l
   around a =
       ap (withAmounts a) (put-head l c (t .phase) (t .count) (omega arith) z)
@@ -330,7 +333,7 @@ module _ (step : Session → List ℕ → Step) (came : (s : Session) (b : List 
             ap (λ (x : Step). x .buffer) n,
           )
 
-  -- the same of a call that only looks at the store
+  -- the same of a call that only examines the store
   pub over-kept : (w : ℕ) (l′ b′ : List ℕ) (t : Transition) → steps.DidStep (replyOf t (storeIn l)) b′ (step own buf)
       → (w ≡ resultWord (t .answer)) × (l′ ≡ cabinetFinished t (h .amounts) l) → DidCabinetCall w l′ b′ (cabinetAdmitted (cabinetStepOn step l buf) l buf)
   over-kept w l′ b′ t did f =
@@ -380,7 +383,7 @@ module _ (s : Session) (bytes l buf : List ℕ) (r : leastBuffer ≤ length buf)
 
 -- ---- start: a fresh session, with a buffer of its own
 
--- a step with one buffer and with another: the same reply, and the command in front of the other
+-- a step with one buffer and with another: the same reply, and the command at the front of the other
 pub record Alike (x y : Step) (buf : List ℕ) : Type 0 where
   pub reply : x .reply ≡ y .reply
   pub buffer : y .buffer ≡ commandHandedOver (x .reply .answer) (x .buffer) buf
@@ -465,7 +468,7 @@ module _ (bytes l first buf : List ℕ) (n : ℕ) (f : leastBuffer ≤ length fi
     unfolding reservesAmount
     fresh-left w e q = subst (DidCabinetCall w l buf) (sym (past ∙ if-yes _ _ (lt-ltb _ _ q))) (record { word = e; state = refl; buffer = refl })
 
-    -- the amount is set aside, and the command is copied over
+    -- the amount is reserved, and the command is copied over
     pub fresh-taken : cabinetStateSize ≤ length l → storedAmount c ≤ n → (w : ℕ) (l′ b′ : List ℕ) (a : Amounts) → a .remaining ≡ n - storedAmount c → a .reserved ≡ storedAmount c
         → (w ≡ resultWord (t .answer)) × (l′ ≡ cabinetFinished t a (putMid headSize storeSize l c)) → b′ ≡ commandHandedOver (t .answer) first′ buf
         → DidCabinetCall w l′ b′ (cabinetFreshStart bytes n l buf)

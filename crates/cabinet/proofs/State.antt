@@ -1,5 +1,5 @@
--- The state in bytes: the two amounts are written behind the record and read back, the bytes behind the state stay, and a state that is
--- written over another is as if the other had not been.
+-- The state in bytes: the two amounts are written after the record and read back, the bytes after the state stay, and a
+-- state that is written over another is as if the other had not been.
 -- Assumes nothing.
 use mathlib.Core.Path.{_≡_, sym, ap, _∙_}
 use mathlib.Core.Bool.{true}
@@ -38,11 +38,11 @@ amount-back n =
 
 -- ---- written
 
--- the bytes behind the state, from behind the record on
+-- the bytes after the state, from after the record on
 behind : (l : List ℕ) → drop 16 (drop recordSize l) ≡ drop cabinetStateSize l
 behind l = drop-drop 16 recordSize l
 
--- two amounts put behind the record, one after the other
+-- two amounts put after the record, one after the other
 pub put-both : (l a b : List ℕ) → cabinetStateSize ≤ length l → length a ≡ 8 → putMid reservedAt 8 (putMid remainingAt 8 l a) b ≡ take recordSize l ++ (a ++ (b ++ drop cabinetStateSize l))
 put-both l a b h m =
     ap (λ (x : List ℕ). putMid reservedAt 8 x b) (sym (append-assoc front a rest))
@@ -70,7 +70,7 @@ module _ (s : Session) (z : length (storeBytes s) ≡ storeSize) where
   unfolding encodedSession
   encoded-size = simp length-append (omega arith)
 
-  -- the amounts behind a record that was written are the state
+  -- the amounts after a record that was written are the state
   pub amounts-behind : (l : List ℕ) (a : Amounts) → cabinetStateSize ≤ length l → withAmounts a (withSessionRecord s l) ≡ withCabinetState (cabinet s (a .remaining) (a .reserved)) l
   unfolding withCabinetState withSessionRecord
   amounts-behind l a h =
@@ -105,7 +105,7 @@ module _ (c : Cabinet) (l : List ℕ) (z : length (storeBytes (c .session)) ≡ 
       ap (λ (x : List ℕ). bigEndian (take 8 x)) (sym (drop-drop 8 recordSize (withCabinetState c l)) ∙ ap (drop 8) behind-record)
       ∙ amount-back (c .reserved)
 
-  -- the bytes behind the state stay, and all keep their number
+  -- the bytes after the state stay, and all keep their number
   pub state-behind : drop cabinetStateSize (withCabinetState c l) ≡ drop cabinetStateSize l
   state-behind = sym (behind (withCabinetState c l)) ∙ ap (drop 16) behind-record
 

@@ -19,9 +19,9 @@ use Rattle.layout.specs.Word.{refusalWord, resultWord}
 use Rattle.session_record.specs.Session.{isEnded}
 use Rattle.cabinet.specs.State.{Cabinet, cabinet, mostAmount, cabinetStateSize, withCabinetState, storedAmount, cabinetHeldIn}
 
--- ---- refusals beside the kernel's
+-- ---- refusals besides the kernel's
 
--- what is left is smaller than the amount of a start
+-- what remains is smaller than the amount of a start
 abbrev pub refusedRemaining : ℕ
 refusedRemaining = 30
 
@@ -31,7 +31,7 @@ refusedCap = 31
 
 -- ---- what a call leaves
 
--- the word that is returned, and what stands in the two lent slices after
+-- the word that is returned, and the contents of the caller's two slices afterwards
 pub record CabinetResult : Type 0 where
   pub word : ℕ
   pub state : List ℕ
@@ -43,7 +43,7 @@ pub record DidCabinetCall (w : ℕ) (l b : List ℕ) (d : CabinetResult) : Type 
   pub state : l ≡ d .state
   pub buffer : b ≡ d .buffer
 
--- a refusal leaves all lent bytes as they were
+-- a refusal leaves all of the caller's bytes as they were
 abbrev pub cabinetRefusal : ℕ → List ℕ → List ℕ → CabinetResult
 cabinetRefusal n l buf = record { word = refusalWord n; state = l; buffer = buf }
 
@@ -59,7 +59,7 @@ cabinetAdmitted does l buf =
 
 -- ---- the cap
 
--- an end: an approval spends what is set aside, every other outcome gives it back
+-- an end: an approval spends what is reserved, every other outcome gives it back
 abbrev pub remainingAfter : Outcome → ℕ → ℕ → ℕ
 remainingAfter Outcome.Approved      remaining reserved = remaining
 remainingAfter Outcome.OnlineRequest remaining reserved = remaining + reserved
@@ -76,7 +76,7 @@ cabinetStepDone st remaining reserved l =
       buffer = st .buffer;
     }
 
--- by the kernel's answer: a command leaves the amounts, an outcome leaves nothing set aside, a refusal changes nothing
+-- by the kernel's answer: a command leaves the amounts, an outcome leaves nothing reserved, a refusal changes nothing
 abbrev pub settlesAmounts : CallResult → Step → ℕ → ℕ → List ℕ → List ℕ → CabinetResult
 settlesAmounts (CallResult.Command x) st remaining reserved l buf = cabinetStepDone st remaining reserved l
 settlesAmounts (CallResult.Outcome e) st remaining reserved l buf = cabinetStepDone st (remainingAfter (e .outcome) remaining reserved) 0 l
@@ -107,7 +107,7 @@ sessionToStart s =
     if isEnded (s .phase) then freshSession
     else s
 
--- the amount a of a start is set aside where what is left is no smaller, else 30; a start that ends its session
+-- the amount a of a start is reserved where what remains is no smaller, else 30; a start that ends its session
 -- (reason 7) gives it back at once
 unfoldable pub reservesAmount : Step → ℕ → ℕ → List ℕ → List ℕ → CabinetResult
 reservesAmount st a remaining l buf =
@@ -132,7 +132,7 @@ startOnCabinet bytes l buf c =
 abbrev pub cabinetStart : List ℕ → List ℕ → List ℕ → CabinetResult
 cabinetStart bytes l buf = cabinetAdmitted (startOnCabinet bytes l buf) l buf
 
--- ---- opening, and what is left
+-- ---- opening, and what remains
 
 -- too few bytes (25), then a cap over the greatest amount (31); whatever the bytes hold
 unfoldable pub cabinetOpenWord : ℕ → List ℕ → ℕ
@@ -141,7 +141,7 @@ cabinetOpenWord cap l =
     else if mostAmount <? cap then refusalWord refusedCap
     else 0
 
--- a fresh session, all of the cap left and nothing set aside; a refusal leaves the bytes
+-- a fresh session, all of the cap remaining and nothing reserved; a refusal leaves the bytes
 unfoldable pub cabinetOpenState : ℕ → List ℕ → List ℕ
 cabinetOpenState cap l =
     if length l <? cabinetStateSize then l
@@ -153,11 +153,11 @@ pub record CabinetOpened (cap w : ℕ) (before after : List ℕ) : Type 0 where
   pub word : w ≡ cabinetOpenWord cap before
   pub state : after ≡ cabinetOpenState cap before
 
--- what is left; all ones where the bytes are refused with 25
+-- what remains; all ones where the bytes are refused with 25
 abbrev pub remainingWord : Option Cabinet → ℕ
 remainingWord none = 0xFFFFFFFFFFFFFFFF
 remainingWord (some c) = c .remaining
 
 -- ---- what holds of it for every cabinet and every list of calls, promised by cabinet_calls::most_approved
---   Balanced       left, set aside and the amounts of approved sessions are together the cap
+--   Balanced       the remaining and reserved amounts and those of approved sessions are together the cap
 --   AsTheKernel    but for the cap each call is the kernel's

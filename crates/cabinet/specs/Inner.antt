@@ -1,6 +1,6 @@
 -- What private functions promise for their callers' proofs: a call's first tests as the code has them, which leaves the
--- session's ranges to the kernel's step, and the state as the code writes it behind the store. No rule stands here: a
--- reader of the rules can pass it over. proofs/Laws ties it to specs/State and specs/Calls.
+-- session's ranges to the kernel's step, and the state as the code writes it after the store. This file states no rule:
+-- a reader of the rules can skip it. proofs/Laws ties it to specs/State and specs/Calls.
 -- Assumes nothing.
 use mathlib.Core.List.{List, _++_}
 use mathlib.Core.Option.{Option, some, none}
@@ -26,7 +26,7 @@ use Rattle.cabinet.specs.Calls.{CabinetResult, cabinetRefusal, remaining
 
 -- ---- the first tests
 
--- what a cabinet's state says beside the store
+-- what a cabinet's state holds besides the store
 abbrev pub cabinetParts : Cabinet → CabinetParts
 cabinetParts c =
     record {
@@ -48,7 +48,7 @@ abbrev pub cabinetHeldAdmission : List ℕ → Option Session → CabinetAdmissi
 cabinetHeldAdmission l none = cabinetRefusedBy refusedRanges
 cabinetHeldAdmission l (some s) = fittingCabinet (cabinet s (remainingIn l) (reservedIn l))
 
--- what a state says, or refusal 25
+-- what a state reports, or refusal 25
 unfoldable pub cabinetPartsIn : List ℕ → CabinetAdmission
 cabinetPartsIn l =
     if cabinetStateSize ≤? length l then cabinetHeldAdmission l (decodedSession l)
@@ -60,12 +60,12 @@ cabinetAdmission l size =
     if size <? leastBuffer then cabinetRefusedBy refusedBuffer
     else cabinetPartsIn l
 
--- the cabinet of what a state says, with the store that lies in the bytes
+-- the cabinet of what a state reports, with the store that lies in the bytes
 abbrev pub cabinetOf : CabinetParts → List ℕ → Cabinet
 cabinetOf h l =
     cabinet (sessionOf (h .phase) (h .count) (take storeSize (drop headSize l))) (h .amounts .remaining) (h .amounts .reserved)
 
--- what a call does on a cabinet whose amounts fit: 25 where its session breaks its ranges
+-- what a call does on a cabinet whose amounts fit: 25 where its session is out of its ranges
 unfoldable pub ifInRanges : (Cabinet → CabinetResult) → List ℕ → List ℕ → Cabinet → CabinetResult
 ifInRanges does l buf c =
     if inRanges (c .session) then does c
@@ -83,7 +83,7 @@ commandSizeIn (CallResult.Command x) = x .size
 commandSizeIn (CallResult.Outcome e) = 0
 commandSizeIn (CallResult.Refused r) = 0
 
--- the command in the front of one buffer, in front of another
+-- the command at the front of one buffer, copied to the front of another
 abbrev pub commandHandedOver : CallResult → List ℕ → List ℕ → List ℕ
 commandHandedOver (CallResult.Command x) first buf = take (x .size) first ++ drop (x .size) buf
 commandHandedOver (CallResult.Outcome e) first buf = buf
@@ -91,7 +91,7 @@ commandHandedOver (CallResult.Refused r) first buf = buf
 
 -- ---- the state as it is written
 
--- the amounts behind the record, whatever that is
+-- the amounts after the record, whatever that is
 abbrev pub withAmounts : Amounts → List ℕ → List ℕ
 withAmounts a l =
     take recordSize l ++ (amountBytes (a .remaining) ++ (amountBytes (a .reserved) ++ drop cabinetStateSize l))
@@ -102,7 +102,7 @@ amountsSettled (CallResult.Command x) a = a
 amountsSettled (CallResult.Outcome e) a = record { remaining = remainingAfter (e .outcome) (a .remaining) (a .reserved); reserved = 0 }
 amountsSettled (CallResult.Refused r) a = a
 
--- the head and the amounts of a turn around the store that lies in its place; a refusal writes nothing
+-- the head and the amounts of a transition around the store that lies in its place; a refusal writes nothing
 abbrev pub finishedBy : CallResult → Transition → Amounts → List ℕ → List ℕ
 finishedBy (CallResult.Command x) t a l = withAmounts (amountsSettled (CallResult.Command x) a) (withRecordHead (t .phase) (t .count) l)
 finishedBy (CallResult.Outcome e) t a l = withAmounts (amountsSettled (CallResult.Outcome e) a) (withRecordHead (t .phase) (t .count) l)

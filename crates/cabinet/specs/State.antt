@@ -1,5 +1,5 @@
--- The state of a cabinet in bytes (document 02, Item 14): the session's record, what is left of the cap, the amount set
--- aside; each of the two eight bytes, high byte first.
+-- The state of a cabinet in bytes (document 02, Item 14): the session's record, what remains of the cap (document 02:
+-- left), the amount reserved (document 02: set aside); each of the two eight bytes, high byte first.
 -- Assumes nothing.
 use mathlib.Core.Bool.{Bool}
 use mathlib.Core.List.{List, _++_}
@@ -17,7 +17,7 @@ use Rattle.session_record.specs.Ranges.{inRanges}
 use Rattle.layout.specs.Layout.{recordSize, encodedSession, decodedSession, limitBytes}
 use Rattle.session_record.specs.Session.{isRunning}
 
--- one session, what is left of the cap, and what is set aside
+-- one session, what remains of the cap, and what is reserved
 pub record Cabinet : Type 0 where
   pub session : Session
   pub remaining : ℕ
@@ -33,7 +33,7 @@ mostAmount = 999999999999
 
 -- ---- in bytes
 
--- where the two amounts stand behind the record, and how many bytes a state takes
+-- where the two amounts are after the record, and how many bytes a state takes
 abbrev pub remainingAt : ℕ
 remainingAt = recordSize
 
@@ -47,7 +47,7 @@ cabinetStateSize = recordSize + 16
 abbrev pub amountBytes : ℕ → List ℕ
 amountBytes n = limitBytes n
 
--- a cabinet in front of bytes that are enough, those behind the state stay; every call looks first whether they are
+-- a cabinet at the front of bytes that are enough, those after the state stay; every call checks this first
 unfoldable pub withCabinetState : Cabinet → List ℕ → List ℕ
 withCabinetState c l =
     encodedSession (c .session) ++ (amountBytes (c .remaining) ++ (amountBytes (c .reserved) ++ drop cabinetStateSize l))
@@ -65,19 +65,19 @@ reservedIn l = bigEndian (take 8 (drop reservedAt l))
 abbrev pub storedAmount : List ℕ → ℕ
 storedAmount b = amountOf (storedBytes b 0x9F02)
 
--- what has to be set aside in a phase, by the store: the running session's amount, 0 where none runs
+-- what has to be reserved in a phase, by the store: the running session's amount, 0 where none runs
 unfoldable pub amountToReserve : Phase → List ℕ → ℕ
 amountToReserve p b =
     if isRunning p then storedAmount b
     else 0
 
--- what is set aside is due, and with what is left it is at most the greatest amount
+-- what is reserved is what the phase requires, and with what remains it is at most the greatest amount
 unfoldable pub amountsFit : Cabinet → Bool
 amountsFit c =
     c .reserved =? amountToReserve (c .session .phase) (storeBytes (c .session))
     and c .remaining + c .reserved ≤? mostAmount
 
--- the session keeps its ranges, and the amounts fit
+-- the session is in its ranges, and the amounts fit
 abbrev pub cabinetInOrder : Cabinet → Bool
 cabinetInOrder c =
     inRanges (c .session)

@@ -1,8 +1,9 @@
 // A vending cabinet over the kernel, for a host in C: one session at a time, and a cap on what is approved offline.
 //
-// The state lies in bytes that the host lends to every call: the session's record, then what is left of the cap, then the amount that the
-// running session sets aside. A start sets its amount aside; an approval spends it, and every other end gives it back. `cabinet_find` looks
-// a start object up in a site's list and the maker's defaults. docs/HOST.md has the state and the words.
+// The state lies in bytes that the host passes to every call: the session's record, then what remains of the cap, then
+// the amount that is reserved for the running session. A start reserves its amount; an approval spends it, and every
+// other end gives it back. `cabinet_find` looks a start object up in a site's list and the maker's defaults.
+// docs/HOST.md has the state and the words.
 use dictionary::{ROW_AMOUNT, SIZE};
 use layout::{RecordHeld, HEAD, RECORD_SIZE};
 use session_record::{CallResult, Outcome, Phase, Transition};
@@ -20,41 +21,41 @@ ghost use Rattle.cabinet.specs.State.{mostAmount, cabinetStateSize, amou
 ghost use Rattle.cabinet.specs.Calls.{DidCabinetCall, CabinetOpened, remainingAfter, remainingWord, startOnCabinet, cabinetStart, cabinetAnswer, cabinetLinkFailed, cabinetStop};
 ghost use Rattle.cabinet.specs.Inner.{cabinetPartsIn, cabinetAdmission, cabinetOf, ifInRanges, cabinetFreshStart, commandSizeIn, commandHandedOver, withAmounts, amountsSettled, cabinetFinished};
 
-// Refusals beside the kernel's: less is left than the amount of a start; a cap over the greatest amount.
+// Refusals besides the kernel's: less remains than the amount of a start; a cap over the greatest amount.
 pub const REFUSED_LEFT: u8 = 30;
 pub const REFUSED_CAP: u8 = 31;
 
 // The greatest amount of twelve digits.
 const MOST_AMOUNT: u64 = 999999999999;
 
-// Where the two amounts stand behind the record, and how many bytes a state takes.
+// Where the two amounts are after the record, and how many bytes a state takes.
 const LEFT: usize = RECORD_SIZE;
 const ASIDE: usize = RECORD_SIZE + 8;
 const STATE_SIZE: usize = RECORD_SIZE + 16;
 
-// What is told to be left where every call but opening is refused with 25.
+// The remaining amount that is reported where every call but opening is refused with 25.
 const NO_AMOUNT: u64 = 0xFFFFFFFFFFFFFFFF;
 
-// What is left of the cap, and what is set aside.
+// What remains of the cap, and what is reserved.
 pub struct Amounts {
     pub remaining: u64,
     pub reserved: u64,
 }
 
-// What a state says beside the session's store.
+// What a state reports besides the session's store.
 pub struct CabinetParts {
     pub phase: Phase,
     pub count: u8,
     pub amounts: Amounts,
 }
 
-// Whether a call is taken, on what the state says, or the word of its refusal.
+// Whether a call is taken, on what the state reports, or the word of its refusal.
 pub enum CabinetAdmission {
     Admitted(CabinetParts),
     Refused(u32),
 }
 
-// How many bytes a host lends for a cabinet.
+// How many bytes a host provides for a cabinet.
 #[no_mangle]
 pub extern "C" fn cabinet_size() -> usize
     ensures { λ r. ⌜ r ≡ cabinetStateSize ⌝ }
@@ -79,7 +80,7 @@ pub extern "C" fn cabinet_open(state: &mut [u8], cap: u64) -> u32
     0
 }
 
-// Starts a session with the objects that the terminal brings, a fresh one after an end, and sets its amount aside.
+// Starts a session with the objects that the terminal brings, a fresh one after an end, and reserves its amount.
 #[no_mangle]
 pub extern "C" fn cabinet_start(state: &mut [u8], terminal: &[u8], command: &mut [u8]) -> u32
     ensures { λ r. ⌜ DidCabinetCall r (now (state .exit)) (now (command .exit))
@@ -144,7 +145,7 @@ pub extern "C" fn cabinet_stop(state: &mut [u8], command: &mut [u8]) -> u32
     }
 }
 
-// What is left of the cap; NO_AMOUNT where every call but opening is refused with 25.
+// What remains of the cap; NO_AMOUNT where every call but opening is refused with 25.
 #[no_mangle]
 pub extern "C" fn cabinet_left(state: &[u8]) -> u64
     ensures { λ r. ⌜ r ≡ remainingWord (cabinetHeldIn (now (state .entry))) ⌝ }
@@ -162,8 +163,8 @@ pub extern "C" fn cabinet_left(state: &[u8]) -> u64
 
 // Where the value of a tag lies, counted over the site's bytes and then the defaults': the start in bits 32 to 63, the
 // source in bits 16 and 17, the length in bits 0 to 15. The source is 1 where the site's list has the tag, 2 where only
-// the defaults have it, and 0 where neither has it: length 0 at the front of the defaults. All ones where both have 2^32
-// bytes or more.
+// the defaults have it, and 0 where neither has it: length 0 at the front of the defaults. All ones where both have
+// 2^32 bytes or more.
 #[no_mangle]
 pub extern "C" fn cabinet_find(site: &[u8], defaults: &[u8], tag: u32) -> u64
     ensures { λ r. ⌜ r ≡ placeWord tag (now (site .entry)) (now (defaults .entry)) ⌝ }
@@ -181,7 +182,7 @@ fn admit(state: &[u8], size: usize) -> CabinetAdmission
     holding_in(state)
 }
 
-// What a state says, or refusal 25: all of its tests but the session's ranges, which the kernel's call makes.
+// What a state reports, or refusal 25: all of its tests but the session's ranges, which the kernel's call makes.
 fn holding_in(state: &[u8]) -> CabinetAdmission
     ensures { λ r. ⌜ r ≡ cabinetPartsIn (now (state .entry)) ⌝ }
 {
@@ -215,7 +216,7 @@ fn is_within(remaining: u64, reserved: u64) -> bool
     remaining <= MOST_AMOUNT - reserved
 }
 
-// What has to be set aside: the running session's amount.
+// What has to be reserved: the running session's amount.
 fn due(phase: Phase, bytes: &[u8]) -> u64
     ensures { λ r. ⌜ r ≡ amountToReserve phase (now (bytes .entry)) ⌝ }
 {
@@ -246,7 +247,7 @@ fn amount_in(bytes: &[u8]) -> u64
     analysis::digits::amount_of(store::value(bytes, ROW_AMOUNT))
 }
 
-// A start past the first tests: 25 where the session breaks its ranges, 21 where it runs.
+// A start past the first tests: 25 where the session is out of its ranges, 21 where it runs.
 fn start_held(holding: CabinetParts, state: &mut [u8], terminal: &[u8], command: &mut [u8]) -> u32
     requires { ⌜ cabinetStateSize ≤ length (now state) ⌝ }
     requires { ⌜ leastBuffer ≤ length (now command) ⌝ }
@@ -266,8 +267,8 @@ fn start_held(holding: CabinetParts, state: &mut [u8], terminal: &[u8], command:
     start_fresh(amounts.remaining, state, terminal, command)
 }
 
-// A start on a fresh session and a command buffer of its own, which are copied over only where it is not refused: a refusal leaves an
-// ended session as it was.
+// A start on a fresh session and a command buffer of its own, which are copied over only where it is not refused: a
+// refusal leaves an ended session as it was.
 fn start_fresh(remaining: u64, state: &mut [u8], terminal: &[u8], command: &mut [u8]) -> u32
     requires { ⌜ cabinetStateSize ≤ length (now state) ⌝ }
     requires { ⌜ leastBuffer ≤ length (now command) ⌝ }
@@ -303,7 +304,8 @@ fn hand_over(answer: CallResult, first: &[u8], command: &mut [u8])
     bytes::copy(&first[..size], command);
 }
 
-// Writes the head and the amounts of a turn, whose store lies in its place, and gives the word of its answer. A refusal writes nothing.
+// Writes the head and the amounts of a transition, whose store lies in its place, and gives the word of its answer. A
+// refusal writes nothing.
 fn finish(transition: Transition, amounts: Amounts, state: &mut [u8]) -> u32
     requires { ⌜ cabinetStateSize ≤ length (now state) ⌝ }
     requires { ⌜ amounts .remaining + amounts .reserved ≤ mostAmount ⌝ }
@@ -319,7 +321,7 @@ fn finish(transition: Transition, amounts: Amounts, state: &mut [u8]) -> u32
     layout::result_word(answer)
 }
 
-// The amounts after an answer: an end leaves nothing set aside.
+// The amounts after an answer: an end leaves nothing reserved.
 fn settled(answer: CallResult, amounts: Amounts) -> Amounts
     requires { ⌜ amounts .remaining + amounts .reserved ≤ mostAmount ⌝ }
     ensures { λ r. ⌜ r ≡ amountsSettled answer amounts ⌝ }
@@ -334,7 +336,7 @@ fn settled(answer: CallResult, amounts: Amounts) -> Amounts
     }
 }
 
-// What is left after an end: an approval spends what is set aside, every other outcome gives it back.
+// What remains after an end: an approval spends what is reserved, every other outcome gives it back.
 fn left_after(outcome: Outcome, amounts: Amounts) -> u64
     requires { ⌜ amounts .remaining + amounts .reserved ≤ mostAmount ⌝ }
     ensures { λ r. ⌜ r ≡ remainingAfter outcome (amounts .remaining) (amounts .reserved) ⌝ }
@@ -348,7 +350,7 @@ fn left_after(outcome: Outcome, amounts: Amounts) -> u64
     }
 }
 
-// Writes the two amounts behind the record.
+// Writes the two amounts after the record.
 fn put_amounts(amounts: Amounts, state: &mut [u8])
     requires { ⌜ cabinetStateSize ≤ length (now state) ⌝ }
     ensures { λ _. ⌜ now (state .exit) ≡ withAmounts amounts (now (state .entry)) ⌝ }

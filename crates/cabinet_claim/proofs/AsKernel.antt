@@ -1,5 +1,5 @@
--- The cabinet's calls against the kernel's steps: by how each step comes out (`Came`), a refusal leaves the state and the buffer, anything
--- else is written with the session that the step left.
+-- The cabinet's calls against the kernel's steps: by how each step comes out (`Came`), a refusal leaves the state and
+-- the buffer, anything else is written with the session that the step left.
 -- Assumes nothing.
 use mathlib.Core.Path.{_≡_, refl, sym, ap, subst, _∙_}
 use mathlib.Core.Bool.{Bool, true, false}
@@ -79,7 +79,7 @@ module _ (c : Cabinet) (l : List ℕ) (e : cabinetHeldIn l ≡ some c) where
 
   -- ---- start
 
-  -- the session that a start is made on keeps its ranges
+  -- the session that a start is made on is in its ranges
   ranged : inRanges (sessionToStart (c .session)) ≡ true
   unfolding sessionToStart
   ranged = if-ind (λ (s : Session). inRanges s ≡ true) (isEnded (c .session .phase)) _ _ (λ t. fresh-keeps) (λ t. held .order .ranges)

@@ -1,5 +1,6 @@
--- What a start loads is what its bytes bring: in the store that is loaded into an empty one, a known tag has the value of the first object of
--- that tag in the start bytes. An object that is there refuses a second one, so none comes over it.
+-- What a start loads is what its bytes bring: in the store that is loaded into an empty one, a known tag has the
+-- value of the first object of that tag in the start bytes. An object that is present refuses a second one, so none
+-- comes over it.
 -- Assumes nothing.
 use mathlib.Core.Path.{_≡_, refl, sym, ap, _∙_}
 use mathlib.Core.Bool.{true, false}
@@ -42,7 +43,7 @@ never e = let z : _≡_ {A = ℕ} 0 1 = cc in absurd (omega arith)
 
 -- ---- a run of start bytes is held whole by a list
 
--- the object at the front, and a run behind it
+-- the object at the front, and a run after it
 behind-run : (n : ℕ) (s : List ℕ) → length s ≤ suc n → ((v : List ℕ) → length v ≤ n → (os : List Object) → primitiveObjects v ≡ some os → heldObjects v ≡ os)
     → (os : List Object) (g : TlvHeader) → primitiveOf s ≡ front.Object g → (x : Option (List Object)) → primitiveObjects (behindObject s g) ≡ x
     → objectBefore (tlvObject (g .tag) (headerValue s g)) x ≡ some os → tlvObject (g .tag) (headerValue s g) ∷ heldObjects (behindObject s g) ≡ os
@@ -128,7 +129,7 @@ module _ (t k : ℕ) (known : findRow dictionaryRows t ≡ At k) where
         | inr s ↦ never (sym (if-no _ _ s) ∙ e)
       ]
 
-  -- a value that is there stays
+  -- a value that is present stays
   stays-behind : (o : Object) (os : List Object) (b c : List ℕ) → length b ≡ storeSize → isPresent (objectValue b t) ≡ true
       → ((d : List ℕ) → length d ≡ storeSize → isPresent (objectValue d t) ≡ true → setObjects d os ≡ some c → objectValue c t ≡ objectValue d t)
       → (x : Option (List ℕ)) → setObject b o ≡ x → thenSet x (λ d. setObjects d os) ≡ some c → objectValue c t ≡ objectValue b t

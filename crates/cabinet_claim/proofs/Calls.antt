@@ -1,6 +1,6 @@
--- The claim: what a cabinet holds and what the account says go together through every call. A start moves its amount from what is left to what
--- is set aside, an end moves it back or into what is approved; the amount set aside is the one that the start bytes brought. One induction
--- over the calls.
+-- The claim: what a cabinet holds and what the account says go together through every call. A start moves its amount
+-- from what remains to what is reserved, an end moves it back or into what is approved; the amount reserved is the one
+-- that the start bytes brought. One induction over the calls.
 -- Assumes nothing.
 use mathlib.Core.Path.{_≡_, refl, sym, ap, subst, _∙_}
 use mathlib.Core.Bool.{Bool, true, false}
@@ -126,7 +126,7 @@ module _ (a : Account) (l : List ℕ) (h : Holds a l) (k : CabinetCall) (adds : 
       taken-next a a k (commandWord size) _ l (command-other size) (command-told size) (adds (commandWord size) ∙ unapproved a (commandWord size) (command-unapproved size))
       (record { enough = order .enough; ranges = i; due = sym e ∙ sym (if-yes _ _ r); sum = order .sum }) (h .balance) (h .cap-fits) (λ x. m)
 
-  -- an end leaves nothing set aside: an approval spends it, every other outcome gives it back
+  -- an end leaves nothing reserved: an approval spends it, every other outcome gives it back
   module _ (o : Outcome) (n m : ℕ) (b : List ℕ) (j : ℕ) (i : inRanges (sessionOf (Phase.Ended (endingOf o n)) j b) ≡ true) where
     small : n < 256
     small = omega (arith, goes-most o n (on-ended (sessionOf (Phase.Ended (endingOf o n)) j b) i (endingOf o n) refl .reason))
@@ -201,11 +201,11 @@ module _ (a : Account) (l : List ℕ) (h : Holds a l) (bytes buf : List ℕ) whe
     unfolding amountToReserve
     nothing-aside = placed .due ∙ if-no _ _ idle
 
-    -- what is left is smaller than its amount
+    -- what remains is smaller than its amount
     less : Next a k (refusalWord refusedRemaining) l
     less = refused-next a k refusedRemaining l h (omega arith) (λ (e : refusedRemaining ≡ refusedRanges). omega arith)
 
-    -- its amount is set aside, or given back at once
+    -- its amount is reserved, or given back at once
     module _ (b : List ℕ) (q : storedAmount b ≡ startAmountIn bytes) where
       sent-start : (x : List ℕ) → inRanges (sessionOf Phase.Gpo 1 b) ≡ true → (let st = commandStep 0 b Phase.Gpo x buf in NextOf a k (reservesAmount st (storedAmount b) (now .remaining) l buf))
       unfolding reservesAmount amountToReserve

@@ -1,4 +1,5 @@
--- Words and accounts by computation: which words are approvals, whose amount an approval adds, and where the account starts anew.
+-- Words and accounts by computation: which words are approvals, whose amount an approval adds, and where the account
+-- starts anew.
 -- Assumes nothing.
 use mathlib.Core.Path.{_≡_, refl}
 use mathlib.Core.Bool.{true, false}
@@ -16,7 +17,8 @@ use Rattle.analysis.specs.Digits.{bcdFrom, amountOf}
 use Rattle.cabinet_lookup.specs.Value.{heldObjects, firstValue, valueOrDefault}
 use Rattle.cabinet_claim.specs.Account.{opening, start, answer, link-failed, CabinetCallMade, cabinetCallMade, account, startAmountIn, isRefusedWord, isApprovedWord, accountEnters, accountAfter, accountOf}
 
--- approved with no CVM, with a signature, with none told; online request, declined, ended by a failed link, select next; a command, refusal 30
+-- approved with no CVM, with a signature, with none reported; online request, declined, ended by a failed link, select
+-- next; a command, refusal 30
 approvals : map isApprovedWord (0x00010000 ∷ 0x01010000 ∷ 0x0F010000 ∷ 0x00010100 ∷ 0x02010200 ∷ 0x0F010309 ∷ 0x0F010406 ∷ 8 ∷ 0x2001E ∷ [])
     ≡ true ∷ true ∷ true ∷ false ∷ false ∷ false ∷ false ∷ false ∷ false ∷ []
 unfolding both
@@ -25,7 +27,7 @@ approvals = refl
 refusals : map isRefusedWord (0 ∷ 8 ∷ 0x00010000 ∷ 0x01010000 ∷ 0x20014 ∷ 0x2001E ∷ 0x2001F ∷ []) ≡ false ∷ false ∷ false ∷ false ∷ true ∷ true ∷ true ∷ []
 refusals = refl
 
--- start bytes with 9F02 of 400 behind 9C, and of 1
+-- start bytes with 9F02 of 400 after 9C, and of 1
 four : List ℕ
 four = 0x9C ∷ 0x01 ∷ 0x00 ∷ 0x9F ∷ 0x02 ∷ 0x06 ∷ 0x00 ∷ 0x00 ∷ 0x00 ∷ 0x00 ∷ 0x04 ∷ 0x00 ∷ []
 
@@ -40,7 +42,8 @@ amounts = refl
 abbrev sold : List CabinetCallMade
 sold = cabinetCallMade (start four []) 8 ∷ cabinetCallMade (start one []) 0x20015 ∷ cabinetCallMade (answer [] []) 5 ∷ cabinetCallMade (answer [] []) 0x01010000 ∷ []
 
--- then a start of 1 whose link fails: nothing more; an opening that is refused (31): the same; one that is accepted: anew
+-- then a start of 1 whose link fails: nothing more; an opening that is refused (31): the same; one that is
+-- accepted: anew
 abbrev failed : List CabinetCallMade
 failed = cabinetCallMade (start one []) 8 ∷ cabinetCallMade (link-failed []) 0x0F010309 ∷ []
 

@@ -1,4 +1,5 @@
--- A cabinet that bytes hold: the bytes are enough and hold its session, the session keeps its ranges, and the amounts fit.
+-- A cabinet that bytes hold: the bytes are enough and hold its session, the session is in its ranges, and the
+-- amounts fit.
 -- Assumes nothing.
 use mathlib.Core.Path.{_≡_, sym, ap, subst, _∙_}
 use mathlib.Core.Bool.{true}

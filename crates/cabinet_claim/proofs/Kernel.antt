@@ -1,5 +1,5 @@
--- What the kernel's calls leave of a session that a cabinet holds: an answer leaves the amount 9F02, which no card sets; a command leaves the
--- session running.
+-- What the kernel's calls leave of a session that a cabinet holds: an answer leaves the amount 9F02, which no card
+-- sets; a command leaves the session running.
 -- Assumes nothing.
 use mathlib.Core.Path.{_≡_, refl, ap, _∙_}
 use mathlib.Core.Bool.{true, false}

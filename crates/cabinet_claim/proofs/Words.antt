@@ -1,5 +1,5 @@
--- What a word tells of a call: refusals, commands and outcomes apart, an approval by its outcome whatever its method, and that a word is not
--- that of refusal 25.
+-- What a word reports of a call: refusals, commands and outcomes apart, an approval by its outcome whatever its CVM,
+-- and that a word is not that of refusal 25.
 -- Assumes nothing.
 use mathlib.Core.Path.{_≡_, ap, _∙_}
 use mathlib.Core.Bool.{true, false, not}

@@ -1,6 +1,6 @@
 -- One claim over every list of calls on a cabinet since an accepted opening (document 02, Item 14), refused calls
--- included, each on the bytes that the call before it left: left, set aside and approved are together the cap.
--- Bytes are any numbers: what holds of all lists of numbers holds of lists of bytes.
+-- included, each on the bytes that the call before it left: the remaining, reserved and approved amounts are together
+-- the cap. Bytes are any numbers: what holds of all lists of numbers holds of lists of bytes.
 -- Assumes nothing.
 use mathlib.Core.Path.{_≡_}
 use mathlib.Core.Bool.{Bool, true, not}
@@ -19,8 +19,8 @@ use Rattle.cabinet.specs.Calls.{cabinetOpenWord, cabinetOpenState, cabinetStart
 
 -- ---- the calls
 
--- a call that may write the state: an opening with its cap; the others with the bytes that come in and the command
--- buffer that is lent. What is left, a lookup and the size are asked for with no bytes to write
+-- a call that may write the state: an opening with its cap; the others with the bytes that come in and the caller's
+-- command buffer. The remaining amount, a lookup and the size are requested with no bytes to write
 pub data CabinetCall : Type 0 where
   opening : ℕ → CabinetCall
   start : List ℕ → List ℕ → CabinetCall
@@ -84,7 +84,7 @@ accountOpened cap = account cap 0 0
 abbrev pub startAmountIn : List ℕ → ℕ
 startAmountIn bytes = amountOf (lookupValue 0x9F02 bytes [])
 
--- the word of a refusal, and that of an approval, whatever the method in its upper bits
+-- the word of a refusal, and that of an approval, whatever the CVM in its upper bits
 abbrev pub isRefusedWord : ℕ → Bool
 isRefusedWord w = wordKind w =? kindRefusal
 
@@ -116,7 +116,7 @@ unfoldable pub accountAfter : Account → List CabinetCallMade → Account
 accountAfter a [] = a
 accountAfter a (m ∷ ms) = accountAfter (accountEnters a m) ms
 
--- the account of calls behind an opening with this cap
+-- the account of calls after an opening with this cap
 abbrev pub accountOf : ℕ → List CabinetCallMade → Account
 accountOf cap ms = accountAfter (accountOpened cap) ms
 
@@ -126,13 +126,13 @@ accountOf cap ms = accountAfter (accountOpened cap) ms
 abbrev pub notRefusedForRanges : CabinetCallMade → Bool
 notRefusedForRanges m = not (m .word =? refusalWord refusedRanges)
 
--- ms are the calls of a list made one after the other (`playCabinetCalls`) since an opening with this cap was accepted, and l are
--- the bytes that the last of them left (`finalCabinetState`), those of the opening where there are none
+-- ms are the calls of a list made one after the other (`playCabinetCalls`) since an opening with this cap was accepted,
+-- and l are the bytes that the last of them left (`finalCabinetState`), those of the opening where there are none
 pub record Balanced (cap : ℕ) (ms : List CabinetCallMade) (l : List ℕ) : Type 0 where
-  -- the bytes hold a cabinet in order: what is set aside is the running session's amount, 0 where none runs
+  -- the bytes hold a cabinet in order: what is reserved is the running session's amount, 0 where none runs
   pub state : Cabinet
   pub held : cabinetHeldIn l ≡ some state
-  -- left, set aside and the amounts of approved sessions are together the cap
+  -- the remaining and reserved amounts and those of approved sessions are together the cap
   pub balance : state .remaining + state .reserved + accountOf cap ms .approved ≡ accountOf cap ms .cap
   -- so approvals never come to more than the cap, and no cap is over the greatest amount
   pub never-over : accountOf cap ms .approved ≤ accountOf cap ms .cap

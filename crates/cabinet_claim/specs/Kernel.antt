@@ -28,7 +28,7 @@ pub record AsKernel (st : Step) (d : CabinetResult) : Type 0 where
 pub record AsStart (c : Cabinet) (st : Step) (l buf : List ℕ) (d : CabinetResult) : Type 0 where
   -- what the kernel refuses is refused by the same number, and an ended session stays
   pub refused : (r : Refusal) → st .reply .answer ≡ CallResult.Refused r → d ≡ cabinetRefusal (r .number) l buf
-  -- what it does not is refused with 30 where what is left is smaller than the amount, and only there
+  -- what it does not is refused with 30 where what remains is smaller than the amount, and only there
   pub smaller : isRefusal (st .reply .answer) ≡ false → c .remaining < startAmount st → d ≡ cabinetRefusal refusedRemaining l buf
   pub enough : isRefusal (st .reply .answer) ≡ false → startAmount st ≤ c .remaining → AsKernel st d
 

@@ -1,5 +1,6 @@
-// One claim over every list of calls on a cabinet since an accepted opening: what is left, what is set aside and the amounts of approved
-// sessions are together the cap (specs/Account). And: but for the cap every call is the kernel's (specs/Kernel). The proofs are in proofs/.
+// One claim over every list of calls on a cabinet since an accepted opening: what remains, what is reserved and the
+// amounts of approved sessions are together the cap (specs/Account). And: but for the cap every call is the kernel's
+// (specs/Kernel). The proofs are in proofs/.
 ghost use mathlib.Core.Path.{_≡_};
 ghost use mathlib.Core.List.{List};
 ghost use Prim.Native.Nat.{ℕ};

@@ -35,7 +35,7 @@ places : map (λ t. placeWord t site defaults) tags ≡ 0x0000000700010001 ∷ 0
 unfolding placeWord sourceBy heldObjects firstValue lookupFirst lookupShifted lookupInBoth recurse recurseBy primitiveOf headerOf tagAt tagSize tagSecondByte lengthAt tagFirstByte isTemplate isPrivate bigEndianFrom if
 places = refl
 
--- ---- 9C by the site's list: empty there; behind a template; behind 00; twice; no list
+-- ---- 9C by the site's list: empty there; after a template; after 00; twice; no list
 
 abbrev sites : List (List ℕ)
 sites =
@@ -74,7 +74,7 @@ sources-apart = ap (map wordSource) ends-words
 lengths-apart : map lengthIn (0x0000000500010000 ∷ 0x000000050002FFFF ∷ []) ≡ 0 ∷ 65535 ∷ []
 lengths-apart = refl
 
--- ---- a list that is cut: objects in front of the broken one still count, the broken one is that of the defaults
+-- ---- a list that is truncated: objects before the broken one still count, the broken one is that of the defaults
 
 abbrev cut : List ℕ
 cut = 0x9C ∷ 0x01 ∷ 0x01 ∷ 0x9F ∷ 0x02 ∷ 0x06 ∷ 0x00 ∷ 0x00 ∷ []
@@ -90,7 +90,7 @@ cut-places : map (λ t. placeWord t cut amounts) (0x9C ∷ 0x9F02 ∷ []) ≡ 0x
 unfolding placeWord sourceBy heldObjects firstValue lookupFirst lookupShifted lookupInBoth recurse recurseBy primitiveOf headerOf tagAt tagSize tagSecondByte lengthAt tagFirstByte isTemplate isPrivate bigEndianFrom if
 cut-places = refl
 
--- ---- a template of the tag is no object; tags of three bytes and lengths behind 81; numbers that are no tag
+-- ---- a template of the tag is no object; tags of three bytes and lengths after 81; numbers that are no tag
 
 abbrev odd : List ℕ
 odd = 0xDF ∷ 0x81 ∷ 0x1B ∷ 0x81 ∷ 0x01 ∷ 0x7F ∷ 0x70 ∷ 0x03 ∷ 0x9C ∷ 0x01 ∷ 0x01 ∷ []

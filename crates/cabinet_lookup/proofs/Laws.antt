@@ -1,5 +1,6 @@
--- The laws of the lookup. An object is shorter than its list, so both recursions end by themselves (`held-unroll`, `place-unroll`) and go the
--- same way: by induction on the bytes a place has the value of the first object (`stands`), in one list and then in both (`value-at`).
+-- The laws of the lookup. An object is shorter than its list, so both recursions end by themselves (`held-unroll`,
+-- `place-unroll`) and go the same way: by induction on the bytes a place has the value of the first object (`stands`),
+-- in one list and then in both (`value-at`).
 -- Assumes nothing.
 use mathlib.Core.Path.{_≡_, refl, sym, ap, ap₂, _∙_}
 use mathlib.Core.Logic.{inl, inr}
@@ -232,7 +233,7 @@ shifted-twice m n (At p) =
     let z : m + (n + p .start) ≡ m + n + p .start = omega arith in ap (λ (k : ℕ). At (lookupSpan k (p .len))) z
 
 module _ (tag : ℕ) (bytes : List ℕ) where
-  -- none of the objects in front of the rest has the tag
+  -- none of the objects before the rest has the tag
   pub record Reached (at : ℕ) : Type 0 where
     pub inside : at ≤ length bytes
     pub is : lookupFirst tag bytes ≡ lookupShifted at (lookupFirst tag (tail bytes at))

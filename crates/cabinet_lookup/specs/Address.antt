@@ -1,5 +1,5 @@
--- The address of the part that a lookup hands back: the value still in place, in the list that has it (document 02,
--- Item 14). An address is a block of memory and a place in it, as the language's machine has them.
+-- The address of the part that a lookup returns: the value still in place, in the list that has it (document 02, Item
+-- 14). An address is a block of memory and a place in it, as the language's machine has them.
 -- Assumes nothing.
 use mathlib.Core.List.{List}
 use Prim.Native.Nat.{ℕ, _+_}
@@ -8,7 +8,7 @@ use Rattle.cabinet_lookup.specs.declared.LookupFound.{LookupFound}
 use Rattle.cabinet_lookup.specs.declared.LookupFound.the-variants.{At, Absent}
 use Rattle.cabinet_lookup.specs.Place.{lookupFirst}
 
--- the address so many bytes behind another
+-- the address so many bytes after another
 abbrev pub addressAfter : ℕ → ℕ × ℕ → ℕ × ℕ
 addressAfter n a = (a .0, n + a .1)
 
@@ -18,7 +18,7 @@ addressInPlace s d (At p) r = addressAfter (p .start) s
 addressInPlace s d Absent (At p) = addressAfter (p .start) d
 addressInPlace s d Absent Absent = addressAfter 0 d
 
--- the address of the value of the tag, of two lists that are lent
+-- the address of the value of the tag, of two lists passed in
 abbrev pub addressOf : ℕ → RefT (List ℕ) → RefT (List ℕ) → ℕ × ℕ
 addressOf tag site defaults =
     addressInPlace (site .ptr) (defaults .ptr) (lookupFirst tag (site .now)) (lookupFirst tag (defaults .now))

@@ -1,5 +1,5 @@
 -- Where the value of a tag lies (document 02, Item 14): start and length, in one list and in the site's bytes with the
--- defaults' behind them.
+-- defaults' after them.
 -- Assumes nothing.
 use mathlib.Core.List.{List}
 use Prim.Native.Nat.{ℕ, _+_, _≤_}
@@ -24,12 +24,12 @@ spanBytes s p = take (p .len) (drop (p .start) s)
 
 -- ---- one list
 
--- the same place, with n bytes more in front
+-- the same place, with n more bytes before it
 unfoldable pub lookupShifted : ℕ → LookupFound → LookupFound
 lookupShifted n Absent = Absent
 lookupShifted n (At p) = At (lookupSpan (n + p .start) (p .len))
 
--- the object at the front where it has the tag, else what k finds behind it
+-- the object at the front where it has the tag, else what k finds after it
 abbrev pub lookupAtFront : ℕ → (List ℕ → LookupFound) → List ℕ → ObjectFront → LookupFound
 lookupAtFront tag k s front.Broken = Absent
 lookupAtFront tag k s (front.Object h) =
@@ -52,11 +52,11 @@ lookupInBoth n (At p) r = p
 lookupInBoth n Absent (At p) = lookupSpan (n + p .start) (p .len)
 lookupInBoth n Absent Absent = lookupSpan n 0
 
--- where the value of the tag lies in the site's bytes and the defaults' behind them
+-- where the value of the tag lies in the site's bytes and the defaults' after them
 abbrev pub lookupPlace : ℕ → List ℕ → List ℕ → LookupSpan
 lookupPlace tag site defaults = lookupInBoth (length site) (lookupFirst tag site) (lookupFirst tag defaults)
 
 -- ---- what holds of it, proved in proofs/Laws for all lists
 --   place-unroll    firstAt tag s ≡ nextPlace tag (firstAt tag) s: the steps allowed do not matter
 --   value-at        the bytes at the place are the value (specs/Value)
---   place-inside    the place lies inside the site's bytes with the defaults' behind them
+--   place-inside    the place lies inside the site's bytes with the defaults' after them

@@ -12,7 +12,7 @@ use Rattle.tlv.specs.Primitives.{Object, tlvObject, primitiveOf}
 
 -- ---- one list
 
--- the object at the front, and those that k reads behind it; bytes from a broken object or a template on hold nothing
+-- the object at the front, and those that k reads after it; bytes from a broken object or a template on hold nothing
 abbrev pub objectsFromFront : (List ℕ → List Object) → List ℕ → ObjectFront → List Object
 objectsFromFront k s front.Broken = []
 objectsFromFront k s (front.Object h) = tlvObject (h .tag) (headerValue s h) ∷ k (behindObject s h)
@@ -21,7 +21,8 @@ objectsFromFront k s (front.Object h) = tlvObject (h .tag) (headerValue s h) ∷
 abbrev pub nextObjects : (List ℕ → List Object) → List ℕ → List Object
 nextObjects k s = objectsFromFront k s (primitiveOf s)
 
--- the objects that a list holds: the whole primitive ones from its front, one right behind the other, no 00 in between
+-- the objects that a list holds: the whole primitive ones from its front, one immediately after another, no
+-- 00 in between
 unfoldable pub heldObjects : List ℕ → List Object
 heldObjects s = recurse [] nextObjects s
 
@@ -34,7 +35,7 @@ firstValue tag (o ∷ os) =
 
 -- ---- two lists
 
--- a value that is there, an empty one too, else another
+-- a value that is present, an empty one too, else another
 unfoldable pub valueOrDefault : Option (List ℕ) → List ℕ → List ℕ
 valueOrDefault none w = w
 valueOrDefault (some v) w = v

@@ -1,8 +1,8 @@
 // The value of a tag in a site's list of start objects, or else in the maker's list of defaults.
 //
-// `lookup_value` hands back the value in place: a part of one of the two lists. `value_place` says which list has the tag and where
-// that part lies, as one word, for a host in C. A list is read from its front up to the first bytes that are no whole
-// primitive object.
+// `lookup_value` returns the value in place: a part of one of the two lists. `value_place` states which list has the
+// tag and where that part lies, as one word, for a host in C. A list is read from its front up to the first bytes that
+// are no whole primitive object.
 use tlv::ObjectFront;
 ghost use mathlib.Core.Path.{_≡_};
 ghost use mathlib.Core.List.{_++_};

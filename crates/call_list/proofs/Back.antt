@@ -1,5 +1,5 @@
--- Every list of calls whose lengths eight bytes hold is read back from its bytes: the header gives the lengths, and they cut out the call's
--- own bytes and buffer.
+-- Every list of calls whose lengths eight bytes hold is read back from its bytes: the header gives the lengths, and
+-- they cut out the call's own bytes and buffer.
 -- Assumes nothing.
 use mathlib.Core.Path.{_≡_, refl, sym, ap, _∙_}
 use mathlib.Core.Bool.{true}
@@ -18,7 +18,7 @@ use Rattle.call_list.specs.Encoding.{bigEndianBytes, encodedAs, encodedC
 use Rattle.call_list.proofs.Read.{front-call, calls-end, calls-call}
 use Rattle.call_list.proofs.Number.{high-length, high-number}
 
--- one call in front of a rest
+-- one call before a rest
 module _ (kind : ℕ) (bytes buf rest : List ℕ) (a : length bytes < 256 ^ 8) (b : length buf < 256 ^ 8) where
   abbrev s : List ℕ
   s = encodedAs kind bytes buf ++ rest
@@ -26,7 +26,7 @@ module _ (kind : ℕ) (bytes buf rest : List ℕ) (a : length bytes < 256 ^ 8) (
   abbrev h : CallHeader
   h = record { kind = kind; incoming = length bytes; capacity = length buf }
 
-  -- behind the kind, behind the first length, behind both, behind the bytes
+  -- after the kind, after the first length, after both, after the bytes
   behind-kind : drop 1 s ≡ bigEndianBytes 8 (length bytes) ++ (bigEndianBytes 8 (length buf) ++ (bytes ++ (buf ++ rest)))
   behind-kind = simp append-assoc
 

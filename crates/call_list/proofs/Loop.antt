@@ -1,5 +1,5 @@
--- One call played in place. The bytes that come in are copied up to 1,025 of them, and every step is the same on the copy; the call's buffer
--- and its reply then stand where the rest of the list begins.
+-- One call played in place. The bytes that come in are copied up to 1,025 of them, and every step is the same on the
+-- copy; the call's buffer and its reply then stand where the rest of the list begins.
 -- Assumes nothing.
 use mathlib.Core.Path.{_≡_, refl, sym, ap, subst, _∙_}
 use mathlib.Core.Bool.{true}
@@ -89,7 +89,7 @@ reply-length r = go (r .answer)
     go (CallResult.Outcome e) = refl
     go (CallResult.Refused x) = refl
 
--- the call at the front is played: its header h, what it handed back, and the four bytes of its reply
+-- the call at the front is played: its header h, what it returned, and the four bytes of its reply
 pub turned : {y : Reply} {p b q : List ℕ} (s : Session) (v r : List ℕ) (h : CallHeader) → h ≡ callHeaderIn v → DidStep y p (overBuffer v h (callStep s (callIn v h)))
     → b ≡ replyBytes y → q ≡ take (length b) b ++ drop (length b) r → PlaysOneCall (record { session = y .session; size = callEnd h }) p q s v r
 turned {y} {p} {b} {q} s v r h e d f g =
@@ -137,7 +137,7 @@ module _ (c p : List ℕ) (at : ℕ) (h : at ≤ length c) where
   drop-on : (n : ℕ) → drop (at + n) (take at c ++ p) ≡ drop n p
   drop-on n = ap (λ (k : ℕ). drop (k + n) (take at c ++ p)) (sym here) ∙ drop-append-add (take at c) p n
 
--- nothing stands behind the end
+-- nothing is after the end
 pub end-put : (c p : List ℕ) (at : ℕ) → take at c ++ (p ++ drop (length c - at) (drop at c)) ≡ take at c ++ p
 end-put c p at =
     ap (λ (l : List ℕ). take at c ++ (p ++ l)) (ap (λ (n : ℕ). drop n (drop at c)) (sym (length-drop at c)) ∙ drop-length (drop at c))

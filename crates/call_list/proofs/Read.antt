@@ -1,5 +1,5 @@
--- The laws of reading calls from bytes. Each call takes up bytes, so the bound of the recursion does not matter (`unroll`); then one law
--- for each way out of a step.
+-- The laws of reading calls from bytes. Each call takes up bytes, so the bound of the recursion does not matter
+-- (`unroll`); then one law for each way out of a step.
 -- Assumes nothing.
 use mathlib.Core.Path.{_≡_, refl, sym, ap, subst, _∙_}
 use mathlib.Core.Bool.{true, false}

@@ -1,4 +1,4 @@
--- A whole run: what counting the calls tells, and the run's result where nothing is played and where all calls are.
+-- A whole run: what counting the calls reports, and the run's result where nothing is played and where all calls are.
 -- Assumes nothing.
 use mathlib.Core.Path.{_≡_, refl, sym, ap, subst, _∙_}
 use mathlib.Core.List.{List, []}
@@ -21,7 +21,7 @@ use Rattle.call_list.specs.Encoding.{callsOf, callsCountedOf}
 use Rattle.call_list.specs.Playing.{replySize, repliesOf, callsAfterPlay, callsPlayed, playResultOf, PlaysCalls, PlaysList}
 use Rattle.call_list.specs.Inner.{ReadyToPlay, callsRead}
 
--- ---- what counting tells
+-- ---- what counting reports
 
 pub counted-none : (x : Option (List Call)) → callsCountedOf x ≡ CallsCounted.Malformed → x ≡ none
 counted-none none e = refl

@@ -1,4 +1,4 @@
--- A list of calls in bytes: written one behind the other, and read back.
+-- A list of calls in bytes: the calls concatenated, and read back.
 -- Assumes nothing.
 use mathlib.Core.Bool.{Bool}
 use mathlib.Core.List.{List, [], _∷_, _++_}
@@ -20,7 +20,7 @@ unfoldable pub bigEndianBytes : ℕ → ℕ → List ℕ
 bigEndianBytes zero n = []
 bigEndianBytes (suc w) n = bigEndianBytes w (n / 256) ++ (n % 256 ∷ [])
 
--- its kind, the lengths of the bytes that come in and of the lent buffer in eight bytes each, the bytes, the buffer
+-- its kind, the lengths of the bytes that come in and of the caller's buffer in eight bytes each, the bytes, the buffer
 abbrev pub encodedAs : ℕ → List ℕ → List ℕ → List ℕ
 encodedAs kind bytes buf = kind ∷ (bigEndianBytes 8 (length bytes) ++ (bigEndianBytes 8 (length buf) ++ (bytes ++ buf)))
 
@@ -31,7 +31,7 @@ encodedCall (answer card buf) = encodedAs 2 card buf
 encodedCall (link-failed buf) = encodedAs 3 [] buf
 encodedCall (stop buf) = encodedAs 4 [] buf
 
--- all calls, one behind the other
+-- all calls, concatenated
 unfoldable pub encodedCalls : List Call → List ℕ
 encodedCalls [] = []
 encodedCalls (c ∷ cs) = encodedCall c ++ encodedCalls cs
@@ -63,7 +63,7 @@ callHeaderIn s =
       capacity = bigEndian (take 8 (drop 9 s));
     }
 
--- where the lent buffer begins
+-- where the caller's buffer begins
 abbrev pub callBufferAt : CallHeader → ℕ
 callBufferAt h = callHeaderSize + h .incoming
 
@@ -77,7 +77,7 @@ isCallKind kind n =
     (kind =? 1 or kind =? 2)
     or (n =? 0 and (kind =? 3 or kind =? 4))
 
--- a call of one of the kinds stands at the front, whole
+-- a call of one of the kinds is at the front, whole
 unfoldable pub isWholeCall : List ℕ → Bool
 isWholeCall s =
     callHeaderSize ≤? length s
@@ -98,18 +98,18 @@ callBy kind bytes buf =
     else if kind =? 3 then link-failed buf
     else stop buf
 
--- the call that stands at the front of s, by its header
+-- the call that is at the front of s, by its header
 abbrev pub callIn : List ℕ → CallHeader → Call
 callIn s h = callBy (h .kind) (take (h .incoming) (drop callHeaderSize s)) (take (h .capacity) (drop (callBufferAt h) s))
 
 -- ---- read: all calls
 
--- a call in front of those that were read behind it
+-- a call before those that were read after it
 abbrev pub withCall : Call → Option (List Call) → Option (List Call)
 withCall c none = none
 withCall c (some cs) = some (c ∷ cs)
 
--- the call at the front, and what k reads of the bytes behind it
+-- the call at the front, and what k reads of the bytes after it
 abbrev pub callThenRest : (List ℕ → Option (List Call)) → List ℕ → CallFront → Option (List Call)
 callThenRest k s CallFront.Malformed = none
 callThenRest k s (CallFront.Call h) = withCall (callIn s h) (k (drop (callEnd h) s))

@@ -1,5 +1,5 @@
 -- What the private functions of this crate promise, for the proofs of their callers: one call of a list, played in
--- place. No rule stands here, and a reader of the rules can pass it over: `going-end` in proofs/Loop and `runs-played`
+-- place. This file states no rule, and a reader of the rules can skip it: `going-end` in proofs/Loop and `runs-played`
 -- in proofs/Whole tie it to `PlaysCalls` and `PlaysList` of Playing.antt.
 -- Assumes nothing.
 use mathlib.Core.Path.{_≡_}

@@ -26,7 +26,7 @@ resultBytes (CallResult.Command x) = 0 ∷ bigEndianBytes 2 (x .size)
 resultBytes (CallResult.Outcome e) = 1 ∷ outcomeNumber (e .outcome) ∷ e .reason ∷ []
 resultBytes (CallResult.Refused r) = 2 ∷ 0 ∷ r .number ∷ []
 
--- four bytes: what the call handed back, and the session's count
+-- four bytes: what the call returned, and the session's count
 abbrev pub replyBytes : Reply → List ℕ
 replyBytes r = resultBytes (r .answer) ++ (r .session .count ∷ [])
 
@@ -59,13 +59,13 @@ callsPlayed (some cs) replies =
     if replySize * length cs ≤? length replies then cs
     else []
 
--- what is said, by its number: 0 played, 1 no list of calls, 2 too little room for the replies
+-- what is reported, by its number: 0 played, 1 no list of calls, 2 too little room for the replies
 abbrev pub playResultNumber : PlayResult → ℕ
 playResultNumber PlayResult.Played = 0
 playResultNumber PlayResult.Malformed = 1
 playResultNumber PlayResult.TooShort = 2
 
--- what is said of the calls that the bytes are read as
+-- what is reported of the calls that the bytes are read as
 abbrev pub playResultOf : Option (List Call) → List ℕ → PlayResult
 playResultOf none replies = PlayResult.Malformed
 playResultOf (some cs) replies =
@@ -78,12 +78,12 @@ pub record PlaysCalls (s : Session) (calls′ replies′ calls replies : List �
   pub calls-after : calls′ ≡ callsAfterPlay calls (playCalls freshSession cs)
   pub replies-after : replies′ ≡ repliesOf (playCalls freshSession cs) ++ drop (replySize * length cs) replies
 
--- what a run hands back and leaves, where cs are the calls that are played, and the claim over them
+-- what a run returns and leaves, where cs are the calls that are played, and the claim over them
 pub record PlaysList (r : ListPlayed) (calls′ replies′ calls replies : List ℕ) (cs : List Call) : Type 0 where
   pub said : r .said ≡ playResultOf (callsOf calls) replies
   pub played : PlaysCalls (r .session) calls′ replies′ calls replies cs
   pub claim : SessionProper (playCalls freshSession cs) (r .session)
 
--- the same where the calls and the room for replies are given: those that stand there are played
+-- the same where the calls and the room for replies are given: those that are there are played
 abbrev pub PlaysListOn : ListPlayed → List ℕ → List ℕ → List ℕ → List ℕ → Type 0
 PlaysListOn r calls′ replies′ calls replies = PlaysList r calls′ replies′ calls replies (callsPlayed (callsOf calls) replies)

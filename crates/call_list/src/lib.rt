@@ -1,15 +1,15 @@
 // Plays a list of calls on a fresh session, by making the calls of `session` one after the other.
 //
-// The calls stand one behind the other in one lent slice, each as
+// The calls are concatenated in one slice of the caller's, each as
 //
 //     1 byte     its kind: 1 start, 2 answer, 3 link failed, 4 stop
 //     8 bytes    the length of the bytes that come in, high byte first; 0 for kinds 3 and 4
-//     8 bytes    the length of the command buffer that is lent
+//     8 bytes    the length of the caller's command buffer
 //                the bytes that come in, and the buffer's contents
 //
-// and the command buffer of a call is the part of the slice that carries it. What a call hands back goes
-// into four bytes of `replies`: 0 and a command's length in two bytes, 1 with the outcome and the reason,
-// or 2, 0 and the number of a refusal; and then the session's count. Bytes behind them stay.
+// and the command buffer of a call is the part of the slice that carries it. What a call returns goes into four bytes
+// of `replies`: 0 and a command's length in two bytes, 1 with the outcome and the reason, or 2, 0 and the number of a
+// refusal; and then the session's count. Bytes after them stay.
 use session_record::{CallResult, Reply, Session};
 ghost use mathlib.Core.Path.{_≡_};
 ghost use mathlib.Core.Bool.{true};
@@ -26,28 +26,28 @@ ghost use Rattle.call_list.specs.Encoding.{callHeaderSize, callEnd, isCa
 ghost use Rattle.call_list.specs.Playing.{replyBytes, PlaysCalls, PlaysListOn, playResultNumber};
 ghost use Rattle.call_list.specs.Inner.{overBuffer, PlaysOneCall, ReadyToPlay, callsRead};
 
-// What a run says: all calls were played, the bytes are no list of calls, or `replies` is too short for
-// the replies. In the last two cases nothing is played and nothing is written.
+// What a run reports: all calls were played, the bytes are no list of calls, or `replies` is too short for the replies.
+// In the last two cases nothing is played and nothing is written.
 pub enum PlayResult {
     Played,
     Malformed,
     TooShort,
 }
 
-// The session after the last call that was played, and what the run says.
+// The session after the last call that was played, and what the run reports.
 pub struct ListPlayed {
     pub session: Session,
     pub said: PlayResult,
 }
 
-// What stands in front of a call's bytes and buffer: its kind, and how long the two are.
+// What is before a call's bytes and buffer: its kind, and how long the two are.
 pub struct CallHeader {
     pub kind: u8,
     pub incoming: usize,
     pub capacity: usize,
 }
 
-// What stands at the front of some bytes.
+// What is at the front of some bytes.
 pub enum CallFront {
     Call(CallHeader),
     Malformed,
@@ -67,7 +67,7 @@ pub struct CallPlayed {
 
 const HEADER: usize = 17;
 
-// The number of what a run says.
+// The number of what a run reports.
 pub fn play_result_number(said: PlayResult) -> u8
     ensures { λ r. ⌜ r ≡ playResultNumber said ⌝ }
 {
@@ -78,7 +78,7 @@ pub fn play_result_number(said: PlayResult) -> u8
     }
 }
 
-// Plays the calls that stand in `calls`.
+// Plays the calls that are in `calls`.
 pub fn play_list(calls: &mut [u8], replies: &mut [u8]) -> ListPlayed
     ensures { λ r. ⌜ PlaysListOn r (now (calls .exit)) (now (replies .exit)) (now (calls .entry)) (now (replies .entry)) ⌝ }
     ensures every_list { λ _. ⌜ ((cs : List Call) → SizedCalls cs → callsOf (encodedCalls cs) ≡ some cs) ⌝ }
@@ -101,7 +101,7 @@ fn unplayed(said: PlayResult) -> ListPlayed
     ListPlayed { session, said }
 }
 
-// How many calls stand in some bytes.
+// How many calls are in some bytes.
 fn count_calls(calls: &[u8]) -> CallsCounted
     ensures { λ r. ⌜ r ≡ callsCountedOf (callsOf (now (calls .entry))) ⌝ }
 {
@@ -135,7 +135,7 @@ fn front_of(s: &[u8]) -> CallFront
     CallFront::Call(header)
 }
 
-// The header in front of a call.
+// The header before a call.
 fn header_of(s: &[u8]) -> CallHeader
     requires { ⌜ callHeaderSize ≤ length (now s) ⌝ }
     ensures { λ r. ⌜ r ≡ callHeaderIn (now (s .entry)) ⌝ }
@@ -213,7 +213,7 @@ fn play_all(calls: &mut [u8], replies: &mut [u8]) -> Session
     session
 }
 
-// Plays the call at the front of `calls`, and writes what it handed back to the front of `replies`.
+// Plays the call at the front of `calls`, and writes what it returned to the front of `replies`.
 fn one_call(session: Session, calls: &mut [u8], replies: &mut [u8]) -> CallPlayed
     requires { ⌜ (isWholeCall (now calls) ≡ true) × (4 ≤ length (now replies)) ⌝ }
     ensures { λ r. ⌜ PlaysOneCall r (now (calls .exit)) (now (replies .exit)) session (now (calls .entry)) (now (replies .entry)) ⌝ }
@@ -283,7 +283,7 @@ fn least(a: usize, b: usize) -> usize
     b
 }
 
-// What a call handed back, in four bytes.
+// What a call returned, in four bytes.
 fn reply_bytes(reply: Reply) -> [u8; 4]
     ensures { λ r. ⌜ r ≡ replyBytes reply ⌝ }
 {

@@ -1,15 +1,16 @@
-// Says of a session's journal whether a right kernel could have written it: of the file that the argument names, or of
-// standard input where there is none. One line has the verdict; below an unlike record stands the right one, where there
-// is exactly one.
+// Reports whether a conforming kernel could have written a session's journal: the file that the argument names, or
+// standard input where there is none. One line has the verdict; below a mismatching record is the conforming one, where
+// there is exactly one.
 //
-// The file is read in parts of 4,096 bytes, up to the first record that is unlike. What is wrong with the file goes to
-// standard error. With --tell the exit status that is due goes to descriptor 3: 0 accepted, 1 unlike or cut, 2 no verdict.
+// The file is read in parts of 4,096 bytes, up to the first record that is a mismatch. What is wrong with the file
+// goes to standard error. With --tell the exit status goes to descriptor 3: 0 accepted, 1 a mismatch or truncated,
+// 2 no verdict.
 use journal::{JournalChecker, JournalVerdict};
 use libc::{STDERR_FILENO, STDIN_FILENO};
 use session_record::{CallResult, CommandLength, Outcome};
 
-// The words that the program is called with: whether the exit status is told, which argument names the file (0: none
-// does), and whether there is one name too many or an unknown option.
+// The words that the program is called with: whether the exit status is reported, which argument names the file (0:
+// none does), and whether there is one name too many or an unknown option.
 struct CheckArguments {
     tell: bool,
     file: usize,
@@ -30,7 +31,7 @@ const NOT_RIGHT: u8 = 1;
 
 const NO_VERDICT: u8 = 2;
 
-// The descriptor on which the exit status is told.
+// The descriptor on which the exit status is reported.
 const TELLING: i32 = 3;
 
 fn main() {
@@ -70,7 +71,7 @@ fn asked_for() -> CheckArguments {
     out
 }
 
-// One argument more.
+// One more argument.
 fn with_argument(arguments: CheckArguments, i: usize) -> CheckArguments {
     let mut space = io::buffer();
     let n = os::arg(i, &mut space);
@@ -101,7 +102,7 @@ fn not_understood(arguments: CheckArguments, words: &[u8]) -> CheckArguments {
 
 // ---- the file
 
-// The verdict on the file that is asked for, shown: the exit status that is due.
+// Shows the verdict on the file, and returns the exit status.
 fn judged(asked: CheckArguments) -> u8 {
     if asked.wrong {
         return NO_VERDICT;
@@ -121,8 +122,8 @@ fn judged(asked: CheckArguments) -> u8 {
     shown(state)
 }
 
-// Feeds a file to a checker, up to a record that is unlike. A proved loop has to end, so it counts its turns from a number
-// that no file uses up.
+// Feeds a file to a checker, up to a record that is a mismatch. A proved loop has to end, so it counts its iterations
+// from a number that no file uses up.
 fn read(fd: i32) -> CheckProgress {
     let checker = journal::begin();
     let mut state = CheckProgress {
@@ -138,7 +139,7 @@ fn read(fd: i32) -> CheckProgress {
     state
 }
 
-// One part more.
+// One more part.
 fn read_part(state: CheckProgress, fd: i32) -> CheckProgress {
     let mut part = [0u8; 4096];
     let got = libc::read(fd, &mut part);
@@ -165,7 +166,7 @@ fn ended(state: CheckProgress, failed: bool) -> CheckProgress {
     out
 }
 
-// Whether a record was unlike; then nothing behind it is looked at.
+// Whether a record was a mismatch; then nothing after it is examined.
 fn is_mismatch(checker: JournalChecker) -> bool {
     let verdict = journal::finish(checker);
     match verdict {
@@ -209,9 +210,9 @@ fn named(n: usize, words: &[u8]) {
     print::text(words);
 }
 
-// ---- the right record in the place of an unlike one
+// ---- the conforming record in place of a mismatching one
 
-// A line with the reply that was due, where one was.
+// A line with the reply that was expected, where one was.
 fn right_record(checker: JournalChecker) {
     let wanted = journal::expected_record(checker);
     if wanted.size == 0 {
@@ -228,7 +229,7 @@ fn right_record(checker: JournalChecker) {
     print::text(b"\n");
 }
 
-// The bytes of a record behind its kind and length.
+// The bytes of a record after its kind and length.
 fn body_in(record: &[u8]) -> &[u8] {
     if record.len() < 3 {
         return record;

@@ -1,5 +1,5 @@
--- What holds of every command that is handed out: how it begins, how long it is, that its bytes are bytes, and the one of no list.
--- A command carries a filling that is short enough, and all else is read off that.
+-- What holds of every command that is handed out: how it begins, how long it is, that its bytes are bytes, and the one
+-- of no list. A command carries a filling that is short enough, and all else is read off that.
 -- Assumes nothing.
 use mathlib.Core.Path.{_≡_, refl, sym, ap, subst⁻¹, _∙_}
 use mathlib.Core.List.{List, [], _∷_}
@@ -68,7 +68,7 @@ checksum-carried (some v) c p = elim (bool-cases (both (leb 1 (length v)) (leb (
   | inr t ↦ no-command c (sym (if-no _ _ t) ∙ p)
 ]
 
--- the instruction stands in its second byte, and it has 5 to 261 bytes
+-- the instruction is in its second byte, and it has 5 to 261 bytes
 pub record Proper (ins : ℕ) (c : List ℕ) : Type 0 where
   pub starts : take 2 c ≡ 0x80 ∷ ins ∷ []
   pub least : 5 ≤ length c
@@ -134,7 +134,7 @@ module _ (store c : List ℕ) where
       let d = checksum-carried _ c p in
       carried-bytes 0x2A 0x8E 0x80 (λ v. v) _ c d (omega arith) (omega arith) (omega arith) (filled-bytes dictionaryRows store b _ (d .bytes) (d .is))
 
--- with no list, or an empty one, processing options has the data 83 00
+-- with no list, or an empty one, GPO has the data 83 00
 pub gpo-empty : (store : List ℕ) → bytesOfValue (objectValue store 0x9F38) ≡ []
     → getProcessingOptions store ≡ some (0x80 ∷ 0xA8 ∷ 0 ∷ 0 ∷ 2 ∷ 0x83 ∷ 0 ∷ 0 ∷ [])
 unfolding getProcessingOptions gpoCommandOf lengthBytes if

@@ -30,7 +30,7 @@ gpo-edge n = edge (gpoCommandOf (some (replicate n 0xAA)))
 cryptogram-edge : ℕ → List ℕ
 cryptogram-edge n = edge (generateAcOf 0x40 (some (replicate n 0xAA)))
 
--- processing options: a length of 127 stands in one byte, 128 behind 81; 252 filled bytes are carried, 253 are not
+-- GPO: a length of 127 is in one byte, 128 after 81; 252 filled bytes are carried, 253 are not
 gpo-edges : map gpo-edge (0 ∷ 127 ∷ 128 ∷ 252 ∷ 253 ∷ [])
     ≡ (8 ∷ 0x80 ∷ 0xA8 ∷ 0 ∷ 0 ∷ 2 ∷ 0x83 ∷ 0 ∷ 0 ∷ [])
     ∷ (135 ∷ 0x80 ∷ 0xA8 ∷ 0 ∷ 0 ∷ 129 ∷ 0x83 ∷ 127 ∷ 0xAA ∷ [])
@@ -41,7 +41,7 @@ gpo-edges : map gpo-edge (0 ∷ 127 ∷ 128 ∷ 252 ∷ 253 ∷ [])
 unfolding gpo-edge gpoCommandOf lengthBytes if
 gpo-edges = refl
 
--- generate AC: 1 to 255 filled bytes are carried
+-- GENERATE AC: 1 to 255 filled bytes are carried
 cryptogram-edges : map cryptogram-edge (0 ∷ 1 ∷ 255 ∷ 256 ∷ [])
     ≡ []
     ∷ (7 ∷ 0x80 ∷ 0xAE ∷ 0x40 ∷ 0 ∷ 1 ∷ 0xAA ∷ 0 ∷ [])
@@ -51,7 +51,7 @@ cryptogram-edges : map cryptogram-edge (0 ∷ 1 ∷ 255 ∷ 256 ∷ [])
 unfolding cryptogram-edge generateAcOf both if
 cryptogram-edges = refl
 
--- compute cryptographic checksum: the same
+-- COMPUTE CRYPTOGRAPHIC CHECKSUM: the same
 checksum-edge : ℕ → List ℕ
 checksum-edge n = edge (checksumCommandOf (some (replicate n 0xAA)))
 

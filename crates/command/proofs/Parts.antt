@@ -1,5 +1,5 @@
--- What a measured list gives, which lists a command takes, and how a command's parts, written one by one, are the command at the
--- buffer's front.
+-- What a measured list gives, which lists a command takes, and how a command's parts, written one by one, are the
+-- command at the buffer's front.
 -- Assumes nothing.
 use mathlib.Core.Path.{_≡_, refl, sym, ap, ap₂, _∙_}
 use mathlib.Core.List.{List, [], _∷_, _++_, append-assoc}
@@ -160,7 +160,7 @@ head-length n h = elim (le-or-gt 128 n) [
   | inr k ↦ let e = ap length (head-short n k) in (omega arith, omega arith)
 ]
 
--- the header before the data, and 00 behind it
+-- the header before the data, and 00 after it
 module _ (ins p1 p2 : ℕ) (b : List ℕ) (end : ℕ) (h : 5 ≤ end) (k : end < length b) where
   abbrev front : List ℕ
   front = 0x80 ∷ ins ∷ p1 ∷ p2 ∷ (end - 5) ∷ []
@@ -183,7 +183,7 @@ module _ (ins p1 p2 : ℕ) (b : List ℕ) (end : ℕ) (h : 5 ≤ end) (k : end <
       ∙ set-at (front ++ body) (getD b end 0) (drop (suc end) b) 0 end l
       ∙ sym (ap₂ (λ (n : ℕ) (x : List ℕ). 0x80 ∷ ins ∷ p1 ∷ p2 ∷ n ∷ x) body-length (rw m (append-snoc body 0 (drop (suc end) b))))
 
--- the data w from place 5 on, and then closed: the command stands at the front, and all behind it stays
+-- the data w from place 5 on, and then closed: the command is at the front, and all after it stays
 module _ (ins p1 p2 : ℕ) (b w : List ℕ) (end : ℕ) (h : 5 + length w < length b) (e : end ≡ 5 + length w) where
   pub command-length : commandOfLength (end + 1) ≡ dolCommandOf (some (commandWith ins p1 p2 w))
   command-length = let l : end + 1 ≡ length (commandWith ins p1 p2 w) = simp length-append (omega arith) in ap commandOfLength l
@@ -198,12 +198,13 @@ module _ (ins p1 p2 : ℕ) (b w : List ℕ) (end : ℕ) (h : 5 + length w < leng
       let d : take (end - 5) (drop 5 y) ≡ w = rw (l, p) (over-there b 5 w f) in
       q ∙ rw (d, p) (over-cover b 5 w f (commandWith ins p1 p2 w) k ∙ ap (λ (n : ℕ). commandWith ins p1 p2 w ++ drop n b) m)
 
--- the number of what is handed back is the reason that the list gives
+-- the number of what is returned is the reason that the list gives
 pub written-number : (x : Option (List ℕ)) → dolCommandReason (dolCommandOf x) ≡ dolReason x
 written-number none = refl
 written-number (some c) = refl
 
--- what a call states of its result, of the whole buffer and of the reason, where there is no command, and where there is one
+-- what a call states of its result, of the whole buffer and of the reason, where there is no command, and where
+-- there is one
 pub none-written : (x : Option (List ℕ)) (b : List ℕ) → x ≡ none
     → (dolCommandOf none ≡ dolCommandOf x) × ((b ≡ bufferWithCommand x b) × (dolCommandReason (dolCommandOf none) ≡ dolReason x))
 none-written x b e =

@@ -24,7 +24,7 @@ pub written-widen : (r : CardRecord) (buffer : List ℕ) → 32 ≤ r .sfi → r
 unfolding readRecordWritten readRecordFits
 written-widen r buffer h = if-no _ _ (both-no-right _ _ (le-ltb (r .sfi) 32 h))
 
--- what a caller learns who lends five bytes or more, for a record with a file number of five bits
+-- what a caller learns that provides five bytes or more, for a record with a file number of five bits
 pub wrote-yes : (n : ℕ) (b : List ℕ) (r : CardRecord) (buffer : List ℕ) → WroteReadRecord n b (readRecordWritten r buffer) → 5 ≤ length buffer → r .sfi < 32
     → (n ≡ 5) × (b ≡ withPrefix (readRecordCommand r) buffer)
 wrote-yes n b r buffer w h f = let e = written-yes r buffer h f in (w .size ∙ ap (λ (x : CommandWritten). x .size) e, w .buffer ∙ ap (λ (x : CommandWritten). x .buffer) e)

@@ -20,7 +20,7 @@ insReadRecord = 0xB2
 abbrev pub readRecordCommand : CardRecord → List ℕ
 readRecordCommand r = claInterindustry ∷ insReadRecord ∷ r .number ∷ (r .sfi * 8 + 4) ∷ 0 ∷ []
 
--- what stands after writing a command: how long it is, and the whole buffer
+-- the result of writing a command: how long it is, and the whole buffer
 pub record CommandWritten : Type 0 where
   pub size : ℕ
   pub buffer : List ℕ

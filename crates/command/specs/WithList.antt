@@ -1,5 +1,5 @@
--- The commands that carry a filled list: processing options and generate AC (document 01, "Commands and steps"), and
--- compute cryptographic checksum (document 02, Item 9; Book C-2, 5.2).
+-- The commands that carry a filled list: GPO and GENERATE AC (document 01, "Commands and steps"), and COMPUTE
+-- CRYPTOGRAPHIC CHECKSUM (document 02, Item 9; Book C-2, 5.2).
 -- Assumes nothing.
 use mathlib.Core.List.{List, [], _∷_, _++_}
 use mathlib.Core.Option.{Option, some, none}
@@ -38,7 +38,7 @@ p1ComputeChecksum = 0x8E
 abbrev pub p2ComputeChecksum : ℕ
 p2ComputeChecksum = 0x80
 
--- the tag of the command template, which the filled PDOL stands in
+-- the tag of the command template, which the filled PDOL is in
 abbrev pub commandTemplate : ℕ
 commandTemplate = 0x83
 
@@ -59,7 +59,7 @@ commandWith ins p1 p2 body = claProprietary ∷ ins ∷ p1 ∷ p2 ∷ length bod
 abbrev pub commandP2Zero : ℕ → ℕ → List ℕ → List ℕ
 commandP2Zero ins p1 body = commandWith ins p1 0 body
 
--- ---- processing options
+-- ---- GPO
 
 -- tag 83, and the length in one byte to 127, in 81 and a byte above
 abbrev pub gpoDataHead : ℕ → List ℕ
@@ -80,7 +80,7 @@ gpoCommandOf (some v) =
 unfoldable pub getProcessingOptions : List ℕ → Option (List ℕ)
 getProcessingOptions store = gpoCommandOf (dolFilled dictionaryRows store (bytesOfValue (objectValue store 0x9F38)))
 
--- ---- generate AC
+-- ---- GENERATE AC
 
 -- a list that is broken, or that fills to no byte or to more than 255, makes no command
 unfoldable pub generateAcOf : ℕ → Option (List ℕ) → Option (List ℕ)
@@ -89,18 +89,18 @@ generateAcOf p1 (some v) =
     if 1 ≤? length v and length v ≤? mostData then some (commandP2Zero insGenerateAc p1 v)
     else none
 
--- the command that a store gives, with the type asked for in P1
+-- the command that a store gives, with the type requested in P1
 unfoldable pub generateAc : ℕ → List ℕ → Option (List ℕ)
 generateAc p1 store = generateAcOf p1 (dolFilled dictionaryRows store (bytesOfValue (objectValue store 0x8C)))
 
--- ---- compute cryptographic checksum
+-- ---- COMPUTE CRYPTOGRAPHIC CHECKSUM
 
--- the list 9F69, or the default one where it is absent or empty: 9F6A in four bytes (Book C-2, Default UDOL)
+-- the UDOL (9F69), or the default one where it is absent or empty: 9F6A in four bytes (Book C-2, Default UDOL)
 unfoldable pub udolOrDefault : List ℕ → List ℕ
 udolOrDefault [] = 0x9F ∷ 0x6A ∷ 0x04 ∷ []
 udolOrDefault (x ∷ l) = x ∷ l
 
--- P1 8E and P2 80; no command as for generate AC
+-- P1 8E and P2 80; no command as for GENERATE AC
 unfoldable pub checksumCommandOf : Option (List ℕ) → Option (List ℕ)
 checksumCommandOf none = none
 checksumCommandOf (some v) =
@@ -116,18 +116,18 @@ checksumCommandWith list store = checksumCommandOf (dolFilled dictionaryRows sto
 unfoldable pub computeCryptographicChecksum : List ℕ → Option (List ℕ)
 computeCryptographicChecksum store = checksumCommandWith (udolOrDefault (bytesOfValue (objectValue store 0x9F69))) store
 
--- ---- handed back
+-- ---- returned
 
 -- a command of n bytes
 abbrev pub commandOfLength : ℕ → DolCommand
 commandOfLength n = Command (record { len = n })
 
--- a command hands back its length
+-- a command returns its length
 abbrev pub dolCommandOf : Option (List ℕ) → DolCommand
 dolCommandOf none = NoCommand
 dolCommandOf (some c) = commandOfLength (length c)
 
--- the number of what is handed back (document 01, "Calls and their numbers"): 0 with a command, else 7, a list that is
+-- the number of what is returned (document 01, "Calls and their numbers"): 0 with a command, else 7, a list that is
 -- broken or fills to no command
 abbrev pub dolCommandReason : DolCommand → ℕ
 dolCommandReason (Command c) = reasonNone

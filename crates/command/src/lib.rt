@@ -1,7 +1,8 @@
-// The commands that a session hands out: GET PROCESSING OPTIONS, READ RECORD, GENERATE AC and COMPUTE CRYPTOGRAPHIC CHECKSUM.
+// The commands that a session hands out: GET PROCESSING OPTIONS, READ RECORD, GENERATE AC and COMPUTE
+// CRYPTOGRAPHIC CHECKSUM.
 //
-// Those that carry a filled list measure it first, so that a buffer is touched only where a command is handed out. The bytes
-// behind the command stay.
+// Those that carry a filled list measure it first, so that a buffer is touched only where a command is handed out. The
+// bytes after the command stay.
 use dol::DolTotal;
 use afl::CardRecord;
 ghost use mathlib.Core.Path.{_≡_};
@@ -11,7 +12,8 @@ ghost use Rattle.dol.specs.Measure.{writtenOver};
 ghost use Rattle.command.specs.WithList.{commandWith, gpoDataHead, getProcessingOptions, generateAc, checksumCommandWith, computeCryptographicChecksum, commandOfLength, dolCommandOf, dolCommandReason, dolReason, bufferWithCommand};
 ghost use Rattle.command.specs.ReadRecord.{WroteReadRecord, readRecordWritten};
 
-// Class bytes, instruction bytes and parameters (Book C-2, 5.2, 5.4, 5.5 and 5.8). P2 of READ RECORD is the SFI times 8, and 4.
+// Class bytes, instruction bytes and parameters (Book C-2, 5.2, 5.4, 5.5 and 5.8). P2 of READ RECORD is the SFI
+// times 8, and 4.
 const CLA_INTERINDUSTRY: u8 = 0x00;
 const CLA_PROPRIETARY: u8 = 0x80;
 const INS_READ_RECORD: u8 = 0xB2;
@@ -22,7 +24,7 @@ const P1_COMPUTE_CHECKSUM: u8 = 0x8E;
 const P2_COMPUTE_CHECKSUM: u8 = 0x80;
 const P2_ZERO: u8 = 0x00;
 
-// The tag of the command template, which the filled PDOL stands in.
+// The tag of the command template, which the filled PDOL is in.
 const COMMAND_TEMPLATE: u8 = 0x83;
 
 // The most bytes of a filled PDOL: with tag and length they are the 255 that a command carries.
@@ -39,7 +41,7 @@ pub enum DolCommand {
     NoCommand,
 }
 
-// The command processing options, with the filled list 9F38 that the store holds.
+// The GPO command, with the filled PDOL (9F38) that the store holds.
 pub fn get_processing_options(store: &[u8], buffer: &mut [u8]) -> DolCommand
     requires { ⌜ 261 ≤ length (now buffer) ⌝ }
     ensures said { λ r. ⌜ r ≡ dolCommandOf (getProcessingOptions (now (store .entry))) ⌝ }
@@ -59,7 +61,7 @@ pub fn get_processing_options(store: &[u8], buffer: &mut [u8]) -> DolCommand
     close(INS_GET_PROCESSING_GPO, 0, P2_ZERO, buffer, at + n)
 }
 
-// The command generate AC, with the filled list 8C that the store holds; P1 says which cryptogram.
+// The command GENERATE AC, with the filled CDOL1 (8C) that the store holds; P1 states which cryptogram.
 pub fn generate_ac(store: &[u8], p1: u8, buffer: &mut [u8]) -> DolCommand
     requires { ⌜ 261 ≤ length (now buffer) ⌝ }
     ensures said { λ r. ⌜ r ≡ dolCommandOf (generateAc p1 (now (store .entry))) ⌝ }
@@ -78,7 +80,7 @@ pub fn generate_ac(store: &[u8], p1: u8, buffer: &mut [u8]) -> DolCommand
     close(INS_GENERATE_AC, p1, P2_ZERO, buffer, 5 + n)
 }
 
-// The command compute cryptographic checksum, with the filled list 9F69 that the store holds; where it is absent or
+// The command COMPUTE CRYPTOGRAPHIC CHECKSUM, with the filled UDOL (9F69) that the store holds; where it is absent or
 // empty, with the default list.
 pub fn compute_cryptographic_checksum(store: &[u8], buffer: &mut [u8]) -> DolCommand
     requires { ⌜ 261 ≤ length (now buffer) ⌝ }
@@ -112,7 +114,7 @@ fn checksum_with(list: &[u8], store: &[u8], buffer: &mut [u8]) -> DolCommand
     close(INS_COMPUTE_CHECKSUM, P1_COMPUTE_CHECKSUM, P2_COMPUTE_CHECKSUM, buffer, 5 + n)
 }
 
-// Writes the tag 83 and the length of n filled bytes at place 5; the place behind them.
+// Writes the tag 83 and the length of n filled bytes at place 5; the place after them.
 fn gpo_head(n: usize, buffer: &mut [u8]) -> usize
     requires { ⌜ (n < 256) × (261 ≤ length (now buffer)) ⌝ }
     ensures next { λ r. ⌜ r ≡ 5 + length (gpoDataHead n) ⌝ }
@@ -128,7 +130,7 @@ fn gpo_head(n: usize, buffer: &mut [u8]) -> usize
     8
 }
 
-// Closes a command whose data stands from place 5 up to `end`: the header before it, and 00 behind it.
+// Closes a command whose data is from place 5 up to `end`: the header before it, and 00 after it.
 fn close(ins: u8, p1: u8, p2: u8, buffer: &mut [u8], end: usize) -> DolCommand
     requires { ⌜ (5 ≤ end) × (end ≤ 260) × (261 ≤ length (now buffer)) ⌝ }
     ensures said { λ r. ⌜ r ≡ commandOfLength (end + 1) ⌝ }

@@ -1,4 +1,5 @@
--- Digits byte by byte agree with digits four bits at a time. Each law is by the first byte, and by whether its digits are decimal.
+-- Digits byte by byte agree with digits four bits at a time. Each law is by the first byte, and by whether its digits
+-- are decimal.
 -- Assumes nothing.
 use mathlib.Core.Path.{_≡_, refl, sym, ap, ap₂, _∙_}
 use mathlib.Core.Bool.{Bool, true, false}

@@ -1,4 +1,5 @@
--- Worked values, by computation: terminal types, digits and lengths on both sides of each edge, searches. Assumes nothing.
+-- Worked values, by computation: terminal types, digits and lengths on both sides of each edge, searches.
+-- Assumes nothing.
 use mathlib.Core.Path.{_≡_, refl}
 use mathlib.Core.Bool.{true, false}
 use mathlib.Core.List.{List, [], _∷_, map}
@@ -36,13 +37,13 @@ padded : map (digitsFit formCn) ([] ∷ (0x00 ∷ 0x99 ∷ []) ∷ (0xFF ∷ [])
 unfolding digitsFit compressed digitsThenFs nibbles every both if
 padded = refl
 
--- a digit behind an F in the same byte and in the next; A as a low digit and as a high one; E behind an F
+-- a digit after an F in the same byte and in the next; A as a low digit and as a high one; E after an F
 not-padded : map (digitsFit formCn) ((0xF9 ∷ []) ∷ (0x9F ∷ 0x99 ∷ []) ∷ (0xFF ∷ 0x9F ∷ []) ∷ (0x9A ∷ []) ∷ (0xA9 ∷ []) ∷ (0xFE ∷ []) ∷ [])
     ≡ false ∷ false ∷ false ∷ false ∷ false ∷ false ∷ []
 unfolding digitsFit compressed digitsThenFs nibbles every both if
 not-padded = refl
 
--- b asks nothing
+-- b requires nothing
 any-bytes : map (digitsFit formB) ([] ∷ (0x9A ∷ 0xFF ∷ 0x00 ∷ []) ∷ []) ≡ true ∷ true ∷ []
 unfolding digitsFit if
 any-bytes = refl
@@ -85,7 +86,7 @@ tracks : map (λ n. fitsRow (rowAt rowTrack2Data) (replicate n 0xDF)) (0 ∷ 19 
 unfolding dictionaryRows fitsRow digitsFit both if
 tracks = refl
 
--- ---- searches: where a tag stands, and how many are looked at
+-- ---- searches: where a tag is, and how many are probed
 
 abbrev said : RowFound → ℕ → SearchResult
 said found probes = record { found = found; probes = probes }
@@ -108,7 +109,7 @@ between-three : map (searchOf (0x57 ∷ 0x5A ∷ 0x82 ∷ [])) (0x56 ∷ 0x58 �
 unfolding searchOf halvingOf halve if
 between-three = refl
 
--- four, seven and eight tags: each of them, at most 3, 3 and 4 looks
+-- four, seven and eight tags: each of them, at most 3, 3 and 4 probes
 of-four : let tags : List ℕ = 0x57 ∷ 0x5A ∷ 0x82 ∷ 0x8C ∷ [] in
     map (searchOf tags) tags ≡ said (At 0) 3 ∷ said (At 1) 2 ∷ said (At 2) 1 ∷ said (At 3) 2 ∷ []
 unfolding searchOf halvingOf halve if
@@ -137,7 +138,7 @@ of-no-row : map (searchOf (tagsOf dictionaryRows)) (0 ∷ 0x5F26 ∷ 0xDF8131 �
 unfolding dictionaryRows searchOf halvingOf halve if
 of-no-row = refl
 
--- the places looked at, in their order
+-- the places probed, in their order
 places-of-last : probedPlaces (tagsOf dictionaryRows) 0xDF8307 ≡ 79 ∷ 119 ∷ 139 ∷ 149 ∷ 154 ∷ 156 ∷ 157 ∷ []
 unfolding dictionaryRows halvingOf halve if
 places-of-last = refl
@@ -148,8 +149,8 @@ parts : map partNumber (0 ∷ 0xFF ∷ 0x100 ∷ 0x9EFF ∷ 0x9F00 ∷ 0xDEFF �
 unfolding partNumber if
 parts = refl
 
--- the dictionary by its parts, of 16, 9, 76, 5 and 52 rows: a tag in the middle of three, the first of one and the last of one; then a tag
--- at an edge of each that no row has
+-- the dictionary by its parts, of 16, 9, 76, 5 and 52 rows: a tag in the middle of three, the first of one and the last
+-- of one; then a tag at an edge of each that no row has
 of-parts : map (partSearchOf (tagsOf dictionaryRows)) (0x8C ∷ 0x5F24 ∷ 0x9F4D ∷ 0xDF61 ∷ 0xDF8307 ∷ [])
     ≡ said (At 8) 1 ∷ said (At 16) 4 ∷ said (At 63) 1 ∷ said (At 103) 1 ∷ said (At 157) 5 ∷ []
 unfolding dictionaryRows partSearchOf partNumber filter searchOf halvingOf halve rowPast if

@@ -1,4 +1,5 @@
--- What a lookup in a table says: a found place is a row of the table and has the tag; a tag that no row has is not found. Assumes nothing.
+-- What a lookup in a table says: a found place is a row of the table and has the tag; a tag that no row has is not
+-- found. Assumes nothing.
 use mathlib.Core.Path.{_≡_, refl, ap, _∙_}
 use mathlib.Core.List.{List, [], _∷_}
 use Prim.Native.Nat.{ℕ, suc, _+_, _<_}

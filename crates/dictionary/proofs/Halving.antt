@@ -1,5 +1,6 @@
--- Search by halving, turn by turn (`by-turns`). A turn leaves at most half of what was left (`few-probes`). Where tags rise, those before what is
--- left are smaller than the wanted one and those behind it greater (`finds`). Lists with the same tags at the places go the same way (`same-way`).
+-- Search by halving, iteration by iteration (`by-turns`). An iteration leaves at most half of what was left
+-- (`few-probes`). Where tags rise, those before what is left are smaller than the one searched for and those after it
+-- greater (`finds`). Lists with the same tags at the places go the same way (`same-way`).
 -- Assumes nothing.
 use mathlib.Core.Path.{_≡_, refl, sym, ap, _∙_}
 use mathlib.Core.Bool.{true}
@@ -24,7 +25,7 @@ use Rattle.dictionary.proofs.Table.{column}
 use Rattle.dictionary.proofs.Find.{absent}
 use Rattle.dictionary.proofs.Rule.{tags-rise, find-row}
 
--- ---- the turns
+-- ---- the iterations
 
 -- the middle of a part, and the tag there
 abbrev mid : ℕ → ℕ → ℕ
@@ -60,7 +61,8 @@ unfolding halve
 transition-none tags t zero from to h = refl
 transition-none tags t (suc n) from to h = if-yes _ _ (le-leb to from h)
 
--- what holds where nothing is left, where the tag is found, and at a turn that leaves a part for which it holds, holds of every search
+-- what holds where nothing is left, where the tag is found, and at an iteration that leaves a part for which it holds,
+-- holds of every search
 module _ (tags : List ℕ) (t : ℕ) (P : ℕ → ℕ → Halving → Type 0)
     (none : (from to : ℕ) → to ≤ from → P from to searchMiss)
     (found : (from to : ℕ) → from < to → looked tags from to ≡ t → P from to (probeAt (mid from to) (searchHit (mid from to))))
@@ -80,10 +82,10 @@ module _ (tags : List ℕ) (t : ℕ) (P : ℕ → ℕ → Halving → Type 0)
         ]
       ]
 
--- ---- how many looks, and where
+-- ---- how many probes, and where
 
 module _ (tags : List ℕ) (t : ℕ) where
-  -- fewer than 2 to the k tags are left: at most k looks
+  -- fewer than 2 to the k tags are left: at most k probes
   abbrev Few : ℕ → ℕ → Halving → Type 0
   Few from to s = (k : ℕ) → to < from + 2 ^ k → length (s .places) ≤ k
 
@@ -102,7 +104,7 @@ module _ (tags : List ℕ) (t : ℕ) where
       before from to s some g ih zero h = omega arith
       before from to s some g ih (suc k) h = let p = two-pow-succ k in let q = ih k (omega arith) in omega arith
 
-  -- a part of the tags: each place looked at is one of theirs
+  -- a part of the tags: each place probed is one of theirs
   abbrev Within : ℕ → ℕ → Halving → Type 0
   Within from to s = to ≤ length tags → every (λ p. ltb p (length tags)) (s .places) ≡ true
 
@@ -151,7 +153,7 @@ module _ (tags other : List ℕ) (t : ℕ) where
 
 -- ---- where tags rise
 
--- the tags before a place are smaller than the wanted one, those from a place on greater
+-- the tags before a place are smaller than the one searched for, those from a place on greater
 abbrev Smaller : List Row → ℕ → ℕ → Type 0
 Smaller table t n = (k : ℕ) → k < n → k < length table → rowIn table k .tag < t
 
@@ -173,7 +175,7 @@ module _ (table : List Row) (rises : risingTags table ≡ true) (t : ℕ) where
         | inr differs ↦ let r = tags-rise table rises m k (omega (arith, differs)) w in omega arith
       ]
 
-  -- a part with smaller tags before it and greater ones behind it: what `findRow` gives
+  -- a part with smaller tags before it and greater ones after it: what `findRow` gives
   abbrev Finds : ℕ → ℕ → Halving → Type 0
   Finds from to s = to ≤ length table → Smaller table t from → Greater table t to → s .found ≡ findRow table t
 
@@ -206,13 +208,13 @@ module _ (table : List Row) (rises : risingTags table ≡ true) (t : ℕ) where
           let x = at-row (mid from to) in
           ih (omega arith) a (greater-from (mid from to) w (omega arith))
 
--- ---- the loop: some looks were made, and a part is left
+-- ---- the loop: some probes were made, and a part is left
 
--- what is said after so many looks, where a search of the rest comes to this
+-- what is said after so many probes, where a search of the rest comes to this
 abbrev pub after : ℕ → Halving → SearchResult
 after probes s = record { found = s .found; probes = probes + length (s .places) }
 
--- what is said where this part is left; a turn is left for each tag but those looked at
+-- what is said where this part is left; an iteration is left for each tag but those probed
 abbrev pub rest : List ℕ → ℕ → ℕ → ℕ → ℕ → SearchResult
 rest tags t from to probes = after probes (halve tags t (length tags - probes) (searchPart from to))
 

@@ -1,4 +1,5 @@
--- The table as it is lent: a search of its tags finds what `findRow` finds in the rows, and a row's number is taken apart into the row. Assumes nothing.
+-- The table as it is passed down: a search of its tags finds what `findRow` finds in the rows, and a row's number is
+-- taken apart into the row. Assumes nothing.
 use mathlib.Core.Path.{_≡_, refl, sym, ap, _∙_}
 use mathlib.Core.Bool.{true}
 use mathlib.Core.List.{List}

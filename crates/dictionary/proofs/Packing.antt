@@ -1,4 +1,5 @@
--- A row's number taken apart gives the row back: one test over the whole table, and what it says at each row. Assumes nothing.
+-- A row's number taken apart gives the row back: one test over the whole table, and what it says at each row.
+-- Assumes nothing.
 use mathlib.Core.Path.{_≡_, refl}
 use mathlib.Core.Bool.{Bool, true}
 use Prim.Native.Nat.{ℕ, _/_, _%_, _<_}
@@ -46,6 +47,6 @@ row-unpacks r t =
     equal (eqb-true _ _ (both-left _ _ t)) (eqb-true _ _ (both-left _ _ greatest)) (eqb-true _ _ (both-left _ _ form))
     (eqb-true _ _ (both-left _ _ setters)) (eqb-true _ _ (both-left _ _ templates)) (eqb-true _ _ (both-left _ _ answers)) (eqb-true _ _ (both-right _ _ answers))
 
--- every row's attributes stand in its number
+-- every row's attributes are in its number
 pub code-unpacks : (k : ℕ) → k < length dictionaryRows → unpackedRow (packedRow (rowIn dictionaryRows k)) ≡ attributesOf (rowIn dictionaryRows k)
 code-unpacks k h = row-unpacks (rowIn dictionaryRows k) (at unpacks dictionaryRows blankRow rows-unpack k h)

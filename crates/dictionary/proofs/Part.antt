@@ -1,5 +1,6 @@
--- The part of the table that a tag can stand in: rows before it have smaller tags, rows behind it greater ones, so a search of the part finds
--- what `findRow` finds in the whole. What the parts ask of the table is computed, one test each; so is which tags each of them has.
+-- The part of the table that a tag can be in: rows before it have smaller tags, rows after it greater ones, so a search
+-- of the part finds what `findRow` finds in the whole. What the parts require of the table is computed, one test each;
+-- so is which tags each of them has.
 -- Assumes nothing.
 use mathlib.Core.Path.{_≡_, refl, sym, ap, subst, _∙_}
 use mathlib.Core.Bool.{Bool, true, false}
@@ -30,7 +31,7 @@ unfolding rowPast
 past-more a Unknown = refl
 past-more a (At k) = let e : 1 + (a + k) ≡ suc a + k = omega arith in ap At e
 
--- rows of smaller tags in front are passed over
+-- rows of smaller tags at the front are skipped
 abbrev below : ℕ → Row → Bool
 below low r = ltb (r .tag) low
 
@@ -42,7 +43,7 @@ find-behind (suc a) (r ∷ rs) low t h l =
     let n : r .tag ≡ t → ⊥ = λ e. let s = ltb-true (r .tag) low (both-left _ _ h) in omega arith in
     if-no _ _ (ne-eqb _ _ n) ∙ ap (rowPast 1) (find-behind a rs low t (both-right _ _ h) l) ∙ past-more a (findRow (drop a rs) t)
 
--- rows of greater tags behind have it not
+-- rows of greater tags after it do not have the tag
 abbrev above : ℕ → Row → Bool
 above high r = leb high (r .tag)
 

@@ -1,4 +1,5 @@
--- The rule of a table, from its test to each row; and in a table that rises every row is found by its tag. Assumes nothing.
+-- The rule of a table, from its test to each row; and in a table that rises every row is found by its tag.
+-- Assumes nothing.
 use mathlib.Core.Path.{_≡_, refl, sym, ap, _∙_}
 use mathlib.Core.Bool.{Bool, true, false}
 use mathlib.Core.List.{List, [], _∷_}

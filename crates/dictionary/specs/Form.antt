@@ -1,4 +1,4 @@
--- Does a value fit its row (document 01, "Dictionary"): the length in bytes, and the digits that its form asks for.
+-- Does a value fit its row (document 01, "Dictionary"): the length in bytes, and the digits that its form requires.
 -- Assumes nothing.
 use mathlib.Core.Bool.{Bool, true}
 use mathlib.Core.List.{List, [], _∷_}
@@ -31,7 +31,7 @@ digitsThenFs (d ∷ s) =
 unfoldable pub compressed : List ℕ → Bool
 compressed v = digitsThenFs (nibbles v)
 
--- what the form asks of the digits; b asks nothing
+-- what the form requires of the digits; b requires nothing
 unfoldable pub digitsFit : ℕ → List ℕ → Bool
 digitsFit form v =
     if form =? formN then numeric v

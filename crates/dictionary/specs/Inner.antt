@@ -1,8 +1,8 @@
--- What private functions promise, for their callers' proofs: digits byte by byte, and the part of the table that a tag
--- can stand in.
--- No rule of document 01 stands here: a reader of the rules can pass it over. proofs/Digits ties it to specs/Form:
--- `numeric-is` to `numeric`; `all-digits`, `is-ff`, `is-half` and `is-wrong` to `compressed`. proofs/Part ties `tagRange`
--- to `findRow` and to `partSearchOf`.
+-- What private functions promise, for their callers' proofs: digits byte by byte, and the part of the table that a
+-- tag can be in.
+-- This file states no rule of document 01: a reader of the rules can skip it. proofs/Digits ties it to specs/Form:
+-- `numeric-is` to `numeric`; `all-digits`, `is-ff`, `is-half` and `is-wrong` to `compressed`. proofs/Part ties
+-- `tagRange` to `findRow` and to `partSearchOf`.
 -- Assumes nothing.
 use mathlib.Core.Bool.{Bool}
 use mathlib.Core.List.{List, [], _∷_}
@@ -31,7 +31,7 @@ onlyFs v = every (λ b. b =? 0xFF) v
 abbrev pub rowRange : ℕ → ℕ → RowRange
 rowRange from to = record { from = from; to = to }
 
--- the rows of the part that a tag can stand in (`partNumber`, specs/Search)
+-- the rows of the part that a tag can be in (`partNumber`, specs/Search)
 unfoldable pub tagRange : ℕ → RowRange
 tagRange t =
     if t <? 0x100 then rowRange 0 16

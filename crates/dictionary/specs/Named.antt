@@ -11,7 +11,7 @@ abbrev pub rowNumberFound : RowFound → ℕ
 rowNumberFound Unknown = 0
 rowNumberFound (At k) = k
 
--- the row of a known tag; the first row for an unknown one, which no code asks for
+-- the row of a known tag; the first row for an unknown one, which no code uses
 unfoldable pub rowNumberOf : ℕ → ℕ
 rowNumberOf t = rowNumberFound (findRow dictionaryRows t)
 

@@ -4,7 +4,7 @@ use Prim.Native.Nat.{ℕ, _+_, _*_, _/_, _%_}
 use Rattle.dictionary.specs.declared.Attributes.{Attributes}
 use Rattle.dictionary.specs.Rows.{Row, row}
 
--- what a row says beside its tag
+-- what a row states besides its tag
 abbrev pub attributesOf : Row → Attributes
 attributesOf r =
     record {
@@ -21,7 +21,7 @@ attributesOf r =
 abbrev pub rowWithAttributes : Attributes → Row
 rowWithAttributes a = row 0 (a .least) (a .greatest) (a .form) (a .setters) (a .templates) (a .answers) (a .must)
 
--- what a row says, in one number: 8 bits each for the lengths, 2 for the form, 3 for who may set it, 6 for the
+-- what a row states, in one number: 8 bits each for the lengths, 2 for the form, 3 for who may set it, 6 for the
 -- templates, 4 for the answers, 1 for whether a start must bring it
 abbrev pub packedRow : Row → ℕ
 packedRow r =

@@ -1,5 +1,6 @@
--- The dictionary of data objects (document 01, "Dictionary"; document 02, Items 5, 8, 9 and 11; Book C-2, annex A): a row
--- for each primitive tag of annex A that has a greatest length, tags rising. docs/DICTIONARY.md names each row's section.
+-- The dictionary of data objects (document 01, "Dictionary"; document 02, Items 5, 8, 9 and 11; Book C-2, annex A):
+-- a row for each primitive tag of annex A that has a greatest length, tags rising. docs/DICTIONARY.md names each
+-- row's section.
 -- Assumes nothing.
 use mathlib.Core.List.{List, [], _∷_}
 use Prim.Native.Nat.{ℕ, _+_}
@@ -8,9 +9,9 @@ use Rattle.basics.specs.Choice.{if_then_else_, _=?_}
 use Rattle.dictionary.specs.declared.RowFound.{RowFound}
 use Rattle.dictionary.specs.declared.RowFound.the-variants.{At, Unknown}
 
--- a row: the tag, the least and greatest length in bytes, the form of the value, and three sets of bits:
--- who may set the object, the templates that may stand directly around it, the answers that may bring it;
--- last, whether a start must bring it
+-- a row: the tag, the least and greatest length in bytes, the form of the value, and three sets of bits: who may set
+-- the object, the templates that may be directly around it, the answers that may bring it; last, whether a start
+-- must bring it
 pub record Row : Type 0 where
   pub tag : ℕ
   pub least : ℕ
@@ -280,7 +281,7 @@ dictionaryRows =
     row 0xDF8307 1 1 formB setBySession inNoTemplate inNoResponse  optional ∷
     []
 
--- what stands past the last row
+-- what is past the last row
 abbrev pub blankRow : Row
 blankRow = row 0 0 0 0 0 0 0 0
 

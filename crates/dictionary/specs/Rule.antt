@@ -13,7 +13,7 @@ use Rattle.dictionary.specs.Rows.{Row}
 abbrev pub properRow : Row → Bool
 properRow r = wellFormedTag (r .tag) and r .least ≤? r .greatest
 
--- a tag is below the first tag of the rows behind it
+-- a tag is below the first tag of the rows after it
 abbrev pub belowNext : ℕ → List Row → Bool
 belowNext t [] = true
 belowNext t (r ∷ rs) = t <? r .tag

@@ -1,9 +1,9 @@
--- Search by halving (document 02, Item 3): each turn looks at one tag, the middle one of those that are left. Either it
--- is the wanted one; or it is smaller, and the part behind it is left; or greater, and the part before it is left.
--- Defined for every list of tags, in whatever order. What `search` promises of it beside: where tags rise it finds
--- what `findRow` finds, and of fewer than 2 to the k tags it looks at k at most (proofs/Halving).
--- A card's tag is searched in the part of the table that it can stand in (`partSearchOf`): the same answer for every
--- tag, and the same bound on the looks (promises `found` and `few` of `find_row`; proofs/Part).
+-- Search by halving (document 02, Item 3): each iteration probes one tag, the middle one of those that are left. Either
+-- it is the one searched for; or it is smaller, and the part after it is left; or greater, and the part before it is
+-- left. Defined for every list of tags, in whatever order. What `search` promises of it besides: where tags rise it
+-- finds what `findRow` finds, and of fewer than 2 to the k tags it probes k at most (proofs/Halving). A card's tag is
+-- searched in the part of the table that it can be in (`partSearchOf`): the same answer for every tag, and the same
+-- bound on the probes (promises `found` and `few` of `find_row`; proofs/Part).
 -- Assumes nothing.
 use mathlib.Core.Path.{_≡_}
 use mathlib.Core.Bool.{Bool, true}
@@ -30,7 +30,7 @@ searchPart from to = record { from = from; to = to }
 abbrev pub partMiddle : SearchPart → ℕ
 partMiddle p = (p .from + p .to) / 2
 
--- the part behind the middle tag, and the part before it
+-- the part after the middle tag, and the part before it
 abbrev pub partAfter : SearchPart → SearchPart
 partAfter p = searchPart (partMiddle p + 1) (p .to)
 
@@ -39,24 +39,24 @@ partBefore p = searchPart (p .from) (partMiddle p)
 
 -- ---- the search
 
--- what a search comes to: where the tag was found, and the places it looked at, in their order
+-- what a search comes to: where the tag was found, and the places it probed, in their order
 pub record Halving : Type 0 where
   pub found : RowFound
   pub places : List ℕ
 
--- nothing is left to look at
+-- nothing is left to probe
 abbrev pub searchMiss : Halving
 searchMiss = record { found = Unknown; places = [] }
 
--- found at the place that was looked at
+-- found at the place that was probed
 abbrev pub searchHit : ℕ → Halving
 searchHit place = record { found = At place; places = [] }
 
--- a look at a place, and then the rest of a search
+-- one probe of a place, and then the rest of a search
 abbrev pub probeAt : ℕ → Halving → Halving
 probeAt place rest = record { found = rest .found; places = place ∷ rest .places }
 
--- a search of a part by at most so many turns
+-- a search of a part by at most so many iterations
 unfoldable pub halve : List ℕ → ℕ → ℕ → SearchPart → Halving
 halve tags wanted zero p = searchMiss
 halve tags wanted (suc turns) p =
@@ -66,15 +66,15 @@ halve tags wanted (suc turns) p =
         (if tag =? wanted then searchHit (partMiddle p)
         else halve tags wanted turns (if tag <? wanted then partAfter p else partBefore p))
 
--- a search of all tags; a turn for each of them is enough, since each turn leaves fewer
+-- a search of all tags; an iteration for each of them is enough, since each iteration leaves fewer
 unfoldable pub halvingOf : List ℕ → ℕ → Halving
 halvingOf tags wanted = halve tags wanted (length tags) (searchPart 0 (length tags))
 
--- the places that a search looks at
+-- the places that a search probes
 abbrev pub probedPlaces : List ℕ → ℕ → List ℕ
 probedPlaces tags wanted = halvingOf tags wanted .places
 
--- what a search says: where the tag was found, and the count of looks
+-- what a search reports: where the tag was found, and the count of probes
 unfoldable pub searchOf : List ℕ → ℕ → SearchResult
 searchOf tags wanted = record { found = halvingOf tags wanted .found; probes = length (probedPlaces tags wanted) }
 
@@ -86,8 +86,8 @@ tagsOf table = map (λ r. r .tag) table
 abbrev pub tagsAt : List ℕ → List ℕ → List ℕ
 tagsAt tags places = map (λ place. getD tags place 0) places
 
--- the count is that of the looks: there are as many places as it says, each in the table, and whatever stands at the
--- other places, the same tags at these give the same answer
+-- the count is that of the probes: there are as many places as it says, each in the table, and whatever is at the other
+-- places, the same tags at these give the same answer
 pub record ProbesCounted (tags : List ℕ) (wanted : ℕ) (r : SearchResult) : Type 0 where
   pub count : length (probedPlaces tags wanted) ≡ r .probes
   pub within : every (λ place. place <? length tags) (probedPlaces tags wanted) ≡ true
@@ -96,7 +96,7 @@ pub record ProbesCounted (tags : List ℕ) (wanted : ℕ) (r : SearchResult) : T
 
 -- ---- the search of a part of a table
 
--- the part that a tag can stand in, by the count of its bytes and, of two bytes, by the first one: one byte; two bytes
+-- the part that a tag can be in, by the count of its bytes and, of two bytes, by the first one: one byte; two bytes
 -- before 9F, from 9F on and from DF on; three bytes
 unfoldable pub partNumber : ℕ → ℕ
 partNumber tag =
@@ -113,7 +113,7 @@ filter f (tag ∷ tags) =
     if f tag then tag ∷ filter f tags
     else filter f tags
 
--- the tags of the part that a wanted one can stand in, and how many tags belong to a part before it
+-- the tags of the part that a wanted one can be in, and how many tags belong to a part before it
 abbrev pub tagsInPart : List ℕ → ℕ → List ℕ
 tagsInPart tags wanted = filter (λ tag. partNumber tag =? partNumber wanted) tags
 

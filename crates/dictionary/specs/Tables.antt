@@ -1,5 +1,5 @@
--- The table as a call binds it once and lends it down: its tags, and its rows' numbers.
--- No rule of document 01 stands here. proofs/Lent ties it to specs/Rows: `lent-found`, `lent-row`.
+-- The table as a call binds it once and passes it down: its tags, and its rows' numbers.
+-- This file states no rule of document 01. proofs/Lent ties it to specs/Rows: `lent-found`, `lent-row`.
 -- Assumes nothing.
 use mathlib.Core.Path.{_≡_}
 use mathlib.Core.List.{List, map}
@@ -12,7 +12,7 @@ use Rattle.dictionary.specs.Search.{tagsOf}
 abbrev pub packedRows : List Row → List ℕ
 packedRows table = map packedRow table
 
--- what is lent is the dictionary's
+-- what is passed in is the dictionary's
 pub record TablesGiven (ts cs : List ℕ) : Type 0 where
   pub tags : ts ≡ tagsOf dictionaryRows
   pub codes : cs ≡ packedRows dictionaryRows

@@ -1,9 +1,9 @@
-// The dictionary of data objects: for each known tag its least and greatest length, its form, who may
-// set it, the templates that may stand directly around it, the answers that may bring it, and whether
-// a start must bring it. Rows stand in rising order of their tags.
+// The dictionary of data objects: for each known tag its least and greatest length, its form, who may set it, the
+// templates that may be directly around it, the answers that may bring it, and whether a start must bring it. Rows are
+// in rising order of their tags.
 //
-// `lookup_row` finds a tag's row, by halving; `search` does the same in any list of tags. `row_tag` and `attributes_of` answer
-// for a row, with zeros past the last row; `fits` says whether a value's length and digits are allowed.
+// `lookup_row` finds a tag's row, by halving; `search` does the same in any list of tags. `row_tag` and `attributes_of`
+// answer for a row, with zeros past the last row; `fits` reports whether a value's length and digits are allowed.
 ghost use mathlib.Core.Path.{_≡_};
 ghost use mathlib.Core.Bool.{true};
 ghost use mathlib.Core.List.{List, map};
@@ -21,7 +21,7 @@ ghost use Rattle.dictionary.specs.TerminalType.{listedTerminalType};
 // How many rows there are.
 pub const ROWS: usize = 158;
 
-// The store's size: the sum over the rows of the greatest length and one byte more.
+// The store's size: the sum over the rows of the greatest length and one more byte.
 pub const SIZE: usize = 6008;
 
 // Forms of a value.
@@ -174,8 +174,8 @@ const TAGS: [u32; ROWS] = [
     0xDF8137, 0xDF8301, 0xDF8302, 0xDF8303, 0xDF8304, 0xDF8305, 0xDF8306, 0xDF8307,
 ];
 
-// What each row says beside its tag, in one number: the least length, and above it a unit for each further
-// column. `unpacked` takes it apart.
+// What each row states besides its tag, in one number: the least length, and above it a unit for each further column.
+// `unpacked` takes it apart.
 const GREATEST: u32 = 256;
 const FORM: u32 = 65536;
 const SETTERS: u32 = 262144;
@@ -370,8 +370,8 @@ const CODES: [u32; ROWS] = [
      1 + 1 * GREATEST + B + OF_SESSION, // DF8307
 ];
 
-// What a row says beside its tag: the lengths, the form, and the sets of bits; `must` is 1 where a start
-// must bring the object, else 0.
+// What a row states besides its tag: the lengths, the form, and the sets of bits; `must` is 1 where a start must bring
+// the object, else 0.
 pub struct Attributes {
     pub least: usize,
     pub greatest: usize,
@@ -382,13 +382,13 @@ pub struct Attributes {
     pub must: u8,
 }
 
-// Where a tag stands in the table.
+// Where a tag is in the table.
 pub enum RowFound {
     At(usize),
     Unknown,
 }
 
-// A search: where the tag stands, and how many tags were looked at.
+// A search: where the tag is, and how many tags were probed.
 pub struct SearchResult {
     pub found: RowFound,
     pub probes: usize,
@@ -400,7 +400,7 @@ pub struct RowRange {
     pub to: usize,
 }
 
-// The row of a tag, and the looks of its search. The table it searches keeps its rule: rising, well-formed tags,
+// The row of a tag, and the probes of its search. The table it searches satisfies its rule: rising, well-formed tags,
 // lengths in order.
 pub fn lookup_row(tag: u32) -> SearchResult
     ensures found { λ r. ⌜ r .found ≡ findRow dictionaryRows tag ⌝ }
@@ -412,7 +412,7 @@ pub fn lookup_row(tag: u32) -> SearchResult
     search(&tags, tag)
 }
 
-// A search by halving in any list of tags: each turn looks at the middle one of those that are left.
+// A search by halving in any list of tags: each iteration probes the middle one of those that are left.
 pub fn search(tags: &[u32], tag: u32) -> SearchResult
     ensures halving { λ r. ⌜ r ≡ searchOf (now (tags .entry)) tag ⌝ }
     ensures found { λ r. ⌜ ((table : List Row) → tagsOf table ≡ now (tags .entry) → risingTags table ≡ true → r .found ≡ findRow table tag) ⌝ }
@@ -444,8 +444,8 @@ pub fn search(tags: &[u32], tag: u32) -> SearchResult
     }
 }
 
-// The row of a tag with the tags lent: the search goes over the part of the table that a tag of this many bytes, with
-// this first byte, can stand in.
+// The row of a tag with the tags borrowed: the search goes over the part of the table that a tag of this many bytes,
+// with this first byte, can be in.
 pub fn find_row(tags: &[u32], tag: u32) -> SearchResult
     requires { ⌜ now tags ≡ tagsOf dictionaryRows ⌝ }
     ensures found { λ r. ⌜ r .found ≡ findRow dictionaryRows tag ⌝ }
@@ -555,7 +555,7 @@ pub fn row_tag(row: usize) -> u32
     0
 }
 
-// What a row says; nothing past the last row.
+// What a row states; nothing past the last row.
 pub fn attributes_of(row: usize) -> Attributes
     ensures { λ r. ⌜ r ≡ attributesOf (rowAt row) ⌝ }
 {
@@ -566,7 +566,7 @@ pub fn attributes_of(row: usize) -> Attributes
 }
 
 // The tags and the numbers of all rows. An array that is read at a place known only when the code runs is built anew
-// each time: a call that reads many rows binds these once and lends them down.
+// each time: a call that reads many rows binds these once and passes them down.
 pub fn tags() -> [u32; ROWS]
     ensures { λ r. ⌜ r ≡ tagsOf dictionaryRows ⌝ }
 {
@@ -660,7 +660,7 @@ fn is_compressed(v: &[u8]) -> bool
     false
 }
 
-// Whether a value's digits are those of a form; the form b asks nothing.
+// Whether a value's digits are those of a form; the form b requires nothing.
 pub fn digits_fit(form: u8, v: &[u8]) -> bool
     ensures { λ r. ⌜ r ≡ digitsFit form (now (v .entry)) ⌝ }
 {

@@ -1,4 +1,5 @@
--- Bytes written into a buffer: written one behind the other they are written at once, and what covers them leaves nothing of them.
+-- Bytes written into a buffer: writing one after another is writing at once, and what covers them leaves
+-- nothing of them.
 -- Assumes nothing.
 use mathlib.Core.Path.{_≡_, refl, sym, ap, _∙_}
 use mathlib.Core.List.{List, [], _∷_, _++_, append-nil, append-assoc}
@@ -35,7 +36,7 @@ module _ (b : List ℕ) (at : ℕ) (v : List ℕ) (h : at + length v ≤ length 
   pub over-sets : sets b at v ≡ writtenOver b at v
   over-sets = sets-eq v b at h ∙ sym front-is
 
-  -- the bytes behind stay
+  -- the bytes after stay
   pub over-behind : (n : ℕ) → at + length v ≤ n → drop n (writtenOver b at v) ≡ drop n b
   over-behind n l =
       let m = n - (at + length v) in
@@ -47,7 +48,7 @@ module _ (b : List ℕ) (at : ℕ) (v : List ℕ) (h : at + length v ≤ length 
   unfolding writtenOver
   over-there = ap (take (length v)) (drop-at (take at b) _ at (length-take-le at b (omega arith))) ∙ take-at v _ _ refl
 
-  -- one behind the other
+  -- concatenated
   pub over-join : (w : List ℕ) → writtenOver (writtenOver b at v) (at + length v) w ≡ writtenOver b at (v ++ w)
   unfolding writtenOver
   over-join w =
@@ -70,7 +71,7 @@ pub over-some : (b : List ℕ) (at : ℕ) (x : Option (List ℕ)) (v : List ℕ)
 unfolding dolWrittenOver
 over-some b at x v e = ap (dolWrittenOver b at) e
 
--- a part of the buffer that was lent, and comes back with v copied into it
+-- a part of the buffer that was borrowed, and comes back with v copied into it
 pub over-part : (b : List ℕ) (at : ℕ) (v ys : List ℕ) → at + length v ≤ length b
     → ys ≡ take (length v) v ++ drop (length v) (take (at + length v - at) (drop at b))
     → take at b ++ (ys ++ drop (at + length v - at) (drop at b)) ≡ writtenOver b at v
@@ -81,7 +82,7 @@ over-part b at v ys h p =
     let q : ys ≡ v = p ∙ rw (e, take-length v, drop-of-length-le _ l) (append-nil v) in
     rw (q, e, drop-drop (length v) at b)
 
--- one byte more of a run
+-- one more byte of a run
 pub repeat-more : (b : List ℕ) (at i x : ℕ) → at + i < length b → set (writtenOver b at (replicate i x)) (at + i) x ≡ writtenOver b at (replicate (i + 1) x)
 repeat-more b at i x h =
     let n : length (replicate i x) ≡ i = length-replicate i x in

@@ -1,5 +1,5 @@
--- The entries of a list. Each takes some of its bytes, so the steps allowed do not matter (`unroll`); then one law for each way out
--- of a step, one induction over a list that is whole (`entries-ind`), and from it joining.
+-- The entries of a list. Each takes some of its bytes, so the steps allowed do not matter (`unroll`); then one law for
+-- each way out of a step, one induction over a list that is whole (`entries-ind`), and from it joining.
 -- Assumes nothing.
 use mathlib.Core.Path.{_≡_, refl, sym, ap, ap₂, subst, _∙_}
 use mathlib.Core.List.{List, [], _∷_, _++_}
@@ -46,7 +46,7 @@ module _ (s : List ℕ) (x : TagFront) (p : x ≡ tagAt s) where
 
 -- ---- what an entry takes
 
--- an entry is a whole tag and the byte behind it
+-- an entry is a whole tag and the byte after it
 pub record EntryFits (s : List ℕ) (e : DolEntry) (n : ℕ) : Type 0 where
   pub tag : Tag
   pub read : tagAt s ≡ Tagged tag
@@ -78,7 +78,7 @@ entry-inside s e n p = let f = entry-fits s e n p in let t = tag-fits s (f .tag)
 shorter : (s : List ℕ) (e : DolEntry) (n : ℕ) → dolEntryAt s ≡ Asked e n → length (drop n s) < length s
 shorter s e n p = let i = entry-inside s e n p in simp length-drop (omega arith)
 
--- bytes behind the list do not change its entry
+-- bytes after the list do not change its entry
 pub entry-kept : (s r : List ℕ) (e : DolEntry) (n : ℕ) → dolEntryAt s ≡ Asked e n → dolEntryAt (s ++ r) ≡ Asked e n
 entry-kept s r e n p =
     let f = entry-fits s e n p in
@@ -127,7 +127,7 @@ pub with-entry : (e : DolEntry) (x : Option (List DolEntry)) (es : List DolEntry
 unfolding entryBefore
 with-entry e x es p = rw p
 
--- ---- what holds of nothing, and of an entry once it holds of what is behind it, holds of every list that is whole
+-- ---- what holds of nothing, and of an entry once it holds of what is after it, holds of every list that is whole
 
 module _
     (P : List ℕ → List DolEntry → Type 0)
@@ -162,7 +162,7 @@ module _
     unfolding Holds
     entries-ind s es p = shorter-first Holds of-list s es p
 
--- ---- one list behind another
+-- ---- one list after another
 
 pub entries-join : (s t : List ℕ) (es fs : List DolEntry) → dolEntries s ≡ some es → dolEntries t ≡ some fs → dolEntries (s ++ t) ≡ some (es ++ fs)
 entries-join s t es fs p q =
@@ -172,7 +172,7 @@ entries-join s t es fs p q =
     entries-more (s ++ t) e n (entry-kept s t e n r) ∙ rw (drop-append-le n s t (i .1)) (with-entry e _ _ h))
     s es p
 
--- ---- measuring, as the code goes: so many bytes are asked before
+-- ---- measuring, as the code goes: so many bytes are requested before
 
 unfoldable pub measuredFrom : ℕ → Option (List DolEntry) → DolTotal
 measuredFrom n none = Unfit

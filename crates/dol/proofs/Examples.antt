@@ -45,7 +45,7 @@ pub no-length : dolEntries (0x9F ∷ 0x02 ∷ []) ≡ none
 unfolding dolEntries recurse recurseBy entriesNext dolEntryAt entryWithLength entryBefore tagAt tagSize tagSecondByte tagThirdByte bigEndianFrom if
 no-length = refl
 
--- padding in front of the first tag, behind the last length and between two entries
+-- padding before the first tag, after the last length and between two entries
 pub padding-around : map dolEntries ((0 ∷ 0x9F ∷ 0x02 ∷ 6 ∷ []) ∷ (0x9F ∷ 0x02 ∷ 6 ∷ 0 ∷ []) ∷ (0 ∷ 0x95 ∷ 5 ∷ []) ∷ (0x95 ∷ 5 ∷ 0 ∷ []) ∷ (0x9F ∷ 0x02 ∷ 6 ∷ 0 ∷ 0x95 ∷ 5 ∷ []) ∷ [])
     ≡ none ∷ none ∷ none ∷ none ∷ none ∷ []
 unfolding dolEntries recurse recurseBy entriesNext dolEntryAt entryWithLength entryBefore tagAt tagSize tagSecondByte tagThirdByte bigEndianFrom if
@@ -62,7 +62,7 @@ pub amount-7 : fittedTo formN 7 (0 ∷ 0 ∷ 0 ∷ 0 ∷ 0x12 ∷ 0x34 ∷ []) �
 unfolding fittedTo truncated padded paddingByte if
 amount-7 = refl
 
--- result bits keep their left end, and grow at their right
+-- a TVR keeps its left end, and grows at its right
 pub results-3 : fittedTo formB 3 (0x80 ∷ 0 ∷ 0 ∷ 0x80 ∷ 0 ∷ []) ≡ 0x80 ∷ 0 ∷ 0 ∷ []
 unfolding fittedTo truncated padded paddingByte if
 results-3 = refl

@@ -1,4 +1,5 @@
--- Filling a list: an entry's bytes by what its tag is, and what joins and measures a filling, by induction over the entries.
+-- Filling a list: an entry's bytes by what its tag is, and what joins and measures a filling, by induction over
+-- the entries.
 -- Assumes nothing.
 use mathlib.Core.Path.{_≡_, refl, sym, ap, ap₂, _∙_}
 use mathlib.Core.Bool.{true, false}
@@ -62,20 +63,20 @@ module _ (table : List Row) (store : List ℕ) where
   found-length n Unknown = length-replicate n 0
   found-length n (At k) = value-length (rowIn table k .form) n (rowValue table store k)
 
-  -- an entry's bytes are as many as it asks for
+  -- an entry's bytes are as many as it requests
   pub entry-length : (e : DolEntry) → length (dolEntryBytes table store e) ≡ e .asked
   unfolding dolEntryBytes
   entry-length e =
       if-ind (λ (l : List ℕ). length l ≡ e .asked) (isTemplate (e .tag)) _ _
       (λ _. length-replicate (e .asked) 0) (λ _. found-length (e .asked) (findRow table (e .tag)))
 
-  -- a filling has as many bytes as are asked in all
+  -- a filling has as many bytes as are requested in all
   pub filling-length : (es : List DolEntry) → length (dolData table store es) ≡ dolTotalLength es
   unfolding dolData dolTotalLength
   filling-length [] = refl
   filling-length (e ∷ es) = length-append (dolEntryBytes table store e) _ ∙ ap₂ _+_ (entry-length e) (filling-length es)
 
-  -- ---- one list behind another
+  -- ---- one list after another
 
   pub filling-join : (es fs : List DolEntry) → dolData table store (es ++ fs) ≡ dolData table store es ++ dolData table store fs
   unfolding dolData
@@ -93,14 +94,14 @@ module _ (table : List Row) (store : List ℕ) where
   filled-entries none v p = let z : _≡_ {A = ℕ} 0 1 = cc in absurd (omega arith)
   filled-entries (some es) v p = let e : dolData table store es ≡ v = cc in (es, refl, e)
 
-  -- the filling of two whole lists, one behind the other, is the one filling behind the other
+  -- the filling of two whole lists concatenated is their fillings concatenated
   pub filled-join : (s t v w : List ℕ) → dolFilled table store s ≡ some v → dolFilled table store t ≡ some w → dolFilled table store (s ++ t) ≡ some (v ++ w)
   filled-join s t v w p q =
       let a = filled-entries (dolEntries s) v p in
       let b = filled-entries (dolEntries t) w q in
       filled-some _ _ (entries-join s t (a .0) (b .0) (a .1) (b .1)) ∙ ap some (filling-join (a .0) (b .0) ∙ ap₂ _++_ (a .2) (b .2))
 
-  -- nothing is asked, nothing is filled
+  -- nothing is requested, nothing is filled
   pub filled-nothing : dolFilled table store [] ≡ some []
   unfolding dolData
   filled-nothing = filled-some _ [] (entries-end [] refl)

@@ -1,5 +1,5 @@
--- A value brought to a length. Each law goes by the form: n keeps the right end, the others the left, and a run of one byte behind
--- another of the same is one run.
+-- A value brought to a length. Each law goes by the form: n keeps the right end, the others the left, and a run of one
+-- byte after another of the same is one run.
 -- Assumes nothing.
 use mathlib.Core.Path.{_≡_, sym, ap, _∙_}
 use mathlib.Core.List.{List, _++_, append-nil, append-assoc}
@@ -49,7 +49,7 @@ module _ (form n : ℕ) (v : List ℕ) where
       if-ind (λ (l : List ℕ). length l ≡ n) (eqb form formN) _ _
       (λ _. simp (length-append, length-replicate) (omega arith)) (λ _. simp (length-append, length-replicate) (omega arith))
 
-  -- a value that is long enough is cut, one that is short is padded
+  -- a value that is long enough is truncated, one that is short is padded
   pub fitted-cut : n ≤ length v → fittedTo form n v ≡ truncated form n v
   unfolding fittedTo
   fitted-cut h = if-yes _ _ (le-leb n (length v) h)
@@ -58,7 +58,7 @@ module _ (form n : ℕ) (v : List ℕ) where
   unfolding fittedTo
   fitted-short h = if-no _ _ (lt-leb n (length v) h)
 
--- a fitted value has the length that was asked
+-- a fitted value has the length that was requested
 pub fitted-length : (form n : ℕ) (v : List ℕ) → length (fittedTo form n v) ≡ n
 fitted-length form n v = elim (le-or-gt n (length v)) [
   | inl h ↦ ap length (fitted-cut form n v h) ∙ cut-length form n v h

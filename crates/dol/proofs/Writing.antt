@@ -1,4 +1,5 @@
--- Filling into a buffer, entry by entry: what is written so far, with the filling of the rest behind it, is the filling of the list.
+-- Filling into a buffer, entry by entry: what is written so far, with the filling of the rest after it, is the filling
+-- of the list.
 -- Assumes nothing.
 use mathlib.Core.Path.{_≡_, sym, ap, _∙_}
 use mathlib.Core.List.{List}
@@ -21,7 +22,7 @@ use Rattle.dol.proofs.Filling.{entry-length}
 pub no-room : (s : List ℕ) (at n : ℕ) → (length s ≡ 0 → ⊥) → dolEntryAt s ≡ Broken → DolFits (dolEntries s) at n → ⊥
 no-room s at n h p r = rw (entries-broken s h p) at r
 
--- an entry has room, and so has what is behind it
+-- an entry has room, and so has what is after it
 pub entry-room : (s : List ℕ) (e : DolEntry) (k at n : ℕ) → dolEntryAt s ≡ Asked e k → DolFits (dolEntries s) at n → (at + e .asked ≤ n) × DolFits (dolEntries (drop k s)) (at + e .asked) n
 unfolding entryBefore dolTotalLength
 entry-room s e k at n p r = go (dolEntries (drop k s)) (rw (entries-more s e k p) at r)
@@ -36,7 +37,7 @@ module _ (table : List Row) (store : List ℕ) where
   unfolding dolWrittenOver dolDataBy dolData
   fill-end b s at h = ap (λ (x : Option (List DolEntry)). dolWrittenOver b at (dolDataBy table store x)) (entries-end s h) ∙ over-nothing b at
 
-  -- an entry's bytes, and behind them the filling of the rest
+  -- an entry's bytes, and after them the filling of the rest
   fill-more : (b s : List ℕ) (at : ℕ) (e : DolEntry) (k : ℕ) → dolEntryAt s ≡ Asked e k → DolFits (dolEntries s) at (length b)
       → dolWrittenOver b at (dolFilled table store s) ≡ dolWrittenOver (writtenOver b at (dolEntryBytes table store e)) (at + e .asked) (dolFilled table store (drop k s))
   unfolding dolWrittenOver dolDataBy dolData entryBefore dolTotalLength
@@ -52,7 +53,7 @@ module _ (table : List Row) (store : List ℕ) where
           let h : at + length (dolEntryBytes table store e) ≤ length b = omega arith in
           sym (over-join b at (dolEntryBytes table store e) h (dolData table store es)) ∙ rw l
 
-  -- a turn of the loop: F is the whole filling, b′ the buffer with the entry written
+  -- an iteration of the loop: F is the whole filling, b′ the buffer with the entry written
   pub fill-step : (F b b′ s : List ℕ) (at n : ℕ) (e : DolEntry) (k : ℕ) → dolEntryAt s ≡ Asked e k
       → F ≡ dolWrittenOver b at (dolFilled table store s) → DolFits (dolEntries s) at (length b) → b′ ≡ writtenOver b at (dolEntryBytes table store e) → n ≡ e .asked
       → (F ≡ dolWrittenOver b′ (at + n) (dolFilled table store (tail s k))) × (length b′ ≡ length b) × DolFits (dolEntries (tail s k)) (at + n) (length b′)

@@ -1,5 +1,5 @@
--- Data object list (document 01, "Commands and steps", filling; Book 3, 1.4): tags, each followed by one plain length
--- byte, 0 to 255.
+-- Data Object List, DOL (document 01, "Commands and steps", filling; Book 3, 1.4): tags, each followed by one plain
+-- length byte, 0 to 255.
 -- Assumes nothing.
 use mathlib.Core.List.{List, [], _∷_}
 use mathlib.Core.Option.{Option, some, none}
@@ -14,16 +14,16 @@ use Rattle.dol.specs.declared.DolEntry.{DolEntry}
 use Rattle.dol.specs.declared.DolEntryFront.{DolEntryFront}
 use Rattle.dol.specs.declared.DolEntryFront.the-variants.{Asked, Broken}
 
--- an entry: so many bytes are asked of a tag
+-- an entry: so many bytes are requested of a tag
 abbrev pub dolEntry : ℕ → ℕ → DolEntry
 dolEntry t n = record { tag = t; asked = n }
 
--- behind a tag stands its length byte
+-- a tag is followed by its length byte
 unfoldable pub entryWithLength : Tag → List ℕ → DolEntryFront
 entryWithLength t [] = Broken
 entryWithLength t (n ∷ s) = Asked (dolEntry (t .number) n) (t .size + 1)
 
--- a whole tag, and its length byte behind it
+-- a whole tag, and its length byte after it
 abbrev pub entryWithTag : List ℕ → TagFront → DolEntryFront
 entryWithTag s Untagged = Broken
 entryWithTag s (Tagged t) = entryWithLength t (drop (t .size) s)
@@ -37,12 +37,12 @@ unfoldable pub entryBefore : DolEntry → Option (List DolEntry) → Option (Lis
 entryBefore e none = none
 entryBefore e (some es) = some (e ∷ es)
 
--- one entry, and what k parses of the bytes behind it
+-- one entry, and what k parses of the bytes after it
 abbrev pub entryThenRest : (List ℕ → Option (List DolEntry)) → List ℕ → DolEntryFront → Option (List DolEntry)
 entryThenRest k s Broken = none
 entryThenRest k s (Asked e size) = entryBefore e (k (drop size s))
 
--- nothing more, or one entry and what k parses of the bytes behind it
+-- nothing more, or one entry and what k parses of the bytes after it
 unfoldable pub entriesNext : (List ℕ → Option (List DolEntry)) → List ℕ → Option (List DolEntry)
 entriesNext k [] = some []
 entriesNext k (b ∷ s) = entryThenRest k (b ∷ s) (dolEntryAt (b ∷ s))
@@ -51,14 +51,14 @@ entriesNext k (b ∷ s) = entryThenRest k (b ∷ s) (dolEntryAt (b ∷ s))
 unfoldable pub dolEntries : List ℕ → Option (List DolEntry)
 dolEntries s = recurse none entriesNext s
 
--- how many bytes are asked in all
+-- how many bytes are requested in all
 unfoldable pub dolTotalLength : List DolEntry → ℕ
 dolTotalLength [] = 0
 dolTotalLength (e ∷ es) = e .asked + dolTotalLength es
 
 -- ---- what holds of it, proved in proofs/Entries for all lists
 --   entry-inside     an entry takes two bytes at least, all inside its list
---   entry-kept       bytes behind the list do not change its entry
+--   entry-kept       bytes after the list do not change its entry
 --   unroll           listEntries s ≡ along listEntries s
 --   entries-end, entries-broken, entries-more    one law for each way out of a step
---   entries-join     the entries of two whole lists, one behind the other, are the ones behind the others
+--   entries-join     the entries of two whole lists concatenated are the entries of both, concatenated

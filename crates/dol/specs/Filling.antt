@@ -1,5 +1,5 @@
--- Filling a data object list from a store (document 01, "Commands and steps", filling; Book 3, 1.4). What holds here
--- holds of every table of rows.
+-- Filling a DOL from a store (document 01, "Commands and steps", filling; Book 3, 1.4). What holds here holds of every
+-- table of rows.
 -- Assumes nothing.
 use mathlib.Core.List.{List, [], _∷_, _++_}
 use mathlib.Core.Option.{Option, some, none}
@@ -18,7 +18,7 @@ use Rattle.dol.specs.Entries.{dolEntries}
 abbrev pub fillZeros : ℕ → List ℕ
 fillZeros n = replicate n 0
 
--- a value too long for the k bytes asked: form n loses its leftmost bytes, any other its rightmost
+-- a value too long for the k bytes requested: form n loses its leftmost bytes, any other its rightmost
 unfoldable pub truncated : ℕ → ℕ → List ℕ → List ℕ
 truncated form k v =
     if form =? formN then drop (length v - k) v
@@ -30,19 +30,19 @@ paddingByte form =
     if form =? formCn then 0xFF
     else 0
 
--- a value too short for the k bytes asked: form n gains leading zeros, cn trailing FF, any other trailing zeros
+-- a value too short for the k bytes requested: form n gains leading zeros, cn trailing FF, any other trailing zeros
 unfoldable pub padded : ℕ → ℕ → List ℕ → List ℕ
 padded form k v =
     if form =? formN then fillZeros (k - length v) ++ v
     else v ++ replicate (k - length v) (paddingByte form)
 
--- a value as the k bytes asked
+-- a value as the k bytes requested
 unfoldable pub fittedTo : ℕ → ℕ → List ℕ → List ℕ
 fittedTo form k v =
     if k ≤? length v then truncated form k v
     else padded form k v
 
--- an absent object gives zeros; one that is there and empty is a value
+-- an absent object gives zeros; one that is present and empty is a value
 abbrev pub valueBytes : ℕ → ℕ → StoredValue → List ℕ
 valueBytes form k absent = fillZeros k
 valueBytes form k (present v) = fittedTo form k v
@@ -73,10 +73,10 @@ abbrev pub dolFilled : List Row → List ℕ → List ℕ → Option (List ℕ)
 dolFilled table store list = dolDataBy table store (dolEntries list)
 
 -- ---- what holds of it, proved in proofs/ (Fitting, Filling, Bytes) for all values, lengths, forms, tables and stores
---   fitted-length    a fitted value has the length that was asked
---   fitted-own       at its own length a value stays as it is, padded and cut alike
+--   fitted-length    a fitted value has the length that was requested
+--   fitted-own       at its own length a value stays as it is, padded and truncated alike
 --   padded-twice     padding to a longer length and then to a longer one still is padding at once
---   filling-length   a filling has as many bytes as are asked in all
+--   filling-length   a filling has as many bytes as are requested in all
 --   filled-nothing   an empty list fills to nothing
 --   filled-bytes     a filling from a store of bytes is bytes
---   filled-join      the filling of two whole lists, one behind the other, is the one filling behind the other
+--   filled-join      the filling of two whole lists concatenated is their fillings concatenated

@@ -23,7 +23,7 @@ abbrev pub DolFits : Option (List DolEntry) → ℕ → ℕ → Type 0
 DolFits none at n = ⊥
 DolFits (some es) at n = at + dolTotalLength es ≤ n
 
--- the buffer b with v from place `at` on; the bytes before and behind stay
+-- the buffer b with v from place `at` on; the bytes before and after stay
 unfoldable pub writtenOver : List ℕ → ℕ → List ℕ → List ℕ
 writtenOver b at v = take at b ++ (v ++ drop (at + length v) b)
 

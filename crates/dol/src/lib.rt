@@ -1,4 +1,4 @@
-// Data object lists: a list that names tags and lengths is measured, and filled from a store.
+// DOLs: a list that names tags and lengths is measured, and filled from a store.
 use dictionary::ROWS;
 use dictionary::RowFound;
 use tlv::TagFront;
@@ -11,25 +11,25 @@ ghost use Rattle.dol.specs.Entries.{dolEntryAt, dolEntries};
 ghost use Rattle.dol.specs.Filling.{truncated, paddingByte, padded, fittedTo, dolEntryBytes, dolFilled};
 ghost use Rattle.dol.specs.Measure.{dolMeasured, DolFits, writtenOver, dolWrittenOver};
 
-// An entry of a list: the tag, and how many bytes are asked of it.
+// An entry of a list: the tag, and how many bytes are requested of it.
 pub struct DolEntry {
     pub tag: u32,
     pub asked: u8,
 }
 
-// What stands at the front of a list: an entry and its size in the list, or none.
+// What is at the front of a list: an entry and its size in the list, or none.
 pub enum DolEntryFront {
     Asked(DolEntry, usize),
     Broken,
 }
 
-// How many bytes a list asks for: a total of at most 255, or a list that is broken or asks for more.
+// How many bytes a list requests: a total of at most 255, or a list that is broken or requests more.
 pub enum DolTotal {
     Total(usize),
     Unfit,
 }
 
-// How many bytes a list asks for.
+// How many bytes a list requests.
 pub fn measure(list: &[u8]) -> DolTotal
     ensures { λ r. ⌜ r ≡ dolMeasured (dolEntries (now (list .entry))) ⌝ }
 {
@@ -60,7 +60,7 @@ pub fn fill(list: &[u8], store: &[u8], buffer: &mut [u8], at: usize)
     fill_entries(list, store, buffer, at, &tags, &codes);
 }
 
-// The same with the table lent: entry by entry.
+// The same with the table borrowed: entry by entry.
 fn fill_entries(
     list: &[u8],
     store: &[u8],
@@ -138,7 +138,7 @@ fn write_entry(
     write_value(attributes.form, n, store::value(store, row), buffer, at);
 }
 
-// Writes a value as the n bytes asked.
+// Writes a value as the n bytes requested.
 fn write_value(form: u8, n: usize, v: &[u8], buffer: &mut [u8], at: usize)
     requires { ⌜ at + n ≤ length (now buffer) ⌝ }
     ensures { λ _. ⌜ now (buffer .exit) ≡ writtenOver (now (buffer .entry)) at (fittedTo form n (now (v .entry))) ⌝ }
@@ -150,7 +150,7 @@ fn write_value(form: u8, n: usize, v: &[u8], buffer: &mut [u8], at: usize)
     }
 }
 
-// Writes the part of a value that is left where fewer bytes are asked.
+// Writes the part of a value that is left where fewer bytes are requested.
 fn write_truncated(form: u8, n: usize, v: &[u8], buffer: &mut [u8], at: usize)
     requires { ⌜ (n ≤ length (now v)) × (at + n ≤ length (now buffer)) ⌝ }
     ensures { λ _. ⌜ now (buffer .exit) ≡ writtenOver (now (buffer .entry)) at (truncated form n (now (v .entry))) ⌝ }
@@ -163,7 +163,7 @@ fn write_truncated(form: u8, n: usize, v: &[u8], buffer: &mut [u8], at: usize)
     place(&v[..n], buffer, at);
 }
 
-// Writes a value and what it gains where more bytes are asked.
+// Writes a value and what it gains where more bytes are requested.
 fn write_padded(form: u8, n: usize, v: &[u8], buffer: &mut [u8], at: usize)
     requires { ⌜ (length (now v) ≤ n) × (at + n ≤ length (now buffer)) ⌝ }
     ensures { λ _. ⌜ now (buffer .exit) ≡ writtenOver (now (buffer .entry)) at (padded form n (now (v .entry))) ⌝ }

@@ -1,5 +1,5 @@
--- Explanations with the ranges judged by one walk over the store, which `ranges-along` of record ties to the rule: what computed examples go
--- by. Assumes nothing.
+-- Explanations with the ranges judged by one walk over the store, which `ranges-along` of record ties to the rule: what
+-- computed examples go by. Assumes nothing.
 use mathlib.Core.Path.{_≡_, _∙_}
 use mathlib.Core.List.{List, map}
 use Prim.Native.Nat.{ℕ}

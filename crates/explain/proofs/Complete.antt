@@ -1,5 +1,5 @@
--- What is never refused: a record in its ranges that has what every stage needs, with the choice or the outcome that the rest of it gives.
--- A running session has it all, since a listed terminal type ends in 1 to 6.
+-- What is never refused: a record in its ranges that has what every stage needs, with the choice or the outcome that
+-- the rest of it gives. A running session has it all, since a listed terminal type ends in 1 to 6.
 -- Assumes nothing.
 use mathlib.Core.Path.{_≡_, refl, sym, ap, _∙_}
 use mathlib.Core.Bool.{Bool, true, false, not}
@@ -119,7 +119,7 @@ module _ (b : List ℕ) (w : Complete b) where
       go Deciding.Nothing n e = n refl
       go (Deciding.At stage) n e = let z : Deciding.At stage ≡ Deciding.Nothing = sym (if-yes _ _ (all-there stage)) ∙ e in n z
 
--- what a stage says is no refusal
+-- what a stage reports is no refusal
 says : (b : List ℕ) (stage : Stage) → explainedAt b stage ≡ Explanation.Refused → ⊥
 unfolding explainedAt
 says b stage = go (lowestBit (storedTvr b) (actionCodesOfStage b stage))

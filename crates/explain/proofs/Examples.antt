@@ -1,5 +1,5 @@
--- Worked explanations, by computation: a record's word, with the objects that the row names put over one record that waits on the
--- cryptogram or has ended. The ranges are judged by one walk over the store, which Along ties to the rule.
+-- Worked explanations, by computation: a record's word, with the objects that the row names put over one record that
+-- waits on the cryptogram or has ended. The ranges are judged by one walk over the store, which Along ties to the rule.
 -- Assumes nothing.
 use mathlib.Core.Path.{_≡_, refl}
 use mathlib.Core.List.{List, [], _∷_, _++_, map}
@@ -63,11 +63,11 @@ started type results =
     ∷ (0x9F33, 0xE0 ∷ 0xF8 ∷ 0xC8 ∷ []) ∷ (0x9F35, type ∷ []) ∷ (0x9F37, 1 ∷ 2 ∷ 3 ∷ 4 ∷ []) ∷ (0xDF8120, replicate 5 0) ∷ (0xDF8121, replicate 5 0) ∷ (0xDF8122, replicate 5 0)
     ∷ (0xDF8123, 0 ∷ 0 ∷ 0 ∷ 0 ∷ 0x50 ∷ 0x00 ∷ []) ∷ (0xDF8124, 0 ∷ 0 ∷ 0 ∷ 1 ∷ 0 ∷ 0 ∷ []) ∷ (0xDF8125, 0 ∷ 0 ∷ 0 ∷ 2 ∷ 0 ∷ 0 ∷ []) ∷ (0xDF811B, 0 ∷ []) ∷ (0x9F6A, replicate 4 0) ∷ (0xDF8126, 0 ∷ 0 ∷ 0 ∷ 0 ∷ 0x25 ∷ 0x00 ∷ []) ∷ (0x95, results) ∷ []
 
--- EMV mode and a locator of two records
+-- EMV mode and an AFL of two records
 abbrev opened : ℕ → List ℕ → List Object
 opened type results = (0x82, 0x00 ∷ 0x80 ∷ []) ∷ (0x94, 0x08 ∷ 1 ∷ 2 ∷ 0 ∷ []) ∷ started type results
 
--- expiry date, PAN, CDOL1 and the results of the verification; no action code of the card
+-- expiry date, PAN, CDOL1 and the CVM Results; no action code of the card
 abbrev complete : ℕ → List ℕ → List Object
 complete type results =
     (0x5F24, 0x30 ∷ 0x12 ∷ 0x31 ∷ []) ∷ (0x5A, 0x47 ∷ 0x61 ∷ 0x73 ∷ 0x90 ∷ 0x01 ∷ 0x01 ∷ 0x00 ∷ 0x10 ∷ []) ∷ (0x8C, 0x95 ∷ 0x05 ∷ [])
@@ -110,8 +110,8 @@ lower = explanationWord Explanation.LowerCryptogram
 
 -- ---- waiting on the cryptogram
 
--- an absent online code is ones: the card asks for bit 0; with a code of zeros no bit forces anything, and a choice that does not fit
--- is refused
+-- an absent online code is ones: the card requests bit 0; with a code of zeros no bit forces anything, and a choice
+-- that does not fit is refused
 waiting-online : told (waiting Choice.Online 0x22 usual [] ∷ waiting Choice.Offline 0x22 usual ((0x9F0F, zero5) ∷ []) ∷ waiting Choice.Offline 0x22 usual []
     ∷ waiting Choice.Online 0x22 (five 0x80 0x40 0 0 0) ((0x9F0F, zero5) ∷ (0xDF8122, five 0 0x40 0 0 0) ∷ []) ∷ [])
     ≡ choiceWord Stage.Online Holder.Card 0 ∷ choiceWord Stage.Online Holder.Nobody noBitNumber ∷ refused ∷ choiceWord Stage.Online Holder.Terminal 9 ∷ []
@@ -143,7 +143,7 @@ waiting-types = told-along _ _ refl
 
 -- ---- ended with reason 0
 
--- the cryptogram that was asked for, and a lower one
+-- the cryptogram that was requested, and a lower one
 ended-given : told (ended 0 Outcome.OnlineRequest 0x80 [] ∷ ended 0 Outcome.Declined 0x00 [] ∷ ended 0 Outcome.OnlineRequest 0x80 ((0x9F0F, zero5) ∷ [])
     ∷ ended 0 Outcome.Approved 0x40 ((0x9F0F, zero5) ∷ []) ∷ [])
     ≡ choiceWord Stage.Online Holder.Card 0 ∷ lower ∷ lower ∷ choiceWord Stage.Online Holder.Nobody noBitNumber ∷ []
@@ -160,8 +160,8 @@ unfolding explainedEndBy explainedEnd cryptogramRank cryptogramOutcome stageIn d
     endedRanges reasonMatchesOutcome every both either if
 ended-refused = told-along _ _ refl
 
--- the terminal's denial code and its type are needed; a code of a stage that is not consulted is not, and where denial decides the
--- type is not
+-- the terminal's denial code and its type are needed; a code of a stage that is not consulted is not, and where denial
+-- decides the type is not
 ended-needs : told (map (λ t. ended t Outcome.OnlineRequest 0x80 []) (0xDF8121 ∷ 0x9F35 ∷ 0xDF8120 ∷ [])
     ++ (ended 0x9F35 Outcome.Declined 0x00 ((0x9F0E, usual) ∷ []) ∷ []))
     ≡ refused ∷ refused ∷ choiceWord Stage.Online Holder.Card 0 ∷ choiceWord Stage.Denial Holder.Card 0 ∷ []
@@ -188,8 +188,8 @@ with-reason : told (inPhase (Phase.Ended (endingOf Outcome.SelectNext 6)) 3 [] �
 unfolding explainedEndBy explainedEnd fitAlong rowPlaceFits objectValueIn rowValue rowPlace placeValue rowOffset findRow rowPast dictionaryRows endedRanges reasonMatchesOutcome every both either if
 with-reason = told-along _ _ refl
 
--- in mag-stripe mode: every outcome of reason 0, whatever else is stored; a reason is told; without 82, and with byte 2 b8 set, it is
--- explained by what is there
+-- in mag-stripe mode: every outcome of reason 0, whatever else is stored; a reason is reported; without 82, and with
+-- byte 2 b8 set, it is explained by what is there
 abbrev endedWith : Outcome → ℕ → List Object → Session
 endedWith o n objects = inPhase (Phase.Ended (endingOf o n)) 3 objects
 

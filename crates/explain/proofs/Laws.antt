@@ -1,5 +1,6 @@
--- What the stages say, law by law: a stage that decided holds a bit exactly where the choice is the one that a bit there forces, so the
--- lowest bit that is named explains the choice; and from that every clause of what an explanation promises.
+-- What the stages say, law by law: a stage that decided holds a bit exactly where the choice is the one that a bit
+-- there forces, so the lowest bit that is named explains the choice; and from that every clause of what an
+-- explanation promises.
 -- Assumes nothing.
 use mathlib.Core.Path.{_≡_, refl, sym, ap, ap₂, subst, subst⁻¹, _∙_}
 use mathlib.Core.Bool.{Bool, true, false, not}
@@ -57,7 +58,7 @@ module _ (b : List ℕ) where
     unfolding decidingIn
     deciding-at n = ap (stageIfComplete b) e ∙ if-yes _ _ n
 
-  -- a stage that decided is the one that the type and the denial codes tell
+  -- a stage that decided is the one that the type and the denial codes determine
   pub deciding-stage : (stage : Stage) → decidingIn b ≡ Deciding.At stage → stageIn b ≡ Deciding.At stage
   unfolding decidingIn
   deciding-stage stage e = go (stageIn b) e
@@ -147,7 +148,7 @@ module _ (b : List ℕ) where
   unfolding choiceFor choiceOf stageIn
   stage-choice stage e = by-stage _ _ _ _ stage (deciding-stage b stage e) ∙ ap (choiceAt stage) (held-here stage)
 
--- ---- what a stage says
+-- ---- what a stage reports
 
 -- what is promised of every explanation of a store
 pub record Right (b : List ℕ) (r : Explanation) : Type 0 where
@@ -278,7 +279,7 @@ module _ (x : Ending) (b : List ℕ) where
           pub ended-stage : cryptogramRank (requestedType (storedChoice b)) ≤ cryptogramRank (storedCryptogramType b) → explainedEnd x b ≡ explainedAt b stage
           ended-stage k = decided e ∙ if-no _ _ (ap not h) ∙ if-no _ _ (ap not g) ∙ if-no _ _ (le-ltb _ _ k)
 
--- record's mag-stripe mode: the card asks for it, and the terminal's configuration does not say that it is off
+-- record's mag-stripe mode: the card requests it, and the terminal's configuration does not say that it is off
 pub mag-stripe-mode-is : (b : List ℕ) → magStripeMode b ≡ both (cardAsksMagStripe b) (not (valueHasBit (storedBytes b 0xDF811B) 1 8))
 mag-stripe-mode-is b = both-assoc _ _ _
 
@@ -352,7 +353,7 @@ module _ (b : List ℕ) where
   chosen-given : (x : Ending) → x .reason ≡ reasonNone → (explainedEndBy x b ≡ Explanation.Refused → ⊥) → cardAsksMagStripe b ≡ false → DecisionIs b (x .outcome)
   chosen-given x e n m = ended-given x e (λ z. n (by-choice x b m ∙ z))
 
-  -- a choice is told of
+  -- a choice is reported
   abbrev Tells : Explanation → Type 0
   Tells Explanation.Refused = Unit {0}
   Tells (Explanation.Reason n) = Unit {0}
@@ -378,7 +379,7 @@ module _ (b : List ℕ) where
   unfolding explainedEnd
   ended-tells x = if-ind Tells _ _ _ (λ t. decided-tells x (decidingIn b)) (λ t. tt)
 
-  -- so no choice is told of in mag-stripe mode alone
+  -- so no choice is reported in mag-stripe mode alone
   no-choice-mag-stripe : (x : Ending) → explainedEndBy x b ≡ Explanation.NoChoice → cardAsksMagStripe b ≡ true
   no-choice-mag-stripe x e = elim (bool-cases (cardAsksMagStripe b)) [ inl y ↦ y | inr n ↦ absurd (subst Tells (sym (by-choice x b n) ∙ e) (ended-tells x)) ]
 

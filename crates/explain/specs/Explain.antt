@@ -1,7 +1,7 @@
 -- Why a choice was made (document 02, Item 7): the stage that decided, the lowest bit that forced it and whose code
--- holds it, worked out again from a session's result bits, terminal type and action codes. The stages, the codes and
--- the choice are those of analysis, and the decision on a cryptogram is that of session: no rule of document 01 is said
--- twice. How 95 came about is not asked.
+-- holds it, recomputed from a session's TVR, terminal type and action codes. The stages, the codes and the choice are
+-- those of analysis, and the decision on a cryptogram is that of session: no rule of document 01 is stated twice. How
+-- 95 came about is not examined.
 -- Assumes nothing.
 use mathlib.Core.Bool.{Bool, true, false, not}
 use mathlib.Core.List.{List, [], _∷_}
@@ -33,9 +33,9 @@ use Rattle.explain.specs.declared.Deciding.{Deciding}
 use Rattle.explain.specs.declared.Holder.{Holder}
 use Rattle.explain.specs.declared.Explanation.{Explanation}
 
--- ---- the choice, worked out again
+-- ---- the choice, recomputed
 
--- the stored result bits
+-- the stored TVR
 abbrev pub storedTvr : List ℕ → List ℕ
 storedTvr b = firstBytes 5 (storedBytes b 0x95)
 
@@ -57,7 +57,7 @@ stageBy OnlineCapability.Unlisted      false = Deciding.Nothing
 unfoldable pub stageIn : List ℕ → Deciding
 stageIn b = stageBy (onlineCapabilityOf (terminalType b)) (stageHolds (storedTvr b) (actionCodesOf b) denialStage)
 
--- the terminal's code of a stage behind denial
+-- the terminal's code of a stage after denial
 abbrev pub tacOfStage : Stage → List ℕ
 tacOfStage Stage.Denial     = []
 tacOfStage Stage.OnlineOnly = []
@@ -69,7 +69,7 @@ tacOfStage Stage.Online     = 0xDF8122 ∷ []
 abbrev pub stageNeeds : Stage → List ℕ
 stageNeeds stage = 0x95 ∷ 0xDF8121 ∷ tacOfStage stage
 
--- the stage, if all of it is there
+-- the stage, if all of it is present
 abbrev pub stageIfComplete : List ℕ → Deciding → Deciding
 stageIfComplete b Deciding.Nothing = Deciding.Nothing
 stageIfComplete b (Deciding.At stage) =
@@ -103,7 +103,7 @@ abbrev pub explainedByBit : Stage → ActionCodes → LowestBit → Explanation
 explainedByBit stage pair (LowestBit.Bit i) = Explanation.Forced (record { stage = stage; bit = i; holder = bitHolder pair i })
 explainedByBit stage pair LowestBit.NoBit = Explanation.Unforced stage
 
--- what a stage says of the choice
+-- what a stage reports of the choice
 unfoldable pub explainedAt : List ℕ → Stage → Explanation
 explainedAt b stage = explainedByBit stage (actionCodesOfStage b stage) (lowestBit (storedTvr b) (actionCodesOfStage b stage))
 
@@ -118,8 +118,8 @@ explainedWaiting a b (Deciding.At stage) =
 
 -- ---- ended
 
--- the rank of a cryptogram's type, two bits: AAC (00), then ARQC (10), then TC (01); P1 asks for one by the same bits.
--- 9F27 may have a fourth type, which no decision takes; a choice ranks as the type that it asks for (`rankOf` of rank;
+-- the rank of a cryptogram's type, two bits: AAC (00), then ARQC (10), then TC (01); P1 requests one by the same bits.
+-- 9F27 may have a fourth type, which no decision takes; a choice ranks as the type that it requests (`rankOf` of rank;
 -- that the two agree is promised in explain_calls)
 unfoldable pub cryptogramRank : ℕ → ℕ
 cryptogramRank kind =
@@ -127,7 +127,7 @@ cryptogramRank kind =
     else if kind =? 2 then 1
     else 0
 
--- the type of the stored cryptogram, and of the one that a choice asks for
+-- the type of the stored cryptogram, and of the one that a choice requests
 abbrev pub storedCryptogramType : List ℕ → ℕ
 storedCryptogramType b = storedByte b 0x9F27 1 / 64
 
@@ -139,8 +139,8 @@ abbrev pub decidesOutcome : Option Outcome → Outcome → Bool
 decidesOutcome none     outcome = false
 decidesOutcome (some d) outcome = outcomeNumber d =? outcomeNumber outcome
 
--- a decision was reached: 9F27 must be there and give the stored outcome on the choice; a cryptogram lower than the
--- one asked for is the reason then
+-- a decision was reached: 9F27 must be present and give the stored outcome on the choice; a cryptogram lower than the
+-- one requested is the reason then
 abbrev pub explainedDecision : Ending → List ℕ → Deciding → Explanation
 explainedDecision e b Deciding.Nothing = Explanation.Refused
 explainedDecision e b (Deciding.At stage) =
@@ -155,13 +155,13 @@ explainedEnd e b =
     if e .reason =? reasonNone then explainedDecision e b (decidingIn b)
     else Explanation.Reason (e .reason)
 
--- in mag-stripe mode no choice is made (document 02, Item 9). Here the card's side alone: 82 is there with byte 2 b8
--- clear. `magStripeMode` of record is this and that the terminal's DF811B does not say by b8 that the mode is off
+-- in mag-stripe mode no choice is made (document 02, Item 9). Here the card's side alone: 82 is present with byte 2 b8
+-- clear. `magStripeMode` of record is this and that the terminal's DF811B does not indicate by b8 that the mode is off
 -- (`mag-stripe-mode-is` in proofs/Laws); where calls reached a decision the two are the same (`mode` in explain_calls)
 abbrev pub cardAsksMagStripe : List ℕ → Bool
 cardAsksMagStripe b = hasObject b 0x82 and not (emvMode b)
 
--- ended so with reason 0, nothing else of the record is looked at
+-- ended so with reason 0, nothing else of the record is examined
 unfoldable pub explainedEndBy : Ending → List ℕ → Explanation
 explainedEndBy e b =
     if e .reason =? reasonNone and cardAsksMagStripe b then Explanation.NoChoice
@@ -169,7 +169,7 @@ explainedEndBy e b =
 
 -- ---- the answer
 
--- by the phase: there is no choice before the cryptogram is asked for, and none on the checksum
+-- by the phase: there is no choice before the cryptogram is requested, and none on the checksum
 abbrev pub explainedInPhase : Phase → List ℕ → Explanation
 explainedInPhase Phase.Fresh          b = Explanation.NoChoice
 explainedInPhase Phase.Gpo            b = Explanation.NoChoice
@@ -178,7 +178,7 @@ explainedInPhase (Phase.Cryptogram a) b = explainedWaiting a b (decidingIn b)
 explainedInPhase (Phase.Checksum c)   b = Explanation.NoChoice
 explainedInPhase (Phase.Ended e)      b = explainedEndBy e b
 
--- a record that breaks its ranges is refused, and so is one that lacks what the answer needs, or whose choice or
+-- a record that is out of its ranges is refused, and so is one that lacks what the answer needs, or whose choice or
 -- outcome the rest of it does not give (25)
 unfoldable pub explanationOf : Session → Explanation
 explanationOf s =

@@ -56,7 +56,7 @@ pub record NoBitNamed (b : List ℕ) (stage : Stage) : Type 0 where
   pub none : (i : ℕ) → i < 40 → stageHoldsBit (storedTvr b) (actionCodesOfStage b stage) i ≡ false
   pub choice : storedChoice b ≡ choiceUnforcedAt stage
 
--- a lower cryptogram: its type ranks below the one that the choice asks for
+-- a lower cryptogram: its type ranks below the one that the choice requests
 abbrev pub LowerType : List ℕ → Type 0
 LowerType b = cryptogramRank (storedCryptogramType b) < cryptogramRank (requestedType (storedChoice b))
 

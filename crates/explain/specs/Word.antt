@@ -1,5 +1,5 @@
 -- An explanation as one number of 32 bits (docs/HOST.md): the number that stands for each of its cases. Bits 16 to 23
--- tell which it is; a refusal is that of every call.
+-- give the kind; a refusal is that of every call.
 -- Assumes nothing.
 use Prim.Native.Nat.{ℕ, _+_, _*_}
 use Rattle.basics.specs.Reason.{refusedRanges}

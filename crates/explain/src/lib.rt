@@ -1,8 +1,9 @@
-// Tells the cashier why: the stage that decided a session's choice, the lowest bit that forced it, and whether the card's code, the
-// terminal's or both hold that bit. The choice is worked out again from the stored result bits, terminal type and action codes; the
-// session is only looked at.
+// Explains a choice to the cashier: the stage that decided a session's choice, the lowest bit that forced it, and
+// whether the card's code, the terminal's or both hold that bit. The choice is recomputed from the stored TVR, terminal
+// type and action codes; the session is only read.
 //
-// `explain` takes a session by value, `explain_in` its parts with the store shared. `explanation_word` is the number of an explanation.
+// `explain` takes a session by value, `explain_in` its parts with the store shared. `explanation_word` is the number of
+// an explanation.
 use analysis::choice::{OnlineCapability, Choice, LowestBit, ActionCodes, DEFAULT, DENIAL, ONLINE};
 use dictionary::{ROW_AIP, ROW_TVR, ROW_CID, ROW_TAC_DEFAULT, ROW_TAC_DENIAL, ROW_TAC_ONLINE};
 use session_record::{RequestedCryptogram, Ending, Outcome, Phase, Session};
@@ -27,7 +28,7 @@ pub enum Stage {
     Online,
 }
 
-// The stage that decided, or nothing where a store lacks what tells it.
+// The stage that decided, or nothing where a store lacks what determines it.
 pub enum Deciding {
     At(Stage),
     Nothing,
@@ -41,15 +42,15 @@ pub enum Holder {
     Both,
 }
 
-// A bit that forced a choice: 0 is byte 1 b8 of the result, 39 is byte 5 b1.
+// A bit that forced a choice: 0 is byte 1 b8 of the TVR, 39 is byte 5 b1.
 pub struct Cause {
     pub stage: Stage,
     pub bit: u8,
     pub holder: Holder,
 }
 
-// Why a session is where it is: refused with 25; ended with a reason other than 0; no choice yet; a cryptogram lower than the one that
-// was asked for; a bit that forced the choice; or the stage consulted last, where no bit did.
+// Why a session is where it is: refused with 25; ended with a reason other than 0; no choice yet; a cryptogram lower
+// than the one that was requested; a bit that forced the choice; or the stage consulted last, where no bit did.
 pub enum Explanation {
     Refused,
     Reason(u8),
@@ -120,7 +121,7 @@ fn ended_by(end: Ending, bytes: &[u8]) -> Explanation
     ended(end, bytes)
 }
 
-// 82 is there with byte 2 b8 clear.
+// 82 is present with byte 2 b8 clear.
 fn card_asks_mag_stripe(bytes: &[u8]) -> bool
     ensures { λ r. ⌜ r ≡ cardAsksMagStripe (now (bytes .entry)) ⌝ }
 {
@@ -155,7 +156,7 @@ fn ended(end: Ending, bytes: &[u8]) -> Explanation
     reason_at(stage, bytes)
 }
 
-// Whether a type of cryptogram decides on an outcome, by what was asked for.
+// Whether a type of cryptogram decides on an outcome, by what was requested.
 fn decides(choice: Choice, kind: u8, outcome: Outcome) -> bool
     ensures { λ r. ⌜ r ≡ decidesOutcome (cryptogramOutcome choice kind) outcome ⌝ }
 {
@@ -177,7 +178,7 @@ fn cryptogram_rank(kind: u8) -> u8
     }
 }
 
-// The stored result bits.
+// The stored TVR.
 fn result_in(bytes: &[u8]) -> [u8; 5]
     ensures { λ r. ⌜ r ≡ storedTvr (now (bytes .entry)) ⌝ }
 {
@@ -191,7 +192,7 @@ fn choice_in(bytes: &[u8]) -> Choice
     analysis::action::choice_for(bytes, result_in(bytes))
 }
 
-// The stage that decided, if what the stages consulted need is there.
+// The stage that decided, if what the stages consulted need is present.
 fn deciding_in(bytes: &[u8]) -> Deciding
     ensures { λ r. ⌜ r ≡ decidingIn (now (bytes .entry)) ⌝ }
 {
@@ -253,7 +254,7 @@ fn pair_at(stage: Stage, bytes: &[u8]) -> ActionCodes
     }
 }
 
-// What the stage that decided says: its lowest bit and who holds it, or that it holds none.
+// What the stage that decided reports: its lowest bit and who holds it, or that it holds none.
 fn reason_at(stage: Stage, bytes: &[u8]) -> Explanation
     ensures { λ r. ⌜ r ≡ explainedAt (now (bytes .entry)) stage ⌝ }
 {

@@ -1,6 +1,7 @@
--- From a fresh session on no list of calls leads to a refusal, and what is explained is the choice that was handed out. What every call
--- keeps: while the cryptogram is awaited, the choice that is held is the one of the store, and what it goes by is as it was. So a decision
--- is explained unless its answer brought a code; two inductions over the calls, each by the same cases, carry both.
+-- From a fresh session on no list of calls leads to a refusal, and what is explained is the choice that was handed out.
+-- What every call keeps: while the cryptogram is awaited, the choice that is held is the one of the store, and what it
+-- goes by is as it was. So a decision is explained unless its answer brought a code; two inductions over the calls,
+-- each by the same cases, carry both.
 -- Assumes nothing.
 use mathlib.Core.Path.{_≡_, refl, sym, ap, ap₂, subst, _∙_}
 use mathlib.Core.Bool.{Bool, true, false, not}
@@ -238,7 +239,7 @@ module _ (s : Session) (card buf : List ℕ) (i : inRanges s ≡ true) where
   gpo-leaves b y (GpoWay.first r m a e) =
       early s c buf (recordPhase (transactionLimit b) 1) b (readRecordCommand r) refl refl (λ z. y) (record-command r) (λ z. no-refusal z)
 
-  -- the cryptogram is asked for: the choice is the one of the store that the analysis leaves
+  -- the cryptogram is requested: the choice is the one of the store that the analysis leaves
   asked-leaves : (m : ℕ) (b x : List ℕ) → length b ≡ storeSize → isEarly (s .phase) ≡ true → generateAc (generateAcP1 (requestedCryptogram m b .choice)) (withFindings b (findingsOf b)) ≡ some x
       → Leaves s c (commandStep (s .count) (withFindings b (findingsOf b)) (Phase.Cryptogram (requestedCryptogram m b)) x buf)
   asked-leaves m b x l y g k =
@@ -266,7 +267,7 @@ module _ (s : Session) (card buf : List ℕ) (i : inRanges s ≡ true) where
   records-leaves m b l y RecordsWay.unlisted = failed s c buf _ reasonDol _ (record { least = omega arith; most = omega arith })
   records-leaves m b l y (RecordsWay.asked x f g) = asked-leaves m b x l y g
 
-  -- the checksum is asked for: no choice is made
+  -- the checksum is requested: no choice is made
   mag-stripe-leaves : {st : Step} (m : ℕ) (b : List ℕ) → MagStripeWay m (ways.withStore s b) buf st → Leaves s c st
   mag-stripe-leaves m b (MagStripeWay.failed n r) = failed s c buf _ n b r
   mag-stripe-leaves m b (MagStripeWay.asked x f g) =
@@ -339,7 +340,7 @@ call-leaves s (answer card buf) i h = answer-leaves s card buf i h
 call-leaves s (link-failed buf) i h = broken-leaves s (link-failed buf) reasonLink buf (record { least = omega arith; most = omega arith })
 call-leaves s (stop buf) i h = broken-leaves s (stop buf) reasonStopped buf (record { least = omega arith; most = omega arith })
 
--- one call, and what holds of the calls behind it
+-- one call, and what holds of the calls after it
 one-call : (s : Session) (c : Call) (d : Bool) → Left s (callStep s c) ⊎ After s c (callStep s c) → Held s → Answers d s → (tk : List CallMade) (f : Session)
     → ((x : Bool) → Held (callStep s c .reply .session) → Answers x (callStep s c .reply .session) → Answers (by x iacBrought (lastElement tk)) f)
     → Answers (by d iacBrought (lastElement (if (isRefusal (callStep s c .reply .answer)) tk (callMade s c (callStep s c) ∷ tk)))) f
@@ -373,7 +374,7 @@ by-last-is : (x : Option CallMade) → by false iacBrought x ≡ iacBroughtLast 
 by-last-is none = refl
 by-last-is (some m) = refl
 
--- one call, and what is traced of it and of the calls behind it
+-- one call, and what is traced of it and of the calls after it
 one-trace : (s : Session) (c : Call) (d : Bool) → Left s (callStep s c) ⊎ After s c (callStep s c) → (ps : List ℕ) (qs : List (List ℕ)) → Traced ps qs d s
     → (tk : List CallMade) (xs : List (List ℕ)) (us : List (List ℕ)) (f : Session)
     → ((x : Bool) → Traced (ps ++ p1s (sentBy (callStep s c))) (qs ++ storesBy (callStep s c)) x (callStep s c .reply .session)

@@ -1,6 +1,6 @@
 -- What calls keep of a choice: P1 of the GENERATE AC that was handed out, the store that it left, and that since then
--- what the choice goes by has not changed. So what explain says of the final store it says of that one, and each clause
--- on the choice follows.
+-- what the choice goes by has not changed. So what explain reports of the final store it says of that one, and each
+-- clause on the choice follows.
 -- Assumes nothing.
 use mathlib.Core.Path.{_≡_, refl, sym, ap, ap₂, subst, _∙_}
 use mathlib.Core.Bool.{Bool, true, false, not}
@@ -90,7 +90,7 @@ p1s-append xs ys = ap (map third) (generate-append xs ys) ∙ map-append third (
     third : List ℕ → ℕ
     third c = getD c 2 0
 
--- what stands in the front of a buffer, where a command x was put there
+-- what is at the front of a buffer, where a command x was put there
 put-in : (x buf : List ℕ) → take (length x) (x ++ drop (length x) buf) ≡ x
 put-in x buf = take-at x (drop (length x) buf) (length x) refl
 
@@ -257,7 +257,7 @@ module _ (ps : List ℕ) (qs : List (List ℕ)) where
           Traced (ps ++ p1s cs) (qs ++ map (λ (c : List ℕ). storeBytes (st .reply .session)) (generateAcs cs)) d
           (st .reply .session)
 
-  -- the commands of one call, and of those behind it
+  -- the commands of one call, and of those after it
   pub joined : (xs ys : List (List ℕ)) (us vs : List (List ℕ)) {code : Bool} {s : Session}
       → Traced ((ps ++ p1s xs) ++ p1s ys) ((qs ++ us) ++ vs) code s
       → Traced (ps ++ p1s (xs ++ ys)) (qs ++ (us ++ vs)) code s
@@ -266,7 +266,7 @@ module _ (ps : List ℕ) (qs : List (List ℕ)) where
       (append-assoc ps (p1s xs) (p1s ys) ∙ ap (λ (l : List ℕ). ps ++ l) (sym (p1s-append xs ys)))
       (subst (λ (l : List (List ℕ)). Traced ((ps ++ p1s xs) ++ p1s ys) l code s) (append-assoc qs us vs) t)
 
--- ---- what explain says of the store, it says of the one at the time of the choice
+-- ---- what explain reports of the store, it says of the one at the time of the choice
 
 -- of the holder
 card-of : (x y : Bool) → isCard (holderBy x y) ≡ x

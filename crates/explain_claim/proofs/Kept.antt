@@ -1,6 +1,6 @@
--- What calls leave of what the choice goes by: the reading of the answer to GENERATE AC changes no object that the card may not set, so
--- the choice stays unless the answer brings an action code; and the choice that is asked for is the one of the store that the analysis
--- leaves.
+-- What calls leave of what the choice goes by: the reading of the answer to GENERATE AC changes no object that the card
+-- may not set, so the choice stays unless the answer brings an action code; and the choice that is requested is the one
+-- of the store that the analysis leaves.
 -- Assumes nothing.
 use mathlib.Core.Path.{_≡_, refl, sym, ap, ap₂, _∙_}
 use mathlib.Core.Bool.{Bool, true, false, not}
@@ -174,7 +174,7 @@ module _ (b : List ℕ) (l : length b ≡ storeSize) where
         online-code = other 0x9F0F rowIacOnline at-9F0F (λ z. omega arith) (λ z. omega arith);
       }
 
-  -- the choice that is asked for is the one of the store that the analysis leaves
+  -- the choice that is requested is the one of the store that the analysis leaves
   pub asked-choice : (l : ℕ) → requestedCryptogram l b .choice ≡ storedChoice analysed
   unfolding requestedCryptogram
   asked-choice l = sym (same-chosen b analysed terminal card (firstBytes 5 (storedBytes analysed 0x95)) ∙ ap (choiceFor b) bits)

@@ -1,8 +1,8 @@
--- What explain says of a session that calls lead to (document 02, Item 7), from a fresh session on. It is never 25, and
--- the choice, the stage, the bit and the holder that it names are those of the store on which GENERATE AC was handed
--- out. Left out is where the answer to GENERATE AC ended the session with reason 0 and itself brought an action code of
--- the card that was absent, in a 70 inside its 77, as document 01 allows: the choice was made without that code, and
--- what the final store gives is answered, 25 or not.
+-- What explain reports of a session that calls lead to (document 02, Item 7), from a fresh session on. It is never 25,
+-- and the choice, the stage, the bit and the holder that it names are those of the store on which GENERATE AC was
+-- handed out. Left out is where the answer to GENERATE AC ended the session with reason 0 and itself brought an action
+-- code of the card that was absent, in a 70 inside its 77, as document 01 allows: the choice was made without that
+-- code, and what the final store gives is answered, 25 or not.
 -- Assumes nothing.
 use mathlib.Core.Path.{_≡_}
 use mathlib.Core.Bool.{Bool, true, false, not}
@@ -55,7 +55,7 @@ isDecided (Phase.Cryptogram a) = false
 isDecided (Phase.Checksum c)   = false
 isDecided (Phase.Ended e)      = e .reason =? reasonNone
 
--- an object that was absent is there
+-- an object that was absent is present
 abbrev pub bringsObject : List ℕ → List ℕ → ℕ → Bool
 bringsObject before after tag = lacksObject before tag and hasObject after tag
 
@@ -81,7 +81,7 @@ endsWithCode ms = iacBroughtLast (lastElement (callsAccepted ms))
 
 -- ---- the choice that was handed out
 
--- the GENERATE AC commands among commands: 80 AE in front
+-- the GENERATE AC commands among commands: 80 AE at the front
 unfoldable pub generateAcs : List (List ℕ) → List (List ℕ)
 generateAcs [] = []
 generateAcs (c ∷ cs) =
@@ -106,7 +106,7 @@ pub record AtChoice (ms : List CallMade) (P : List ℕ → Type 0) : Type 0 wher
 
 -- ---- what decided on a store (document 01, "Result bits and the choice"), by TVR, type and codes alone
 
--- the result bits, TVR
+-- the TVR
 abbrev pub tvrIn : List ℕ → List ℕ
 tvrIn b = firstBytes 5 (storedBytes b 0x95)
 
@@ -170,8 +170,8 @@ pub record HeldBy (c : Cause) (b : List ℕ) : Type 0 where
 abbrev pub hasChoice : Session → Bool
 hasChoice s = awaitsCryptogram (s .phase) or isDecided (s .phase) and not (magStripeMode (storeBytes s))
 
--- the choice that is explained: the one that a bit of the stage forces, or that is left without; with a lower cryptogram
--- the one that the store gives; the other explanations are of none
+-- the choice that is explained: the one that a bit of the stage forces, or that is left without; with a lower
+-- cryptogram the one that the store gives; the other explanations are of none
 abbrev pub explainedChoice : List ℕ → Explanation → Option Choice
 explainedChoice b Explanation.Refused          = none
 explainedChoice b (Explanation.Reason n)       = none
@@ -211,15 +211,16 @@ pub record ExplainedSession (ms : List CallMade) (s : Session) : Type 0 where
       → AtChoice ms (NoneAt stage)
   -- the holder named is whose code had the bit then
   pub holder : endsWithCode ms ≡ false → (c : Cause) → explanationOf s ≡ Explanation.Forced c → AtChoice ms (HeldBy c)
-  -- a lower cryptogram ranks below the choice whose P1 was handed out; where a stage is named, the one that came does not
+  -- a lower cryptogram ranks below the choice whose P1 was handed out; where a stage is named, the one that
+  -- came does not
   pub lower : endsWithCode ms ≡ false → explanationOf s ≡ Explanation.LowerCryptogram → (choice : Choice)
       → p1s (commandsSent ms) ≡ generateAcP1 choice ∷ [] → cryptogramRank (storedCryptogramType (storeBytes s)) < choiceRank choice
   pub not-lower : endsWithCode ms ≡ false → isDecided (s .phase) ≡ true
       → (stage : Stage) → explainedStage (explanationOf s) ≡ some stage → (choice : Choice)
       → p1s (commandsSent ms) ≡ generateAcP1 choice ∷ [] → choiceRank choice ≤ cryptogramRank (storedCryptogramType (storeBytes s))
-  -- where a decision was reached, the card asks for mag-stripe mode exactly where the session is in it
+  -- where a decision was reached, the card requests mag-stripe mode exactly where the session is in it
   pub mode : isDecided (s .phase) ≡ true → cardAsksMagStripe (storeBytes s) ≡ magStripeMode (storeBytes s)
 
--- one rank: a choice ranks as the type of cryptogram that it asks for
+-- one rank: a choice ranks as the type of cryptogram that it requests
 abbrev pub OneRank : Type 0
 OneRank = (choice : Choice) → cryptogramRank (requestedType choice) ≡ choiceRank choice

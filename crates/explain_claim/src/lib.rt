@@ -1,6 +1,7 @@
-// What is explained over a list of calls: no list leads to a session that cannot be explained, and the choice, the stage, the bit and the
-// holder are those of the GENERATE AC that was handed out, but where the last answer brought an action code of the card. Also that the rank
-// of a choice is that of the cryptogram that it asks for. The statements are in specs/Explained, the proofs in proofs/.
+// What is explained over a list of calls: no list leads to a session that cannot be explained, and the choice, the
+// stage, the bit and the holder are those of the GENERATE AC that was handed out, but where the last answer brought an
+// action code of the card. Also that the rank of a choice is that of the cryptogram that it requests. The statements
+// are in specs/Explained, the proofs in proofs/.
 use explain::Explanation;
 ghost use mathlib.Core.Path.{_≡_};
 ghost use mathlib.Core.Bool.{true};

@@ -1,4 +1,5 @@
--- Worked searches, by computation: each rule on both sides of its edge, as the word that a host gets (place, then length).
+-- Worked searches, by computation: each rule on both sides of its edge, as the word that a host gets (place,
+-- then length).
 -- Assumes nothing.
 use mathlib.Core.Path.{_≡_, refl}
 use mathlib.Core.List.{List, [], _∷_, _++_, map}
@@ -23,7 +24,8 @@ none = 0xFFFFFFFFFFFFFFFF
 abbrev malformed : ℕ
 malformed = 0xFFFFFFFFFFFFFFFE
 
--- an answer to SELECT: 6F with 84 and, in A5, 9F38; a template's own tag, one in it, one two levels deep, and one that is not there
+-- an answer to SELECT: 6F with 84 and, in A5, 9F38; a template's own tag, one in it, one two levels deep, and one that
+-- is not present
 abbrev selected : List ℕ
 selected = 0x6F ∷ 0x0A ∷ 0x84 ∷ 0x02 ∷ 0xA0 ∷ 0x00 ∷ 0xA5 ∷ 0x04 ∷ 0x9F ∷ 0x38 ∷ 0x01 ∷ 0xAA ∷ []
 
@@ -32,7 +34,7 @@ places : map (word selected) (0x6F ∷ 0x84 ∷ 0xA5 ∷ 0x9F38 ∷ 0x4F ∷ [])
 unfolding findTag findTagIn recurse recurseBy nextOf headerOf tagAt tagSize tagSecondByte lengthAt tagFirstByte isTemplate isPrivate bigEndianFrom if firstFound foundShifted
 places = refl
 
--- no bytes; the first of two; one in a template before the one behind it; an empty one
+-- no bytes; the first of two; one in a template before the one after it; an empty one
 abbrev firsts : List (List ℕ)
 firsts =
     []
@@ -57,7 +59,7 @@ levels : map (λ s. word s 0x84) nests ≡ 0x0000000A00000000 ∷ malformed ∷ 
 unfolding findTag findTagIn recurse recurseBy nextOf headerOf tagAt tagSize lengthAt tagFirstByte isTemplate isPrivate bigEndianFrom if firstFound foundShifted
 levels = refl
 
--- malformed behind the object that is found, in a template behind it, and within the template that is found
+-- malformed after the object that is found, in a template after it, and within the template that is found
 abbrev tails : List (List ℕ)
 tails =
     (0x84 ∷ 0x01 ∷ 0x11 ∷ 0x85 ∷ [])
@@ -78,7 +80,7 @@ lengths : map (λ s. word s 0x84) longest ≡ 0x000000040000FFFB ∷ malformed �
 unfolding findTag findTagIn recurse recurseBy nextOf headerOf tagAt tagSize lengthAt lengthTwoBytes tagFirstByte isTemplate isPrivate bigEndianFrom if firstFound foundShifted
 lengths = refl
 
--- padding: in front of 6F, in front of 84, in A5 and behind all; places count it. A value of a template begins with its padding
+-- padding: before 6F, before 84, in A5 and after all; places count it. A value of a template begins with its padding
 abbrev spaced : List ℕ
 spaced = 0x00 ∷ 0x6F ∷ 0x0C ∷ 0x00 ∷ 0x84 ∷ 0x02 ∷ 0xA0 ∷ 0x00 ∷ 0xA5 ∷ 0x05 ∷ 0x00 ∷ 0x9F ∷ 0x38 ∷ 0x01 ∷ 0xAA ∷ 0x00 ∷ []
 

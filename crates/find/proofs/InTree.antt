@@ -1,5 +1,5 @@
--- What is found is what the tree says, by induction over shorter bytes: at each thing that can be next, parse and search take the same
--- parts, and a place found in a part is one of the whole, so many bytes further on.
+-- What is found is what the tree says, by induction over shorter bytes: at each thing that can be next, parse and
+-- search take the same parts, and a place found in a part is one of the whole, so many bytes further on.
 -- Assumes nothing.
 use mathlib.Core.Path.{_≡_, refl, sym, ap, subst, subst⁻¹, _∙_}
 use mathlib.Core.Bool.{Bool, true, false}
@@ -61,7 +61,7 @@ module _ (b s : List ℕ) (n : ℕ) (further : (v : TreeValue) (p : ValueSpan) �
   earlier p none y f = ap (λ (x : TagFound). firstFound (At p) (foundShifted n x)) f
   earlier p (some v) y f = ap (λ (x : TagFound). firstFound (At p) (foundShifted n x)) (f .1 .0)
 
--- ---- one object and what is behind it
+-- ---- one object and what is after it
 
 module _ (tag : ℕ) (s : List ℕ) (h : TlvHeader) (fits : HeaderFits s h) where
   abbrev own : TagFound
@@ -94,7 +94,7 @@ module _ (tag : ℕ) (s : List ℕ) (h : TlvHeader) (fits : HeaderFits s h) wher
   leaf-told none y f = ap (λ (r : TagFound). firstFound own (foundShifted stop r)) f ∙ ap (firstFound own) (shift-malformed stop) ∙ first-malformed own
   leaf-told (some r) y f = leaf-finds (firstInTree tag r) y f
 
-  -- what a template holds, and what is behind it
+  -- what a template holds, and what is after it
   abbrev both : TagFound → TagFound → TagFound
   both i y = firstFound (foundShifted (h .start) i) (foundShifted stop y)
 

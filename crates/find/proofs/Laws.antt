@@ -1,5 +1,5 @@
--- The laws of finds and of the search. Finds one behind the other make a monoid, with `Absent` as unit, that a shift keeps; each object
--- is shorter than its list, so the search unrolls, with one law for each thing that can be next.
+-- The laws of finds and of the search. Finds concatenated make a monoid, with `Absent` as unit, that a shift keeps;
+-- each object is shorter than its list, so the search unrolls, with one law for each thing that can be next.
 -- Assumes nothing.
 use mathlib.Core.Path.{_≡_, refl, sym, ap, ap₂, _∙_}
 use mathlib.Core.Bool.{Bool, true, false}
@@ -24,7 +24,7 @@ use Rattle.find.specs.declared.TagFound.{TagFound}
 use Rattle.find.specs.declared.TagFound.the-variants.{At, Absent, Malformed}
 use Rattle.find.specs.Find.{valueSpan, foundHere, firstFound, foundShifted, foundItself, foundNested, foundWithin, foundAfter, foundFromNext, findNext, findTagIn}
 
--- ---- finds, one behind the other
+-- ---- finds, concatenated
 
 pub first-absent : (a : TagFound) → firstFound a Absent ≡ a
 unfolding firstFound
@@ -144,11 +144,11 @@ module _ (tag l : ℕ) (s : List ℕ) where
     abbrev rest : TagFound
     rest = foundShifted (h .start + h .len) (findTagIn tag l (behindObject s h))
 
-    -- a primitive object: itself, then what is behind it
+    -- a primitive object: itself, then what is after it
     pub found-leaf : h .template ≡ false → findTagIn tag l s ≡ firstFound own rest
     found-leaf t = at (following.Inner h) e ∙ ap (λ (x : TagFound). firstFound own (firstFound x rest)) (if-no _ _ t) ∙ ap (firstFound own) (absent-first rest)
 
-    -- a template: itself, then what it holds with a level less, then what is behind it
+    -- a template: itself, then what it holds with a level less, then what is after it
     pub found-node : h .template ≡ true → (l ≡ 0 → ⊥)
         → findTagIn tag l s ≡ firstFound own (firstFound (foundShifted (h .start) (findTagIn tag (l - 1) (headerValue s h))) rest)
     found-node t n =

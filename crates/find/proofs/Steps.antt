@@ -1,5 +1,6 @@
--- The walk over the objects, on lists and numbers. What is left, innermost template first, is a find for the rest of each open level
--- (`left`); the invariant (`Reached`): what was found, before what is left, is what the search finds in all bytes.
+-- The walk over the objects, on lists and numbers. What is left, innermost template first, is a find for the rest of
+-- each open level (`left`); the invariant (`Reached`): what was found, before what is left, is what the search finds
+-- in all bytes.
 -- Assumes nothing.
 use mathlib.Core.Path.{_≡_, refl, sym, ap, ap₂, subst, _∙_}
 use mathlib.Core.Bool.{true, false}
@@ -98,7 +99,7 @@ module _ (s : List ℕ) (tag : ℕ) where
   abbrev level : ℕ → ℕ → ℕ → TagFound
   level n a e = foundShifted a (findTagIn tag (4 - n) (part s a e))
 
-  -- behind the open templates
+  -- after the open templates
   unfoldable pub outer : ℕ → List ℕ → TagFound
   outer e [] = Absent
   outer e (x ∷ r) = firstFound (level (length r) e x) (outer x r)
@@ -156,7 +157,7 @@ module _ (s : List ℕ) (tag : ℕ) where
           ∙ ap (λ (x : TagFound). firstFound x rest) (shift-first a _ _ ∙ ap₂ firstFound (shift-here a _ _ _) (shift-first a _ _ ∙ ap₂ firstFound v behind-at))
           ∙ first-assoc own _ rest ∙ ap (firstFound own) (first-assoc (level (suc (length r)) start stop) (level (length r) stop e) rest)
 
--- ---- the invariant, and each turn of the walk
+-- ---- the invariant, and each iteration of the walk
 
 pub record Reached (s : List ℕ) (tag : ℕ) (ends : List ℕ) (depth a e : ℕ) (f : TagFound) : Type 0 where
   pub four : length ends ≡ 4

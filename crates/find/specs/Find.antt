@@ -18,15 +18,15 @@ use Rattle.find.specs.declared.TagFound.the-variants.{At, Absent, Malfor
 
 -- ---- what a search finds
 
--- a value of n bytes whose first stands at place a, counted from 0
+-- a value of n bytes whose first is at place a, counted from 0
 abbrev pub valueSpan : ℕ → ℕ → ValueSpan
 valueSpan a n = record { start = a; len = n }
 
--- that value, where the tag is the one looked for
+-- that value, where the tag is the one searched for
 abbrev pub foundHere : Bool → ℕ → ℕ → TagFound
 foundHere same a n = if same then At (valueSpan a n) else Absent
 
--- of two parts, one behind the other: what the first has, else what the second has; malformed where either is
+-- of two concatenated parts: what the first has, else what the second has; malformed where either is
 unfoldable pub firstFound : TagFound → TagFound → TagFound
 firstFound Malformed r = Malformed
 firstFound (At p) Malformed = Malformed
@@ -34,7 +34,7 @@ firstFound (At p) Absent = At p
 firstFound (At p) (At q) = At p
 firstFound Absent r = r
 
--- the same, with n bytes more in front
+-- the same, with n more bytes before it
 unfoldable pub foundShifted : ℕ → TagFound → TagFound
 foundShifted n Malformed = Malformed
 foundShifted n (At p) = At (valueSpan (n + p .start) (p .len))
@@ -57,11 +57,11 @@ foundWithin k s levels h =
     if h .template then foundShifted (h .start) (foundNested (k (headerValue s h)) levels)
     else Absent
 
--- what k finds behind an object
+-- what k finds after an object
 abbrev pub foundAfter : (List ℕ → ℕ → TagFound) → List ℕ → ℕ → TlvHeader → TagFound
 foundAfter k s levels h = foundShifted (h .start + h .len) (k (behindObject s h) levels)
 
--- an object, then what it holds, then what is behind it
+-- an object, then what it holds, then what is after it
 abbrev pub foundFromNext : ℕ → (List ℕ → ℕ → TagFound) → List ℕ → ℕ → Following → TagFound
 foundFromNext tag k s levels following.End = Absent
 foundFromNext tag k s levels following.Malformed = Malformed

@@ -1,4 +1,4 @@
--- What a private function asks of its caller. No rule stands here: a reader of the rules can pass it over.
+-- What a private function requires of its caller. This file states no rule: a reader of the rules can skip it.
 -- `find-inside` in proofs/InTree says that it holds of whatever is found.
 -- Assumes nothing.
 use Prim.Native.Nat.{_+_, _≤_}

@@ -1,7 +1,7 @@
-// The first object of a tag in a card's bytes: where its value stands and how long it is.
+// The first object of a tag in a card's bytes: where its value is and how long it is.
 //
-// The bytes are read as the contents of a template are, at most 65,535 of them and templates at most four
-// levels deep. `find` says the place; `find_word` says it as one word, for a host in C.
+// The bytes are read as the contents of a template are, at most 65,535 of them and templates at most four levels deep.
+// `find` reports the place; `find_word` reports it as one word, for a host in C.
 use tlv::Following;
 ghost use mathlib.Core.Path.{_≡_};
 ghost use Rattle.find.specs.Find.{foundHere, firstFound, findTagIn, findTag};
@@ -9,7 +9,7 @@ ghost use Rattle.find.specs.InTree.{FindsTag, cardTree};
 ghost use Rattle.find.specs.Word.{findWord};
 ghost use Rattle.find.specs.Inner.{SpanFits};
 
-// The most bytes that are looked through.
+// The most bytes that are searched.
 pub const MOST: usize = 65535;
 
 // How many levels of templates may nest.
@@ -21,7 +21,7 @@ pub const NONE: u64 = 0xFFFFFFFFFFFFFFFF;
 // The word of malformed bytes.
 pub const BROKEN: u64 = 0xFFFFFFFFFFFFFFFE;
 
-// Where a value stands: its first byte, counted from 0, and how many there are.
+// Where a value is: its first byte, counted from 0, and how many there are.
 pub struct ValueSpan {
     pub start: usize,
     pub len: usize,
@@ -107,7 +107,7 @@ fn walk(bytes: &[u8], tag: u32) -> TagFound
     }
 }
 
-// What was found before, or else the value here, where the tag is the one looked for.
+// What was found before, or else the value here, where the tag is the one searched for.
 fn first(found: TagFound, same: bool, start: usize, len: usize) -> TagFound
     ensures { λ r. ⌜ r ≡ firstFound found (foundHere same start len) ⌝ }
 {

@@ -1,4 +1,5 @@
--- The words of an object read back, of an explanation and of the version, computed: a wrong number is refused even where definition and code agree on it.
+-- The words of an object read back, of an explanation and of the version, computed: a wrong number is refused even
+-- where definition and code agree on it.
 -- Assumes nothing.
 use mathlib.Core.Path.{_≡_, refl}
 use mathlib.Core.List.{List, [], _∷_}
@@ -27,7 +28,8 @@ absent : objectCopiedFrom [] 0x50 (7 ∷ []) ≡ wordAlone 0x30000 (7 ∷ [])
 unfolding objectCopiedFrom if dictionaryRows findRow rowPast objectValueIn rowValue rowPlace placeValue rowOffset
 absent = refl
 
--- 50, the first row, of two bytes: one lent byte is too few, two are enough, the third stays; and 50 that is there and empty
+-- 50, the first row, of two bytes: one byte of the caller's is too few, two are enough, the third stays; and 50 that is
+-- present and empty
 needed : objectCopiedFrom (3 ∷ 0xA1 ∷ 0xA2 ∷ 0xA3 ∷ []) 0x50 (7 ∷ []) ≡ wordAlone 0x50002 (7 ∷ [])
 unfolding objectCopiedFrom if dictionaryRows findRow rowPast objectValueIn rowValue rowPlace placeValue rowOffset
 needed = refl

@@ -1,5 +1,5 @@
--- What holds of every call over lent bytes: how it comes about, that a refusal leaves all lent bytes as they were, and that its word tells
--- a command, an outcome and a refusal apart.
+-- What holds of every call over the caller's bytes: how it comes about, that a refusal leaves all of the caller's bytes
+-- as they were, and that its word tells a command, an outcome and a refusal apart.
 -- Assumes nothing.
 use mathlib.Core.Path.{_≡_, refl, sym, ap, subst⁻¹, _∙_}
 use mathlib.Core.Bool.{Bool, true, false}
@@ -94,7 +94,7 @@ module _ (step : Session → List ℕ → Step) (l buf : List ℕ) where
           buffer = did .buffer;
         })
 
-    -- the same of a call that only looks at the store
+    -- the same of a call that only examines the store
     pub over-kept : (w : ℕ) (l′ b′ : List ℕ) (t : Transition)
         → DidStep (replyOf t (take storeSize (drop headSize l))) b′ (step (sessionOf (h .phase) (h .count) (take storeSize (drop headSize l))) buf)
         → (w ≡ resultWord (t .answer)) × (l′ ≡ withRecordHead (t .phase) (t .count) l) → DidHostCall w l′ b′ (hostStepAdmitted step l buf)
@@ -115,7 +115,7 @@ tells (CallResult.Command c) h = let e = command-length (c .size) (omega arith) 
 tells (CallResult.Outcome e) h = (refl, outcome-kind e (omega arith))
 tells (CallResult.Refused r) h = (refl, refusal-kind (r .number) (omega arith))
 
--- ---- a refusal leaves all lent bytes as they were
+-- ---- a refusal leaves all of the caller's bytes as they were
 
 pub record Kept (l buf : List ℕ) (h : HostResult) : Type 0 where
   pub session : h .session ≡ l

@@ -1,5 +1,5 @@
--- What holds of an object read back, way by way as the code takes it, and that a value has at most 254 bytes, so that its word tells which
--- of the five it is; and of bytes that are wiped one by one: they hold no record.
+-- What holds of an object read back, way by way as the code takes it, and that a value has at most 254 bytes, so that
+-- its word determines which of the five it is; and of bytes that are wiped one by one: they hold no record.
 -- Assumes nothing.
 use mathlib.Core.Path.{_≡_, refl, sym, ap, subst⁻¹, _∙_}
 use mathlib.Core.Bool.{Bool, true, false, not}
@@ -86,7 +86,7 @@ module _ (b : List ℕ) (t : ℕ) (l : List ℕ) where
 
 -- ---- an object of the session that bytes hold
 
--- the session of a record's head and the store behind it
+-- the session of a record's head and the store after it
 pub session-is : (s : List ℕ) (h : RecordHead) → recordHeld (decodedSession s) ≡ RecordHeld.Record h → decodedSession s ≡ some (sessionOf (h .phase) (h .count) (take storeSize (drop headSize s)))
 session-is s h e = was-record (decodedSession s) h [] _ e (sym (ap (λ (x : Option Session). storeOfSession x []) (held-some s h e .1)))
 
@@ -106,7 +106,7 @@ module _ (t : ℕ) (l : List ℕ) where
     unfolding objectOfSession
     object-session f w m d = subst⁻¹ (DidCopyObject w m) (ap (λ (x : Option Session). objectOfSession x t l) (session-is s h e) ∙ if-yes _ _ f) d
 
--- ---- what a word tells
+-- ---- what a word reports
 
 -- no value of a store has more than 254 bytes
 pub bytes-small : (b : List ℕ) (t : ℕ) → length (storedBytes b t) ≤ 254
@@ -116,7 +116,7 @@ bytes-small b t = go (findRow dictionaryRows t) refl
     go RowFound.Unknown e = rw (unknown-absent dictionaryRows b t e) (omega arith)
     go (RowFound.At k) e = rw (by-row dictionaryRows b t k e) (value-small b k (omega (arith, found dictionaryRows t k e .0, rows-length)))
 
--- the value of a tag in front of the lent bytes
+-- the value of a tag at the front of the caller's bytes
 abbrev valued : Session → ℕ → List ℕ → ObjectCopied
 valued s t l = record { word = length (storedBytes (storeBytes s) t); buffer = withPrefix (storedBytes (storeBytes s) t) l }
 
@@ -133,7 +133,7 @@ module _ (s : Session) (t : ℕ) (l : List ℕ) where
       P : ObjectCopied → Type 0
       P c = c .word ≤ 254 → c ≡ valued s t l
 
--- any other word leaves the lent bytes
+-- any other word leaves the caller's bytes
 pub object-kept : (x : Option Session) (t : ℕ) (l : List ℕ) → 254 < objectOfSession x t l .word → objectOfSession x t l .buffer ≡ l
 unfolding objectOfSession objectCopiedFrom
 object-kept none t l = λ h. refl
@@ -148,7 +148,7 @@ object-kept (some s) t l =
 
 -- ---- wiping
 
--- one byte more is wiped
+-- one more byte is wiped
 pub wipe-next : (s : List ℕ) (i : ℕ) → i < length s → take i s ≡ replicate i 0 → take (i + 1) (set s i 0) ≡ replicate (i + 1) 0
 wipe-next s i h e =
     ap (λ (n : ℕ). take n (set s i 0)) (add-one i) ∙ take-suc-set s i 0 h ∙ ap (λ (x : List ℕ). x ++ (0 ∷ [])) e

@@ -1,5 +1,5 @@
--- What a call hands out is small: a command has at most 261 bytes, an outcome has a reason of at most 11, a refusal is at most 25. A number
--- of 16 bits holds each.
+-- What a call hands out is small: a command has at most 261 bytes, an outcome has a reason of at most 11, a refusal is
+-- at most 25. A number of 16 bits holds each.
 -- Assumes nothing.
 use mathlib.Core.List.{List}
 use Prim.Native.Nat.{ℕ, _≤_}

@@ -8,7 +8,7 @@ use Rattle.layout.specs.Word.{refusalWord}
 use Rattle.explain.specs.Explain.{explanationOf}
 use Rattle.explain.specs.Word.{explanationWord}
 
--- the word of an explanation; bytes that hold no record are refused as a record that breaks its ranges
+-- the word of an explanation; bytes that hold no record are refused as a record that is out of its ranges
 abbrev pub explainWord : Option Session → ℕ
 explainWord none     = refusalWord refusedRanges
 explainWord (some s) = explanationWord (explanationOf s)

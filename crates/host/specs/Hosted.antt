@@ -1,5 +1,5 @@
--- A call over bytes that a host lends (docs/HOST.md): the session as a record in front of its bytes, the answer as one
--- word.
+-- A call over bytes that the host provides (docs/HOST.md): the session as a record at the front of its bytes, the
+-- answer as one word.
 -- Assumes nothing.
 use mathlib.Core.Path.{_≡_}
 use mathlib.Core.List.{List}
@@ -18,7 +18,7 @@ use Rattle.layout.specs.Word.{refusalWord, resultWord}
 
 -- ---- what a call leaves
 
--- the word that is returned, and what stands in the two lent slices after
+-- the word that is returned, and the contents of the caller's two slices afterwards
 pub record HostResult : Type 0 where
   pub word : ℕ
   pub session : List ℕ
@@ -30,11 +30,11 @@ pub record DidHostCall (w : ℕ) (l b : List ℕ) (h : HostResult) : Type 0 wher
   pub session : l ≡ h .session
   pub buffer : b ≡ h .buffer
 
--- a refusal leaves all lent bytes as they were
+-- a refusal leaves all of the caller's bytes as they were
 abbrev pub hostRefusal : ℕ → List ℕ → List ℕ → HostResult
 hostRefusal n l buf = record { word = refusalWord n; session = l; buffer = buf }
 
--- a step: its answer's word, its session in front of the lent bytes, its buffer
+-- a step: its answer's word, its session at the front of the caller's bytes, its buffer
 abbrev pub hostStepDone : List ℕ → Step → HostResult
 hostStepDone l st =
     record {
@@ -45,7 +45,7 @@ hostStepDone l st =
 
 -- ---- the four calls, by the step that each takes on a session and a buffer
 
--- no record is refused as one that breaks its ranges
+-- no record is refused as one that is out of its ranges
 abbrev pub hostStepOn : (Session → List ℕ → Step) → List ℕ → List ℕ → Option Session → HostResult
 hostStepOn step l buf none = hostRefusal refusedRanges l buf
 hostStepOn step l buf (some s) = hostStepDone l (step s buf)

@@ -1,5 +1,5 @@
--- What `admit` promises for its callers' proofs: the first two tests of a call over lent bytes, as the code has them.
--- A reader of the rules can pass this over: `over-refused` and `over-step` (proofs/Laws) tie it to `hostStepAdmitted`.
+-- What `admit` promises for its callers' proofs: the first two tests of a call over the caller's bytes, as the code has
+-- them. A reader of the rules can skip this: `over-refused` and `over-step` (proofs/Laws) tie it to `hostStepAdmitted`.
 -- Assumes nothing.
 use mathlib.Core.List.{List}
 use mathlib.Core.Option.{Option, some, none}

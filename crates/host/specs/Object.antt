@@ -1,4 +1,4 @@
--- An object of the dictionary read back from a session's bytes into bytes that are lent for it (docs/HOST.md).
+-- An object of the dictionary read back from a session's bytes into the caller's bytes for it (docs/HOST.md).
 -- Assumes nothing.
 use mathlib.Core.Path.{_≡_}
 use mathlib.Core.Bool.{Bool, true, false, not}
@@ -17,7 +17,7 @@ use Rattle.session_record.specs.Session.{storeBytes}
 use Rattle.session_record.specs.Ranges.{inRanges}
 use Rattle.layout.specs.Word.{refusalWord}
 
--- ---- words beside a length and a refusal
+-- ---- words besides a length and a refusal
 
 -- the object is absent
 abbrev pub absentWord : ℕ
@@ -27,23 +27,23 @@ absentWord = 0x30000
 abbrev pub unknownWord : ℕ
 unknownWord = 0x40000
 
--- fewer bytes are lent than the value has: its length
+-- the caller provides fewer bytes than the value has: its length
 abbrev pub neededWord : ℕ → ℕ
 neededWord n = 0x50000 + n
 
 -- ---- what the call leaves
 
--- the word that is returned, and what stands in the lent bytes after
+-- the word that is returned, and the contents of the caller's bytes afterwards
 pub record ObjectCopied : Type 0 where
   pub word : ℕ
   pub buffer : List ℕ
 
--- the returned word w and the lent bytes l are those of c
+-- the returned word w and the caller's bytes l are those of c
 pub record DidCopyObject (w : ℕ) (l : List ℕ) (c : ObjectCopied) : Type 0 where
   pub word : w ≡ c .word
   pub buffer : l ≡ c .buffer
 
--- a word alone: the lent bytes stay
+-- a word alone: the caller's bytes stay
 abbrev pub wordAlone : ℕ → List ℕ → ObjectCopied
 wordAlone w l = record { word = w; buffer = l }
 
@@ -57,7 +57,8 @@ rowIsFound (RowFound.At k) = true
 abbrev pub tagIsKnown : ℕ → Bool
 tagIsKnown t = rowIsFound (findRow dictionaryRows t)
 
--- the object of a tag in the store b: the tag, then whether it is there, then the room for it; an empty one is there
+-- the object of a tag in the store b: the tag, then whether it is present, then the room for it; an empty
+-- one is present
 unfoldable pub objectCopiedFrom : List ℕ → ℕ → List ℕ → ObjectCopied
 objectCopiedFrom b t l =
     if not (tagIsKnown t) then wordAlone unknownWord l
@@ -65,7 +66,7 @@ objectCopiedFrom b t l =
     else if length l <? length (storedBytes b t) then wordAlone (neededWord (length (storedBytes b t))) l
     else record { word = length (storedBytes b t); buffer = withPrefix (storedBytes b t) l }
 
--- the same of a session, if there is one that keeps its ranges
+-- the same of a session, if there is one that is in its ranges
 unfoldable pub objectOfSession : Option Session → ℕ → List ℕ → ObjectCopied
 objectOfSession none t l = wordAlone (refusalWord refusedRanges) l
 objectOfSession (some s) t l =
@@ -73,5 +74,5 @@ objectOfSession (some s) t l =
     else wordAlone (refusalWord refusedRanges) l
 
 -- what holds of it, proved in proofs/Objects:
---   object-value    a word up to 254 is the length of a value that stands in front of the lent bytes
+--   object-value    a word up to 254 is the length of a value that is at the front of the caller's bytes
 --   object-kept     any other word leaves them

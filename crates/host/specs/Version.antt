@@ -1,4 +1,4 @@
--- The versions that a host can ask for (docs/HOST.md): the library's in three parts, and the record layout's.
+-- The versions that a host can request (docs/HOST.md): the library's in three parts, and the record layout's.
 -- Assumes nothing.
 use Prim.Native.Nat.{ℕ, _+_, _*_}
 use Rattle.layout.specs.Layout.{layoutVersion}

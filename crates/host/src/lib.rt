@@ -1,11 +1,11 @@
 // The calls for a host in C: numbers and byte slices only.
 //
-// The session lies in bytes that the host lends to every call, as the record of `layout`; a call works on
-// the store in its place, and nothing is kept between calls. A call gives one word: a command's length, an outcome with its reason, or a
-// refusal, which leaves all lent bytes as they were. docs/HOST.md has the layout and the words.
+// The session lies in bytes that the host passes to every call, as the record of `layout`; a call works on the store in
+// its place, and nothing is kept between calls. A call gives one word: a command's length, an outcome with its reason,
+// or a refusal, which leaves all of the caller's bytes as they were. docs/HOST.md has the layout and the words.
 //
-// Beside these `emv_explain` tells why, `emv_object` reads an object of the session back, `emv_find` finds one in other
-// bytes of the card, and `emv_wipe` forgets.
+// Besides these `emv_explain` explains why, `emv_object` reads an object of the session back, `emv_find` finds one in
+// other bytes of the card, and `emv_wipe` forgets.
 use dictionary::RowFound;
 use layout::{RecordHead, RecordHeld, HEAD, RECORD_SIZE};
 use session_record::{Phase, Transition};
@@ -32,8 +32,8 @@ pub enum HostAdmission {
 // The count where the bytes hold no record.
 const NO_COUNT: u32 = 0xFFFFFFFF;
 
-// The words of an object that is absent, of a tag that the dictionary does not have, and in front of the length
-// of a value that the lent bytes have no room for.
+// The words of an object that is absent, of a tag that the dictionary does not have, and before the length of a value
+// that the caller's bytes have no room for.
 const ABSENT: u32 = 0x30000;
 const UNKNOWN: u32 = 0x40000;
 const NEEDED: u32 = 0x50000;
@@ -43,7 +43,7 @@ const MAJOR: u32 = 0;
 const MINOR: u32 = 1;
 const PATCH: u32 = 0;
 
-// How many bytes a host lends for a session.
+// How many bytes a host provides for a session.
 #[no_mangle]
 pub extern "C" fn emv_session_size() -> usize
     ensures { λ r. ⌜ r ≡ recordSize ⌝ }
@@ -156,8 +156,8 @@ pub extern "C" fn emv_explain(session: &[u8]) -> u32
     explain::explanation_word(explain::explain_in(phase, head.count, &session[HEAD..RECORD_SIZE]))
 }
 
-// Reads an object of the session back: its length, with the value in front of the lent bytes, or a word that says
-// why not, with all of them as they were.
+// Reads an object of the session back: its length, with the value at the front of the caller's bytes, or a word that
+// states why not, with all of them as they were.
 #[no_mangle]
 pub extern "C" fn emv_object(session: &[u8], tag: u32, value: &mut [u8]) -> u32
     ensures { λ r. ⌜ DidCopyObject r (now (value .exit)) (objectOfSession (decodedSession (now (session .entry))) tag (now (value .entry))) ⌝ }
@@ -181,7 +181,7 @@ pub extern "C" fn emv_find(bytes: &[u8], tag: u32) -> u64
     find::find_word(bytes, tag)
 }
 
-// Writes 0 over all lent bytes, which hold no record then.
+// Writes 0 over all of the caller's bytes, which hold no record then.
 #[no_mangle]
 pub extern "C" fn emv_wipe(session: &mut [u8]) -> u32
     ensures { λ r. ⌜ Wiped r (now (session .entry)) (now (session .exit)) ⌝ }
@@ -216,8 +216,8 @@ fn admit(session: &[u8], size: usize) -> HostAdmission
     }
 }
 
-// Writes the head of a turn in front of the lent bytes, whose store the call left in its place, and gives the
-// word of its answer.
+// Writes the head of a transition at the front of the caller's bytes, whose store the call left in its place, and gives
+// the word of its answer.
 fn finish(transition: Transition, session: &mut [u8]) -> u32
     ensures { λ r. ⌜ (r ≡ resultWord (transition .answer)) × (now (session .exit) ≡ withRecordHead (transition .phase) (transition .count) (now (session .entry))) ⌝ }
 {
@@ -227,7 +227,7 @@ fn finish(transition: Transition, session: &mut [u8]) -> u32
     layout::result_word(answer)
 }
 
-// The object of a tag in a store: the tag, then whether it is there, then the room for it.
+// The object of a tag in a store: the tag, then whether it is present, then the room for it.
 fn object_in(bytes: &[u8], tag: u32, value: &mut [u8]) -> u32
     ensures { λ r. ⌜ DidCopyObject r (now (value .exit)) (objectCopiedFrom (now (bytes .entry)) tag (now (value .entry))) ⌝ }
 {

@@ -1,5 +1,5 @@
--- The accepted AFL: the first answer taken comes while processing options are waited on, and there a command is handed
--- out exactly where the rules give no reason. So the word of that answer says whether its AFL is accepted.
+-- The accepted AFL: the first answer taken comes while the answer to GPO is awaited, and there a command is handed out
+-- exactly where the rules give no reason. So the word of that answer reports whether its AFL is accepted.
 -- Assumes nothing.
 use mathlib.Core.Path.{_≡_, refl, sym, ap, subst, _∙_}
 use mathlib.Core.Bool.{Bool, false}
@@ -25,7 +25,7 @@ use Rattle.host_claim.specs.Words.{isCommandWord, aflRead, hostAfl}
 use Rattle.host_claim.specs.Claim.{asCompleted}
 use Rattle.host_claim.proofs.Read.{word-command, Known, play-known, taken-all, first-all, asRead, read-first-taken}
 
--- an answer that is taken while processing options are waited on
+-- an answer that is taken while the answer to GPO is awaited
 module _ (s : Session) (card buf : List ℕ) (q : s .phase ≡ Phase.Gpo) where
   command-by-rules : isRefusal (answerStep s card buf .reply .answer) ≡ false
       → isCommand (answerStep s card buf .reply .answer) ≡ eqb (gpoReason (storeBytes s) card) 0

@@ -1,5 +1,5 @@
--- One call over bytes that hold a session is the session's call: the record of the session that it leaves lies in front
--- of the same bytes, and is read back by the next call. A record over a record leaves what one record leaves.
+-- One call over bytes that hold a session is the session's call: the record of the session that it leaves lies at the
+-- front of the same bytes, and is read back by the next call. A record over a record leaves what one record leaves.
 -- Assumes nothing.
 use mathlib.Core.Path.{_≡_, sym, ap, _∙_}
 use mathlib.Core.Bool.{true}
@@ -28,7 +28,7 @@ use Rattle.session.specs.Calls.{Call, start, answer, link-failed, stop, callSte
 use Rattle.host.specs.Hosted.{hostStepDone, hostStepOn, hostStepAdmitted}
 use Rattle.host_claim.specs.Calls.{callOver}
 
--- ---- a record in front of bytes that are enough
+-- ---- a record at the front of bytes that are enough
 
 written : (s : Session) (l : List ℕ) → recordSize ≤ length l → withSessionRecord s l ≡ encodedSession s ++ drop recordSize l
 unfolding withSessionRecord
@@ -43,7 +43,7 @@ module _ (s : Session) (i : inRanges s ≡ true) (l : List ℕ) (h : recordSize 
   pub record-held : decodedSession (withSessionRecord s l) ≡ some s
   record-held = ap decodedSession (written s l h) ∙ decode-encode s (drop recordSize l) (store-size s i)
 
-  -- the bytes behind it stay, and all are enough as before
+  -- the bytes after it stay, and all are enough as before
   pub record-behind : drop recordSize (withSessionRecord s l) ≡ drop recordSize l
   record-behind = ap (drop recordSize) (written s l h) ∙ drop-at (encodedSession s) (drop recordSize l) recordSize size
 

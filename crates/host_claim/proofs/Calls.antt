@@ -1,5 +1,5 @@
 -- The claim over every list of a host's calls: by induction the bytes always hold the session that session's calls
--- since the last accepted opening lead to, in its ranges, in front of the bytes that were opened. So each call is
+-- since the last accepted opening lead to, in its ranges, at the front of the bytes that were opened. So each call is
 -- session's call, and an opening is accepted.
 -- Assumes nothing.
 use mathlib.Core.Path.{_≡_, refl, sym, ap, subst, _∙_}
@@ -37,7 +37,7 @@ use Rattle.host_claim.proofs.Proper.{session-proper, words-proper, comm
 
 -- ---- the calls since the last accepted opening
 
--- they begin with the session that was there, or with a fresh one
+-- they begin with the session that was present, or with a fresh one
 abbrev origin : Bool → Session → Session
 origin true s = freshSession
 origin false s = s
@@ -46,7 +46,7 @@ origin-fresh : (b : Bool) → origin b freshSession ≡ freshSession
 origin-fresh true = refl
 origin-fresh false = refl
 
--- no opening among calls: none in front, and none behind
+-- no opening among calls: none at the front, and none after
 none-front : (a b : Bool) → either a b ≡ false → a ≡ false
 unfolding either
 none-front true b e = no (sym e)
@@ -64,7 +64,7 @@ none-since (m ∷ ms) e =
     if-no _ _ (none-behind (beginsAnew m) (openingAmong ms) e)
     ∙ if-no _ _ (none-front (beginsAnew m) (openingAmong ms) e)
 
--- behind an accepted opening
+-- after an accepted opening
 anew-since : (m : CompletedCall) (ms : List CompletedCall) → beginsAnew m ≡ true
     → sinceOpening (m ∷ ms) ≡ sinceOpening ms
 unfolding sinceOpening
@@ -84,7 +84,7 @@ moved : {b : List ℕ} {s t : Session} {x y : List CompletedCall} {l : List ℕ}
 moved {b} {s} {t} {x} {y} {l} p q h =
     subst (λ (z : List CompletedCall). Since b t z l) q (subst (λ (z : Session). Since b z x l) p h)
 
--- a session's call as the host sees it, and one more in front
+-- a session's call as the host sees it, and one more at the front
 abbrev called : Session → Call → CompletedCall
 called s c = asCompleted (callMade s c (callStep s c))
 
@@ -98,7 +98,7 @@ record Through (before : List ℕ) (s : Session) (ms : List CompletedCall) (l : 
   since : Since before (origin (openingAmong ms) s) (sinceOpening ms) l
   not-25 : every isNotRanges ms ≡ true
 
--- an accepted opening in front: the rest is from a fresh session on
+-- an accepted opening at the front: the rest is from a fresh session on
 after-opening : {b : List ℕ} (s : Session) {ms : List CompletedCall} {l : List ℕ}
     → Through b freshSession ms l → Through b s (completedCall opening 0 [] ∷ ms) l
 unfolding openingAmong both every
@@ -111,7 +111,7 @@ after-opening s {ms} t =
       not-25 = t .not-25;
     }
 
--- a call of the session in front
+-- a call of the session at the front
 among : (s : Session) (c : Call) (ms : List CompletedCall) → openingAmong (called s c ∷ ms) ≡ openingAmong ms
 unfolding openingAmong both
 among s c ms = either-false (openingAmong ms) refl
@@ -154,7 +154,7 @@ final-keeps s [] i = i
 final-keeps s (c ∷ cs) i = final-keeps (callStep s c .reply .session) cs (call-keeps s c i)
 
 module _ (before : List ℕ) (enough : recordSize ≤ length before) where
-  -- a call that does h, and the calls of a list behind it
+  -- a call that does h, and the calls of a list after it
   abbrev AllOf : Session → HostCall → List HostCall → HostResult → Type 0
   AllOf s c cs h =
       Through before s (completedCall c (h .word) (h .buffer) ∷ completedCalls (h .session) cs)

@@ -39,8 +39,8 @@ pub record HostDemand3 (ms : List CompletedCall) (l : List ℕ) : Type 0 where
   pub bound : length (hostCommands ms) ≤ mostCommandsFor (hostAfl ms)
   -- N is never over 130
   pub never-over : length (hostCommands ms) ≤ 130
-  -- the session is fresh where every call was refused, runs where the last call not refused handed back a command,
-  -- and has ended where it handed back an outcome
+  -- the session is fresh where every call was refused, runs where the last call not refused returned a command, and has
+  -- ended where it returned an outcome
   pub fresh : isFresh (session .phase) ≡ isNone (lastElement (notRefused ms))
   pub running : isRunning (session .phase) ≡ isLastCommand (lastElement (notRefused ms))
   pub ended : isEnded (session .phase) ≡ isLastOutcome (lastElement (notRefused ms))
@@ -78,7 +78,7 @@ asCompleted m = completedCall (on-session (m .call)) (resultWord (callResult m))
 pub record SameAsSession (before : List ℕ) (ms : List CompletedCall) (l : List ℕ) : Type 0 where
   -- every word is that of the session's reply, and every buffer is the session's; no opening is among them
   pub words : ms ≡ map asCompleted (sessionPlay ms)
-  -- the bytes are the record of the session after these calls, and those behind the record stay
+  -- the bytes are the record of the session after these calls, and those after the record stay
   pub record-after : l ≡ withSessionRecord (sessionAfter ms) before
   pub behind : drop recordSize l ≡ drop recordSize before
   -- demand 3 of these calls as session's own, and that what is read off the words and the buffers is what it speaks of

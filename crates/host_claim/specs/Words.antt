@@ -16,7 +16,7 @@ use Rattle.host_claim.specs.Calls.{HostCall, opening, on-session, Comple
 
 -- ---- a result word
 
--- its kind says whether the call handed back a command, an outcome or a refusal
+-- its kind reports whether the call returned a command, an outcome or a refusal
 abbrev pub isCommandWord : ℕ → Bool
 isCommandWord w = wordKind w =? kindCommand
 
@@ -45,7 +45,7 @@ unfoldable pub openingAmong : List CompletedCall → Bool
 openingAmong [] = false
 openingAmong (m ∷ ms) = beginsAnew m or openingAmong ms
 
--- the calls behind the last one; all where there is none
+-- the calls after the last one; all where there is none
 unfoldable pub sinceOpening : List CompletedCall → List CompletedCall
 sinceOpening [] = []
 sinceOpening (m ∷ ms) =
@@ -55,7 +55,7 @@ sinceOpening (m ∷ ms) =
 
 -- ---- what these calls handed out
 
--- a command is the front of its call's buffer, of the length that the word says, as it stands after the call
+-- a command is the front of its call's buffer, of the length that the word says, as it is after the call
 abbrev pub commandOf : CompletedCall → List (List ℕ)
 commandOf m =
     if isCommandWord (m .word) then take (m .word) (m .buffer) ∷ []
@@ -137,19 +137,19 @@ lastKindRead (some m) = lastCommandByAip (m .call)
 unfoldable pub hostLastKind : List CompletedCall → CommandKind
 hostLastKind ms = lastKindRead (firstAnswerCall (notRefused ms))
 
--- ---- what the last call that was not refused says
+-- ---- what the last call that was not refused reports
 
 -- there is none
 abbrev pub isNone : Option CompletedCall → Bool
 isNone none = true
 isNone (some m) = false
 
--- it handed back a command
+-- it returned a command
 abbrev pub isLastCommand : Option CompletedCall → Bool
 isLastCommand none = false
 isLastCommand (some m) = isCommandWord (m .word)
 
--- it handed back an outcome
+-- it returned an outcome
 abbrev pub isLastOutcome : Option CompletedCall → Bool
 isLastOutcome none = false
 isLastOutcome (some m) = isOutcomeWord (m .word)

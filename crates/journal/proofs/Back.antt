@@ -1,4 +1,5 @@
--- A call's record is read back as that call: the length from its two bytes, the bytes from the front of the body, zeros behind them.
+-- A call's record is read back as that call: the length from its two bytes, the bytes from the front of the body,
+-- zeros after them.
 -- Assumes nothing.
 use mathlib.Core.Path.{_≡_, refl, sym, ap, _∙_}
 use mathlib.Core.Bool.{true}

@@ -1,4 +1,5 @@
--- One byte more: the byte set behind the part that is held is that part with one byte more, so the checker's state takes the step of `Pushed`.
+-- One more byte: the byte set after the part that is held is that part with one more byte, so the checker's state takes
+-- the step of `Pushed`.
 -- Assumes nothing.
 use mathlib.Core.Path.{_≡_, refl, sym, ap, _∙_}
 use mathlib.Core.Bool.{Bool, true, false}
@@ -66,7 +67,7 @@ module _ (c : JournalChecker) (b : ℕ) where
 abbrev pub stateOf : JournalChecker → State
 stateOf c = state (c .standing .conforming) (expectedIn (c .standing)) (c .records) (take (c .length) (c .held))
 
--- what is due is read back
+-- what is expected is read back
 pub due-back : (e : ExpectedNext) → take (length (e .due)) (checkStateOf e .due) ≡ e .due
 due-back e = take-append-seam (e .due) _
 

@@ -1,5 +1,5 @@
--- The record that is due behind a call. A command stands in the front of a zero buffer, so the whole buffer is the command with zeros
--- behind it.
+-- The record that is expected after a call. A command is at the front of a zero buffer, so the whole buffer is the
+-- command with zeros after it.
 -- Assumes nothing.
 use mathlib.Core.Path.{_≡_, refl, sym, ap, _∙_}
 use mathlib.Core.Bool.{true}
@@ -27,7 +27,7 @@ drop-zeros zero n = let e : n ≡ n - 0 = omega arith in ap (λ (m : ℕ). repli
 drop-zeros (suc k) zero = let e : 0 ≡ 0 - suc k = omega arith in ap (λ (m : ℕ). replicate m 0) e
 drop-zeros (suc k) (suc n) = let e : n - k ≡ suc n - suc k = omega arith in drop-zeros k n ∙ ap (λ (m : ℕ). replicate m 0) e
 
--- a command in the front of a zero buffer is the command with zeros behind it
+-- a command at the front of a zero buffer is the command with zeros after it
 in-front : (c : List ℕ) (n : ℕ) → c ++ drop (length c) (replicate n 0) ≡ zeroPadded n (take (length c) (c ++ drop (length c) (replicate n 0)))
 in-front c n =
     ap (λ (l : List ℕ). c ++ l) (drop-zeros (length c) n)
@@ -38,7 +38,7 @@ whole-is (Came.refused n) = refl
 whole-is (Came.ended y b o n) = refl
 whole-is (Came.sent b p c l) = ap (λ (v : List ℕ). 5 ∷ (twoByteLength (length c) ++ v)) (in-front c mostCommandInRecord)
 
--- ---- the standing behind a record
+-- ---- the standing after a record
 
 pub stands-as : {x : CheckState} (y : CheckState) {a b : Option ExpectedNext} → a ≡ b → x ≡ checkStateBy y a → x ≡ checkStateBy y b
 stands-as y e h = h ∙ ap (checkStateBy y) e
@@ -52,7 +52,7 @@ did-due {s} {st} {q} {buf} y c d h =
     ∙ ap (λ (v : List ℕ). replyExpected (st .reply .session) (replyRecordWithBuffer (st .reply .answer) v)) (d .buffer)
     ∙ ap (replyExpected (st .reply .session)) (whole-is c)) h
 
--- ---- where a reply is due
+-- ---- where a reply is expected
 
 pub reply-due : (s : Session) (d r : List ℕ) → 0 < length d → recordJudgedBy s d r ≡ if (bytesEqual r d) (some (expectedNext s [])) none
 reply-due s [] r h = absurd (omega arith)

@@ -1,5 +1,5 @@
--- The verdict says what it should, and nothing else has that verdict. All bytes part into right records and what stands behind them
--- (`split`); right records are those that calls write (`Written`, `ExactCalls`).
+-- The verdict says what it should, and nothing else has that verdict. All bytes part into conforming records and what
+-- follows them (`split`); conforming records are those that calls write (`Written`, `ExactCalls`).
 -- Assumes nothing.
 use mathlib.Core.Path.{_≡_, refl, sym, ap, subst, _∙_}
 use mathlib.Core.Logic.{_↔_, _⊎_, inl, inr}
@@ -22,7 +22,7 @@ use Rattle.journal.proofs.Written.{Walks, Walked, verdict-behind, all-w
 use Rattle.journal.proofs.ExactCall.{same-some, nothing, bytes-front}
 use Rattle.journal.proofs.ExactCalls.{writes}
 
--- ---- one record more behind
+-- ---- one more record after
 
 joined-snoc : (rs : List (List ℕ)) (r : List ℕ) → concatenated (rs ++ (r ∷ [])) ≡ concatenated rs ++ r
 unfolding concatenated
@@ -34,13 +34,13 @@ walks-snoc : {e u t : ExpectedNext} {rs : List (List ℕ)} (r : List ℕ) → Wa
 walks-snoc r Walks.done h z j = Walks.next h z j Walks.done
 walks-snoc r (Walks.next h′ z′ j′ w) h z j = Walks.next h′ z′ j′ (walks-snoc r w h z j)
 
--- what is due behind records is one thing
+-- what is expected after records is one thing
 last-judged : {e u : ExpectedNext} {rs : List (List ℕ)} (r : List ℕ) (t : ExpectedNext) → Walks e rs u → Walks e (rs ++ (r ∷ [])) t → recordJudged u r ≡ some t
 last-judged r t Walks.done (Walks.next h z j Walks.done) = j
 last-judged r t (Walks.next {t = m} {rs = rs} h z j w) (Walks.next {t = m′} h′ z′ j′ v) =
     last-judged r t w (subst (λ (x : ExpectedNext). Walks x (rs ++ (r ∷ [])) t) (same-some (sym j′ ∙ j)) v)
 
--- ---- all bytes: right records, and what stands behind them
+-- ---- all bytes: conforming records, and what follows them
 
 -- where the records stop, and with which verdict
 data Stops (u : ExpectedNext) (n : ℕ) : List ℕ → JournalVerdict → Type 0 where
@@ -78,7 +78,7 @@ goes-on e t n r more v h z j x =
       stops = subst (λ (m : ℕ). Stops (x .last) m (x .rest) v) g (x .stops)
     }
 
--- a whole record, by what is due behind it
+-- a whole record, by what is expected after it
 by-judged : (e : ExpectedNext) (n b : ℕ) (s : List ℕ) → 0 < journalRecordSize b → journalRecordSize b ≤ length (b ∷ s)
     → ((t : ExpectedNext) → Split t (n + 1) (drop (journalRecordSize b) (b ∷ s)) (verdictFrom t (n + 1) (drop (journalRecordSize b) (b ∷ s))))
     → (o : Option ExpectedNext) → recordJudged e (take (journalRecordSize b) (b ∷ s)) ≡ o
@@ -104,7 +104,7 @@ split (suc k) e n (b ∷ s) h =
       (λ t. split k t (n + 1) (drop (journalRecordSize b) (b ∷ s)) (omega (arith, length-drop (journalRecordSize b) (b ∷ s))))
       (recordJudged e (take (journalRecordSize b) (b ∷ s))) refl)))
 
--- ---- right records
+-- ---- conforming records
 
 right-walked : (rs : List (List ℕ)) → Conforming rs → Walked expectedAtStart rs
 right-walked rs x = subst (Walked expectedAtStart) (x .first) (all-walked freshSession (x .calls) (length rs))
@@ -112,7 +112,7 @@ right-walked rs x = subst (Walked expectedAtStart) (x .first) (all-walked freshS
 walks-right : {u : ExpectedNext} {rs : List (List ℕ)} → Walks expectedAtStart rs u → AllBytes (concatenated rs) → Conforming rs
 walks-right w g = writes w freshSession refl g .writes
 
--- right records of bytes are written by calls of bytes
+-- conforming records of bytes are written by calls of bytes
 pub right-bytes : (rs : List (List ℕ)) → Conforming rs → AllBytes (concatenated rs) → KernelWritesBytes freshSession rs
 right-bytes rs x g = writes (right-walked rs x .walks) freshSession refl g
 
@@ -148,7 +148,7 @@ module _ (s : List ℕ) (g : AllBytes s) where
 
 -- ---- and of nothing else
 
--- the verdict behind right records
+-- the verdict after conforming records
 after : (s : List ℕ) (rs : List (List ℕ)) (rest : List ℕ) (w : Walked expectedAtStart rs) → concatenated rs ++ rest ≡ s
     → journalVerdictOf s ≡ verdictFrom (w .last) (0 + length rs) rest
 unfolding journalVerdictOf
@@ -157,7 +157,7 @@ after s rs rest w e = ap (verdictFrom expectedAtStart 0) (sym e) ∙ verdict-beh
 by-number : (f : ℕ → JournalVerdict) (n m : ℕ) → n + 1 ≡ m → f (0 + n + 1) ≡ f m
 by-number f n m c = let e : 0 + n + 1 ≡ m = omega arith in ap f e
 
--- a whole record that no right kernel writes there is judged to be none
+-- a whole record that no conforming kernel writes there is judged to be none
 wrong-judged : (rs : List (List ℕ)) (u : ExpectedNext) (r : List ℕ) → Walks expectedAtStart rs u → 0 < length r → length r ≡ journalRecordSize (getD r 0 0) → AllBytes (concatenated rs ++ r)
     → (Conforming (rs ++ (r ∷ [])) → ⊥) → recordJudged u r ≡ none
 wrong-judged rs u r w h z g f = go (recordJudged u r) refl

@@ -1,5 +1,5 @@
--- A whole record of bytes that stands for a call is what that call is written as: the length's two bytes come back, and what stands behind
--- the bytes that it counts is as many zeros.
+-- A whole record of bytes that stands for a call is what that call is written as: the length's two bytes come back, and
+-- what is after the bytes that it counts is as many zeros.
 -- Assumes nothing.
 use mathlib.Core.Path.{_≡_, refl, sym, ap, ap₂, subst, _∙_}
 use mathlib.Core.Bool.{true}

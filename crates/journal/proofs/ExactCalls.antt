@@ -1,5 +1,5 @@
--- Right records of bytes are written by calls: two records at a time, the call that the first stands for is written as it (`ExactCall`), and
--- the second is its reply.
+-- Conforming records of bytes are written by calls: two records at a time, the call that the first stands for is
+-- written as it (`ExactCall`), and the second is its reply.
 -- Assumes nothing.
 use mathlib.Core.Path.{_≡_, refl, sym, ap, ap₂, subst, _∙_}
 use mathlib.Core.Bool.{true, false, not}
@@ -24,9 +24,9 @@ use Rattle.journal.proofs.WrittenBuffer.{dueBy}
 use Rattle.journal.proofs.Written.{Walks}
 use Rattle.journal.proofs.ExactCall.{same-some, nothing, bytes-front, bytes-behind, call-is, call-bytes}
 
--- ---- a record where a call is due
+-- ---- a record where a call is expected
 
--- it is written by a call that is taken, and the call's reply is due behind it
+-- it is written by a call that is taken, and the call's reply is expected after it
 record Taken (s : Session) (r : List ℕ) (t : ExpectedNext) : Type 0 where
   call : Call
   written : journalCallRecord call ≡ r
@@ -35,7 +35,7 @@ record Taken (s : Session) (r : List ℕ) (t : ExpectedNext) : Type 0 where
   due : t ≡ expectedNext (callStep s call .reply .session) (dueBy (callStep s call))
   there : 0 < length (t .due)
 
--- what a call that is taken leaves due
+-- what a call that is taken leaves expected
 record Answered (st : Step) (t : ExpectedNext) : Type 0 where
   taken : isRefusal (st .reply .answer) ≡ false
   due : t ≡ expectedNext (st .reply .session) (dueBy st)
@@ -54,7 +54,7 @@ taken-by s r t (some c) f e =
     let w = replied-by t (call-came s c) e in
     record { call = c; written = f c refl .0; bytes = f c refl .1; taken = w .taken; due = w .due; there = w .there }
 
--- ---- a record where a reply is due is that reply
+-- ---- a record where a reply is expected is that reply
 
 record Replied (e : ExpectedNext) (r : List ℕ) (t : ExpectedNext) : Type 0 where
   reply : e .due ≡ r
@@ -66,7 +66,7 @@ replied-is s (b ∷ d) r t h =
     if-ind (λ (o : Option ExpectedNext). o ≡ some t → Replied (expectedNext s (b ∷ d)) r t) (bytesEqual r (b ∷ d)) _ _
     (λ w e. record { reply = sym (alike-eq r (b ∷ d) w); then = sym (same-some e) }) (λ w e. nothing e)
 
--- ---- one call more in front
+-- ---- one more call before it
 
 journal-cons : (s : Session) (c : Call) (cs : List Call) → isRefusal (callStep s c .reply .answer) ≡ false
     → journalOf (playCalls s (c ∷ cs)) ≡ journalCallRecord c ∷ dueBy (callStep s c) ∷ journalOf (playCalls (callStep s c .reply .session) cs)

@@ -8,7 +8,8 @@ use Rattle.journal.specs.declared.JournalVerdict.{JournalVerdict}
 use Rattle.journal.specs.Record.{journalRecordSize}
 use Rattle.journal.specs.Verdict.{verdictFrom, journalVerdictOf, replyDueAfter, expectedReplyOf}
 
--- no bytes; a command's first bytes; a kind that there is none of; a start's first bytes; where a call is due no one record is right
+-- no bytes; a command's first bytes; a kind that there is none of; a start's first bytes; where a call is expected no
+-- one record is conforming
 pub record Worked : Type 0 where
   pub empty : journalVerdictOf [] ≡ JournalVerdict.Accepted 0
   pub command-cut : journalVerdictOf (0x05 ∷ 0xFF ∷ 0xFF ∷ []) ≡ JournalVerdict.Truncated 1

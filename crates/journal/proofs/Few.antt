@@ -25,7 +25,7 @@ not-mismatch n m q = let z : _≡_ {A = ℕ} 0 1 = cc in absurd (omega arith)
 not-cut : (n m : ℕ) → JournalVerdict.Truncated n ≡ JournalVerdict.Accepted m → m ≤ 262
 not-cut n m q = let z : _≡_ {A = ℕ} 0 1 = cc in absurd (omega arith)
 
--- behind a record that was judged
+-- after a record that was judged
 few-behind : (f : ExpectedNext → JournalVerdict) (n m : ℕ) (o : Option ExpectedNext) → ((t : ExpectedNext) → o ≡ some t → f t ≡ JournalVerdict.Accepted m → m ≤ 262)
     → verdictContinues f n o ≡ JournalVerdict.Accepted m → m ≤ 262
 few-behind f n m none g q = not-mismatch n m q

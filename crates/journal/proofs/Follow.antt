@@ -1,5 +1,5 @@
--- What a checker says that was fed the bytes s: each byte more keeps what its state says (`Pushed`, `Byte`), so at the end it says the verdict
--- over s. The laws that `feed` and `finish` cite.
+-- What a checker says that was fed the bytes s: each byte more keeps what its state says (`Pushed`, `Byte`), so at the
+-- end it says the verdict over s. The laws that `feed` and `finish` cite.
 -- Assumes nothing.
 use mathlib.Core.Path.{_≡_, refl, sym, ap, subst, _∙_}
 use mathlib.Core.Bool.{Bool, true, false, not}
@@ -44,7 +44,7 @@ pushed-more c d r v i b k l e p =
     p ∙ ap (λ (x : JournalChecker). checkerPushed x b) k ∙ ap (checkerPushed (checkerPushedAll c (take i v))) e ∙ sym (pushed-append c (take i v) (getD v i 0 ∷ []))
     ∙ ap (checkerPushedAll c) (sym (take-suc v i 0 l) ∙ ap (λ (m : ℕ). take m v) (sym (add-one i)))
 
--- behind an unlike record nothing changes
+-- after a mismatching record nothing changes
 pub stays-all : (c : JournalChecker) (v : List ℕ) → c .standing .conforming ≡ false → c ≡ checkerPushedAll c v
 unfolding checkerPushedAll
 stays-all c [] e = refl
@@ -55,7 +55,7 @@ pub fed : (c r : JournalChecker) (v w : List ℕ) → r ≡ checkerPushedAll c v
 fed c r v w e q =
     (e ∙ ap (checkerPushedAll c) q, λ s h. e ∙ ap (checkerPushedAll c) q ∙ ap (λ (x : JournalChecker). checkerPushedAll x w) h ∙ sym (pushed-append firstChecker s w))
 
--- ---- the checker behind the bytes s
+-- ---- the checker after the bytes s
 
 record Behind (c : JournalChecker) (s : List ℕ) : Type 0 where
   part : c .length < 1027
@@ -186,7 +186,7 @@ module _ (c : JournalChecker) (s : List ℕ) (h : Behind c s) where
     | inr r ↦ sym (says-wrong c r) ∙ says-mismatch s (expectedIn (c .standing)) (c .records) (take (c .length) (c .held)) (keeps-as false r)
   ]
 
-  -- no record was unlike
+  -- no record was a mismatch
   wanted-right : c .standing .conforming ≡ true → [] ≡ expectedReplyOf s
   unfolding checkerVerdict expectedReplyOf
   wanted-right r =

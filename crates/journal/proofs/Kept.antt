@@ -1,6 +1,6 @@
--- Two records for each call taken: a call on a session that has ended is refused, and every other call that is taken hands out a command
--- or ends the session. So a journal that is right so far has at most 262 records. What is due is a whole record of
--- at most 264 bytes.
+-- Two records for each call taken: a call on a session that has ended is refused, and every other call that is taken
+-- hands out a command or ends the session. So a journal that is conforming so far has at most 262 records. What is
+-- expected is a whole record of at most 264 bytes.
 -- Assumes nothing.
 use mathlib.Core.Path.{_≡_, refl, sym, ap, subst, _∙_}
 use mathlib.Core.Bool.{Bool, true, false}
@@ -33,12 +33,12 @@ use Rattle.journal.specs.Verdict.{ExpectedNext, expectedNext, expectedAt
 
 -- ---- what is kept from record to record
 
--- 1 where a reply is due
+-- 1 where a reply is expected
 abbrev pub dueOne : List ℕ → ℕ
 dueOne [] = 0
 dueOne (b ∷ d) = 1
 
--- two records for each call taken, one where its reply is due; the calls taken are the commands handed out and one
+-- two records for each call taken, one where its reply is expected; the calls taken are the commands handed out and one
 -- more once the session has ended
 pub record Kept (e : ExpectedNext) (n : ℕ) : Type 0 where
   pub ranges : inRanges (e .session) ≡ true
@@ -107,7 +107,7 @@ not-ended s c (Phase.Cryptogram a) q r = refl
 not-ended s c (Phase.Checksum k) q r = refl
 not-ended s c (Phase.Ended x) q r = no (sym r ∙ ended-refuses s c x q)
 
--- ---- a record's call is made with the lent buffer
+-- ---- a record's call is made with the caller's buffer
 
 same-some : {A : Type 0} {a b : A} → some a ≡ some b → a ≡ b
 same-some e = cc
@@ -129,7 +129,7 @@ lent-call r c =
     made : (d : Call) → bufferOf d ≡ journalBuffer → Lent (some d)
     made d b e = ap bufferOf (sym (same-some e)) ∙ b
 
--- ---- one record more
+-- ---- one more record
 
 command-size : (k : ℕ) (v : List ℕ) → k ≤ 261 → length (5 ∷ (twoByteLength k ++ zeroPadded mostCommandInRecord (take k v))) ≡ 264
 command-size k v h =

@@ -1,5 +1,5 @@
--- One byte more keeps what a state says. While the record is not whole nothing is said of it; a whole one stands at the front of what is
--- left (`Walk`), and the state behind it says the same of the bytes behind it.
+-- One more byte keeps what a state reports. While the record is not whole nothing is said of it; a whole one is at the
+-- front of what is left (`Walk`), and the state after it says the same of the bytes after it.
 -- Assumes nothing.
 use mathlib.Core.Path.{_≡_, refl, sym, ap, _∙_}
 use mathlib.Core.Bool.{Bool, true, false}
@@ -21,9 +21,10 @@ use Rattle.journal.specs.Verdict.{ExpectedNext, recordJudged, verdictCon
 use Rattle.journal.proofs.Walk.{ends, unknown, cut, whole, due-whole, nothing-judged}
 use Rattle.journal.proofs.Kept.{nothing, Kept, first-kept, judged-kept, few-records}
 
--- ---- a checker without what its arrays hold behind their sizes
+-- ---- a checker without what its arrays hold after their sizes
 
--- no record was unlike; what is due, or was due where one was; how many records were seen; the part of a record that is held
+-- no record was a mismatch; what is expected, or was expected where one was; how many records were seen; the part of a
+-- record that is held
 pub record State : Type 0 where
   pub conforming : Bool
   pub due : ExpectedNext
@@ -33,7 +34,7 @@ pub record State : Type 0 where
 abbrev pub state : Bool → ExpectedNext → ℕ → List ℕ → State
 state r e n p = record { conforming = r; due = e; number = n; part = p }
 
--- behind a record that was judged where e was due
+-- after a record that was judged where e was expected
 abbrev pub judgedState : ExpectedNext → ℕ → Option ExpectedNext → State
 judgedState e n none = state false e n []
 judgedState e n (some t) = state true t n []
@@ -41,7 +42,7 @@ judgedState e n (some t) = state true t n []
 unfoldable pub wholeState : ExpectedNext → ℕ → List ℕ → State
 wholeState e n l = if (ltb (length l) (firstRecordSize l)) (state true e n l) (judgedState e (n + 1) (recordJudged e (take (firstRecordSize l) l)))
 
--- one byte more
+-- one more byte
 abbrev pub stepBy : Bool → ExpectedNext → ℕ → List ℕ → ℕ → State
 stepBy true e n p b = wholeState e n (p ++ (b ∷ []))
 stepBy false e n p b = state false e n p
@@ -53,12 +54,13 @@ abbrev pub says : Bool → ExpectedNext → ℕ → List ℕ → List ℕ → Jo
 says true e n p more = verdictFrom e n (p ++ more)
 says false e n p more = JournalVerdict.Mismatch n
 
--- what is due behind k records more is what is due behind them in the whole journal; once a record was unlike, what was due there
+-- what is expected after k more records is what is expected after them in the whole journal; once a record was a
+-- mismatch, what was expected there
 abbrev pub Owes : Bool → ExpectedNext → ℕ → List ℕ → List ℕ → Type 0
 Owes true e n p s = (k : ℕ) (more : List ℕ) → replyDueAfter k e (p ++ more) ≡ replyDueAfter (n + k) expectedAtStart (s ++ more)
 Owes false e n p s = (more : List ℕ) → e .due ≡ replyDueAfter (n - 1) expectedAtStart (s ++ more)
 
--- the state is the one behind the bytes s
+-- the state is the one after the bytes s
 pub record Keeps (r : Bool) (e : ExpectedNext) (n : ℕ) (p : List ℕ) (s : List ℕ) : Type 0 where
   pub said : (more : List ℕ) → says r e n p more ≡ journalVerdictOf (s ++ more)
   pub owes : Owes r e n p s
@@ -70,19 +72,19 @@ pub record Keeps (r : Bool) (e : ExpectedNext) (n : ℕ) (p : List ℕ) (s : Lis
 abbrev pub KeepsAt : State → List ℕ → Type 0
 KeepsAt st s = Keeps (st .conforming) (st .due) (st .number) (st .part) s
 
--- ---- the record that is held, with one byte more
+-- ---- the record that is held, with one more byte
 
 one-more : (p : List ℕ) (b : ℕ) → length (p ++ (b ∷ [])) ≡ length p + 1
 one-more p b = length-append p (b ∷ [])
 
--- a record that was not whole is whole with one byte more, or not yet
+-- a record that was not whole is whole with one more byte, or not yet
 just-whole : (p : List ℕ) (b : ℕ) → (p ≡ []) ⊎ (length p < firstRecordSize p) → firstRecordSize (p ++ (b ∷ [])) ≤ length (p ++ (b ∷ []))
     → (firstRecordSize (p ++ (b ∷ [])) ≡ 0 → ⊥) → length (p ++ (b ∷ [])) ≡ firstRecordSize (p ++ (b ∷ []))
 just-whole [] b h l z = omega arith
 just-whole (x ∷ p) b (inl e) l z = let w : _≡_ {A = ℕ} 0 1 = cc in absurd (omega arith)
 just-whole (x ∷ p) b (inr h) l z = omega (arith, one-more p b)
 
--- what is said behind a record that is judged
+-- what is said after a record that is judged
 behind : (e : ExpectedNext) (n : ℕ) (l more : List ℕ) → 0 < length l → ((firstRecordSize l ≡ 0 → ⊥) → length l ≡ firstRecordSize l)
     → verdictContinues (λ t. verdictFrom t (n + 1) more) (n + 1) (recordJudged e (take (firstRecordSize l) l)) ≡ verdictFrom e n (l ++ more)
 behind e n l more h w =
@@ -96,7 +98,7 @@ behind e n l more h w =
           ∙ sym (whole e n l more h q)
     ]
 
--- what is due behind it
+-- what is expected after it
 behind-due : (k : ℕ) (e t : ExpectedNext) (l more : List ℕ) → 0 < length l → ((firstRecordSize l ≡ 0 → ⊥) → length l ≡ firstRecordSize l)
     → recordJudged e (take (firstRecordSize l) l) ≡ some t → replyDueAfter k t more ≡ replyDueAfter (suc k) e (l ++ more)
 behind-due k e t l more h w j =
@@ -107,7 +109,7 @@ behind-due k e t l more h w j =
           ap (replyDueThen (λ x. replyDueAfter k x more)) (sym j ∙ ap (recordJudged e) (take-all (firstRecordSize l) l (omega arith))) ∙ sym (due-whole k e l more h q)
     ]
 
--- ---- one byte more
+-- ---- one more byte
 
 module _ (s : List ℕ) (b : ℕ) where
   -- the byte belongs to what was to come
@@ -126,7 +128,7 @@ module _ (s : List ℕ) (b : ℕ) where
     there = omega (arith, one-more p b)
 
     module _ (w : firstRecordSize (p ++ (b ∷ [])) ≤ length (p ++ (b ∷ []))) where
-      -- behind a record that was judged
+      -- after a record that was judged
       judged-keeps : (o : Option ExpectedNext) → recordJudged e (take (firstRecordSize (p ++ (b ∷ []))) (p ++ (b ∷ []))) ≡ o
           → KeepsAt (judgedState e (n + 1) o) (s ++ (b ∷ []))
       unfolding replyDueAfter
@@ -188,7 +190,7 @@ module _ (s : List ℕ) where
       sym (cut e n p h (elim (k .part) [ inl z ↦ absurd (let y = ap length z in omega arith) | inr z ↦ z ]))
       ∙ ap (verdictFrom e n) (sym (append-nil p)) ∙ k .said [] ∙ ap journalVerdictOf (append-nil s)
 
-  -- what was due where a record was unlike
+  -- what was expected where a record was a mismatch
   pub wanted-mismatch : (e : ExpectedNext) (n : ℕ) (p : List ℕ) → Keeps false e n p s → e .due ≡ expectedReplyOf s
   unfolding expectedReplyOf
   wanted-mismatch e n p k =

@@ -26,7 +26,7 @@ use Rattle.journal.specs.Verdict.{replyExpected, replyExpectedAfter, cal
 use Rattle.journal.specs.Inner.{replyRecordWithBuffer, checkStateBy}
 use Rattle.journal.proofs.Due.{stands-as, did-due}
 
--- ---- the length and the bytes behind
+-- ---- the length and the bytes after
 
 pub fits-over : (n : ℕ) (r : List ℕ) → n < recordLength r → recordFits n r ≡ false
 unfolding recordFits
@@ -50,7 +50,7 @@ pub long-tail : (r : List ℕ) → recordLength r ≡ 65535 → every isZeroByte
 unfolding isLongAnswer
 long-tail r e = ap (every isZeroByte) (tail-is r 3) ∙ sym (both-true _ (eq-eqb (recordLength r) 65535 e))
 
--- ---- what is due behind the call
+-- ---- what is expected after the call
 
 abbrev Due : CheckState → CheckState → Reply → List ℕ → Type 0
 Due x y q buf = x ≡ checkStateBy y (replyExpected (q .session) (replyRecordWithBuffer (q .answer) buf))

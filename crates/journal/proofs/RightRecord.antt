@@ -1,5 +1,6 @@
--- The right record in the place of an unlike one: where a reply was due, that reply's record and no other continues the records before it. By
--- induction over the records; the reply itself is whole, so it is judged as a record, and only by being the same is one judged right.
+-- The conforming record in place of a mismatching one: where a reply was expected, that reply's record and no other
+-- continues the records before it. By induction over the records; the reply itself is whole, so it is judged as a
+-- record, and only by being the same is one judged conforming.
 -- Assumes nothing.
 use mathlib.Core.Path.{_≡_, refl, sym, ap, subst, _∙_}
 use mathlib.Core.Bool.{false}
@@ -64,7 +65,7 @@ way e n (b ∷ s) = elim (equal-or-not (journalRecordSize b) 0) [
   ]
 ]
 
--- what stands behind a right record is judged the same wherever it stands
+-- what is after a conforming record is judged the same wherever it stands
 behind : (e t : ExpectedNext) (n : ℕ) (l v : List ℕ) → 0 < length l → length l ≡ firstRecordSize l → recordJudged e l ≡ some t
     → verdictFrom e n (l ++ v) ≡ verdictFrom t (n + 1) v
 behind e t n l v h z j = whole e n l v h z ∙ ap (verdictContinues (λ t. verdictFrom t (n + 1) v) (n + 1)) j
@@ -109,7 +110,7 @@ more-next s k e n m q = elim (way e n s) [
   | goes t l rest x h z j v ↦ omega (arith, more-one s, k rest (shorter s l rest x h) t (n + 1) m (sym v ∙ q))
 ]
 
--- an unlike record is behind those before
+-- a mismatching record is after those before
 abbrev Later : List ℕ → Type 0
 Later s = (e : ExpectedNext) (n m : ℕ) → verdictFrom e n s ≡ JournalVerdict.Mismatch m → n + 1 ≤ m
 
@@ -124,7 +125,7 @@ later-next s k e n m q = elim (way e n s) [
 later : (s : List ℕ) → Later s
 later = shorter-first Later later-next
 
--- ---- where a reply is due
+-- ---- where a reply is expected
 
 module _ (s : Session) (d : List ℕ) (h : 0 < length d) (z : length d ≡ firstRecordSize d) (n : ℕ) where
   due-accepted : verdictFrom (expectedNext s d) n d ≡ JournalVerdict.Accepted (n + 1)
@@ -168,7 +169,7 @@ only-now s e n k h =
       only = due-only (e .session) (e .due) h (k .whole h) n;
     }
 
--- behind a right record
+-- after a conforming record
 only-behind : (e t : ExpectedNext) (n m : ℕ) (s l rest d : List ℕ) → s ≡ l ++ rest → 0 < length l → length l ≡ firstRecordSize l → recordJudged e l ≡ some t
     → OnlyConforming (verdictFrom t (n + 1)) m rest d → OnlyConforming (verdictFrom e n) m s d
 only-behind e t n m s l rest d x h z j o =
@@ -200,7 +201,8 @@ only-next s k e n (suc i) y q h = elim (way e n s) [
       (k rest (shorter s l rest x w) t (n + 1) i (judged-kept (e .session) (e .due) l n t y j) (sym v ∙ q ∙ ap JournalVerdict.Mismatch p) (subst (λ (u : List ℕ). 0 < length u) (sym d) h))))
 ]
 
--- where record n is unlike and the bytes wanted are some, they continue the n - 1 right records before it, and nothing else does
+-- where record n is a mismatch and the bytes expected are some, they continue the n - 1 conforming records before it,
+-- and nothing else does
 pub wanted-only : ExpectedOnly
 unfolding journalVerdictOf expectedReplyOf
 wanted-only s n q h =
@@ -211,7 +213,7 @@ wanted-only s n q h =
     (subst (OnlyConforming journalVerdictOf (0 + 1 + (n - 1)) s) (sym d)
     (shorter-first Only only-next s expectedAtStart 0 (n - 1) first-kept (q ∙ ap JournalVerdict.Mismatch p) (subst (λ (u : List ℕ). 0 < length u) d h)))
 
--- ---- a reply is due at the records of even number
+-- ---- a reply is expected at the records of even number
 
 replied-due : (s : Session) (d : List ℕ) (t : ExpectedNext) → replyExpected s d ≡ some t → dueOne (t .due) ≡ 1
 replied-due s [] t q = nothing q

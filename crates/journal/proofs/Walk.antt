@@ -1,5 +1,5 @@
--- The laws of the verdict over bytes. Each record has a byte at least, so the bound of the recursion does not matter (`unroll`); then one
--- law for each thing that can stand at the front.
+-- The laws of the verdict over bytes. Each record has a byte at least, so the bound of the recursion does not matter
+-- (`unroll`); then one law for each thing that can be at the front.
 -- Assumes nothing.
 use mathlib.Core.Path.{_≡_, refl, sym, ap, _∙_}
 use mathlib.Core.Logic.{inl, inr}
@@ -48,7 +48,7 @@ pub unroll : (e : ExpectedNext) (n : ℕ) (s : List ℕ) → verdictFrom e n s �
 unfolding verdictFrom
 unroll e n s = ap (λ (f : ExpectedNext → ℕ → JournalVerdict). f e n) (recurse-unroll (λ e n. JournalVerdict.Accepted n) verdictNextBytes asks s)
 
--- ---- what stands at the front
+-- ---- what is at the front
 
 pub ends : (e : ExpectedNext) (n : ℕ) → verdictFrom e n [] ≡ JournalVerdict.Accepted n
 ends e n = unroll e n []
@@ -71,7 +71,7 @@ whole e n (b ∷ s) more h z =
     ∙ goes-same _ _ (n + 1) (recordJudged e (take (journalRecordSize b) (b ∷ (s ++ more)))) (λ t. ap (verdictFrom t (n + 1)) (drop-at (b ∷ s) more (journalRecordSize b) z))
     ∙ ap (λ (r : List ℕ). verdictContinues (λ t. verdictFrom t (n + 1) more) (n + 1) (recordJudged e r)) (take-at (b ∷ s) more (journalRecordSize b) z)
 
--- what is due behind a whole record at the front, and so behind those that follow it
+-- what is expected after a whole record at the front, and so after those that follow it
 pub due-whole : (m : ℕ) (e : ExpectedNext) (l more : List ℕ) → 0 < length l → length l ≡ firstRecordSize l
     → replyDueAfter (suc m) e (l ++ more) ≡ replyDueThen (λ t. replyDueAfter m t more) (recordJudged e l)
 unfolding replyDueAfter

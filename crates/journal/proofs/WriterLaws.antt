@@ -1,4 +1,4 @@
--- Bytes in the front of zeros are the bytes with zeros behind them; three bytes and a copy in the front of a list.
+-- Bytes at the front of zeros are the bytes with zeros after them; three bytes and a copy at the front of a list.
 -- Assumes nothing.
 use mathlib.Core.Path.{_≡_, refl, ap, _∙_}
 use mathlib.Core.List.{List, [], _∷_, _++_, append-nil}
@@ -14,13 +14,13 @@ drop-zeros zero n = let e : n ≡ n - 0 = omega arith in ap (λ (m : ℕ). repli
 drop-zeros (suc k) zero = let e : 0 ≡ 0 - suc k = omega arith in ap (λ (m : ℕ). replicate m 0) e
 drop-zeros (suc k) (suc n) = let e : n - k ≡ suc n - suc k = omega arith in drop-zeros k n ∙ ap (λ (m : ℕ). replicate m 0) e
 
--- what stands behind v in n + 3 zeros, three bytes in front of it
+-- what follows v in n + 3 zeros, three bytes before it
 pub in-zeros : (k n : ℕ) (v l : List ℕ) → l ≡ k ∷ (twoByteLength (length v) ++ (v ++ drop (length v + 3) (replicate (n + 3) 0))) → l ≡ k ∷ lengthAndPadded n v
 in-zeros k n v l e =
     let z : n + 3 - (length v + 3) ≡ n - length v = omega arith in
     e ∙ ap (λ (b : List ℕ). k ∷ (twoByteLength (length v) ++ (v ++ b))) (drop-zeros (length v + 3) (n + 3) ∙ ap (λ (m : ℕ). replicate m 0) z)
 
--- three bytes stored and v copied behind them
+-- three bytes stored and v copied after them
 pub placed : (k x y : ℕ) (v l m : List ℕ) → length v + 3 ≤ length l
     → m ≡ take (length v) v ++ drop (length v) (take (length (set (set (set l 0 k) 1 x) 2 y) - 3) (drop 3 (set (set (set l 0 k) 1 x) 2 y)))
     → putMid 3 (length (set (set (set l 0 k) 1 x) 2 y) - 3) (set (set (set l 0 k) 1 x) 2 y) m ≡ k ∷ x ∷ y ∷ (v ++ drop (length v + 3) l)

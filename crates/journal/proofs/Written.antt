@@ -1,5 +1,5 @@
--- What calls write is accepted, however many of the records were written: record by record, what stands behind the records is due next, and
--- the verdict of all bytes is the verdict of those behind.
+-- What calls write is accepted, however many of the records were written: record by record, what follows the records is
+-- expected next, and the verdict of all bytes is the verdict of those after.
 -- Assumes nothing.
 use mathlib.Core.Path.{_≡_, refl, sym, ap, subst, _∙_}
 use mathlib.Core.Bool.{true, false}
@@ -25,7 +25,7 @@ use Rattle.journal.proofs.Few.{accepted-few}
 use Rattle.journal.proofs.WrittenBuffer.{dueBy}
 use Rattle.journal.proofs.WrittenCall.{read, call-judged, due-there, due-sized, due-judged}
 
--- ---- right records, from what is due before them to what is due behind
+-- ---- conforming records, from what is expected before them to what is expected after
 
 pub data Walks : ExpectedNext → List (List ℕ) → ExpectedNext → Type 0 where
   done : {e : ExpectedNext} → Walks e [] e
@@ -36,7 +36,7 @@ pub record Walked (e : ExpectedNext) (rs : List (List ℕ)) : Type 0 where
   pub last : ExpectedNext
   pub walks : Walks e rs last
 
--- the verdict is that of the bytes behind
+-- the verdict is that of the bytes after
 pub verdict-behind : {e u : ExpectedNext} {rs : List (List ℕ)} (n : ℕ) (more : List ℕ) → Walks e rs u
     → verdictFrom e n (concatenated rs ++ more) ≡ verdictFrom u (n + length rs) more
 unfolding concatenated
@@ -86,7 +86,8 @@ all-walked s (c ∷ cs) =
     (λ r. subst (λ (t : Session). AllWalked t (journalOf (playCalls (callStep s c .reply .session) cs))) (refused-same (call-came s c) r) (all-walked (callStep s c .reply .session) cs))
     (λ r. two-records s c r (journalOf (playCalls (callStep s c .reply .session) cs)) (all-walked (callStep s c .reply .session) cs))
 
--- the first m records of what calls on a fresh session write, refused ones among them, are accepted, and m is their number
+-- the first m records of what calls on a fresh session write, refused ones among them, are accepted, and m is
+-- their number
 pub written-accepted : (cs : List Call) (m : ℕ) → m ≤ length (journalOf (playCalls freshSession cs))
     → journalVerdictOf (concatenated (take m (journalOf (playCalls freshSession cs)))) ≡ JournalVerdict.Accepted m
 unfolding journalVerdictOf

@@ -1,5 +1,5 @@
--- What a call answers and the command that it hands out do not depend on what stands in the lent buffer: of two buffers that are long enough,
--- each step is the same in both, by the cases of the step's definition.
+-- What a call answers and the command that it hands out do not depend on what is in the caller's buffer: of two buffers
+-- that are long enough, each step is the same in both, by the cases of the step's definition.
 -- Assumes nothing.
 use mathlib.Core.Path.{_≡_, refl, sym, ap, _∙_}
 use mathlib.Core.Bool.{Bool, true, false, not}
@@ -45,7 +45,7 @@ use Rattle.journal.specs.Record.{twoByteLength, zeroPadded, mostCommandI
 
 -- ---- the same step in two buffers
 
--- refused, ended, or with the same command in front
+-- refused, ended, or with the same command at the front
 pub data SameStep (s : Session) (buf other : List ℕ) : Step → Step → Type 0 where
   refused : (n : ℕ) → SameStep s buf other (refusedStep s n buf) (refusedStep s n other)
   ended : (m n : ℕ) (b : List ℕ) (e : Ending) → SameStep s buf other (withoutCommand (steps.endedReply m n b e) buf) (withoutCommand (steps.endedReply m n b e) other)
@@ -64,7 +64,7 @@ module _ (s : Session) (buf other : List ℕ) where
   hand-out m n b p none = ended m n b (endingBy reasonDol)
   hand-out m n b p (some c) = sent n b p c
 
-  -- the answer to processing options
+  -- the answer to GPO
 
   ask-found : (n : ℕ) (b : List ℕ) (k : ℕ) (f : RecordFound) → R (askRecordFound n b k buf f) (askRecordFound n b k other f)
   ask-found n b k RecordFound.Nothing = ended cvmNotApplicable n b (endingBy reasonAfl)
@@ -209,7 +209,7 @@ withBuffer other (answer card buf) = answer card other
 withBuffer other (link-failed buf) = link-failed other
 withBuffer other (stop buf) = stop other
 
--- a call that is not refused was lent a buffer that is long enough
+-- a call that is not refused was given a buffer that is long enough
 pub room : (s : Session) (c : Call) → isRefusal (callStep s c .reply .answer) ≡ false → 261 ≤ length (bufferOf c)
 room s (start bytes buf) r = admitted-room s buf _ r
 room s (answer card buf) r = admitted-room s buf _ r

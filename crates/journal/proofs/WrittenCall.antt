@@ -1,5 +1,6 @@
--- A call that is taken, with any bytes and any buffer, is read back from its record as a call with the same reply: an answer too long for a
--- record is read as another such one (`answer-long`), the buffer as zeros (`WrittenBuffer`), and a start too long for a record is refused.
+-- A call that is taken, with any bytes and any buffer, is read back from its record as a call with the same reply: an
+-- answer too long for a record is read as another such one (`answer-long`), the buffer as zeros (`WrittenBuffer`), and
+-- a start too long for a record is refused.
 -- Assumes nothing.
 use mathlib.Core.Path.{_≡_, refl, sym, ap, ap₂, _∙_}
 use mathlib.Core.Bool.{true, false}

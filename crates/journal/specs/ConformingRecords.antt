@@ -1,6 +1,6 @@
--- What a verdict says (document 02, Item 1), by what a right kernel writes: calls on a fresh session, none of them
--- refused, are written as records, each call and its reply (`journalOf`), and a journal holds the first of them. The
--- calls may bring any bytes, and any command buffers.
+-- What a verdict reports (document 02, Item 1), by what a conforming kernel writes: calls on a fresh session, none of
+-- them refused, are written as records, each call and its reply (`journalOf`), and a journal holds the first of them.
+-- The calls may bring any bytes, and any command buffers.
 -- Assumes nothing.
 use mathlib.Core.Path.{_≡_}
 use mathlib.Core.Bool.{Bool, true, not}
@@ -32,11 +32,11 @@ pub record KernelWrites (s : Session) (records : List (List ℕ)) : Type 0 where
   pub taken : noneRefused (playCalls s calls) ≡ true
   pub first : take (length records) (journalOf (playCalls s calls)) ≡ records
 
--- a right kernel writes these records first: the session is fresh
+-- a conforming kernel writes these records first: the session is fresh
 abbrev pub Conforming : List (List ℕ) → Type 0
 Conforming records = KernelWrites freshSession records
 
--- what comes in with a call is bytes, and so is the buffer that is lent
+-- what comes in with a call is bytes, and so is the caller's buffer
 abbrev pub CallOfBytes : Call → Type 0
 CallOfBytes (start bytes buf) = AllBytes bytes × AllBytes buf
 CallOfBytes (answer card buf) = AllBytes card × AllBytes buf
@@ -48,12 +48,12 @@ abbrev pub CallsOfBytes : List Call → Type 0
 CallsOfBytes [] = Unit {0}
 CallsOfBytes (c ∷ cs) = CallOfBytes c × CallsOfBytes cs
 
--- the same by calls of bytes: right records of bytes are always written so
+-- the same by calls of bytes: conforming records of bytes are always written so
 pub record KernelWritesBytes (s : Session) (records : List (List ℕ)) : Type 0 where
   pub writes : KernelWrites s records
   pub bytes : CallsOfBytes (writes .calls)
 
--- ---- what stands behind right records
+-- ---- what follows conforming records
 
 -- the kind of the record that begins here
 abbrev pub recordKind : List ℕ → ℕ
@@ -73,7 +73,7 @@ pub record RecordTruncated (rest : List ℕ) : Type 0 where
   pub some : 0 < length rest
   pub short : length rest < journalRecordSize (recordKind rest)
 
--- a kind from 1 to 6 and a whole record, which no right kernel writes behind these records
+-- a kind from 1 to 6 and a whole record, which no conforming kernel writes after these records
 pub record RecordMismatch (records : List (List ℕ)) (rest : List ℕ) : Type 0 where
   pub kind : 0 < journalRecordSize (recordKind rest)
   pub whole : journalRecordSize (recordKind rest) ≤ length rest
@@ -81,14 +81,15 @@ pub record RecordMismatch (records : List (List ℕ)) (rest : List ℕ) : Type 0
 
 -- ---- the three verdicts on the bytes s
 
--- accepted: m right records, one behind the other, and nothing else
+-- accepted: m conforming records, concatenated, and nothing else
 pub record IsAcceptedJournal (s : List ℕ) (m : ℕ) : Type 0 where
   pub records : List (List ℕ)
   pub count : length records ≡ m
   pub conforming : Conforming records
   pub bytes : concatenated records ≡ s
 
--- unlike n: n - 1 right records, and behind them one of an unknown kind, or a whole one that continues them in no way
+-- mismatch n: n - 1 conforming records, and after them one of an unknown kind, or a whole one that continues
+-- them in no way
 pub record IsMismatch (s : List ℕ) (n : ℕ) : Type 0 where
   pub records : List (List ℕ)
   pub rest : List ℕ
@@ -97,7 +98,7 @@ pub record IsMismatch (s : List ℕ) (n : ℕ) : Type 0 where
   pub next : UnknownKind rest ⊎ RecordMismatch records rest
   pub bytes : concatenated records ++ rest ≡ s
 
--- cut n: n - 1 right records, and behind them a piece of a record that is too short
+-- truncated n: n - 1 conforming records, and after them a piece of a record that is too short
 pub record IsTruncated (s : List ℕ) (n : ℕ) : Type 0 where
   pub records : List (List ℕ)
   pub rest : List ℕ
@@ -116,12 +117,12 @@ VerdictExact s (JournalVerdict.Truncated n) = IsTruncated s n
 abbrev pub VerdictSays : List ℕ → JournalVerdict → Type 0
 VerdictSays s r = (v : JournalVerdict) → (r ≡ v) ↔ VerdictExact s v
 
--- right records of bytes are written by calls of bytes
+-- conforming records of bytes are written by calls of bytes
 abbrev pub ConformingBytes : Type 0
 ConformingBytes = (records : List (List ℕ)) → Conforming records → AllBytes (concatenated records) → KernelWritesBytes freshSession records
 
--- every journal that a right kernel writes is accepted, finished or not: the first m records of what any calls write,
--- refused ones among them
+-- every journal that a conforming kernel writes is accepted, finished or not: the first m records of what any calls
+-- write, refused ones among them
 abbrev pub ConformingAccepted : Type 0
 ConformingAccepted =
     (cs : List Call) (m : ℕ) → m ≤ length (journalOf (playCalls freshSession cs))
@@ -131,10 +132,10 @@ ConformingAccepted =
 abbrev pub AcceptedFew : Type 0
 AcceptedFew = (s : List ℕ) (m : ℕ) → journalVerdictOf s ≡ JournalVerdict.Accepted m → m ≤ 262
 
--- ---- the right record in the place of an unlike one
+-- ---- the conforming record in place of a mismatching one
 
--- by these verdicts the bytes s are m - 1 right records and more; with d behind these records there are m right ones,
--- and so with nothing else
+-- by these verdicts the bytes s are m - 1 conforming records and more; with d after these records there are m
+-- conforming ones, and so with nothing else
 pub record OnlyConforming (verdict : List ℕ → JournalVerdict) (m : ℕ) (s d : List ℕ) : Type 0 where
   pub before : List ℕ
   pub rest : List ℕ
@@ -143,18 +144,18 @@ pub record OnlyConforming (verdict : List ℕ → JournalVerdict) (m : ℕ) (s d
   pub conforming : verdict (before ++ d) ≡ JournalVerdict.Accepted m
   pub only : (r : List ℕ) → verdict (before ++ r) ≡ JournalVerdict.Accepted m → r ≡ d
 
--- where record n is unlike and `expectedReplyOf` gives some bytes, they are the one right record there
+-- where record n is a mismatch and `expectedReplyOf` gives some bytes, they are the one conforming record there
 abbrev pub ExpectedOnly : Type 0
 ExpectedOnly =
     (s : List ℕ) (n : ℕ) → journalVerdictOf s ≡ JournalVerdict.Mismatch n → 0 < length (expectedReplyOf s)
     → OnlyConforming journalVerdictOf n s (expectedReplyOf s)
 
--- a reply stands at the records of even number: there some bytes are given, and none where a call was due
+-- a reply is at the records of even number: there some bytes are given, and none where a call was expected
 abbrev pub ExpectedAtEven : Type 0
 ExpectedAtEven = (s : List ℕ) (n : ℕ) → journalVerdictOf s ≡ JournalVerdict.Mismatch n → (n % 2 ≡ 0) ↔ (0 < length (expectedReplyOf s))
 
--- ---- what holds of it: the promises `conforming`, `bytes`, `written` and `few` of finish, `only` and `even` of wanted;
--- proved in proofs/ (Exact, Written, RightRecord)
+-- ---- what holds of it: the promises `conforming`, `bytes`, `written` and `few` of finish, `only` and `even` of
+-- wanted; proved in proofs/ (Exact, Written, RightRecord)
 --   exact              of bytes s: SaysOf s (verdictOf s)
 --   right-bytes        RightBytes
 --   written-accepted   WrittenAccepted

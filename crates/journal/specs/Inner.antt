@@ -1,5 +1,5 @@
--- The checker itself, for every checker: the first one, the one behind each byte more, and what is said where the
--- journal ends. It follows the code, and a reader of the rules can pass it over: a checker that was fed the bytes s, in
+-- The checker itself, for every checker: the first one, the one after each further byte, and what is reported where the
+-- journal ends. It follows the code, and a reader of the rules can skip it: a checker that was fed the bytes s, in
 -- whatever parts (`CheckerFollows`), says `journalVerdictOf` and `expectedReplyOf` of them.
 -- Assumes nothing.
 use mathlib.Core.Path.{_≡_}
@@ -22,7 +22,7 @@ use Rattle.journal.specs.Verdict.{ExpectedNext, expectedNext, expectedAt
 abbrev pub mostJournalRecords : ℕ
 mostJournalRecords = 1000
 
--- ---- what is due
+-- ---- what is expected
 
 -- a reply's record with the whole buffer in it
 abbrev pub replyRecordWithBuffer : CallResult → List ℕ → List ℕ
@@ -30,26 +30,26 @@ replyRecordWithBuffer (CallResult.Command x) buf = 5 ∷ (twoByteLength (x .size
 replyRecordWithBuffer (CallResult.Outcome e) buf = 6 ∷ outcomeNumber (e .outcome) ∷ e .reason ∷ []
 replyRecordWithBuffer (CallResult.Refused r) buf = []
 
--- what is due in a standing; once a record was unlike, what was due there
+-- what is expected in a standing; once a record was a mismatch, what was expected there
 abbrev pub expectedIn : CheckState → ExpectedNext
 expectedIn s = expectedNext (s .session) (take (s .size) (s .due))
 
--- the standing in which this is due
+-- the standing in which this is expected
 abbrev pub checkStateOf : ExpectedNext → CheckState
 checkStateOf e = record { session = e .session; due = zeroPadded commandRecordSize (e .due); size = length (e .due); conforming = true }
 
--- behind a record that was judged; behind an unlike one all stays but that it is no longer right
+-- after a record that was judged; after a mismatching one only its conformance changes
 abbrev pub checkStateBy : CheckState → Option ExpectedNext → CheckState
 checkStateBy s none = record { session = s .session; due = s .due; size = s .size; conforming = false }
 checkStateBy s (some e) = checkStateOf e
 
--- ---- the checker behind some bytes
+-- ---- the checker after some bytes
 
 -- nothing was fed
 unfoldable pub firstChecker : JournalChecker
 firstChecker = record { standing = checkStateOf expectedAtStart; held = replicate startRecordSize 0; length = 0; records = 0 }
 
--- no record was unlike, and every number is within its bound; else a checker stays as it is
+-- no record was a mismatch, and every number is within its bound; else a checker stays as it is
 abbrev pub checkerContinues : JournalChecker → Bool
 checkerContinues c = c .standing .conforming and c .length <? startRecordSize and c .standing .size ≤? commandRecordSize and c .records <? mostJournalRecords
 
@@ -57,7 +57,7 @@ checkerContinues c = c .standing .conforming and c .length <? startRecordSize an
 abbrev pub checkerHolding : JournalChecker → List ℕ → JournalChecker
 checkerHolding c h = record { standing = c .standing; held = h; length = c .length + 1; records = c .records }
 
--- the record in front of the bytes h is judged
+-- the record at the front of the bytes h is judged
 abbrev pub checkerJudging : JournalChecker → List ℕ → JournalChecker
 checkerJudging c h =
     record {
@@ -73,7 +73,7 @@ judgedIfWhole c h =
     if c .length + 1 <? firstRecordSize h then checkerHolding c h
     else checkerJudging c h
 
--- one byte more
+-- one more byte
 unfoldable pub checkerPushed : JournalChecker → ℕ → JournalChecker
 checkerPushed c b =
     if checkerContinues c then judgedIfWhole c (set (c .held) (c .length) b)
@@ -90,20 +90,20 @@ CheckerFollows c s = c ≡ checkerPushedAll firstChecker s
 
 -- ---- where the journal ends
 
--- the number of the record that is held, behind n others
+-- the number of the record that is held, after n others
 abbrev pub heldRecordNumber : ℕ → ℕ
 heldRecordNumber n =
     if n <? mostJournalRecords then n + 1
     else n
 
--- an unlike record is named, a record that is held is cut; else all were right
+-- a mismatching record is named, a record that is held is truncated; else all were conforming
 unfoldable pub checkerVerdict : JournalChecker → JournalVerdict
 checkerVerdict c =
     if not (c .standing .conforming) then JournalVerdict.Mismatch (c .records)
     else if c .length =? 0 then JournalVerdict.Accepted (c .records)
     else JournalVerdict.Truncated (heldRecordNumber (c .records))
 
--- what was due where a record was unlike, of size 0 where none was
+-- what was expected where a record was a mismatch, of size 0 where none was
 unfoldable pub checkerExpected : JournalChecker → ExpectedRecord
 checkerExpected c =
     if c .standing .conforming or commandRecordSize <? c .standing .size then record { bytes = replicate commandRecordSize 0; size = 0 }

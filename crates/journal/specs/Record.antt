@@ -56,7 +56,7 @@ answerRecordSize = 261
 abbrev pub commandRecordSize : ℕ
 commandRecordSize = 264
 
--- the size of a record, its kind byte counted in; 0 for every other kind
+-- the size of a record, its kind byte included; 0 for every other kind
 unfoldable pub journalRecordSize : ℕ → ℕ
 journalRecordSize kind =
     if kind =? recordKindStart then startRecordSize
@@ -73,11 +73,11 @@ journalRecordSize kind =
 abbrev pub twoByteLength : ℕ → List ℕ
 twoByteLength n = n / 256 % 256 ∷ n % 256 ∷ []
 
--- bytes with zeros behind them, n in all
+-- bytes with zeros after them, n in all
 abbrev pub zeroPadded : ℕ → List ℕ → List ℕ
 zeroPadded n v = v ++ replicate (n - length v) 0
 
--- the length in two bytes, the bytes, and zeros: n bytes behind the length
+-- the length in two bytes, the bytes, and zeros: n bytes after the length
 abbrev pub lengthAndPadded : ℕ → List ℕ → List ℕ
 lengthAndPadded n v = twoByteLength (length v) ++ zeroPadded n v
 
@@ -98,8 +98,7 @@ journalCallRecord (answer card buf) = recordKindAnswer ∷ answerBody card
 journalCallRecord (link-failed buf) = recordKindLinkFailed ∷ []
 journalCallRecord (stop buf) = recordKindStop ∷ []
 
--- what a call hands back: the command in the front of the buffer, or the outcome and its reason; a refusal is not
--- written
+-- what a call returns: the command at the front of the buffer, or the outcome and its reason; a refusal is not written
 abbrev pub journalReplyRecord : CallResult → List ℕ → List ℕ
 journalReplyRecord (CallResult.Command x) buf = recordKindCommand ∷ (twoByteLength (x .size) ++ zeroPadded mostCommandInRecord (take (x .size) buf))
 journalReplyRecord (CallResult.Outcome e) buf = recordKindOutcome ∷ outcomeNumber (e .outcome) ∷ e .reason ∷ []
@@ -112,7 +111,7 @@ journalOf (m ∷ ms) =
     if callRefused m then journalOf ms
     else journalCallRecord (m .call) ∷ journalReplyRecord (callResult m) (m .step .buffer) ∷ journalOf ms
 
--- records one behind the other
+-- records concatenated
 unfoldable pub concatenated : List (List ℕ) → List ℕ
 concatenated [] = []
 concatenated (r ∷ rs) = r ++ concatenated rs
@@ -127,7 +126,7 @@ journalBuffer = replicate leastBuffer 0
 abbrev pub recordLength : List ℕ → ℕ
 recordLength r = getD r 1 0 * 256 + getD r 2 0
 
--- the bytes behind the length
+-- the bytes after the length
 abbrev pub recordBodyIn : List ℕ → List ℕ
 recordBodyIn r = drop 3 r
 
@@ -135,7 +134,7 @@ recordBodyIn r = drop 3 r
 abbrev pub recordDataIn : List ℕ → List ℕ
 recordDataIn r = take (recordLength r) (recordBodyIn r)
 
--- the length is at most n, and the bytes behind those that it counts are zero
+-- the length is at most n, and the bytes after those that it counts are zero
 unfoldable pub recordFits : ℕ → List ℕ → Bool
 recordFits n r = recordLength r ≤? n and every isZeroByte (drop (recordLength r) (recordBodyIn r))
 

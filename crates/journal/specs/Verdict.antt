@@ -1,5 +1,5 @@
--- What a journal's bytes are judged to be (document 02, Item 1): accepted, or the number of the first record that is
--- unlike what document 01 gives or is cut. Records count from 1.
+-- What a journal's bytes are judged to be (document 02, Item 1): accepted, or the number of the first record that
+-- differs from what document 01 gives or is truncated. Records count from 1.
 -- Assumes nothing.
 use mathlib.Core.List.{List, [], _∷_}
 use mathlib.Core.Option.{Option, some, none}
@@ -15,7 +15,7 @@ use Rattle.session.specs.Calls.{Call, callStep}
 use Rattle.journal.specs.declared.JournalVerdict.{JournalVerdict}
 use Rattle.journal.specs.Record.{journalRecordSize, callFrom, journalReplyRecord}
 
--- ---- what is due
+-- ---- what is expected
 
 -- the session so far, and the reply's record that comes next; empty where a call comes next
 pub record ExpectedNext : Type 0 where
@@ -30,9 +30,9 @@ expectedNext s d = record { session = s; due = d }
 abbrev pub expectedAtStart : ExpectedNext
 expectedAtStart = expectedNext freshSession []
 
--- ---- one whole record: what is due behind it, or none where it is unlike what document 01 gives
+-- ---- one whole record: what is expected after it, or none where it differs from what document 01 gives
 
--- the reply of a call that is taken is due; a refused call has none, and is itself unlike
+-- the reply of a call that is taken is expected; a refused call has none, and is itself a mismatch
 abbrev pub replyExpected : Session → List ℕ → Option ExpectedNext
 replyExpected s [] = none
 replyExpected s (b ∷ d) = some (expectedNext s (b ∷ d))
@@ -41,12 +41,12 @@ replyExpected s (b ∷ d) = some (expectedNext s (b ∷ d))
 abbrev pub replyExpectedAfter : Step → Option ExpectedNext
 replyExpectedAfter st = replyExpected (st .reply .session) (journalReplyRecord (st .reply .answer) (st .buffer))
 
--- a record that stands for no call is unlike
+-- a record that stands for no call is a mismatch
 abbrev pub callJudged : Session → Option Call → Option ExpectedNext
 callJudged s none = none
 callJudged s (some c) = replyExpectedAfter (callStep s c)
 
--- where a call is due, by the call; where a reply is due, it must be that record byte for byte
+-- where a call is expected, by the call; where a reply is expected, it must be that record byte for byte
 abbrev pub recordJudgedBy : Session → List ℕ → List ℕ → Option ExpectedNext
 recordJudgedBy s [] r = callJudged s (callFrom r)
 recordJudgedBy s (b ∷ d) r =
@@ -58,13 +58,13 @@ recordJudged e r = recordJudgedBy (e .session) (e .due) r
 
 -- ---- all bytes
 
--- an unlike record is named by its number n; behind a right one the journal goes on
+-- a mismatching record is named by its number n; after a conforming one the journal goes on
 abbrev pub verdictContinues : (ExpectedNext → JournalVerdict) → ℕ → Option ExpectedNext → JournalVerdict
 verdictContinues k n none = JournalVerdict.Mismatch n
 verdictContinues k n (some e) = k e
 
--- behind n right records: the end is accepted; an unknown kind is unlike, even as the last byte; a record with fewer
--- bytes than its kind has is cut, whatever it holds; a whole one is judged, and k judges what stands behind it
+-- after n conforming records: the end is accepted; an unknown kind is a mismatch, even as the last byte; a record with
+-- fewer bytes than its kind has is truncated, whatever it holds; a whole one is judged, and k judges what follows it
 abbrev pub verdictNextRecord : (ExpectedNext → ℕ → List ℕ → JournalVerdict) → ExpectedNext → ℕ → List ℕ → JournalVerdict
 verdictNextRecord k e n [] = JournalVerdict.Accepted n
 verdictNextRecord k e n (b ∷ s) =
@@ -84,33 +84,34 @@ verdictFrom e n s = recurse (λ e n. JournalVerdict.Accepted n) verdictNextBytes
 unfoldable pub journalVerdictOf : List ℕ → JournalVerdict
 journalVerdictOf s = verdictFrom expectedAtStart 0 s
 
--- ---- the right record in the place of an unlike one
+-- ---- the conforming record in place of a mismatching one
 
 -- the size of the record that these bytes begin with
 abbrev pub firstRecordSize : List ℕ → ℕ
 firstRecordSize s = journalRecordSize (getD s 0 0)
 
--- what k says of what is due behind a record; nothing is due behind an unlike one
+-- what k says of what is expected after a record; nothing is expected after a mismatching one
 abbrev pub replyDueThen : (ExpectedNext → List ℕ) → Option ExpectedNext → List ℕ
 replyDueThen k none = []
 replyDueThen k (some e) = k e
 
--- the reply's record that is due behind the first m records, where e is due in front of them; no bytes where a call is
+-- the reply's record that is expected after the first m records, where e is expected before them; no bytes
+-- where a call is
 unfoldable pub replyDueAfter : ℕ → ExpectedNext → List ℕ → List ℕ
 replyDueAfter zero e s = e .due
 replyDueAfter (suc m) e s = replyDueThen (λ t. replyDueAfter m t (drop (firstRecordSize s) s)) (recordJudged e (take (firstRecordSize s) s))
 
--- where record n is unlike and a reply was due, that reply's record; else no bytes: where a call was due, either no
--- record would be right or more than one
+-- where record n is a mismatch and a reply was expected, that reply's record; else no bytes: where a call was expected,
+-- either no record would be conforming or more than one
 abbrev pub expectedReplyBy : List ℕ → JournalVerdict → List ℕ
 expectedReplyBy s (JournalVerdict.Accepted n) = []
 expectedReplyBy s (JournalVerdict.Mismatch n) = replyDueAfter (n - 1) expectedAtStart s
 expectedReplyBy s (JournalVerdict.Truncated n) = []
 
--- the one right record in the place of the first unlike one of a whole journal
+-- the one conforming record in place of the first mismatching one of a whole journal
 unfoldable pub expectedReplyOf : List ℕ → List ℕ
 expectedReplyOf s = expectedReplyBy s (journalVerdictOf s)
 
 -- ---- what holds of it, proved in proofs/
 --   unroll             verdictFrom e n s ≡ nextRecord verdictFrom e n s
--- What a verdict says of the calls that a right kernel takes is in Written.antt.
+-- What a verdict reports of the calls that a conforming kernel takes is in Written.antt.

@@ -15,12 +15,12 @@ startRecordBytes v =
     if length v ≤? mostStartInRecord then journalCallRecord (start v [])
     else replicate startRecordSize 0
 
--- a command of n bytes in the front of a buffer; one that is longer than a record or the buffer is none
+-- a command of n bytes at the front of a buffer; one that is longer than a record or the buffer is none
 unfoldable pub commandRecordBytes : ℕ → List ℕ → List ℕ
 commandRecordBytes n buf =
     if n ≤? mostCommandInRecord and n ≤? length buf then journalReplyRecord (CallResult.Command (record { size = n })) buf
     else replicate commandRecordSize 0
 
--- kind, length in two bytes and the bytes v in front of the list l, whose bytes behind stay
+-- kind, length in two bytes and the bytes v at the front of the list l, whose bytes after stay
 abbrev pub recordFilledIn : ℕ → List ℕ → List ℕ → List ℕ
 recordFilledIn kind v l = kind ∷ (twoByteLength (length v) ++ (v ++ drop (length v + 3) l))

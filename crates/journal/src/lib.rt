@@ -1,5 +1,5 @@
-// Says whether the journal of a session could have come from a right kernel: `begin`, `feed` with parts of
-// any size, and `finish` at the end; `expected_record` gives the right record where one is unlike.
+// Reports whether the journal of a session could have come from a conforming kernel: `begin`, `feed` with parts of any
+// size, and `finish` at the end; `expected_record` gives the conforming record where one is a mismatch.
 //
 // A journal is records of one byte of kind and a body whose size the kind fixes. At most one record is
 // held, so a journal of any size needs the room of one `JournalChecker`.
@@ -13,8 +13,8 @@ pub const KIND_STOP: u8 = 4;
 pub const KIND_COMMAND: u8 = 5;
 pub const KIND_OUTCOME: u8 = 6;
 
-// The most bytes that a start, a card answer and a command have in a record, and the sizes of the records: kind and two length
-// bytes before them. A start's is the longest.
+// The most bytes that a start, a card answer and a command have in a record, and the sizes of the records: kind and two
+// length bytes before them. A start's is the longest.
 pub const MOST_START: usize = 1024;
 pub const MOST_ANSWER: usize = 258;
 pub const MOST_COMMAND: usize = 261;
@@ -46,16 +46,16 @@ ghost use Rattle.journal.specs.ConformingRecords.{AllBytes, VerdictSays,
 ghost use Rattle.journal.specs.Inner.{replyRecordWithBuffer, expectedIn, checkStateOf, checkStateBy};
 ghost use Rattle.journal.specs.Inner.{firstChecker, checkerPushed, checkerPushedAll, checkerVerdict, checkerExpected, CheckerFollows};
 
-// What a journal is: accepted, with the number of its records; or the number of the first record that is
-// unlike what the rules give, or of the one that is cut. Records count from 1.
+// What a journal is: accepted, with the number of its records; or the number of the first record that differs from what
+// the rules give, or of the one that is truncated. Records count from 1.
 pub enum JournalVerdict {
     Accepted(usize),
     Mismatch(usize),
     Truncated(usize),
 }
 
-// The session so far, and the reply's record that comes next, of size 0 where a call comes next; not right
-// once a record was unlike, with what was due there.
+// The session so far, and the reply's record that comes next, of size 0 where a call comes next; no longer conforming
+// once a record was a mismatch, with what was expected there.
 pub struct CheckState {
     pub session: Session,
     pub due: [u8; COMMAND_RECORD],
@@ -63,8 +63,8 @@ pub struct CheckState {
     pub conforming: bool,
 }
 
-// A checker behind some bytes: the records seen, the one that is unlike counted in, and the part of a
-// record that is held.
+// A checker after some bytes: the records seen, the one that is a mismatch included, and the part of a record
+// that is held.
 pub struct JournalChecker {
     pub standing: CheckState,
     pub held: [u8; START_RECORD],
@@ -72,8 +72,8 @@ pub struct JournalChecker {
     pub records: usize,
 }
 
-// The one right record in the place of an unlike one, in the front of `bytes`; of size 0 where no record is
-// unlike, and where a call was due, as then none or more than one would be right.
+// The one conforming record in place of a mismatching one, at the front of `bytes`; of size 0 where no record is a
+// mismatch, and where a call was expected, as then none or more than one would be conforming.
 pub struct ExpectedRecord {
     pub bytes: [u8; COMMAND_RECORD],
     pub size: usize,
@@ -119,7 +119,7 @@ pub fn begin() -> JournalChecker
     }
 }
 
-// The checker behind one part more. Behind an unlike record nothing is looked at.
+// The checker after one more part. After a mismatching record nothing is examined.
 pub fn feed(checker: JournalChecker, part: &[u8]) -> JournalChecker
     ensures checker { λ r. ⌜ r ≡ checkerPushedAll checker (now (part .entry)) ⌝ }
     ensures follows { λ r. ⌜ ((s : List ℕ) → CheckerFollows checker s → CheckerFollows r (s ++ now (part .entry))) ⌝ }
@@ -159,7 +159,7 @@ pub fn finish(checker: JournalChecker) -> JournalVerdict
     JournalVerdict::Truncated(checker.records + 1)
 }
 
-// The right record where one is unlike and a reply was due.
+// The conforming record where one is a mismatch and a reply was expected.
 pub fn expected_record(checker: JournalChecker) -> ExpectedRecord
     ensures wanted { λ r. ⌜ r ≡ checkerExpected checker ⌝ }
     ensures size { λ r. ⌜ r .size ≤ 264 ⌝ }
@@ -179,7 +179,7 @@ pub fn expected_record(checker: JournalChecker) -> ExpectedRecord
     ExpectedRecord { bytes, size }
 }
 
-// The checker behind one byte more.
+// The checker after one more byte.
 fn push(checker: JournalChecker, byte: u8) -> JournalChecker
     ensures { λ r. ⌜ r ≡ checkerPushed checker byte ⌝ }
 {
@@ -217,7 +217,7 @@ fn push(checker: JournalChecker, byte: u8) -> JournalChecker
     }
 }
 
-// A whole record, or an empty one in the place of an unknown kind, is judged by what is due.
+// A whole record, or an empty one in the place of an unknown kind, is judged by what is expected.
 fn judge(standing: CheckState, whole: &[u8]) -> CheckState
     requires { ⌜ (length (now whole) ≡ journalRecordSize (getD (now whole) 0 0)) × (standing .size ≤ 264) ⌝ }
     ensures { λ r. ⌜ r ≡ checkStateBy standing (recordJudged (expectedIn standing) (now (whole .entry))) ⌝ }
@@ -246,7 +246,7 @@ fn waiting(session: Session) -> CheckState
     }
 }
 
-// A record was unlike; what was due there stays.
+// A record was a mismatch; what was expected there stays.
 fn wrong(standing: CheckState) -> CheckState
     ensures { λ r. ⌜ r ≡ checkStateBy standing none ⌝ }
 {
@@ -260,7 +260,7 @@ fn wrong(standing: CheckState) -> CheckState
     }
 }
 
-// Where a call is due: the call is made, and its reply is due.
+// Where a call is expected: the call is made, and its reply is expected.
 fn called(standing: CheckState, whole: &[u8]) -> CheckState
     requires { ⌜ length (now whole) ≡ journalRecordSize (getD (now whole) 0 0) ⌝ }
     ensures { λ r. ⌜ r ≡ checkStateBy standing (calledOf (standing .session) (callFrom (now (whole .entry)))) ⌝ }
@@ -336,7 +336,7 @@ fn stopped(standing: CheckState) -> CheckState
     due_of(standing, reply, buffer)
 }
 
-// The length is at most `most`, and the bytes behind those that it counts are zero.
+// The length is at most `most`, and the bytes after those that it counts are zero.
 fn fits(whole: &[u8], most: usize) -> bool
     requires { ⌜ length (now whole) ≡ most + 3 ⌝ }
     ensures { λ r. ⌜ r ≡ fitsIn most (now (whole .entry)) ⌝ }
@@ -383,7 +383,7 @@ fn is_zero(v: &[u8]) -> bool
     true
 }
 
-// What is due behind a call that handed this back with this buffer.
+// What is expected after a call that returned this with this buffer.
 fn due_of(standing: CheckState, reply: Reply, buffer: [u8; MOST_COMMAND]) -> CheckState
     ensures { λ r. ⌜ r ≡ checkStateBy standing (repliedOf (reply .session) (replyRecordWithBuffer (reply .answer) buffer)) ⌝ }
 {
@@ -396,7 +396,7 @@ fn due_of(standing: CheckState, reply: Reply, buffer: [u8; MOST_COMMAND]) -> Che
     }
 }
 
-// A command's record is due.
+// A command's record is expected.
 fn command_due(session: Session, size: usize, buffer: [u8; MOST_COMMAND]) -> CheckState
     ensures { λ r. ⌜ r ≡ checkStateOf (expectedNext session (5 ∷ (twoByteLength size ++ buffer))) ⌝ }
 {
@@ -413,7 +413,7 @@ fn command_due(session: Session, size: usize, buffer: [u8; MOST_COMMAND]) -> Che
     }
 }
 
-// An outcome's record is due.
+// An outcome's record is expected.
 fn outcome_due(session: Session, end: OutcomeParameters) -> CheckState
     ensures { λ r. ⌜ r ≡ checkStateOf (expectedNext session (6 ∷ outcomeNumber (end .outcome) ∷ end .reason ∷ [])) ⌝ }
 {

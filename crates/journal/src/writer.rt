@@ -1,6 +1,6 @@
 // The records of a session's journal, written: of each call that was not refused, and of its reply.
 //
-// A record is one byte of kind and a body whose size the kind fixes. What stands in each is defined with the library
+// A record is one byte of kind and a body whose size the kind fixes. What is in each is defined with the library
 // `journal`, which checks them.
 use crate::{ANSWER_RECORD, COMMAND_RECORD, MOST_ANSWER, MOST_COMMAND, MOST_START, OUTCOME_RECORD, START_RECORD};
 use crate::{KIND_ANSWER, KIND_COMMAND, KIND_LINK_FAILED, KIND_OUTCOME, KIND_START, KIND_STOP};
@@ -55,7 +55,7 @@ pub fn stop_record() -> [u8; 1]
     [KIND_STOP]
 }
 
-// A command that stands in the front of a buffer. One of more bytes than a record or the buffer has is none: zeros.
+// A command that is at the front of a buffer. One of more bytes than a record or the buffer has is none: zeros.
 pub fn command_record(size: usize, buffer: &[u8]) -> [u8; COMMAND_RECORD]
     ensures { λ r. ⌜ r ≡ commandRecordBytes size (now (buffer .entry)) ⌝ }
 {
@@ -78,7 +78,7 @@ pub fn outcome_record(end: OutcomeParameters) -> [u8; OUTCOME_RECORD]
     [KIND_OUTCOME, session_record::outcome_number(outcome), end.reason]
 }
 
-// Kind, length in two bytes and the bytes, in front of what stands there.
+// Kind, length in two bytes and the bytes, at the front of what is there.
 fn fill(kind: u8, bytes: &[u8], out: &mut [u8])
     requires { ⌜ length (now bytes) + 3 ≤ length (now out) ⌝ }
     ensures { λ _. ⌜ now (out .exit) ≡ recordFilledIn kind (now (bytes .entry)) (now (out .entry)) ⌝ }

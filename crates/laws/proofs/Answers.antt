@@ -1,5 +1,5 @@
--- Whole answers. A record's answer gives what its contents give (`whole`), and every answer that is accepted is one (`accepted-whole`), so the law on
--- contents is the law on answers.
+-- Whole answers. A record's answer gives what its contents give (`whole`), and every answer that is accepted is one
+-- (`accepted-whole`), so the law on contents is the law on answers.
 -- Assumes nothing.
 use mathlib.Core.Path.{_≡_, refl, sym, ap, subst, _∙_}
 use mathlib.Core.Bool.{true, false}

@@ -1,5 +1,6 @@
--- Contents that share no tag. The objects of their trees have different tags at every depth (`apart`), so proofs/Taking's two lists meet in one
--- store; joined contents parse to the joined tree, whose objects are those of the one behind those of the other.
+-- Contents that share no tag. The objects of their trees have different tags at every depth (`apart`), so
+-- proofs/Taking's two lists meet in one store; joined contents parse to the joined tree, whose objects are those of the
+-- one after those of the other.
 -- Assumes nothing.
 use mathlib.Core.Path.{_≡_, refl, sym, ap, subst, _∙_}
 use mathlib.Core.Bool.{true}
@@ -99,7 +100,7 @@ accepted-read b c l a = go (recordTree c) refl
           absurd (omega arith)
     ]
 
--- contents behind one another, as one content
+-- contents after one another, as one content
 read-join : {b c d x y : List ℕ} → Read b c x → (r : Read x d y) → Read b (c ++ d) y
 read-join {b} {c} {d} {x} {y} q r = record {
   tree = join (q .tree) (r .tree);

@@ -1,4 +1,5 @@
--- Instances of the laws, computed with the stores that they come to; and for each law a case that lacks its hypothesis, where it is false.
+-- Instances of the laws, computed with the stores that they come to; and for each law a case that lacks its hypothesis,
+-- where it is false.
 -- Assumes nothing.
 use mathlib.Core.Path.{_≡_, refl}
 use mathlib.Core.Bool.{true, false}
@@ -51,14 +52,14 @@ unfolding dolDataBy dolData dolEntryBytes truncated paddingByte padded fittedTo 
     tagFirstByte isTemplate bigEndianFrom if dictionaryRows rowPast findRow rowOffset rowPlace placeValue rowValue putRow
 amount-joined = refl
 
--- 5A03 and 5A01: padded in the one, cut in the other
+-- 5A03 and 5A01: padded in the one, truncated in the other
 number-joined : map (dolFilled dictionaryRows (with empty 0x5A (0x12 ∷ 0x34 ∷ []))) ((0x5A ∷ 3 ∷ []) ∷ (0x5A ∷ 1 ∷ []) ∷ (0x5A ∷ 3 ∷ 0x5A ∷ 1 ∷ []) ∷ [])
     ≡ some (0x12 ∷ 0x34 ∷ 0xFF ∷ []) ∷ some (0x12 ∷ []) ∷ some (0x12 ∷ 0x34 ∷ 0xFF ∷ 0x12 ∷ []) ∷ []
 unfolding dolDataBy dolData dolEntryBytes truncated paddingByte padded fittedTo dolEntries recurse recurseBy entriesNext dolEntryAt entryWithLength entryBefore tagAt tagSize
     tagFirstByte isTemplate bigEndianFrom if dictionaryRows rowPast findRow rowOffset rowPlace placeValue rowValue putRow
 number-joined = refl
 
--- a first list that is not whole: 9F is broken and 0202 fills to zeros, but joined they ask for 9F02
+-- a first list that is not whole: 9F is broken and 0202 fills to zeros, but joined they request 9F02
 first-broken : map (dolFilled dictionaryRows amounts) ((0x9F ∷ []) ∷ (0x02 ∷ 2 ∷ []) ∷ (0x9F ∷ 0x02 ∷ 2 ∷ []) ∷ [])
     ≡ none ∷ some (0 ∷ 0 ∷ []) ∷ some (0x12 ∷ 0x34 ∷ []) ∷ []
 unfolding dolDataBy dolData dolEntryBytes truncated paddingByte padded fittedTo dolEntries recurse recurseBy entriesNext dolEntryAt entryWithLength entryBefore tagAt tagSize tagSecondByte
@@ -113,7 +114,7 @@ unfolding parseTree recurse recurseBy nextOf headerOf tagAt tagSize tagSecondByt
     templateParts primitiveItems takeAll takeNext takeItem dictionaryRows rowPast findRow allowedNow allowedInResponse allowedInTemplate fitsRow digitsFit numeric nibbles rowOffset rowPlace placeValue rowValue putRow
 empty-there = record { alone = refl; accepted = refl; same = refl }
 
--- a tag in both: 5700 and 5701AA are accepted alone, but the empty one not behind the other
+-- a tag in both: 5700 and 5701AA are accepted alone, but the empty one not after the other
 pub record Shared (b c d : List ℕ) (t : ℕ) : Type 0 where
   first : bringsIn t (recordTree c) ≡ true
   second : bringsIn t (recordTree d) ≡ true
@@ -136,7 +137,7 @@ shared-inside = record { first = refl; second = refl; alone = refl; ordered = re
 abbrev sfi : ℕ → Sfi
 sfi n = record { number = n }
 
--- a record of file 1 and one of file 10, whose length stands behind 81, and both in one of file 2
+-- a record of file 1 and one of file 10, whose length is after 81, and both in one of file 2
 abbrev one : List ℕ
 one = 0x70 ∷ 0x04 ∷ 0x5F ∷ 0x34 ∷ 0x01 ∷ 0x01 ∷ 0x90 ∷ 0x00 ∷ []
 

@@ -1,5 +1,5 @@
--- How many bytes of contents a record's answer holds. Up to 253 the shortest encoding is an answer of at most 258 bytes (`room`); no answer holds
--- more, since a length over 127 takes two bytes at least (`most-held`).
+-- How many bytes of contents a record's answer holds. Up to 253 the shortest encoding is an answer of at most 258 bytes
+-- (`room`); no answer holds more, since a length over 127 takes two bytes at least (`most-held`).
 -- Assumes nothing.
 use mathlib.Core.Path.{_≡_, refl, sym, ap, _∙_}
 use mathlib.Core.Bool.{true}
@@ -104,7 +104,7 @@ module _ (c : List ℕ) (h : length c ≤ 253) where
 
 -- ---- no answer holds more
 
--- a length that stands in one byte is below 128
+-- a length that is in one byte is below 128
 abbrev Low : LengthFront → Type 0
 Low Unsized = Unit {0}
 Low (Sized e) = e .size ≤ 1 → e .len < 0x80

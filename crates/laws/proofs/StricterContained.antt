@@ -1,4 +1,4 @@
--- Containment by a test that is computed, right both ways: none of the forty bits is missing.
+-- Containment by a test that is computed, correct in both directions: none of the forty bits is missing.
 -- Assumes nothing.
 use mathlib.Core.Path.{_≡_, refl, sym, ap}
 use mathlib.Core.Bool.{Bool, true, false, not}

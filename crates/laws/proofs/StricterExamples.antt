@@ -1,6 +1,7 @@
--- Changes computed: additions by which the choice falls, so that the law is about something, additions that keep it, and changes that are no
--- additions and raise it, with the ranks before and after. A change is of the result bits, the type and the codes; what is computed holds in
--- the stores made of them. Whether it is an addition is computed too, by a test over the forty bits of each list that is right both ways.
+-- Changes computed: additions by which the choice falls, so that the law is about something, additions that keep it,
+-- and changes that are no additions and raise it, with the ranks before and after. A change is of the TVR, the type and
+-- the codes; what is computed holds in the stores made of them. Whether it is an addition is computed too, by a test
+-- over the forty bits of each list that is correct in both directions.
 -- Assumes nothing.
 use mathlib.Core.Path.{_≡_, refl, sym, ap, ap₂, _∙_}
 use mathlib.Core.Bool.{Bool, true, false}
@@ -30,12 +31,12 @@ use Rattle.laws.proofs.StricterStored.{valueAmong, storeOf, haveRoom, s
 abbrev tags : List ℕ
 tags = 0x9F35 ∷ 0x9F0E ∷ 0xDF8121 ∷ 0x9F0F ∷ 0xDF8122 ∷ 0x9F0D ∷ 0xDF8120 ∷ []
 
--- the result bits, and the values of these tags
+-- the TVR, and the values of these tags
 record State : Type 0 where
   bits : List ℕ
   values : List StoredValue
 
--- result bits, with what a store holds
+-- a TVR, with what a store holds
 abbrev inStore : List ℕ → List ℕ → State
 inStore r b = record { bits = r; values = map (objectValue b) tags }
 
@@ -76,11 +77,11 @@ codesAdd x y =
     cardAdds x y denialStage and cardAdds x y onlineStage and cardAdds x y defaultStage
     and terminalAdds x y denialStage and terminalAdds x y onlineStage and terminalAdds x y defaultStage
 
--- the type is kept, and the result bits and all codes are contained in the new ones
+-- the type is kept, and the TVR and all codes are contained in the new ones
 abbrev isAddition : State → State → Bool
 isAddition x y = typeOf y =? typeOf x and contained (x .bits) (y .bits) and codesAdd x y
 
--- of two stores the test says what the law asks for
+-- of two stores the test says what the law requires
 module _ (r s b c : List ℕ) where
   codes-added : codesAdd (inStore r b) (inStore s c) ≡ true → CodesWithin b c
   codes-added e =
@@ -116,11 +117,11 @@ module _ (r s b c : List ℕ) where
 
 -- ---- changes
 
--- result bits, with objects by tag and value
+-- a TVR, with objects by tag and value
 abbrev state : List ℕ → List (ℕ × List ℕ) → State
 state r l = record { bits = r; values = map (valueAmong l) tags }
 
--- result bits and objects, before and after
+-- a TVR and objects, before and after
 record Change : Type 0 where
   oldBits : List ℕ
   old : List (ℕ × List ℕ)
@@ -130,7 +131,7 @@ record Change : Type 0 where
 abbrev change : List ℕ → List (ℕ × List ℕ) → List ℕ → List (ℕ × List ℕ) → Change
 change r l s m = record { oldBits = r; old = l; newBits = s; new = m }
 
--- the codes change alone, the result bits alone
+-- the codes change alone, the TVR alone
 abbrev codes : List ℕ → List (ℕ × List ℕ) → List (ℕ × List ℕ) → Change
 codes r l m = change r l r m
 
@@ -183,15 +184,16 @@ falling =
     ∷ codes first (terminal 0x22) ((0x9F0E, first) ∷ terminal 0x22)
     ∷ codes first ((0x9F0E, expiry) ∷ terminal 0x34) ((0x9F0E, firstAndExpiry) ∷ terminal 0x34)
     ∷ codes expiry (terminal 0x21) ((0xDF8121, expiry) ∷ terminal 0x21)
-    -- types 23 and 26, default: zeros of the card get a bit; they go away; the terminal's code gets one, the card's has another
+    -- types 23 and 26, default: zeros of the card get a bit; they go away; the terminal's code gets one, the
+    -- card's has another
     ∷ codes first ((0x9F0D, zeroCode) ∷ terminal 0x23) ((0x9F0D, first) ∷ terminal 0x23)
     ∷ codes first ((0x9F0D, zeroCode) ∷ terminal 0x26) (terminal 0x26)
     ∷ codes expiry ((0x9F0D, first) ∷ terminal 0x23) ((0x9F0D, first) ∷ (0xDF8120, expiry) ∷ terminal 0x23)
-    -- the result gets byte 5 b1, which the online, the denial, the default code has
+    -- the TVR gets byte 5 b1, which the online, the denial, the default code has
     ∷ result zeroCode last ((0x9F0F, last) ∷ terminal 0x22)
     ∷ result zeroCode last ((0x9F0E, last) ∷ (0x9F0D, zeroCode) ∷ terminal 0x36)
     ∷ result zeroCode last ((0x9F0D, last) ∷ terminal 0x13)
-    -- the result and two codes at once; by the result alone, or by the codes alone, the choice is kept: see below
+    -- the TVR and two codes at once; by the TVR alone, or by the codes alone, the choice is kept: see below
     ∷ change zeroCode ((0x9F0F, zeroCode) ∷ terminal 0x25) last ((0x9F0F, last) ∷ (0xDF8121, last) ∷ terminal 0x25)
     ∷ []
 
@@ -221,7 +223,7 @@ falling-ranks = refl
 
 abbrev keeping : List Change
 keeping =
-    -- the last one's result alone, and its codes alone
+    -- the last one's TVR alone, and its codes alone
     result zeroCode last ((0x9F0F, zeroCode) ∷ terminal 0x25)
     ∷ codes zeroCode ((0x9F0F, zeroCode) ∷ terminal 0x25) ((0x9F0F, last) ∷ (0xDF8121, last) ∷ terminal 0x25)
     -- a code of ones appears, of online and of default; a denial code of zeros goes away
@@ -255,7 +257,7 @@ rising =
     codes first (terminal 0x22) ((0x9F0F, zeroCode) ∷ terminal 0x22)
     ∷ codes first (terminal 0x23) ((0x9F0D, zeroCode) ∷ terminal 0x23)
     ∷ codes first ((0x9F0E, first) ∷ terminal 0x22) (terminal 0x22)
-    -- the result loses a bit
+    -- the TVR loses a bit
     ∷ result first zeroCode ((0x9F0F, first) ∷ terminal 0x22)
     -- the terminal's online code is a greater number, by its bytes and in one byte, and loses a bit
     ∷ codes expiry ((0x9F0F, zeroCode) ∷ (0xDF8122, expiry) ∷ terminal 0x22) ((0x9F0F, zeroCode) ∷ (0xDF8122, first) ∷ terminal 0x22)

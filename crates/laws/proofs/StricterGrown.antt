@@ -1,5 +1,5 @@
--- The terminal's online code that gets bits in any store, with nothing else changed: what the law on codes alone asks for holds, so it is
--- about something.
+-- The terminal's online code that gets bits in any store, with nothing else changed: what the law on codes alone
+-- requires holds, so it is about something.
 -- Assumes nothing.
 use mathlib.Core.Path.{_≡_, sym, ap, _∙_}
 use mathlib.Core.List.{List}

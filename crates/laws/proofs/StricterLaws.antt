@@ -1,5 +1,6 @@
--- Added bits never raise the choice: what a stage holds it still holds when bits are added, and by each type a stage that holds a bit gives
--- a choice that ranks no higher than the one without. Where the codes alone have grown, the result bits that are found are the same.
+-- Added bits never raise the choice: what a stage holds it still holds when bits are added, and by each type a stage
+-- that holds a bit gives a choice that ranks no higher than the one without. Where the codes alone have grown, the TVR
+-- that is found is the same.
 -- Assumes nothing.
 use mathlib.Core.Path.{_≡_, refl, sym, ap, subst, _∙_}
 use mathlib.Core.Bool.{Bool, true, false, not}
@@ -50,7 +51,7 @@ some-still f g (suc n) i h e =
           ]
     ]
 
--- a bit of the result in one of two codes, when each of the three may have been added
+-- a bit of the TVR in one of two codes, when each of the three may have been added
 both-still : (a b c x y z : Bool) → (a ≡ true → x ≡ true) → (b ≡ true → y ≡ true) → (c ≡ true → z ≡ true)
     → both a (either b c) ≡ true → both x (either y z) ≡ true
 unfolding both either
@@ -120,7 +121,7 @@ stores r s b c e g w =
 
 -- ---- codes that grow alone
 
--- no code is read for the result bits
+-- no code is read for the TVR
 module _ (b c : List ℕ) (a : AlikeButCodes b c) where
   terms-same : cvmConditionsIn b ≡ cvmConditionsIn c
   unfolding cvmConditionsIn either

@@ -1,5 +1,5 @@
--- A store made of objects that are put one by one into the empty one: what it holds under each tag, by the laws of the store and with no byte
--- of it computed. A value that is put changes no other tag's.
+-- A store made of objects that are put one by one into the empty one: what it holds under each tag, by the laws of the
+-- store and with no byte of it computed. A value that is put changes no other tag's.
 -- Assumes nothing.
 use mathlib.Core.Path.{_≡_, refl, sym, ap, subst, _∙_}
 use mathlib.Core.Bool.{Bool, true, false}

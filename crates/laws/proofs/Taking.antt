@@ -1,6 +1,7 @@
--- Objects of two lists that share no tag, taken in either order. What an object does is the same on every store (`effect`): nothing, a refusal, or a
--- put into the row of its tag where that holds no bytes. Puts into two rows commute, so two objects do (`swap`), one object and a list
--- (`past-list`), and two lists (`past-lists`). Nothing here looks at a row of the table.
+-- Objects of two lists that share no tag, taken in either order. What an object does is the same on every store
+-- (`effect`): nothing, a refusal, or a put into the row of its tag where that holds no bytes. Puts into two rows
+-- commute, so two objects do (`swap`), one object and a list (`past-list`), and two lists (`past-lists`). Nothing here
+-- examines a row of the table.
 -- Assumes nothing.
 use mathlib.Core.Path.{_≡_, refl, sym, ap, ap₂, subst, _∙_}
 use mathlib.Core.Bool.{Bool, true, false, not}
@@ -119,7 +120,7 @@ module _ (answer : ℕ) where
 
   -- ---- two objects
 
-  -- the store that both orders come to: j behind i, and i behind j
+  -- the store that both orders come to: j after i, and i after j
   record Meets (c d : List ℕ) (i j : PrimitiveItem) : Type 0 where
     store : List ℕ
     second : Takes c j store
@@ -206,7 +207,7 @@ module _ (answer : ℕ) where
   bad-stays b [] = refl
   bad-stays b (i ∷ is) = ap (λ (w : TakeState). takeAll answer w is) (next-bad answer b i refl) ∙ bad-stays b is
 
-  -- the first object of a list that is taken whole, and the ones behind it
+  -- the first object of a list that is taken whole, and the ones after it
   first-of : (b : List ℕ) (i : PrimitiveItem) (is : List PrimitiveItem) (c : List ℕ) → takeAll answer (takeState true b) (i ∷ is) ≡ takeState true c
       → (d : List ℕ) × (takeItem answer b i ≡ takeState true d) × (takeAll answer (takeState true d) is ≡ takeState true c)
   unfolding takeAll

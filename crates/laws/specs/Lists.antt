@@ -1,4 +1,4 @@
--- Data object lists and values (document 02, Item 12): what the laws say of one list and of one value.
+-- DOLs and values (document 02, Item 12): what the laws say of one list and of one value.
 -- Assumes nothing.
 use mathlib.Core.Path.{_≡_}
 use mathlib.Core.List.{List}
@@ -7,15 +7,15 @@ use Prim.Native.Nat.{ℕ}
 use Rattle.dictionary.specs.Rows.{Row}
 use Rattle.dol.specs.Filling.{padded, fittedTo, dolFilled}
 
--- the bytes s are a well-formed data list, and v is its filling from a store; how long v is plays no part
+-- the bytes s are a well-formed DOL, and v is its filling from a store; how long v is plays no part
 abbrev pub FillsDol : List Row → List ℕ → List ℕ → List ℕ → Type 0
 FillsDol table store s v = dolFilled table store s ≡ some v
 
 -- a value v brought to m bytes and then to n is v brought to n at once: as padding alone, and as filling does it, which
--- cuts a value that is too long
+-- truncates a value that is too long
 pub record PaddedOnce (form m n : ℕ) (v : List ℕ) : Type 0 where
   pub padding : padded form n (padded form m v) ≡ padded form n v
   pub fitting : fittedTo form n (fittedTo form m v) ≡ fittedTo form n v
 
--- ---- what holds of it: the promises `filling` and `padding` of `records_in_any_order`, by `filled-join`, `padded-twice` and
--- `fitted-twice` (`dol`, proofs/Filling and proofs/Fitting)
+-- ---- what holds of it: the promises `filling` and `padding` of `records_in_any_order`, by `filled-join`,
+-- `padded-twice` and `fitted-twice` (`dol`, proofs/Filling and proofs/Fitting)

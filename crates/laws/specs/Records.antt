@@ -41,8 +41,8 @@ ShareNoTag c d = (tag : ℕ) → bringsIn tag (recordTree c) ≡ true → brings
 
 -- ---- readings
 
--- the contents c read into the store b: what a template 70 around them gives, whatever their length; `readTree` does not
--- look at the file's number
+-- the contents c read into the store b: what a template 70 around them gives, whatever their length; `readTree` does
+-- not examine the file's number
 abbrev pub readContents : List ℕ → List ℕ → ReadingOutcome
 readContents c b = readTree (Record (record { number = 1 })) b (templateBody 0x70 (recordTree c))
 
@@ -64,7 +64,7 @@ pub record EitherOrder (first second : List ℕ → ReadingOutcome) (b : List �
   pub behind-second : ReadingAccepted first (storeAfterReading second b)
   pub store : storeAfterReading second (storeAfterReading first b) ≡ storeAfterReading first (storeAfterReading second b)
 
--- one reading in the place of two: it is accepted, and leaves the store that the two leave
+-- one reading in place of two: it is accepted, and leaves the store that the two leave
 pub record InOneReading (whole first second : List ℕ → ReadingOutcome) (b : List ℕ) : Type 0 where
   pub accepted : ReadingAccepted whole b
   pub store : storeAfterReading whole b ≡ storeAfterReading second (storeAfterReading first b)
@@ -81,7 +81,7 @@ pub record ContentsAgree (b c d : List ℕ) : Type 0 where
 abbrev pub answerBodyBytes : List ℕ → List ℕ
 answerBodyBytes s = take (length s - 2) s
 
--- the value of the object at the front; none where no object stands there
+-- the value of the object at the front; none where no object is present
 abbrev pub contentsIn : List ℕ → ObjectFront → List ℕ
 contentsIn s Broken = []
 contentsIn s (Object h) = headerValue s h
@@ -117,4 +117,5 @@ pub record AnswersAgree (f g : Sfi) (b s t : List ℕ) : Type 0 where
   pub swapped : (h : Sfi) (u : List ℕ) → h .number ≤ 10 → AnswerWith u (recordContents t ++ recordContents s)
       → InOneReading (readRecordAnswer h u) (readRecordAnswer f s) (readRecordAnswer g t) b
 
--- ---- what holds of it: the promises of `records_in_any_order`, proved in proofs/ (Contents and, under it, Taking; Answers, Room)
+-- ---- what holds of it: the promises of `records_in_any_order`, proved in proofs/ (Contents and, under it, Taking;
+-- Answers, Room)

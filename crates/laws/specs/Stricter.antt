@@ -1,6 +1,6 @@
--- Stricter codes never loosen (document 02, Item 13): where bits are added to the result bits (TVR) or to the action
--- codes of card (IAC) and terminal (TAC), each as it is read, with the terminal type kept, the new choice ranks no
--- higher than the old. Any number of the seven may have grown at once, and the type may be any number, listed or not.
+-- Stricter codes never loosen (document 02, Item 13): where bits are added to the TVR or to the action codes of card
+-- (IAC) and terminal (TAC), each as it is read, with the terminal type kept, the new choice ranks no higher than the
+-- old. Any number of the seven may have grown at once, and the type may be any number, listed or not.
 -- Assumes nothing.
 use mathlib.Core.Path.{_≡_}
 use mathlib.Core.Bool.{Bool, true, false}
@@ -72,15 +72,15 @@ AlikeButCodes b c = (tag : ℕ) → isActionCode tag ≡ false → objectValue b
 
 -- ---- what `choice_rank` promises
 
--- added bits never raise the choice. Old are the result bits r, the pairs ps and the store b; new are s, qs and c
+-- added bits never raise the choice. Old are the TVR r, the pairs ps and the store b; new are s, qs and c
 pub record NeverLoosens : Type 0 where
-  -- over any result bits, type and pairs of codes
+  -- over any TVR, type and pairs of codes
   pub lists : (r s : List ℕ) (kind : ℕ) (ps qs : List ActionCodes) → BitsWithin r s → StagesWithin ps qs
       → choiceRank (choiceOf s kind qs) ≤ choiceRank (choiceOf r kind ps)
-  -- over any two stores of one terminal type, on any result bits
+  -- over any two stores of one terminal type, on any TVR
   pub stores : (r s b c : List ℕ) → terminalType c ≡ terminalType b → BitsWithin r s → CodesWithin b c
       → choiceRank (choiceFor c s) ≤ choiceRank (choiceFor b r)
-  -- over any two stores alike but for the codes, on the result bits that are found in each: what a session asks for
+  -- over any two stores alike but for the codes, on the TVR that is found in each: what a session requests
   pub codes-alone : (b c : List ℕ) → AlikeButCodes b c → CodesWithin b c
       → choiceRank (choiceFor c (findingsOf c .bits)) ≤ choiceRank (choiceFor b (findingsOf b .bits))
 

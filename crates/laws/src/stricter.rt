@@ -1,5 +1,5 @@
-// Stricter codes never loosen: the rank of a choice, and the rule that added bits never raise it. The statements are in specs/Stricter,
-// the proofs in proofs/.
+// Stricter codes never loosen: the rank of a choice, and the rule that added bits never raise it. The statements are in
+// specs/Stricter, the proofs in proofs/.
 use analysis::choice::Choice;
 ghost use mathlib.Core.Path.{_≡_};
 ghost use Rattle.laws.specs.Rank.{choiceRank, ChoicesRanked};

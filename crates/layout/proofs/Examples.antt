@@ -1,4 +1,5 @@
--- Heads and words by computation: each phase's fourteen bytes, heads that no record has, and the words at the edges of their kinds.
+-- Heads and words by computation: each phase's fourteen bytes, heads that no record has, and the words at the edges of
+-- their kinds.
 -- Assumes nothing.
 use mathlib.Core.Path.{_≡_, refl}
 use mathlib.Core.Bool.{true, false}
@@ -14,7 +15,7 @@ use Rattle.session_record.specs.Session.{endingOf, outcomeParameters}
 use Rattle.layout.specs.Layout.{phaseCode, choiceFrom, cvmFrom, outcomeFrom, phaseCodeOf, phaseLimit, phaseOfCode, samePhaseCode, recordHead}
 use Rattle.layout.specs.Word.{commandWord, resultWord}
 
--- version, number of the phase, what it holds, reason, count, method, limit
+-- version, number of the phase, what it holds, reason, count, CVM, limit
 heads : recordHead Phase.Fresh 0
     ∷ recordHead Phase.Gpo 1
     ∷ recordHead (Phase.Record (record { number = 3; limit = 999999999999 })) 4
@@ -31,8 +32,8 @@ heads : recordHead Phase.Fresh 0
     ∷ []
 heads = refl
 
--- codes of a phase; then a byte behind fresh, a reason behind a record, a P1 of 20, a P1 of C0, outcome 5, phase 6; the methods 0 to
--- 4, then 5 and none, and a method behind a record and behind an end; the checksum, and a byte and a method behind it
+-- codes of a phase; then a byte after fresh, a reason after a record, a P1 of 20, a P1 of C0, outcome 5, phase 6; the
+-- CVMs 0 to 4, then 5 and none, and a CVM after a record and after an end; the checksum, and a byte and a CVM after it
 codes : map (λ c. samePhaseCode (phaseCodeOf (phaseOfCode c 100)) c)
     (phaseCode 0 0 0 0 ∷ phaseCode 1 0 0 0 ∷ phaseCode 2 255 0 0 ∷ phaseCode 3 0x40 0 0 ∷ phaseCode 4 4 6 0 ∷ phaseCode 0 1 0 0 ∷ phaseCode 2 1 1 0 ∷ phaseCode 3 0x20 0 0 ∷ phaseCode 3 0xC0 0 0 ∷ phaseCode 4 5 0 0 ∷ phaseCode 6 3 1 0
     ∷ phaseCode 3 0x80 0 0 ∷ phaseCode 3 0x80 0 1 ∷ phaseCode 3 0x80 0 2 ∷ phaseCode 3 0x80 0 3 ∷ phaseCode 3 0x80 0 4 ∷ phaseCode 3 0x80 0 5 ∷ phaseCode 3 0x80 0 15 ∷ phaseCode 2 1 0 1 ∷ phaseCode 4 0 0 15
@@ -48,8 +49,8 @@ limits : map (λ c. phaseLimit (phaseOfCode c 1)) (phaseCode 0 0 0 0 ∷ phaseCo
 unfolding phaseOfCode choiceFrom cvmFrom outcomeFrom if
 limits = refl
 
--- a command's length, the longest that a word tells, one more; an approval with a signature, the last outcome before a choice of the method,
--- and an end with an offline PIN; the refusals
+-- a command's length, the longest that a word reports, one more; an approval with a signature, the last outcome before
+-- a choice of the CVM, and an end with an offline PIN; the refusals
 words : map resultWord
     (CallResult.Command (record { size = 5 }) ∷ CallResult.Command (record { size = 65535 }) ∷ CallResult.Command (record { size = 65536 })
     ∷ CallResult.Outcome (outcomeParameters Outcome.Approved 0 1) ∷ CallResult.Outcome (outcomeParameters Outcome.SelectNext 6 cvmNotApplicable) ∷ CallResult.Outcome (outcomeParameters Outcome.Ended 9 4)

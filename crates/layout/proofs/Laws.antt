@@ -1,4 +1,5 @@
--- The layout is strict: what is encoded is read back, what was read is encoded as the bytes it was read from, and a word tells its kind.
+-- The layout is strict: what is encoded is read back, what was read is encoded as the bytes it was read from, and a
+-- word reports its kind.
 -- Assumes nothing.
 use mathlib.Core.Path.{_≡_, refl, sym, ap, ap₂, _∙_}
 use mathlib.Core.Bool.{true, false}
@@ -124,7 +125,7 @@ module _ (l : List ℕ) where
 
 -- ---- the two laws
 
--- a record in front of any bytes is read back; a session's store always has its size
+-- a record at the front of any bytes is read back; a session's store always has its size
 pub decode-encode : (s : Session) (rest : List ℕ) → length (storeBytes s) ≡ storeSize → decodedSession (encodedSession s ++ rest) ≡ some s
 unfolding encodedSession
 decode-encode s rest z =
@@ -134,7 +135,7 @@ decode-encode s rest z =
     (ap (λ (x : Phase). bytesEqual (limitBytes (phaseLimit x)) (limitBytes (phaseLimit (s .phase)))) p ∙ alike-refl (limitBytes (phaseLimit (s .phase))))
     ∙ (λ i. some (record { phase = p i; count = s .count; store = record { bytes = take-at (storeBytes s) rest storeSize z i } }))
 
--- what the test of a record says of bytes
+-- what the test of a record reports of bytes
 record Known (l : List ℕ) : Type 0 where
   enough : recordSize ≤ length l
   first : getD l 0 0 ≡ layoutVersion
@@ -185,7 +186,7 @@ held-some l h e = elim (bool-cases (holdsRecord l)) [
       absurd (omega arith)
 ]
 
--- the store of the session that bytes hold is theirs behind the head
+-- the store of the session that bytes hold is theirs after the head
 pub held-store : (l : List ℕ) (s : Session) → decodedSession l ≡ some s → (recordSize ≤ length l) × (storeBytes s ≡ take storeSize (drop headSize l))
 held-store l s e =
     let h = held-some l (record { phase = s .phase; count = s .count }) (ap recordHeld e) in
@@ -219,7 +220,7 @@ pub written-back : (l : List ℕ) (s : Session) → decodedSession l ≡ some s 
 unfolding withSessionRecord
 written-back l s e = if-ind (λ (x : List ℕ). x ≡ l) _ _ _ (λ t. encode-decode l s e) (λ t. refl)
 
--- the lent bytes keep their number, and those behind the record stay
+-- the caller's bytes keep their number, and those after the record stay
 pub written-length : (l : List ℕ) (s : Session) → length (storeBytes s) ≡ storeSize → length (withSessionRecord s l) ≡ length l
 unfolding withSessionRecord encodedSession
 written-length l s z =
@@ -244,8 +245,8 @@ outcome-most Outcome.Declined = omega arith
 outcome-most Outcome.Ended = omega arith
 outcome-most Outcome.SelectNext = omega arith
 
--- the kind of a command is its own, whatever its length; so is that of an outcome whose reason is a byte, whatever its method, and that of
--- a refusal whose number has 16 bits
+-- the kind of a command is its own, whatever its length; so is that of an outcome whose reason is a byte, whatever its
+-- CVM, and that of a refusal whose number has 16 bits
 pub command-kind : (n : ℕ) → wordKind (commandWord n) ≡ kindCommand
 command-kind n = omega (arith, command-below n)
 

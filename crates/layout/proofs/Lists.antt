@@ -1,5 +1,5 @@
--- The lists behind `encode_record`, `put_head` and `decode_record`: six bytes set one by one, the limit's eight and a store behind them, and both copied
--- out again.
+-- The lists of `encode_record`, `put_head` and `decode_record`: six bytes set one by one, the limit's eight and a store
+-- after them, and both copied out again.
 -- Assumes nothing.
 use mathlib.Core.Path.{_≡_, refl, sym, ap, _∙_}
 use mathlib.Core.List.{List, [], _∷_, _++_, append-nil}
@@ -16,7 +16,7 @@ use Rattle.session_record.specs.declared.Phase.{Phase}
 use Rattle.session_record.specs.Session.{sessionOf}
 use Rattle.layout.specs.Layout.{headSize, recordSize, recordHead, encodedSession, withSessionRecord, withRecordHead}
 
--- six bytes set one by one in front of a list that has them
+-- six bytes set one by one at the front of a list that has them
 pub set-head : (l : List ℕ) (v n d r k m : ℕ) → 6 ≤ length l
     → set (set (set (set (set (set l 0 v) 1 n) 2 d) 3 r) 4 k) 5 m ≡ (v ∷ n ∷ d ∷ r ∷ k ∷ m ∷ []) ++ drop 6 l
 set-head [] v n d r k m h = absurd (omega arith)
@@ -27,7 +27,7 @@ set-head (_ ∷ _ ∷ _ ∷ _ ∷ []) v n d r k m h = absurd (omega arith)
 set-head (_ ∷ _ ∷ _ ∷ _ ∷ _ ∷ []) v n d r k m h = absurd (omega arith)
 set-head (_ ∷ _ ∷ _ ∷ _ ∷ _ ∷ _ ∷ l) v n d r k m h = refl
 
--- and eight bytes in the place of those behind them
+-- and eight bytes in the place of those after them
 pub set-limit : (l m : List ℕ) (v n d r k x : ℕ)
     → putMid 6 8 ((v ∷ n ∷ d ∷ r ∷ k ∷ x ∷ []) ++ drop 6 l) m ≡ (v ∷ n ∷ d ∷ r ∷ k ∷ x ∷ m) ++ drop headSize l
 set-limit l m v n d r k x = ap (λ (t : List ℕ). (v ∷ n ∷ d ∷ r ∷ k ∷ x ∷ m) ++ t) (drop-drop 8 6 l)
@@ -47,7 +47,8 @@ module _ (l : List ℕ) (p : Phase) (n : ℕ) where
       if-ind (λ (x : List ℕ). length x ≡ length l) _ _ _
       (λ t. let h = leb-true recordSize (length l) t in simp (length-append, length-drop) (omega arith)) (λ t. refl)
 
--- a head and then the store behind it, or the store and then the head before it: the record of a session, and what lay behind it
+-- a head and then the store after it, or the store and then the head before it: the record of a session, and what
+-- lay after it
 module _ (l b : List ℕ) (p : Phase) (n : ℕ) (h : recordSize ≤ length l) (e : length b ≡ storeSize) where
   record-is : recordHead p n ++ (b ++ drop storeSize (drop headSize l)) ≡ withSessionRecord (sessionOf p n b) l
   unfolding withSessionRecord encodedSession

@@ -1,6 +1,6 @@
 -- The session record as bytes (docs/HOST.md has the table by offset): a head of the layout's version, the code of the
--- phase with the count of commands handed out among its bytes, the limit in force (document 02, Item 8), and behind it
--- the store as it stands.
+-- phase with the count of commands handed out among its bytes, the transaction limit (document 02, Item 8), and after
+-- it the store as it is.
 -- Assumes nothing.
 use mathlib.Core.Path.{_≡_}
 use mathlib.Core.Bool.{Bool}
@@ -29,7 +29,7 @@ use Rattle.layout.specs.declared.RecordHeld.{RecordHeld}
 abbrev pub layoutVersion : ℕ
 layoutVersion = 5
 
--- the bytes in front of the store, and of the whole record
+-- the bytes before the store, and of the whole record
 abbrev pub headSize : ℕ
 headSize = 14
 
@@ -61,7 +61,7 @@ phaseChecksum = 5
 abbrev pub phaseCode : ℕ → ℕ → ℕ → ℕ → PhaseCode
 phaseCode n d r m = record { number = n; datum = d; reason = r; cvm = m }
 
--- what the head says of a phase: the record's number, the P1 asked for and the method's number, or the outcome and its
+-- what the head reports of a phase: the record's number, the P1 requested and the CVM's number, or the outcome and its
 -- reason; 0 where there is none
 abbrev pub phaseCodeOf : Phase → PhaseCode
 phaseCodeOf Phase.Fresh          = phaseCode phaseFresh 0 0 0
@@ -71,7 +71,7 @@ phaseCodeOf (Phase.Cryptogram a) = phaseCode phaseCryptogram (generateAcP1 (a .c
 phaseCodeOf (Phase.Checksum c)   = phaseCode phaseChecksum 0 0 0
 phaseCodeOf (Phase.Ended e)      = phaseCode phaseEnded (outcomeNumber (e .outcome)) (e .reason) 0
 
--- the limit in force that a phase holds, 0 where it holds none
+-- the transaction limit that a phase holds, 0 where it holds none
 abbrev pub phaseLimit : Phase → ℕ
 phaseLimit Phase.Fresh          = 0
 phaseLimit Phase.Gpo            = 0
@@ -93,15 +93,15 @@ limitBytes n =
     ∷ n % 256
     ∷ []
 
--- the way back: any code and limit are read as some phase, and are that phase's only where a phase has them.
--- the choice that a P1 asks for; a decline where none has it
+-- the way back: any code and limit are read as some phase, and are that phase's only where a phase has them. the choice
+-- that a P1 requests; a decline where none has it
 unfoldable pub choiceFrom : ℕ → Choice
 choiceFrom p1 =
     if p1 =? 0x40 then Choice.Offline
     else if p1 =? 0x80 then Choice.Online
     else Choice.Decline
 
--- the method of a number; the last one where none has it
+-- the CVM of a number; the last one where none has it
 unfoldable pub cvmFrom : ℕ → Cvm
 cvmFrom n =
     if n =? 0 then Cvm.NoCvm
@@ -140,7 +140,7 @@ samePhaseCode a b =
 
 -- ---- the record
 
--- the head: the version, the phase's number, what it holds, the reason, the count, the method, the limit
+-- the head: the version, the phase's number, what it holds, the reason, the count, the CVM, the limit
 abbrev pub recordHead : Phase → ℕ → List ℕ
 recordHead p n =
     layoutVersion ∷ phaseCodeOf p .number ∷ phaseCodeOf p .datum ∷ phaseCodeOf p .reason ∷ n ∷ phaseCodeOf p .cvm ∷ limitBytes (phaseLimit p)
@@ -149,13 +149,13 @@ recordHead p n =
 unfoldable pub encodedSession : Session → List ℕ
 encodedSession s = recordHead (s .phase) (s .count) ++ storeBytes s
 
--- the bytes l with a record in front: those behind it stay, and so do all where they are too few
+-- the bytes l with a record at the front: those after it stay, and so do all where they are too few
 unfoldable pub withSessionRecord : Session → List ℕ → List ℕ
 withSessionRecord s l =
     if recordSize ≤? length l then encodedSession s ++ drop recordSize l
     else l
 
--- the bytes l with a head in front: those behind it stay, and so do all where they are too few for a record
+-- the bytes l with a head at the front: those after it stay, and so do all where they are too few for a record
 unfoldable pub withRecordHead : Phase → ℕ → List ℕ → List ℕ
 withRecordHead p n l =
     if recordSize ≤? length l then withPrefix (recordHead p n) l
@@ -191,27 +191,27 @@ decodedSession l =
     else none
 
 -- what holds of the two, proved in proofs/Laws:
---   decode-encode    the record in front of any bytes is read back as it was
+--   decode-encode    the record at the front of any bytes is read back as it was
 --   encode-decode    a session that was read is encoded as the bytes it was read from
 
--- ---- handed back
+-- ---- returned
 
--- writing says whether the bytes were enough
+-- writing reports whether the bytes were enough
 pub record WroteRecord (s : Session) (before : List ℕ) (r : Bool) (after : List ℕ) : Type 0 where
   pub enough : r ≡ (recordSize ≤? length before)
   pub bytes : after ≡ withSessionRecord s before
 
--- what is said of the bytes: the session's phase and count, or that there is no record
+-- what is reported of the bytes: the session's phase and count, or that there is no record
 abbrev pub recordHeld : Option Session → RecordHeld
 recordHeld none = RecordHeld.Nothing
 recordHeld (some s) = RecordHeld.Record (record { phase = s .phase; count = s .count })
 
--- the lent store: the session's, or as it was where there is no record
+-- the caller's store: the session's, or as it was where there is no record
 abbrev pub storeOfSession : Option Session → List ℕ → List ℕ
 storeOfSession none b = b
 storeOfSession (some s) b = storeBytes s
 
--- what reading the bytes l says, and what it leaves in a lent store
+-- what reading the bytes l reports, and what it leaves in the caller's store
 pub record DecodesRecord (r : RecordHeld) (l before after : List ℕ) : Type 0 where
   pub held : r ≡ recordHeld (decodedSession l)
   pub store : after ≡ storeOfSession (decodedSession l) before

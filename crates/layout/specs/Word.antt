@@ -1,5 +1,5 @@
--- A call's answer as one number of 32 bits (docs/HOST.md). Bits 16 to 23 tell its kind: 0 a command, 1 an outcome, 2 a
--- refusal.
+-- A call's answer as one number of 32 bits (docs/HOST.md). Bits 16 to 23 give its kind: 0 a command, 1 an outcome,
+-- 2 a refusal.
 -- Assumes nothing.
 use Prim.Native.Nat.{ℕ, _+_, _*_, _/_, _%_, min}
 use Rattle.session_record.specs.declared.OutcomeParameters.{OutcomeParameters}
@@ -26,11 +26,11 @@ outcomeBits = 0x10000
 abbrev pub refusalBits : ℕ
 refusalBits = 0x20000
 
--- a command is its length; a length that a word cannot tell from an outcome is cut, and no call hands one out
+-- a command is its length; a length that a word cannot tell from an outcome is truncated, and no call hands one out
 unfoldable pub commandWord : ℕ → ℕ
 commandWord n = min n 65535
 
--- an outcome with its reason, and in bits 24 to 31 the method's number
+-- an outcome with its reason, and in bits 24 to 31 the CVM's number
 abbrev pub outcomeWord : OutcomeParameters → ℕ
 outcomeWord e = e .cvm * 0x1000000 + outcomeBits + outcomeNumber (e .outcome) * 256 + e .reason
 

@@ -1,10 +1,10 @@
-// The session record as bytes that a host lends, and a call's answer as one number.
+// The session record as bytes that the host provides, and a call's answer as one number.
 //
-// The record is a head and the store: a byte for the layout's version, the code of the phase with the count
-// of commands handed out before its last byte, the limit in force, and then the store's bytes as they stand. `encode_record` writes
-// it in front of the lent bytes, `decode_record` takes it apart again: only bytes that some record is encoded as are a record. Both
-// lend the store, which is the largest part; `head_in` and `put_head` read and write the head alone, for a
-// caller that works on the store in its place.
+// The record is a head and the store: a byte for the layout's version, the code of the phase with the count of commands
+// handed out before its last byte, the transaction limit, and then the store's bytes as they are. `encode_record`
+// writes it at the front of the caller's bytes, `decode_record` takes it apart again: only bytes that some record is
+// encoded as are a record. Both borrow the store, which is the largest part; `head_in` and `put_head` read and write
+// the head alone, for a caller that works on the store in its place.
 use analysis::choice::Choice;
 use analysis::cvm::Cvm;
 use dictionary::SIZE;
@@ -22,10 +22,10 @@ ghost use Rattle.layout.specs.Word.{commandWord, outcomeWord, refusalWor
 // The layout's version, the first byte of every record.
 const VERSION: u8 = 5;
 
-// How many bytes stand in front of the store.
+// How many bytes are before the store.
 pub const HEAD: usize = 14;
 
-// Where the limit in force stands in the head, eight bytes.
+// Where the transaction limit is in the head, eight bytes.
 const LIMIT: usize = 6;
 
 // How many bytes a record takes.
@@ -39,7 +39,7 @@ const ON_CRYPTOGRAM: u8 = 3;
 const ON_ENDED: u8 = 4;
 const ON_CHECKSUM: u8 = 5;
 
-// What the head says of a phase: its number, and the bytes of what it holds, 0 where it holds nothing.
+// What the head reports of a phase: its number, and the bytes of what it holds, 0 where it holds nothing.
 pub struct PhaseCode {
     pub number: u8,
     pub datum: u8,
@@ -62,12 +62,12 @@ pub enum RecordHeld {
 // A command's length in a word: what a word can tell apart from an outcome.
 const MOST_LENGTH: usize = 65535;
 
-// The kinds of an outcome and of a refusal in a word, and a unit of the method's number.
+// The kinds of an outcome and of a refusal in a word, and a unit of the CVM's number.
 const OUTCOME: u32 = 65536;
 const REFUSAL: u32 = 131072;
 const CVM: u32 = 16777216;
 
-// How many bytes a host lends for a session.
+// How many bytes a host provides for a session.
 pub fn session_size() -> usize
     ensures { λ r. ⌜ r ≡ recordSize ⌝ }
 {
@@ -81,7 +81,7 @@ pub fn layout_version() -> u8
     VERSION
 }
 
-// Writes the record of these parts in front of the bytes, and says whether there were enough.
+// Writes the record of these parts at the front of the bytes, and reports whether there were enough.
 pub fn encode_record(phase: Phase, count: u8, store: &[u8; SIZE], bytes: &mut [u8]) -> bool
     requires { ⌜ length (now store) ≡ storeSize ⌝ }
     ensures { λ r. ⌜ WroteRecord (sessionOf phase count (now (store .entry))) (now (bytes .entry)) r (now (bytes .exit)) ⌝ }
@@ -94,7 +94,7 @@ pub fn encode_record(phase: Phase, count: u8, store: &[u8; SIZE], bytes: &mut [u
     true
 }
 
-// Writes the head of a record in front of the bytes, whose store stays; too few bytes stay as they are.
+// Writes the head of a record at the front of the bytes, whose store stays; too few bytes stay as they are.
 pub fn put_head(phase: Phase, count: u8, bytes: &mut [u8])
     ensures { λ _. ⌜ now (bytes .exit) ≡ withRecordHead phase count (now (bytes .entry)) ⌝ }
 {
@@ -112,7 +112,7 @@ pub fn put_head(phase: Phase, count: u8, bytes: &mut [u8])
     bytes::copy(&limit, &mut bytes[LIMIT..HEAD]);
 }
 
-// Takes apart the record in front of the bytes: its store goes into the one that is lent.
+// Takes apart the record at the front of the bytes: its store goes into the caller's.
 pub fn decode_record(bytes: &[u8], store: &mut [u8; SIZE]) -> RecordHeld
     requires { ⌜ length (now store) ≡ storeSize ⌝ }
     ensures read { λ r. ⌜ DecodesRecord r (now (bytes .entry)) (now (store .entry)) (now (store .exit)) ⌝ }
@@ -126,7 +126,7 @@ pub fn decode_record(bytes: &[u8], store: &mut [u8; SIZE]) -> RecordHeld
     held
 }
 
-// What the head in front of the bytes says.
+// What the head at the front of the bytes reports.
 pub fn head_in(bytes: &[u8]) -> RecordHeld
     ensures { λ r. ⌜ r ≡ recordHeld (decodedSession (now (bytes .entry))) ⌝ }
 {
@@ -167,7 +167,7 @@ pub fn refusal_word(number: u8) -> u32
     REFUSAL + basics::widen32(number)
 }
 
-// A command by its length; no call hands out one that is cut here.
+// A command by its length; no call hands out one that is truncated here.
 fn command_word(issued: CommandLength) -> u32
     ensures { λ r. ⌜ r ≡ commandWord (issued .size) ⌝ }
 {
@@ -178,7 +178,7 @@ fn command_word(issued: CommandLength) -> u32
     size as u32
 }
 
-// An outcome with its reason and the method.
+// An outcome with its reason and the CVM.
 fn outcome_word(end: OutcomeParameters) -> u32
     ensures { λ r. ⌜ r ≡ outcomeWord end ⌝ }
 {
@@ -253,7 +253,7 @@ fn code_of(phase: Phase) -> PhaseCode
     }
 }
 
-// The limit in force that a phase holds, 0 where it holds none.
+// The transaction limit that a phase holds, 0 where it holds none.
 fn held_limit(phase: Phase) -> u64
     ensures { λ r. ⌜ r ≡ phaseLimit phase ⌝ }
 {
@@ -310,7 +310,7 @@ fn four(a: u8, b: u8, c: u8, d: u8) -> u64
     n as u64
 }
 
-// The phase that a code and a limit say, the nearest one where no phase has that code.
+// The phase that a code and a limit denote, the nearest one where no phase has that code.
 fn phase_of(code: PhaseCode, limit: u64) -> Phase
     ensures { λ r. ⌜ r ≡ phaseOfCode code limit ⌝ }
 {
@@ -351,7 +351,7 @@ fn is_same(a: PhaseCode, b: PhaseCode) -> bool
     a.cvm == b.cvm
 }
 
-// The choice that P1 of the command asks for; a decline where no choice has that P1.
+// The choice that P1 of the command requests; a decline where no choice has that P1.
 fn choice_from(p1: u8) -> Choice
     ensures { λ r. ⌜ r ≡ choiceFrom p1 ⌝ }
 {
@@ -364,7 +364,7 @@ fn choice_from(p1: u8) -> Choice
     Choice::Decline
 }
 
-// The method of a number; the last one where no method has that number.
+// The CVM of a number; the last one where no CVM has that number.
 fn cvm_from(number: u8) -> Cvm
     ensures { λ r. ⌜ r ≡ cvmFrom number ⌝ }
 {

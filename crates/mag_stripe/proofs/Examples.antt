@@ -1,5 +1,5 @@
--- Worked tracks, by computation: digits that meet, a code and a counter with fewer digits than places, the whole of the discretionary
--- data, and each rule of a sound track at its edge.
+-- Worked tracks, by computation: digits that meet, a code and a counter with fewer digits than places, the whole of the
+-- discretionary data, and each rule of a sound track at its edge.
 -- Assumes nothing.
 use mathlib.Core.Path.{_≡_, refl}
 use mathlib.Core.Bool.{true, false}
@@ -25,7 +25,7 @@ bitmaps p u n = record { pcvc3 = p; punatc = u; natc = n }
 abbrev values : ℕ → ℕ → ℕ → DigitValues
 values c u a = record { cvc3 = c; un = u; atc = a }
 
--- thirteen discretionary digits and an F; fourteen and no F; six, with an F in front of the D and digits behind the F
+-- thirteen discretionary digits and an F; fourteen and no F; six, with an F before the D and digits after the F
 abbrev thirteen : List ℕ
 thirteen = bytes 19 0x5413123456784800D25121010000000000000F
 
@@ -69,7 +69,7 @@ one-padded :
 unfolding trackWithDigits digitsWritten trackDigits lowestDigits canTakeDigits bitmapWithin bitmapPlaces bitmapPlacesFrom discretionaryIn nibblesBefore packedNibbles nibbles every both if
 one-padded = refl
 
--- an F in front of the D is no end, and what stands behind the first F stays; no F at all: the digits go up to the track's end
+-- an F before the D is no end, and what is after the first F stays; no F at all: the digits go up to the track's end
 other-ends :
     trackWithDigits short (bitmaps 0x0008 0x0006 1) (values 0x0009 0x00000007 0x0003)
     ∷ trackWithDigits fourteen (bitmaps 0x0000 0x3FFE 5) (values 0x0000 0x98765432 0xFFFF)
@@ -110,8 +110,8 @@ bitmaps-inside : map (canTakeDigits thirteen)
 unfolding canTakeDigits bitmapWithin bitmapPlaces bitmapPlacesFrom discretionaryIn nibblesBefore nibbles every both if
 bitmaps-inside = refl
 
--- no bitmap will do: an F among the seven nibbles behind the D; no D; the seven alone, in front of an F and at the end;
--- fewer than seven; no byte
+-- no bitmap will do: an F among the seven nibbles after the D; no D; the seven alone, before an F and at the end; fewer
+-- than seven; no byte
 tracks-outside : map (λ t. canTakeDigits t (bitmaps 0x0000 0x0000 0))
     (bytes 19 0x5413123456784800D251F10112345678901234
     ∷ bytes 19 0x5413123456784800025121010000000000000F
@@ -124,7 +124,8 @@ tracks-outside : map (λ t. canTakeDigits t (bitmaps 0x0000 0x0000 0))
 unfolding canTakeDigits bitmapWithin bitmapPlaces bitmapPlacesFrom discretionaryIn nibblesBefore nibbles every both if
 tracks-outside = refl
 
--- one digit in front of an F, and at the end; a second F does not matter; a second D and nibbles A to E are digits like others
+-- one digit before an F, and at the end; a second F does not matter; a second D and nibbles A to E are
+-- digits like others
 tracks-inside : map (λ t. discretionaryIn (nibbles t))
     (bytes 6 0x41D25121010F ∷ bytes 5 0x4D25121017 ∷ bytes 8 0x1D25121019F8F123 ∷ bytes 8 0x1D2512101DABCE2F ∷ [])
     ≡ record { end = 11; count = 1 } ∷ record { end = 10; count = 1 } ∷ record { end = 10; count = 1 } ∷ record { end = 15; count = 6 } ∷ []

@@ -1,5 +1,6 @@
--- The laws of a filled track. Every digit goes to one of the m discretionary digits, so the nibbles before them and behind them stay, the
--- first D and the first F behind it are where they were, and the digits put in again go to the same places.
+-- The laws of a filled track. Every digit goes to one of the m discretionary digits, so the nibbles before them and
+-- after them stay, the first D and the first F after it are where they were, and the digits put in again go to the
+-- same places.
 -- Assumes nothing.
 use mathlib.Core.Path.{_≡_, refl, sym, ap, _∙_}
 use mathlib.Core.Bool.{true, false}
@@ -128,7 +129,7 @@ spared m end i (d ∷ ds) h b k =
     (λ e. not-head (end - i) (d .place) (placesIn ds) k (omega arith))
     (spared m end i ds (h .2) b (not-tail (end - i) (d .place) (placesIn ds) k))
 
--- a nibble before the m digits, or behind them
+-- a nibble before the m digits, or after them
 outside : (m end i : ℕ) (ds : List PlacedDigit) → Inside m (placesIn ds) → m ≤ end → (i + m < end) ⊎ (end ≤ i) → isAmong i (indices end ds) ≡ false
 unfolding isAmong
 outside m end i [] h b k = refl

@@ -1,5 +1,5 @@
--- Nibbles of bytes: one read, one written, all packed again; and the first nibble of a kind. Each by the list from its front, two nibbles
--- a byte.
+-- Nibbles of bytes: one read, one written, all packed again; and the first nibble of a kind. Each by the list from its
+-- front, two nibbles a byte.
 -- Assumes nothing.
 use mathlib.Core.Path.{_≡_, refl, sym, ap, ap₂, _∙_}
 use mathlib.Core.List.{List, [], _∷_}

@@ -1,5 +1,5 @@
--- Digits written into nibbles, by index: a nibble that no digit goes to stays, so writing the same digits again changes nothing; and no
--- nibble becomes x where no digit is x.
+-- Digits written into nibbles, by index: a nibble that no digit goes to stays, so writing the same digits again changes
+-- nothing; and no nibble becomes x where no digit is x.
 -- Assumes nothing.
 use mathlib.Core.Path.{_≡_, refl, sym, ap, _∙_}
 use mathlib.Core.Bool.{Bool, true, false}

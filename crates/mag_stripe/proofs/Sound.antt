@@ -22,7 +22,7 @@ unfolding nibblesBefore
 before-le x [] = omega arith
 before-le x (n ∷ s) = if-ind (λ (k : ℕ). k ≤ suc (length s)) (eqb n x) 0 (suc (nibblesBefore x s)) (λ e. omega arith) (λ e. omega (arith, before-le x s))
 
--- by the place r of the first D and the end e of the data behind it
+-- by the place r of the first D and the end e of the data after it
 pub data-by : (s : List ℕ) (r e : ℕ) → r ≡ 0 + nibblesBefore trackSeparator (drop 0 s) → e ≡ r + 1 + nibblesBefore trackPadding (drop (r + 1) s)
     → record { end = e; count = e - (r + 1) - 7 } ≡ discretionaryIn s
 unfolding discretionaryIn
@@ -100,12 +100,12 @@ sound-gives t b h =
       few = leb-true _ _ (both-right _ _ r₃);
     }
 
--- as many digits as stand in front of the end, but for eight nibbles
+-- as many digits as are before the end, but for eight nibbles
 pub digits-end : (s : List ℕ) → 1 ≤ discretionaryIn s .count → discretionaryIn s .end ≡ nibblesBefore trackSeparator s + 8 + discretionaryIn s .count
 unfolding discretionaryIn
 digits-end s h = omega arith
 
--- the room that it has: the data end in it, and every place of a bitmap is in front of their end
+-- the room that it has: the data end in it, and every place of a bitmap is before their end
 pub record Room (end : ℕ) (t : List ℕ) (b : Bitmaps) : Type 0 where
   pub inside : end ≤ length (nibbles t)
   pub some : 1 ≤ end

@@ -110,7 +110,7 @@ module _ {end base number count : ℕ} {ps s : List ℕ} {copied m : ℕ} {qs u 
       let z : count - copied ≡ 0 = omega arith in
       (c .rest ∙ ap (λ (n : ℕ). drop n ps) k, sym (c .same ∙ rw z (none-left end base m qs u)))
 
--- ---- all parts, one behind the other
+-- ---- all parts, concatenated
 
 module _ (b : Bitmaps) (v : DigitValues) (end q n k : ℕ) (s s₁ s₂ s₃ s₄ rest : List ℕ) where
   pub all-written :

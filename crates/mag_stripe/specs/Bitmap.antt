@@ -9,7 +9,7 @@ use Rattle.basics.specs.Choice.{if_then_else_, _and_, _≤?_, _=?_, every}
 use Rattle.mag_stripe.specs.declared.Bitmaps.{Bitmaps}
 use Rattle.mag_stripe.specs.Track.{discretionaryOf}
 
--- two bytes as a number, byte 1 the high one; a byte that is not there counts as 0
+-- two bytes as a number, byte 1 the high one; an absent byte counts as 0
 abbrev pub twoByteNumber : List ℕ → ℕ
 twoByteNumber s = getD s 0 0 * 256 + getD s 1 0
 
@@ -32,7 +32,8 @@ bitmapPlaces bitmap = bitmapPlacesFrom 16 1 bitmap
 abbrev pub bitCount : ℕ → ℕ
 bitCount bitmap = length (bitmapPlaces bitmap)
 
--- nUN (S7.22): the places of PUNATC that are not the counter's; subtraction stops at 0, so `canTakeDigits` tests NATC apart
+-- nUN (S7.22): the places of PUNATC that are not the counter's; subtraction stops at 0, so `canTakeDigits`
+-- tests NATC apart
 abbrev pub unDigitCount : Bitmaps → ℕ
 unDigitCount b = bitCount (b .punatc) - b .natc
 

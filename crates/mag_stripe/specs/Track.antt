@@ -1,5 +1,5 @@
--- Track 2 Data, 9F6B (document 02, Item 9; Book C-2, A.1.178): where its discretionary data stand. A track is any list
--- of bytes, read as nibbles, high one first. Behind the account number come the separator D, four nibbles of the expiry
+-- Track 2 Data, 9F6B (document 02, Item 9; Book C-2, A.1.178): where its discretionary data are. A track is any list of
+-- bytes, read as nibbles, high one first. After the account number come the separator D, four nibbles of the expiry
 -- date, three of the service code, the discretionary digits, and F as padding.
 -- Assumes nothing.
 use mathlib.Core.List.{List, [], _∷_}
@@ -16,20 +16,20 @@ trackSeparator = 0xD
 abbrev pub trackPadding : ℕ
 trackPadding = 0xF
 
--- how many nibbles stand before the first x, all of them where there is none
+-- how many nibbles are before the first x, all of them where there is none
 unfoldable pub nibblesBefore : ℕ → List ℕ → ℕ
 nibblesBefore x [] = 0
 nibblesBefore x (n ∷ s) = if n =? x then 0 else suc (nibblesBefore x s)
 
--- where the nibble behind the first D stands
+-- where the nibble after the first D is
 abbrev pub behindSeparator : List ℕ → ℕ
 behindSeparator s = nibblesBefore trackSeparator s + 1
 
--- how many nibbles stand behind the first D, up to the first F there or to the end
+-- how many nibbles are after the first D, up to the first F there or to the end
 abbrev pub discretionaryCount : List ℕ → ℕ
 discretionaryCount s = nibblesBefore trackPadding (drop (behindSeparator s) s)
 
--- the discretionary data of a track's nibbles: where they end, and how many digits they have: those behind the first
+-- the discretionary data of a track's nibbles: where they end, and how many digits they have: those after the first
 -- seven, expiry date and service code
 unfoldable pub discretionaryIn : List ℕ → DiscretionaryData
 discretionaryIn s = record { end = behindSeparator s + discretionaryCount s; count = discretionaryCount s - 7 }

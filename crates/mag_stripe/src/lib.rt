@@ -1,6 +1,7 @@
 // Track 2 of a magnetic stripe card: whether its discretionary data can take the digits of a transaction
-// (`can_take_digits`), and the digits put in (`put_digits`). A track comes in as plain bytes of any length and contents,
-// the bitmaps and values as numbers, which `bitmaps_of` and `values_of` read from the bytes of the data objects.
+// (`can_take_digits`), and the digits put in (`put_digits`). A track comes in as plain bytes of any length and
+// contents, the bitmaps and values as numbers, which `bitmaps_of` and `values_of` read from the bytes of the
+// data objects.
 ghost use mathlib.Core.Path.{_≡_};
 ghost use mathlib.Core.Bool.{true};
 ghost use mathlib.Core.List.{_∷_};
@@ -21,8 +22,8 @@ pub struct Bitmaps {
     pub natc: u8,
 }
 
-// The code CVC3 (9F61), the unpredictable number (9F6A), whose digits are its nibbles, and the transaction
-// counter (9F36).
+// CVC3 (9F61), the Unpredictable Number UN (9F6A), whose digits are its nibbles, and the Application Transaction
+// Counter ATC (9F36).
 pub struct DigitValues {
     pub cvc3: u16,
     pub un: u32,
@@ -41,7 +42,7 @@ struct NextPlace {
     rest: u16,
 }
 
-// The bitmaps by the bytes of 9F65, 9F66 and 9F67. A byte that is not there counts as 0.
+// The bitmaps by the bytes of 9F65, 9F66 and 9F67. An absent byte counts as 0.
 pub fn bitmaps_of(pcvc3: &[u8], punatc: &[u8], natc: &[u8]) -> Bitmaps
     ensures { λ r. ⌜ r ≡ bitmapsOf (now (pcvc3 .entry)) (now (punatc .entry)) (now (natc .entry)) ⌝ }
 {
@@ -52,7 +53,7 @@ pub fn bitmaps_of(pcvc3: &[u8], punatc: &[u8], natc: &[u8]) -> Bitmaps
     }
 }
 
-// The values by the bytes of 9F61, 9F6A and 9F36. A byte that is not there counts as 0.
+// The values by the bytes of 9F61, 9F6A and 9F36. An absent byte counts as 0.
 pub fn values_of(cvc3: &[u8], un: &[u8], atc: &[u8]) -> DigitValues
     ensures { λ r. ⌜ r ≡ digitValuesOf (now (cvc3 .entry)) (now (un .entry)) (now (atc .entry)) ⌝ }
 {
@@ -96,8 +97,7 @@ pub fn can_take_digits(track: &[u8], bitmaps: Bitmaps) -> bool
     bits - counted <= 8
 }
 
-// Puts the digits of code, number and counter into a track, and nUN as its last digit. A track that cannot take
-// them stays.
+// Puts the digits of CVC3, UN and ATC into a track, and nUN as its last digit. A track that cannot take them stays.
 pub fn put_digits(track: &mut [u8], bitmaps: Bitmaps, values: DigitValues)
     ensures digits { λ _. ⌜ now (track .exit) ≡ trackWithDigits (now (track .entry)) bitmaps values ⌝ }
     ensures kept { λ _. ⌜ OtherDigitsKept bitmaps (now (track .entry)) (now (track .exit)) ⌝ }
@@ -136,7 +136,7 @@ fn discretionary_of(track: &[u8]) -> DiscretionaryData
     DiscretionaryData { end, count: n - 7 }
 }
 
-// Where the first nibble x from a place on stands; where there is none, the track's end, or the place past it.
+// Where the first nibble x from a place on is; where there is none, the track's end, or the place past it.
 fn first(track: &[u8], from: usize, x: u8) -> usize
     ensures { λ r. ⌜ r ≡ from + nibblesBefore x (drop from (nibbles (now (track .entry)))) ⌝ }
 {

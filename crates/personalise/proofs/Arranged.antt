@@ -1,5 +1,5 @@
--- The objects in the order of the records are those of the list, rearranged: each is placed in one record, so it is inserted once into the
--- order of those behind it. Puts of different rows commute, so both orders give the same store.
+-- The objects in the order of the records are those of the list, rearranged: each is placed in one record, so it is
+-- inserted once into the order of those after it. Puts of different rows commute, so both orders give the same store.
 -- Assumes nothing.
 use mathlib.Core.Path.{_≡_, refl, sym, ap, ap₂, _∙_}
 use mathlib.Core.Bool.{Bool, true, false, not}
@@ -72,7 +72,7 @@ none-named j k (p ∷ ps) e = elim (bool-cases (isOfObject j p)) [
   | inr n ↦ either-no _ _ (both-no-right _ _ n) (none-named j k ps (sym (if-no (suc (placementCount (isOfObject j) ps)) (placementCount (isOfObject j) ps) n) ∙ e))
 ]
 
--- an object that one placement names stands in one record, of those that placements name
+-- an object that one placement names is in one record, of those that placements name
 pub record Alone (ps : List Placement) (j n : ℕ) : Type 0 where
   pub place : ℕ
   pub only : (k : ℕ) → anyPlacement (putsObjectInto k j) ps ≡ eqb place k
@@ -134,7 +134,7 @@ module _ (ps : List Placement) (j : ℕ) (o : Object) (os : List Object) where
     elsewhere : (k : ℕ) → (r ≡ k → ⊥) → anyPlacement (putsObjectInto k j) ps ≡ false
     elsewhere k ne = only k ∙ ne-eqb r k ne
 
-    -- behind its record the object does not stand
+    -- after its record the object does not stand
     passed : (n k : ℕ) → r < k → ordered ps k n j (o ∷ os) ≡ ordered ps k n (suc j) os
     unfolding ordered
     passed zero k h = refl

@@ -1,4 +1,4 @@
--- All is written exactly where every rule is kept: the tests of the answer, clause by clause, both ways.
+-- All is written exactly where every rule is satisfied: the tests of the answer, clause by clause, both ways.
 -- Assumes nothing.
 use mathlib.Core.Path.{_≡_, refl, sym, ap, _∙_}
 use mathlib.Core.Bool.{Bool, true, false, not}
@@ -116,7 +116,7 @@ unfolding every sumOverEntries
 some-record [] h k = absurd (omega arith)
 some-record (e ∷ es) h k = let l = leb-true (e .first) (e .last) (both-left _ _ k) in omega arith
 
--- nothing stands before the first
+-- nothing is before the first
 apart-first : (es : List AflEntry) → every (apartFrom []) es ≡ true
 unfolding every apartFrom
 apart-first [] = refl

@@ -1,5 +1,5 @@
--- The list, the entries and the records on both sides of each rule's edge, computed, in buffers that hold nothing; and buffers that are too
--- short.
+-- The list, the entries and the records on both sides of each rule's edge, computed, in buffers that hold nothing; and
+-- buffers that are too short.
 -- Assumes nothing.
 use mathlib.Core.Path.{_≡_, refl}
 use mathlib.Core.List.{List, [], _∷_, _++_}
@@ -31,12 +31,12 @@ use Rattle.personalise.proofs.Stages.{short-records, short-afl}
 abbrev said : List ℕ → List ℕ → List ℕ → PersonaliseResult
 said objects es placements = afterBuffers (primitiveObjects objects) (placementsIn placements) es
 
--- the answer, with the records and the locator that are left of no bytes
+-- the answer, with the records and the AFL that are left of no bytes
 abbrev done : List ℕ → List ℕ → List ℕ → PersonaliseResult × List ℕ × List ℕ
 done objects es placements =
     (said objects es placements, recordsAfter (said objects es placements) objects es placements [], aflAfter (said objects es placements) es [])
 
--- records of this length and a locator of that
+-- records of this length and an AFL of that
 abbrev sizes : ℕ → ℕ → PersonaliseResult
 sizes n m = Written (record { records = n; afl = m })
 
@@ -78,7 +78,7 @@ pub record Examples : Type 0 where
   files : said (0x9F ∷ 0x08 ∷ 0x02 ∷ 0x00 ∷ 0x02 ∷ []) (0x08 ∷ 0x01 ∷ 0x03 ∷ 0x00 ∷ 0x10 ∷ 0x03 ∷ 0x04 ∷ 0x00 ∷ []) (0x01 ∷ 0x01 ∷ []) ≡ sizes 15 8
   -- no entry
   no-entry : said (0x9F ∷ 0x08 ∷ 0x02 ∷ 0x00 ∷ 0x02 ∷ []) [] (0x01 ∷ 0x01 ∷ []) ≡ BadEntry 1
-  -- an entry cut short
+  -- an entry truncated
   cut : said (0x9F ∷ 0x08 ∷ 0x02 ∷ 0x00 ∷ 0x02 ∷ []) (0x08 ∷ 0x01 ∷ 0x01 ∷ 0x00 ∷ 0x10 ∷ 0x01 ∷ 0x01 ∷ []) (0x01 ∷ 0x01 ∷ []) ≡ BadEntry 2
   -- 63 entries, and 62
   sixty-three : said (0x9F ∷ 0x08 ∷ 0x02 ∷ 0x00 ∷ 0x02 ∷ []) (apart 1 63) (0x01 ∷ 0x01 ∷ []) ≡ BadEntry 63
@@ -105,10 +105,10 @@ pub record Examples : Type 0 where
   -- a length and a digit that do not fit
   too-long : said (0x9F ∷ 0x08 ∷ 0x03 ∷ 0x00 ∷ 0x02 ∷ 0x00 ∷ []) (0x08 ∷ 0x01 ∷ 0x01 ∷ 0x00 ∷ []) (0x01 ∷ 0x01 ∷ []) ≡ BadList
   digit : said (0x5F ∷ 0x24 ∷ 0x03 ∷ 0x49 ∷ 0x12 ∷ 0x3A ∷ []) (0x08 ∷ 0x01 ∷ 0x01 ∷ 0x00 ∷ []) (0x01 ∷ 0x01 ∷ []) ≡ BadList
-  -- an object that is not in the list, and a record that is not in the locator
+  -- an object that is not in the list, and a record that is not in the AFL
   object-nine : said (0x9F ∷ 0x08 ∷ 0x02 ∷ 0x00 ∷ 0x02 ∷ 0x5F ∷ 0x34 ∷ 0x01 ∷ 0x01 ∷ []) (0x08 ∷ 0x01 ∷ 0x02 ∷ 0x00 ∷ []) (0x01 ∷ 0x01 ∷ 0x02 ∷ 0x02 ∷ 0x01 ∷ 0x09 ∷ []) ≡ BadRecord 1
   record-three : said (0x9F ∷ 0x08 ∷ 0x02 ∷ 0x00 ∷ 0x02 ∷ 0x5F ∷ 0x34 ∷ 0x01 ∷ 0x01 ∷ []) (0x08 ∷ 0x01 ∷ 0x02 ∷ 0x00 ∷ []) (0x01 ∷ 0x01 ∷ 0x03 ∷ 0x02 ∷ []) ≡ BadRecord 3
-  -- record 0, and one byte alone behind the placements
+  -- record 0, and one byte alone after the placements
   record-zero : said (0x9F ∷ 0x08 ∷ 0x02 ∷ 0x00 ∷ 0x02 ∷ []) (0x08 ∷ 0x01 ∷ 0x02 ∷ 0x00 ∷ []) (0x00 ∷ 0x01 ∷ []) ≡ BadRecord 0
   odd : said (0x9F ∷ 0x08 ∷ 0x02 ∷ 0x00 ∷ 0x02 ∷ []) (0x08 ∷ 0x01 ∷ 0x02 ∷ 0x00 ∷ []) (0x01 ∷ 0x01 ∷ 0x02 ∷ []) ≡ BadRecord 2
 

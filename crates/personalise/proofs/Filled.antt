@@ -1,4 +1,4 @@
--- One turn of writing a content, and of writing the records: what is written, and what is left behind it.
+-- One iteration of writing a content, and of writing the records: what is written, and what is left after it.
 -- Assumes nothing.
 use mathlib.Core.Path.{_≡_, ap, _∙_}
 use mathlib.Core.List.{List, [], _++_}
@@ -81,7 +81,7 @@ module _ (os : List Object) (ps : List Placement) where
   pub records-all : (n : ℕ) → recordsLeft n 1 ≡ recordBytes os ps n
   records-all n = let e : n + 1 - 1 ≡ n = omega arith in ap (λ (m : ℕ). concatenatedRecords (cardRecordsFrom os ps 1 m)) e
 
-  -- a turn of the loop
+  -- an iteration of the loop
   module _ (n k : ℕ) (h : k ≤ n) (f : length (recordContent os ps k) ≤ mostRecordContent) (out : List ℕ) (at : ℕ) (room : at + 256 ≤ length out)
       {at′ : ℕ} {out′ : List ℕ} (p : PutsBytes at′ out′ out at (cardRecordBytes os ps k)) where
     fits : at + length (cardRecordBytes os ps k) ≤ length out

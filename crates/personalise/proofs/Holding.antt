@@ -1,4 +1,5 @@
--- What holds where all is written: the locator is accepted, the records stand in their buffer and fit, and they read back to the list's store.
+-- What holds where all is written: the AFL is accepted, the records are in their buffer and fit, and they read back to
+-- the list's store.
 -- Assumes nothing.
 use mathlib.Core.Path.{_≡_, refl, sym, ap, subst, _∙_}
 use mathlib.Core.Bool.{true}
@@ -38,7 +39,7 @@ use Rattle.personalise.proofs.Arranged.{ordered, arranged, perm-every, 
 use Rattle.personalise.proofs.Stored.{perm-put, empty-free}
 use Rattle.personalise.proofs.ReadBack.{files-of, read-all}
 
--- ---- the locator
+-- ---- the AFL
 
 -- an entry that keeps these rules keeps those of document 01
 keeps-also : (e : AflEntry) → validEntryAlone e ≡ true → validEntry e ≡ true

@@ -1,4 +1,4 @@
--- An object that the card may set: its row, and what the row says of its tag and its length.
+-- An object that the card may set: its row, and what the row states of its tag and its length.
 -- Assumes nothing.
 use mathlib.Core.Path.{_≡_, refl, sym, ap, _∙_}
 use mathlib.Core.Bool.{true, false, not}

@@ -67,7 +67,7 @@ module _ (f : ℕ → Bool) (k : ℕ) where
   unfolding firstFault
   first-none h = let m : 256 - k ≡ 0 = omega arith in rw m
 
--- ---- what the search says
+-- ---- what the search reports
 
 none-found : (f : ℕ → Bool) (m k : ℕ) → firstFault f k m ≡ Nothing → (i : ℕ) → k ≤ i → i < k + m → f i ≡ false
 unfolding firstFault

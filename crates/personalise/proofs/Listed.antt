@@ -1,4 +1,4 @@
--- The list of objects, one at a time: what is said of the run that is left behind an object. The loops cite these.
+-- The list of objects, one at a time: what is said of the run that is left after an object. The loops cite these.
 -- Assumes nothing.
 use mathlib.Core.Path.{_≡_, refl, sym, ap, _∙_}
 use mathlib.Core.Bool.{Bool, true, false, not}
@@ -39,7 +39,7 @@ module _ (o : Object) (x : RowFound) (p : x ≡ findRow dictionaryRows (o .tag))
   unfolding settableInRecord
   settable-at k q = ap (λ (y : RowFound). rowSettableInRecord y (o .value)) (sym p ∙ q)
 
--- ---- an object and the run behind it
+-- ---- an object and the run after it
 
 same-tag : (t : ℕ) (o : Object) (x : Option (List Object)) → o .tag ≡ t → listLacksTag t (objectBefore o x) ≡ false
 unfolding objectBefore lacksTag every
@@ -51,7 +51,7 @@ unfolding objectBefore lacksTag every
 other-tag t o none e = refl
 other-tag t o (some os) e = both-true _ (ap not (ne-eqb _ _ e))
 
--- three tests that pass, each in front of its own others
+-- three tests that pass, each before its own others
 shuffle : (s e l d c f : Bool) → s ≡ true → l ≡ true → c ≡ true → both (both s e) (both (both l d) (both c f)) ≡ both e (both d f)
 unfolding both
 shuffle true e true d true f p q r = refl
@@ -153,7 +153,7 @@ content-joins : (o : Object) (os : List Object) → length (contentBytes (o ∷ 
 unfolding contentBytes
 content-joins o os = length-append (objectBytes (o .tag) (o .value)) (contentBytes os) ∙ rw (object-length (o .tag) (o .value))
 
--- an object and those behind it, in record k
+-- an object and those after it, in record k
 pub content-length : (ps : List Placement) (k j : ℕ) (o : Object) (os : List Object)
     → length (contentBytes (objectsFrom ps k j (o ∷ os))) ≡ placedSize ps k j (o .tag) (length (o .value)) + length (contentBytes (objectsFrom ps k (suc j) os))
 unfolding objectsFrom

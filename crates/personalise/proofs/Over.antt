@@ -1,4 +1,4 @@
--- Bytes written into a buffer: written one behind the other they are written at once.
+-- Bytes written into a buffer: writing one after another is writing at once.
 -- Assumes nothing.
 use mathlib.Core.Path.{_≡_, sym, ap, _∙_}
 use mathlib.Core.List.{List, [], _∷_, _++_, append-nil, append-assoc}
@@ -19,7 +19,7 @@ over-nothing s at = rw add-zero (take-append-drop at s)
 pub puts-nothing : (s : List ℕ) (at : ℕ) {v : List ℕ} → v ≡ [] → PutsBytes at s s at v
 puts-nothing s at e = record { next = sym (add-zero at) ∙ ap (λ (x : List ℕ). at + length x) (sym e); wrote = sym (over-nothing s at) ∙ ap (bytesWrittenOver s at) (sym e) }
 
--- in front
+-- at the front
 pub over-front : (s v : List ℕ) → bytesWrittenOver s 0 v ≡ withPrefix v s
 unfolding bytesWrittenOver
 over-front s v = rw zero-add
@@ -40,7 +40,7 @@ module _ (s : List ℕ) (at : ℕ) (v : List ℕ) (h : at + length v ≤ length 
   pub over-sets : sets s at v ≡ bytesWrittenOver s at v
   over-sets = sets-eq v s at h ∙ sym front-is
 
-  -- one behind the other
+  -- concatenated
   pub over-join : (w : List ℕ) → bytesWrittenOver (bytesWrittenOver s at v) (at + length v) w ≡ bytesWrittenOver s at (v ++ w)
   unfolding bytesWrittenOver
   over-join w =
@@ -64,7 +64,7 @@ module _ (s : List ℕ) (at : ℕ) (v : List ℕ) (h : at + length v ≤ length 
     pub puts-next : (w : List ℕ) → bytesWrittenOver s at (v ++ w) ≡ bytesWrittenOver t k w
     puts-next w = sym (rw (p .wrote, p .next) (over-join w))
 
--- a part of the buffer that was lent, and comes back with v copied into it
+-- a part of the buffer that was borrowed, and comes back with v copied into it
 pub over-part : (s : List ℕ) (at : ℕ) (v ys : List ℕ) → at + length v ≤ length s
     → ys ≡ take (length v) v ++ drop (length v) (take (at + length v - at) (drop at s))
     → take at s ++ (ys ++ drop (at + length v - at) (drop at s)) ≡ bytesWrittenOver s at v
@@ -90,7 +90,7 @@ three-put s at x y z h e =
     let m : at + 2 ≡ suc (suc at) = omega arith in
     rw (n, m) (sets-put s at (x ∷ y ∷ z ∷ []) h e)
 
--- ---- tag, length and value, one behind the other
+-- ---- tag, length and value, concatenated
 
 module _ (s : List ℕ) (at : ℕ) (t l v : List ℕ) (h : at + (length t + (length l + length v)) ≤ length s) where
   pub tag-room : at + length t ≤ length s

@@ -1,4 +1,5 @@
--- The placements of some bytes, one at a time: what a test or a count says of the bytes that are left. The loops cite these.
+-- The placements of some bytes, one at a time: what a test or a count says of the bytes that are left. The
+-- loops cite these.
 -- Assumes nothing.
 use mathlib.Core.Path.{_≡_, refl, ap, _∙_}
 use mathlib.Core.Bool.{Bool, true, false, not}
@@ -35,7 +36,7 @@ unfolding placementsIn placementCount
 count-end f [] z = refl
 count-end f (r ∷ s) z = absurd (omega arith)
 
--- the placement at the front and the bytes behind it, as the code makes them
+-- the placement at the front and the bytes after it, as the code makes them
 module _ (s : List ℕ) (h : length s ≡ 0 → ⊥) (p : Placement) (q : p ≡ placement (getD s 0 0) (getD s 1 0)) (n : ℕ) (w : n ≡ min 2 (length s)) where
   apart : placementsIn s ≡ p ∷ placementsIn (tail s n)
   apart = split s h ∙ rw (q, tail-is s n, w, drop-min s)

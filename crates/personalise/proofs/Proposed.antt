@@ -1,4 +1,5 @@
--- The entries of a proposed locator, one at a time: what is said of the bytes behind those that were passed. The loops cite these.
+-- The entries of a proposed AFL, one at a time: what is said of the bytes after those that were passed. The
+-- loops cite these.
 -- Assumes nothing.
 use mathlib.Core.Path.{_≡_, refl, sym, ap, _∙_}
 use mathlib.Core.Bool.{true, false, not}
@@ -56,7 +57,7 @@ pub total-end : (s : List ℕ) → length s < 4 → aflRecordCount s ≡ 0
 unfolding sumOverEntries
 total-end s h = ap (sumOverEntries entryRecordCount) (entries-short s h)
 
--- ---- an entry behind those before it
+-- ---- an entry after those before it
 
 module _ (before : List AflEntry) (e : AflEntry) where
   pub behind-many : mostEntries ≤ length before → validEntryAfter before e ≡ false

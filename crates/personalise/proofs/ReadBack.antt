@@ -1,5 +1,6 @@
--- A record that was written is read with reason 0 and puts its objects: its encoding is that of a template with the objects as leaves, and
--- each of them may come and finds its row free. So the records one after the other give the store of the list.
+-- A record that was written is read with reason 0 and puts its objects: its encoding is that of a template with the
+-- objects as leaves, and each of them may come and finds its row free. So the records one after the other give the
+-- store of the list.
 -- Assumes nothing.
 use mathlib.Core.Path.{_≡_, refl, sym, ap, _∙_}
 use mathlib.Core.Bool.{Bool, true, not}
@@ -46,7 +47,7 @@ use Rattle.personalise.proofs.Stored.{put, known-place, put-size, FreeI
 
 -- ---- the tree of a record
 
--- objects one behind the other
+-- objects concatenated
 leaves : List Object → Forest
 leaves [] = end
 leaves (o ∷ os) = leaf (o .tag) (o .value) (leaves os)

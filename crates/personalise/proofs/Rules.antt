@@ -1,5 +1,5 @@
--- The entries, clause by clause: no entry is bad exactly where each keeps the rules by itself, no two name a record both, and there are
--- few enough of them. By induction over the entries behind those that were passed.
+-- The entries, clause by clause: no entry is bad exactly where each satisfies the rules by itself, no two name a record
+-- both, and there are few enough of them. By induction over the entries after those that were passed.
 -- Assumes nothing.
 use mathlib.Core.Path.{_≡_, refl, sym, ap, ap₂, _∙_}
 use mathlib.Core.Bool.{Bool, true, false, not}
@@ -55,7 +55,7 @@ unfolding every
 every-same f g h [] = refl
 every-same f g h (x ∷ l) = ap₂ both (h x) (every-same f g h l)
 
--- ---- one entry more before the others
+-- ---- one more entry before the others
 
 module _ (before : List AflEntry) (e : AflEntry) where
   apart-more : (es : List AflEntry) → every (apartFrom (before ++ (e ∷ []))) es ≡ both (every (apartFrom before) es) (every (λ f. not (entriesOverlap e f)) es)
@@ -76,7 +76,7 @@ sum-more : (before : List AflEntry) (e : AflEntry) → sumOverEntries entryRecor
 unfolding sumOverEntries
 sum-more before e = sum-join entryRecordCount before (e ∷ []) ∙ rw add-zero
 
--- ---- the clauses of the entries behind those before them
+-- ---- the clauses of the entries after those before them
 
 pub record Follows (before es : List AflEntry) (w : Bool) : Type 0 where
   pub whole : w ≡ true
@@ -87,7 +87,7 @@ pub record Follows (before es : List AflEntry) (w : Bool) : Type 0 where
   pub apart : allApart es ≡ true
   pub room : sumOverEntries entryRecordCount before + sumOverEntries entryRecordCount es ≤ mostRecords
 
--- what an entry that keeps the rules behind those before it keeps
+-- what an entry that satisfies the rules after those before it keeps
 pub record EntryKept (before : List AflEntry) (e : AflEntry) : Type 0 where
   pub few : length before < mostEntries
   pub alone : validEntryAlone e ≡ true
@@ -168,7 +168,7 @@ number-most (e ∷ es) before w i l q = elim (bool-cases (validEntryAfter before
   | inr n ↦ (let e : At (length before + 1) ≡ At i = sym (if-no _ (At (length before + 1)) n) ∙ q in let z : length before + 1 ≡ i = cc in omega arith)
 ]
 
--- ---- a whole locator
+-- ---- a whole AFL
 
 module _ (es : List ℕ) (q : badEntry es ≡ Nothing) where
   pub entries-follow : Follows [] (aflEntries es) (wholeEntries es)

@@ -69,7 +69,7 @@ module _ (o es p r l : List ℕ) where
           go none q = cc
           go (some os) q = if-yes _ _ q
 
--- a run that keeps the rules is usable
+-- a run that satisfies the rules is usable
 pub usable : (o : List ℕ) (ps : List Placement) → parsedListValid ps 1 (primitiveObjects o) ≡ true → UsableObjects o
 usable o ps e = go (primitiveObjects o) e
   where
@@ -85,7 +85,7 @@ records-stay o es p r = sym (if-no _ _ refl)
 pub afl-stays : (es l : List ℕ) → l ≡ aflIf false es l
 afl-stays es l = sym (if-no _ _ refl)
 
--- a copy in front
+-- a copy at the front
 pub afl-copied : (es l m : List ℕ) → m ≡ take (length es) es ++ drop (length es) l → m ≡ aflIf true es l
 afl-copied es l m e = e ∙ ap (λ (x : List ℕ). x ++ drop (length es) l) (take-length es) ∙ sym (if-yes _ _ refl)
 
@@ -130,7 +130,7 @@ small o es p r l =
 
 -- ---- the word
 
--- a word says that all is written exactly where its answer does
+-- a word reports that all is written exactly where its answer does
 pub says-written : (a : PersonaliseResult) → SmallResult a → isWrittenWord (personaliseWord a) ≡ isWritten a
 says-written (Written z) s = lt-ltb (personaliseWord (Written z)) 0x1000000000000 (omega (arith, s .number, s .afl))
 says-written ShortRecords s = refl

@@ -1,4 +1,5 @@
--- Objects put into a store: each in its own row, so that the order does not matter, and a row is free until its object is put.
+-- Objects put into a store: each in its own row, so that the order does not matter, and a row is free until its
+-- object is put.
 -- Assumes nothing.
 use mathlib.Core.Path.{_≡_, refl, sym, ap, _∙_}
 use mathlib.Core.Bool.{true, not}

@@ -1,5 +1,5 @@
--- No record is named twice exactly where no two entries meet: the records of an entry are numbered upwards, and two entries in order that
--- meet both name the higher of their first records.
+-- No record is named twice exactly where no two entries meet: the records of an entry are numbered upwards, and two
+-- entries in order that meet both name the higher of their first records.
 -- Assumes nothing.
 use mathlib.Core.Path.{_≡_, refl, sym, ap, ap₂, _∙_}
 use mathlib.Core.Bool.{Bool, true, false, not}

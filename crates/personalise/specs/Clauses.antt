@@ -27,7 +27,7 @@ sameRecord r s = r .sfi =? s .sfi and r .number =? s .number
 unfoldable pub lacksRecord : CardRecord → List CardRecord → Bool
 lacksRecord r rs = every (λ s. not (sameRecord r s)) rs
 
--- no record stands in a list twice
+-- no record is in a list twice
 unfoldable pub noRecordTwice : List CardRecord → Bool
 noRecordTwice [] = true
 noRecordTwice (r ∷ rs) = lacksRecord r rs and noRecordTwice rs
@@ -40,7 +40,7 @@ placesInRecord n p = between 1 (p .into) n
 abbrev pub placesObject : ℕ → Placement → Bool
 placesObject n p = between 1 (p .object) n
 
--- the rules, for objects, entries and placements in bytes and the lent records and locator
+-- the rules, for objects, entries and placements in bytes and the caller's buffers for the records and the AFL
 pub record PersonaliseRules (objects es placements lentRecords lentAfl : List ℕ) : Type 0 where
   -- the buffers are large enough
   pub recordsLent : recordsRoom ≤ length lentRecords
@@ -51,7 +51,7 @@ pub record PersonaliseRules (objects es placements lentRecords lentAfl : List �
   pub settable : every settableInRecord (listedObjects objects) ≡ true
   pub distinct : tagsDistinct (listedObjects objects) ≡ true
   pub once : eachPlacedOnce (placementsIn placements) 1 (listedObjects objects) ≡ true
-  -- the locator: 1 to 62 whole entries, each within its rules, no record named twice, 1 to 128 records
+  -- the AFL: 1 to 62 whole entries, each within its rules, no record named twice, 1 to 128 records
   pub whole : wholeEntries es ≡ true
   pub someEntry : 1 ≤ length (aflEntries es)
   pub fewEntries : length (aflEntries es) ≤ mostEntries
@@ -63,13 +63,13 @@ pub record PersonaliseRules (objects es placements lentRecords lentAfl : List �
   pub apart : noRecordTwice (aflRecords es) ≡ true
   pub someRecord : 1 ≤ aflRecordCount es
   pub fewRecords : aflRecordCount es ≤ mostRecords
-  -- the records: placements name records of the locator and objects of the list; each content is at most 253 bytes
+  -- the records: placements name records of the AFL and objects of the list; each content is at most 253 bytes
   pub named : every (placesInRecord (aflRecordCount es)) (placementsIn placements) ≡ true
   pub objectsThere : every (placesObject (length (listedObjects objects))) (placementsIn placements) ≡ true
   pub contents : (k : ℕ) → 1 ≤ k → k ≤ aflRecordCount es
       → length (recordContent (listedObjects objects) (placementsIn placements) k) ≤ mostRecordContent
 
--- the answer a says that all is written exactly where the rules are kept
+-- the answer a reports that all is written exactly where the rules are satisfied
 abbrev pub WrittenExactly : PersonaliseResult → List ℕ → List ℕ → List ℕ → List ℕ → List ℕ → Type 0
 WrittenExactly a objects es placements r l =
     (isWritten a ≡ true → PersonaliseRules objects es placements r l) × (PersonaliseRules objects es placements r l → isWritten a ≡ true)

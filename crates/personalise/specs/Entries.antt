@@ -1,5 +1,5 @@
--- The file locator as it is proposed (document 02, Item 4; document 01, "Commands and steps", Locator): what an entry
--- must keep behind the entries before it, and the number of the first that does not.
+-- The AFL as it is proposed (document 02, Item 4; document 01, "Commands and steps", Locator): what an entry must
+-- satisfy after the entries before it, and the number of the first that does not.
 -- Assumes nothing.
 use mathlib.Core.Bool.{Bool, not}
 use mathlib.Core.List.{List, [], _∷_, _++_}
@@ -60,35 +60,35 @@ roomBehind before e = sumOverEntries entryRecordCount before + entryRecordCount 
 unfoldable pub validEntryAlone : AflEntry → Bool
 validEntryAlone e = lowBitsClear e and sfiInRange e and firstRecordNamed e and recordsInOrder e and noneOffline e
 
--- an entry behind those before it
+-- an entry after those before it
 unfoldable pub validEntryAfter : List AflEntry → AflEntry → Bool
 validEntryAfter before e = length before <? mostEntries and validEntryAlone e and apartFrom before e and roomBehind before e
 
 -- ---- the first bad entry, by its number from 1
 
--- the number of the entry behind those before
+-- the number of the entry after those before
 abbrev pub entryNumberAfter : List AflEntry → ℕ
 entryNumberAfter before = length before + 1
 
--- behind the last whole entry: one that is cut short is bad, and so is the first where there is none
+-- after the last whole entry: one that is truncated is bad, and so is the first where there is none
 unfoldable pub badEnd : List AflEntry → Bool → Fault
 badEnd before whole =
     if whole and 0 <? length before then Nothing
     else At (entryNumberAfter before)
 
--- the first bad one of some entries, behind those before; `whole` says that no entry behind them is cut short
+-- the first bad one of some entries, after those before; `whole` says that no entry after them is truncated
 unfoldable pub badFrom : List AflEntry → List AflEntry → Bool → Fault
 badFrom before [] whole = badEnd before whole
 badFrom before (e ∷ es) whole =
     if validEntryAfter before e then badFrom (before ++ (e ∷ [])) es whole
     else At (entryNumberAfter before)
 
--- the first bad entry of a locator
+-- the first bad entry of an AFL
 unfoldable pub badEntry : List ℕ → Fault
 badEntry s = badFrom [] (aflEntries s) (wholeEntries s)
 
 -- ---- what holds of it, proved in proofs/ (Rules, Twice) for all entries
---   follows, follows-back    no entry is bad exactly where each keeps the rules by itself, no two meet, there are 1 to
---                            62 whole ones, and they name at most 128 records
+--   follows, follows-back    no entry is bad exactly where each satisfies the rules by itself, no two meet, there are 1
+--                            to 62 whole ones, and they name at most 128 records
 --   twice-is                 of entries in order no two meet exactly where no record is named twice
 --   entry-number             the number of a bad entry is at most 63

@@ -1,6 +1,6 @@
 -- What private functions promise, for their callers' proofs: runs of objects by parts, sizes up to a bound, and bytes
 -- written from a place on.
--- No rule of document 02 stands here: a reader of the rules can pass it over. proofs/ ties it to the rules.
+-- This file states no rule of document 02: a reader of the rules can skip it. proofs/ ties it to the rules.
 -- Assumes nothing.
 use mathlib.Core.Path.{_≡_}
 use mathlib.Core.Bool.{Bool, true, false}
@@ -28,7 +28,7 @@ abbrev pub listLacksTag : ℕ → Option (List Object) → Bool
 listLacksTag t none = false
 listLacksTag t (some os) = lacksTag t os
 
--- a run that keeps the list's rules, its objects numbered from j on
+-- a run that satisfies the list's rules, its objects numbered from j on
 abbrev pub parsedListValid : List Placement → ℕ → Option (List Object) → Bool
 parsedListValid ps j none = false
 parsedListValid ps j (some os) = every settableInRecord os and tagsDistinct os and eachPlacedOnce ps j os
@@ -47,7 +47,7 @@ cappedSize n = min n 254
 abbrev pub objectSize : ℕ → ℕ → ℕ
 objectSize t n = length (tagBytes t) + (length (lengthBytes n) + n)
 
--- the same for object j in record k; 0 where it does not stand there
+-- the same for object j in record k; 0 where it is not present
 abbrev pub placedSize : List Placement → ℕ → ℕ → ℕ → ℕ → ℕ
 placedSize ps k j t n =
     if anyPlacement (putsObjectInto k j) ps then objectSize t n
@@ -59,12 +59,12 @@ placedSize ps k j t n =
 unfoldable pub bytesWrittenOver : List ℕ → ℕ → List ℕ → List ℕ
 bytesWrittenOver s at v = take at s ++ (v ++ drop (at + length v) s)
 
--- the bytes v are written over s from a place on, which leaves t; n is the place behind them
+-- the bytes v are written over s from a place on, which leaves t; n is the place after them
 pub record PutsBytes (n : ℕ) (t s : List ℕ) (at : ℕ) (v : List ℕ) : Type 0 where
   pub next : n ≡ at + length v
   pub wrote : t ≡ bytesWrittenOver s at v
 
--- the bytes of an object in record k, none where it does not stand there
+-- the bytes of an object in record k, none where it is not present
 abbrev pub placedBytes : List Placement → ℕ → ℕ → ℕ → List ℕ → List ℕ
 placedBytes ps k j t v =
     if anyPlacement (putsObjectInto k j) ps then objectBytes t v

@@ -1,5 +1,5 @@
--- The list of objects that a card is to carry (document 02, Item 4): which objects it may hold, and that no tag stands
--- in it twice. The list is a run of whole primitive objects, read as start bytes are.
+-- The list of objects that a card is to carry (document 02, Item 4): which objects it may hold, and that no tag is in
+-- it twice. The list is a run of whole primitive objects, read as start bytes are.
 -- Assumes nothing.
 use mathlib.Core.Bool.{Bool, true, false, not}
 use mathlib.Core.List.{List, [], _∷_}
@@ -29,7 +29,7 @@ settableInRecord o = rowSettableInRecord (findRow dictionaryRows (o .tag)) (o .v
 unfoldable pub lacksTag : ℕ → List Object → Bool
 lacksTag t os = every (λ o. not (o .tag =? t)) os
 
--- no tag stands in the list twice
+-- no tag is in the list twice
 unfoldable pub tagsDistinct : List Object → Bool
 tagsDistinct [] = true
 tagsDistinct (o ∷ os) = lacksTag (o .tag) os and tagsDistinct os

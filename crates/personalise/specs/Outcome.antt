@@ -1,4 +1,4 @@
--- What a personalisation answers and leaves in the two lent buffers (document 02, Item 4): the records and the locator,
+-- What a personalisation returns and leaves in the caller's two buffers (document 02, Item 4): the records and the AFL,
 -- or the first refusal met, which writes nothing.
 -- Assumes nothing.
 use mathlib.Core.Bool.{Bool, true, false}
@@ -30,13 +30,13 @@ aflRoom = 248
 
 -- ---- the list
 
--- every object may be set, no tag stands twice, each object is placed once
+-- every object may be set, no tag appears twice, each object is placed once
 unfoldable pub listValid : List Object → List Placement → Bool
 listValid os ps = every settableInRecord os and tagsDistinct os and eachPlacedOnce ps 1 os
 
 -- ---- the answer
 
--- the bytes of all records, of which the locator names n
+-- the bytes of all records, of which the AFL names n
 abbrev pub recordBytes : List Object → List Placement → ℕ → List ℕ
 recordBytes os ps n = concatenatedRecords (cardRecordsFrom os ps 1 n)
 
@@ -46,7 +46,7 @@ afterRecords os ps es (At k) = PersonaliseResult.BadRecord k
 afterRecords os ps es Nothing =
     PersonaliseResult.Written (record { records = length (recordBytes os ps (aflRecordCount es)); afl = length es })
 
--- after the entries: the first bad one is named, or the records are looked at
+-- after the entries: the first bad one is named, or the records are examined
 abbrev pub afterEntries : List Object → List Placement → List ℕ → Fault → PersonaliseResult
 afterEntries os ps es (At i) = PersonaliseResult.BadEntry i
 afterEntries os ps es Nothing = afterRecords os ps es (badRecord os ps (aflRecordCount es))
@@ -58,7 +58,7 @@ afterBuffers (some os) ps es =
     if listValid os ps then afterEntries os ps es (badEntry es)
     else PersonaliseResult.BadList
 
--- the answer to objects, entries and placements in bytes, with the lent records r and locator l
+-- the answer to objects, entries and placements in bytes, with the caller's buffers r for the records and l for the AFL
 unfoldable pub personaliseResult : List ℕ → List ℕ → List ℕ → List ℕ → List ℕ → PersonaliseResult
 personaliseResult objects es placements r l =
     if length r <? recordsRoom then PersonaliseResult.ShortRecords
@@ -67,7 +67,7 @@ personaliseResult objects es placements r l =
 
 -- ---- the buffers
 
--- an answer says that all is written
+-- an answer reports that all is written
 abbrev pub isWritten : PersonaliseResult → Bool
 isWritten (PersonaliseResult.Written z) = true
 isWritten PersonaliseResult.ShortRecords = false
@@ -80,13 +80,13 @@ isWritten (PersonaliseResult.BadRecord k) = false
 abbrev pub listedObjects : List ℕ → List Object
 listedObjects objects = objectsOrNone (primitiveObjects objects)
 
--- the lent records r: the card's records in front where all is written, else as they were
+-- the records buffer r: the card's records at the front where all is written, else as they were
 abbrev pub recordsIf : Bool → List ℕ → List ℕ → List ℕ → List ℕ → List ℕ
 recordsIf w objects es placements r =
     if w then withPrefix (recordBytes (listedObjects objects) (placementsIn placements) (aflRecordCount es)) r
     else r
 
--- the lent locator l: the entries in front where all is written, else as it was
+-- the AFL buffer l: the entries at the front where all is written, else as it was
 abbrev pub aflIf : Bool → List ℕ → List ℕ → List ℕ
 aflIf w es l =
     if w then withPrefix es l
@@ -102,5 +102,5 @@ aflAfter a es l = aflIf (isWritten a) es l
 -- ---- what holds of it, proved in proofs/ (Stages, Exact, Holding) for all bytes
 --   short-records, short-locator, bad-list, good-list    the answer at each test, in the order of the refusals
 --   passes, passed    all is written exactly where every test passes
---   exactly           all is written exactly where every rule is kept (specs/Clauses)
+--   exactly           all is written exactly where every rule is satisfied (specs/Clauses)
 --   holds             what is written reads back to the list (specs/Read)

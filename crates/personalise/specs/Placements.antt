@@ -1,5 +1,5 @@
 -- Placements (document 02, Item 4, the layout): two bytes each, the number of a record and the number of an object,
--- both counted from 1, records in the locator's order and objects in the list's. A byte past the end reads as 0.
+-- both counted from 1, records in the AFL's order and objects in the list's. A byte past the end reads as 0.
 -- Assumes nothing.
 use mathlib.Core.Bool.{Bool, true, false}
 use mathlib.Core.List.{List, [], _∷_}
@@ -50,6 +50,6 @@ objectsFrom ps k j (o ∷ os) =
     if anyPlacement (putsObjectInto k j) ps then o ∷ objectsFrom ps k (suc j) os
     else objectsFrom ps k (suc j) os
 
--- the objects of a list that stand in record k
+-- the objects of a list that are in record k
 abbrev pub objectsInRecord : List Placement → ℕ → List Object → List Object
 objectsInRecord ps k os = objectsFrom ps k 1 os

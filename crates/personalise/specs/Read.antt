@@ -1,5 +1,5 @@
--- Reading what was written (document 02, Item 4): each record with status 90 00 as the answer to its file, in the
--- locator's order, from the empty store on; and the store of the list.
+-- Reading what was written (document 02, Item 4): each record with status 90 00 as the answer to its file, in the AFL's
+-- order, from the empty store on; and the store of the list.
 -- Assumes nothing.
 use mathlib.Core.Path.{_≡_}
 use mathlib.Core.Bool.{true}
@@ -60,22 +60,22 @@ readAllRecords b (r ∷ rs) (s ∷ ss) = readRemaining (readOneRecord b r s) (λ
 
 -- ---- what holds where all is written
 
--- the records of the card, as many as the locator names, by the objects, entries and placements in bytes
+-- the records of the card, as many as the AFL names, by the objects, entries and placements in bytes
 abbrev pub cardRecords : List ℕ → List ℕ → List ℕ → List (List ℕ)
 cardRecords objects es placements = cardRecordsFrom (listedObjects objects) (placementsIn placements) 1 (aflRecordCount es)
 
--- of objects, entries and placements in bytes, the sizes z and the records and the locator that are left
+-- of objects, entries and placements in bytes, the sizes z and the records and the AFL that are left
 pub record CardHolds (objects es placements : List ℕ) (z : WrittenSizes) (leftRecords leftAfl : List ℕ) : Type 0 where
-  -- the records stand one behind the other
+  -- the records are concatenated
   pub stand : take (z .records) leftRecords ≡ concatenatedRecords (cardRecords objects es placements)
-  -- they fit, and so does the locator
+  -- they fit, and so does the AFL
   pub recordsFit : z .records ≤ recordsRoom
   pub aflFits : z .afl ≤ aflRoom
-  -- the locator is the entries, is accepted by the rules of document 01, and names as many records as are written
+  -- the AFL is the entries, is accepted by the rules of document 01, and names as many records as are written
   pub afl : take (z .afl) leftAfl ≡ es
   pub accepted : acceptsAfl es ≡ true
   pub asMany : length (cardRecords objects es placements) ≡ aflRecordCount es
-  -- read in the locator's order, each gives reason 0 and together they give the store of the list
+  -- read in the AFL's order, each gives reason 0 and together they give the store of the list
   pub read : readAllRecords emptyStoreBytes (aflRecords es) (cardRecords objects es placements) ≡ some (storeOfObjects (listedObjects objects))
 
 -- what holds by the answer

@@ -16,7 +16,7 @@ use Rattle.personalise.specs.Placements.{anyPlacement, objectsInRecord}
 
 -- ---- bytes
 
--- objects one behind the other, each length in as few bytes as it can be
+-- objects concatenated, each length in as few bytes as it can be
 unfoldable pub contentBytes : List Object → List ℕ
 contentBytes [] = []
 contentBytes (o ∷ os) = objectBytes (o .tag) (o .value) ++ contentBytes os
@@ -34,7 +34,7 @@ unfoldable pub cardRecordsFrom : List Object → List Placement → ℕ → ℕ 
 cardRecordsFrom os ps k zero = []
 cardRecordsFrom os ps k (suc n) = cardRecordBytes os ps k ∷ cardRecordsFrom os ps (suc k) n
 
--- lists of bytes one behind the other
+-- lists of bytes concatenated
 unfoldable pub concatenatedRecords : List (List ℕ) → List ℕ
 concatenatedRecords [] = []
 concatenatedRecords (s ∷ ss) = s ++ concatenatedRecords ss

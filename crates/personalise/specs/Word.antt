@@ -25,7 +25,7 @@ resultNumber PersonaliseResult.BadList = 0
 resultNumber (PersonaliseResult.BadEntry i) = i
 resultNumber (PersonaliseResult.BadRecord k) = k
 
--- the locator's length where it is written
+-- the AFL's length where it is written
 abbrev pub resultAflLength : PersonaliseResult → ℕ
 resultAflLength (PersonaliseResult.Written z) = z .afl
 resultAflLength PersonaliseResult.ShortRecords = 0
@@ -34,24 +34,25 @@ resultAflLength PersonaliseResult.BadList = 0
 resultAflLength (PersonaliseResult.BadEntry i) = 0
 resultAflLength (PersonaliseResult.BadRecord k) = 0
 
--- as one word: the kind in bits 48 to 55, the locator's length in bits 32 to 47, the number in bits 0 to 31
+-- as one word: the kind in bits 48 to 55, the AFL's length in bits 32 to 47, the number in bits 0 to 31
 abbrev pub personaliseWord : PersonaliseResult → ℕ
 personaliseWord a = resultKind a * 0x1000000000000 + resultAflLength a * 0x100000000 + resultNumber a
 
--- what it names is at most 32,768, and the locator's length at most 248, so that the parts of a word are apart
+-- what it names is at most 32,768, and the AFL's length at most 248, so that the parts of a word are apart
 pub record SmallResult (a : PersonaliseResult) : Type 0 where
   pub number : resultNumber a ≤ recordsRoom
   pub afl : resultAflLength a ≤ aflRoom
 
--- the word of the answer to objects, entries and placements in bytes, with the lent records r and locator l
+-- the word of the answer to objects, entries and placements in bytes, with the caller's buffers r for the records and
+-- l for the AFL
 abbrev pub personaliseWordFor : List ℕ → List ℕ → List ℕ → List ℕ → List ℕ → ℕ
 personaliseWordFor objects es placements r l = personaliseWord (personaliseResult objects es placements r l)
 
--- a word says that all is written: its kind is 0
+-- a word reports that all is written: its kind is 0
 abbrev pub isWrittenWord : ℕ → Bool
 isWrittenWord w = w <? 0x1000000000000
 
--- the lent records and the lent locator, by the word
+-- the two buffers, by the word
 abbrev pub recordsByWord : ℕ → List ℕ → List ℕ → List ℕ → List ℕ → List ℕ
 recordsByWord w objects es placements r = recordsIf (isWrittenWord w) objects es placements r
 
@@ -60,4 +61,4 @@ aflByWord w es l = aflIf (isWrittenWord w) es l
 
 -- ---- what holds of it, proved in proofs/Stages for all bytes and answers
 --   small           every answer is bounded so
---   says-written    a word of a bounded answer says that all is written exactly where the answer does
+--   says-written    a word of a bounded answer reports that all is written exactly where the answer does

@@ -72,7 +72,7 @@ pub(crate) fn size(objects: &[u8], placements: &[u8], k: usize) -> usize
     total
 }
 
-// The size of an object in a record, 0 where it does not stand there; 254 for any size above 253.
+// The size of an object in a record, 0 where it is not present; 254 for any size above 253.
 fn placed_size(placements: &[u8], k: usize, number: usize, tag: u32, len: usize) -> usize
     ensures { λ r. ⌜ r ≡ cappedSize (placedSize (placementsIn (now (placements .entry))) k number tag len) ⌝ }
 {

@@ -1,4 +1,4 @@
-// The entries of the locator as it is proposed: each against the rules and those before it.
+// The entries of the AFL as it is proposed: each against the rules and those before it.
 use crate::Fault;
 use afl::AflEntry;
 ghost use mathlib.Core.Path.{_≡_};
@@ -49,7 +49,7 @@ pub(crate) fn count_records(entries: &[u8]) -> usize
     total
 }
 
-// Whether an entry keeps the rules behind those before it.
+// Whether an entry satisfies the rules after those before it.
 fn keeps_behind(before: &[u8], e: AflEntry) -> bool
     requires { ⌜ length (now before) % 4 ≡ 0 ⌝ }
     ensures { λ r. ⌜ r ≡ validEntryAfter (entriesIn (now (before .entry))) e ⌝ }
@@ -81,7 +81,7 @@ fn is_apart(before: &[u8], e: AflEntry) -> bool
     true
 }
 
-// Whether an entry keeps the rules by itself.
+// Whether an entry satisfies the rules by itself.
 fn keeps_alone(e: AflEntry) -> bool
     ensures { λ r. ⌜ r ≡ validEntryAlone e ⌝ }
 {

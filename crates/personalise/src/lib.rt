@@ -1,8 +1,8 @@
-// A list of objects written as a card's records and file locator, by a layout that is checked first.
+// A list of objects written as a card's records and AFL, by a layout that is checked first.
 //
-// `personalise` takes the list, the proposed entries of the locator and the placements, and writes into two lent
-// buffers, or names what is refused and writes nothing. `emv_personalise` is the same for a host, with the answer as
-// one word. The tests are in `objects`, `entries` and `contents`, in the order of the refusals; `writing` writes.
+// `personalise` takes the list, the proposed entries of the AFL and the placements, and writes into two buffers of the
+// caller, or names what is refused and writes nothing. `emv_personalise` is the same for a host, with the answer as one
+// word. The tests are in `objects`, `entries` and `contents`, in the order of the refusals; `writing` writes.
 mod contents;
 mod entries;
 mod objects;
@@ -33,7 +33,7 @@ pub enum Fault {
     Nothing,
 }
 
-// How many bytes of records and of locator are written.
+// How many bytes of records and of the AFL are written.
 pub struct WrittenSizes {
     pub records: usize,
     pub afl: usize,
@@ -50,15 +50,15 @@ pub enum PersonaliseResult {
     BadRecord(usize),
 }
 
-// The least bytes of the lent buffers.
+// The least sizes of the caller's buffers.
 const RECORDS_ROOM: usize = 32768;
 const AFL_ROOM: usize = 248;
 
-// Where a word has the kind of an answer and the locator's length.
+// Where a word has the kind of an answer and the AFL's length.
 const KIND: u64 = 0x1000000000000;
 const AFL: u64 = 0x100000000;
 
-// Writes the list as a card's records and locator, or names what is refused.
+// Writes the list as a card's records and AFL, or names what is refused.
 pub fn personalise(
     objects: &[u8],
     entries: &[u8],
@@ -161,7 +161,7 @@ fn with_entries(
     }
 }
 
-// Writes the records and the locator.
+// Writes the records and the AFL.
 fn write_all(
     objects: &[u8],
     entries: &[u8],

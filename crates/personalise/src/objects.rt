@@ -1,4 +1,4 @@
-// The list of objects: what its rules ask of each, and how many there are.
+// The list of objects: what its rules require of each, and how many there are.
 use crate::placements;
 use dictionary::{Attributes, RowFound};
 use tlv::ObjectFront;

@@ -1,4 +1,4 @@
-// Writing the records: each function writes from a place of the buffer on, and gives the place behind.
+// Writing the records: each function writes from a place of the buffer on, and gives the place after.
 use crate::contents;
 use crate::placements;
 use tlv::ObjectFront;
@@ -13,7 +13,7 @@ ghost use Rattle.personalise.specs.Inner.{UsableObjects, ContentsFit, Pu
 // The tag of a record's template.
 const TEMPLATE: u32 = 0x70;
 
-// Writes the records 1 to `records`, one behind the other.
+// Writes the records 1 to `records`, concatenated.
 pub(crate) fn put_records(objects: &[u8], placements: &[u8], records: usize, out: &mut [u8]) -> usize
     requires { ⌜ UsableObjects (now objects) ⌝ }
     requires { ⌜ ContentsFit (listedObjects (now objects)) (placementsIn (now placements)) records ⌝ }

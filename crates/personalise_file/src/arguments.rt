@@ -1,8 +1,8 @@
 // The words that the program is called with: --tell, and the name of a file.
 use crate::complain;
 
-// Whether the exit status is told, which argument names the file (0: none does), and whether there is one name too many
-// or an unknown option.
+// Whether the exit status is reported, which argument names the file (0: none does), and whether there is one name too
+// many or an unknown option.
 pub struct PersonaliseArguments {
     pub tell: bool,
     pub file: usize,
@@ -24,7 +24,7 @@ pub fn personalise_arguments() -> PersonaliseArguments {
     out
 }
 
-// One argument more.
+// One more argument.
 fn with_argument(arguments: PersonaliseArguments, i: usize) -> PersonaliseArguments {
     let mut space = io::buffer();
     let n = os::arg(i, &mut space);

@@ -1,11 +1,11 @@
-// Writes a list of objects as a card's records and file locator, by the lines of a text file: of the one that the
-// argument names, or of standard input where there is none.
+// Writes a list of objects as a card's records and AFL, by the lines of a text file: of the one that the argument
+// names, or of standard input where there is none.
 //
 //     objects HEX      entries HEX      placements HEX
 //
-// Each stands once, in any order. The locator and each record are shown on a line, or the refusal in words. What is
+// Each appears once, in any order. The AFL and each record are shown on a line, or the refusal in words. What is
 // written or refused is the library `personalise`'s matter; `text` reads the lines. What is wrong with the file goes to
-// standard error. With --tell the exit status that is due goes to descriptor 3: 0 written, 1 refused, 2 neither.
+// standard error. With --tell the exit status goes to descriptor 3: 0 written, 1 refused, 2 neither.
 mod arguments;
 mod shown;
 mod text;
@@ -36,12 +36,12 @@ const ROOM: usize = MOST + 1;
 // Room for as many bytes as so many characters can spell.
 const BYTES: usize = MOST / 2;
 
-// What is lent for the records and for the locator.
+// The buffers for the records and for the AFL.
 const RECORDS: usize = 32768;
 
 const AFL: usize = 248;
 
-// The descriptor on which the exit status is told.
+// The descriptor on which the exit status is reported.
 const TELLING: i32 = 3;
 
 fn main() {
@@ -78,7 +78,7 @@ fn front(s: &[u8], n: usize) -> &[u8] {
 
 // ---- the file
 
-// Reads the file that is asked for and shows the answer to it: the exit status that is due.
+// Reads the file and shows the answer to it; returns the exit status.
 fn answered(asked: PersonaliseArguments) -> u8 {
     if asked.wrong {
         return NEITHER;
@@ -112,7 +112,7 @@ fn answered_of(fd: i32) -> u8 {
     laid_out(front(&space, filled.size))
 }
 
-// Fills the space from a file. Each part has a character or more, so there are no more turns than characters.
+// Fills the space from a file. Each part has a character or more, so there are no more iterations than characters.
 fn read(fd: i32, space: &mut [u8]) -> Filled {
     let mut state = Filled {
         size: 0,
@@ -127,7 +127,7 @@ fn read(fd: i32, space: &mut [u8]) -> Filled {
     state
 }
 
-// One part more, behind those that are there.
+// One more part, after those that are present.
 fn read_part(state: Filled, fd: i32, space: &mut [u8]) -> Filled {
     let filled = state.size;
     if space.len() <= filled {
@@ -160,7 +160,7 @@ fn ended(size: usize, failed: bool) -> Filled {
 
 // ---- the answer
 
-// Shows the answer to a file's lines where they are right.
+// Shows the answer to a file's lines where they are valid.
 fn laid_out(chars: &[u8]) -> u8 {
     let mut objects = [0u8; BYTES];
     let mut entries = [0u8; BYTES];
@@ -175,7 +175,7 @@ fn laid_out(chars: &[u8]) -> u8 {
     written(listed, proposed, placed)
 }
 
-// Lends the buffers and shows the answer.
+// Provides the buffers and shows the answer.
 fn written(objects: &[u8], entries: &[u8], placements: &[u8]) -> u8 {
     let mut records = [0u8; RECORDS];
     let mut afl = [0u8; AFL];

@@ -1,4 +1,4 @@
-// The answer on standard output: the locator and each record on a line, or the refusal in words.
+// The answer on standard output: the AFL and each record on a line, or the refusal in words.
 use crate::front;
 use crate::text::counted;
 use personalise::PersonaliseResult;
@@ -6,7 +6,7 @@ use tlv::ObjectFront;
 ghost use Prim.Native.Nat.{_≤_};
 ghost use lib.ListN.{length};
 
-// Shows an answer with what is written in front of the buffers: whether anything is.
+// Shows an answer with what is written at the front of the buffers: whether anything is.
 pub fn print_result(answer: PersonaliseResult, records: &[u8], afl: &[u8]) -> bool {
     match answer {
         PersonaliseResult::Written(sizes) => {
@@ -22,7 +22,7 @@ pub fn print_result(answer: PersonaliseResult, records: &[u8], afl: &[u8]) -> bo
 
 // ---- the records
 
-// The records, one behind the other, each on a line with its number.
+// The records, one after another, each on a line with its number.
 fn all_records(records: &[u8]) {
     let mut rest = records;
     let mut number: usize = 1;

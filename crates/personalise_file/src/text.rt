@@ -5,7 +5,7 @@ use text_line::Decoded;
 ghost use Prim.Native.Nat.{_≤_};
 ghost use lib.ListN.{length};
 
-// What a line brought: whether it was there, and how many bytes it has.
+// What a line brought: whether it was present, and how many bytes it has.
 pub struct Part {
     pub there: bool,
     pub size: usize,
@@ -20,7 +20,7 @@ pub struct Given {
     pub wrong: bool,
 }
 
-// The word in front of a line.
+// The first word of a line.
 enum PartWord {
     Absent,
     Objects,
@@ -66,7 +66,7 @@ fn line_end(s: &[u8]) -> usize
     bytes::scan::find(s, 0, s.len(), b'\n')
 }
 
-// One line more; nothing behind a wrong one is looked at.
+// One more line; nothing after a wrong one is examined.
 fn with_line(
     given: Given,
     line: &[u8],
@@ -109,7 +109,7 @@ fn word_named(w: &[u8]) -> PartWord {
     PartWord::Unknown
 }
 
-// ---- one line more of each kind
+// ---- one more line of each kind
 
 fn with_objects(given: Given, d: Decoded) -> Given {
     let mut out = checked(given, given.objects.there, d);
@@ -136,7 +136,7 @@ fn brought(d: Decoded) -> Part {
     }
 }
 
-// The next line, unless this one comes twice or what stands behind its word spells no bytes.
+// The next line, unless this one comes twice or what follows its word spells no bytes.
 fn checked(given: Given, twice: bool, d: Decoded) -> Given {
     if twice {
         return wrong(given, b"this word for the second time; expected it once");
@@ -177,7 +177,7 @@ fn wrong(given: Given, words: &[u8]) -> Given {
     out
 }
 
-// Whether no line was wrong and each was there; the first that is absent is reported at the line behind the last.
+// Whether no line was wrong and each was there; the first that is absent is reported at the line after the last.
 pub fn is_whole(given: Given) -> bool {
     if given.wrong {
         return false;

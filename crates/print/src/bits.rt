@@ -1,4 +1,5 @@
-// The bits that are set in 82, 95, 9F07 and DF811B, a line each, in words (Book C-2, A.1.16, A.1.170, A.1.23 and A.1.91).
+// The bits that are set in 82, 95, 9F07 and DF811B, a line each, in words (Book C-2, A.1.16, A.1.170, A.1.23
+// and A.1.91).
 use crate::table::words;
 use crate::{margin, print_number, text};
 
@@ -13,7 +14,7 @@ pub fn bit_lines(tag: u32, value: &[u8], levels: usize) {
     }
 }
 
-// Byte by byte, counted from 1. No object here has more than five; a byte that is not there has no bit.
+// Byte by byte, counted from 1. No object here has more than five; an absent byte has no bit.
 fn bytes_of(tag: u32, value: &[u8], levels: usize) {
     bits_of(tag, 1, basics::byte_at(value, 0), levels);
     bits_of(tag, 2, basics::byte_at(value, 1), levels);

@@ -1,7 +1,7 @@
 // Writes what the programs show to standard output: bytes in hexadecimal, numbers, replies and data objects.
 //
-// `tree` shows the objects of a card's answer, `bits` the bits of an object in words; `names` has the names of data objects,
-// and `table` finds words in a table.
+// `tree` shows the objects of a card's answer, `bits` the bits of an object in words; `names` has the names of data
+// objects, and `table` finds words in a table.
 pub mod bits;
 mod names;
 mod table;
@@ -32,7 +32,7 @@ pub fn print_number(n: usize) {
     io::print_decimal(1, n as u64);
 }
 
-// Bytes, two digits each, a space in front of each.
+// Bytes, two digits each, a space before each.
 pub fn bytes(s: &[u8]) {
     let mut i = 0;
     while i < s.len() {
@@ -49,7 +49,7 @@ pub fn reply(reply: Reply, buffer: &[u8]) {
     text(b"\n");
 }
 
-// The same, and behind an outcome the method in words.
+// The same, and after an outcome the CVM in words.
 pub fn reply_with_cvm(reply: Reply, buffer: &[u8]) {
     let answer = reply.answer;
     answered(answer, buffer);
@@ -61,7 +61,7 @@ pub fn reply_with_cvm(reply: Reply, buffer: &[u8]) {
     text(b"\n");
 }
 
-// What a call hands back, by its numbers.
+// What a call returns, by its numbers.
 fn answered(answer: CallResult, buffer: &[u8]) {
     match answer {
         CallResult::Command(issued) => {
@@ -107,7 +107,7 @@ fn digit(n: u8) -> u8 {
 
 // ---- in words
 
-// A reply in words, with the count of commands handed out and the limit in force, and a new line.
+// A reply in words, with the count of commands handed out and the transaction limit, and a new line.
 pub fn reply_in_words(reply: Reply, buffer: &[u8]) {
     let answer = reply.answer;
     answer_in_words(answer, buffer);
@@ -119,7 +119,7 @@ pub fn reply_in_words(reply: Reply, buffer: &[u8]) {
     text(b"\n");
 }
 
-// The limit in force behind a comma, where a phase holds one: an amount's twelve digits as a number.
+// The transaction limit after a comma, where a phase holds one: an amount's twelve digits as a number.
 pub fn held_limit(phase: Phase) {
     match phase {
         Phase::Record(place) => limit(place.limit),
@@ -134,8 +134,8 @@ fn limit(amount: u64) {
     io::print_decimal(1, amount);
 }
 
-// What a call hands back, in words: a command by its name with its bytes, an outcome with its reason and the method, or
-// a refusal.
+// What a call returns, in words: a command by its name with its bytes, an outcome with its reason and the CVM,
+// or a refusal.
 pub fn answer_in_words(answer: CallResult, buffer: &[u8]) {
     match answer {
         CallResult::Command(issued) => {
@@ -182,7 +182,7 @@ fn record_name(p1: u8, p2: u8) {
     print_number(basics::widen(p1));
 }
 
-// A cryptogram by what P1 asks for.
+// A cryptogram by what P1 requests.
 fn cryptogram_name(p1: u8) {
     match p1 {
         0x00 => text(b"GENERATE AC decline"),
@@ -192,7 +192,7 @@ fn cryptogram_name(p1: u8) {
     }
 }
 
-// An outcome, its reason and the method of cardholder verification, each by its number and in words.
+// An outcome, its reason and the CVM, each by its number and in words.
 fn ending(end: OutcomeParameters) {
     let outcome = end.outcome;
     outcome_in_words(outcome, end.reason);
@@ -249,7 +249,7 @@ pub fn reason_words(reason: u8) {
     );
 }
 
-// The methods of cardholder verification by their numbers (Book C-2, A.1.117; 4 is the kernel's own).
+// The CVMs by their numbers (Book C-2, A.1.117; 4 is the kernel's own).
 fn cvm_words(number: u8) {
     decimal_words(
         number,
@@ -283,7 +283,7 @@ pub fn objects(store: &[u8]) {
     held(store, false);
 }
 
-// The same, with the bits in words where they are asked for.
+// The same, with the bits in words where they are requested.
 pub fn held(store: &[u8], in_bits: bool) {
     let mut row: usize = 0;
     while row < dictionary::ROWS {

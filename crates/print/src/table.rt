@@ -1,5 +1,5 @@
 // Words from a table that is text: a line for each number, with its hexadecimal digits at the right of six places, a
-// space and its words. A new line stands in front of each line, and none behind the last.
+// space and its words. A new line is before each line, and none after the last.
 use crate::{part, text};
 
 ghost use Prim.Native.Nat.{_<_};
@@ -27,7 +27,7 @@ pub fn decimal_words(number: u8, table: &[u8]) {
     words(basics::widen32(number / 10) * 16 + basics::widen32(number % 10), table, b"unknown");
 }
 
-// The number in the six places behind a new line.
+// The number in the six places after a new line.
 fn number_of(line: &[u8]) -> u32 {
     digit(line, 1) * 0x10_0000
         + digit(line, 2) * 0x1_0000

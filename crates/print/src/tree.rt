@@ -1,8 +1,8 @@
-// The objects of a card's answer, without its status bytes, as an indented tree, and where the first stands that
+// The objects of a card's answer, without its status bytes, as an indented tree, and the position of the first that
 // cannot be read (document 01, "Reading an answer").
 //
-// `walked` goes through the bytes in order. What stands next is `tlv::next`'s matter; the ends of the templates that
-// are open stand in an array. Within a template a 00 where a tag would start is passed over (document 02, Item 6).
+// `walked` goes through the bytes in order. What is next is `tlv::next`'s matter; the ends of the templates that are
+// open are in an array. Within a template a 00 where a tag would start is skipped (document 02, Item 6).
 use crate::{bits, bytes, margin, named, object, part, text};
 use tlv::{Following, ObjectFront, TlvHeader};
 
@@ -23,7 +23,7 @@ pub const FIFTH: u8 = 3;
 
 pub const BEHIND: u8 = 4;
 
-// How many templates may be open, the outer one counted.
+// How many templates may be open, the outer one included.
 const LEVELS: usize = 4;
 
 // A walk: the place that is next, counted from 0, how many templates are open, where each ends, and how the walk
@@ -35,7 +35,7 @@ pub struct Walk {
     pub ended: u8,
 }
 
-// The whole walk. A proved loop has to end, so it counts its turns from a number that no answer uses up.
+// The whole walk. A proved loop has to end, so it counts its iterations from a number that no answer uses up.
 pub fn walked(body: &[u8], view: View) -> Walk {
     let mut w = Walk {
         at: 0,
@@ -69,7 +69,7 @@ fn step(w: Walk, body: &[u8], view: View) -> Walk {
     }
 }
 
-// The outer object, or what stands behind it.
+// The outer object, or what follows it.
 fn outer(w: Walk, rest: &[u8], view: View) -> Walk {
     if 0 < w.at {
         return behind(w, rest, view);
@@ -81,7 +81,7 @@ fn outer(w: Walk, rest: &[u8], view: View) -> Walk {
     }
 }
 
-// Whether a 00 stands in front.
+// Whether a 00 is at the front.
 fn is_padded(s: &[u8]) -> bool {
     if s.len() == 0 {
         return false;
@@ -102,7 +102,7 @@ fn end_of(w: Walk, all: usize) -> usize {
     ends[open - 1]
 }
 
-// Behind the outer object no byte may stand.
+// No byte may follow the outer object.
 fn behind(w: Walk, rest: &[u8], view: View) -> Walk {
     if rest.len() == 0 {
         return ending(w, WHOLE);
@@ -119,7 +119,7 @@ fn closed(w: Walk) -> Walk {
     out
 }
 
-// An object: a template is opened, unless it stands on the fifth level; past a primitive object the walk goes on.
+// An object: a template is opened, unless it is on the fifth level; past a primitive object the walk goes on.
 fn met(w: Walk, h: TlvHeader, rest: &[u8], view: View) -> Walk {
     let at = w.at;
     let start = plus(at, h.start);

@@ -1,4 +1,5 @@
--- Two readings that keep the promises of `read_answer` from equal stores are the same: a verdict is told by its number.
+-- Two readings that keep the promises of `read_answer` from equal stores are the same: a verdict is determined
+-- by its number.
 -- Assumes nothing.
 use mathlib.Core.Path.{_≡_, refl, sym, ap, ap₂, _∙_}
 use mathlib.Core.List.{List}

@@ -1,5 +1,5 @@
--- The count that the reading's steps give is that of the whole tree. The tree of a body that is one object is that object at four levels, with
--- its contents' tree at three.
+-- The count that the reading's steps give is that of the whole tree. The tree of a body that is one object is that
+-- object at four levels, with its contents' tree at three.
 -- Assumes nothing.
 use mathlib.Core.Path.{_≡_, refl, sym, ap, _∙_}
 use mathlib.Core.Logic.{inl, inr}

@@ -1,4 +1,5 @@
--- Worked answers, by computation: each rule of a reading on both sides of its edge, the reason's number first and then the object count.
+-- Worked answers, by computation: each rule of a reading on both sides of its edge, the reason's number first and then
+-- the object count.
 -- Assumes nothing.
 use mathlib.Core.Path.{_≡_, refl}
 use mathlib.Core.List.{List, [], _∷_, _++_, map}
@@ -43,7 +44,7 @@ lengths : map (λ n. answer Gpo (replicate n 0)) (1 ∷ 2 ∷ 258 ∷ 259 ∷ []
 unfolding readAnswer isResponseLength isStatus9000 if both
 lengths = refl
 
--- 90 00, 90 01 and 91 00 behind no body, for the last file that is read and the first that is not
+-- 90 00, 90 01 and 91 00 after no body, for the last file that is read and the first that is not
 statuses : map (answer (sfi 10)) ((0x90 ∷ 0x00 ∷ []) ∷ (0x90 ∷ 0x01 ∷ []) ∷ (0x91 ∷ 0x00 ∷ []) ∷ []) ≡ (2 ∷ 0 ∷ []) ∷ (1 ∷ 0 ∷ []) ∷ (1 ∷ 0 ∷ []) ∷ []
 unfolding readAnswer isResponseLength isStatus9000 isRead readBody responseBody headerOf tagAt tagSize if both
 statuses = refl
@@ -52,7 +53,7 @@ unread : map (answer (sfi 11)) ((0x90 ∷ 0x00 ∷ []) ∷ (0x90 ∷ 0x01 ∷ []
 unfolding readAnswer isResponseLength isStatus9000 isRead if both
 unread = refl
 
--- processing options under 80: 6 to 250 bytes, two and a multiple of four
+-- GPO under 80: 6 to 250 bytes, two and a multiple of four
 gpo : map (λ n. body Gpo (under80 n)) (5 ∷ 6 ∷ 7 ∷ 250 ∷ 251 ∷ 254 ∷ [])
     ≡ (2 ∷ 1 ∷ []) ∷ (0 ∷ 1 ∷ []) ∷ (2 ∷ 1 ∷ []) ∷ (0 ∷ 1 ∷ []) ∷ (2 ∷ 1 ∷ []) ∷ (2 ∷ 1 ∷ []) ∷ []
 unfolding readBody responseBody headerOf tagAt tagSize lengthAt lengthOneByte tagFirstByte isTemplate isPrivate bigEndianFrom if both primitiveParts gpoParts takeAll takeNext takeItem dictionaryRows rowPast findRow allowedNow allowedInResponse allowedInTemplate fitsRow digitsFit rowOffset rowPlace placeValue rowValue putRow objectValueIn
@@ -71,8 +72,9 @@ levels : map (body (sfi 1))
 unfolding readBody responseBody headerOf tagAt tagSize lengthAt tagFirstByte isTemplate isPrivate bigEndianFrom if both parseTree recurse recurseBy nextOf withNode objectCount templateParts primitiveItems takeAll
 levels = refl
 
--- a wrong outer tag keeps the count, and so does an object that is not allowed; a second object, or a byte behind, makes it 0:
--- 77 for a record, with one object and with two; 80, and another primitive tag; two objects; a byte behind; 82 in a record
+-- a wrong outer tag keeps the count, and so does an object that is not allowed; a second object, or a byte after,
+-- makes it 0: 77 for a record, with one object and with two; 80, and another primitive tag; two objects; a byte after;
+-- 82 in a record
 counts : map (body (sfi 1))
     ((0x77 ∷ 0x00 ∷ [])
     ∷ (0x77 ∷ 0x02 ∷ 0xC1 ∷ 0x00 ∷ [])
@@ -94,8 +96,8 @@ others = refl
 
 -- ---- padding (document 02, Item 6)
 
--- in a record: alone; two bytes in front of 9F08, and one in front and three behind; between 9F08 and 5F25; in E1 alone and around 9F08;
--- at three of four levels, and at each of them
+-- in a record: alone; two bytes before 9F08, and one before it and three after it; between 9F08 and 5F25; in E1 alone
+-- and around 9F08; at three of four levels, and at each of them
 padded : map (body (sfi 1))
     ((0x70 ∷ 0x01 ∷ 0x00 ∷ [])
     ∷ (0x70 ∷ 0x07 ∷ 0x00 ∷ 0x00 ∷ 0x9F ∷ 0x08 ∷ 0x02 ∷ 0x00 ∷ 0x02 ∷ [])
@@ -116,8 +118,8 @@ same-store : readBody (sfi 1) (replicate storeSize 0)
 unfolding readBody responseBody headerOf tagAt tagSize tagSecondByte lengthAt tagFirstByte isTemplate isPrivate bigEndianFrom if both parseTree recurse recurseBy nextOf withLeaf withNode objectCount templateParts primitiveItems takeAll takeNext takeItem dictionaryRows rowPast findRow allowedNow allowedInResponse allowedInTemplate fitsRow digitsFit numeric nibbles every rowOffset rowPlace placeValue rowValue putRow objectValueIn
 same-store = refl
 
--- malformed: a fifth level over padding; 00 in front of 70 and behind it, behind a full 70, as the second byte of a tag, behind FF, with a
--- length of 80; a body of padding alone; a cut object behind padding
+-- malformed: a fifth level over padding; 00 before 70 and after it, after a full 70, as the second byte of a tag, after
+-- FF, with a length of 80; a body of padding alone; a truncated object after padding
 unpadded : map (body (sfi 1))
     ((0x70 ∷ 0x0A ∷ 0xE1 ∷ 0x08 ∷ 0xE1 ∷ 0x06 ∷ 0xE1 ∷ 0x04 ∷ 0xE1 ∷ 0x02 ∷ 0x00 ∷ 0x00 ∷ [])
     ∷ (0x00 ∷ 0x70 ∷ 0x00 ∷ [])
@@ -133,13 +135,13 @@ unpadded : map (body (sfi 1))
 unfolding readBody responseBody headerOf tagAt tagSize tagSecondByte lengthAt tagFirstByte isTemplate isPrivate bigEndianFrom if both parseTree recurse recurseBy nextOf withLeaf withNode
 unpadded = refl
 
--- a wrong outer tag over padding, and an object that is not allowed behind it, keep the count
+-- a wrong outer tag over padding, and an object that is not allowed after it, keep the count
 padded-counts : map (body (sfi 1)) ((0x61 ∷ 0x02 ∷ 0x00 ∷ 0x00 ∷ []) ∷ (0x70 ∷ 0x04 ∷ 0x00 ∷ 0x95 ∷ 0x01 ∷ 0x00 ∷ []) ∷ [])
     ≡ (2 ∷ 1 ∷ []) ∷ (3 ∷ 2 ∷ []) ∷ []
 unfolding readBody responseBody headerOf tagAt tagSize lengthAt tagFirstByte isTemplate isPrivate bigEndianFrom if both parseTree recurse recurseBy nextOf withLeaf withNode objectCount templateParts primitiveItems takeAll takeNext takeItem dictionaryRows rowPast findRow allowedNow allowedInResponse
 padded-counts = refl
 
--- 77 with padding for both other answers; none in the value of an 80, whose 00 in front and behind are its own
+-- 77 with padding for both other answers; none in the value of an 80, whose leading and trailing 00 are its own
 padded-others : body Gpo (0x77 ∷ 0x0F ∷ 0x00 ∷ 0x82 ∷ 0x02 ∷ 0x00 ∷ 0x80 ∷ 0x00 ∷ 0x00 ∷ 0x94 ∷ 0x04 ∷ 0x08 ∷ 0x01 ∷ 0x01 ∷ 0x00 ∷ 0x00 ∷ 0x00 ∷ [])
     ∷ body Gpo (0x80 ∷ 0x07 ∷ 0x00 ∷ 0x80 ∷ 0x08 ∷ 0x01 ∷ 0x01 ∷ 0x00 ∷ 0x00 ∷ [])
     ∷ body Gpo (0x80 ∷ 0x06 ∷ 0x00 ∷ 0x80 ∷ 0x08 ∷ 0x01 ∷ 0x01 ∷ 0x00 ∷ [])
@@ -151,9 +153,9 @@ padded-others = refl
 
 -- ---- templates inside templates (document 02, Item 10, walks the same bytes without recursion)
 
--- in a record: 9F08 behind an empty E1; three levels that end together, twice; an E1 that cuts 9F08; 9F08 behind two that end together;
--- a 70 in an E1; 9F08 in an E1; a cut 57 in an E1 behind 9F08; four levels of 70, and five; a second 57, which is not empty, and a third;
--- padding in an E1 and behind it
+-- in a record: 9F08 after an empty E1; three levels that end together, twice; an E1 that cuts 9F08; 9F08 after two that
+-- end together; a 70 in an E1; 9F08 in an E1; a truncated 57 in an E1 after 9F08; four levels of 70, and five; a second
+-- 57, which is not empty, and a third; padding in an E1 and after it
 nested : map (body (sfi 1))
     ((0x70 ∷ 0x07 ∷ 0xE1 ∷ 0x00 ∷ 0x9F ∷ 0x08 ∷ 0x02 ∷ 0x00 ∷ 0x02 ∷ [])
     ∷ (0x70 ∷ 0x0C ∷ 0xE1 ∷ 0x04 ∷ 0xE1 ∷ 0x02 ∷ 0xE1 ∷ 0x00 ∷ 0xE1 ∷ 0x04 ∷ 0xE1 ∷ 0x02 ∷ 0xE1 ∷ 0x00 ∷ [])
@@ -195,7 +197,7 @@ nested-kept : map (left (sfi 1))
 unfolding readBody responseBody headerOf tagAt tagSize tagSecondByte lengthAt tagFirstByte isTemplate isPrivate bigEndianFrom if both parseTree recurse recurseBy nextOf withLeaf withNode objectCount templateParts primitiveItems takeAll takeNext takeItem dictionaryRows rowPast findRow allowedNow allowedInResponse allowedInTemplate fitsRow digitsFit numeric nibbles every rowOffset rowPlace placeValue rowValue putRow objectValueIn
 nested-kept = refl
 
--- processing options: 5F28 in a 70 that stands in the 77, and 82 directly in the 77
+-- GPO: 5F28 in a 70 that is in the 77, and 82 directly in the 77
 nested-gpo : body Gpo (0x77 ∷ 0x0B ∷ 0x70 ∷ 0x05 ∷ 0x5F ∷ 0x28 ∷ 0x02 ∷ 0x00 ∷ 0x56 ∷ 0x82 ∷ 0x02 ∷ 0x00 ∷ 0x80 ∷ []) ≡ 0 ∷ 4 ∷ []
 unfolding readBody responseBody headerOf tagAt tagSize tagSecondByte lengthAt tagFirstByte isTemplate isPrivate bigEndianFrom if both parseTree recurse recurseBy nextOf withLeaf withNode objectCount templateParts primitiveItems takeAll takeNext takeItem dictionaryRows rowPast findRow allowedNow allowedInResponse allowedInTemplate fitsRow digitsFit numeric nibbles every rowOffset rowPlace placeValue rowValue putRow objectValueIn
 nested-gpo = refl

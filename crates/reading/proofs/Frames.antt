@@ -1,5 +1,6 @@
--- The walk with the open templates in an array, on lists and numbers. What the open templates still hold, innermost first, is counted and
--- taken in order (`Left`); the invariant (`Reached`): whatever that says and leaves is what all contents say and leave.
+-- The walk with the open templates in an array, on lists and numbers. What the open templates still hold, innermost
+-- first, is counted and taken in order (`Left`); the invariant (`Reached`): whatever that says and leaves is what all
+-- contents say and leave.
 -- Assumes nothing.
 use mathlib.Core.Path.{_≡_, refl, sym, ap, ap₂, subst, _∙_}
 use mathlib.Core.Bool.{Bool, true, false}
@@ -43,7 +44,7 @@ module _ (answer : ℕ) (r : TemplateContents) (b : List ℕ) where
   Left [] n w = HasVisited n w r b
   Left (f ∷ fs) n w = ThenReads answer (f .tag) (parseTree (3 - length fs) (f .bytes)) r (Left fs) n w
 
-  -- a template, what it holds, and then what is behind it
+  -- a template, what it holds, and then what is after it
   on-node : (around t : ℕ) (x y : Option Forest) (k : ℕ → TakeState → Type 0) (n : ℕ) (w : TakeState)
       → ThenReads answer t x r (ThenReads answer around y r k) (n + 1) w → ThenReads answer around (withNode t x y) r k n w
   unfolding withNode objectCount primitiveItems
@@ -149,7 +150,7 @@ unfolding Nested
 nested-most ends n zero a h = h
 nested-most ends n (suc k) a h = let i = nested-most ends n k (getD ends k 0) (h .1) in omega arith
 
--- one that is opened behind k of them changes none
+-- one that is opened after k of them changes none
 module _ (ends tags : List ℕ) (i e t : ℕ) where
   opened-set : (s : List ℕ) (k a : ℕ) → k ≤ i → opened s (set ends i e) (set tags i t) k a ≡ opened s ends tags k a
   unfolding opened
@@ -166,9 +167,10 @@ module _ (ends tags : List ℕ) (i e t : ℕ) where
       let p = getD-set-other ends i k e 0 (λ q. omega arith) in
       rw p (h .0, nested-set n k (getD ends k 0) (omega arith) (h .1))
 
--- ---- the invariant, and each turn of the walk
+-- ---- the invariant, and each iteration of the walk
 
--- after n objects: the store b with what was listed, which was c at the front, whether all were allowed, and what is left of the innermost template
+-- after n objects: the store b with what was listed, which was c at the front, whether all were allowed, and what is
+-- left of the innermost template
 pub record Reached (s : List ℕ) (tag answer : ℕ) (c b ends around : List ℕ) (depth : ℕ) (rest : List ℕ) (n : ℕ) (g : Bool) : Type 0 where
   pub ends-four : length ends ≡ 4
   pub around-four : length around ≡ 4
@@ -238,7 +240,7 @@ module _ {s : List ℕ} {tag answer : ℕ} {c b ends around : List ℕ} {depth :
       abbrev next : ℕ
       next = getD ends (depth - 1) 0
 
-      -- the template around it ends behind it
+      -- the template around it ends after it
       nested-out : (stop ≤ next) × Nested ends (length s) (depth - 1) next
       unfolding Nested
       nested-out = let k : depth ≡ suc (depth - 1) = omega arith in subst (λ (m : ℕ). Nested ends (length s) m stop) k (w .nested)
@@ -289,14 +291,14 @@ module _ {s : List ℕ} {tag answer : ℕ} {c b ends around : List ℕ} {depth :
         let l : 3 - length outside ≡ 0 = omega arith in
         w .same Broken d (left-deep answer Broken d _ _ outside n (takeState g b) h q p l refl)
 
-    -- what is left behind the object
+    -- what is left after the object
     abbrev after : List ℕ
     after = tail rest (h .start + h .len)
 
     after-length : length after ≡ length rest - (h .start + h .len)
     after-length = ap length (tail-is rest (h .start + h .len)) ∙ length-drop (h .start + h .len) rest
 
-    -- where what is left begins, and its object and what is behind that, by places
+    -- where what is left begins, and its object and what is after that, by places
     abbrev at : ℕ
     at = stop - length rest
 
@@ -352,7 +354,7 @@ module _ {s : List ℕ} {tag answer : ℕ} {c b ends around : List ℕ} {depth :
     end-beyond : inner-end ≡ beyond
     end-beyond = let i = bounds in let l = after-length in omega (arith, w .fits)
 
-    -- where a value ends, and where it stands in a body in which the bytes stand
+    -- where a value ends, and where it is in a body in which the bytes stand
     pub value-ends : h .len ≤ inner-end
     value-ends = omega (arith, end-beyond)
 
@@ -379,7 +381,7 @@ module _ {s : List ℕ} {tag answer : ℕ} {c b ends around : List ℕ} {depth :
       tag-is : getD around′ (depth + 1) 0 ≡ h .tag
       tag-is = getD-set-same around (depth + 1) (h .tag) 0 (omega (arith, w .few, w .around-four))
 
-      -- behind it the template around it is left
+      -- after it the template around it is left
       nested-in : beyond ≤ stop → Nested ends′ (length s) (depth + 1) beyond
       unfolding Nested
       nested-in l = nested-set ends around (depth + 1) inner-end (h .tag) (length s) (depth + 1) beyond (omega arith) (rw (add-one depth) (l, w .nested))

@@ -1,5 +1,5 @@
--- What a reading leaves of a store: one induction over the objects that are put, and from it that rows only ever gain a value where they
--- held none, that rows not named are untouched, and that the store keeps its size.
+-- What a reading leaves of a store: one induction over the objects that are put, and from it that rows only ever gain a
+-- value where they held none, that rows not named are untouched, and that the store keeps its size.
 -- Assumes nothing.
 use mathlib.Core.Path.{_≡_, refl, sym, ap, _∙_}
 use mathlib.Core.Bool.{true, not}
@@ -52,7 +52,8 @@ abbrev pub All : (PrimitiveItem → Type 0) → List PrimitiveItem → Type 0
 All Q [] = Unit {0}
 All Q (i ∷ is) = Q i × All Q is
 
--- what holds of a store, and is kept by each put, holds of the store that a reading leaves; Q says which objects the bytes bring
+-- what holds of a store, and is kept by each put, holds of the store that a reading leaves; Q states which objects
+-- the bytes bring
 module _ (P : List ℕ → Type 0) (Q : PrimitiveItem → Type 0) (answer : ℕ)
     (step : (b : List ℕ) (k : ℕ) (i : PrimitiveItem) → length b ≡ storeSize → Q i → Put answer b k i → P b → P (putRow dictionaryRows b k (i .value))) where
   abbrev Holds : List ℕ → Type 0

@@ -35,7 +35,7 @@ module _ (answer : ℕ) (b : List ℕ) (i : PrimitiveItem) (x : RowFound) (p : x
     unfolding allowedNow
     item-barred s a = known ∙ if-no _ _ s ∙ if-no _ _ (both-no-left _ _ a)
 
-    -- an object that may come is put where no bytes are there yet
+    -- an object that may come is put where no bytes are present yet
     pub item-put : both (isPrivate (i .tag)) (not (cardMaySet (rowAt k))) ≡ false → allowedInResponse answer (rowAt k) (i .around) (i .value) ≡ true
         → isFree dictionaryRows b k ≡ true → takeItem answer b i ≡ takeState true (putRow dictionaryRows b k (i .value))
     unfolding allowedNow
@@ -76,7 +76,7 @@ unfolding takeAll
 take-join answer w [] js = refl
 take-join answer w (i ∷ is) js = take-join answer (takeNext answer w i) is js
 
--- the objects behind one that was taken
+-- the objects after one that was taken
 pub took : (answer : ℕ) (w : TakeState) {v : TakeState} (i : PrimitiveItem) (is : List PrimitiveItem) → v ≡ takeNext answer w i → takeAll answer w (i ∷ is) ≡ takeAll answer v is
 unfolding takeAll
 took answer w i is e = ap (λ (z : TakeState). takeAll answer z is) (sym e)

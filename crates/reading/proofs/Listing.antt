@@ -1,5 +1,5 @@
--- Listed values, on lists and numbers: where they stand in the body, what one more does to the store with them in it, and which rows
--- have no bytes then.
+-- Listed values, on lists and numbers: where they are in the body, what one more does to the store with them in it, and
+-- which rows have no bytes then.
 -- Assumes nothing.
 use mathlib.Core.Path.{_≡_, refl, sym, ap, ap₂, subst, _∙_}
 use mathlib.Core.Bool.{Bool, true, false}
@@ -52,7 +52,7 @@ within-part {s} {v} {a} m n w h =
 pub within-front : {s v : List ℕ} {a : ℕ} (n : ℕ) → StandsInBody s a v → n ≤ length v → StandsInBody s a (take n v)
 within-front {s} {v} {a} n w h = let e : a + 0 ≡ a = omega arith in subst (λ (x : ℕ). StandsInBody s x (take n v)) e (within-part 0 n w (omega arith))
 
--- an object's value, and what is behind it, as the code makes them
+-- an object's value, and what is after it, as the code makes them
 pub within-contents : {s v : List ℕ} {a : ℕ} (m n : ℕ) → StandsInBody s a v → m + n ≤ length v → StandsInBody s (a + m) (contents v m n)
 within-contents {s} {v} {a} m n w h = subst (StandsInBody s (a + m)) (sym (contents-is v m n)) (within-part m n w h)
 
@@ -80,7 +80,7 @@ fitting-more : (s ns : List ℕ) (n : ℕ) → AllPendingFit s ns → PendingFit
 fitting-more s [] n h f = (f, tt)
 fitting-more s (m ∷ ns) n h f = (h .0, fitting-more s ns n (h .1) f)
 
--- a list with a value more behind the others
+-- a list with a value more after the others
 abbrev pub listMore : List ℕ → ℕ → List ℕ
 listMore l n = set (set l (pendingCount l + 1) n) 0 (pendingCount l + 1)
 

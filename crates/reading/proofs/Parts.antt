@@ -1,5 +1,5 @@
--- What a reading gives, from its parts: a primitive body, a template by what the reading of its contents says of their tree, and a body by
--- its one object; one law for each way out. Assumes nothing.
+-- What a reading gives, from its parts: a primitive body, a template by what the reading of its contents reports of
+-- their tree, and a body by its one object; one law for each way out. Assumes nothing.
 use mathlib.Core.Path.{_≡_, refl, sym, ap, ap₂, _∙_}
 use mathlib.Core.Bool.{Bool, true, false}
 use mathlib.Core.List.{List, [], _∷_}

@@ -1,6 +1,7 @@
--- The stages of a reading, which both readers share, are those of its definition: how it begins (`answer-begun`), the body's one object
--- (`outer-object`), a template's contents (`contents-judged`), and the store with what was listed. Below each stage stands what a function that is at
--- that stage promises, so that both readers' proofs cite it. Assumes nothing.
+-- The stages of a reading, which both readers share, are those of its definition: how it begins (`answer-begun`), the
+-- body's one object (`outer-object`), a template's contents (`contents-judged`), and the store with what was listed.
+-- Below each stage stands what a function that is at that stage promises, so that both readers' proofs cite it.
+-- Assumes nothing.
 use mathlib.Core.Path.{_≡_, refl, sym, ap, subst, subst⁻¹, _∙_}
 use mathlib.Core.Bool.{Bool, true, false}
 use mathlib.Core.List.{List}
@@ -128,7 +129,7 @@ module _ (a : Awaited) (s b : List ℕ) where
 -- ---- the body's one object
 
 module _ (s : List ℕ) where
-  -- a body that is one object has no byte behind it
+  -- a body that is one object has no byte after it
   abbrev Fits : OuterObject → Type 0
   Fits outer.Broken = Unit {0}
   Fits (outer.Template h) = HeaderFits s h × (h .start + h .len ≡ length s)

@@ -1,4 +1,5 @@
--- A run of objects, one at a time: what is left of the run after an object says what the whole run says. From the parse's laws.
+-- A run of objects, one at a time: what is left of the run after an object says what the whole run says. From the
+-- parse's laws.
 -- Assumes nothing.
 use mathlib.Core.Path.{_≡_, refl, sym, ap, ap₂, subst, _∙_}
 use mathlib.Core.Bool.{true, false}
@@ -26,7 +27,7 @@ same r b e f h = (h .0 ∙ ap₂ (λ (k : ℕ) (x : TakeState). Whole (tally k (
 pub whole-broken : (t : Tally) → Whole t ≡ Broken → ⊥
 whole-broken t e = let z : _≡_ {A = ℕ} 0 1 = cc in omega arith
 
--- a primitive object, and then what is behind it
+-- a primitive object, and then what is after it
 pub on-leaf : (answer around t : ℕ) (v : List ℕ) (x : Option Forest) (r : TemplateContents) (k : ℕ → TakeState → Type 0) (n : ℕ) (w : TakeState)
     → ThenReads answer around x r k (n + 1) (takeNext answer w (primitiveItem around t v)) → ThenReads answer around (withLeaf t v x) r k n w
 unfolding withLeaf objectCount primitiveItems takeAll

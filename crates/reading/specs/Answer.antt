@@ -47,7 +47,7 @@ pub record GivesReading (r : Reading) (b : List ℕ) (o : ReadingOutcome) : Type
   pub objects : r .objects ≡ o .objects
   pub store : b ≡ o .store
 
--- ---- the body: one object with no byte behind it
+-- ---- the body: one object with no byte after it
 
 -- a primitive object with its value, or a template with the tree that it holds
 pub data ResponseBody : Type 0 where
@@ -93,8 +93,8 @@ templateTag (Record f) = 0x70
 templateTag Cryptogram = 0x77
 templateTag Checksum = 0x77
 
--- the lengths of a body under 80: of GPO two bytes of AIP and an AFL of 4 to 248; of GENERATE AC one byte of CID, two of
--- ATC and eight of AC, and at most 32 of IAD
+-- the lengths of a body under 80: of GPO two bytes of AIP and an AFL of 4 to 248; of GENERATE AC one byte of CID, two
+-- of ATC and eight of AC, and at most 32 of IAD
 abbrev pub leastGpoBody : ℕ
 leastGpoBody = 6
 
@@ -107,7 +107,7 @@ leastAcBody = 11
 abbrev pub mostAcBody : ℕ
 mostAcBody = 43
 
--- under 80, processing options: two bytes for 82 and the rest, a multiple of 4, for 94; both are taken as if a 77 stood
+-- under 80, GPO: two bytes for 82 and the rest, a multiple of 4, for 94; both are taken as if a 77 were
 -- directly around them
 unfoldable pub gpoParts : List ℕ → Option (List PrimitiveItem)
 gpoParts v =
@@ -176,7 +176,7 @@ readTree a b (some body) = readParts a b (bodyCount body) (bodyParts a body)
 unfoldable pub readBody : Awaited → List ℕ → List ℕ → ReadingOutcome
 readBody a b s = readTree a b (responseBody s)
 
--- a record of a file up to 10 is read (no accepted locator names file 0); of a higher one only length and status count
+-- a record of a file up to 10 is read (no accepted AFL names file 0); of a higher one only length and status count
 unfoldable pub isRead : Awaited → Bool
 isRead Gpo = true
 isRead (Record sfi) = sfi .number ≤? 10

@@ -14,7 +14,7 @@ use Rattle.tlv.specs.Tree.{Forest, objectCount, parseTree}
 use Rattle.reading.specs.declared.Awaited.{Awaited}
 use Rattle.reading.specs.Answer.{isResponseLength, isStatus9000, isRead}
 
--- one object at the front is all there is: no byte in front of it, none behind it
+-- one object at the front is all there is: no byte before it, none after it
 abbrev pub isOneObject : List ℕ → ObjectFront → Bool
 isOneObject s Broken = false
 isOneObject s (Object h) = h .start + h .len =? length s

@@ -1,6 +1,6 @@
 -- What private functions promise, for their callers' proofs: the stages of a reading that both readers share, what the
--- reading of a run of objects says and leaves, by their tree, and the store with what was listed in it.
--- No rule of document 01 stands here: a reader of the rules can pass it over. proofs/Parts and proofs/Stages tie it to
+-- reading of a run of objects reports and leaves, by their tree, and the store with what was listed in it. This file
+-- states no rule of document 01: a reader of the rules can skip it. proofs/Parts and proofs/Stages tie it to
 -- specs/Answer: `broken-contents` and `whole-contents` to the tree of a template's contents, `gives` and `restore` to
 -- `GivesReading`; `answer-begun`, `outer-object` and `contents-judged` say that the stages are those of `readAnswer`.
 -- Assumes nothing.
@@ -74,7 +74,7 @@ readingBeginning a s =
       else Beginning.Decided BadStatus
     else Beginning.Decided Malformed
 
--- the one object that a body is, with no byte behind it
+-- the one object that a body is, with no byte after it
 abbrev pub outerFront : List ℕ → ObjectFront → OuterObject
 outerFront s front.Broken = OuterObject.Broken
 outerFront s (front.Object h) =
@@ -86,7 +86,7 @@ outerFront s (front.Object h) =
 unfoldable pub outerObject : List ℕ → OuterObject
 outerObject s = outerFront s (headerOf s)
 
--- the reading of a template by what is said of its contents: their encoding, the outer tag, the objects
+-- the reading of a template by what is reported of its contents: their encoding, the outer tag, the objects
 unfoldable pub contentsReading : Awaited → ℕ → TemplateContents → Reading
 contentsReading a t Broken = readingOf Malformed 0
 contentsReading a t (Whole u) =
@@ -106,13 +106,13 @@ abbrev pub HasVisited : ℕ → TakeState → TemplateContents → List ℕ → 
 HasVisited n w r b = (r ≡ Whole (tally n (w .good))) × (b ≡ w .store)
 
 -- a tree directly inside the template `around`, after n objects and the work w: its count is added, its objects are
--- taken, and k holds of both; r is what is said where there is no tree
+-- taken, and k holds of both; r is what is reported where there is no tree
 abbrev pub ThenReads : ℕ → ℕ → Option Forest → TemplateContents → (ℕ → TakeState → Type 0) → ℕ → TakeState → Type 0
 ThenReads answer around none r k n w = r ≡ Broken
 ThenReads answer around (some f) r k n w = k (n + objectCount f) (takeAll answer w (primitiveItems around f))
 
--- the same with nothing behind it: r is what is said and b the store with what is listed then; malformed bytes leave the
--- list free
+-- the same with nothing after it: r is what is reported and b the store with what is listed then; malformed bytes leave
+-- the list free
 abbrev pub LeavesContents : ℕ → ℕ → ℕ → TakeState → Option Forest → TemplateContents → List ℕ → Type 0
 LeavesContents answer around n w f r b = ThenReads answer around f r (λ m v. HasVisited m v r b) n w
 
@@ -124,7 +124,7 @@ ReadsContents answer around t b f r b′ = LeavesContents answer around (t .obje
 abbrev pub ReadsPending : ℕ → ℕ → Tally → Option Forest → TemplateContents → List ℕ → List ℕ → List ℕ → List ℕ → Type 0
 ReadsPending answer around t f r s b l l′ = ReadsContents answer around t (withPending s b l) f r (withPending s b l′)
 
--- one object, all before it allowed where g says so: r is said
+-- one object, all before it allowed where g says so: r is reported
 abbrev pub TakesItem : ℕ → PrimitiveItem → Bool → Bool → List ℕ → List ℕ → List ℕ → List ℕ → Type 0
 TakesItem answer i g r s b l l′ = takeState r (withPending s b l′) ≡ takeNext answer (takeState g (withPending s b l)) i
 
@@ -136,7 +136,7 @@ TakesItems answer is g r s b l l′ = takeState r (withPending s b l′) ≡ tak
 abbrev pub PutsPending : ℕ → List ℕ → List ℕ → List ℕ → List ℕ → List ℕ → Type 0
 PutsPending k v s b l l′ = withPending s b l′ ≡ putRow dictionaryRows (withPending s b l) k v
 
--- how many objects are said
+-- how many objects are reported
 abbrev pub objectsVisited : TemplateContents → ℕ
 objectsVisited Broken = 0
 objectsVisited (Whole t) = t .objects

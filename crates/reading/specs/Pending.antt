@@ -1,6 +1,6 @@
--- The values that an answer brings, listed by their places in its body while the store stands as it was; and the store
+-- The values that an answer brings, listed by their places in its body while the store stays as it was; and the store
 -- with them in it, which is what the rules of specs/Taking speak of.
--- No rule of document 01 stands here: a reader of the rules can pass it over. It is for private functions and their
+-- This file states no rule of document 01: a reader of the rules can skip it. It is for private functions and their
 -- callers' proofs.
 -- Assumes nothing.
 use mathlib.Core.Path.{_≡_}
@@ -11,7 +11,7 @@ use Rattle.basics.specs.Choice.{_and_, _=?_}
 use Rattle.dictionary.specs.Rows.{dictionaryRows, rowAt, rowCount, storeSize}
 use Rattle.store.specs.Place.{isFree, putRow}
 
--- the bytes v stand in the body s from place a on
+-- the bytes v are in the body s from place a on
 pub record StandsInBody (s : List ℕ) (a : ℕ) (v : List ℕ) : Type 0 where
   pub ends : a + length v ≤ length s
   pub are : v ≡ take (length v) (drop a s)

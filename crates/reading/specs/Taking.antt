@@ -14,7 +14,7 @@ use Rattle.dictionary.specs.Rows.{Row, dictionaryRows, rowAt, findRow, setByCar
 use Rattle.dictionary.specs.Form.{fitsRow}
 use Rattle.store.specs.Place.{isFree, putRow}
 
--- a primitive object as it stands in an answer: the tag of the template directly around it, its own tag, its value
+-- a primitive object as it is in an answer: the tag of the template directly around it, its own tag, its value
 pub record PrimitiveItem : Type 0 where
   pub around : ℕ
   pub tag : ℕ
@@ -40,7 +40,7 @@ isTemplateIn templates around =
     else if around =? 0x6F then hasBit templates in6F
     else false
 
--- a row's object may stand directly inside this template
+-- a row's object may be directly inside this template
 unfoldable pub allowedInTemplate : Row → ℕ → Bool
 allowedInTemplate r around = isTemplateIn (r .templates) around
 
@@ -56,7 +56,7 @@ allowedInResponse answer r around v =
     and allowedInTemplate r around
     and fitsRow r v
 
--- the card may set row k's object so, and no non-empty one is there
+-- the card may set row k's object so, and no non-empty one is present
 unfoldable pub allowedNow : ℕ → List ℕ → ℕ → ℕ → List ℕ → Bool
 allowedNow answer b k around v = allowedInResponse answer (rowAt k) around v and isFree dictionaryRows b k
 

@@ -1,5 +1,5 @@
-// The same reading of an answer without recursion: the open templates stand in an array, and one loop goes
-// over all objects.
+// The same reading of an answer without recursion: the open templates are in an array, and one loop goes over
+// all objects.
 //
 // `read_answer` and `judge_answer` promise what the crate's functions of these names promise,
 // word for word, so a caller goes from one reader to the other by one line. The walk over the objects
@@ -19,7 +19,7 @@ ghost use Rattle.reading.specs.Inner.{tally, objectsVisited, GivesFrom, 
 ghost use Rattle.reading.specs.Pending.{StandsInBody, PendingValues, pendingCount};
 ghost use Rattle.reading.specs.Answer.{GivesReading, verdictNumber, readBody, readAnswer};
 
-// How many templates may be open at once, the outer one counted.
+// How many templates may be open at once, the outer one included.
 const LEVELS: usize = 4;
 
 // The whole answer to the command that was handed out, status bytes included.
@@ -37,7 +37,7 @@ pub fn read_answer(store: &mut [u8], awaited: Awaited, answer: &[u8]) -> Reading
     }
 }
 
-// What a reading says of an answer; the store stays.
+// What a reading reports of an answer; the store stays.
 pub fn judge_answer(store: &[u8], awaited: Awaited, answer: &[u8]) -> ResponseVerdict
     requires { ⌜ length (now store) ≡ storeSize ⌝ }
     ensures { λ r. ⌜ verdictNumber r ≡ readAnswer awaited (now (store .entry)) (now (answer .entry)) .reason ⌝ }
@@ -67,7 +67,7 @@ fn read_body(store: &mut [u8], awaited: Awaited, body: &[u8]) -> Reading
     reading
 }
 
-// What a reading says of the body of an answer.
+// What a reading reports of the body of an answer.
 fn judge_body(store: &[u8], awaited: Awaited, body: &[u8]) -> ResponseVerdict
     requires { ⌜ (length (now store) ≡ storeSize) × (length (now body) ≤ 256) ⌝ }
     ensures { λ r. ⌜ verdictNumber r ≡ readBody awaited (now (store .entry)) (now (body .entry)) .reason ⌝ }
@@ -115,9 +115,9 @@ fn read_object(
     }
 }
 
-// The contents of the outer template, whose tag this is, from a place of the body on. `ends` and `around` have the end and
-// the tag of each open template, the outer one first and the innermost at `depth`; `s` is what is left of the innermost. The
-// values of the primitive objects are listed, each by the tag of the template directly around it.
+// The contents of the outer template, whose tag this is, from a place of the body on. `ends` and `around` have the end
+// and the tag of each open template, the outer one first and the innermost at `depth`; `s` is what is left of the
+// innermost. The values of the primitive objects are listed, each by the tag of the template directly around it.
 fn read(
     bytes: &[u8],
     start: usize,

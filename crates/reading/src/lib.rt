@@ -1,9 +1,9 @@
 // Reading a card's answer into a store, whole or not at all.
 //
-// `read_answer` takes the whole answer with its status bytes; `judge_answer` only says what it would give. Inside, the store
-// is only read: a value that an object brings is listed by its row and its place in the body, and the rows that have
-// bytes listed are marked. Both arrays are lent down the templates, with the table's tags and its rows' numbers. The listed
-// values are put into the store where the answer is accepted.
+// `read_answer` takes the whole answer with its status bytes; `judge_answer` only reports what it would give. Inside,
+// the store is only read: a value that an object brings is listed by its row and its place in the body, and the rows
+// that have bytes listed are marked. Both arrays are passed down the templates, with the table's tags and its rows'
+// numbers. The listed values are put into the store where the answer is accepted.
 //
 // Here a template's contents are read by `read`, which calls itself. The module `flat` has the same open
 // functions with the same promises and no recursion: it shares all but the walk over the objects.
@@ -38,14 +38,14 @@ ghost use Rattle.reading.specs.Answer.{GivesReading, verdictNumber, resp
 // An answer has at most 256 bytes and the two status bytes.
 const MOST_ANSWER: usize = 258;
 
-// The bodies under 80: of GPO the AIP, two bytes, and an AFL of 4 to 248 bytes; of GENERATE AC the CID, the ATC and the AC, 11
-// bytes, and at most 32 of IAD.
+// The bodies under 80: of GPO the AIP, two bytes, and an AFL of 4 to 248 bytes; of GENERATE AC the CID, the ATC and the
+// AC, 11 bytes, and at most 32 of IAD.
 const LEAST_GPO_BODY: usize = 6;
 const MOST_GPO_BODY: usize = 250;
 const LEAST_AC_BODY: usize = 11;
 const MOST_AC_BODY: usize = 43;
 
-// The values that are listed, behind their count: room for more than the longest body can have.
+// The values that are listed, after their count: room for more than the longest body can have.
 const LIST: usize = 130;
 
 // A listed value in one number: its row, its place in the body, its length.
@@ -65,7 +65,7 @@ pub enum Awaited {
     Checksum,
 }
 
-// What a reading says of an answer.
+// What a reading reports of an answer.
 pub enum ResponseVerdict {
     Accepted,
     BadStatus,
@@ -92,7 +92,7 @@ pub enum Beginning {
     Decided(ResponseVerdict),
 }
 
-// The one object that a body is, with no byte behind it.
+// The one object that a body is, with no byte after it.
 pub enum OuterObject {
     Template(TlvHeader),
     Primitive(TlvHeader),
@@ -105,7 +105,7 @@ pub struct Tally {
     pub good: bool,
 }
 
-// What the reading of some contents says.
+// What the reading of some contents reports.
 pub enum TemplateContents {
     Whole(Tally),
     Broken,
@@ -126,7 +126,7 @@ pub fn read_answer(store: &mut [u8], awaited: Awaited, answer: &[u8]) -> Reading
     }
 }
 
-// What a reading says of an answer; the store stays.
+// What a reading reports of an answer; the store stays.
 pub fn judge_answer(store: &[u8], awaited: Awaited, answer: &[u8]) -> ResponseVerdict
     requires { ⌜ length (now store) ≡ storeSize ⌝ }
     ensures { λ r. ⌜ verdictNumber r ≡ readAnswer awaited (now (store .entry)) (now (answer .entry)) .reason ⌝ }
@@ -185,7 +185,7 @@ fn read_body(store: &mut [u8], awaited: Awaited, body: &[u8]) -> Reading
     reading
 }
 
-// What a reading says of the body of an answer.
+// What a reading reports of the body of an answer.
 fn judge_body(store: &[u8], awaited: Awaited, body: &[u8]) -> ResponseVerdict
     requires { ⌜ (length (now store) ≡ storeSize) × (length (now body) ≤ 256) ⌝ }
     ensures { λ r. ⌜ verdictNumber r ≡ readBody awaited (now (store .entry)) (now (body .entry)) .reason ⌝ }
@@ -384,7 +384,7 @@ fn read_object(
     }
 }
 
-// The reading of a template by what is said of its contents.
+// The reading of a template by what is reported of its contents.
 fn judge_contents(awaited: Awaited, tag: u32, contents: TemplateContents) -> Reading
     ensures { λ r. ⌜ r ≡ contentsReading awaited tag contents ⌝ }
 {
@@ -401,7 +401,7 @@ fn judge_contents(awaited: Awaited, tag: u32, contents: TemplateContents) -> Rea
     reading_of(ResponseVerdict::Accepted, n)
 }
 
-// An answer that is a primitive object: 80, with its parts one behind the other. Its value starts at a place of the body.
+// An answer that is a primitive object: 80, with its parts concatenated. Its value starts at a place of the body.
 fn read_primitive(
     awaited: Awaited,
     tag: u32,
@@ -433,7 +433,7 @@ fn read_primitive(
     }
 }
 
-// The parts of a body under 80: the interchange profile, then the locator.
+// The parts of a body under 80: the AIP, then the AFL.
 fn read_gpo(
     value: &[u8],
     at: usize,
@@ -745,7 +745,7 @@ fn add_pending(
     }
 }
 
-// Whether a known object is passed over: of the private class, and not the card's to set.
+// Whether a known object is skipped: of the private class, and not the card's to set.
 fn is_skipped(tag: u32, attributes: Attributes) -> bool
     ensures { λ r. ⌜ r ≡ both (isPrivate tag) (not (cardMaySet (rowWithAttributes attributes))) ⌝ }
 {
@@ -787,7 +787,7 @@ fn is_brought_by(answers: u8, answer: u8) -> bool
     answers / answer % 2 == 1
 }
 
-// Whether an object of these templates may stand directly inside a template.
+// Whether an object of these templates may be directly inside a template.
 fn may_stand(templates: u8, around: u32) -> bool
     ensures { λ r. ⌜ r ≡ isTemplateIn templates around ⌝ }
 {

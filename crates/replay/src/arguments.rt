@@ -1,11 +1,11 @@
-// The words that the program is called with: --tree, --bits, --tell, --journal with a file's name behind it, and the name
-// of a file.
+// The words that the program is called with: --tree, --bits, --tell, --journal with a file's name after it, and the
+// name of a file.
 use libc::STDERR_FILENO;
 use print::tree::View;
 
-// What is asked for: what is shown, whether the exit status is told on descriptor 3, which argument names the file and
-// which the journal (0: none does), whether a journal's name is next, and whether there is one name too many, one too few
-// or an unknown option.
+// What is requested: what is shown, whether the exit status is reported on descriptor 3, which argument names the file
+// and which the journal (0: none does), whether a journal's name is next, and whether there is one name too many, one
+// too few or an unknown option.
 pub struct ReplayArguments {
     pub view: View,
     pub tell: bool,
@@ -23,7 +23,7 @@ pub fn replay_arguments() -> ReplayArguments {
     out
 }
 
-// Every argument, one behind the other.
+// Every argument in turn.
 fn all() -> ReplayArguments {
     let mut out = ReplayArguments {
         view: View {
@@ -45,7 +45,7 @@ fn all() -> ReplayArguments {
     out
 }
 
-// One argument more.
+// One more argument.
 fn with_argument(arguments: ReplayArguments, i: usize) -> ReplayArguments {
     let mut space = io::buffer();
     let n = os::arg(i, &mut space);

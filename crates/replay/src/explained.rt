@@ -2,7 +2,7 @@
 use explain::{Cause, Explanation, Holder, Stage};
 use session_record::Session;
 
-// The stage that decided, the bit that forced the choice and who asked for it; or what stands in its place.
+// The stage that decided, the bit that forced the choice and who requested it; or what is in its place.
 pub fn line(session: Session) {
     let explanation = explain::explain(session);
     print::text(b"explanation: ");

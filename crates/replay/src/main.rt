@@ -1,10 +1,11 @@
-// Plays a text file of calls on a fresh session: the file named by the argument, or standard input where
-// there is none. Each call's reply is a line, with lines below it that say more; behind the last stand the objects
-// that the session holds, and one line that says why it is where it is. A line that is wrong is reported by its number, and nothing behind it is played.
+// Plays a text file of calls on a fresh session: the file named by the argument, or standard input where there is none.
+// Each call's reply is a line, with lines below it that say more; after the last are the objects that the session
+// holds, and one line that says why it is where it is. A line that is wrong is reported by its number, and nothing
+// after it is played.
 //
 // The file is read in parts of 4,096 bytes. What a line means is the library `line`'s matter. What is wrong goes to
-// standard error. With --journal the session's journal goes to a file. With --tell the exit status that is due goes to
-// descriptor 3: 0 where all was played, 2 where a journal could not be written, else 1.
+// standard error. With --journal the session's journal goes to a file. With --tell the exit status goes to descriptor
+// 3: 0 where all was played, 2 where a journal could not be written, else 1.
 mod arguments;
 mod explained;
 mod recorded;
@@ -20,9 +21,9 @@ ghost use mathlib.Core.Path.{_≡_};
 ghost use Prim.Native.Nat.{_≤_};
 ghost use lib.ListN.{length};
 
-// What is carried from line to line: the session, the length of the command buffer that is lent, what is shown, the
-// journal's descriptor (negative: none is written), whether `session` was read, the number of the line that is read, how
-// many of its characters are there, whether to go on, and the exit status that is due.
+// What is carried from line to line: the session, the length of the caller's command buffer, what is shown, the
+// journal's descriptor (negative: none is written), whether `session` was read, the number of the line that is read,
+// how many of its characters are there, whether to go on, and the exit status.
 struct ReplayProgress {
     session: Session,
     buffer: usize,
@@ -35,19 +36,19 @@ struct ReplayProgress {
     status: u8,
 }
 
-// The session behind a call, and whether the journal could be written.
+// The session after a call, and whether the journal could be written.
 struct After {
     session: Session,
     written: bool,
 }
 
-// Room for the longest line and one character more, by which a longer one is known.
+// Room for the longest line and one more character, by which a longer one is known.
 const ROOM: usize = MOST + 1;
 
-// The length of the command buffer where none is asked for.
+// The length of the command buffer where none is requested.
 const USUAL: usize = 261;
 
-// The descriptor on which the exit status is told.
+// The descriptor on which the exit status is reported.
 const TELLING: i32 = 3;
 
 // The exit statuses.
@@ -80,7 +81,7 @@ fn send(fd: i32, words: &[u8]) {
     io::write_all(fd, words);
 }
 
-// Plays the file that an argument names, or standard input: the exit status that is due.
+// Plays the file that an argument names, or standard input; returns the exit status.
 fn played(asked: ReplayArguments) -> u8 {
     if asked.wrong {
         return WRONG;
@@ -100,7 +101,7 @@ fn played(asked: ReplayArguments) -> u8 {
     status
 }
 
-// Plays a file, and keeps its journal where one is asked for.
+// Plays a file, and keeps its journal where one is requested.
 fn kept(fd: i32, asked: ReplayArguments) -> u8 {
     if asked.journal == 0 {
         return play(fd, asked.view, NO_JOURNAL);
@@ -123,7 +124,7 @@ fn kept(fd: i32, asked: ReplayArguments) -> u8 {
 
 // ---- the file's lines
 
-// Plays all of a file. A proved loop has to end, so it counts its turns from a number that no file uses up.
+// Plays all of a file. A proved loop has to end, so it counts its iterations from a number that no file uses up.
 fn play(fd: i32, view: View, journal: i32) -> u8 {
     let mut line = [0u8; ROOM];
     let mut state = beginning(view, journal);
@@ -167,7 +168,7 @@ fn play_part(state: ReplayProgress, fd: i32, line: &mut [u8]) -> ReplayProgress
     play_lines(state, &part[..n], line)
 }
 
-// Plays the lines that end in a part, and keeps what stands behind them.
+// Plays the lines that end in a part, and keeps what follows them.
 fn play_lines(state: ReplayProgress, part: &[u8], line: &mut [u8]) -> ReplayProgress
     ensures { λ _. ⌜ length (now (line .exit)) ≡ length (now (line .entry)) ⌝ }
 {
@@ -202,7 +203,7 @@ fn keep(state: ReplayProgress, chars: &[u8], line: &mut [u8]) -> ReplayProgress
     with_filled(state, more)
 }
 
-// Puts characters behind those that are there, as many as there is room for, and returns how many are there then.
+// Puts characters after those that are present, as many as there is room for, and returns how many are there then.
 fn append(chars: &[u8], line: &mut [u8], filled: usize) -> usize
     ensures { λ _. ⌜ length (now (line .exit)) ≡ length (now (line .entry)) ⌝ }
 {
@@ -227,7 +228,7 @@ fn least(a: usize, b: usize) -> usize
 
 // ---- one line
 
-// Plays the line that is there.
+// Plays the line that has been read.
 fn play_line(state: ReplayProgress, line: &[u8]) -> ReplayProgress {
     if !state.going {
         return state;
@@ -255,7 +256,7 @@ fn front(s: &[u8], n: usize) -> &[u8] {
     s
 }
 
-// Makes a call, with its bytes in the front of `bytes`.
+// Makes a call, with its bytes at the front of `bytes`.
 fn made(state: ReplayProgress, said: Line, bytes: &[u8]) -> ReplayProgress {
     let mut space = [0u8; LONGEST];
     let size = least(state.buffer, LONGEST);
@@ -392,7 +393,7 @@ fn failed(state: ReplayProgress, status: u8) -> ReplayProgress {
 
 // ---- the end of a session
 
-// `session`: a journal is of one, so behind a call that was taken, and a second time, the line is wrong.
+// `session`: a journal is of one, so after a call that was taken, and a second time, the line is wrong.
 fn session_line(state: ReplayProgress) -> ReplayProgress {
     if 0 <= state.journal && (state.renewed || !is_fresh(state.session)) {
         complain(b"replay: line ");

@@ -3,7 +3,7 @@ use crate::front;
 use text_line::Line;
 use session_record::CallResult;
 
-// Puts a call and its reply behind what the journal has, unless there is none or the call is refused: whether they
+// Puts a call and its reply after what the journal has, unless there is none or the call is refused: whether they
 // could be written.
 pub fn keep(journal: i32, said: Line, bytes: &[u8], answer: CallResult, command: &[u8]) -> bool {
     if journal < 0 {
@@ -15,7 +15,7 @@ pub fn keep(journal: i32, said: Line, bytes: &[u8], answer: CallResult, command:
     }
 }
 
-// The record of a call, with its bytes in the front of `bytes`.
+// The record of a call, with its bytes at the front of `bytes`.
 fn call(journal: i32, said: Line, bytes: &[u8]) -> bool {
     match said {
         Line::Start(brought) => put(journal, &journal::writer::start_record(front(bytes, brought.size))),

@@ -25,8 +25,8 @@ pub fn start_refused(start: &[u8], number: u8) {
     }
 }
 
-// The first object that a start may not set: the bytes up to its end are refused for an object, those in front of it
-// are not.
+// The first object that a start may not set: the bytes up to its end are refused for an object, those
+// before it are not.
 fn refused(start: &[u8]) {
     let mut at: usize = 0;
     while at < start.len() {
@@ -111,7 +111,7 @@ fn tag_line(words: &[u8], tag: u32) {
 
 // ---- an answer
 
-// Below an answer: its objects where they are asked for, and what is malformed where that ended the session.
+// Below an answer: its objects where they are requested, and what is malformed where that ended the session.
 pub fn answered(card: &[u8], reason: u8, view: View) {
     if card.len() < 2 {
         wrong_length(card.len(), reason);

@@ -1,5 +1,5 @@
--- How a step comes about: the refusals that every call checks first, an answer that is accepted or not, and each way out of a step.
--- The proofs of the code cite these and do not unfold the steps.
+-- How a step comes about: the refusals that every call checks first, an answer that is accepted or not, and each way
+-- out of a step. The proofs of the code cite these and do not unfold the steps.
 -- Assumes nothing.
 use mathlib.Core.Path.{_≡_, refl, sym, ap, ap₂, _∙_}
 use mathlib.Core.Bool.{Bool, true, false, not}
@@ -71,11 +71,11 @@ use Rattle.session.specs.Inner.{loadRefusalNumber, checkNumber, cryptogr
 pub did-as : {r : Reply} {b : List ℕ} {s t : Step} → s ≡ t → DidStep r b t → DidStep r b s
 did-as e d = record { reply = d .reply ∙ ap (λ (x : Step). x .reply) (sym e); buffer = d .buffer ∙ ap (λ (x : Step). x .buffer) (sym e) }
 
--- a turn by an equation, with the store b
+-- a transition by an equation, with the store b
 pub reply-as : {t u : Transition} (b : List ℕ) → t ≡ u → replyOf t b ≡ replyOf u b
 reply-as b e = ap (λ (x : Transition). replyOf x b) e
 
--- no command: the buffer stands as it was, and the turn t is u, with the store b
+-- no command: the buffer stands as it was, and the transition t is u, with the store b
 pub did-without-command : {t u : Transition} (b : List ℕ) {buf : List ℕ} {s : Step} → t ≡ u → s ≡ withoutCommand (replyOf u b) buf → DidStep (replyOf t b) buf s
 did-without-command b e f = did-as f (record { reply = reply-as b e; buffer = refl })
 
@@ -176,7 +176,7 @@ decides-on none e f =
     let z : _≡_ {A = ℕ} reasonNone reasonCryptogram = ap (λ (y : Ending). y .reason) (sym (ap cryptogramOutcomeEnding f) ∙ e) in absurd (omega arith)
 decides-on {x} {d} (some o) e f = ap (λ (y : Ending). some (y .outcome)) (sym e ∙ ap cryptogramOutcomeEnding f)
 
--- ---- the result bits
+-- ---- the TVR
 
 -- 95 has room for them
 pub results-fit : rowAt rowTvr .greatest ≡ 5
@@ -192,7 +192,7 @@ pub results-stored : (b v : List ℕ) {k : List ℕ} → k ≡ putRow dictionary
 unfolding withTvr
 results-stored b v g = ap (λ (n : ℕ). putRow dictionaryRows b n v) results-place ∙ sym g
 
--- 9F34 has room for the results of the verification
+-- 9F34 has room for the CVM Results
 pub cvm-fits : rowAt rowCvmResults .greatest ≡ 3
 unfolding dictionaryRows
 cvm-fits = refl
@@ -265,13 +265,13 @@ module _ (n : ℕ) (b buf : List ℕ) {r : LoadResult} {d : List ℕ} where
   loading-taken x g e f =
       ap (startLoaded (sessionOf Phase.Fresh n b) buf) (was-taken x g e) ∙ ap (λ (c : List ℕ). askGpo n c buf) (results-stored d zeroTvr f)
 
--- ---- a record of the locator, by the row's value and a number
+-- ---- a record of the AFL, by the row's value and a number
 
 module _ {v : List ℕ} {k : ℕ} {r x : RecordFound} (f : r ≡ aflRecordAt v k) (e : r ≡ x) where
   pub found-as : (b : List ℕ) (n : ℕ) → v ≡ bytesOfValue (rowValue dictionaryRows b rowAfl) → k ≡ n → aflRecordAt (storedAfl b) n ≡ x
   found-as b n p q = sym (f ∙ ap₂ aflRecordAt (p ∙ bytes-are b 0x94 rowAfl at-94) q) ∙ e
 
--- one that is there has a file of five bits, and is one of the first 128
+-- one that is present has a file of five bits, and is one of the first 128
 pub found-there : (v : List ℕ) (k : ℕ) {r : RecordFound} {w : CardRecord} → r ≡ aflRecordAt v k → r ≡ RecordFound.At w → (w .sfi < 32) × (k ≤ 128)
 found-there v k {r} {w} f e =
     let g = sym f ∙ e in
@@ -293,7 +293,7 @@ module _ (m n : ℕ) (d : List ℕ) (p : Phase) (buf : List ℕ) {b : List ℕ} 
       record { reply = reply-as d (h ∙ ap (λ (y : Handed). commandTransition p (n + 1) (y .len)) z); buffer = f }
 
 module _ (n : ℕ) (b buf : List ℕ) where
-  -- ---- after the processing options
+  -- ---- after GPO
 
   -- a reason of the store ends the session
   stops : (m : ℕ) → gpoStoreReason b ≡ suc m → afterGpoRead n b buf ≡ failedStep cvmNotApplicable n b (suc m) buf

@@ -32,24 +32,24 @@ use Rattle.session.specs.Steps.{Step, withoutCommand, refusedStep, ended
 use Rattle.session.specs.Steps.{admittedStep, commandOrReason}
 use Rattle.session.specs.MagStripe.{afterRecordsMagStripe, checksumReply}
 
--- ---- the answer to processing options
+-- ---- the answer to GPO
 
--- waiting on the k-th record, with the limit l in force
+-- waiting on the k-th record, with the transaction limit l
 abbrev pub recordPhase : ℕ → ℕ → Phase
 recordPhase l k = Phase.Record (record { number = k; limit = l })
 
--- the command for the k-th record of the stored locator; one that was accepted has one for each k from 1 to R. Here the
--- limit in force is fixed (document 02, Item 8): the record holds it from now on
+-- the command for the k-th record of the stored AFL; one that was accepted has one for each k from 1 to R. Here the
+-- transaction limit is fixed (document 02, Item 8): the record holds it from now on
 abbrev pub askRecordFound : ℕ → List ℕ → ℕ → List ℕ → RecordFound → Step
 askRecordFound n b k buf RecordFound.Nothing = failedStep cvmNotApplicable n b reasonAfl buf
 askRecordFound n b k buf (RecordFound.At r) = commandStep n b (recordPhase (transactionLimit b) k) (readRecordCommand r) buf
 
--- 82 and 94 are there
+-- 82 and 94 are present
 abbrev pub aipAndAflPresent : List ℕ → Bool
 aipAndAflPresent b = hasObject b 0x82 and hasObject b 0x94
 
 -- the reason that the rules give to the store once the answer is read, 0 where they give none: an object missing (4),
--- neither EMV mode nor mag-stripe mode (11; document 02, Item 9), the locator (5)
+-- neither EMV mode nor mag-stripe mode (11; document 02, Item 9), the AFL (5)
 unfoldable pub gpoStoreReason : List ℕ → ℕ
 gpoStoreReason b =
     if not (aipAndAflPresent b) then reasonMissing
@@ -57,7 +57,7 @@ gpoStoreReason b =
     else if not (acceptsAfl (storedAfl b)) then reasonAfl
     else reasonNone
 
--- the first record is asked for, unless there is a reason
+-- the first record is requested, unless there is a reason
 unfoldable pub afterGpoRead : ℕ → List ℕ → List ℕ → Step
 afterGpoRead n b buf =
     if gpoStoreReason b =? reasonNone then askRecordFound n b 1 buf (aflRecordAt (storedAfl b) 1)
@@ -79,17 +79,17 @@ gpoReason b card =
 
 -- ---- the answer to a record
 
--- the cryptogram is asked for by the choice; the session holds the method, and tells it where 8C cannot be filled
+-- the cryptogram is requested by the choice; the session holds the CVM, and reports it where 8C cannot be filled
 unfoldable pub askCryptogram : ℕ → List ℕ → RequestedCryptogram → List ℕ → Step
 askCryptogram n b a buf =
     commandOrReason (cvmNumber (a .cvm)) n b (Phase.Cryptogram a) buf (generateAc (generateAcP1 (a .choice)) b)
 
--- what is asked for: the choice on the result bits with those of the verification, the method, and the limit l that
--- the session holds
+-- what is requested: the choice on the TVR with the bits of the verification, the CVM, and the limit l that the
+-- session holds
 unfoldable pub requestedCryptogram : ℕ → List ℕ → RequestedCryptogram
 requestedCryptogram l b = record { choice = choiceFor b (findingsOf b .bits); cvm = findingsOf b .cvm; limit = l }
 
--- 9F34 and the result bits are stored, the choice is made on the bits, and 8C is filled after
+-- 9F34 and the TVR are stored, the choice is made on the bits, and 8C is filled after
 unfoldable pub afterAnalysis : ℕ → ℕ → List ℕ → List ℕ → Step
 afterAnalysis l n b buf = askCryptogram n (withFindings b (findingsOf b)) (requestedCryptogram l b) buf
 
@@ -101,23 +101,23 @@ afterRecordsEmv l n b buf =
     else if not (cryptogramDataPresent b) then failedStep cvmNotApplicable n b reasonMissing buf
     else afterAnalysis l n b buf
 
--- by the mode that 82 tells: EMV mode, else mag-stripe mode
+-- by the mode that the AIP (82) indicates: EMV mode, else mag-stripe mode
 unfoldable pub afterLastRecord : ℕ → ℕ → List ℕ → List ℕ → Step
 afterLastRecord l n b buf =
     if emvMode b then afterRecordsEmv l n b buf
     else afterRecordsMagStripe l n b buf
 
--- after a record: the k-th, if the locator names so many; the limit stays
+-- after a record: the k-th, if the AFL names so many; the limit stays
 abbrev pub askNextFound : ℕ → ℕ → List ℕ → ℕ → List ℕ → RecordFound → Step
 askNextFound l n b k buf RecordFound.Nothing = afterLastRecord l n b buf
 askNextFound l n b k buf (RecordFound.At r) = commandStep n b (recordPhase l k) (readRecordCommand r) buf
 
--- the record behind the one that was waited on
+-- the record after the one that was waited on
 unfoldable pub afterRecordRead : AwaitedRecord → ℕ → List ℕ → List ℕ → Step
 afterRecordRead p n b buf = askNextFound (p .limit) n b (p .number + 1) buf (aflRecordAt (storedAfl b) (p .number + 1))
 
--- the answer is read by the file of the record that was asked for; a reason that the reading gives ends the session.
--- A record in its ranges always has the one asked for.
+-- the answer is read by the file of the record that was requested; a reason that the reading gives ends the session. A
+-- record in its ranges always has the one requested.
 abbrev pub readRecordFound : AwaitedRecord → ℕ → List ℕ → List ℕ → List ℕ → RecordFound → Step
 readRecordFound p n b card buf RecordFound.Nothing = failedStep cvmNotApplicable n b reasonAfl buf
 readRecordFound p n b card buf (RecordFound.At r) =
@@ -125,7 +125,7 @@ readRecordFound p n b card buf (RecordFound.At r) =
     if o .reason =? reasonNone then afterRecordRead p n (o .store) buf
     else failedStep cvmNotApplicable n b (o .reason) buf
 
--- the record that was asked for is the one at the place that is waited on
+-- the record that was requested is the one at the place that is waited on
 unfoldable pub recordStep : AwaitedRecord → ℕ → List ℕ → List ℕ → List ℕ → Step
 recordStep p n b card buf = readRecordFound p n b card buf (aflRecordAt (storedAfl b) (p .number))
 
@@ -141,19 +141,19 @@ cidTc = 1
 abbrev pub cidArqc : ℕ
 cidArqc = 2
 
--- a cryptogram of type 10 (ARQC) goes online unless a decline was asked for
+-- a cryptogram of type 10 (ARQC) goes online unless a decline was requested
 abbrev pub onlineByArqc : Choice → Option Outcome
 onlineByArqc Choice.Decline = none
 onlineByArqc Choice.Online = some Outcome.OnlineRequest
 onlineByArqc Choice.Offline = some Outcome.OnlineRequest
 
--- one of type 01 (TC): approved if 40 was asked
+-- one of type 01 (TC): approved if 40 was requested
 abbrev pub approvedByTc : Choice → Option Outcome
 approvedByTc Choice.Decline = none
 approvedByTc Choice.Online = none
 approvedByTc Choice.Offline = some Outcome.Approved
 
--- the decision, by what was asked for and the type in the top two bits of 9F27: 00 (AAC) declined always, then the two
+-- the decision, by what was requested and the type in the top two bits of 9F27: 00 (AAC) declined always, then the two
 -- above; else none
 unfoldable pub cryptogramOutcome : Choice → ℕ → Option Outcome
 cryptogramOutcome c kind =
@@ -162,12 +162,12 @@ cryptogramOutcome c kind =
     else if kind =? cidTc then approvedByTc c
     else none
 
--- a decision has reason 0; a cryptogram of a type that the one asked for does not allow ends the session with reason 8
+-- a decision has reason 0; a cryptogram of a type that the one requested does not allow ends the session with reason 8
 abbrev pub endingFor : Option Outcome → Ending
 endingFor none = endingBy reasonCryptogram
 endingFor (some o) = endingOf o reasonNone
 
--- 9F27, 9F36 and 9F26 are there
+-- 9F27, 9F36 and 9F26 are present
 abbrev pub cryptogramPresent : List ℕ → Bool
 cryptogramPresent b = hasObject b 0x9F27 and hasObject b 0x9F36 and hasObject b 0x9F26
 
@@ -177,7 +177,7 @@ cryptogramEnding a b =
     if not (cryptogramPresent b) then endingBy reasonMissing
     else endingFor (cryptogramOutcome (a .choice) (storedByte b 0x9F27 1 / 64))
 
--- a reason that the reading gives comes first, and nothing of the answer is stored; every end tells the method held
+-- a reason that the reading gives comes first, and nothing of the answer is stored; every end reports the CVM held
 unfoldable pub cryptogramReply : RequestedCryptogram → ℕ → List ℕ → List ℕ → Reply
 cryptogramReply a n b card =
     let o = readAnswer Awaited.Cryptogram b card in

@@ -1,4 +1,4 @@
--- The four calls on a session, what each does, and what it hands back (document 01, "Calls and their numbers" and "What
+-- The four calls on a session, what each does, and what it returns (document 01, "Calls and their numbers" and "What
 -- demand 3 counts"). Bytes are any numbers: what holds of all lists of numbers holds of lists of bytes.
 -- Assumes nothing.
 use mathlib.Core.Bool.{Bool, true, false}
@@ -13,7 +13,7 @@ use Rattle.session.specs.Answer.{answerStep}
 
 -- ---- the calls and their steps
 
--- a call, with the bytes that come in and the command buffer that is lent
+-- a call, with the bytes that come in and the caller's command buffer
 pub data Call : Type 0 where
   start : List ℕ → List ℕ → Call
   answer : List ℕ → List ℕ → Call
@@ -37,17 +37,17 @@ pub record CallMade : Type 0 where
 abbrev pub callMade : Session → Call → Step → CallMade
 callMade s c st = record { before = s; call = c; step = st }
 
--- the calls of a list, each on the session that the call before it handed back
+-- the calls of a list, each on the session that the call before it returned
 unfoldable pub playCalls : Session → List Call → List CallMade
 playCalls s [] = []
 playCalls s (c ∷ cs) = callMade s c (callStep s c) ∷ playCalls (callStep s c .reply .session) cs
 
--- the session that the last call handed back
+-- the session that the last call returned
 unfoldable pub finalSession : Session → List Call → Session
 finalSession s [] = s
 finalSession s (c ∷ cs) = finalSession (callStep s c .reply .session) cs
 
--- ---- what a call handed back
+-- ---- what a call returned
 
 -- a refusal, which leaves session and buffer as given
 abbrev pub isRefusal : CallResult → Bool

@@ -1,5 +1,5 @@
--- What private functions promise of the enums that they hand on: the number of document 01 for each case.
--- A reader of the rules can pass this over: `is-passed` and the laws behind it (proofs/Laws) tie each to its test.
+-- What private functions promise of the enums that they pass on: the number of document 01 for each case. A reader of
+-- the rules can skip this: `is-passed` and the laws after it (proofs/Laws) tie each to its test.
 -- Assumes nothing.
 use Prim.Native.Nat.{ℕ}
 use Rattle.basics.specs.Reason.{reasonNone, reasonCryptogram}

@@ -1,5 +1,5 @@
 -- Mag-stripe mode (document 02, Item 9; Book C-2, 4.8, 5.2, S14.25 to S14.27): after the last record the checksum is
--- asked for, and the digits of its answer go into track 2. Such a session makes no choice and verifies no cardholder.
+-- requested, and the digits of its answer go into track 2. Such a session makes no choice and verifies no cardholder.
 -- Assumes nothing.
 use mathlib.Core.Bool.{Bool, not}
 use mathlib.Core.List.{List}
@@ -29,11 +29,11 @@ use Rattle.session.specs.Steps.{Step, endedReply, endingBy, failedStep, 
 
 -- ---- after the last record
 
--- waiting on the checksum, with the limit l in force
+-- waiting on the checksum, with the transaction limit l
 abbrev pub checksumPhase : ℕ → Phase
 checksumPhase l = Phase.Checksum (record { limit = l })
 
--- the checksum is asked for; a list 9F69 that makes no command is reason 7
+-- the checksum is requested; a UDOL (9F69) that makes no command is reason 7
 unfoldable pub askChecksum : ℕ → ℕ → List ℕ → List ℕ → Step
 askChecksum l n b buf = commandOrReason cvmNotApplicable n b (checksumPhase l) buf (computeCryptographicChecksum b)
 

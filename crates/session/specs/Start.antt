@@ -1,5 +1,5 @@
 -- The call start (document 01, "Calls and their numbers" and "Commands and steps"): the terminal's objects are loaded,
--- and processing options is the first command.
+-- and GPO is the first command.
 -- Assumes nothing.
 use mathlib.Core.List.{List}
 use Prim.Native.Nat.{ℕ}
@@ -13,11 +13,11 @@ use Rattle.session_record.specs.Clauses.{zeroTvr}
 use Rattle.start_data.specs.StartData.{LoadedStore, refusal, loaded, loadStart}
 use Rattle.session.specs.Steps.{Step, refusedStep, withTvr, admittedStep, commandOrReason}
 
--- processing options, asked for with the store that the start loaded
+-- GPO, requested with the store that the start loaded
 unfoldable pub askGpo : ℕ → List ℕ → List ℕ → Step
 askGpo n b buf = commandOrReason cvmNotApplicable n b Phase.Gpo buf (getProcessingOptions b)
 
--- a loading that is refused hands its number on (20, 23, 24); else 95 is zero at start
+-- a loading that is refused passes its number on (20, 23, 24); else 95 is zero at start
 abbrev pub startLoaded : Session → List ℕ → LoadedStore → Step
 startLoaded s buf (refusal n) = refusedStep s n buf
 startLoaded s buf (loaded b) = askGpo (s .count) (withTvr b zeroTvr) buf

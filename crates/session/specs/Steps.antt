@@ -27,7 +27,7 @@ use Rattle.session_record.specs.Ranges.{inRanges}
 
 -- ---- a call's step
 
--- what is returned, and what stands in the lent buffer after
+-- what is returned, and the contents of the caller's buffer afterwards
 pub record Step : Type 0 where
   pub reply : Reply
   pub buffer : List ℕ
@@ -37,7 +37,7 @@ pub record DidStep (r : Reply) (b : List ℕ) (s : Step) : Type 0 where
   pub reply : r ≡ s .reply
   pub buffer : b ≡ s .buffer
 
--- the same of a turn r, with the store b that it left
+-- the same of a transition r, with the store b that it left
 abbrev pub DidTransition : Transition → List ℕ → List ℕ → Step → Type 0
 DidTransition r b buf s = DidStep (replyOf r b) buf s
 
@@ -49,7 +49,7 @@ withoutCommand r buf = record { reply = r; buffer = buf }
 abbrev pub refusedStep : Session → ℕ → List ℕ → Step
 refusedStep s n buf = withoutCommand (refusedReply s n) buf
 
--- a session of count n and store b ends, with an outcome and its reason; m is the number of the method that is told
+-- a session of count n and store b ends, with an outcome and its reason; m is the number of the CVM that is reported
 abbrev pub endedReply : ℕ → ℕ → List ℕ → Ending → Reply
 endedReply m n b e = replyOf (endingTransition m n (e .outcome) (e .reason)) b
 
@@ -62,16 +62,16 @@ abbrev pub failedStep : ℕ → ℕ → List ℕ → ℕ → List ℕ → Step
 failedStep m n b reason buf = withoutCommand (endedReply m n b (endingBy reason)) buf
 
 -- a command fills the front of the buffer: a session of count n and store b waits on its answer in a phase, with one
--- command more
+-- more command
 abbrev pub commandStep : ℕ → List ℕ → Phase → List ℕ → List ℕ → Step
 commandStep n b phase command buf =
     record { reply = replyOf (commandTransition phase (n + 1) (length command)) b; buffer = withPrefix command buf }
 
--- the store with these result bits in 95
+-- the store with this TVR in 95
 unfoldable pub withTvr : List ℕ → List ℕ → List ℕ
 withTvr b v = putRow dictionaryRows b (rowNumberOf 0x95) v
 
--- the store with what the analysis found: the results of the verification in 9F34, over what is there, and 95
+-- the store with what the analysis found: the CVM Results in 9F34, over what is there, and 95
 unfoldable pub withFindings : List ℕ → AnalysisFindings → List ℕ
 withFindings b f = withTvr (putRow dictionaryRows b (rowNumberOf 0x9F34) (f .results)) (f .bits)
 
@@ -97,7 +97,7 @@ commandOrReason m n b phase buf (some command) = commandStep n b phase command b
 
 -- ---- link failed and stop
 
--- a running session ends for a reason, count and store untouched, and tells the method that it holds; others are
+-- a running session ends for a reason, count and store untouched, and reports the CVM that it holds; others are
 -- refused (21)
 abbrev pub endsRunning : Phase → Session → ℕ → List ℕ → Step
 endsRunning Phase.Fresh s reason buf = refusedStep s refusedPhase buf

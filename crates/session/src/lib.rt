@@ -1,12 +1,12 @@
 // One contactless session, in EMV mode or in the track 2 part of mag-stripe mode: `start`, `answer`, `link_failed`
 // and `stop`.
 //
-// Each call takes the session by value and a lent command buffer, and hands back the session and a
-// command, an outcome or a refusal. A command stands in the front of the buffer, which is left alone
-// otherwise. A refusal changes nothing.
+// Each call takes the session by value and the caller's command buffer, and returns the session and a command,
+// an outcome or a refusal. A command is at the front of the buffer, which is left alone otherwise. A refusal
+// changes nothing.
 //
-// `start_in`, `answer_in`, `link_failed_in` and `stop_in` are the same calls on a session's parts with the
-// store lent or shared: a turn is handed back, and the store is not copied.
+// `start_in`, `answer_in`, `link_failed_in` and `stop_in` are the same calls on a session's parts with the store
+// borrowed mutably or shared: a transition is returned, and the store is not copied.
 use analysis::choice::Choice;
 use analysis::cvm::NOT_APPLICABLE;
 use command::DolCommand;
@@ -49,13 +49,13 @@ pub const CID_AAC: u8 = 0;
 pub const CID_TC: u8 = 1;
 pub const CID_ARQC: u8 = 2;
 
-// A test that a step makes before it goes on. Which reason a failed one gives stands at the step that makes it.
+// A test that a step makes before it goes on. Which reason a failed one gives is at the step that makes it.
 pub enum Check {
     Passed,
     Failed,
 }
 
-// What a cryptogram decides: an outcome, or nothing where the one asked for does not allow its type.
+// What a cryptogram decides: an outcome, or nothing where the one requested does not allow its type.
 pub enum CryptogramOutcome {
     On(Decision),
     Nothing,
@@ -65,7 +65,7 @@ pub struct Decision {
     pub outcome: Outcome,
 }
 
-// Starts a session with the objects that the terminal brings; the first command is processing options.
+// Starts a session with the objects that the terminal brings; the first command is GPO.
 pub fn start(session: Session, terminal: &[u8], command: &mut [u8]) -> Reply
     ensures { λ r. ⌜ DidStep r (now (command .exit)) (startStep session (now (terminal .entry)) (now (command .entry))) ⌝ }
 {
@@ -107,7 +107,7 @@ pub fn stop(session: Session, command: &mut [u8]) -> Reply
     session_record::reply_of(transition, store)
 }
 
-// `start` on a session's parts, the store lent.
+// `start` on a session's parts, the store borrowed.
 pub fn start_in(phase: Phase, count: u8, store: &mut [u8], terminal: &[u8], command: &mut [u8]) -> Transition
     ensures { λ r. ⌜ DidTransition r (now (store .exit)) (now (command .exit))
         (startOnParts phase count (now (store .entry)) (now (terminal .entry)) (now (command .entry))) ⌝ }
@@ -124,7 +124,7 @@ pub fn start_in(phase: Phase, count: u8, store: &mut [u8], terminal: &[u8], comm
     load_objects(count, store, terminal, command)
 }
 
-// `answer` on a session's parts, the store lent.
+// `answer` on a session's parts, the store borrowed.
 pub fn answer_in(phase: Phase, count: u8, store: &mut [u8], card: &[u8], command: &mut [u8]) -> Transition
     ensures { λ r. ⌜ DidTransition r (now (store .exit)) (now (command .exit))
         (answerOnParts phase count (now (store .entry)) (now (card .entry)) (now (command .entry))) ⌝ }
@@ -208,7 +208,7 @@ fn refusal_number(said: LoadResult) -> u8
     }
 }
 
-// The command for the processing options.
+// The GPO command.
 fn ask_gpo(count: u8, bytes: &[u8], command: &mut [u8]) -> Transition
     requires { ⌜ (leastBuffer ≤ length (now command)) × (count < 255) ⌝ }
     ensures { λ r. ⌜ DidTransition r (now (bytes .entry)) (now (command .exit))
@@ -220,7 +220,7 @@ fn ask_gpo(count: u8, bytes: &[u8], command: &mut [u8]) -> Transition
     session_record::issue_command(Phase::Gpo, count + 1, c.len)
 }
 
-// The answer to processing options.
+// The answer to GPO.
 fn take_gpo(count: u8, store: &mut [u8], card: &[u8], command: &mut [u8]) -> Transition
     requires { ⌜ (leastBuffer ≤ length (now command)) × (count < 255) ⌝ }
     requires { ⌜ length (now store) ≡ storeSize ⌝ }
@@ -235,7 +235,7 @@ fn take_gpo(count: u8, store: &mut [u8], card: &[u8], command: &mut [u8]) -> Tra
     after_gpo(count, &store[..], command)
 }
 
-// After the processing options: the limit in force is fixed, and the first record is asked for.
+// After GPO: the transaction limit is fixed, and the first record is requested.
 fn after_gpo(count: u8, bytes: &[u8], command: &mut [u8]) -> Transition
     requires { ⌜ (leastBuffer ≤ length (now command)) × (count < 255) ⌝ }
     ensures { λ r. ⌜ DidTransition r (now (bytes .entry)) (now (command .exit))
@@ -258,7 +258,7 @@ fn after_gpo(count: u8, bytes: &[u8], command: &mut [u8]) -> Transition
     ask_record(count, wanted, AwaitedRecord { number: 1, limit }, command)
 }
 
-// The command for a record, at a place in the locator's order.
+// The command for a record, at a place in the AFL's order.
 fn ask_record(count: u8, wanted: afl::CardRecord, place: AwaitedRecord, command: &mut [u8]) -> Transition
     requires { ⌜ (leastBuffer ≤ length (now command)) × (count < 255) ⌝ }
     requires { ⌜ wanted .sfi < 32 ⌝ }
@@ -290,7 +290,7 @@ fn take_record(place: AwaitedRecord, count: u8, store: &mut [u8], card: &[u8], c
     ask_next_record(place, count, store, command)
 }
 
-// After a record: the next one that the locator names, or what follows the last.
+// After a record: the next one that the AFL names, or what follows the last.
 fn ask_next_record(place: AwaitedRecord, count: u8, store: &mut [u8], command: &mut [u8]) -> Transition
     requires { ⌜ (leastBuffer ≤ length (now command)) × (count < 255) ⌝ }
     requires { ⌜ length (now store) ≡ storeSize ⌝ }
@@ -307,7 +307,7 @@ fn ask_next_record(place: AwaitedRecord, count: u8, store: &mut [u8], command: &
     ask_record(count, wanted, AwaitedRecord { number: number + 1, limit }, command)
 }
 
-// After the last record, by the mode that 82 tells.
+// After the last record, by the mode that the AIP (82) indicates.
 fn after_last_record(limit: u64, count: u8, store: &mut [u8], command: &mut [u8]) -> Transition
     requires { ⌜ (leastBuffer ≤ length (now command)) × (count < 255) ⌝ }
     requires { ⌜ length (now store) ≡ storeSize ⌝ }
@@ -336,7 +336,7 @@ fn emv_mode_analysis(limit: u64, count: u8, store: &mut [u8], command: &mut [u8]
     analyse(limit, count, store, command)
 }
 
-// What the analysis finds is stored, and the choice is made on the result bits.
+// What the analysis finds is stored, and the choice is made on the TVR.
 fn analyse(limit: u64, count: u8, store: &mut [u8], command: &mut [u8]) -> Transition
     requires { ⌜ (leastBuffer ≤ length (now command)) × (count < 255) ⌝ }
     requires { ⌜ length (now store) ≡ storeSize ⌝ }
@@ -367,7 +367,7 @@ fn ask_cryptogram(asked: RequestedCryptogram, count: u8, bytes: &[u8], command: 
     session_record::issue_command(Phase::Cryptogram(asked), count + 1, c.len)
 }
 
-// The number of the method that a session holds while it waits on the cryptogram.
+// The number of the CVM that a session holds while it waits on the cryptogram.
 fn held_cvm(asked: RequestedCryptogram) -> u8
     ensures { λ r. ⌜ r ≡ cvmNumber (asked .cvm) ⌝ }
 {
@@ -405,7 +405,7 @@ fn cryptogram_outcome(asked: RequestedCryptogram, count: u8, bytes: &[u8]) -> Tr
     session_record::end_session(count, outcome, basics::REASON_NONE, held_cvm(asked))
 }
 
-// What a type of cryptogram decides, by what was asked for.
+// What a type of cryptogram decides, by what was requested.
 pub fn outcome_for_cryptogram(choice: Choice, kind: u8) -> CryptogramOutcome
     ensures { λ r. ⌜ cryptogramOutcomeEnding r ≡ endingFor (cryptogramOutcome choice kind) ⌝ }
 {
@@ -457,7 +457,7 @@ fn ask_checksum(limit: u64, count: u8, bytes: &[u8], command: &mut [u8]) -> Tran
 }
 
 // The answer to the checksum: no command follows it. Of an answer to a track that cannot take the digits nothing is
-// kept, whatever the reading says.
+// kept, whatever the reading reports.
 fn take_checksum(count: u8, store: &mut [u8], card: &[u8]) -> Transition
     requires { ⌜ length (now store) ≡ storeSize ⌝ }
     ensures { λ r. ⌜ replyOf r (now (store .exit)) ≡ checksumReply count (now (store .entry)) (now (card .entry)) ⌝ }
@@ -486,7 +486,7 @@ fn refuse_track(count: u8, bytes: &[u8], card: &[u8]) -> Transition
     session_record::fail_session(count, basics::REASON_NOT_ALLOWED, NOT_APPLICABLE)
 }
 
-// The outcome, by what the answer brought; with counter and code the digits go into the track.
+// The outcome, by what the answer brought; with ATC and CVC3 the digits go into the track.
 fn checksum_outcome(count: u8, store: &mut [u8]) -> Transition
     requires { ⌜ length (now store) ≡ storeSize ⌝ }
     ensures { λ r. ⌜ replyOf r (now (store .exit)) ≡ afterChecksumRead count (now (store .entry)) ⌝ }
@@ -501,7 +501,7 @@ fn checksum_outcome(count: u8, store: &mut [u8]) -> Transition
     session_record::end_session(count, Outcome::OnlineRequest, basics::REASON_NONE, NOT_APPLICABLE)
 }
 
-// Puts the digits of code, number and counter into the stored track.
+// Puts the digits of CVC3, UN and ATC into the stored track.
 fn store_digits(store: &mut [u8])
     requires { ⌜ length (now store) ≡ storeSize ⌝ }
     ensures { λ _. ⌜ now (store .exit) ≡ storeWithDigits (now (store .entry)) ⌝ }
@@ -512,7 +512,7 @@ fn store_digits(store: &mut [u8])
     store::put(store, ROW_TRACK2_DATA, &track[..n]);
 }
 
-// The stored track with the digits in it, into one that is lent.
+// The stored track with the digits in it, into the caller's.
 fn track_after(bytes: &[u8], track: &mut [u8])
     requires { ⌜ length (now track) ≡ length (storedTrack (now bytes)) ⌝ }
     ensures digits { λ _. ⌜ now (track .exit) ≡ trackWithDigits (storedTrack (now (bytes .entry))) (storedBitmaps (now (bytes .entry))) (storedDigitValues (now (bytes .entry))) ⌝ }
@@ -553,7 +553,7 @@ fn track_in(bytes: &[u8]) -> Check
     Check::Failed
 }
 
-// 9F6B, 9F65, 9F66 and 9F67 are there, none empty.
+// 9F6B, 9F65, 9F66 and 9F67 are present, none empty.
 fn track_complete(bytes: &[u8]) -> Check
     ensures { λ r. ⌜ checkNumber reasonMissing r ≡ unless (trackDataPresent (now (bytes .entry))) reasonMissing ⌝ }
 {
@@ -563,7 +563,7 @@ fn track_complete(bytes: &[u8]) -> Check
     Check::Failed
 }
 
-// 9F36 is there.
+// 9F36 is present.
 fn atc_present(bytes: &[u8]) -> Check
     ensures { λ r. ⌜ checkNumber reasonMissing r ≡ unless (hasObject (now (bytes .entry)) 0x9F36) reasonMissing ⌝ }
 {
@@ -573,7 +573,7 @@ fn atc_present(bytes: &[u8]) -> Check
     Check::Failed
 }
 
-// 82 and 94 are there.
+// 82 and 94 are present.
 fn gpo_data_present(bytes: &[u8]) -> Check
     ensures { λ r. ⌜ checkNumber reasonMissing r ≡ unless (aipAndAflPresent (now (bytes .entry))) reasonMissing ⌝ }
 {
@@ -585,7 +585,7 @@ fn gpo_data_present(bytes: &[u8]) -> Check
     Check::Failed
 }
 
-// The mode that 82 tells, against the kernel configuration.
+// The mode that the AIP (82) indicates, against the kernel configuration.
 fn mode_in(bytes: &[u8]) -> Check
     ensures { λ r. ⌜ checkNumber reasonMode r ≡ unless (emvOrMagStripeMode (now (bytes .entry))) reasonMode ⌝ }
 {
@@ -605,7 +605,7 @@ fn limit_in(limit: u64, bytes: &[u8]) -> Check
     Check::Passed
 }
 
-// 5F24, 5A and 8C are there, none empty.
+// 5F24, 5A and 8C are present, none empty.
 fn card_complete(bytes: &[u8]) -> Check
     ensures { λ r. ⌜ checkNumber reasonMissing r ≡ unless (cryptogramDataPresent (now (bytes .entry))) reasonMissing ⌝ }
 {
@@ -615,7 +615,7 @@ fn card_complete(bytes: &[u8]) -> Check
     Check::Failed
 }
 
-// 9F27, 9F36 and 9F26 are there.
+// 9F27, 9F36 and 9F26 are present.
 fn cryptogram_present(bytes: &[u8]) -> Check
     ensures { λ r. ⌜ checkNumber reasonMissing r ≡ unless (cryptogramPresent (now (bytes .entry))) reasonMissing ⌝ }
 {

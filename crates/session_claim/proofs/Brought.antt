@@ -1,5 +1,5 @@
--- The locator and the profile that an accepted answer to processing options leaves in the store are those that its card bytes bring: by
--- induction over the objects, since a 94 or an 82 that the rules allow has bytes, stands in a 77, and is the first.
+-- The AFL and the AIP that an accepted answer to GPO leaves in the store are those that its card bytes bring: by
+-- induction over the objects, since a 94 or an 82 that the rules allow has bytes, is in a 77, and is the first.
 -- Assumes nothing.
 use mathlib.Core.Path.{_≡_, refl, sym, ap, subst, _∙_}
 use mathlib.Core.Bool.{Bool, true, false, not}
@@ -32,7 +32,7 @@ use Rattle.reading.proofs.Kept.{All, all-holds}
 use Rattle.session_claim.specs.Order.{isIn77, firstIn77, bodyAfl, bodyAip, responseAfl, responseAip}
 use Rattle.basics.proofs.Laws.{no}
 
--- the row k of a tag t whose object stands in a 77 alone and is never empty
+-- the row k of a tag t whose object is in a 77 alone and is never empty
 record Row77 (t k : ℕ) : Type 0 where
   finds : findRow dictionaryRows t ≡ At k
   tagged : rowAt k .tag ≡ t
@@ -64,7 +64,7 @@ by-second a b x y n e = go (eqb a b) refl
     go true q = no (sym n ∙ sym (if-yes _ _ q) ∙ e)
     go false q = sym (if-no _ _ q) ∙ e
 
--- what may stand in 77 alone stands in no other template
+-- what may be in 77 alone is in no other template
 only-77 : (around : ℕ) → isTemplateIn in77 around ≡ true → around ≡ 0x77
 only-77 around e = go (equal-or-not around 0x77)
   where
@@ -106,7 +106,7 @@ module _ (tag row : ℕ) (r : Row77 tag row) where
       let g : length (held b) ≡ 0 = ap (λ (j : ℕ). length (bytesOfValue (rowValue dictionaryRows b j))) z ∙ f in
       omega (arith, ap length h))) ∙ h) w is (all-any is) (l, e) .1
 
-  -- what stands in a template that its row names
+  -- what is in a template that its row names
   stands : (around : ℕ) → allowedInTemplate (rowAt row) around ≡ true → around ≡ 0x77
   unfolding allowedInTemplate
   stands around e = only-77 around (subst (λ (ts : ℕ). isTemplateIn ts around ≡ true) (r .only) e)
@@ -213,7 +213,7 @@ module _ (tag row : ℕ) (r : Row77 tag row) where
   lacks-row : (b : List ℕ) → bytesOfValue (objectValue b tag) ≡ [] → held b ≡ []
   lacks-row b e = sym (ap bytesOfValue (by-row dictionaryRows b tag row (r .finds))) ∙ e
 
--- ---- under 80: the two items, the profile's first
+-- ---- under 80: the two items, the AIP's first
 
 abbrev two : List ℕ → List PrimitiveItem
 two v = primitiveItem 0x77 0x82 (take 2 v) ∷ primitiveItem 0x77 0x94 (drop 2 v) ∷ []
@@ -272,7 +272,7 @@ module _ (b : List ℕ) (l : length b ≡ storeSize) where
       if-ind (λ (y : Option (List PrimitiveItem)). Found-in 0x82 rowAip row-82 (firstIn77 0x82 (primitiveItems t f)) (readParts Awaited.Gpo b (bodyCount (template t f)) y)) _ _ _
       (λ c. parts-brought 0x82 rowAip row-82 b l e (bodyCount (template t f)) (primitiveItems t f)) (λ c z. absurd (omega arith))
 
--- ---- an accepted answer to processing options, on a store without the object, brings the one that it leaves
+-- ---- an accepted answer to GPO, on a store without the object, brings the one that it leaves
 
 module _ (b card : List ℕ) (l : length b ≡ storeSize) (z : readAnswer Awaited.Gpo b card .reason ≡ 0) where
   pub afl-brought : bytesOfValue (objectValue b 0x94) ≡ [] → 0 < length (bytesOfValue (objectValue (readAnswer Awaited.Gpo b card .store) 0x94))

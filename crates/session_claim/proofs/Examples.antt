@@ -1,5 +1,5 @@
--- Worked lists of calls, computed: what the step functions hand out, the locator that is accepted and where the session is left; and
--- document 01's own example of the published order, from the card's bytes to the three commands.
+-- Worked lists of calls, computed: what the step functions hand out, the AFL that is accepted and where the session is
+-- left; and document 01's own example of the published order, from the card's bytes to the three commands.
 -- Assumes nothing.
 use mathlib.Core.Path.{_≡_, refl, ap}
 use mathlib.Core.List.{List, [], _∷_, map}
@@ -79,7 +79,7 @@ startBytes = startWith 0x20
 abbrev afl : List ℕ
 afl = 0x08 ∷ 0x01 ∷ 0x01 ∷ 0x00 ∷ []
 
--- 82 of 00 80 and this locator; and the same with 82 of 00 00
+-- 82 of 00 80 and this AFL; and the same with 82 of 00 00
 abbrev gpoAnswer : List ℕ
 gpoAnswer = 0x80 ∷ 0x06 ∷ 0x00 ∷ 0x80 ∷ 0x08 ∷ 0x01 ∷ 0x01 ∷ 0x00 ∷ 0x90 ∷ 0x00 ∷ []
 
@@ -95,7 +95,7 @@ gpoCommand = 0x80 ∷ 0xA8 ∷ 0x00 ∷ 0x00 ∷ 0x02 ∷ 0x83 ∷ 0x00 ∷ 0x00
 abbrev recordCommand : List ℕ
 recordCommand = 0x00 ∷ 0xB2 ∷ 0x01 ∷ 0x0C ∷ 0x00 ∷ []
 
--- a start and the answer to processing options
+-- a start and the answer to GPO
 abbrev begun : List Call
 begun = start startBytes lent ∷ answer gpoAnswer lent ∷ []
 
@@ -103,11 +103,11 @@ begun = start startBytes lent ∷ answer gpoAnswer lent ∷ []
 abbrev interrupted : List Call
 interrupted = stop lent ∷ start startBytes (0x00 ∷ []) ∷ start startBytes lent ∷ start startBytes lent ∷ answer gpoAnswer lent ∷ []
 
--- the link fails on processing options: the session has ended with reason 9, and a later answer is refused
+-- the link fails on GPO: the session has ended with reason 9, and a later answer is refused
 abbrev torn : List Call
 torn = start startBytes lent ∷ link-failed lent ∷ answer gpoAnswer lent ∷ []
 
--- the answer has byte 2 b8 of 82 clear, and DF811B b8 is set: the rules give it reason 11, and its locator is not accepted
+-- the answer has byte 2 b8 of 82 clear, and DF811B b8 is set: the rules give it reason 11, and its AFL is not accepted
 abbrev notEmv : List Call
 notEmv = start (startWith 0xA0) lent ∷ answer magStripeAnswer lent ∷ []
 
@@ -145,7 +145,7 @@ worked =
 
 -- ---- the published order
 
--- processing options, 00 B2 01 0C 00, cryptogram
+-- GPO, 00 B2 01 0C 00, cryptogram
 pub order : publishedOrder cryptogram (some afl) ≡ gpo ∷ record-command recordCommand ∷ cryptogram ∷ []
 unfolding publishedOrder entriesOf entriesRecords runOf
 order = refl
@@ -162,14 +162,14 @@ ruleRecord =
     0x8C ∷ 0x05 ∷ 0x95 ∷ 0x05 ∷ 0x9F ∷ 0x34 ∷ 0x03 ∷
     0x8E ∷ 0x0C ∷ 0x00 ∷ 0x00 ∷ 0x00 ∷ 0x00 ∷ 0x00 ∷ 0x00 ∷ 0x00 ∷ 0x00 ∷ 0x42 ∷ 0x03 ∷ 0x5E ∷ 0x03 ∷ 0x90 ∷ 0x00 ∷ []
 
--- a start, processing options and the record; and then the link fails
+-- a start, GPO and the record; and then the link fails
 abbrev asking : List ℕ → List Call
 asking aip = start startBytes lent ∷ answer aip lent ∷ answer ruleRecord lent ∷ []
 
 abbrev failing : List ℕ → List Call
 failing aip = start startBytes lent ∷ answer aip lent ∷ answer ruleRecord lent ∷ link-failed lent ∷ []
 
--- 8C is filled with the bit of an online PIN and with 9F34. The link fails, and the outcome tells the method
+-- 8C is filled with the bit of an online PIN and with 9F34. The link fails, and the outcome reports the CVM
 verified : map callResult (playCalls freshSession (failing verifyingAnswer))
     ≡ CallResult.Command (record { size = 8 }) ∷ CallResult.Command (record { size = 5 }) ∷ CallResult.Command (record { size = 14 })
     ∷ CallResult.Outcome (outcomeParameters Outcome.Ended 9 2) ∷ []
@@ -196,9 +196,10 @@ unfolding commandsSent playIn finalIn callsAccepted outcomeOfReason cryptogramDa
     lowestFrom lowestBit iacCode stageHolds onlineCapabilityAt choiceOf cvmRulesFrom cvmRecognised cvmSupported cvmAmountMet cvmConditionMet takenBy cvmUnsuccessful byCvmRules cvmProcessing onDeviceCvm bytesEqual
 verified-sent = ap commandsSent (play-in freshSession fresh-keeps (asking verifyingAnswer))
 
--- ---- a phone
+-- ---- on-device CVM
 
--- 82 of 12 80: the phone's own limit is held, the list is not looked at, and the outcome tells the confirmation code
+-- 82 of 12 80: the limit of on-device CVM is held, the list is not examined, and the outcome reports the
+-- confirmation code
 abbrev onDeviceAnswer : List ℕ
 onDeviceAnswer = 0x80 ∷ 0x06 ∷ 0x12 ∷ 0x80 ∷ 0x08 ∷ 0x01 ∷ 0x01 ∷ 0x00 ∷ 0x90 ∷ 0x00 ∷ []
 
@@ -257,7 +258,7 @@ begunMagStripe = start startBytes lent ∷ answer magStripeAnswer lent ∷ answe
 abbrev striped : List Call
 striped = start startBytes lent ∷ answer magStripeAnswer lent ∷ answer trackRecord lent ∷ answer checksumAnswer lent ∷ []
 
--- the outcome is an online request, and tells no method
+-- the outcome is an online request, and reports no CVM
 striped-said : map callResult (playCalls freshSession striped)
     ≡ CallResult.Command (record { size = 8 }) ∷ CallResult.Command (record { size = 5 }) ∷ CallResult.Command (record { size = 10 })
     ∷ CallResult.Outcome (outcomeParameters Outcome.OnlineRequest 0 15) ∷ []

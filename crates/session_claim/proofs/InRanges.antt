@@ -1,5 +1,5 @@
--- Calls on a session in its ranges, without the test of them: every call leaves a session in its ranges, so none after it is refused for them.
--- Computed examples go by this, since the test reads every row's place. Assumes nothing.
+-- Calls on a session in its ranges, without the test of them: every call leaves a session in its ranges, so none after
+-- it is refused for them. Computed examples go by this, since the test reads every row's place. Assumes nothing.
 use mathlib.Core.Path.{_≡_, refl, ap, subst, _∙_}
 use mathlib.Core.Bool.{true, not}
 use mathlib.Core.List.{List, [], _∷_}

@@ -1,4 +1,5 @@
--- The method that an outcome tells: not applicable exactly where no choice of a method was made or held. By the ways of Ways.antt.
+-- The CVM that an outcome reports: not applicable exactly where no choice of a CVM was made or held. By the ways
+-- of Ways.antt.
 -- Assumes nothing.
 use mathlib.Core.Path.{_≡_, refl, sym, ap, subst, _∙_}
 use mathlib.Core.Bool.{Bool, true, false, not}
@@ -35,7 +36,7 @@ use Rattle.session_claim.specs.ReportedCvm.{choiceMade, CvmReported, Rep
 use Rattle.step_laws.proofs.Kept.{read-mode}
 use Rattle.step_laws.proofs.Ways.{Admitted, taken, askedBy, heldNumber, GpoWay, RecordsWay, MagStripeWay, RecordWay, CryptogramWay, ChecksumWay, AnswerWay, answer-way, StartWay, start-way, BrokenWay, broken-way}
 
--- no method has the number of none
+-- no CVM has the number of none
 is-cvm : (m : Cvm) → eqb (cvmNumber m) cvmNotApplicable ≡ false
 is-cvm Cvm.NoCvm = refl
 is-cvm Cvm.Signature = refl
@@ -65,7 +66,7 @@ held (Phase.Cryptogram a) v n x = one-held a v n
 held (Phase.Checksum k) v n x = none-held (Phase.Checksum k) v n refl
 held (Phase.Ended e) v n x = none-held (Phase.Ended e) v n refl
 
--- made on the list 8C, in EMV mode
+-- made on CDOL1 (8C), in EMV mode
 on-list : (p : AwaitedRecord) (v : Bool) (m : Cvm) → v ≡ true → CvmReported (Phase.Record p) v reasonDol (cvmNumber m)
 on-list p v m e =
     record {
@@ -77,7 +78,7 @@ module _ (s : Session) where
   abbrev emv : Bool
   emv = emvMode (storeBytes s)
 
-  -- an end that tells m for the reason n
+  -- an end that reports m for the reason n
   told : (o : Outcome) (n m : ℕ) → CvmReported (s .phase) emv n m
       → (e : OutcomeParameters) → CallResult.Outcome (outcomeParameters o n m) ≡ CallResult.Outcome e → CvmReported (s .phase) emv (e .reason) (e .cvm)
   told o n m h e p =

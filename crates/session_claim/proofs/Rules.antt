@@ -1,5 +1,6 @@
--- What an answer's step hands back, by the rules: a command to a session that waits on processing options exactly where the rules give no
--- reason (a store without one has a first record), and none taken before that one (by induction over the calls, since start alone leads out of fresh).
+-- What an answer's step returns, by the rules: a command to a session that waits on GPO exactly where the rules give no
+-- reason (a store without one has a first record), and none taken before that one (by induction over the calls, since
+-- start alone leads out of fresh).
 -- Assumes nothing.
 use mathlib.Core.Path.{_≡_, refl, sym, ap, subst, _∙_}
 use mathlib.Core.Bool.{Bool, true, false}
@@ -38,7 +39,7 @@ use Rattle.session_record.specs.Session.{isRunning}
 abbrev hands : Step → Bool
 hands st = isCommand (st .reply .answer)
 
--- a locator that is accepted has a first record
+-- an AFL that is accepted has a first record
 there : (l : List ℕ) → acceptsAfl l ≡ true → aflRecordAt l 1 ≡ RecordFound.Nothing → ⊥
 there l a e =
     let f = record-there l 1 (record { sfi = 0; number = 0 }) a (omega arith) (omega (arith, accepted-total l a)) in
@@ -70,7 +71,7 @@ hands-by-rules n b card buf = let o = reading.readAnswer Awaited.Gpo b card in b
 -- ---- the call answer, by the session's phase
 
 module _ (s : Session) (card buf : List ℕ) where
-  -- on a session that waits on processing options it hands back a command only where the rules give no reason
+  -- on a session that waits on GPO it returns a command only where the rules give no reason
   pub sent-by-rules : s .phase ≡ Phase.Gpo → hands (answerStep s card buf) ≡ true → eqb (gpoReason (storeBytes s) card) 0 ≡ true
   unfolding admittedStep
   sent-by-rules q =
@@ -161,7 +162,7 @@ module _ (s : Session) (e : early (s .phase) ≡ true) where
   stays (link-failed buf) = broken-stays (link-failed buf) reasonLink buf
   stays (stop buf) = broken-stays (stop buf) reasonStopped buf
 
-  -- an answer is taken on processing options alone
+  -- an answer is taken on GPO alone
   taken-waits : (c : Call) → isAnswer c ≡ true → isRefusal (callStep s c .reply .answer) ≡ false → s .phase ≡ Phase.Gpo
   taken-waits (start bytes buf) a r = no a
   taken-waits (answer card buf) a r = waits (s .phase) e (go (bool-cases (isRunning (s .phase))))
@@ -191,7 +192,7 @@ unfolding playCalls callsAccepted firstAnswer
 first-in s [] m e f = let z : _≡_ {A = ℕ} 0 1 = cc in absurd (omega arith)
 first-in s (c ∷ cs) m e f = one-call s e c _ m (first-in (callStep s c .reply .session) cs m) f
 
--- from a fresh session on, the first answer taken comes while processing options are waited on
+-- from a fresh session on, the first answer taken comes while the answer to GPO is awaited
 pub first-on-gpo : (s : Session) (cs : List Call) (m : CallMade) → s .phase ≡ Phase.Fresh → firstAnswer (callsAccepted (playCalls s cs)) ≡ some m
     → m .before .phase ≡ Phase.Gpo
 first-on-gpo s cs m q f = first-in s cs m (ap early q) f

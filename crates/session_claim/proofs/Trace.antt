@@ -1,5 +1,5 @@
--- Demand 3: from a session in any phase, the commands of any further calls are the front of what is left of the published order. One
--- induction over the calls, each by the way its step went.
+-- Demand 3: from a session in any phase, the commands of any further calls are the front of what is left of the
+-- published order. One induction over the calls, each by the way its step went.
 -- Assumes nothing.
 use mathlib.Core.Path.{_≡_, refl, sym, ap, subst, _∙_}
 use mathlib.Core.Bool.{Bool, true, false}
@@ -117,7 +117,8 @@ none-left : (sent : List (List ℕ)) (r : List CommandKind) → Front (map comma
 none-left [] r f = (tt, refl)
 none-left (c ∷ sent) r f = absurd f
 
--- ---- what is left of the published order in each phase: by the stored locator and profile, or by those that the first answer brings
+-- ---- what is left of the published order in each phase: by the stored AFL and AIP, or by those that the first
+-- answer brings
 
 -- the last command of a store's mode
 abbrev lastOn : List ℕ → CommandKind
@@ -153,7 +154,7 @@ unfolding publishedOrder
 published-length k none = refl
 published-length k (some l) = simp (length-append, length-map) (omega (arith, records-length l))
 
--- the record behind the k-th
+-- the record after the k-th
 next-record : (l : List ℕ) (k : ℕ) (r : CardRecord) → aflRecordAt l (k + 1) ≡ RecordFound.At r → drop k (aflRecords l) ≡ r ∷ drop (k + 1) (aflRecords l)
 next-record l k r e =
     ap (drop k) (record-split l (k + 1) r e)
@@ -174,7 +175,7 @@ no-record l k a e = empty (drop k (aflRecords l)) (length-drop k (aflRecords l) 
 
 -- ---- the first answer among calls that were taken
 
--- an answer in front is the first; other calls are passed over
+-- an answer at the front is the first; other calls are skipped
 module _ (m : CallMade) (tk : List CallMade) where
   answer-first : isAnswer (m .call) ≡ true → firstAnswer (m ∷ tk) ≡ some m
   unfolding firstAnswer

@@ -1,4 +1,4 @@
--- What a list of calls on one session handed back (document 01, "What demand 3 counts").
+-- What a list of calls on one session returned (document 01, "What demand 3 counts").
 -- Assumes nothing.
 use mathlib.Core.Bool.{Bool, true, false}
 use mathlib.Core.List.{List, [], _∷_, _++_}
@@ -7,7 +7,7 @@ use Prim.Native.Nat.{ℕ}
 use Rattle.basics.specs.Choice.{if_then_else_, _or_}
 use Rattle.session.specs.Calls.{Call, start, answer, link-failed, stop, CallMade, callResult, callRefused, commandSent}
 
--- ---- what a list of calls handed back
+-- ---- what a list of calls returned
 
 -- the commands handed out, in order
 unfoldable pub commandsSent : List CallMade → List (List ℕ)

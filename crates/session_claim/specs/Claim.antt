@@ -14,26 +14,26 @@ use Rattle.session_claim.specs.Calls.{commandsSent, callsAccepted, lastE
 use Rattle.session.specs.Calls.{CallMade, callResult, isCommand, isOutcome}
 use Rattle.session_claim.specs.Order.{commandKind, lastKind, acceptedAfl, publishedOrder}
 
--- ---- what the last call that was not refused says
+-- ---- what the last call that was not refused reports
 
 -- there is none
 abbrev pub noCallAccepted : Option CallMade → Bool
 noCallAccepted none = true
 noCallAccepted (some m) = false
 
--- it handed back a command
+-- it returned a command
 abbrev pub lastCommand : Option CallMade → Bool
 lastCommand none = false
 lastCommand (some m) = isCommand (callResult m)
 
--- it handed back an outcome
+-- it returned an outcome
 abbrev pub lastOutcome : Option CallMade → Bool
 lastOutcome none = false
 lastOutcome (some m) = isOutcome (callResult m)
 
 -- ---- the claim
 
--- the most commands: 1 while no locator is accepted, 2 + R from then on
+-- the most commands: 1 while no AFL is accepted, 2 + R from then on
 abbrev pub mostCommandsFor : Option (List ℕ) → ℕ
 mostCommandsFor none = 1
 mostCommandsFor (some l) = 2 + aflRecordCount l
@@ -45,7 +45,7 @@ pub record SessionProper (ms : List CallMade) (s : Session) : Type 0 where
   pub order : map commandKind (commandsSent ms) ≡ take (length (commandsSent ms)) (publishedOrder (lastKind ms) (acceptedAfl ms))
   -- N is the count that the session reports
   pub count : s .count ≡ length (commandsSent ms)
-  -- N is at most 1 while no locator is accepted, and at most 2 + R from then on
+  -- N is at most 1 while no AFL is accepted, and at most 2 + R from then on
   pub bound : length (commandsSent ms) ≤ mostCommandsFor (acceptedAfl ms)
   -- N is never over 130
   pub never-over : length (commandsSent ms) ≤ 130

@@ -1,5 +1,5 @@
--- The accepted locator and the published order (document 01, "What demand 3 counts"; document 02, Item 9, for its last
--- command).
+-- The accepted AFL and the published order (document 01, "What demand 3 counts"; document 02, Item 9, for its
+-- last command).
 -- Assumes nothing.
 use mathlib.Core.Bool.{Bool}
 use mathlib.Core.List.{List, [], _∷_, _++_, map}
@@ -20,7 +20,7 @@ use Rattle.session.specs.Answer.{gpoReason}
 use Rattle.session_claim.specs.Calls.{callsAccepted, isAnswer}
 use Rattle.session.specs.Calls.{Call, start, answer, link-failed, stop, CallMade}
 
--- ---- the locator and the profile that card bytes bring: read from their objects alone, not from the store
+-- ---- the AFL and the AIP that card bytes bring: read from their objects alone, not from the store
 
 -- an object of a tag that is not empty, directly inside a 77, at any level
 abbrev pub isIn77 : ℕ → PrimitiveItem → Bool
@@ -36,7 +36,7 @@ firstIn77 tag (i ∷ is) =
     if isIn77 tag i then some (i .value)
     else firstIn77 tag is
 
--- the locator: under 80 the bytes behind the two of 82, where there are any; in a template the 94 inside a 77
+-- the AFL: under 80 the bytes after the two of 82, where there are any; in a template the 94 inside a 77
 abbrev pub bodyAfl : Option ResponseBody → Option (List ℕ)
 bodyAfl none = none
 bodyAfl (some (primitive t v)) =
@@ -44,7 +44,7 @@ bodyAfl (some (primitive t v)) =
     else none
 bodyAfl (some (template t f)) = firstIn77 0x94 (primitiveItems t f)
 
--- the profile: under 80 the first two bytes, where there are so many; in a template the 82 inside a 77
+-- the AIP: under 80 the first two bytes, where there are so many; in a template the 82 inside a 77
 abbrev pub bodyAip : Option ResponseBody → Option (List ℕ)
 bodyAip none = none
 bodyAip (some (primitive t v)) =
@@ -59,7 +59,7 @@ responseAfl card = bodyAfl (responseBody (take (length card - 2) card))
 unfoldable pub responseAip : List ℕ → Option (List ℕ)
 responseAip card = bodyAip (responseBody (take (length card - 2) card))
 
--- ---- the accepted locator
+-- ---- the accepted AFL
 
 -- the first answer among calls
 unfoldable pub firstAnswer : List CallMade → Option CallMade
@@ -68,9 +68,9 @@ firstAnswer (m ∷ ms) =
     if isAnswer (m .call) then some m
     else firstAnswer ms
 
--- the locator that card bytes bring, where the rules give this answer no reason on the store of the session before it.
--- `gpoReason` is the reason of an answer to processing options: the first answer taken is always that one
--- (`first-on-gpo` in proofs/Rules).
+-- the AFL that card bytes bring, where the rules give this answer no reason on the store of the session before it.
+-- `gpoReason` is the reason of an answer to GPO: the first answer taken is always that one (`first-on-gpo` in
+-- proofs/Rules).
 abbrev pub aflFor : Session → List ℕ → Option (List ℕ)
 aflFor s card =
     if gpoReason (storeBytes s) card =? reasonNone then responseAfl card
@@ -88,7 +88,7 @@ abbrev pub aflByFirstAnswer : Option CallMade → Option (List ℕ)
 aflByFirstAnswer none = none
 aflByFirstAnswer (some m) = aflByCall (m .before) (m .call)
 
--- refused calls are passed over
+-- refused calls are skipped
 unfoldable pub acceptedAfl : List CallMade → Option (List ℕ)
 acceptedAfl ms = aflByFirstAnswer (firstAnswer (callsAccepted ms))
 
@@ -113,7 +113,7 @@ commandKind c =
     else if beginsWith claProprietary insComputeChecksum c then checksum
     else record-command c
 
--- the last command by the profile that card bytes bring: the checksum where byte 2 b8 is clear, else the cryptogram
+-- the last command by the AIP that card bytes bring: the checksum where byte 2 b8 is clear, else the cryptogram
 unfoldable pub lastKindFor : Option (List ℕ) → CommandKind
 lastKindFor none = cryptogram
 lastKindFor (some v) =
@@ -127,17 +127,17 @@ lastKindBy (answer card buf) = lastKindFor (responseAip card)
 lastKindBy (link-failed buf) = cryptogram
 lastKindBy (stop buf) = cryptogram
 
--- by the first answer, if there is one: the one that a locator is accepted by
+-- by the first answer, if there is one: the one that an AFL is accepted by
 abbrev pub lastKindIn : Option CallMade → CommandKind
 lastKindIn none = cryptogram
 lastKindIn (some m) = lastKindBy (m .call)
 
--- refused calls are passed over
+-- refused calls are skipped
 unfoldable pub lastKind : List CallMade → CommandKind
 lastKind ms = lastKindIn (firstAnswer (callsAccepted ms))
 
--- without an accepted locator there is the first command alone; with one, its records' commands follow in their order
--- and then the last command
+-- without an accepted AFL there is the first command alone; with one, its records' commands follow in their order and
+-- then the last command
 unfoldable pub publishedOrder : CommandKind → Option (List ℕ) → List CommandKind
 publishedOrder last none = gpo ∷ []
 publishedOrder last (some l) = gpo ∷ (map (λ r. record-command (readRecordCommand r)) (aflRecords l) ++ (last ∷ []))

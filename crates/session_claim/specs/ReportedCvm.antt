@@ -1,4 +1,4 @@
--- The method that an outcome tells (document 02, Item 5).
+-- The CVM that an outcome reports (document 02, Item 5).
 -- Assumes nothing.
 use mathlib.Core.Path.{_≡_}
 use mathlib.Core.Bool.{Bool, true, false, not}
@@ -16,7 +16,7 @@ use Rattle.session_record.specs.Ranges.{emvMode}
 use Rattle.session.specs.Steps.{Step}
 
 -- a call on a session in this phase, in EMV mode or not, that ends it for this reason has made or held a choice: the
--- session waited on the cryptogram, or in EMV mode on a record and came to the list 8C
+-- session waited on the cryptogram, or in EMV mode on a record and came to CDOL1 (8C)
 abbrev pub choiceMade : Phase → Bool → ℕ → Bool
 choiceMade Phase.Fresh          emv reason = false
 choiceMade Phase.Gpo            emv reason = false
@@ -25,14 +25,14 @@ choiceMade (Phase.Cryptogram a) emv reason = true
 choiceMade (Phase.Checksum c)   emv reason = false
 choiceMade (Phase.Ended e)      emv reason = false
 
--- the method of an outcome, by its reason and the phase and mode before it
+-- the CVM of an outcome, by its reason and the phase and mode before it
 pub record CvmReported (p : Phase) (emv : Bool) (reason cvm : ℕ) : Type 0 where
   -- not applicable exactly where no choice was made or held
   pub applicable : cvm =? cvmNotApplicable ≡ not (choiceMade p emv reason)
   -- the one that the session held
   pub held : (a : RequestedCryptogram) → p ≡ Phase.Cryptogram a → cvm ≡ cvmNumber (a .cvm)
 
--- every outcome of a step tells its method so
+-- every outcome of a step reports its CVM so
 abbrev pub ReportsCvm : Session → Step → Type 0
 ReportsCvm s st =
     (e : OutcomeParameters) → st .reply .answer ≡ CallResult.Outcome e

@@ -1,5 +1,6 @@
-// Demand 3: one claim over every list of calls. The statement is in specs/Claim, the proof in proofs/. And: every call hands back a record in its
-// ranges where it was given one, so that the limit in force stays right; and the method that each outcome tells.
+// Demand 3: one claim over every list of calls. The statement is in specs/Claim, the proof in proofs/. And: every call
+// returns a record in its ranges where it was given one, so that the transaction limit stays correct; and the CVM that
+// each outcome reports.
 ghost use mathlib.Core.Path.{_≡_};
 ghost use mathlib.Core.Bool.{true};
 ghost use mathlib.Core.List.{List};

@@ -41,7 +41,7 @@ account-apart : apartFrom runningTags (rowAt rowPan) ≡ true
 unfolding dictionaryRows every both apartFrom
 account-apart = refl
 
--- waiting on processing options with an account number in the store
+-- waiting on GPO with an account number in the store
 pub gpo-with-5A : (s : Session) → inRanges s ≡ true → s .phase ≡ Phase.Gpo → (v : List ℕ) → fitsRow (rowAt rowPan) v ≡ true → inRanges (putIn s rowPan v) ≡ true
 gpo-with-5A s e q v w =
     clauses-pass (putIn s rowPan v)
@@ -75,7 +75,7 @@ gpo-with-5A s e q v w =
       count = c .count;
     }
 
--- waiting on the cryptogram with any five result bytes, zeros too
+-- waiting on the cryptogram with any five TVR bytes, zeros too
 pub cryptogram-with-any-95 : (s : Session) (a : RequestedCryptogram) → inRanges s ≡ true → s .phase ≡ Phase.Cryptogram a → (v : List ℕ) → fitsRow (rowAt rowTvr) v ≡ true → inRanges (putIn s rowTvr v) ≡ true
 cryptogram-with-any-95 s a e q v w =
     clauses-pass (putIn s rowTvr v)

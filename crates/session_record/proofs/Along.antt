@@ -1,5 +1,5 @@
--- The ranges of a record by one walk over the rows and the bytes, each place dropped once it is judged: what computed examples go by, since the
--- rule finds each row by its tag and each place from the store's front. Assumes nothing.
+-- The ranges of a record by one walk over the rows and the bytes, each place dropped once it is judged: what computed
+-- examples go by, since the rule finds each row by its tag and each place from the store's front. Assumes nothing.
 use mathlib.Core.Path.{_≡_, refl, sym, ap, ap₂, _∙_}
 use mathlib.Core.Bool.{Bool, true}
 use mathlib.Core.List.{List, [], _∷_, map}
@@ -18,7 +18,7 @@ use Rattle.session_record.specs.Inner.{rowPlaceFits}
 use Rattle.session_record.specs.Ranges.{objectFits, allObjectsFit, phaseRanges, inRanges}
 use Rattle.session_record.proofs.Fit.{object-place}
 
--- what stands in the places of a table's rows fits
+-- what is in the places of a table's rows fits
 unfoldable pub fitAlong : List Row → List ℕ → Bool
 fitAlong [] b = true
 fitAlong (r ∷ rs) b = both (rowPlaceFits r (take (rowRoom r) b)) (fitAlong rs (drop (rowRoom r) b))

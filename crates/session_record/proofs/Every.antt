@@ -24,7 +24,7 @@ module _ {A : Type 0} (f : A → Bool) (xs : List A) (d : A) (i : ℕ) where
   unfolding every
   every-done h = rw (drop-of-length-le xs h)
 
--- a test that passes at each entry passes over the whole
+-- a test that passes at each entry passes on the whole list
 pub every-all : {A : Type 0} (f : A → Bool) (xs : List A) (d : A) → ((k : ℕ) → k < length xs → f (getD xs k d) ≡ true) → every f xs ≡ true
 unfolding every
 every-all f [] d h = refl

@@ -1,5 +1,5 @@
--- Outcomes with their reasons, and session records on both sides of each range's edge, by computation: a record that keeps every
--- clause, and the same with one thing changed.
+-- Outcomes with their reasons, and session records on both sides of each range's edge, by computation: a record that
+-- keeps every clause, and the same with one thing changed.
 -- Assumes nothing.
 use mathlib.Core.Path.{_≡_, refl}
 use mathlib.Core.Bool.{Bool, true, false}
@@ -76,7 +76,7 @@ ended-counts = refl
 
 -- ---- stores
 
--- what a start must bring, and 95; the limits are 1.00, for a phone 2.00
+-- what a start must bring, and 95; the limits are 1.00, for on-device CVM 2.00
 abbrev started : List (ℕ × List ℕ)
 started =
     (0x9A, 0x25 ∷ 0x12 ∷ 0x31 ∷ []) ∷ (0x9C, 0x00 ∷ []) ∷ (0x9F02, 0 ∷ 0 ∷ 0 ∷ 0 ∷ 0x10 ∷ 0x00 ∷ []) ∷ (0x9F09, 0 ∷ 2 ∷ []) ∷ (0x9F1A, 0x08 ∷ 0x40 ∷ [])
@@ -84,11 +84,11 @@ started =
     ∷ (0xDF8123, replicate 6 0) ∷ (0xDF8124, 0 ∷ 0 ∷ 0 ∷ 0 ∷ 0x01 ∷ 0x00 ∷ []) ∷ (0xDF8125, 0 ∷ 0 ∷ 0 ∷ 0 ∷ 0x02 ∷ 0x00 ∷ []) ∷ (0xDF8126, replicate 6 0) ∷ (0xDF811B, 0x20 ∷ [])
     ∷ (0x9F6A, replicate 4 0) ∷ (0x95, replicate 5 0) ∷ []
 
--- EMV mode and a locator of two records
+-- EMV mode and an AFL of two records
 abbrev opened : List (ℕ × List ℕ)
 opened = (0x82, 0x00 ∷ 0x80 ∷ []) ∷ (0x94, 0x08 ∷ 1 ∷ 2 ∷ 0 ∷ []) ∷ started
 
--- what the cryptogram needs, and the results of the verification
+-- what the cryptogram needs, and the CVM Results
 abbrev complete : List (ℕ × List ℕ)
 complete =
     (0x5F24, 0x25 ∷ 0x12 ∷ 0x31 ∷ []) ∷ (0x5A, 0x12 ∷ 0x3F ∷ []) ∷ (0x8C, 0x95 ∷ 0x05 ∷ []) ∷ (0x9F34, 0x3F ∷ 0x00 ∷ 0x00 ∷ []) ∷ opened
@@ -106,7 +106,7 @@ fresh-ones : map (λ x. inRanges (onFresh x)) freshOnes ≡ true ∷ false ∷ f
 unfolding fitAlong rowPlaceFits fitsRow digitsFit numeric nibbles freshRanges placeValue rowOffset rowPlace rowValue objectValueIn findRow rowPast dictionaryRows every both either if
 fresh-ones = each-along onFresh freshOnes
 
--- ---- waiting on processing options
+-- ---- waiting on GPO
 
 abbrev onGpo : ℕ → List ℕ → Session
 onGpo n b = sessionOf Phase.Gpo n b
@@ -119,7 +119,7 @@ unfolding fitAlong rowPlaceFits fitsRow digitsFit numeric nibbles gpoRanges runn
     objectValueIn findRow rowPast dictionaryRows every both either if
 gpo-counts = each-along (λ n. onGpo n (storing started)) gpoCounts
 
--- each object that a start must bring is asked for, and so is 95
+-- each object that a start must bring is required, and so is 95
 abbrev gpoLacking : List ℕ
 gpoLacking =
     0x9A ∷ 0x9C ∷ 0x9F02 ∷ 0x9F09 ∷ 0x9F1A ∷ 0x9F33 ∷ 0x9F35 ∷ 0x9F37 ∷ 0xDF8120 ∷ 0xDF8121 ∷ 0xDF8122 ∷ 0xDF8123 ∷ 0xDF8124 ∷ 0xDF8125 ∷ 0xDF8126 ∷ 0xDF811B ∷ 0x9F6A ∷ 0x95 ∷ []
@@ -129,8 +129,8 @@ unfolding fitAlong rowPlaceFits fitsRow digitsFit numeric nibbles gpoRanges runn
     objectValueIn findRow rowPast dictionaryRows every both either if
 gpo-lacking = each-along (λ t. onGpo 1 (without t started)) gpoLacking
 
--- 82; 94; a result bit; each object of the last answer; a terminal type that is not listed; a digit that is none; a
--- length over the row's and two under it. Then an account number, an empty one, the least list of rules, and 9F34
+-- 82; 94; a TVR bit; each object of the last answer; a terminal type that is not listed; a digit that is none; a length
+-- over the row's and two under it. Then an account number, an empty one, the least list of rules, and 9F34
 abbrev gpoWith : List (ℕ × List ℕ)
 gpoWith =
     (0x82, 0x00 ∷ 0x80 ∷ []) ∷ (0x94, 0x08 ∷ 1 ∷ 2 ∷ 0 ∷ []) ∷ (0x95, 0 ∷ 0 ∷ 0 ∷ 0 ∷ 1 ∷ []) ∷ (0x9F10, []) ∷ (0x9F26, replicate 8 0) ∷ (0x9F27, 0 ∷ []) ∷ (0x9F36, 0 ∷ 1 ∷ []) ∷ (0x9F61, 0 ∷ 1 ∷ [])
@@ -143,8 +143,8 @@ unfolding fitAlong rowPlaceFits fitsRow digitsFit numeric compressed digitsThenF
     rowOffset rowPlace rowValue objectValueIn findRow rowPast dictionaryRows every both either if
 gpo-with = each-along (λ x. onGpo 1 (storing (x ∷ started))) gpoWith
 
--- rows of annex A alone: an object of the session in its length and out of it; one of the card that names no template; one of start or card at
--- its greatest length; digits of 9F20, right and wrong
+-- rows of annex A alone: an object of the session in its length and out of it; one of the card that names no template;
+-- one of start or card at its greatest length; digits of 9F20, valid and invalid
 abbrev gpoRows : List (ℕ × List ℕ)
 gpoRows =
     (0xDF8115, replicate 6 0) ∷ (0xDF8115, replicate 5 0) ∷ (0x80, []) ∷ (0x9F70, replicate 192 0xFF) ∷ (0x9F20, 0x12 ∷ 0x3F ∷ []) ∷ (0x9F20, 0x12 ∷ 0xF3 ∷ []) ∷ []
@@ -170,7 +170,7 @@ unfolding fitAlong rowPlaceFits fitsRow digitsFit numeric nibbles recordRanges t
     isPresentIfRequired lastResponseAbsent listedTerminalType acceptsAfl wholeEntries aflEntries validEntry sumOverEntries placeValue rowOffset rowPlace rowValue objectValueIn findRow rowPast dictionaryRows every both either if
 record-counts = each-along numbered recordCounts
 
--- EMV mode; a first record of 0 in the locator; a result bit
+-- EMV mode; a first record of 0 in the AFL; a TVR bit
 abbrev recordWith : List (ℕ × List ℕ)
 recordWith = (0x82, 0x00 ∷ 0x80 ∷ []) ∷ (0x94, 0x08 ∷ 0 ∷ 2 ∷ 0 ∷ []) ∷ (0x95, 0x80 ∷ 0 ∷ 0 ∷ 0 ∷ 0 ∷ []) ∷ []
 
@@ -191,7 +191,8 @@ unfolding fitAlong rowPlaceFits fitsRow digitsFit numeric nibbles recordRanges t
     isPresentIfRequired lastResponseAbsent listedTerminalType acceptsAfl wholeEntries aflEntries validEntry sumOverEntries placeValue rowOffset rowPlace rowValue objectValueIn findRow rowPast dictionaryRows every both either if
 record-modes = each-along inMode recordModes
 
--- a card with either limit, with none and with one more; a phone with either; and a phone where b6 of DF811B alone is clear
+-- a card with either limit, with none and with one more; on-device CVM with either; and on-device CVM where b6 of
+-- DF811B alone is clear
 abbrev withLimit : ℕ × (ℕ × ℕ) → Session
 withLimit (aip, (configuration, limit)) = onRecord 1 limit 2 ((0x82, aip ∷ 0x80 ∷ []) ∷ (0xDF811B, configuration ∷ []) ∷ opened)
 
@@ -228,7 +229,7 @@ unfolding fitAlong rowPlaceFits fitsRow digitsFit numeric compressed digitsThenF
     rowPast dictionaryRows every both either if
 cryptogram-lacking = each-along (λ t. onCryptogram 100 4 (without t complete)) cryptogramLacking
 
--- any result bits; an empty account number; an empty list; byte 2 b8 of 82 alone clear
+-- any TVR; an empty account number; an empty list; byte 2 b8 of 82 alone clear
 abbrev cryptogramWith : List (ℕ × List ℕ)
 cryptogramWith = (0x95, 0x80 ∷ 0 ∷ 0 ∷ 0 ∷ 0 ∷ []) ∷ (0x5A, []) ∷ (0x8C, []) ∷ (0x82, 0x00 ∷ 0x7F ∷ []) ∷ []
 
@@ -238,7 +239,7 @@ unfolding fitAlong rowPlaceFits fitsRow digitsFit numeric compressed digitsThenF
     rowPast dictionaryRows every both either if
 cryptogram-with = each-along (λ x. onCryptogram 100 4 (storing (x ∷ complete))) cryptogramWith
 
--- a card with either limit, a phone with either
+-- a card with either limit, on-device CVM with either
 abbrev askedOf : ℕ × ℕ → Session
 askedOf (aip, limit) = onCryptogram limit 4 (storing ((0x82, aip ∷ 0x80 ∷ []) ∷ complete))
 
@@ -281,7 +282,7 @@ unfolding fitAlong rowPlaceFits fitsRow digitsFit numeric nibbles checksumRanges
     both either if
 checksum-lacking = each-along (λ t. onChecksum 100 4 (without t striped)) checksumLacking
 
--- an empty track; EMV mode; b8 of DF811B; a result bit; the counter; the code; and all of DF811B but b8
+-- an empty track; EMV mode; b8 of DF811B; a TVR bit; the counter; the code; and all of DF811B but b8
 abbrev checksumWith : List (ℕ × List ℕ)
 checksumWith =
     (0x9F6B, []) ∷ (0x82, 0 ∷ 0x80 ∷ []) ∷ (0xDF811B, 0x80 ∷ []) ∷ (0x95, 0 ∷ 0 ∷ 0 ∷ 0 ∷ 1 ∷ []) ∷ (0x9F36, 0 ∷ 1 ∷ []) ∷ (0x9F61, 0 ∷ 1 ∷ []) ∷ (0xDF811B, 0x7F ∷ []) ∷ []

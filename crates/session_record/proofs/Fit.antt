@@ -1,5 +1,5 @@
--- The object of a row fits by what stands in its place: an absent one always, a length byte that is too large never, else by its length
--- and its digits. Assumes nothing.
+-- The object of a row fits by what is in its place: an absent one always, a length byte that is too large never, else
+-- by its length and its digits. Assumes nothing.
 use mathlib.Core.Path.{_≡_, refl, sym, ap, ap₂, _∙_}
 use mathlib.Core.Bool.{Bool, true, false}
 use mathlib.Core.List.{List, [], _∷_, map}
@@ -32,7 +32,7 @@ use Rattle.session_record.proofs.Tags.{row-found, value-is, length-is}
 abbrev pub placed : List ℕ → List ℕ
 placed p = take (getD p 0 0 - 1) (drop 1 p)
 
--- a value that is there fits by its bytes
+-- a value that is present fits by its bytes
 place-value : (x : Row) (p : List ℕ) → (getD p 0 0 ≡ 0 → ⊥) → getD p 0 0 ≤ rowRoom x → rowPlaceFits x p ≡ fitsRow x (placed p)
 unfolding rowPlaceFits
 place-value x [] ne l = absurd (ne refl)
@@ -67,7 +67,7 @@ object-place b k h =
     let f = row-found k h in
     sym (ap₂ (λ (n : ℕ) (y : Bool). both (leb n (rowRoom (rowAt k))) y) (length-is b _ k f) (ap (valueFits (rowAt k)) (value-is b _ k f)))
 
--- a place fits by what its row says beside the tag
+-- a place fits by what its row states besides the tag
 untagged : (r : Row) (p : List ℕ) → rowPlaceFits r p ≡ rowPlaceFits (rowWithAttributes (attributesOf r)) p
 unfolding rowPlaceFits fitsRow
 untagged r p = ap (both (leb (getD p 0 0) (rowRoom r))) (same (placeValue p))
@@ -78,12 +78,12 @@ untagged r p = ap (both (leb (getD p 0 0) (rowRoom r))) (same (placeValue p))
 
 -- ---- a walk over the rows and their places
 
--- what a row says, out of its number in the array of all rows
+-- what a row states, out of its number in the array of all rows
 pub row-read : (l : List ℕ) (k : ℕ) (a : Attributes) → k < rowCount → l ≡ map packedRow dictionaryRows → a ≡ unpackedRow (getD l k 0) → a ≡ attributesOf (rowAt k)
 row-read l k a h e u =
     u ∙ ap (λ (x : List ℕ). unpackedRow (getD x k 0)) e ∙ ap unpackedRow (column packedRow dictionaryRows k) ∙ code-unpacks k (omega (arith, rows-length))
 
--- row k's place, by where it starts and its greatest length w: it lies inside, and the next one starts behind it
+-- row k's place, by where it starts and its greatest length w: it lies inside, and the next one starts after it
 pub record Stands (k at w : ℕ) : Type 0 where
   pub inside : at + w + 1 ≤ storeSize
   pub next : at + w + 1 ≡ rowOffset dictionaryRows (k + 1)

@@ -1,4 +1,5 @@
--- The ranges test passes exactly when every clause holds: `clauses` and `clauses-pass`, from one pair of laws for each part.
+-- The ranges test passes exactly when every clause holds: `clauses` and `clauses-pass`, from one pair of laws
+-- for each part.
 -- Assumes nothing.
 use mathlib.Core.Path.{_≡_, refl, sym, ap, _∙_}
 use mathlib.Core.Bool.{Bool, true, false}
@@ -273,6 +274,6 @@ clauses-pass s r =
     both-yes _ _ (eq-eqb (length (storeBytes s)) storeSize (r .size))
     (both-yes _ _ (fits-all (storeBytes s) (r .fits)) (phase-passes (s .phase) s (r .phase)))
 
--- so the test's answer tells both ways
+-- so the test decides both ways
 pub tells : (s : Session) {r : Bool} → r ≡ inRanges s → TestsRanges s r
 tells s e = record { test = e; clauses = λ y. clauses s (sym e ∙ y); passes = λ c. e ∙ clauses-pass s c }

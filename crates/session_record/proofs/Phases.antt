@@ -1,4 +1,5 @@
--- What a session that keeps its ranges is in each phase, and how a record built anew keeps them: from the clauses and back.
+-- What a session that is in its ranges is in each phase, and how a record built anew keeps them: from the
+-- clauses and back.
 -- Assumes nothing.
 use mathlib.Core.Path.{_≡_, refl, sym, subst, _∙_}
 use mathlib.Core.Logic.{inl, inr}
@@ -61,14 +62,14 @@ module _ (s : Session) (e : inRanges s ≡ true) where
   pub on-ended : (x : Ending) → s .phase ≡ Phase.Ended x → EndedClauses x (s .count)
   on-ended x q = in-phase (Phase.Ended x) q
 
-  -- a fresh record that keeps its ranges is the fresh one
+  -- a fresh record that is in its ranges is the fresh one
   pub is-fresh : s .phase ≡ Phase.Fresh → s ≡ freshSession
   is-fresh q = let c = on-fresh q in built s Phase.Fresh 0 (replicate storeSize 0) q (c .count) (c .store)
     where
       built : (s : Session) (p : Phase) (n : ℕ) (b : List ℕ) → s .phase ≡ p → s .count ≡ n → storeBytes s ≡ b → s ≡ record { phase = p; count = n; store = record { bytes = b } }
       built s p n b x y z = simp (sym x, sym y, sym z)
 
--- a locator that meets the rules is there, and so is 82 with a bit set
+-- an AFL that meets the rules is there, and so is 82 with a bit set
 pub afl-there : (b : List ℕ) → acceptsAfl (storedAfl b) ≡ true → hasObject b 0x94 ≡ true
 afl-there b a = bytes-there (objectValue b 0x94) (omega (arith, accepted-length (storedAfl b) a .1))
 
@@ -79,7 +80,7 @@ mode-there b e = go (objectValue b 0x82) e
     go absent m = cc
     go (present v) m = refl
 
--- in either mode 82 is there
+-- in either mode 82 is present
 pub either-there : (b : List ℕ) → emvOrMagStripeMode b ≡ true → hasObject b 0x82 ≡ true
 either-there b e = elim (bool-cases (emvMode b)) [
   | inl y ↦ mode-there b y
@@ -111,7 +112,7 @@ module _ (s : Session) (o : Outcome) (n : ℕ) (g : reasonMatchesOutcome o n ≡
   pub ended-keeps : length (storeBytes s) ≡ storeSize → AllObjectsFit (storeBytes s) → s .count ≤ mostCommands → inRanges (endedSession s (endingOf o n)) ≡ true
   ended-keeps l f c = clauses-pass (endedSession s (endingOf o n)) (record { size = l; fits = f; phase = record { count = c; reason = g } })
 
-  -- a record that keeps its ranges keeps them when it ends
+  -- a record that is in its ranges keeps them when it ends
   pub ends-keeps : inRanges s ≡ true → inRanges (endedSession s (endingOf o n)) ≡ true
   ends-keeps e = ended-keeps (store-size s e) (store-fits s e) (count-most s e)
 

@@ -1,5 +1,5 @@
--- What a start must bring is there exactly when it is there at each of the rows that ask for it: the others pass unseen, and the
--- numbers of those that ask are computed (`required-numbers`). Assumes nothing.
+-- What a start must bring is present exactly when it is there at each of the rows that require it: the others always
+-- pass, and the numbers of those that do require it are computed (`required-numbers`). Assumes nothing.
 use mathlib.Core.Path.{_≡_, refl, sym, ap, ap₂, _∙_}
 use mathlib.Core.Bool.{Bool, true, false}
 use mathlib.Core.List.{List, [], _∷_}
@@ -17,11 +17,11 @@ use Rattle.session_record.specs.Ranges.{isPresentIfRequired, allRequired
 use Rattle.session_record.specs.Inner.{requiredCount, requiredFrom, requiredRows, required-numbers}
 use Rattle.session_record.proofs.Tags.{row-found, held-is}
 
--- row k's object is there
+-- row k's object is present
 abbrev pub thereAt : List ℕ → ℕ → Bool
 thereAt b k = isPresent (rowValue dictionaryRows b k)
 
--- one row more: it is asked only where a start must bring its object
+-- one more row: it is asked only where a start must bring its object
 more : (f : ℕ → Bool) (n : ℕ) (ns : List ℕ) (x t u : Bool) → t ≡ f n → u ≡ every f ns → both (either x t) u ≡ every f (if x ns (n ∷ ns))
 unfolding if both either every
 more f n ns true t u e h = h

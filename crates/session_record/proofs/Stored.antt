@@ -1,5 +1,5 @@
--- What a put leaves of what the ranges speak of, by tag: the store's size, that every stored object fits, and what a running
--- session holds. The store's own laws speak of rows.
+-- What a put leaves of what the ranges speak of, by tag: the store's size, that every stored object fits, and what a
+-- running session holds. The store's own laws speak of rows.
 -- Assumes nothing.
 use mathlib.Core.Path.{_≡_, refl, sym, ap, subst, _∙_}
 use mathlib.Core.Bool.{Bool, true, not}
@@ -34,7 +34,7 @@ use Rattle.session_record.proofs.Tags.{row-found, value-is, length-is}
 use Rattle.session_record.proofs.Values.{zeros-of}
 use Rattle.session_record.proofs.Laws.{fits-all}
 
--- an object fits by what stands in its row's place
+-- an object fits by what is in its row's place
 row-fits : (b : List ℕ) (k : ℕ) → k < rowCount → lengthByte dictionaryRows b k ≤ rowAt k .greatest + 1 → valueFits (rowAt k) (rowValue dictionaryRows b k) ≡ true → RowObjectFits b (rowAt k)
 row-fits b k h l e =
     let f = row-found k h in
@@ -168,7 +168,7 @@ rule f g t k h e = sym (either-false _ (ap not e)) ∙ at (implies f g) dictiona
 abbrev startRow : Row → Bool
 startRow r = hasBit (r .setters) setByStart
 
--- the card may set it, and not only in the last answer: in one to processing options or to a record, whose bits are the two lowest
+-- the card may set it, and not only in the last answer: in one to GPO or to a record, whose bits are the two lowest
 abbrev cardRow : Row → Bool
 cardRow r = both (hasBit (r .setters) setByCard) (not (eqb (r .answers % 4) 0))
 
@@ -188,14 +188,14 @@ start-apart = rule startRow (apartFrom (0x82 ∷ 0x94 ∷ 0x95 ∷ lastResponseT
 pub card-apart : (k : ℕ) → k < rowCount → hasBit (rowAt k .setters) setByCard ≡ true → (rowAt k .answers % 4 ≡ 0 → ⊥) → apartFrom (0x95 ∷ runningTags) (rowAt k) ≡ true
 card-apart k h e a = rule cardRow (apartFrom (0x95 ∷ runningTags)) card-test k h (both-yes _ _ e (ap not (ne-eqb _ _ a)))
 
--- the result bits are the session's own
+-- the TVR is the session's own
 pub results-apart : apartFrom runningTags (rowAt rowTvr) ≡ true
 unfolding dictionaryRows every both apartFrom
 results-apart = refl
 
 -- ---- a running session stays one
 
--- where all that is there stays there, and those tags keep their values
+-- where all that is present stays there, and those tags keep their values
 pub runs-kept : (b d : List ℕ) → ((t : ℕ) → hasObject b t ≡ true → hasObject d t ≡ true)
     → ((i : ℕ) → i < length runningTags → objectValue d (getD runningTags i 0) ≡ objectValue b (getD runningTags i 0)) → RunningClauses b → RunningClauses d
 runs-kept b d there same r =

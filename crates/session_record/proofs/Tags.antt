@@ -1,4 +1,4 @@
--- What a store holds of a tag is what stands in its row's place: the specifications speak of tags, the code of rows.
+-- What a store holds of a tag is what is in its row's place: the specifications speak of tags, the code of rows.
 -- Assumes nothing.
 use mathlib.Core.Path.{_≡_, sym, ap, _∙_}
 use mathlib.Core.Bool.{Bool, true, false, not}
@@ -61,7 +61,7 @@ module _ (b : List ℕ) (t k : ℕ) (e : findRow dictionaryRows t ≡ At k) wher
   pub size-some : {v : List ℕ} → v ≡ bytesOfValue (rowValue dictionaryRows b k) → (length v ≡ 0 → ⊥) → hasNonEmpty b t ≡ true
   size-some {v} p z = sym (size-is p) ∙ ap not (ne-eqb (length v) 0 z)
 
--- ---- the stored locator, by what a check of the row's value says
+-- ---- the stored AFL, by what a check of the row's value reports
 
 module _ (b : List ℕ) {v : List ℕ} (p : v ≡ bytesOfValue (rowValue dictionaryRows b rowAfl)) where
   located : v ≡ storedAfl b

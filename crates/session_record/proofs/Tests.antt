@@ -1,4 +1,5 @@
--- Joined tests where the second is known or that are joined in another order, and the test that a number is not 0. Assumes nothing.
+-- Joined tests where the second is known or that are joined in another order, and the test that a number is not 0.
+-- Assumes nothing.
 use mathlib.Core.Path.{_≡_, refl, sym, ap, _∙_}
 use mathlib.Core.Bool.{Bool, true, false, not}
 use mathlib.Core.Logic.{inl, inr}

@@ -1,4 +1,5 @@
--- What a store holds of a tag, as facts on its value: absent, there, zero, and of a length that its row allows. Assumes nothing.
+-- What a store holds of a tag, as facts on its value: absent, there, zero, and of a length that its row allows.
+-- Assumes nothing.
 use mathlib.Core.Path.{_≡_, refl, ap, subst, _∙_}
 use mathlib.Core.Bool.{true, not}
 use mathlib.Core.List.{List, [], _∷_}
@@ -62,7 +63,7 @@ module _ (b : List ℕ) (f : AllObjectsFit b) (t k : ℕ) (e : findRow dictionar
       let w = found dictionaryRows t k e in
       subst (λ (n : ℕ). valueFits (rowAt k) (objectValue b n) ≡ true) (w .1) (f k (omega (arith, rows-length)) .value)
 
-  -- an object that is there has a length that its row allows
+  -- an object that is present has a length that its row allows
   pub held-length : hasObject b t ≡ true → (rowAt k .least ≤ length (storedBytes b t)) × (length (storedBytes b t) ≤ rowAt k .greatest)
   held-length h = go (objectValue b t) h value-fits
     where
@@ -78,7 +79,7 @@ module _ (b : List ℕ) (f : AllObjectsFit b) (t k : ℕ) (e : findRow dictionar
       go absent p q = cc
       go (present v) p q = q
 
--- what a start must bring is there
+-- what a start must bring is present
 pub brought-there : (b : List ℕ) → RunningClauses b → (t k : ℕ) → findRow dictionaryRows t ≡ At k → rowAt k .must ≡ required → hasObject b t ≡ true
 brought-there b r t k e m =
     let w = found dictionaryRows t k e in
@@ -96,7 +97,7 @@ results-most = refl
 pub results-five : (b : List ℕ) → AllObjectsFit b → hasObject b 0x95 ≡ true → length (storedBytes b 0x95) ≡ 5
 results-five b f h = omega (arith, held-length b f 0x95 rowTvr at-95 h, results-length, results-most)
 
--- 95 that is there and zero
+-- 95 that is present and zero
 pub zero-results : (b : List ℕ) → AllObjectsFit b → hasObject b 0x95 ≡ true → isZeroed b 0x95 ≡ true → objectValue b 0x95 ≡ present zeroTvr
 zero-results b f h z =
     present-of (objectValue b 0x95) h

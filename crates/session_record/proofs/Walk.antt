@@ -1,5 +1,6 @@
--- A walk over the rows, from one object that is there to the next: what it passed fits, what a start must bring is counted, and the rows from
--- there on decide. All that a start must bring is there exactly when the count is that of the dictionary. Assumes nothing.
+-- A walk over the rows, from one object that is present to the next: what it passed fits, what a start must bring is
+-- counted, and the rows from there on decide. All that a start must bring is present exactly when the count is that of
+-- the dictionary. Assumes nothing.
 use mathlib.Core.Path.{_≡_, refl, sym, ap, ap₂, subst, _∙_}
 use mathlib.Core.Bool.{Bool, true, false, not}
 use mathlib.Core.Logic.{inl, inr}
@@ -27,7 +28,7 @@ use Rattle.session_record.proofs.Fit.{place-absent, object-place, Stand
 
 -- ---- what a start must bring, counted
 
--- how many of the objects of some rows that a start must bring are there
+-- how many of the objects of some rows that a start must bring are present
 unfoldable pub broughtIn : List ℕ → List Row → ℕ
 broughtIn b [] = 0
 broughtIn b (r ∷ rs) = if (hasObject b (r .tag)) (r .must) 0 + broughtIn b rs
@@ -51,7 +52,7 @@ alike a b c d f g =
       | inr n ↦ ne-eqb a b n ∙ sym (ne-eqb c d (λ e. n (g e)))
     ]
 
--- one row more, behind rows of whose q objects n are there
+-- one more row, after rows of whose q objects n are there
 one-more : (m : ℕ) (t : Bool) (n q : ℕ) → n ≤ q → both (either (eqb m optional) t) (eqb n q) ≡ eqb (if t m 0 + n) (m + q)
 unfolding if
 one-more m true n q l = both-true _ (either-right _ _ refl) ∙ alike n q (m + n) (m + q) (λ e. omega arith) (λ e. omega arith)
@@ -90,7 +91,7 @@ passed-more b from k at w p h s z =
 
 -- ---- the walk
 
--- it stands at row k, and has counted n objects
+-- it is at row k, and has counted n objects
 pub record Walk (b : List ℕ) (k n : ℕ) : Type 0 where
   pub fits : allObjectsFit b ≡ every (objectFits b) (drop k dictionaryRows)
   pub count : broughtIn b dictionaryRows ≡ n + broughtIn b (drop k dictionaryRows)
@@ -103,7 +104,7 @@ pub walk-most : (b : List ℕ) (k n : ℕ) → Walk b k n → n ≤ requiredCoun
 walk-most b k n w = omega (arith, w .count, at-most b dictionaryRows, required-rows)
 
 module _ (b : List ℕ) (k n : ℕ) (w : Walk b k n) (h : k < rowCount) where
-  -- an object is there by the byte where its place starts
+  -- an object is present by the byte where its place starts
   there : hasObject b (rowAt k .tag) ≡ not (eqb (getD b (rowOffset dictionaryRows k) 0) 0)
   there = held-is b _ k (row-found k h) refl refl ∙ there-is dictionaryRows b k ∙ ap (λ (x : ℕ). not (eqb x 0)) (length-byte-at dictionaryRows b k)
 
@@ -124,7 +125,7 @@ module _ (b : List ℕ) (k n : ℕ) (w : Walk b k n) (h : k < rowCount) where
         count = omega (arith, w .count, counted-on);
       }
 
-  -- past one whose object is there and fits
+  -- past one whose object is present and fits
   pub walk-held : (at m : ℕ) → at ≡ rowOffset dictionaryRows k → 0 < getD b at 0 → m ≡ rowAt k .must → objectFits b (rowAt k) ≡ true → Walk b (k + 1) (n + m)
   walk-held at m p l q e =
       let x = ap (λ (o : ℕ). getD b o 0) p in

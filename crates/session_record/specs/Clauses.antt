@@ -32,12 +32,12 @@ pub record RowObjectFits (b : List ℕ) (r : Row) : Type 0 where
 abbrev pub AllObjectsFit : List ℕ → Type 0
 AllObjectsFit b = (k : ℕ) → k < rowCount → RowObjectFits b (rowAt k)
 
--- result bits that are all zero
+-- a TVR that is all zero
 abbrev pub zeroTvr : List ℕ
 zeroTvr = 0 ∷ 0 ∷ 0 ∷ 0 ∷ 0 ∷ []
 
--- every running session: the result bits, the required start objects, a terminal type of the list, no object that only
--- the answer to the last command brings
+-- every running session: the TVR, the required start objects, a terminal type of the list, no object that only the
+-- answer to the last command brings
 pub record RunningClauses (b : List ℕ) : Type 0 where
   pub results : hasObject b 0x95 ≡ true
   pub brought : (k : ℕ) → k < rowCount → rowAt k .must ≡ required → hasObject b (rowAt k .tag) ≡ true
@@ -53,7 +53,7 @@ pub record FreshClauses (n : ℕ) (b : List ℕ) : Type 0 where
   pub count : n ≡ 0
   pub store : b ≡ replicate storeSize 0
 
--- waiting on processing options
+-- waiting on GPO
 pub record GpoClauses (n : ℕ) (b : List ℕ) : Type 0 where
   pub runs : RunningClauses b
   pub no-82 : objectValue b 0x82 ≡ absent
@@ -72,7 +72,7 @@ pub record RecordClauses (p : AwaitedRecord) (n : ℕ) (b : List ℕ) : Type 0 w
   pub last : p .number ≤ storedRecordCount b
   pub count : n ≡ 1 + p .number
 
--- waiting on the cryptogram; that one of the three choices was asked for, and that a method was chosen, is in the
+-- waiting on the cryptogram; that one of the three choices was requested, and that a CVM was chosen, is in the
 -- record's type
 pub record CryptogramClauses (a : RequestedCryptogram) (n : ℕ) (b : List ℕ) : Type 0 where
   pub runs : RunningClauses b
@@ -118,9 +118,9 @@ pub record RangesClauses (s : Session) : Type 0 where
   pub fits : AllObjectsFit (storeBytes s)
   pub phase : PhaseClauses (s .phase) s
 
--- ---- handed back
+-- ---- returned
 
--- what a test of a record says: the test's answer, which is yes where every clause holds, and only there
+-- what a test of a record reports: the test's answer, which is yes where every clause holds, and only there
 pub record TestsRanges (s : Session) (r : Bool) : Type 0 where
   pub test : r ≡ inRanges s
   pub clauses : r ≡ true → RangesClauses s

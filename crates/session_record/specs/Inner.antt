@@ -1,7 +1,7 @@
--- What private functions promise, for their callers' proofs: what is asked of a row's object by the bytes of its place,
--- and where the next object that is there stands. No rule of document 01 stands here: a reader of the rules can pass it
--- over. proofs/Fit, proofs/Walk and proofs/Required tie it to specs/Ranges: `object-place` to `objectFits`, `walk-end`
--- to `allObjectsFit` and `allRequiredPresent`, `brought-rows` to `allRequiredPresent`.
+-- What private functions promise, for their callers' proofs: what is required of a row's object by the bytes of its
+-- place, and where the next object that is present is. This file states no rule of document 01: a reader of the rules
+-- can skip it. proofs/Fit, proofs/Walk and proofs/Required tie it to specs/Ranges: `object-place` to `objectFits`,
+-- `walk-end` to `allObjectsFit` and `allRequiredPresent`, `brought-rows` to `allRequiredPresent`.
 -- Assumes nothing.
 use mathlib.Core.Path.{_≡_, refl}
 use mathlib.Core.Bool.{Bool, not}
@@ -18,7 +18,7 @@ use Rattle.session_record.specs.Ranges.{valueFits, allObjectsFit, allReq
 
 -- ---- one place
 
--- what stands in a row's place fits: its length byte lies in the row's room, and its value fits
+-- what is in a row's place fits: its length byte lies in the row's room, and its value fits
 unfoldable pub rowPlaceFits : Row → List ℕ → Bool
 rowPlaceFits r p =
     getD p 0 0 ≤? rowRoom r
@@ -34,7 +34,7 @@ pub record RowsPassed (b : List ℕ) (from row at : ℕ) : Type 0 where
   pub place : at ≡ rowOffset dictionaryRows row
   pub absent : (k : ℕ) → from ≤ k → k < row → getD b (rowOffset dictionaryRows k) 0 ≡ 0
 
--- it came to the first object that is there, or to the end
+-- it came to the first object that is present, or to the end
 pub record NextPresent (b : List ℕ) (from : ℕ) (r : RowSpot) : Type 0 where
   pub passed : RowsPassed b from (r .row) (r .at)
   pub there : r .row < rowCount → 0 < getD b (r .at) 0
@@ -72,7 +72,7 @@ pub required-numbers : requiredFrom 0 dictionaryRows ≡ requiredRows
 unfolding requiredFrom requiredRows dictionaryRows if
 required-numbers = refl
 
--- every object fits, and where `asked` what a start must bring is there: by the rules
+-- every object fits, and where `asked` what a start must bring is present: by the rules
 abbrev pub allRowsFit : Bool → List ℕ → Bool
 allRowsFit asked b =
     allObjectsFit b

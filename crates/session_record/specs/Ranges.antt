@@ -1,5 +1,5 @@
--- Session ranges (document 01, "Calls and their numbers"): the test that a session record handed in must pass.
--- Every clause is a fact by name in Clauses.antt; the test passes exactly when all of them hold.
+-- Session ranges (document 01, "Calls and their numbers"): the test that a session record passed in must pass. Every
+-- clause is a fact by name in Clauses.antt; the test passes exactly when all of them hold.
 -- Assumes nothing.
 use mathlib.Core.Bool.{Bool, true, not}
 use mathlib.Core.List.{List, [], _∷_}
@@ -41,9 +41,9 @@ objectFits b r =
 unfoldable pub allObjectsFit : List ℕ → Bool
 allObjectsFit b = every (objectFits b) dictionaryRows
 
--- ---- running: what a start brought is there, and nothing of the last answer
+-- ---- running: what a start brought is present, and nothing of the last answer
 
--- the object of a row is there if a start must bring it
+-- the object of a row is present if a start must bring it
 unfoldable pub isPresentIfRequired : List ℕ → Row → Bool
 isPresentIfRequired b r = r .must =? optional or hasObject b (r .tag)
 
@@ -56,11 +56,11 @@ allRequiredPresent b = every (isPresentIfRequired b) dictionaryRows
 abbrev pub lastResponseTags : List ℕ
 lastResponseTags = 0x9F10 ∷ 0x9F26 ∷ 0x9F27 ∷ 0x9F36 ∷ 0x9F61 ∷ []
 
--- none of them is there
+-- none of them is present
 unfoldable pub lastResponseAbsent : List ℕ → Bool
 lastResponseAbsent b = every (lacksObject b) lastResponseTags
 
--- the result bits, the objects required of a start, a terminal type on the list, nothing of the last answer
+-- the TVR, the objects required of a start, a terminal type on the list, nothing of the last answer
 unfoldable pub runningRanges : List ℕ → Bool
 runningRanges b =
     hasObject b 0x95
@@ -68,14 +68,14 @@ runningRanges b =
     and listedTerminalType (storedByte b 0x9F35 1)
     and lastResponseAbsent b
 
--- ---- after the processing options
+-- ---- after GPO
 
--- 82 is there with byte 2 b8 set
+-- 82 is present with byte 2 b8 set
 abbrev pub emvMode : List ℕ → Bool
 emvMode b = valueHasBit (storedBytes b 0x82) 2 8
 
--- mag-stripe mode (document 02, Item 9): 82 is there with byte 2 b8 clear, and the kernel configuration DF811B does not
--- say by byte 1 b8 that this mode is off
+-- mag-stripe mode (document 02, Item 9): 82 is present with byte 2 b8 clear, and the kernel configuration DF811B does
+-- not indicate by byte 1 b8 that this mode is off
 abbrev pub magStripeMode : List ℕ → Bool
 magStripeMode b =
     hasObject b 0x82
@@ -86,18 +86,18 @@ magStripeMode b =
 abbrev pub emvOrMagStripeMode : List ℕ → Bool
 emvOrMagStripeMode b = emvMode b or magStripeMode b
 
--- the stored locator, and R
+-- the stored AFL, and R
 abbrev pub storedAfl : List ℕ → List ℕ
 storedAfl b = storedBytes b 0x94
 
 abbrev pub storedRecordCount : List ℕ → ℕ
 storedRecordCount b = aflRecordCount (storedAfl b)
 
--- expiry date, account number and the list of the cryptogram's data
+-- expiry date, account number and CDOL1
 abbrev pub cryptogramNeeds : List ℕ
 cryptogramNeeds = 0x5F24 ∷ 0x5A ∷ 0x8C ∷ []
 
--- they are there, none empty
+-- they are present, none empty
 unfoldable pub cryptogramDataPresent : List ℕ → Bool
 cryptogramDataPresent b = every (hasNonEmpty b) cryptogramNeeds
 
@@ -105,7 +105,7 @@ cryptogramDataPresent b = every (hasNonEmpty b) cryptogramNeeds
 abbrev pub trackNeeds : List ℕ
 trackNeeds = 0x9F6B ∷ 0x9F65 ∷ 0x9F66 ∷ 0x9F67 ∷ []
 
--- they are there, none empty
+-- they are present, none empty
 unfoldable pub trackDataPresent : List ℕ → Bool
 trackDataPresent b = every (hasNonEmpty b) trackNeeds
 
@@ -117,7 +117,7 @@ freshRanges n b =
     n =? 0
     and every isZeroByte b
 
--- on processing options: no 82 or 94 yet, 95 is zero, one command
+-- on GPO: no 82 or 94 yet, 95 is zero, one command
 unfoldable pub gpoRanges : ℕ → List ℕ → Bool
 gpoRanges n b =
     runningRanges b
@@ -126,8 +126,8 @@ gpoRanges n b =
     and isZeroed b 0x95
     and n =? 1
 
--- on the k-th record: one of the modes, 95 is zero, the limit in force (document 02, Item 8), an accepted locator,
--- k is 1 to R, 1 + k commands
+-- on the k-th record: one of the modes, 95 is zero, the transaction limit (document 02, Item 8), an accepted AFL, k is
+-- 1 to R, 1 + k commands
 unfoldable pub recordRanges : AwaitedRecord → ℕ → List ℕ → Bool
 recordRanges p n b =
     runningRanges b
@@ -138,8 +138,8 @@ recordRanges p n b =
     and between 1 (p .number) (storedRecordCount b)
     and n =? 1 + p .number
 
--- on the cryptogram: EMV mode, what it needs is there, the verification's results 9F34, the limit in force, an accepted
--- locator, 2 + R commands; that it holds one of the three choices and a method is the phase's type
+-- on the cryptogram: EMV mode, what it needs is present, the CVM Results 9F34, the transaction limit, an accepted AFL,
+-- 2 + R commands; that it holds one of the three choices and a CVM is the phase's type
 unfoldable pub cryptogramRanges : RequestedCryptogram → ℕ → List ℕ → Bool
 cryptogramRanges a n b =
     runningRanges b
@@ -150,8 +150,8 @@ cryptogramRanges a n b =
     and acceptsAfl (storedAfl b)
     and n =? 2 + storedRecordCount b
 
--- on the checksum: mag-stripe mode, 95 is zero, what its answer's digits need is there, the limit in force, an accepted
--- locator, 2 + R commands; the track need not be one that can take the digits
+-- on the checksum: mag-stripe mode, 95 is zero, what its answer's digits need is present, the transaction limit, an
+-- accepted AFL, 2 + R commands; the track need not be one that can take the digits
 unfoldable pub checksumRanges : AwaitedChecksum → ℕ → List ℕ → Bool
 checksumRanges c n b =
     runningRanges b
@@ -162,7 +162,7 @@ checksumRanges c n b =
     and acceptsAfl (storedAfl b)
     and n =? 2 + storedRecordCount b
 
--- the most commands: processing options, 128 records, the cryptogram or the checksum
+-- the most commands: GPO, 128 records, the cryptogram or the checksum
 abbrev pub mostCommands : ℕ
 mostCommands = 130
 
@@ -183,7 +183,7 @@ phaseRanges (Phase.Cryptogram a) s = cryptogramRanges a (s .count) (storeBytes s
 phaseRanges (Phase.Checksum c)   s = checksumRanges c (s .count) (storeBytes s)
 phaseRanges (Phase.Ended e)      s = endedRanges e (s .count)
 
--- a session record keeps its ranges; the store's size is that of its type
+-- a session record is in its ranges; the store's size is that of its type
 unfoldable pub inRanges : Session → Bool
 inRanges s =
     length (storeBytes s) =? storeSize

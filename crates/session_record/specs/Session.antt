@@ -53,7 +53,7 @@ storedSession s b = record { phase = s .phase; count = s .count; store = b }
 abbrev pub endingOf : Outcome → ℕ → Ending
 endingOf o n = record { outcome = o; reason = n }
 
--- what an outcome tells: the outcome with its reason, and the method's number (document 02, Item 5)
+-- what an outcome reports: the outcome with its reason, and the CVM's number (document 02, Item 5)
 abbrev pub outcomeParameters : Outcome → ℕ → ℕ → OutcomeParameters
 outcomeParameters o n m = record { outcome = o; reason = n; cvm = m }
 
@@ -61,9 +61,9 @@ outcomeParameters o n m = record { outcome = o; reason = n; cvm = m }
 abbrev pub refusedReply : Session → ℕ → Reply
 refusedReply s n = record { session = s; answer = CallResult.Refused (record { number = n }) }
 
--- ---- turns: a reply without the store
+-- ---- transitions: a reply without the store
 
--- a turn with the store that it left
+-- a transition with the store that it left
 abbrev pub replyOf : Transition → List ℕ → Reply
 replyOf t b = record { session = sessionOf (t .phase) (t .count) b; answer = t .answer }
 
@@ -71,7 +71,7 @@ replyOf t b = record { session = sessionOf (t .phase) (t .count) b; answer = t .
 abbrev pub refusedTransition : Phase → ℕ → ℕ → Transition
 refusedTransition p k n = record { phase = p; count = k; answer = CallResult.Refused (record { number = n }) }
 
--- the session ends with an outcome and a reason, and tells the method by its number m; the record keeps no method
+-- the session ends with an outcome and a reason, and reports the CVM by its number m; the record keeps no CVM
 abbrev pub endingTransition : ℕ → ℕ → Outcome → ℕ → Transition
 endingTransition m k o n = record { phase = Phase.Ended (endingOf o n); count = k; answer = CallResult.Outcome (outcomeParameters o n m) }
 
@@ -94,7 +94,7 @@ isFresh (Phase.Cryptogram a) = false
 isFresh (Phase.Checksum c) = false
 isFresh (Phase.Ended e) = false
 
--- it waits on an answer: to processing options, to a record command, to the cryptogram, to the checksum
+-- it waits on an answer: to GPO, to a record command, to the cryptogram, to the checksum
 abbrev pub isRunning : Phase → Bool
 isRunning Phase.Fresh = false
 isRunning Phase.Gpo = true

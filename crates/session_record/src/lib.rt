@@ -1,9 +1,9 @@
-// The session record by value: its phase, its count of commands handed out and its store; the reply of
-// a call; and the ranges that a record handed in must keep (`in_ranges`, `parts_in_ranges`).
+// The session record by value: its phase, its count of commands handed out and its store; the reply of a call; and the
+// ranges that a record passed in must be in (`in_ranges`, `parts_in_ranges`).
 //
-// Inside a call the store is lent, and a turn stands for the reply without it. A record is built anew only
-// by `fresh_session`, `waiting_session` and `reply_of`, and a turn only by `refuse_call`, `end_session`, `fail_session` and `issue_command`: a new
-// field is added there.
+// Inside a call the store is borrowed, and a transition stands for the reply without it. A record is built anew only by
+// `fresh_session`, `waiting_session` and `reply_of`, and a transition only by `refuse_call`, `end_session`,
+// `fail_session` and `issue_command`: a new field is added there.
 use analysis::choice::Choice;
 use analysis::cvm::Cvm;
 use dictionary::{
@@ -46,25 +46,25 @@ pub struct Ending {
     pub reason: u8,
 }
 
-// The record of the card that is awaited: its number in the locator's order, from 1; and the transaction limit in force.
+// The record of the card that is awaited: its number in the AFL's order, from 1; and the session's transaction limit.
 pub struct AwaitedRecord {
     pub number: u8,
     pub limit: u64,
 }
 
-// The cryptogram that is awaited: what was asked for, the method of cardholder verification, and the limit in force.
+// The cryptogram that is awaited: what was requested, the CVM, and the transaction limit.
 pub struct RequestedCryptogram {
     pub choice: Choice,
     pub cvm: Cvm,
     pub limit: u64,
 }
 
-// The checksum that is awaited (mag-stripe mode): the limit in force.
+// The checksum that is awaited (mag-stripe mode): the transaction limit.
 pub struct AwaitedChecksum {
     pub limit: u64,
 }
 
-// Fresh; waiting on processing options, on a record, on the cryptogram or on the checksum; or ended.
+// Fresh; waiting on GPO, on a record, on the cryptogram or on the checksum; or ended.
 pub enum Phase {
     Fresh,
     Gpo,
@@ -80,7 +80,7 @@ pub struct Session {
     pub store: Store,
 }
 
-// A command in the front of the lent buffer.
+// A command at the front of the caller's buffer.
 pub struct CommandLength {
     pub size: usize,
 }
@@ -90,7 +90,7 @@ pub struct Refusal {
     pub number: u8,
 }
 
-// What an outcome tells: the outcome with its reason, and the number of the method of cardholder verification.
+// What an outcome reports: the outcome with its reason, and the number of the CVM.
 pub struct OutcomeParameters {
     pub outcome: Outcome,
     pub reason: u8,
@@ -108,13 +108,13 @@ pub struct Reply {
     pub answer: CallResult,
 }
 
-// Where a walk over the store stands: at a row, and at the byte where its place starts.
+// The position of a walk over the store: at a row, and at the byte where its place starts.
 pub struct RowSpot {
     pub row: usize,
     pub at: usize,
 }
 
-// What a call hands back beside the store.
+// What a call returns besides the store.
 pub struct Transition {
     pub phase: Phase,
     pub count: u8,
@@ -198,7 +198,7 @@ pub fn refuse_call(phase: Phase, count: u8, number: u8) -> Transition
     }
 }
 
-// The session ends with an outcome and its reason, and tells the method; the record keeps no method.
+// The session ends with an outcome and its reason, and reports the CVM; the record keeps no CVM.
 pub fn end_session(count: u8, outcome: Outcome, reason: u8, cvm: u8) -> Transition
     ensures { λ r. ⌜ r ≡ endingTransition cvm count outcome reason ⌝ }
 {
@@ -227,7 +227,7 @@ pub fn issue_command(phase: Phase, count: u8, size: usize) -> Transition
     }
 }
 
-// The reply of a call: its turn, with the store that it left.
+// The reply of a call: its transition, with the store that it left.
 pub fn reply_of(transition: Transition, store: Store) -> Reply
     ensures { λ r. ⌜ r ≡ replyOf transition (store .bytes) ⌝ }
 {
@@ -244,7 +244,7 @@ pub fn reply_of(transition: Transition, store: Store) -> Reply
     }
 }
 
-// Whether a session record keeps its ranges.
+// Whether a session record is in its ranges.
 pub fn in_ranges(session: Session) -> bool
     ensures { λ r. ⌜ TestsRanges session r ⌝ }
 {
@@ -281,7 +281,7 @@ fn fresh_in_ranges(count: u8, bytes: &[u8]) -> bool
     all_zero(bytes)
 }
 
-// Waiting on processing options: nothing of their answer is there yet.
+// Waiting on GPO: nothing of its answer is present yet.
 fn gpo_in_ranges(count: u8, bytes: &[u8]) -> bool
     requires { ⌜ length (now bytes) ≡ storeSize ⌝ }
     ensures { λ r. ⌜ r ≡ both (allObjectsFit (now (bytes .entry))) (gpoRanges count (now (bytes .entry))) ⌝ }
@@ -301,7 +301,7 @@ fn gpo_in_ranges(count: u8, bytes: &[u8]) -> bool
     count == 1
 }
 
-// Waiting on a record that the stored locator names, with the limit that the store gives.
+// Waiting on a record that the stored AFL names, with the limit that the store gives.
 fn record_in_ranges(place: AwaitedRecord, count: u8, bytes: &[u8]) -> bool
     requires { ⌜ length (now bytes) ≡ storeSize ⌝ }
     ensures { λ r. ⌜ r ≡ both (allObjectsFit (now (bytes .entry))) (recordRanges place count (now (bytes .entry))) ⌝ }
@@ -333,7 +333,8 @@ fn record_in_ranges(place: AwaitedRecord, count: u8, bytes: &[u8]) -> bool
     basics::widen(count) == 1 + k
 }
 
-// Waiting on the cryptogram: every record was asked for, what the choice needs is there, and 9F34; the limit is the store's.
+// Waiting on the cryptogram: every record was requested, what the choice needs is present, and 9F34; the limit is
+// the store's.
 fn cryptogram_in_ranges(asked: RequestedCryptogram, count: u8, bytes: &[u8]) -> bool
     requires { ⌜ length (now bytes) ≡ storeSize ⌝ }
     ensures { λ r. ⌜ r ≡ both (allObjectsFit (now (bytes .entry))) (cryptogramRanges asked count (now (bytes .entry))) ⌝ }
@@ -364,7 +365,7 @@ fn cryptogram_in_ranges(asked: RequestedCryptogram, count: u8, bytes: &[u8]) -> 
     n - 2 == extent.records
 }
 
-// Waiting on the checksum: every record was asked for, and what the digits need is there; the limit is the store's.
+// Waiting on the checksum: every record was requested, and what the digits need is present; the limit is the store's.
 fn checksum_in_ranges(checksum: AwaitedChecksum, count: u8, bytes: &[u8]) -> bool
     requires { ⌜ length (now bytes) ≡ storeSize ⌝ }
     ensures { λ r. ⌜ r ≡ both (allObjectsFit (now (bytes .entry))) (checksumRanges checksum count (now (bytes .entry))) ⌝ }
@@ -453,7 +454,7 @@ fn is_running(bytes: &[u8]) -> bool
     is_last_absent(bytes)
 }
 
-// Nothing that only the answer to the cryptogram or to the checksum brings is there.
+// Nothing that only the answer to the cryptogram or to the checksum brings is present.
 fn is_last_absent(bytes: &[u8]) -> bool
     ensures { λ r. ⌜ r ≡ lastResponseAbsent (now (bytes .entry)) ⌝ }
 {
@@ -472,14 +473,14 @@ fn is_last_absent(bytes: &[u8]) -> bool
     !store::is_there(bytes, ROW_CVC3_TRACK2)
 }
 
-// The card said that it is in EMV mode.
+// The AIP indicates EMV mode.
 pub fn is_emv(bytes: &[u8]) -> bool
     ensures { λ r. ⌜ r ≡ emvMode (now (bytes .entry)) ⌝ }
 {
     basics::byte_at(store::value(bytes, ROW_AIP), 1) / 128 % 2 == 1
 }
 
-// The card said that it is not in EMV mode, and mag-stripe mode is not off.
+// The AIP indicates no EMV mode, and mag-stripe mode is not off.
 pub fn is_mag_stripe(bytes: &[u8]) -> bool
     ensures { λ r. ⌜ r ≡ magStripeMode (now (bytes .entry)) ⌝ }
 {
@@ -502,7 +503,7 @@ pub fn is_either(bytes: &[u8]) -> bool
     is_mag_stripe(bytes)
 }
 
-// The track, the two bitmaps and the counter's digits are there, none empty.
+// The track, the two bitmaps and the counter's digits are present, none empty.
 pub fn is_track_complete(bytes: &[u8]) -> bool
     ensures { λ r. ⌜ r ≡ trackDataPresent (now (bytes .entry)) ⌝ }
 {
@@ -518,7 +519,7 @@ pub fn is_track_complete(bytes: &[u8]) -> bool
     store::value(bytes, ROW_NATC_TRACK2).len() != 0
 }
 
-// The expiry date, the account number and the list of the cryptogram's data are there, none empty.
+// The expiry date, the account number and CDOL1 are present, none empty.
 pub fn is_complete(bytes: &[u8]) -> bool
     ensures { λ r. ⌜ r ≡ cryptogramDataPresent (now (bytes .entry)) ⌝ }
 {
@@ -531,8 +532,8 @@ pub fn is_complete(bytes: &[u8]) -> bool
     store::value(bytes, ROW_CDOL1).len() != 0
 }
 
-// Every stored object fits its row; where `asked`, what a start must bring is there too. One walk for both, from one
-// object that is there to the next; it counts those that a start must bring.
+// Every stored object fits its row; where `asked`, what a start must bring is present too. One walk for both, from one
+// object that is present to the next; it counts those that a start must bring.
 fn all_rows_fit(bytes: &[u8], asked: bool) -> bool
     requires { ⌜ length (now bytes) ≡ storeSize ⌝ }
     ensures { λ r. ⌜ r ≡ allRowsFit asked (now (bytes .entry)) ⌝ }
@@ -559,7 +560,7 @@ fn all_rows_fit(bytes: &[u8], asked: bool) -> bool
     }
 }
 
-// The first row from a row on whose object is there, and where its place starts; the end where there is none.
+// The first row from a row on whose object is present, and where its place starts; the end where there is none.
 fn next_held(bytes: &[u8], codes: &[u32; ROWS], from: usize, start: usize) -> RowSpot
     requires { ⌜ length (now bytes) ≡ storeSize ⌝ }
     requires { ⌜ now codes ≡ packedRows dictionaryRows ⌝ }
@@ -578,7 +579,7 @@ fn next_held(bytes: &[u8], codes: &[u32; ROWS], from: usize, start: usize) -> Ro
     RowSpot { row, at }
 }
 
-// Whether so many objects that a start must bring are all of them, where that is asked.
+// Whether so many objects that a start must bring are all of them, where that is required.
 fn is_enough(asked: bool, brought: usize) -> bool
     ensures { λ r. ⌜ r ≡ either (not asked) (eqb brought requiredCount) ⌝ }
 {
@@ -605,8 +606,8 @@ fn row_fits(place: &[u8], a: Attributes) -> bool
     dictionary::digits_fit(a.form, &place[1..stored])
 }
 
-// Every object that a start must bring is there. The rows are bound before the loop, and its bound is a constant: the compiler
-// makes a test of one byte for each, and no table.
+// Every object that a start must bring is present. The rows are bound before the loop, and its bound is a constant: the
+// compiler makes a test of one byte for each, and no table.
 pub fn all_required_present(bytes: &[u8]) -> bool
     ensures { λ r. ⌜ r ≡ allRequiredPresent (now (bytes .entry)) ⌝ }
 {
@@ -621,7 +622,7 @@ pub fn all_required_present(bytes: &[u8]) -> bool
     true
 }
 
-// Every byte is zero: the greatest is. All are looked at, so that the compiler takes many at once.
+// Every byte is zero: the greatest is. All are examined, so that the compiler takes many at once.
 fn all_zero(v: &[u8]) -> bool
     ensures { λ r. ⌜ r ≡ every isZeroByte (now (v .entry)) ⌝ }
 {

@@ -1,4 +1,5 @@
--- Start bytes on both sides of each rule's edge, computed: for every store where the store does not matter, else in the empty one.
+-- Start bytes on both sides of each rule's edge, computed: for every store where the store does not matter, else in
+-- the empty one.
 -- Assumes nothing.
 use mathlib.Core.Path.{_≡_, refl}
 use mathlib.Core.Bool.{false}
@@ -26,15 +27,15 @@ use Rattle.start_data.specs.StartData.{terminalTypeListed, settableBySta
 pub record Refused (b : List ℕ) : Type 0 where
   -- a template that the dictionary does not know
   pub template : loadStart b (0xE1 ∷ 0x00 ∷ []) ≡ refusal 20
-  -- 00 where a tag should stand
+  -- 00 where a tag is expected
   pub padding : loadStart b (0x00 ∷ []) ≡ refusal 20
-  -- in front of an object, between two and behind one
+  -- before an object, between two and after one
   pub padded-front : loadStart b (0x00 ∷ 0x9C ∷ 0x01 ∷ 0x00 ∷ []) ≡ refusal 20
   pub padded-between : loadStart b (0x9C ∷ 0x01 ∷ 0x00 ∷ 0x00 ∷ 0x9A ∷ 0x00 ∷ []) ≡ refusal 20
   pub padded-behind : loadStart b (0x9C ∷ 0x01 ∷ 0x00 ∷ 0x00 ∷ []) ≡ refusal 20
-  -- an object that may not be set, and behind it one that is cut short: all bytes are looked at first
+  -- an object that may not be set, and after it one that is truncated: all bytes are examined first
   pub cut : loadStart b (0x95 ∷ 0x00 ∷ 0x9A ∷ 0x03 ∷ 0x25 ∷ []) ≡ refusal 20
-  -- result bits
+  -- a TVR
   pub results : loadStart b (0x95 ∷ 0x05 ∷ 0x00 ∷ 0x00 ∷ 0x00 ∷ 0x00 ∷ 0x00 ∷ []) ≡ refusal 23
   -- a date whose last digit is A
   pub digit : loadStart b (0x9A ∷ 0x03 ∷ 0x25 ∷ 0x12 ∷ 0x3A ∷ []) ≡ refusal 23
@@ -68,8 +69,8 @@ refused b = record {
 abbrev loadEmpty : List ℕ → LoadedStore
 loadEmpty = loadStart (replicate storeSize 0)
 
--- taken as far as they go, so that only what a start must bring is absent: three bytes of 9F33, 9F38 empty, type 16, two objects
--- that differ
+-- taken as far as they go, so that only what a start must bring is absent: three bytes of 9F33, 9F38 empty, type 16,
+-- two objects that differ
 taken : map loadEmpty
     ((0x9F ∷ 0x33 ∷ 0x03 ∷ 0 ∷ 0 ∷ 0 ∷ [])
     ∷ (0x9F ∷ 0x38 ∷ 0x00 ∷ [])
@@ -80,8 +81,9 @@ taken : map loadEmpty
 unfolding loadStart primitiveObjects recurse recurseBy objectBefore primitiveOf headerOf tagAt tagSize tagSecondByte lengthAt tagFirstByte isTemplate isPrivate bigEndianFrom if both either every dictionaryRows rowPast findRow settableByStart setObject setObjects fitsRow digitsFit numeric nibbles terminalTypeListed listedTerminalType rowOffset rowPlace placeValue rowValue putRow objectValueIn allRequiredPresent isPresentIfRequired
 taken = refl
 
--- two and four bytes of 9F33; no byte and two of DF811B, five bytes of DF8125 and a digit that is none; three bytes of 9F6A and a digit
--- that is none; 82, 8E, 9F42 and 9F6B, which are the card's, and 9F34, which is the session's; type 17; 9F38 twice, empty both times
+-- two and four bytes of 9F33; no byte and two of DF811B, five bytes of DF8125 and a digit that is none; three bytes of
+-- 9F6A and a digit that is none; 82, 8E, 9F42 and 9F6B, which are the card's, and 9F34, which is the session's; type
+-- 17; 9F38 twice, empty both times
 stopped : map loadEmpty
     ((0x9F ∷ 0x33 ∷ 0x02 ∷ 0 ∷ 0 ∷ [])
     ∷ (0x9F ∷ 0x33 ∷ 0x04 ∷ 0 ∷ 0 ∷ 0 ∷ 0 ∷ [])
@@ -103,8 +105,8 @@ stopped : map loadEmpty
 unfolding loadStart primitiveObjects recurse recurseBy objectBefore primitiveOf headerOf tagAt tagSize tagSecondByte tagThirdByte lengthAt tagFirstByte isTemplate isPrivate bigEndianFrom if both either every dictionaryRows rowPast findRow settableByStart setObject setObjects fitsRow digitsFit numeric nibbles terminalTypeListed listedTerminalType rowOffset rowPlace placeValue rowValue putRow objectValueIn allRequiredPresent isPresentIfRequired
 stopped = refl
 
--- what a start must bring but the last four: 9A, 9C, 9F02, 9F09, 9F1A, 9F33, 9F35, 9F37, DF8120 to DF8124; then DF811B, DF8125,
--- DF8126 and 9F6A
+-- what a start must bring but the last four: 9A, 9C, 9F02, 9F09, 9F1A, 9F33, 9F35, 9F37, DF8120 to DF8124; then DF811B,
+-- DF8125, DF8126 and 9F6A
 abbrev others : List ℕ
 others =
     0x9A ∷ 0x03 ∷ 0x25 ∷ 0x12 ∷ 0x31 ∷ 0x9C ∷ 0x01 ∷ 0x00 ∷ 0x9F ∷ 0x02 ∷ 0x06 ∷ 0 ∷ 0 ∷ 0 ∷ 0 ∷ 0x10 ∷ 0 ∷

@@ -1,5 +1,5 @@
--- A put of a value that fits keeps every stored object fitting: its own place holds the value's length + 1 and the value, every other
--- place is untouched.
+-- A put of a value that fits keeps every stored object fitting: its own place holds the value's length + 1 and the
+-- value, every other place is untouched.
 -- Assumes nothing.
 use mathlib.Core.Path.{_≡_, sym, ap, ap₂, subst, _∙_}
 use mathlib.Core.Bool.{true}
@@ -25,7 +25,7 @@ use Rattle.session_record.specs.Ranges.{valueFits, objectFits, allObjectsFit}
 use Rattle.session_record.proofs.Every.{every-all}
 use Rattle.session_record.proofs.Tags.{row-found, value-is, length-is}
 
--- an object fits by what stands in its row's place
+-- an object fits by what is in its row's place
 by-place : (b : List ℕ) (j : ℕ) → j < rowCount
     → objectFits b (rowAt j) ≡ both (leb (lengthByte dictionaryRows b j) (rowRoom (rowAt j))) (valueFits (rowAt j) (rowValue dictionaryRows b j))
 unfolding objectFits

@@ -1,5 +1,6 @@
--- What a loading leaves of a store. A store that is loaded comes by a run whose objects are all set (`load-by`), and what each put keeps
--- holds at the end (`load-holds`); from these its size, that every object fits, rows that a start may not set, and the terminal's type.
+-- What a loading leaves of a store. A store that is loaded comes by a run whose objects are all set (`load-by`), and
+-- what each put keeps holds at the end (`load-holds`); from these its size, that every object fits, rows that a start
+-- may not set, and the terminal's type.
 -- Assumes nothing.
 use mathlib.Core.Path.{_≡_, refl, sym, ap, subst, _∙_}
 use mathlib.Core.Bool.{true, false, not}
@@ -78,7 +79,7 @@ module _ (b s c : List ℕ) where
   load-by = if-ind (λ (x : LoadedStore). x ≡ loaded c → LoadedBy b s c) _ _ _
       (λ t. run-by (leb-true _ _ t) (primitiveObjects s) refl) (λ t e. never e)
 
-  -- all that a start must bring is there
+  -- all that a start must bring is present
   pub load-brought : loadStart b s ≡ loaded c → allRequiredPresent c ≡ true
   load-brought e = load-by e .complete
 
@@ -134,7 +135,7 @@ module _ (P : List ℕ → Type 0)
   all-holds [] b h = h
   all-holds (o ∷ os) b h = then-holds (setObject b o) _ (all-holds os) (object-holds b o h)
 
-  -- objects behind which every such store refuses the rest
+  -- objects after which every such store refuses the rest
   then-none : (x : Option (List ℕ)) (k : List ℕ → Option (List ℕ)) → ((c : List ℕ) → Holds c → k c ≡ none) → OfSet x → thenSet x k ≡ none
   then-none none k h i = refl
   then-none (some c) k h i = h c i
@@ -174,7 +175,7 @@ module _ (b s c : List ℕ) (e : loadStart b s ≡ loaded c) (l : length b ≡ s
   pub load-untouched-of : (t k : ℕ) → findRow dictionaryRows t ≡ At k → hasBit (rowAt k .setters) setByStart ≡ false → objectValue c t ≡ objectValue b t
   load-untouched-of t k f n = by-row dictionaryRows c t k f ∙ load-untouched k n ∙ sym (by-row dictionaryRows b t k f)
 
-  -- an object that was there, empty or not, is as it was
+  -- an object that was present, empty or not, is as it was
   pub load-kept : (k : ℕ) → isPresent (rowValue dictionaryRows b k) ≡ true → rowValue dictionaryRows c k ≡ rowValue dictionaryRows b k
   load-kept k h =
       kept k (λ d j o p g q. let r = p .free in let w = ap (λ (i : ℕ). isPresent (rowValue dictionaryRows d i)) q in let v = ap isPresent g in let z : _≡_ {A = ℕ} 0 1 = cc in omega arith)

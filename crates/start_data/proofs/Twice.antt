@@ -1,4 +1,5 @@
--- A known tag twice: the first object of the tag is there once it is set, what is there stays there, and a second one is refused.
+-- A known tag twice: the first object of the tag is there once it is set, what is there stays there, and a second
+-- one is refused.
 -- Assumes nothing.
 use mathlib.Core.Path.{_≡_, refl, sym, ap, subst, _∙_}
 use mathlib.Core.Bool.{true, not}
@@ -46,7 +47,7 @@ set-there b o k l e (some d) q rest h = elim (bool-cases (settableByStart b k o)
   | inr s ↦ (let w = set-refused b o (findRow dictionaryRows (o .tag)) refl k e s in cc)
 ]
 
--- two objects of a known tag, whatever stands around them, are refused, empty ones too
+-- two objects of a known tag, whatever is around them, are refused, empty ones too
 pub twice-refused : (b : List ℕ) (xs ys zs : List Object) (o p : Object) (k : ℕ) → length b ≡ storeSize
     → findRow dictionaryRows (o .tag) ≡ At k → o .tag ≡ p .tag → setObjects b (xs ++ (o ∷ (ys ++ (p ∷ zs)))) ≡ none
 unfolding setObjects

@@ -1,4 +1,5 @@
--- The ways out of a loading, one law for each, in the order of the refusals; and what the answer of the call says of them.
+-- The ways out of a loading, one law for each, in the order of the refusals; and what the answer of the call
+-- says of them.
 -- Assumes nothing.
 use mathlib.Core.Path.{_≡_, refl, sym, ap, subst, _∙_}
 use mathlib.Core.Bool.{true, false}

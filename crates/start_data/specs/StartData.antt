@@ -26,7 +26,7 @@ terminalTypeListed t v =
     if t =? 0x9F35 then listedTerminalType (getD v 0 0)
     else true
 
--- a known object that a start may set, of a length and digits that fit, not there yet; a terminal type is listed
+-- a known object that a start may set, of a length and digits that fit, not present yet; a terminal type is listed
 unfoldable pub settableByStart : List ℕ → ℕ → Object → Bool
 settableByStart b k o =
     hasBit (rowAt k .setters) setByStart
@@ -60,7 +60,7 @@ unfoldable pub setParsed : List ℕ → Option (List Object) → Option (List �
 setParsed b none = none
 setParsed b (some os) = setObjects b os
 
--- what is said and left of a store: all were set; or one may not be set, and the store is given up
+-- what is reported and left of a store: all were set; or one may not be set, and the store is given up
 abbrev pub SetsObjects : Bool → List ℕ → Option (List ℕ) → Type 0
 SetsObjects r c none = r ≡ false
 SetsObjects r c (some d) = (r ≡ true) × (c ≡ d)
@@ -72,13 +72,13 @@ pub data LoadedStore : Type 0 where
   refusal : ℕ → LoadedStore
   loaded : List ℕ → LoadedStore
 
--- all that a start must bring is there
+-- all that a start must bring is present
 abbrev pub loadedIfRequired : List ℕ → LoadedStore
 loadedIfRequired b =
     if allRequiredPresent b then loaded b
     else refusal refusedAbsent
 
--- an object that may not be set is 23; else what a start must bring is looked for
+-- an object that may not be set is 23; else what a start must bring is checked
 abbrev pub afterSetting : Option (List ℕ) → LoadedStore
 afterSetting none = refusal refusedObject
 afterSetting (some b) = loadedIfRequired b
@@ -98,7 +98,7 @@ loadStart b s =
     if length s ≤? mostStartBytes then afterRun b (primitiveObjects s)
     else refusal refusedBytes
 
--- ---- what the call hands back
+-- ---- what the call returns
 
 -- by its number, or taken
 abbrev pub loadResultOf : LoadedStore → LoadResult
@@ -110,7 +110,7 @@ abbrev pub storeAfterLoad : List ℕ → LoadedStore → List ℕ
 storeAfterLoad b (refusal n) = b
 storeAfterLoad b (loaded c) = c
 
--- what is said, and the store c that is left of b
+-- what is reported, and the store c that is left of b
 pub record LoadsStart (r : LoadResult) (c b : List ℕ) (x : LoadedStore) : Type 0 where
   pub said : r ≡ loadResultOf x
   pub store : c ≡ storeAfterLoad b x
@@ -119,11 +119,11 @@ pub record LoadsStart (r : LoadResult) (c b : List ℕ) (x : LoadedStore) : Type
 --   load-by            a loaded store comes by at most 1,024 bytes that are a run whose objects are all set; all is
 --                      brought
 --   load-holds         what each put of a settable object keeps holds of the store that is loaded
---   load-brought       all that a start must bring is there
+--   load-brought       all that a start must bring is present
 --   load-size          the store keeps its size
 --   load-fits          where every stored object fitted, every one fits
 --   load-untouched     rows that a start may not set are as they were
 --   load-kept          objects that were there are as they were
---   load-listed        where no terminal type was there, the one that is loaded is listed
+--   load-listed        where no terminal type was present, the one that is loaded is listed
 --   load-long-same     every input over 1,024 bytes gives the same
---   twice-refused      two objects of a known tag are refused, whatever stands around them
+--   twice-refused      two objects of a known tag are refused, whatever is around them

@@ -1,8 +1,8 @@
 // The start bytes of a session into a store, or the refusal that they meet.
 //
-// `load` first finds whether the bytes are a run of whole primitive objects, then sets the objects one
-// after the other, then sees that all that a start must bring is there. The store is empty before the call,
-// and a refusal clears it again.
+// `load` first finds whether the bytes are a run of whole primitive objects, then sets the objects one after the
+// other, then sees that all that a start must bring is present. The store is empty before the call, and a refusal
+// clears it again.
 use dictionary::RowFound;
 use dictionary::ROWS;
 use session_record::Refusal;
@@ -15,7 +15,7 @@ ghost use Rattle.dictionary.specs.Tables.{TablesGiven, packedRows};
 ghost use Rattle.tlv.specs.Primitives.{tlvObject, primitiveObjects};
 ghost use Rattle.start_data.specs.StartData.{terminalTypeListed, settableByStart, setObject, setParsed, SetsObjects, loadStart as loadOf, LoadsStart};
 
-// What a loading says of the start bytes.
+// What a loading reports of the start bytes.
 pub enum LoadResult {
     Loaded,
     Refused(Refusal),
@@ -136,7 +136,7 @@ fn is_settable(bytes: &[u8], row: usize, tag: u32, v: &[u8], codes: &[u32; ROWS]
     is_type_listed(tag, v)
 }
 
-// Whether a terminal type is listed; nothing is asked of other objects.
+// Whether a terminal type is listed; nothing is required of other objects.
 fn is_type_listed(tag: u32, v: &[u8]) -> bool
     ensures { λ r. ⌜ r ≡ terminalTypeListed tag (now (v .entry)) ⌝ }
 {

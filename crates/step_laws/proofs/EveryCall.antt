@@ -1,6 +1,6 @@
--- What holds of every call, whatever it is given: a refusal changes nothing, the count follows the commands handed out, the buffer keeps
--- its length and what stands behind a command, a locator with bytes stays as it is, and a start that ends does so before any command. Each
--- goes by the ways of Ways.antt.
+-- What holds of every call, whatever it is given: a refusal changes nothing, the count follows the commands handed out,
+-- the buffer keeps its length and what is after a command, an AFL with bytes stays as it is, and a start that ends does
+-- so before any command. Each goes by the ways of Ways.antt.
 -- Assumes nothing.
 use mathlib.Core.Path.{_≡_, refl, ap, subst, _∙_}
 use mathlib.Core.Bool.{true}
@@ -152,7 +152,7 @@ buffer-length (Came.refused n) = refl
 buffer-length (Came.ended m b o n) = refl
 buffer-length (Came.sent b p c l) = simp (length-append, length-drop) (omega arith)
 
--- ---- a locator with bytes stays as it is
+-- ---- an AFL with bytes stays as it is
 
 module _ (s : Session) (card buf : List ℕ) (n : length (storedAfl (storeBytes s)) ≡ 0 → ⊥) where
   abbrev Same : Step → Type 0
@@ -234,7 +234,7 @@ link-store s buf = broken-store s reasonLink buf
 pub stop-store : (s : Session) (buf : List ℕ) → storeBytes (stopStep s buf .reply .session) ≡ storeBytes s
 stop-store s buf = broken-store s reasonStopped buf
 
--- an accepted locator is one with bytes
+-- an accepted AFL is one with bytes
 pub accepted-bytes : (s : Session) → acceptsAfl (storedAfl (storeBytes s)) ≡ true → length (storedAfl (storeBytes s)) ≡ 0 → ⊥
 accepted-bytes s a z = omega (arith, accepted-length (storedAfl (storeBytes s)) a .1)
 

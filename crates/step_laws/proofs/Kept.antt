@@ -1,5 +1,5 @@
--- What the reading of an answer, the result bits and the results of the verification leave of what the ranges speak of: each put is one
--- that its row allows.
+-- What the reading of an answer, the TVR and the CVM Results leave of what the ranges speak of: each put is one that
+-- its row allows.
 -- Assumes nothing.
 use mathlib.Core.Path.{_≡_, refl, sym, ap, ap₂, subst, _∙_}
 use mathlib.Core.Bool.{true, false, not}
@@ -41,7 +41,7 @@ use Rattle.session.specs.Steps.{withTvr, withFindings}
 use Rattle.session.specs.MagStripe.{storedTrack, storedBitmaps, storedDigitValues, storeWithDigits}
 use Rattle.session.proofs.Laws.{results-fit, results-place, cvm-fits, cvm-place, track-fits, track-place}
 
--- what a running session holds before its result bits are set
+-- what a running session holds before its TVR is set
 pub record Waits (b : List ℕ) : Type 0 where
   pub size : length b ≡ storeSize
   pub fits : AllObjectsFit b
@@ -92,7 +92,7 @@ read-value a b s l t k e n =
     ∙ read-grows a b s l .kept k (λ z. n (ap (λ (x : StoredValue). length (bytesOfValue x)) (by-row dictionaryRows b t k e) ∙ z))
     ∙ sym (by-row dictionaryRows b t k e)
 
--- 82 is there with its two bytes in either mode, and so has an accepted 94 bytes
+-- 82 is present with its two bytes in either mode, and so has an accepted 94 bytes
 aip-two : rowAt rowAip .least ≡ 2
 unfolding dictionaryRows
 aip-two = refl
@@ -106,7 +106,7 @@ read-mode a b s l f m = read-value a b s l 0x82 rowAip at-82 (λ z. omega (arith
 pub read-afl : (a : Awaited) (b s : List ℕ) → length b ≡ storeSize → acceptsAfl (storedAfl b) ≡ true → objectValue (readAnswer a b s .store) 0x94 ≡ objectValue b 0x94
 read-afl a b s l m = read-value a b s l 0x94 rowAfl at-94 (λ z. omega (arith, accepted-length (storedAfl b) m .1))
 
--- what no card sets stays, and so does the limit in force past the processing options
+-- what no card sets stays, and so does the transaction limit past GPO
 pub read-start : (a : Awaited) (b s : List ℕ) → length b ≡ storeSize → (t j : ℕ) → findRow dictionaryRows t ≡ At j → hasBit (rowAt j .setters) setByCard ≡ false
     → objectValue (readAnswer a b s .store) t ≡ objectValue b t
 read-start a b s l t j e n = read-holds P a step b s (l, refl) .1
@@ -137,7 +137,7 @@ read-limit a b s l f m =
     limit-same _ _ (read-mode a b s l f m) (read-start a b s l 0xDF811B rowKernelConfiguration at-DF811B (by-start .0))
     (read-start a b s l 0xDF8124 rowLimitNoOnDeviceCvm at-DF8124 (by-start .1)) (read-start a b s l 0xDF8125 rowLimitOnDeviceCvm at-DF8125 (by-start .2))
 
--- ---- the result bits
+-- ---- the TVR
 
 -- 95 takes any five bytes
 bits-fitting : (v : List ℕ) → length v ≡ 5 → fitsRow (rowAt rowTvr) v ≡ true
@@ -174,7 +174,7 @@ module _ (b v : List ℕ) (l : length b ≡ storeSize) (n : length v ≡ 5) wher
   pub bits-hold : (t : ℕ) → hasObject b t ≡ true → hasObject (withTvr b v) t ≡ true
   bits-hold t h = ap (λ (d : List ℕ). hasObject d t) put ∙ put-holds b rowTvr v l here room t h
 
--- ---- what the analysis found: 9F34, and the result bits behind it
+-- ---- what the analysis found: 9F34, and the TVR after it
 
 -- 9F34 takes any three bytes, and is the session's own
 cvm-fitting : (v : List ℕ) → length v ≡ 3 → fitsRow (rowAt rowCvmResults) v ≡ true
@@ -226,7 +226,7 @@ module _ (b : List ℕ) (f : AnalysisFindings) (l : length b ≡ storeSize) (n :
       ap (λ (x : List ℕ). objectValue x t) found ∙ bits-other _ (f .bits) put-sized m t j e ne
       ∙ put-named b rowCvmResults (f .results) l there fit t j e nf
 
-  -- and so the limit in force stays
+  -- and so the transaction limit stays
   pub found-limit : transactionLimit (withFindings b f) ≡ transactionLimit b
   found-limit =
       limit-same _ _ (found-other 0x82 rowAip at-82 (λ z. omega arith) (λ z. omega arith))

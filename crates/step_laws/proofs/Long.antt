@@ -1,4 +1,5 @@
--- Every answer over 258 bytes gives the same step, and so does every start with over 1,024 bytes: what is read of them is the same.
+-- Every answer over 258 bytes gives the same step, and so does every start with over 1,024 bytes: what is read of them
+-- is the same.
 -- Assumes nothing.
 use mathlib.Core.Path.{_≡_, refl, sym, ap, _∙_}
 use mathlib.Core.List.{List}

@@ -1,4 +1,5 @@
--- A call on a record that keeps its ranges hands back a record that keeps its ranges: way by way, by what each leaves of the clauses.
+-- A call on a record that is in its ranges returns a record that is in its ranges: way by way, by what each leaves of
+-- the clauses.
 -- Assumes nothing.
 use mathlib.Core.Path.{_≡_, refl, sym, ap, subst, _∙_}
 use mathlib.Core.Bool.{true, false}
@@ -56,7 +57,7 @@ failing t n r l f c = ended-keeps t (outcomeOfReason n) n (outcome-goes n (r .le
 list-reason : Reason reasonDol
 list-reason = record { least = omega arith; most = omega arith }
 
--- ---- after the processing options
+-- ---- after GPO
 
 module _ (s : Session) (i : inRanges s ≡ true) (q : s .phase ≡ Phase.Gpo) (card buf : List ℕ) where
   gpo-on : GpoClauses (s .count) (storeBytes s)
@@ -113,7 +114,7 @@ module _ (s : Session) (i : inRanges s ≡ true) (p : AwaitedRecord) (q : s .pha
   inside : p .number ≤ storedRecordCount (storeBytes t)
   inside = subst (λ (v : List ℕ). p .number ≤ aflRecordCount v) (sym same) (record-on .last)
 
-  -- where the locator names no record behind this one, it was the last
+  -- where the AFL names no record after this one, it was the last
   at-last : aflRecordAt (storedAfl (storeBytes t)) (p .number + 1) ≡ RecordFound.Nothing → p .number ≡ storedRecordCount (storeBytes t)
   at-last e = omega (arith, inside, past)
     where

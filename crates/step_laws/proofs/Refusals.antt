@@ -1,5 +1,6 @@
--- Which refusals a session in its ranges meets past the buffer's size (22): a start what its loading gives (20, 23, 24), or 21; the other calls
--- 21, exactly where the session does not run. None meets 25. Each goes by the definitions of the steps and the ways of Ways.antt.
+-- Which refusals a session in its ranges meets past the buffer's size (22): a start what its loading gives (20, 23,
+-- 24), or 21; the other calls 21, exactly where the session does not run. None meets 25. Each goes by the definitions
+-- of the steps and the ways of Ways.antt.
 -- Assumes nothing.
 use mathlib.Core.Path.{_≡_, refl, sym, ap, subst, _∙_}
 use mathlib.Core.Bool.{true, false, not}

@@ -1,4 +1,5 @@
--- The ways out of each call's step, with what is known on each: a call's step is one of them, and every law on steps goes by these cases.
+-- The ways out of each call's step, with what is known on each: a call's step is one of them, and every law on steps
+-- goes by these cases.
 -- Assumes nothing.
 use mathlib.Core.Path.{_≡_, refl, sym, ap}
 use mathlib.Core.Bool.{true, false}
@@ -59,7 +60,7 @@ reason n l m = record { least = l; most = m }
 
 -- ---- the refusals that every call checks first
 
--- a call is admitted: the buffer has room, and the record keeps its ranges
+-- a call is admitted: the buffer has room, and the record is in its ranges
 pub record Admitted (s : Session) (size : ℕ) : Type 0 where
   pub room : leastBuffer ≤ size
   pub ranges : inRanges s ≡ true
@@ -92,9 +93,9 @@ unread-reason a b s z = let f = few-reasons a b s in reason _ (omega arith) (ome
 not-list : (a : Awaited) (b s : List ℕ) → reading.readAnswer a b s .reason ≡ reasonDol → ⊥
 not-list a b s z = let f = few-reasons a b s in omega arith
 
--- ---- after the processing options
+-- ---- after GPO
 
--- a store that has no reason is in one of the modes with an accepted locator; else its reason is one that ends a session
+-- a store that has no reason is in one of the modes with an accepted AFL; else its reason is one that ends a session
 pub stored-none : (b : List ℕ) → gpoStoreReason b ≡ reasonNone → (emvOrMagStripeMode b ≡ true) × (acceptsAfl (storedAfl b) ≡ true)
 unfolding gpoStoreReason
 stored-none b =
@@ -137,7 +138,7 @@ gpo-way t buf =
 
 -- ---- after the last record in EMV mode
 
--- the session with 9F34 and its result bits, and what is asked for with a limit
+-- the session with 9F34 and its TVR, and what is requested with a limit
 abbrev pub analysedSession : Session → Session
 analysedSession t = withStore t (withFindings (storeBytes t) (findingsOf (storeBytes t)))
 
@@ -255,7 +256,7 @@ checksum-way : (t : Session) → ChecksumWay t (afterChecksumRead (t .count) (st
 unfolding afterChecksumRead
 checksum-way t = if-ind (ChecksumWay t) _ _ _ (λ e. failed) (λ e. if-ind (ChecksumWay t) _ _ _ (λ f. declined) (λ f. online))
 
--- ---- the method that a session holds
+-- ---- the CVM that a session holds
 
 -- its number: not applicable but while the cryptogram is awaited
 abbrev pub heldNumber : Phase → ℕ

@@ -7,7 +7,7 @@ use native.Mathlib.Omega.{arith}
 use lib.ListN.{length, take, set, replicate, replicate-append-replicate}
 use lib.Seq.{take-all, take-suc-set}
 
--- one byte more
+-- one more byte
 pub clear-next : (s : List ℕ) (i : ℕ) → i < length s → take i s ≡ replicate i 0 → take (i + 1) (set s i 0) ≡ replicate (i + 1) 0
 clear-next s i h e =
     ap (λ (n : ℕ). take n (set s i 0)) (add-one i) ∙ take-suc-set s i 0 h ∙ ap (λ (x : List ℕ). x ++ (0 ∷ [])) e

@@ -1,5 +1,5 @@
--- What a put leaves, for every table and every store that is large enough for it: its own row holds the value, every other place
--- is untouched, puts of two rows commute. A put is a run of stores at a place, and the places lie apart;
+-- What a put leaves, for every table and every store that is large enough for it: its own row holds the value, every
+-- other place is untouched, puts of two rows commute. A put is a run of stores at a place, and the places lie apart;
 -- and a store copied whole.
 -- Assumes nothing.
 use mathlib.Core.Path.{_≡_, refl, sym, ap, ap₂, _∙_}
@@ -107,7 +107,7 @@ module _ (table : List Row) (b : List ℕ) (k : ℕ) where
 
 -- ---- a run of stores
 
--- a part before it, and a part behind it
+-- a part before it, and a part after it
 part-before : (vs l : List ℕ) (i o m : ℕ) → o + m ≤ i → take m (drop o (sets l i vs)) ≡ take m (drop o l)
 part-before [] l i o m h = refl
 part-before (x ∷ vs) l i o m h =
@@ -133,7 +133,7 @@ sets-sets (y ∷ ws) vs l i j h =
 
 -- ---- a put is such a run
 
--- the length byte stored, and then the value copied behind it
+-- the length byte stored, and then the value copied after it
 pub paste-written : (b : List ℕ) (o : ℕ) (v : List ℕ) → o + 1 + length v ≤ length b → paste (set b o (length v + 1)) (o + 1) v (length v) ≡ withValueAt b o v
 paste-written b o v f =
     let h : o < length b = omega arith in

@@ -1,4 +1,4 @@
--- Where places lie, for every table: each inside the store, each behind the ones before it. By induction over the rows.
+-- Where places lie, for every table: each inside the store, each after the ones before it. By induction over the rows.
 -- Assumes nothing.
 use mathlib.Core.Path.{_≡_, refl, ap}
 use mathlib.Core.Bool.{Bool, true}
@@ -27,7 +27,7 @@ ends [] k h = refl
 ends (r ∷ rs) zero h = absurd (omega arith)
 ends (r ∷ rs) (suc k) h = ap (λ (n : ℕ). rowRoom r + n) (ends rs k (omega arith))
 
--- the next row's place starts behind a row's place
+-- the next row's place starts after a row's place
 pub offset-next : (table : List Row) (k : ℕ) → k < length table → rowOffset table (suc k) ≡ rowOffset table k + rowRoom (rowIn table k)
 unfolding rowOffset
 offset-next [] k h = absurd (omega arith)
@@ -35,7 +35,7 @@ offset-next (r ∷ []) zero h = omega arith
 offset-next (r ∷ s ∷ rs) zero h = omega arith
 offset-next (r ∷ rs) (suc k) h = let ih = offset-next rs k (omega arith) in omega arith
 
--- of two rows, the later one's place lies behind the earlier one's
+-- of two rows, the later one's place lies after the earlier one's
 pub apart : (table : List Row) (j k : ℕ) → j < k → j < length table → rowOffset table j + rowRoom (rowIn table j) ≤ rowOffset table k
 unfolding rowOffset
 apart [] j k h i = absurd (omega arith)

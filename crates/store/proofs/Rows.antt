@@ -67,7 +67,7 @@ past-last k h = omega (arith, rows-end k h, beyond (λ r. r .greatest) k h)
 pub fits-row : (b : List ℕ) (k : ℕ) (v : List ℕ) → length b ≡ storeSize → k < rowCount → length v ≤ rowAt k .greatest → Fits dictionaryRows b k v
 fits-row b k v s h g = record { row = omega (arith, rows-length); value = g; store = omega (arith, rows-size) }
 
--- ---- no bytes are there: by the length byte
+-- ---- no bytes are present: by the length byte
 
 rows-roomy : every (λ r. leb 1 (r .greatest)) dictionaryRows ≡ true
 unfolding dictionaryRows every both

@@ -1,5 +1,5 @@
--- What a store holds of a tag: there, absent, not empty, its bytes one by one (document 01, "Dictionary"; an object of
--- no bytes is there).
+-- What a store holds of a tag: present, absent, not empty, its bytes one by one (document 01, "Dictionary"; an object
+-- of no bytes is there).
 -- Assumes nothing.
 use mathlib.Core.Bool.{Bool, not}
 use mathlib.Core.List.{List}
@@ -10,7 +10,7 @@ use Rattle.dictionary.specs.Rows.{dictionaryRows, findRow}
 use Rattle.dictionary.specs.declared.RowFound.{RowFound}
 use Rattle.store.specs.Place.{objectValue, bytesOfValue, isPresent, lengthByte}
 
--- the object is there, empty or not
+-- the object is present, empty or not
 abbrev pub hasObject : List ℕ → ℕ → Bool
 hasObject b t = isPresent (objectValue b t)
 
@@ -22,7 +22,7 @@ lacksObject b t = not (hasObject b t)
 abbrev pub storedBytes : List ℕ → ℕ → List ℕ
 storedBytes b t = bytesOfValue (objectValue b t)
 
--- it is there and not empty
+-- it is present and not empty
 abbrev pub hasNonEmpty : List ℕ → ℕ → Bool
 hasNonEmpty b t = 0 <? length (storedBytes b t)
 
@@ -38,7 +38,7 @@ isZeroByte x = x =? 0
 abbrev pub isZeroed : List ℕ → ℕ → Bool
 isZeroed b t = every isZeroByte (storedBytes b t)
 
--- the length byte of its place as it stands: the length + 1, 0 where it is absent
+-- the length byte of its place as it is: the length + 1, 0 where it is absent
 abbrev pub lengthFound : List ℕ → RowFound → ℕ
 lengthFound b RowFound.Unknown = 0
 lengthFound b (RowFound.At k) = lengthByte dictionaryRows b k

@@ -21,7 +21,7 @@ abbrev pub bytesOfValue : StoredValue → List ℕ
 bytesOfValue absent = []
 bytesOfValue (present v) = v
 
--- it is there, empty or not
+-- it is present, empty or not
 abbrev pub isPresent : StoredValue → Bool
 isPresent absent = false
 isPresent (present v) = true
@@ -32,7 +32,7 @@ isPresent (present v) = true
 abbrev pub rowRoom : Row → ℕ
 rowRoom r = r .greatest + 1
 
--- where row k's place starts: behind the places of the rows before it
+-- where row k's place starts: after the places of the rows before it
 unfoldable pub rowOffset : List Row → ℕ → ℕ
 rowOffset [] k = 0
 rowOffset (r ∷ rs) zero = 0
@@ -58,7 +58,7 @@ placeValue (n ∷ v) =
 unfoldable pub rowValue : List Row → List ℕ → ℕ → StoredValue
 rowValue table b k = placeValue (rowPlace table b k)
 
--- row k's length byte as it stands
+-- row k's length byte as it is
 unfoldable pub lengthByte : List Row → List ℕ → ℕ → ℕ
 lengthByte table b k = getD (rowPlace table b k) 0 0
 
@@ -66,7 +66,7 @@ lengthByte table b k = getD (rowPlace table b k) 0 0
 abbrev pub isFree : List Row → List ℕ → ℕ → Bool
 isFree table b k = length (bytesOfValue (rowValue table b k)) =? 0
 
--- the bytes with a length byte and the value v at the place o; bytes behind v stay
+-- the bytes with a length byte and the value v at the place o; bytes after v stay
 abbrev pub withValueAt : List ℕ → ℕ → List ℕ → List ℕ
 withValueAt b o v = take o b ++ ((length v + 1) ∷ (v ++ drop (o + 1 + length v) b))
 

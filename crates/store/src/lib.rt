@@ -1,8 +1,8 @@
 // The store of a session's data objects: one array, with a fixed place for each row of the dictionary.
 //
-// A place is one byte of length + 1, 0 where the object is absent, and then room for the value at its
-// greatest length. So absent, present and empty, and present with bytes are apart, the zero array is
-// the empty store, and no object is refused for want of room.
+// A place is one byte of length + 1, 0 where the object is absent, and then room for the value at its greatest length.
+// So absent, present and empty, and present with bytes are apart, the zero array is the empty store, and no object is
+// refused for lack of room.
 use dictionary::SIZE;
 ghost use mathlib.Core.Path.{_≡_};
 ghost use Prim.Native.Nat.{_+_, _-_, _≤_, _<_, min};
@@ -66,14 +66,14 @@ fn unpacked(place: u32) -> RowSpan
     }
 }
 
-// The length byte of a row's place as it stands: 0 where the object is absent, else its length + 1.
+// The length byte of a row's place as it is: 0 where the object is absent, else its length + 1.
 pub fn length_byte(bytes: &[u8], row: usize) -> u8
     ensures { λ r. ⌜ r ≡ lengthByte dictionaryRows (now (bytes .entry)) row ⌝ }
 {
     basics::byte_at(bytes, start_of(row))
 }
 
-// Whether a row's object is there.
+// Whether a row's object is present.
 pub fn is_there(bytes: &[u8], row: usize) -> bool
     ensures { λ r. ⌜ r ≡ isPresent (rowValue dictionaryRows (now (bytes .entry)) row) ⌝ }
 {
@@ -139,8 +139,8 @@ fn write(bytes: &mut [u8], at: usize, v: &[u8])
     }
 }
 
-// A row's place in one number: where it starts, and the greatest length of its value. The compiler keeps the cases as a table,
-// where an array would be built anew each time that it is read.
+// A row's place in one number: where it starts, and the greatest length of its value. The compiler keeps the cases as a
+// table, where an array would be built anew each time that it is read.
 fn place_at(row: usize) -> u32
     ensures { λ r. ⌜ r ≡ packedPlace row ⌝ }
 {

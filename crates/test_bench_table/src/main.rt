@@ -2,7 +2,7 @@
 use reading::{Awaited, Sfi};
 use session_record::{Reply, Session};
 
-// How many of the start bytes stand before the list 9F38.
+// How many of the start bytes are before the PDOL (9F38).
 const PLAIN: usize = 123;
 
 fn main() {
@@ -19,8 +19,8 @@ fn main() {
 
 // ---- start bytes
 
-// All that a start must bring, for a terminal type and a floor limit of so many hundreds; then a list 9F38
-// that asks for so many bytes of 9F02, which is 00 00 00 00 12 34.
+// All that a start must bring, for a terminal type and a floor limit of so many hundreds; then a PDOL (9F38) that
+// requests so many bytes of 9F02, which is 00 00 00 00 12 34.
 fn terminal(kind: u8, floor: u8, asked: u8) -> [u8; 129] {
     [
         0x9A, 0x03, 0x25, 0x11, 0x15, 0x9C, 0x01, 0x00, 0x9F, 0x02, 0x06, 0x00, 0x00, 0x00, 0x00, 0x12, 0x34, 0x9F,
@@ -46,7 +46,7 @@ fn started(kind: u8, floor: u8) -> Session {
     reply.session
 }
 
-// The session after one answer more.
+// The session after one more answer.
 fn answered(session: Session, card: &[u8]) -> Session {
     let mut command = [0u8; 261];
     let reply = session::answer(session, card, &mut command);
@@ -87,7 +87,7 @@ fn record_row(card: &[u8]) {
     show_answered(session, card);
 }
 
-// What a reading into an empty store says and leaves.
+// What a reading into an empty store reports and leaves.
 fn show_reading(awaited: Awaited, card: &[u8]) {
     let before = store::empty();
     let mut after = before.bytes;
@@ -151,7 +151,7 @@ fn count_row(awaited: Awaited, card: &[u8]) {
     print::text(b"\n");
 }
 
-// ---- padding: before, between and behind objects at each level; the full record with a 00 behind each inner object
+// ---- padding: before, between and after objects at each level; the full record with a 00 after each inner object
 
 fn padded_rows() {
     record_row(b"\x70\x01\x00\x90\x00");
@@ -181,7 +181,7 @@ fn unpadded_rows() {
     gpo_count(b"\x80\x07\x00\x80\x08\x01\x01\x00\x00\x90\x00");
 }
 
-// Twelve objects of template 70, then twelve unknown ones, a 00 behind each.
+// Twelve objects of template 70, then twelve unknown ones, a 00 after each.
 fn full_record() -> [u8; 252] {
     [
         0x70, 0x81, 0xF7, 0x57, 0x13, 0x47, 0x61, 0x73, 0x90, 0x01, 0x01, 0x00, 0x10, 0xD4, 0x91, 0x22, 0x01, 0x00,
@@ -216,7 +216,7 @@ fn gpo_rows() {
     amount_row(7);
 }
 
-// A start whose list asks for so many bytes of 9F02.
+// A start whose list requests so many bytes of 9F02.
 fn amount_row(asked: u8) {
     let mut command = [0u8; 261];
     let bytes = terminal(0x22, 1, asked);
@@ -224,7 +224,7 @@ fn amount_row(asked: u8) {
     print::reply(reply, &command);
 }
 
-// ---- result bits and the choice
+// ---- TVR bits and the choice
 
 fn result_rows() {
     print::text(b"95 asked at 3: ");
@@ -304,7 +304,7 @@ fn third_party_rows() {
     gpo_count(b"\x77\x08\x9F\x6E\x05\x08\x40\x00\x01\x02\x90\x00");
 }
 
-// Lengths from 1 to 3, and digits with Fs behind them.
+// Lengths from 1 to 3, and digits with Fs after them.
 fn length_rows() {
     record_row(b"\x70\x03\x9F\x47\x00\x90\x00");
     record_row(b"\x70\x05\x9F\x47\x02\x00\x03\x90\x00");
@@ -320,7 +320,7 @@ fn left_out_rows() {
     record_row(b"\x70\x05\xDF\x81\x12\x01\x00\x90\x00");
 }
 
-// In the answer to GET PROCESSING OPTIONS: what may stand in 77, what may not, and what only another answer brings.
+// In the answer to GET PROCESSING OPTIONS: what may be in 77, what may not, and what only another answer brings.
 fn gpo_objects() {
     gpo_row(b"\x77\x06\xDF\x4B\x03\x00\x01\x00\x90\x00");
     gpo_row(b"\x77\x05\x9F\x60\x02\x00\x01\x90\x00");
@@ -339,7 +339,7 @@ fn gpo_row(card: &[u8]) {
     show_answered(started(0x22, 1), card);
 }
 
-// An object of 70 and 77 that came with the processing options, again in a record.
+// An object of 70 and 77 that came in the answer to GPO, again in a record.
 fn second_rows() {
     print::text(b"8F in options, then in a record: ");
     let session = answered(

@@ -1,5 +1,5 @@
-// Lists of calls in bytes, played and shown: each reply's four bytes on a line, then what the run says,
-// the session's count, and how many commands, outcomes and refusals the replies are.
+// Lists of calls in bytes, played and shown: each reply's four bytes on a line, then what the run reports, the
+// session's count, and how many commands, outcomes and refusals the replies are.
 use call_list::PlayResult;
 ghost use Prim.Native.Nat.{_≤_};
 ghost use lib.ListN.{length};
@@ -15,7 +15,7 @@ fn main() {
 
 // ---- lists
 
-// The bench's purchase: one record, and the decision to go online. The commands stand in the buffers.
+// The bench's purchase: one record, and the decision to go online. The commands are in the buffers.
 fn purchase() {
     print::text(b"purchase\n");
     let mut calls = io::large_buffer();
@@ -46,7 +46,7 @@ fn refused_between() {
     command(&calls, end, 5);
 }
 
-// The link fails while the session waits on processing options; the call after it is refused.
+// The link fails while the session waits on GPO; the call after it is refused.
 fn link_failure() {
     print::text(b"link failed\n");
     let mut calls = io::large_buffer();
@@ -93,7 +93,7 @@ fn longest() {
     play(&mut calls, end, &mut replies);
 }
 
-// ---- the calls of a list, each behind those before it
+// ---- the calls of a list, each after those before it
 
 // The terminal's objects: an amount of 12.34 on a terminal of type 22.
 fn terminal() -> [u8; 123] {
@@ -191,7 +191,7 @@ fn play(calls: &mut [u8], end: usize, replies: &mut [u8]) {
     print::text(b"\n");
 }
 
-// Four bytes to a line; bytes behind the replies too.
+// Four bytes to a line; bytes after the replies too.
 fn lines(s: &[u8]) {
     let mut rest = s;
     while 4 < rest.len() {

@@ -1,5 +1,6 @@
-// Every row of the dictionary, a line each: tag, least and greatest length, form, who may set the object (S a start, C the
-// card, K the session), the templates that may stand directly around it, the answers that may bring it, and whether a start must.
+// Every row of the dictionary, a line each: tag, least and greatest length, form, who may set the object (S a start,
+// C the card, K the session), the templates that may be directly around it, the answers that may bring it, and
+// whether a start must.
 use dictionary::{Attributes, ROWS};
 ghost use Prim.Native.Nat.{_<_};
 

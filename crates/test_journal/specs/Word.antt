@@ -1,5 +1,5 @@
--- A verdict as one number, for tests: the record's number in the low 16 bits, and above it 0 for accepted, 1 for unlike
--- and 2 for cut; and the right record in the place of an unlike one.
+-- A verdict as one number, for tests: the record's number in the low 16 bits, and above it 0 for accepted, 1 for a
+-- mismatch and 2 for truncated; and the conforming record in place of a mismatching one.
 -- Assumes nothing.
 use mathlib.Core.Path.{_≡_}
 use mathlib.Core.List.{List}
@@ -17,9 +17,9 @@ verdictWord (JournalVerdict.Accepted n) = n % verdictWordLimit
 verdictWord (JournalVerdict.Mismatch n) = verdictWordLimit + n % verdictWordLimit
 verdictWord (JournalVerdict.Truncated n) = 2 * verdictWordLimit + n % verdictWordLimit
 
--- ---- bytes w in the front of a slice l that has room for them; a shorter one stays
+-- ---- bytes w at the front of a slice l that has room for them; a shorter one stays
 
--- how many bytes are given, and the slice behind
+-- how many bytes are given, and the slice afterwards
 pub record GivesBytes (r : ℕ) (after w l : List ℕ) : Type 0 where
   pub size : r ≡ (if length l <? length w then 0 else length w)
   pub bytes : after ≡ (if length l <? length w then l else withPrefix w l)

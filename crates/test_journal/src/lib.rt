@@ -1,4 +1,4 @@
-// The verdict on a lent journal that is fed in parts, and the right record in the place of an unlike one, for tests
+// The verdict on the caller's journal, fed in parts, and the conforming record in place of a mismatching one, for tests
 // that compare them with another implementation.
 //
 // It is in an archive of its own, which no host links.
@@ -9,8 +9,8 @@ ghost use lib.ListN.{take};
 ghost use Rattle.journal.specs.Verdict.{journalVerdictOf, expectedReplyOf};
 ghost use Rattle.test_journal.specs.Word.{verdictWord, GivesBytes};
 
-// The verdict on a journal: the record's number, and above 16 bits 0 for accepted, 1 for unlike, 2 for cut. It is fed
-// the first bytes, so many, and then parts of one size, 0 for all that is left.
+// The verdict on a journal: the record's number, and above 16 bits 0 for accepted, 1 for a mismatch, 2 for truncated.
+// It is fed the first bytes, so many, and then parts of one size, 0 for all that is left.
 #[no_mangle]
 pub extern "C" fn emv_test_journal(bytes: &[u8], first: usize, part: usize) -> u32
     ensures { λ r. ⌜ r ≡ verdictWord (journalVerdictOf (now (bytes .entry))) ⌝ }
@@ -26,8 +26,8 @@ pub extern "C" fn emv_test_journal(bytes: &[u8], first: usize, part: usize) -> u
     word(verdict)
 }
 
-// The one right record in the place of the first unlike one: its size, and its bytes in the front of `out`. Size 0
-// where there is none, and where `out` has fewer bytes, which then stay.
+// The one conforming record in place of the first mismatching one: its size, and its bytes at the front of `out`. Size
+// 0 where there is none, and where `out` has fewer bytes, which then stay.
 #[no_mangle]
 pub extern "C" fn emv_test_wanted(bytes: &[u8], out: &mut [u8]) -> usize
     ensures { λ r. ⌜ GivesBytes r (now (out .exit)) (expectedReplyOf (now (bytes .entry))) (now (out .entry)) ⌝ }
@@ -48,7 +48,7 @@ fn front(s: &[u8], n: usize) -> &[u8]
     s
 }
 
-// Copies bytes into the front of others, where there is room, and says how many.
+// Copies bytes into the front of others, where there is room, and reports how many.
 fn put(s: &[u8], out: &mut [u8]) -> usize
     ensures { λ r. ⌜ GivesBytes r (now (out .exit)) (now (s .entry)) (now (out .entry)) ⌝ }
 {

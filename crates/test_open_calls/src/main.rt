@@ -1,7 +1,7 @@
-// Calls every open function that no other proved code calls, so that each has a caller that must meet what it asks.
+// Calls every open function that no other proved code calls, so that each has a caller that must meet its precondition.
 //
-// Each call stands in a function that asks nothing and hands on its own arguments: a condition that some
-// arguments do not meet is refused here. `tests/called` names the functions that nothing calls.
+// Each call is in a function that has no precondition and passes on its own arguments: a condition that some arguments
+// do not meet is refused here. `tests/called` names the functions that nothing calls.
 use analysis::choice::Choice;
 use dictionary::SIZE;
 use journal::{JournalChecker, JournalVerdict};

@@ -1,5 +1,5 @@
-// Every word that `print` has for a number or a tag: each reason, refusal, outcome and method in a reply, and each row of the
-// dictionary as an object that is there and empty.
+// Every word that `print` has for a number or a tag: each reason, refusal, outcome and CVM in a reply, and each row of
+// the dictionary as an object that is present and empty.
 use analysis::cvm::NOT_APPLICABLE;
 use dictionary::{ROWS, SIZE};
 use session_record::{CallResult, Outcome, OutcomeParameters, Refusal, Reply};
@@ -18,7 +18,7 @@ fn reply_with(answer: CallResult) {
     print::reply_in_words(Reply { session, answer }, b"");
 }
 
-// An outcome with a reason, whether they go together or not, and no method.
+// An outcome with a reason, whether they go together or not, and no CVM.
 fn ending(outcome: Outcome, reason: u8) {
     reply_with(CallResult::Outcome(OutcomeParameters { outcome, reason, cvm: NOT_APPLICABLE }));
 }
@@ -38,7 +38,7 @@ fn reasons() {
     }
 }
 
-// Every method with an approval, and the numbers beside them.
+// Every CVM with an approval, and the numbers beside them.
 fn cvms() {
     let outcome = Outcome::Approved;
     for cvm in 0..17u8 {

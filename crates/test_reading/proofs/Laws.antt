@@ -1,4 +1,4 @@
--- One reading over a lent store, by cases: nothing is asked for, or an answer, whose count is small.
+-- One reading over the caller's store, by cases: nothing is requested, or an answer, whose count is small.
 -- Assumes nothing.
 use mathlib.Core.Path.{_≡_, refl, ap, subst⁻¹, _∙_}
 use mathlib.Core.Logic.{inl, inr}
@@ -17,7 +17,7 @@ use Rattle.reading.proofs.Stages.{answer-long}
 use Rattle.test_reading.specs.declared.AnswerWanted.{AnswerWanted}
 use Rattle.test_reading.specs.Read.{DidTestRead, readWanted, answerWantedFor, testRead, countLimit}
 
--- an answer is asked for only where the store has its size
+-- an answer is requested only where the store has its size
 pub asked-sized : (size n sfi : ℕ) (a : Awaited) → answerWantedFor size n sfi ≡ AnswerWanted.Answer a → size ≡ storeSize
 unfolding answerWantedFor
 asked-sized size n sfi a =

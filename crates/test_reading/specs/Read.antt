@@ -1,4 +1,4 @@
--- One reading over a lent store, its reason and object count as one number of 32 bits.
+-- One reading over the caller's store, its reason and object count as one number of 32 bits.
 -- Assumes nothing.
 use mathlib.Core.Path.{_≡_}
 use mathlib.Core.List.{List}
@@ -21,7 +21,7 @@ pub record DidTestRead (w : ℕ) (b : List ℕ) (r : TestReading) : Type 0 where
   pub word : w ≡ r .word
   pub store : b ≡ r .store
 
--- a count is below this, and the reason stands above it
+-- a count is below this, and the reason is above it
 abbrev pub countLimit : ℕ
 countLimit = 0x10000
 
@@ -33,7 +33,7 @@ readingAsWord o = record { word = o .reason * countLimit + o .objects; store = o
 abbrev pub nothingRead : List ℕ → TestReading
 nothingRead b = record { word = 0xFFFFFFFF; store = b }
 
--- the answers by number: 0 processing options, 1 a record of this file, 2 the cryptogram, 3 the checksum
+-- the answers by number: 0 GPO, 1 a record of this file, 2 the cryptogram, 3 the checksum
 unfoldable pub answerWanted : ℕ → ℕ → AnswerWanted
 answerWanted n sfi =
     if n =? 0 then Answer Awaited.Gpo
@@ -48,7 +48,7 @@ answerWantedFor size n sfi =
     if size =? storeSize then answerWanted n sfi
     else Nothing
 
--- the card's answer s to what is wanted, into the store b
+-- the card's answer s to what is expected, into the store b
 abbrev pub readWanted : AnswerWanted → List ℕ → List ℕ → TestReading
 readWanted Nothing b s = nothingRead b
 readWanted (Answer a) b s = readingAsWord (readAnswer a b s)

@@ -1,5 +1,5 @@
-// One reading of a card's answer over a lent store, for tests that compare it with another implementation and with the reader
-// without recursion, which `test_reading_flat` has.
+// One reading of a card's answer over the caller's store, for tests that compare it with another implementation and
+// with the reader without recursion, which `test_reading_flat` has.
 //
 // The sessions' calls do not hand out how many objects a reading counted, so these do. Each reader is in an
 // archive of its own, which no host links: so it is compiled as in the library that has it alone.
@@ -19,12 +19,12 @@ pub enum AnswerWanted {
 // What is given where no answer was read.
 pub const NOT_READ: u32 = 0xFFFFFFFF;
 
-// The reason stands above the 16 bits of the count.
+// The reason is above the 16 bits of the count.
 const REASON: u32 = 0x10000;
 
-// Reads an answer, status bytes included, to processing options (0), to a record of this file (1), to the
-// cryptogram (2) or to the checksum (3): the reason's number times 65,536 and the object count. A store of another size and another
-// number are not read.
+// Reads an answer, status bytes included, to GPO (0), to a record of this file (1), to the cryptogram (2) or to the
+// checksum (3): the reason's number times 65,536 and the object count. A store of another size and another number
+// are not read.
 #[no_mangle]
 pub extern "C" fn emv_test_read(store: &mut [u8], awaited: u32, sfi: u8, card: &[u8]) -> u32
     ensures { λ r. ⌜ DidTestRead r (now (store .exit)) (testRead awaited sfi (now (store .entry)) (now (card .entry))) ⌝ }

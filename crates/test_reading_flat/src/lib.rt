@@ -1,4 +1,5 @@
-// One reading of a card's answer over a lent store by the reader without recursion, as `test_reading` has it of the other.
+// One reading of a card's answer over the caller's store by the reader without recursion, as `test_reading` has it
+// of the other.
 use test_reading::AnswerWanted;
 ghost use Rattle.test_reading.specs.Read.{DidTestRead, testRead};
 

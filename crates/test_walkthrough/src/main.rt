@@ -15,8 +15,8 @@ fn main() {
 
 // ---- the steps of a session
 
-// All that a start must bring: a terminal type, and an amount of 12.34 and so many hundreds. The floor
-// limit is 100.00, the transaction limit 200.00, for a phone 500.00; above 10.00 a check of the holder is required.
+// All that a start must bring: a terminal type, and an amount of 12.34 and so many hundreds. The floor limit is 100.00,
+// the transaction limit 200.00, for on-device CVM 500.00; above 10.00 a check of the holder is required.
 fn terminal(kind: u8, hundreds: u8) -> [u8; 123] {
     [
         0x9A, 0x03, 0x25, 0x11, 0x15, 0x9C, 0x01, 0x00, 0x9F, 0x02, 0x06, 0x00, 0x00, 0x00, hundreds, 0x12, 0x34, 0x9F,
@@ -85,9 +85,9 @@ fn decisions() {
     purchase(0x22, 0, gpo, offline, b"\x80\x0B\x00\x00\x01\x01\x02\x03\x04\x05\x06\x07\x08\x90\x00");
 }
 
-// ---- methods of cardholder verification
+// ---- CVMs
 
-// 82 says that the card supports verification; 8C asks for 95 and 9F34.
+// 82 indicates that the card supports verification; 8C requests 95 and 9F34.
 fn cvms() {
     print::text(b"online PIN\n");
     verified(b"\x70\x25\x5F\x24\x03\x30\x12\x31\x5A\x08\x47\x61\x73\x90\x01\x01\x00\x10\x8C\x05\x95\x05\x9F\x34\x03\x8E\x0C\x00\x00\x00\x00\x00\x00\x00\x00\x42\x03\x5E\x03\x90\x00");
@@ -119,9 +119,9 @@ fn unlinked(record: &[u8]) {
     print::reply_with_cvm(failed, &command);
 }
 
-// ---- phones
+// ---- on-device CVM
 
-// 82 says that the card is a phone that checks its holder itself, and 8E asks for an online PIN.
+// 82 indicates a device with on-device CVM, and 8E requests an online PIN.
 fn phones() {
     let record = b"\x70\x23\x5F\x24\x03\x30\x12\x31\x5A\x08\x47\x61\x73\x90\x01\x01\x00\x10\x8C\x05\x95\x05\x9F\x34\x03\x8E\x0A\x00\x00\x00\x00\x00\x00\x00\x00\x42\x00\x90\x00";
     print::text(b"a phone, 12.34\n");
@@ -134,7 +134,7 @@ fn phones() {
     limited(5, b"\x80\x06\x12\x80\x08\x01\x01\x00\x90\x00", record);
 }
 
-// A purchase that the card sends online, with the limit that is held behind processing options.
+// A purchase that the card sends online, with the limit that is held after GPO.
 fn limited(hundreds: u8, gpo: &[u8], record: &[u8]) {
     let started = begin(0x22, hundreds);
     let asked = next(started, gpo);
@@ -149,7 +149,7 @@ fn limited(hundreds: u8, gpo: &[u8], record: &[u8]) {
 
 // ---- old magnetic stripe cards
 
-// 82 says that the card has no EMV mode: the checksum follows the record, and the digits go into the track.
+// 82 indicates that the card has no EMV mode: the checksum follows the record, and the digits go into the track.
 fn stripes() {
     let record = b"\x70\x24\x9F\x6B\x13\x54\x13\x12\x34\x56\x78\x48\x00\xD2\x51\x21\x01\x00\x00\x00\x00\x00\x00\x0F\x9F\x65\x02\x00\x0E\x9F\x66\x02\x0F\xF0\x9F\x67\x01\x04\x90\x00";
     let unsound = b"\x70\x24\x9F\x6B\x13\x54\x13\x12\x34\x56\x78\x48\x00\xD2\x51\x21\x01\x00\x00\x00\x00\x00\x00\x0F\x9F\x65\x02\x00\x0E\x9F\x66\x02\x2F\xF0\x9F\x67\x01\x05\x90\x00";
@@ -175,7 +175,7 @@ fn striped(record: &[u8], checksum: &[u8]) {
 
 // ---- reasons
 
-// Reasons 1 to 5 and 11: what the card answered to processing options and to the record.
+// Reasons 1 to 5 and 11: what the card answered to GPO and to the record.
 fn card_reasons() {
     let gpo = b"\x80\x06\x00\x80\x08\x01\x01\x00\x90\x00";
     print::text(b"reason 1\n");
@@ -193,7 +193,7 @@ fn card_reasons() {
     next(off, b"\x80\x06\x00\x00\x08\x01\x01\x00\x90\x00");
 }
 
-// Reasons 6 to 8: the limit, the list of the cryptogram, and its type.
+// Reasons 6 to 8: the limit, CDOL1, and the cryptogram's type.
 fn later_reasons() {
     let gpo = b"\x80\x06\x00\x80\x08\x01\x01\x00\x90\x00";
     let record = b"\x70\x14\x5F\x24\x03\x30\x12\x31\x5A\x08\x47\x61\x73\x90\x01\x01\x00\x10\x8C\x02\x95\x05\x90\x00";

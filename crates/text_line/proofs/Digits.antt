@@ -1,4 +1,5 @@
--- What a decoding has reached (`Decoding`) and its laws: the start, one byte more, and the three ways out; and the laws of a decimal number.
+-- What a decoding has reached (`Decoding`) and its laws: the start, one more byte, and the three ways out; and the laws
+-- of a decimal number.
 -- Assumes nothing.
 use mathlib.Core.Path.{_≡_, refl, sym, ap, _∙_}
 use mathlib.Core.Bool.{Bool, true, false}
@@ -38,7 +39,7 @@ pair-is (a ∷ b ∷ s) h = refl
 
 -- ---- a spelling
 
--- blanks in front do not count
+-- leading blanks do not count
 spelled-past : (s : List ℕ) → hexSpelled s ≡ hexSpelled (pastFront (isOfKind Blank) s)
 unfolding hexSpelled pastFront if
 spelled-past [] = refl
@@ -93,7 +94,8 @@ pair-length (a ∷ b ∷ s) v e = omega arith
 
 -- ---- a decoding
 
--- n bytes of s are in the front of the lent bytes, the rest of s is still to decode, and the lent bytes behind are as they were
+-- n bytes of s are at the front of the caller's bytes, the rest of s is still to decode, and the caller's bytes after
+-- are as they were
 pub record Decoding (s entry : List ℕ) (n : ℕ) (rest out : List ℕ) : Type 0 where
   pub room : n ≤ length out
   pub size : length out ≡ length entry
@@ -104,7 +106,7 @@ pub record Decoding (s entry : List ℕ) (n : ℕ) (rest out : List ℕ) : Type 
 pub decoding-start : (s out : List ℕ) → Decoding s out 0 (pastFront (isOfKind Blank) s) out
 decoding-start s out = record { room = omega arith; size = refl; behind = refl; trimmed = past-first (isOfKind Blank) s; carried = spelled-past s }
 
--- the first n lent bytes as a spelling, and what it reports
+-- the first n of the caller's bytes as a spelling, and what it reports
 front-of : List ℕ → ℕ → ℕ → HexText
 front-of out n p = record { bytes = take n out; problem = p }
 

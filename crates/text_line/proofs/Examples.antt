@@ -9,7 +9,7 @@ use Rattle.basics.specs.Alike.{bytesEqual}
 use Rattle.text_line.specs.Digits.{hexDigit, hexSpelled, hexWithin, decimalTextFrom, bufferLine}
 use Rattle.text_line.specs.Line.{lineWordOf, wrongLine, lineAlone, answerLine, meaningByWord, lineMeaning, lineWithoutBytes}
 
--- three lent bytes
+-- three bytes of the caller's
 buffer : List ℕ
 buffer = 1 ∷ 2 ∷ 3 ∷ []
 
@@ -24,7 +24,7 @@ apart : lineMeaning (97 ∷ 110 ∷ 115 ∷ 119 ∷ 101 ∷ 114 ∷ 32 ∷ 57 �
 unfolding lineMeaning buffer isBlank longestFront pastFront bytesEqual hexDigit hexSpelled hexWithin lineWordOf meaningByWord answerLine if both either
 apart = refl
 
--- "stop 9": nothing may stand behind it
+-- "stop 9": nothing may be after it
 behind-stop : lineMeaning (115 ∷ 116 ∷ 111 ∷ 112 ∷ 32 ∷ 57 ∷ []) buffer ≡ lineWithoutBytes (wrongLine 5) buffer
 unfolding lineMeaning buffer isBlank longestFront pastFront bytesEqual lineWordOf meaningByWord lineAlone if both either
 behind-stop = refl

@@ -1,4 +1,4 @@
--- What a line says by its first word. Assumes nothing.
+-- What a line means by its first word. Assumes nothing.
 use mathlib.Core.Path.{_≡_, _∙_}
 use mathlib.Core.List.{List}
 use Prim.Native.Nat.{ℕ, _≤_}

@@ -1,4 +1,4 @@
--- The front part of a text whose characters pass a test, and the text behind it.
+-- The front part of a text whose characters pass a test, and the text after it.
 -- Assumes nothing.
 use mathlib.Core.Path.{_≡_, refl, ap, _∙_}
 use mathlib.Core.Bool.{Bool, true, false}
@@ -18,7 +18,7 @@ pub tail-is : (s : List ℕ) (n : ℕ) → take (length s - n) (drop n s) ≡ dr
 tail-is s n = take-all (length s - n) (drop n s) (simp length-drop (le-refl _))
 
 module _ (f : ℕ → Bool) where
-  -- the front part and the text behind it, by the part's length
+  -- the front part and the text after it, by the part's length
   front-take : (s : List ℕ) → take (length (longestFront f s)) s ≡ longestFront f s
   unfolding longestFront if
   front-take [] = refl
@@ -46,7 +46,7 @@ module _ (f : ℕ → Bool) where
   pub past-length : (s : List ℕ) → length (pastFront f s) ≤ length s
   past-length s = rw (← past-drop s, length-drop) (omega arith)
 
-  -- the text behind it begins with a character that does not pass
+  -- the text after it begins with a character that does not pass
   pub past-first : (s : List ℕ) → 0 < length (pastFront f s) → f (getD (pastFront f s) 0 0) ≡ false
   unfolding pastFront
   past-first [] h = absurd (omega arith)

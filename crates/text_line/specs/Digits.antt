@@ -56,7 +56,7 @@ pub record HexText : Type 0 where
 abbrev pub hexStopped : ℕ → HexText
 hexStopped p = record { bytes = []; problem = p }
 
--- bytes in front of a spelling
+-- bytes before a spelling
 abbrev pub bytesBeforeHex : List ℕ → HexText → HexText
 bytesBeforeHex bs r = record { bytes = bs ++ r .bytes; problem = r .problem }
 
@@ -81,16 +81,16 @@ hexWithin room r =
 abbrev pub hexDecoded : HexText → Decoded
 hexDecoded r = record { size = length (r .bytes); problem = r .problem }
 
--- a spelling's bytes in the front of lent bytes; those behind stay
+-- a spelling's bytes at the front of the caller's bytes; those after stay
 abbrev pub hexPlaced : HexText → List ℕ → List ℕ
 hexPlaced r out = withPrefix (r .bytes) out
 
--- the report d and the lent bytes at exit are those of a spelling
+-- the report d and the caller's bytes at exit are those of a spelling
 pub record DecodesHex (d : Decoded) (exit : List ℕ) (r : HexText) (out : List ℕ) : Type 0 where
   pub report : d ≡ hexDecoded r
   pub buffer : exit ≡ hexPlaced r out
 
--- the number that decimal digits s spell behind the number n
+-- the number that decimal digits s spell after the number n
 unfoldable pub decimalTextFrom : ℕ → List ℕ → ℕ
 decimalTextFrom n [] = n
 decimalTextFrom n (c ∷ s) = decimalTextFrom (n * 10 + hexDigit c) s

@@ -1,4 +1,4 @@
--- What a line of a text file of calls says. A line is any list of characters, its end not counted.
+-- What a line of a text file of calls means. A line is any list of characters, its end not counted.
 -- Assumes nothing.
 use mathlib.Core.Path.{_≡_}
 use mathlib.Core.List.{List, [], _∷_}
@@ -43,12 +43,12 @@ wordInTable (e ∷ es) w =
 unfoldable pub lineWordOf : List ℕ → LineWord
 lineWordOf w = wordInTable lineWords w
 
--- a problem by its number: 1 the line is too long, 2 unknown word, 3 not a pair of hexadecimal digits,
--- 4 no room for the bytes, 5 something stands behind, 6 no number up to 4,096
+-- a problem by its number: 1 the line is too long, 2 unknown word, 3 not a pair of hexadecimal digits, 4 no room for
+-- the bytes, 5 something follows, 6 no number up to 4,096
 abbrev pub wrongLine : ℕ → Line
 wrongLine p = Line.Wrong (record { number = p })
 
--- a line behind whose words only blanks stand
+-- a line with only blanks after its words
 unfoldable pub lineAlone : List ℕ → Line → Line
 lineAlone rest line =
     if length (pastFront (isOfKind Blank) rest) =? 0 then line
@@ -65,12 +65,12 @@ answerLine d =
     if d .problem =? 0 then Line.Answer (record { size = d .size })
     else wrongLine (d .problem)
 
--- what a line says, and the lent bytes then
+-- what a line means, and the caller's bytes then
 pub record LineMeaning : Type 0 where
   pub line : Line
   pub buffer : List ℕ
 
--- a line that brings no bytes leaves the lent ones
+-- a line that brings no bytes leaves the caller's bytes
 abbrev pub lineWithoutBytes : Line → List ℕ → LineMeaning
 lineWithoutBytes line out = record { line = line; buffer = out }
 
@@ -78,7 +78,7 @@ lineWithoutBytes line out = record { line = line; buffer = out }
 abbrev pub lineWithBytes : (Decoded → Line) → HexText → List ℕ → LineMeaning
 lineWithBytes line r out = record { line = line (hexDecoded r); buffer = hexPlaced r out }
 
--- by the first word, from what stands behind it
+-- by the first word, from what follows it
 unfoldable pub meaningByWord : LineWord → List ℕ → List ℕ → LineMeaning
 meaningByWord Absent rest out = lineWithoutBytes Line.Blank out
 meaningByWord Start rest out = lineWithBytes startLine (hexWithin (length out) (hexSpelled rest)) out
@@ -93,13 +93,13 @@ meaningByWord Unknown rest out = lineWithoutBytes (wrongLine 2) out
 abbrev pub meaningOfText : List ℕ → List ℕ → LineMeaning
 meaningOfText text out = meaningByWord (lineWordOf (firstWord text)) (behindFirstWord text) out
 
--- a line of at most 8,192 characters: what it says without its comment
+-- a line of at most 8,192 characters: what it means without its comment
 unfoldable pub lineMeaning : List ℕ → List ℕ → LineMeaning
 lineMeaning line out =
     if 8192 <? length line then lineWithoutBytes (wrongLine 1) out
     else meaningOfText (uncommented line) out
 
--- the line r and the lent bytes at exit are those of a meaning
+-- the line r and the caller's bytes at exit are those of a meaning
 pub record LineSays (r : Line) (exit : List ℕ) (m : LineMeaning) : Type 0 where
   pub line : r ≡ m .line
   pub buffer : exit ≡ m .buffer

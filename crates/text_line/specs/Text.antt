@@ -24,14 +24,14 @@ longestFront f (c ∷ s) =
     if f c then c ∷ longestFront f s
     else []
 
--- what stands behind that part
+-- what follows that part
 unfoldable pub pastFront : (ℕ → Bool) → List ℕ → List ℕ
 pastFront f [] = []
 pastFront f (c ∷ s) =
     if f c then pastFront f s
     else (c ∷ s)
 
--- a line without its comment: what stands before the first '#'
+-- a line without its comment: what is before the first '#'
 abbrev pub uncommented : List ℕ → List ℕ
 uncommented s = longestFront (isOfKind NotHash) s
 
@@ -39,6 +39,6 @@ uncommented s = longestFront (isOfKind NotHash) s
 abbrev pub firstWord : List ℕ → List ℕ
 firstWord s = longestFront (isOfKind NotBlank) (pastFront (isOfKind Blank) s)
 
--- what stands behind the first word
+-- what follows the first word
 abbrev pub behindFirstWord : List ℕ → List ℕ
 behindFirstWord s = pastFront (isOfKind NotBlank) (pastFront (isOfKind Blank) s)

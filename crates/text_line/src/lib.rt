@@ -1,11 +1,11 @@
-// One line of a text file of calls: `parse_line` says which call it asks for and puts the call's bytes into
-// the front of a lent slice.
+// One line of a text file of calls: `parse_line` states which call it requests and puts the call's bytes at the front
+// of the caller's slice.
 //
 //     start HEX      answer HEX      link-failed      stop      buffer N      session
 //
-// Blanks (space, tab, carriage return) may stand around words and between the bytes of HEX; a byte is
-// two hexadecimal digits side by side, small or capital. `#` starts a comment to the line's end, so `#!` in
-// front of a file does too. N is a decimal number, at most 4,096. A line with no word is blank.
+// Blanks (space, tab, carriage return) may be around words and between the bytes of HEX; a byte is two hexadecimal
+// digits side by side, small or capital. `#` starts a comment to the line's end, so `#!` at the start of a file does
+// too. N is a decimal number, at most 4,096. A line with no word is blank.
 //
 // `uncommented`, `first_word`, `behind_word` and `decode_hex` read the lines of files with other words.
 ghost use mathlib.Core.Path.{_≡_};
@@ -15,12 +15,12 @@ ghost use Rattle.text_line.specs.Text.{isOfKind, longestFront, pastFront
 ghost use Rattle.text_line.specs.Digits.{hexDigit, hexPairOf, hexSpelled, hexWithin, DecodesHex, bufferLine};
 ghost use Rattle.text_line.specs.Line.{lineWordOf, lineAlone as aloneAs, startLine, answerLine, lineMeaning, LineSays};
 
-// How many bytes a call brings: the front of the lent slice.
+// How many bytes a call brings: the front of the caller's slice.
 pub struct Bytes {
     pub size: usize,
 }
 
-// A length asked for the command buffer.
+// A requested length of the command buffer.
 pub struct Size {
     pub bytes: usize,
 }
@@ -60,7 +60,7 @@ pub const MOST: usize = 8192;
 // The longest command buffer.
 pub const LONGEST: usize = 4096;
 
-// The word in front of a line.
+// The first word of a line.
 enum LineWord {
     Absent,
     Start,
@@ -95,7 +95,7 @@ pub struct Decoded {
     pub problem: u8,
 }
 
-// What a line says. The bytes of a start or an answer stand in the front of `out`.
+// What a line means. The bytes of a start or an answer are at the front of `out`.
 pub fn parse_line(line: &[u8], out: &mut [u8]) -> Line
     ensures { λ r. ⌜ LineSays r (now (out .exit)) (lineMeaning (now (line .entry)) (now (out .entry))) ⌝ }
 {
@@ -182,7 +182,7 @@ pub fn first_word(s: &[u8]) -> &[u8]
     &t[..n]
 }
 
-// What stands behind the first word.
+// What follows the first word.
 pub fn behind_word(s: &[u8]) -> &[u8]
     ensures { λ r. ⌜ now r ≡ behindFirstWord (now (s .entry)) ⌝ }
 {
@@ -219,9 +219,9 @@ fn word_named(w: &[u8]) -> LineWord
     LineWord::Unknown
 }
 
-// ---- what stands behind a word
+// ---- what follows a word
 
-// A line behind whose words only blanks may stand.
+// A line with only blanks after its words.
 fn alone(rest: &[u8], line: Line) -> Line
     ensures { λ r. ⌜ r ≡ aloneAs (now (rest .entry)) line ⌝ }
 {
@@ -251,7 +251,7 @@ fn answer_line(d: Decoded) -> Line
     Line::Wrong(Problem { number: d.problem })
 }
 
-// The length that a word asks for.
+// The length that a word requests.
 fn size_line(w: &[u8]) -> Line
     ensures { λ r. ⌜ r ≡ bufferLine (now (w .entry)) ⌝ }
 {

@@ -1,5 +1,6 @@
--- An encoding parses back to its tree, the shortest one and every padded one. A tag's bytes are its number again and a length's bytes its
--- value, whatever stands behind them; so an encoded object is next with its own header, and its parts are those that were encoded.
+-- An encoding parses back to its tree, the shortest one and every padded one. A tag's bytes are its number again and a
+-- length's bytes its value, whatever is after them; so an encoded object is next with its own header, and its parts are
+-- those that were encoded.
 -- Assumes nothing.
 use mathlib.Core.Path.{_≡_, refl, sym, ap, _∙_}
 use mathlib.Core.Bool.{true}

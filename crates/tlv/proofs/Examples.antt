@@ -1,4 +1,4 @@
--- Worked contents of templates, by computation: what is next behind padding, and the trees of padded bytes.
+-- Worked contents of templates, by computation: what is next after padding, and the trees of padded bytes.
 -- Assumes nothing.
 use mathlib.Core.Path.{_≡_, refl}
 use mathlib.Core.List.{List, [], _∷_, map}
@@ -15,7 +15,8 @@ use Rattle.tlv.specs.Length.{lengthAt}
 use Rattle.tlv.specs.Object.{tlvHeader, headerOf}
 use Rattle.tlv.specs.Tree.{Forest, end, leaf, node, nextOf, withLeaf, withNode, parseTree}
 
--- no bytes; padding alone; an object, at once and behind two bytes of padding, which its value's start counts; FF, and FF behind 00
+-- no bytes; padding alone; an object, at once and after two bytes of padding, which its value's start counts; FF,
+-- and FF after 00
 next : map nextOf
     ([]
     ∷ (0x00 ∷ 0x00 ∷ [])
@@ -28,7 +29,7 @@ next : map nextOf
 unfolding nextOf headerOf tagAt tagSize tagSecondByte tagThirdByte lengthAt tagFirstByte isTemplate isPrivate bigEndianFrom if
 next = refl
 
--- the object at the front of bytes is none behind padding
+-- the object at the front of bytes is none after padding
 front : headerOf (0x00 ∷ 0x95 ∷ 0x00 ∷ []) ≡ ObjectFront.Broken
 unfolding headerOf tagAt tagSize if
 front = refl
@@ -36,7 +37,7 @@ front = refl
 abbrev one : Forest
 one = leaf 0x95 (0x00 ∷ []) end
 
--- padding in front, behind and between, and within a template; a value of 00 and a length of 00 are no padding
+-- padding before, after and between, and within a template; a value of 00 and a length of 00 are no padding
 trees : map (parseTree 1)
     ((0x00 ∷ 0x95 ∷ 0x01 ∷ 0x00 ∷ [])
     ∷ (0x95 ∷ 0x01 ∷ 0x00 ∷ 0x00 ∷ 0x00 ∷ [])
@@ -48,7 +49,7 @@ trees : map (parseTree 1)
 unfolding parseTree recurse recurseBy nextOf withLeaf withNode headerOf tagAt tagSize lengthAt tagFirstByte isTemplate isPrivate bigEndianFrom if
 trees = refl
 
--- inside a tag, between tag and length, and in place of the value's end: read as they stand
+-- inside a tag, between tag and length, and in place of the value's end: read as they are
 inside : map (parseTree 1)
     ((0x9F ∷ 0x00 ∷ 0x08 ∷ 0x02 ∷ 0x00 ∷ 0x02 ∷ [])
     ∷ (0x95 ∷ 0x00 ∷ 0x01 ∷ 0x00 ∷ [])

@@ -1,5 +1,6 @@
--- The laws of a tag, a length and a header. The definitions go by clauses on lists and the code by lengths and places, so each
--- has its form by places first; then what lies inside the list, the first byte of a tag, and each way out of the code.
+-- The laws of a tag, a length and a header. The definitions go by clauses on lists and the code by lengths and
+-- places, so each has its form by places first; then what lies inside the list, the first byte of a tag, and each way
+-- out of the code.
 -- Assumes nothing.
 use mathlib.Core.Path.{_≡_, refl, sym, ap, _∙_}
 use mathlib.Core.Bool.{false}
@@ -32,7 +33,7 @@ use Rattle.tlv.specs.Object.{tlvHeader, headerWithLength, headerWithTag,
 past : (n k : ℕ) → k ≤ 3 → ltb (suc (suc (suc n))) k ≡ false
 past n k h = le-ltb (suc (suc (suc n))) k (omega arith)
 
--- what is left to test once a second byte is due, and a third
+-- what is left to test once a second byte is expected, and a third
 abbrev pub fromThird : List ℕ → ℕ
 fromThird s = if (ltb (length s) 3) 0 (if (tagByteContinues (getD s 2 0)) 0 3)
 
@@ -227,7 +228,7 @@ first-of s (suc (suc (suc zero))) b f h k n =
     rw (number-three s k) (first-three _ (omega arith) ∙ omega (arith, b 1, b 2))
 first-of s (suc (suc (suc (suc k)))) b f h k′ n = absurd (omega arith)
 
--- where a whole tag stands at the front of bytes, the first byte of its number is the first of them
+-- where a whole tag is at the front of bytes, the first byte of its number is the first of them
 pub first-byte-is : (s : List ℕ) (t : Tag) → Bytes s → tagAt s ≡ Tagged t → tagFirstByte (t .number) ≡ getD s 0 0
 first-byte-is s t b e =
     let f = tag-fits s t e in
@@ -256,7 +257,7 @@ contents-is s a l = let e : a + l - a ≡ l = omega arith in ap (λ (k : ℕ). t
 pub tail-is : (s : List ℕ) (e : ℕ) → tail s e ≡ drop e s
 tail-is s e = take-all (length s - e) (drop e s) (simp length-drop (le-refl _))
 
--- ---- a header as the code reads it: the tag x, then the length y in the bytes behind it
+-- ---- a header as the code reads it: the tag x, then the length y in the bytes after it
 
 pub header-untagged : (s : List ℕ) (x : TagFront) → x ≡ tagAt s → x ≡ Untagged → headerOf s ≡ Broken
 unfolding headerOf
@@ -266,7 +267,8 @@ pub with-whole : (s : List ℕ) (t : Tag) (e : TlvLength) → t .size + e .size 
     → headerWithLength s t (Sized e) ≡ Object (tlvHeader (t .number) (t .size + e .size) (e .len))
 with-whole s t e h = if-yes _ _ (le-leb (t .size + e .size + e .len) (length s) h)
 
--- both were read from bytes: what is left is a test, on small numbers, whether the value lies inside, and the class by the first byte
+-- both were read from bytes: what is left is a test, on small numbers, whether the value lies inside, and the class by
+-- the first byte
 pub record HeaderRead (s : List ℕ) (t : Tag) (e : TlvLength) : Type 0 where
   pub is : headerOf s ≡ headerWithLength s t (Sized e)
   pub some : 1 ≤ length s

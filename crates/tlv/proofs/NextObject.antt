@@ -1,5 +1,6 @@
--- What stands next: the laws that open `nextOf`. All laws of the parse go by these. A first byte is padding, and then what is next stands
--- behind it, one place further on (`next-zero`), or it is not, and then it is the object at the front (`next-first`).
+-- What is next: the laws that open `nextOf`. All laws of the parse go by these. A first byte is padding, and then what
+-- is next is after it, one place further on (`next-zero`), or it is not, and then it is the object at the front
+-- (`next-first`).
 -- Assumes nothing.
 use mathlib.Core.Path.{_≡_, refl, sym, ap, subst, subst⁻¹, _∙_}
 use mathlib.Core.Logic.{_↔_}
@@ -79,7 +80,7 @@ front-ends : (x : ObjectFront) → frontNext x ≡ End → ⊥
 front-ends Broken e = let z : _≡_ {A = ℕ} 0 1 = cc in omega arith
 front-ends (Object h) e = let z : _≡_ {A = ℕ} 0 1 = cc in omega arith
 
--- nothing stands next exactly where nothing but padding is left
+-- nothing is next exactly where nothing but padding is left
 pub next-end : (s : List ℕ) → nextOf s ≡ End ↔ s ≡ replicate (length s) 0
 next-end [] = (λ e. refl, λ e. next-empty [] refl)
 next-end (zero ∷ s) = (
@@ -124,7 +125,7 @@ next-fits (zero ∷ s) h e = moved-fits s h (nextOf s) (sym (next-zero s) ∙ e)
 next-fits (suc b ∷ s) h e =
     header-fits (suc b ∷ s) h (front-object (headerOf (suc b ∷ s)) h (sym (next-first (suc b) s (λ z. omega arith)) ∙ e))
 
--- ---- one list behind another
+-- ---- one list after another
 
 -- what is next in the first list is next in both; where the first has nothing more, it is what is next in the second
 abbrev pub Joined : List ℕ → List ℕ → Following → Type 0

@@ -1,5 +1,6 @@
--- Bytes behind do not change what was whole: a tag, a length or a header at the front of a list is that of any longer list.
--- Each reading either refuses or looks at the front alone, so the rule goes through every choice on the way (`kept-if`).
+-- Bytes that follow do not change what was whole: a tag, a length or a header at the front of a list is that of any
+-- longer list. Each reading either refuses or examines the front alone, so the rule goes through every choice on the
+-- way (`kept-if`).
 -- Assumes nothing.
 use mathlib.Core.Path.{_≡_, refl, sym, _∙_}
 use mathlib.Core.Bool.{Bool, true, false}
@@ -24,7 +25,7 @@ use Rattle.tlv.specs.Length.{lengthParsed, lengthOneByte, lengthTwoBytes
 use Rattle.tlv.specs.Object.{headerWithLength, headerOf}
 use Rattle.tlv.proofs.Laws.{tag-some, tag-fits, header-untagged}
 
--- x with bytes behind it is x′, unless x is the refusal z
+-- x with bytes after it is x′, unless x is the refusal z
 abbrev Kept : {A : Type 0} → A → A → A → Type 0
 Kept z x x′ = (x ≡ z → ⊥) → x′ ≡ x
 

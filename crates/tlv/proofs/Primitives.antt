@@ -1,5 +1,5 @@
--- The laws of primitive objects one behind the other. Each object is shorter than its list, so the recursion ends by itself (`unroll`);
--- then one law for each way out of a step, and the same for the parts that code makes of the bytes.
+-- The laws of primitive objects concatenated. Each object is shorter than its list, so the recursion ends by itself
+-- (`unroll`); then one law for each way out of a step, and the same for the parts that code makes of the bytes.
 -- Assumes nothing.
 use mathlib.Core.Path.{_≡_, refl, sym, ap, _∙_}
 use mathlib.Core.Bool.{true, false}
@@ -88,7 +88,7 @@ primitives-object s n h e = at s n (front.Object h) e
 
 -- ---- by the parts that code makes of the bytes
 
--- the first object, and the bytes behind it
+-- the first object, and the bytes after it
 abbrev pub firstOf : List ℕ → TlvHeader → Object
 firstOf s h = tlvObject (h .tag) (contents s (h .start) (h .len))
 

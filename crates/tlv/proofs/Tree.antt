@@ -1,6 +1,6 @@
--- The laws of the parse. Each object is shorter than its list, so the steps allowed do not matter (`unroll`); then one law for each
--- way out of a step, one induction over a parse that succeeds (`parse-ind`), and from it joining, counting and deeper levels. Padding is a
--- run of no object, so it can be joined in front and behind.
+-- The laws of the parse. Each object is shorter than its list, so the steps allowed do not matter (`unroll`); then one
+-- law for each way out of a step, one induction over a parse that succeeds (`parse-ind`), and from it joining, counting
+-- and deeper levels. Padding is a run of no object, so it can be joined before and after.
 -- Assumes nothing.
 use mathlib.Core.Path.{_≡_, refl, sym, ap, ap₂, subst, _∙_}
 use mathlib.Core.Bool.{true, false}
@@ -86,11 +86,11 @@ module _ (l : ℕ) (s : List ℕ) (h : TlvHeader) (e : nextOf s ≡ Inner h) whe
   pub parse-deep : h .template ≡ true → l ≡ 0 → parseTree l s ≡ none
   parse-deep t z = at l s (Inner h) e ∙ if-yes _ _ t ∙ nested-deep l _ _ _ z
 
-  -- a template: its contents with a level less, and what is behind it
+  -- a template: its contents with a level less, and what is after it
   pub parse-node : h .template ≡ true → (l ≡ 0 → ⊥) → parseTree l s ≡ withNode (h .tag) (parseTree (l - 1) (headerValue s h)) (parseTree l (behindObject s h))
   parse-node t n = at l s (Inner h) e ∙ if-yes _ _ t ∙ nested-at l _ _ _ n
 
-  -- a primitive object: its value, and what is behind it
+  -- a primitive object: its value, and what is after it
   pub parse-leaf : h .template ≡ false → parseTree l s ≡ withLeaf (h .tag) (headerValue s h) (parseTree l (behindObject s h))
   parse-leaf t = at l s (Inner h) e ∙ if-no _ _ t
 
@@ -98,7 +98,7 @@ zero-cases : (n : ℕ) → (n ≡ 0) ⊎ (n ≡ 0 → ⊥)
 zero-cases zero = inl refl
 zero-cases (suc n) = inr (λ z. omega arith)
 
--- ---- a run behind an object
+-- ---- a run after an object
 
 pub with-leaf : (t : ℕ) (v : List ℕ) (x : Option Forest) (r : Forest) → x ≡ some r → withLeaf t v x ≡ some (leaf t v r)
 unfolding withLeaf
@@ -180,15 +180,15 @@ parse-deeper l m s f e =
     (λ l s h f r e t n p j q k m le. parse-node m s h e t (omega arith) ∙ with-node _ _ _ f r (j (m - 1) (omega arith)) (k m le))
     l s f e m
 
--- ---- one run behind another
+-- ---- one run after another
 
--- two runs of objects, one behind the other
+-- two runs of objects, concatenated
 unfoldable pub join : Forest → Forest → Forest
 join end g = g
 join (leaf t v r) g = leaf t v (join r g)
 join (node t f r) g = node t f (join r g)
 
--- an object's parts, with bytes behind its list
+-- an object's parts, with bytes after its list
 value-kept : (s r : List ℕ) (h : TlvHeader) → HeaderFits s h → headerValue (s ++ r) h ≡ headerValue s h
 value-kept s r h f =
     let a : h .start ≤ length s = omega arith in
@@ -198,7 +198,7 @@ value-kept s r h f =
 behind-kept : (s r : List ℕ) (h : TlvHeader) → HeaderFits s h → behindObject (s ++ r) h ≡ behindObject s h ++ r
 behind-kept s r h f = drop-append-le (h .start + h .len) s r (f .inside)
 
--- where a list has nothing more, what is parsed is the list behind it
+-- where a list has nothing more, what is parsed is the list after it
 module _ (s r : List ℕ) where
   value-moved : (h : TlvHeader) → headerValue (s ++ r) (headerShifted (length s) h) ≡ headerValue r h
   value-moved h = rw (drop-append-add s r (h .start))
@@ -227,7 +227,7 @@ parse-join l s t f g =
     parse-node l (s ++ t) h (next-join s t (Inner h) e) q n ∙ rw (value-kept s t h i, behind-kept s t h i) (with-node _ _ _ f (join r g) x (k p)))
     l s f
 
--- ---- padding, in front of any bytes and behind a whole run
+-- ---- padding, at the front of any bytes and after a whole run
 
 pub zeros-in-front : (n l : ℕ) (s : List ℕ) → parseTree l (paddingZeros n ++ s) ≡ parseTree l s
 zeros-in-front n l s = parse-moved (paddingZeros n) s l (next-zeros n)

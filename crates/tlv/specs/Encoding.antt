@@ -52,7 +52,7 @@ Encodable (node t f r) levels =
     (wellFormedTag t ≡ true) × (isTemplate t ≡ true) × (length (encodeTree f) < 0x10000) × NestedAtMost (Encodable f) levels
     × Encodable r levels
 
--- ---- what holds of it, proved in proofs/Encoding for all tags, lengths, values and trees, whatever stands behind
+-- ---- what holds of it, proved in proofs/Encoding for all tags, lengths, values and trees, whatever follows
 --   number-tag        a tag's bytes are its number
 --   tag-encoded       a well-formed tag's bytes are read as that tag
 --   length-encoded    a length's bytes are read as that length

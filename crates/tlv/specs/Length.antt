@@ -10,18 +10,18 @@ use Rattle.tlv.specs.declared.LengthFront.the-variants.{Sized, Unsized}
 abbrev pub lengthParsed : ℕ → ℕ → LengthFront
 lengthParsed n k = Sized (record { len = n; size = k })
 
--- behind 81: one byte
+-- after 81: one byte
 unfoldable pub lengthOneByte : List ℕ → LengthFront
 lengthOneByte [] = Unsized
 lengthOneByte (a ∷ s) = lengthParsed a 2
 
--- behind 82: two bytes, high first
+-- after 82: two bytes, high first
 unfoldable pub lengthTwoBytes : List ℕ → LengthFront
 lengthTwoBytes [] = Unsized
 lengthTwoBytes (a ∷ []) = Unsized
 lengthTwoBytes (a ∷ b ∷ s) = lengthParsed (a * 256 + b) 3
 
--- 00 to 7F is the length itself, 81 has one byte more, 82 two; 80 and 83 up are refused
+-- 00 to 7F is the length itself, 81 has one more byte, 82 two; 80 and 83 up are refused
 unfoldable pub lengthAt : List ℕ → LengthFront
 lengthAt [] = Unsized
 lengthAt (a ∷ s) =

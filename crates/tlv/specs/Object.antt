@@ -35,18 +35,18 @@ headerWithTag s (Tagged t) = headerWithLength s t (lengthAt (drop (t .size) s))
 unfoldable pub headerOf : List ℕ → ObjectFront
 headerOf s = headerWithTag s (tagAt s)
 
--- the same object, with so many bytes more in front
+-- the same object, with so many more bytes before it
 abbrev pub headerShifted : ℕ → TlvHeader → TlvHeader
 headerShifted n h = record { tag = h .tag; start = n + h .start; len = h .len; template = h .template; private = h .private }
 
--- an object's value, and the bytes behind the object
+-- an object's value, and the bytes after the object
 abbrev pub headerValue : List ℕ → TlvHeader → List ℕ
 headerValue s h = take (h .len) (drop (h .start) s)
 
--- the bytes behind the object
+-- the bytes after the object
 abbrev pub behindObject : List ℕ → TlvHeader → List ℕ
 behindObject s h = drop (h .start + h .len) s
 
 -- ---- what holds of it, proved in proofs/Laws and proofs/Prefix for all lists
 --   header-fits    a value starts at 2 or later and ends inside the list; the header's class is its tag's
---   header-kept    bytes behind the list do not change its header
+--   header-kept    bytes after the list do not change its header

@@ -1,5 +1,5 @@
--- Padding within a template (document 02, Item 6): bytes of 00 before, between and behind the objects, at every level.
--- `nextOf` (specs/Tree) passes over them; here is what that comes to.
+-- Padding within a template (document 02, Item 6): bytes of 00 before, between and after the objects, at every level.
+-- `nextOf` (specs/Tree) skips them; here is what that comes to.
 -- Assumes nothing.
 use mathlib.Core.Path.{_≡_}
 use mathlib.Core.List.{List, [], _∷_, _++_}
@@ -13,8 +13,8 @@ use Rattle.tlv.specs.Encoding.{objectBytes, Encodable}
 abbrev pub paddingZeros : ℕ → List ℕ
 paddingZeros n = replicate n 0
 
--- bytes that encode a tree, padded: a 00 may stand in front of every object and behind the last of each template;
--- a template's length counts the padding in it
+-- bytes that encode a tree, padded: a 00 may be before every object and after the last of each template; a template's
+-- length counts the padding in it
 pub data Padded : Forest → List ℕ → Type 0 where
   nothing : Padded end []
   padding : {f : Forest} {s : List ℕ} → Padded f s → Padded f (0 ∷ s)
@@ -24,9 +24,9 @@ pub data Padded : Forest → List ℕ → Type 0 where
 
 -- how bytes s are read as a template's contents
 pub record PaddingSkipped (s : List ℕ) : Type 0 where
-  -- padding in front changes nothing, whether s is whole or malformed
+  -- leading padding changes nothing, whether s is whole or malformed
   pub in-front : (n levels : ℕ) → parseTree levels (paddingZeros n ++ s) ≡ parseTree levels s
-  -- padding behind a whole run changes nothing
+  -- padding after a whole run changes nothing
   pub behind : (n levels : ℕ) (f : Forest) → parseTree levels s ≡ some f → parseTree levels (s ++ paddingZeros n) ≡ some f
   -- padding between two whole runs changes nothing
   pub between : (t : List ℕ) (n levels : ℕ) (f g : Forest) → parseTree levels s ≡ some f → parseTree levels t ≡ some g
@@ -41,7 +41,7 @@ pub record PaddingSkipped (s : List ℕ) : Type 0 where
 
 -- ---- a private promise, on the way to `nextOf`
 
--- what is next in s is what is next from `at` on, so many bytes further on, and no 00 stands there
+-- what is next in s is what is next from `at` on, so many bytes further on, and no 00 is there
 pub record LeadsTo (s : List ℕ) (at : ℕ) : Type 0 where
   pub inside : at ≤ length s
   pub next : nextOf s ≡ nextShifted at (nextOf (drop at s))

@@ -1,4 +1,4 @@
--- Primitive objects one behind the other (document 01, refusal 20): whole, with nothing in between, no template.
+-- Primitive objects concatenated (document 01, refusal 20): whole, with nothing in between, no template.
 -- Assumes nothing.
 use mathlib.Core.Bool.{Bool, true, false}
 use mathlib.Core.List.{List, [], _∷_}
@@ -18,7 +18,7 @@ pub record Object : Type 0 where
 abbrev pub tlvObject : ℕ → List ℕ → Object
 tlvObject t v = record { tag = t; value = v }
 
--- an object and those behind it; none where those are none
+-- an object and those after it; none where those are none
 unfoldable pub objectBefore : Object → Option (List Object) → Option (List Object)
 objectBefore o none = none
 objectBefore o (some os) = some (o ∷ os)
@@ -34,18 +34,18 @@ primitiveFront (ObjectFront.Object h) =
 unfoldable pub primitiveOf : List ℕ → ObjectFront
 primitiveOf s = primitiveFront (headerOf s)
 
--- that object, and what k reads of the bytes behind it
+-- that object, and what k reads of the bytes after it
 abbrev pub objectThenRest : (List ℕ → Option (List Object)) → List ℕ → ObjectFront → Option (List Object)
 objectThenRest k s ObjectFront.Broken = none
 objectThenRest k s (ObjectFront.Object h) = objectBefore (tlvObject (h .tag) (headerValue s h)) (k (behindObject s h))
 
--- nothing more, or one object and what k reads of the bytes behind it
+-- nothing more, or one object and what k reads of the bytes after it
 abbrev pub nextObject : (List ℕ → Option (List Object)) → List ℕ → Option (List Object)
 nextObject k [] = some []
 nextObject k (b ∷ s) = objectThenRest k (b ∷ s) (primitiveOf (b ∷ s))
 
--- the primitive objects of the bytes in order, or none where the bytes are not a run of them.
--- The bytes behind an object are fewer than its list's, so the recursion ends by itself (`unroll`).
+-- the primitive objects of the bytes in order, or none where the bytes are not a run of them. The bytes after an object
+-- are fewer than its list's, so the recursion ends by itself (`unroll`).
 unfoldable pub primitiveObjects : List ℕ → Option (List Object)
 primitiveObjects s = recurse none nextObject s
 
@@ -56,5 +56,5 @@ isPrimitiveList (some os) = true
 
 -- ---- what holds of it, proved in proofs/Primitives for all lists
 --   unroll            primitives s ≡ nextObject primitives s
---   primitives-end, primitives-broken, primitives-object    the objects at each thing that can stand at the front
+--   primitives-end, primitives-broken, primitives-object    the objects at each thing that can be at the front
 --   primitive-fits    a primitive object lies inside its list and takes two bytes at least

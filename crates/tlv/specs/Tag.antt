@@ -9,7 +9,7 @@ use Rattle.basics.specs.Number.{bigEndian, hasBit}
 use Rattle.tlv.specs.declared.TagFront.{TagFront}
 use Rattle.tlv.specs.declared.TagFront.the-variants.{Tagged, Untagged}
 
--- the low five bits of a first byte, all set, say that another byte follows
+-- the low five bits of a first byte, all set, indicate that another byte follows
 abbrev pub tagContinues : ℕ → Bool
 tagContinues b = b % 32 =? 31
 
@@ -17,7 +17,7 @@ tagContinues b = b % 32 =? 31
 abbrev pub tagByteContinues : ℕ → Bool
 tagByteContinues b = 0x80 ≤? b
 
--- with a third byte the tag ends: 3 bytes, or 0 where that byte asks for a fourth or is missing
+-- with a third byte the tag ends: 3 bytes, or 0 where that byte requires a fourth or is missing
 unfoldable pub tagThirdByte : List ℕ → ℕ
 tagThirdByte [] = 0
 tagThirdByte (b ∷ s) =
@@ -32,7 +32,7 @@ tagSecondByte (b ∷ s) =
     else if tagByteContinues b then tagThirdByte s
     else 2
 
--- how many bytes at the front are a tag, 0 where no whole tag stands there; the first byte is not 00
+-- how many bytes at the front are a tag, 0 where no whole tag is there; the first byte is not 00
 unfoldable pub tagSize : List ℕ → ℕ
 tagSize [] = 0
 tagSize (b ∷ s) =
@@ -68,4 +68,4 @@ isPrivate t = tagFirstByte t / 64 =? 3
 -- ---- what holds of it, proved in proofs/Laws and proofs/Prefix for all lists
 --   tag-fits         a tag has 1 to 3 bytes, all inside the list
 --   first-byte-is    of bytes, the first byte of a tag's number is the list's first: template-is, private-is
---   tag-kept         bytes behind the list do not change its tag
+--   tag-kept         bytes after the list do not change its tag

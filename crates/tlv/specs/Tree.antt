@@ -1,6 +1,6 @@
--- The tree of an encoding (document 01, "Reading an answer"): the objects within a template, in order, templates
--- nested at most so many levels deep, and how many objects there are, templates included. Bytes of 00 before, between
--- and behind the objects are padding (document 02, Item 6).
+-- The tree of an encoding (document 01, "Reading an answer"): the objects within a template, in order, templates nested
+-- at most so many levels deep, and how many objects there are, templates included. Bytes of 00 before, between and
+-- after the objects are padding (document 02, Item 6).
 -- Assumes nothing.
 use mathlib.Core.List.{List, [], _∷_}
 use mathlib.Core.Option.{Option, some, none}
@@ -13,7 +13,7 @@ use Rattle.tlv.specs.declared.Following.{Following}
 use Rattle.tlv.specs.declared.Following.the-variants.{End, Inner, Malformed}
 use Rattle.tlv.specs.Object.{headerOf, headerShifted, headerValue, behindObject}
 
--- objects one behind the other: a leaf is a primitive object with tag and value, a node a template with what it holds
+-- objects concatenated: a leaf is a primitive object with tag and value, a node a template with what it holds
 pub data Forest : Type 0 where
   end : Forest
   leaf : ℕ → List ℕ → Forest → Forest
@@ -32,25 +32,25 @@ abbrev pub frontNext : ObjectFront → Following
 frontNext Broken = Malformed
 frontNext (Object h) = Inner h
 
--- what is next, with so many bytes more in front
+-- what is next, with so many more bytes before it
 abbrev pub nextShifted : ℕ → Following → Following
 nextShifted n End = End
 nextShifted n Malformed = Malformed
 nextShifted n (Inner h) = Inner (headerShifted n h)
 
--- what stands next within a template's contents: a 00 where a tag would start is passed over, and its place counts
+-- what is next within a template's contents: a 00 where a tag would start is skipped, and its place counts
 unfoldable pub nextOf : List ℕ → Following
 nextOf [] = End
 nextOf (b ∷ s) =
     if b =? 0 then nextShifted 1 (nextOf s)
     else frontNext (headerOf (b ∷ s))
 
--- a run behind a leaf, or behind a node; malformed where any part is
+-- a run after a leaf, or after a node; malformed where any part is
 unfoldable pub withLeaf : ℕ → List ℕ → Option Forest → Option Forest
 withLeaf t v none = none
 withLeaf t v (some r) = some (leaf t v r)
 
--- a run behind a template, malformed where its contents or the run are
+-- a run after a template, malformed where its contents or the run are
 unfoldable pub withNode : ℕ → Option Forest → Option Forest → Option Forest
 withNode t none r = none
 withNode t (some f) none = none
@@ -61,7 +61,7 @@ abbrev pub nestedForest : (ℕ → List ℕ → Option Forest) → ℕ → ℕ �
 nestedForest k zero t v r = none
 nestedForest k (suc l) t v r = withNode t (k l v) (k (suc l) r)
 
--- one object, and what k parses of its contents and of the bytes behind it
+-- one object, and what k parses of its contents and of the bytes after it
 abbrev pub objectForest : (ℕ → List ℕ → Option Forest) → ℕ → List ℕ → Following → Option Forest
 objectForest k levels s End = some end
 objectForest k levels s Malformed = none
@@ -69,13 +69,13 @@ objectForest k levels s (Inner h) =
     if h .template then nestedForest k levels (h .tag) (headerValue s h) (behindObject s h)
     else withLeaf (h .tag) (headerValue s h) (k levels (behindObject s h))
 
--- one step of the parse: the object that is next, and what k parses of the bytes in it and behind it, by the levels
+-- one step of the parse: the object that is next, and what k parses of the bytes in it and after it, by the levels
 -- still allowed
 abbrev pub parseTreeNext : (List ℕ → ℕ → Option Forest) → List ℕ → ℕ → Option Forest
 parseTreeNext k s levels = objectForest (λ l v. k v l) levels s (nextOf s)
 
--- the objects of s, with templates nested at most `levels` deep, or none where s is malformed.
--- An object's contents and the bytes behind it are shorter than its list, so the recursion ends by itself (`unroll`).
+-- the objects of s, with templates nested at most `levels` deep, or none where s is malformed. An object's contents and
+-- the bytes after it are shorter than its list, so the recursion ends by itself (`unroll`).
 unfoldable pub parseTree : ℕ → List ℕ → Option Forest
 parseTree levels s = recurse (λ l. none) parseTreeNext s levels
 
@@ -83,12 +83,12 @@ parseTree levels s = recurse (λ l. none) parseTreeNext s levels
 --   next-fits       an object that is next starts its value at 2 or later and ends inside the list; its class is
 --                   its tag's
 --   next-end        nothing is next exactly where nothing but padding is left
---   next-join       with bytes behind the list, the same object is next; where nothing is, what is next in those bytes
+--   next-join       with bytes after the list, the same object is next; where nothing is, what is next in those bytes
 --   unroll          parse levels s ≡ oneObject parse levels s (nextOf s): the steps allowed do not matter
 --   parse-end, parse-malformed, parse-deep, parse-node, parse-leaf    the parse at each thing that can be next
---   parse-join      the parse of two lists, one behind the other, is the one run behind the other
+--   parse-join      the parse of two lists concatenated is their runs concatenated
 --   parse-count     2 * count f ≤ length s, where s parses to f
 --   parse-deeper    what parses at some levels parses to the same tree at more
---   zeros-in-front, zeros-behind, zeros-between    padding in front, behind a whole run, and between two whole runs
+--   zeros-in-front, zeros-behind, zeros-between    padding before, after a whole run, and between two whole runs
 --                   changes nothing (specs/Padding)
 --   parse-padded    an encodable tree's padded encodings parse to that tree, its shortest one too (parse-encode)

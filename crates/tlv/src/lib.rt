@@ -1,8 +1,8 @@
 // One data object at the front of some bytes: its tag, where its value starts and how long it is.
 //
-// `tag_at` reads a tag alone, as a data object list needs it; `object_header` reads a whole object's header;
-// `next` is what stands next within a template's contents, and `behind_padding` the same. `primitive` and `is_primitive_list`
-// are for bytes that hold primitive objects alone. The tree of an encoding, its count and its laws are in specs/.
+// `tag_at` reads a tag alone, as a DOL needs it; `object_header` reads a whole object's header; `next` is what is next
+// within a template's contents, and `behind_padding` the same. `primitive` and `is_primitive_list` are for bytes that
+// hold primitive objects alone. The tree of an encoding, its count and its laws are in specs/.
 ghost use mathlib.Core.Path.{_≡_};
 ghost use Prim.Native.Nat.{_+_, _≤_, _<_};
 ghost use lib.ListN.{length, take, drop};
@@ -20,7 +20,7 @@ pub struct Tag {
     pub size: usize,
 }
 
-// What stands where a tag should: a whole one, or none.
+// What is read where a tag is expected: a whole one, or none.
 pub enum TagFront {
     Tagged(Tag),
     Untagged,
@@ -32,7 +32,7 @@ pub struct TlvLength {
     pub size: usize,
 }
 
-// What stands where a length should: a whole one, or none.
+// What is read where a length is expected: a whole one, or none.
 pub enum LengthFront {
     Sized(TlvLength),
     Unsized,
@@ -48,20 +48,20 @@ pub struct TlvHeader {
     pub private: bool,
 }
 
-// What stands at the front of some bytes: an object that lies whole inside them, or none.
+// What is at the front of some bytes: an object that lies whole inside them, or none.
 pub enum ObjectFront {
     Object(TlvHeader),
     Broken,
 }
 
-// What stands next within a template's contents: nothing more, an object, or no object.
+// What is next within a template's contents: nothing more, an object, or no object.
 pub enum Following {
     End,
     Inner(TlvHeader),
     Malformed,
 }
 
-// How many bytes at the front are a tag; 0 where no whole tag stands there.
+// How many bytes at the front are a tag; 0 where no whole tag is there.
 fn tag_size(s: &[u8]) -> usize
     ensures size { λ r. ⌜ r ≡ tagSize (now (s .entry)) ⌝ }
     ensures inside { λ r. ⌜ (r ≤ 3) × (r ≤ length (now (s .entry))) ⌝ }
@@ -209,7 +209,7 @@ pub fn object_header(s: &[u8]) -> ObjectFront
     ObjectFront::Broken
 }
 
-// What stands next within a template's contents, behind any bytes of 00; the value's start counts them.
+// What is next within a template's contents, after any bytes of 00; the value's start counts them.
 pub fn next(s: &[u8]) -> Following
     ensures next { λ r. ⌜ r ≡ nextOf (now (s .entry)) ⌝ }
     ensures padding { λ _. ⌜ PaddingSkipped (now (s .entry)) ⌝ }
@@ -218,8 +218,8 @@ pub fn next(s: &[u8]) -> Following
     object_behind(s, at)
 }
 
-// The same, for a search of a single object: so the library calls `next` in one place, its reader, and the compiler puts
-// it inline there.
+// The same, for a search of a single object: so the library calls `next` in one place, its reader, and the compiler
+// puts it inline there.
 pub fn behind_padding(s: &[u8]) -> Following
     ensures { λ r. ⌜ r ≡ nextOf (now (s .entry)) ⌝ }
 {
@@ -227,7 +227,7 @@ pub fn behind_padding(s: &[u8]) -> Following
     object_behind(s, at)
 }
 
-// How many bytes of 00 stand in front; most often none.
+// How many bytes of 00 are at the front; most often none.
 fn padding_in_front(s: &[u8]) -> usize
     ensures { λ r. ⌜ LeadsTo (now (s .entry)) r ⌝ }
 {
@@ -254,7 +254,7 @@ fn padding(s: &[u8]) -> usize
     at
 }
 
-// What stands behind the padding, whose bytes are counted.
+// What follows the padding, whose bytes are counted.
 fn object_behind(s: &[u8], at: usize) -> Following
     requires { ⌜ LeadsTo (now s) at ⌝ }
     ensures { λ r. ⌜ r ≡ nextOf (now (s .entry)) ⌝ }

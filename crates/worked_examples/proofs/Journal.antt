@@ -1,5 +1,5 @@
--- Records written and read are computed; the calls of a whole journal by the law that a played session stays in its ranges, and the verdict on it by
--- the law that every journal of a conforming kernel is accepted. Assumes nothing.
+-- Records written and read are computed; the calls of a whole journal by the law that a played session stays in its
+-- ranges, and the verdict on it by the law that every journal of a conforming kernel is accepted. Assumes nothing.
 use mathlib.Core.Path.{_≡_, refl, sym, ap, subst, _∙_}
 use mathlib.Core.List.{List}
 use Prim.Native.Nat.{ℕ, _≤_}

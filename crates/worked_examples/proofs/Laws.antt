@@ -1,5 +1,5 @@
--- A call on a session in its ranges is the step of its phase, and one that is refused first is known by the buffer or the ranges alone: so each
--- example computes one step, and the ranges are shown once a session. Assumes nothing.
+-- A call on a session in its ranges is the step of its phase, and one that is refused first is known by the buffer or
+-- the ranges alone: so each example computes one step, and the ranges are shown once a session. Assumes nothing.
 use mathlib.Core.Path.{_≡_, ap, _∙_}
 use mathlib.Core.Bool.{true, false}
 use mathlib.Core.List.{List, map}

@@ -1,4 +1,4 @@
--- Commands by their data object lists, computed. Assumes nothing.
+-- Commands by their DOLs, computed. Assumes nothing.
 use mathlib.Core.Path.{refl}
 use Rattle.basics.specs.Recursion.{recurse, recurseBy}
 use Rattle.basics.specs.Choice.{if, both, either, every}

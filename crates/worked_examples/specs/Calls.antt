@@ -1,5 +1,5 @@
--- How the worked examples call a session, and what they write down of its step: what the call hands back, the command
--- that it hands out, what the store holds after it; and the card's bytes that they send.
+-- How the worked examples call a session, and what they write down of its step: what the call returns, the command that
+-- it hands out, what the store holds after it; and the card's bytes that they send.
 -- Assumes nothing.
 use mathlib.Core.List.{List, [], _∷_, _++_, map}
 use Prim.Native.Nat.{ℕ, _-_}
@@ -24,7 +24,7 @@ fullBuffer = replicate 261 0
 abbrev pub shortBuffer : List ℕ
 shortBuffer = replicate 260 0
 
--- what a start, an answer, a link failure and a stop hand back, by the session, the bytes and the buffer
+-- what a start, an answer, a link failure and a stop return, by the session, the bytes and the buffer
 unfoldable pub startResult : Session → List ℕ → List ℕ → CallResult
 startResult s bytes buf = startStep s bytes buf .reply .answer
 
@@ -55,7 +55,7 @@ commandOn s card = commandSent (answerStep s card fullBuffer .reply .answer) (an
 unfoldable pub valueAfter : Session → List ℕ → ℕ → StoredValue
 valueAfter s card tag = objectValue (storeBytes (answerStep s card fullBuffer .reply .session)) tag
 
--- ---- what is handed back
+-- ---- what is returned
 
 -- a refusal by its number
 abbrev pub refusalResult : ℕ → CallResult
@@ -65,7 +65,7 @@ refusalResult n = CallResult.Refused (record { number = n })
 abbrev pub commandResult : ℕ → CallResult
 commandResult n = CallResult.Command (record { size = n })
 
--- an outcome by its reason and the method's number: 15 where no method was chosen, 2 for an online PIN
+-- an outcome by its reason and the CVM's number: 15 where no CVM was chosen, 2 for an online PIN
 abbrev pub outcomeResult : Outcome → ℕ → ℕ → CallResult
 outcomeResult o reason cvm = CallResult.Outcome (outcomeParameters o reason cvm)
 
@@ -84,7 +84,7 @@ with9000 body = body ++ (0x90 ∷ 0x00 ∷ [])
 abbrev pub with6A82 : List ℕ → List ℕ
 with6A82 body = body ++ (0x6A ∷ 0x82 ∷ [])
 
--- an answer of 259 bytes: one object of a tag of one byte, with padding behind its contents, and status 90 00
+-- an answer of 259 bytes: one object of a tag of one byte, with padding after its contents, and status 90 00
 abbrev pub answerOf259Bytes : ℕ → List ℕ → List ℕ
 answerOf259Bytes tag contents = with9000 (objectBytes tag (contents ++ replicate (254 - length contents) 0))
 
@@ -92,14 +92,14 @@ answerOf259Bytes tag contents = with9000 (objectBytes tag (contents ++ replicate
 abbrev pub tooLongAnswer : List ℕ
 tooLongAnswer = replicate 259 0
 
--- a 77 whose contents are cut short, and a 70
+-- a 77 whose contents are truncated, and a 70
 abbrev pub truncated77 : List ℕ
 truncated77 = 0x77 ∷ 0x05 ∷ []
 
 abbrev pub truncated70 : List ℕ
 truncated70 = 0x70 ∷ 0x05 ∷ []
 
--- a body with a byte behind its one object
+-- a body with a byte after its one object
 abbrev pub byteBehind : List ℕ → List ℕ
 byteBehind body = body ++ (0x00 ∷ [])
 
@@ -107,6 +107,6 @@ byteBehind body = body ++ (0x00 ∷ [])
 abbrev pub wrappedBody : List ℕ → List ℕ
 wrappedBody body = objectBytes 0x61 body
 
--- the result bits, which are not the card's to set
+-- the TVR, which is not the card's to set
 abbrev pub tvrFromCard : List ℕ
 tvrFromCard = objectBytes 0x95 (0x00 ∷ [])

@@ -1,5 +1,5 @@
 -- The answer to GENERATE AC (document 01, "Commands and steps" and the order of reasons): the outcome by the choice
--- that was asked for and the cryptogram's type, the reading's reasons, an object missing (4), a type that is not
+-- that was requested and the cryptogram's type, the reading's reasons, an object missing (4), a type that is not
 -- allowed (8); and the objects of a body under 80. The fields of an order are named by the two reasons of their answer.
 -- Assumes nothing.
 use mathlib.Core.Path.{_≡_}
@@ -30,7 +30,7 @@ cryptogram77 information = objectBytes 0x77 (cryptogramObjects information)
 abbrev pub cryptogramTypes : List (List ℕ)
 cryptogramTypes = map (λ information. with9000 (cryptogram77 information)) (0x00 ∷ 0x40 ∷ 0x80 ∷ 0xC0 ∷ [])
 
--- the outcomes; each reports the method that the session holds
+-- the outcomes; each reports the CVM that the session holds
 abbrev pub declined : CallResult
 declined = outcomeResult Outcome.Declined 0 2
 
@@ -43,21 +43,21 @@ approved = outcomeResult Outcome.Approved 0 2
 abbrev pub notAllowed : CallResult
 notAllowed = endedResultWithPin 8
 
--- what is awaited in the other fields: an ARQC was asked for, so that a TC is not allowed
+-- what is awaited in the other fields: an ARQC was requested, so that a TC is not allowed
 abbrev pub waitsOnArqc : Session
 waitsOnArqc = waitsOnCryptogram Choice.Online
 
 abbrev pub certificate : List ℕ
 certificate = cryptogram77 0x40
 
--- under 80: 9F27, 9F36, 9F26, and behind them 9F10
+-- under 80: 9F27, 9F36, 9F26, and after them 9F10
 abbrev pub under80 : List ℕ
 under80 =
     objectBytes 0x80
     (0x80 ∷ 0x00 ∷ 0x2A ∷ 0x11 ∷ 0x22 ∷ 0x33 ∷ 0x44 ∷ 0x55 ∷ 0x66 ∷ 0x77 ∷ 0x88 ∷ 0xAA ∷ 0xBB ∷ [])
 
 pub record CryptogramExamples : Type 0 where
-  -- by what was asked for: AAC, TC, ARQC and the reserved type
+  -- by what was requested: AAC, TC, ARQC and the reserved type
   pub decline-asked : resultsOn (waitsOnCryptogram Choice.Decline) cryptogramTypes
       ≡ declined ∷ notAllowed ∷ notAllowed ∷ notAllowed ∷ []
   pub online-asked : resultsOn waitsOnArqc cryptogramTypes ≡ declined ∷ notAllowed ∷ onlineRequest ∷ notAllowed ∷ []

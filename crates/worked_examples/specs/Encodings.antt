@@ -1,5 +1,5 @@
 -- What a record's bytes may be (document 01, "Reading an answer" and "Dictionary"): lengths and tags that are refused,
--- and the templates that an object may stand in. A record that is read has the next one asked for.
+-- and the templates that an object may be in. A record that is read has the next one requested.
 -- Assumes nothing.
 use mathlib.Core.Path.{_≡_}
 use mathlib.Core.List.{List, [], _∷_, _++_, map}
@@ -33,7 +33,7 @@ someTags =
     ∷ (0x5F ∷ 0x80 ∷ 0x60 ∷ 0x00 ∷ [])
     ∷ [])
 
--- objects of A5, of BF0C and of 6F; 9F6E may stand in a 70, too
+-- objects of A5, of BF0C and of 6F; 9F6E may be in a 70, too
 abbrev pub ofA5 : List TagValue
 ofA5 =
     (0x50, 0x41 ∷ []) ∷ (0x87, 0x01 ∷ []) ∷ (0x5F2D, 0x65 ∷ 0x6E ∷ []) ∷ (0x9F11, 0x01 ∷ []) ∷ (0x9F12, 0x41 ∷ []) ∷ []

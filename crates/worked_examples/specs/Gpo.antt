@@ -1,5 +1,5 @@
 -- The answer to GET PROCESSING OPTIONS (document 01, the order of reasons): length (2), status (1), encoding (2), outer
--- tag or body (2), objects (3), an object missing (4), the mode (11), the locator (5). Each field but the last has an
+-- tag or body (2), objects (3), an object missing (4), the mode (11), the AFL (5). Each field but the last has an
 -- answer that gives two reasons, and is named by both: the first is the one that the session ends with.
 -- Assumes nothing.
 use mathlib.Core.Path.{_≡_}
@@ -60,8 +60,8 @@ pub record GpoExamples : Type 0 where
   pub missing-afl : resultOn waitsOnGpo (with9000 (objectBytes 0x77 (objectBytes 0x94 badAfl)))
       ≡ endedWith 4
   pub mode-afl : resultOn waitsOnGpo (with9000 (gpoTemplate magStripeAip badAfl)) ≡ endedWith 11
-  -- each reason alone: 259 bytes with 90 00, another status, a byte behind, an outer 70 around a 77, a body of 7 bytes
-  -- under 80, 95, no 94, no 82, no mode, file 0; and none: with 258 bytes and with 14 the first record is asked for
+  -- each reason alone: 259 bytes with 90 00, another status, a byte after, an outer 70 around a 77, a body of 7 bytes
+  -- under 80, 95, no 94, no 82, no mode, file 0; and none: with 258 bytes and with 14 the first record is requested
   pub alone :
       resultsOn waitsOnGpo
       (answerOf259Bytes 0x77 (aipAndAfl emvAip oneRecordAfl)

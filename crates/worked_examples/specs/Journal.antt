@@ -38,7 +38,7 @@ callRecords =
     ∷ (4 ∷ [])
     ∷ []
 
--- the record command in front of a buffer of other bytes
+-- the record command at the front of a buffer of other bytes
 abbrev pub commandBuffer : List ℕ
 commandBuffer = 0x00 ∷ 0xB2 ∷ 0x01 ∷ 0x0C ∷ 0x00 ∷ replicate 256 0xEE
 

@@ -1,6 +1,6 @@
--- The data object lists that the commands are filled from (document 01, "Commands and steps"; document 02, Item 9): the
--- PDOL 9F38 for GET PROCESSING OPTIONS, CDOL1 8C for GENERATE AC, the UDOL 9F69 for COMPUTE CRYPTOGRAPHIC CHECKSUM. The
--- list of each command asks for 9F37; where the store may have the others, they ask for something else.
+-- The DOLs that the commands are filled from (document 01, "Commands and steps"; document 02, Item 9): the PDOL 9F38
+-- for GET PROCESSING OPTIONS, CDOL1 8C for GENERATE AC, the UDOL 9F69 for COMPUTE CRYPTOGRAPHIC CHECKSUM. The list of
+-- each command requests 9F37; where the store may have the others, they request something else.
 -- Assumes nothing.
 use mathlib.Core.Path.{_≡_}
 use mathlib.Core.List.{List, [], _∷_, _++_}

@@ -1,6 +1,6 @@
 -- The answer to READ RECORD (document 01, the order of reasons; document 02, Item 9): the reading's reasons as in
--- Options.antt, and after the last record the amount above the limit (6), an object missing (4), a data object list
--- that makes no command (7). Each field is named by the two reasons that its answer gives.
+-- Options.antt, and after the last record the amount above the limit (6), an object missing (4), a DOL that makes no
+-- command (7). Each field is named by the two reasons that its answer gives.
 -- Assumes nothing.
 use mathlib.Core.Path.{_≡_}
 use mathlib.Core.List.{List, [], _∷_, _++_}
@@ -23,11 +23,11 @@ record70 objects = objectBytes 0x70 (objectsInBytes objects)
 abbrev pub selectsNext : CallResult
 selectsNext = outcomeResult Outcome.SelectNext 6 15
 
--- reason 7 on CDOL1: the method was chosen, no CVM
+-- reason 7 on CDOL1: the CVM was chosen, no CVM
 abbrev pub withoutCdol : CallResult
 withoutCdol = outcomeResult Outcome.Ended 7 0
 
--- a list that ends behind a tag, as CDOL1 and as UDOL; beside it all that is needed
+-- a list that ends after a tag, as CDOL1 and as UDOL; beside it all that is needed
 abbrev pub brokenList : List ℕ
 brokenList = 0x9F ∷ 0x02 ∷ []
 
@@ -83,7 +83,7 @@ pub record RecordExamples : Type 0 where
   pub limit-list : resultOn (waitsOnLast emvAip amountOver) (with9000 brokenCdol) ≡ selectsNext
   pub missing-list : resultOn (waitsOnLast emvAip amountBelow) (with9000 (record70 ((0x8C, brokenList) ∷ [])))
       ≡ endedWith 4
-  -- each of the last three alone; and the cryptogram is asked for
+  -- each of the last three alone; and the cryptogram is requested
   pub above-alone : resultOn (waitsOnLast emvAip amountOver) (with9000 (record70 accountObjects)) ≡ selectsNext
   pub others-alone :
       resultsOn (waitsOnLast emvAip amountBelow)
@@ -102,7 +102,7 @@ pub record MagStripeExamples : Type 0 where
   pub limit-list : resultOn (waitsOnLast magStripeAip amountOver) (with9000 brokenUdol) ≡ selectsNext
   pub missing-list : resultOn (waitsOnLast magStripeAip amountBelow) (with9000 (record70 ((0x9F69, brokenList) ∷ [])))
       ≡ endedWith 4
-  -- each of the last three alone; and the checksum is asked for
+  -- each of the last three alone; and the checksum is requested
   pub above-alone : resultOn (waitsOnLast magStripeAip amountOver) (with9000 (record70 (trackObjects soundTrack)))
       ≡ selectsNext
   pub others-alone :

@@ -1,6 +1,6 @@
 -- The order of refusals (document 01, "Calls and their numbers"): the buffer (22), the record's ranges (25), the phase
 -- (21), and of start bytes no run of primitive objects (20), an object that may not be set (23), a mandatory object
--- absent (24). Each field is named by the two refusals that its call gives: the first is the one handed back.
+-- absent (24). Each field is named by the two refusals that its call gives: the first is the one returned.
 -- Assumes nothing.
 use mathlib.Core.Path.{_≡_}
 use mathlib.Core.List.{List, [], _∷_, _++_}
@@ -22,7 +22,7 @@ malformedStart = 0xE1 ∷ 0x00 ∷ []
 abbrev pub startNotSettable : List ℕ
 startNotSettable = 0x95 ∷ 0x05 ∷ 0x00 ∷ 0x00 ∷ 0x00 ∷ 0x00 ∷ 0x00 ∷ []
 
--- a PDOL that ends behind a tag
+-- a PDOL that ends after a tag
 abbrev pub brokenPdol : List ℕ
 brokenPdol = objectsInBytes ((0x9F38, 0x9F ∷ 0x02 ∷ []) ∷ [])
 

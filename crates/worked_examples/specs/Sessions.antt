@@ -60,7 +60,7 @@ magStripeCarried = 0x00
 abbrev pub magStripeOff : ℕ
 magStripeOff = 0x80
 
--- behind a start the result bits are zero
+-- after a start the TVR is zero
 abbrev pub startedObjects : ℕ → ℕ → List TagValue
 startedObjects amount configuration = (0x95, replicate 5 0) ∷ startObjects amount configuration
 
@@ -71,7 +71,7 @@ emvAip = 0x00 ∷ 0x80 ∷ []
 abbrev pub magStripeAip : List ℕ
 magStripeAip = 0x00 ∷ 0x00 ∷ []
 
--- a locator of one record, one of two, and one of file 0, which breaks the rules
+-- an AFL of one record, one of two, and one of file 0, which breaks the rules
 abbrev pub oneRecordAfl : List ℕ
 oneRecordAfl = 0x08 ∷ 0x01 ∷ 0x01 ∷ 0x00 ∷ []
 
@@ -81,7 +81,7 @@ twoRecordAfl = 0x08 ∷ 0x01 ∷ 0x02 ∷ 0x00 ∷ []
 abbrev pub badAfl : List ℕ
 badAfl = 0x00 ∷ 0x01 ∷ 0x01 ∷ 0x00 ∷ []
 
--- behind processing options
+-- after GPO
 abbrev pub openedObjects : List ℕ → List ℕ → ℕ → List TagValue
 openedObjects aip afl amount = (0x82, aip) ∷ (0x94, afl) ∷ startedObjects amount magStripeCarried
 
@@ -105,11 +105,11 @@ unsoundTrack = 0x54 ∷ 0x13 ∷ []
 
 -- ---- sessions
 
--- waiting on processing options, with mag-stripe mode off
+-- waiting on GPO, with mag-stripe mode off
 abbrev pub waitsOnGpo : Session
 waitsOnGpo = sessionOf Phase.Gpo 1 (storing (startedObjects amountBelow magStripeOff))
 
--- waiting on record 1; the limit in force is 25.00
+-- waiting on record 1; the transaction limit is 25.00
 abbrev pub waitsOnRecord : List TagValue → Session
 waitsOnRecord objects = sessionOf (Phase.Record (record { number = 1; limit = 2500 })) 2 (storing objects)
 
@@ -125,7 +125,7 @@ abbrev pub waitsOnLastWithPdol : List ℕ → Session
 waitsOnLastWithPdol aip =
     waitsOnRecord ((0x9F38, 0x9A ∷ 0x03 ∷ []) ∷ openedObjects aip oneRecordAfl amountBelow)
 
--- waiting on the cryptogram that was asked for by a choice; the method is an online PIN, number 2
+-- waiting on the cryptogram that was requested by a choice; the CVM is an online PIN, number 2
 abbrev pub waitsOnCryptogram : Choice → Session
 waitsOnCryptogram choice =
     sessionOf (Phase.Cryptogram (record { choice = choice; cvm = Cvm.OnlinePin; limit = 2500 })) 3
@@ -148,7 +148,7 @@ hasEnded = sessionOf (Phase.Ended (endingOf Outcome.Ended 10)) 1 (storing (start
 abbrev pub freshOutOfRanges : Session
 freshOutOfRanges = sessionOf Phase.Fresh 1 (storeBytes freshSession)
 
--- waiting on processing options, and ended, with two commands and 131 counted
+-- waiting on GPO, and ended, with two commands and 131 counted
 abbrev pub gpoOutOfRanges : Session
 gpoOutOfRanges = sessionOf Phase.Gpo 2 (storing (startedObjects amountBelow magStripeOff))
 

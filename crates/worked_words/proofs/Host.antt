@@ -1,5 +1,5 @@
--- The words of the calls in C, computed; a session in bytes is read back by law, and its answer is the step of its phase by the laws of
--- worked_examples. Assumes nothing.
+-- The words of the calls in C, computed; a session in bytes is read back by law, and its answer is the step of its
+-- phase by the laws of worked_examples. Assumes nothing.
 use mathlib.Core.Path.{_≡_, refl, ap, _∙_}
 use mathlib.Core.Bool.{true}
 use mathlib.Core.List.{List, [], _∷_}

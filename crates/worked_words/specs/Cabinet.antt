@@ -1,4 +1,4 @@
--- The words of a cabinet's calls (document 02, Item 14): cabinet_open, cabinet_left, and the refusals beside the
+-- The words of a cabinet's calls (document 02, Item 14): cabinet_open, cabinet_left, and the refusals besides the
 -- kernel's, which come after them.
 -- Assumes nothing.
 use mathlib.Core.Path.{_≡_}

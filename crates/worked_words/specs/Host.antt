@@ -26,7 +26,7 @@ use Rattle.worked_examples.specs.Calls.{fullBuffer, shortBuffer, commandResult,
 use Rattle.worked_examples.specs.Calls.{with6A82}
 use Rattle.worked_examples.specs.Gpo.{gpoTemplate}
 
--- a session's record with a byte behind it
+-- a session's record with a byte after it
 abbrev pub sessionInBytes : Session → List ℕ
 sessionInBytes s = encodedSession s ++ (0xEE ∷ [])
 
@@ -34,7 +34,7 @@ sessionInBytes s = encodedSession s ++ (0xEE ∷ [])
 unfoldable pub answerWord : Session → List ℕ → ℕ
 answerWord s card = hostAnswer card (sessionInBytes s) fullBuffer .word
 
--- a store whose first place, that of 50, holds two bytes; and one where it is there and empty
+-- a store whose first place, that of 50, holds two bytes; and one where it is present and empty
 abbrev pub storeOfTwo : List ℕ
 storeOfTwo = 3 ∷ 0xA1 ∷ 0xA2 ∷ []
 
@@ -46,7 +46,7 @@ abbrev pub accountRecord : List ℕ
 accountRecord = 0x70 ∷ 0x04 ∷ 0x5A ∷ 0x02 ∷ 0x54 ∷ 0x13 ∷ []
 
 pub record HostWords : Type 0 where
-  -- what a call hands back: commands; each outcome; each refusal
+  -- what a call returns: commands; each outcome; each refusal
   pub commands : map resultWord (commandResult 5 ∷ commandResult 261 ∷ []) ≡ 5 ∷ 261 ∷ []
   pub outcomes :
       map resultWord
@@ -91,7 +91,7 @@ pub record HostWords : Type 0 where
       map (λ h. explain.explanationWord (Explanation.Forced (record { stage = Stage.Online; bit = 9; holder = h })))
       (Holder.Card ∷ Holder.Terminal ∷ Holder.Both ∷ [])
       ≡ 0x63109 ∷ 0x63209 ∷ 0x63309 ∷ []
-  -- a search: the place and the length, a tag that is not there, bytes that are cut
+  -- a search: the place and the length, a tag that is not present, bytes that are truncated
   pub found : map findWord (findTag 0x5A accountRecord ∷ findTag 0x57 accountRecord ∷ findTag 0x5A (0x70 ∷ 0x04 ∷ []) ∷ [])
       ≡ 0x0000000400000002 ∷ 0xFFFFFFFFFFFFFFFF ∷ 0xFFFFFFFFFFFFFFFE ∷ []
   -- 0.1.0, and version 5 of the layout

@@ -1,5 +1,5 @@
--- The words of emv_personalise (document 02, Item 4): the kind in bits 48 to 55, the locator's length in bits 32 to 47,
--- and in bits 0 to 31 the records' length, the number of the bad entry or that of the bad record.
+-- The words of emv_personalise (document 02, Item 4): the kind in bits 48 to 55, the AFL's length in bits 32 to 47, and
+-- in bits 0 to 31 the records' length, the number of the bad entry or that of the bad record.
 -- Assumes nothing.
 use mathlib.Core.Path.{_≡_}
 use mathlib.Core.List.{List, [], _∷_, _++_}
@@ -7,8 +7,8 @@ use Prim.Native.Nat.{ℕ}
 use lib.ListN.{replicate}
 use Rattle.personalise.specs.Word.{personaliseWordFor}
 
--- 9F08 and 5F34; a locator of two records, and one whose second entry breaks a rule; both objects in record 1, and one
--- in record 3
+-- 9F08 and 5F34; an AFL of two records, and one whose second entry breaks a rule; both objects in record 1, and
+-- one in record 3
 abbrev pub twoObjects : List ℕ
 twoObjects = 0x9F ∷ 0x08 ∷ 0x02 ∷ 0x00 ∷ 0x02 ∷ 0x5F ∷ 0x34 ∷ 0x01 ∷ 0x01 ∷ []
 
@@ -29,9 +29,9 @@ abbrev pub personaliseExampleWord : List ℕ → List ℕ → List ℕ → ℕ �
 personaliseExampleWord os es placements records afl = personaliseWordFor os es placements (replicate records 0) (replicate afl 0)
 
 pub record PersonaliseWords : Type 0 where
-  -- 13 bytes of records and 4 of locator
+  -- 13 bytes of records and 4 of AFL
   pub written : personaliseExampleWord twoObjects twoRecordEntry placedInFirst 32768 248 ≡ 0x000000040000000D
-  -- each refusal, with those behind it given too
+  -- each refusal, with those after it given too
   pub short-records : personaliseExampleWord (0x95 ∷ []) badSecondEntry placedInThird 32767 247 ≡ 0x0001000000000000
   pub short-afl : personaliseExampleWord (0x95 ∷ []) badSecondEntry placedInThird 32768 247 ≡ 0x0002000000000000
   pub bad-list : personaliseExampleWord (0x95 ∷ []) badSecondEntry placedInThird 32768 248 ≡ 0x0003000000000000

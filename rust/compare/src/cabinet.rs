@@ -1,8 +1,9 @@
-//! Lists of calls of a vending cabinet, made on the model and on the library: after each call its word, the whole state, the
-//! whole buffer and what is left must be equal.
+//! Lists of calls of a vending cabinet, made on the model and on the library: after each call its word, the whole
+//! state, the whole buffer and what is left must be equal.
 //!
-//! Over every list the sum is held, too: since an accepted opening, what is left, what is set aside and the amounts of the
-//! approved sessions are the cap together. The amount of a session is that of its start bytes, and not of the state.
+//! Over every list the sum is held, too: since an accepted opening, what is left, what is set aside and the
+//! amounts of the approved sessions are the cap together. The amount of a session is that of its start bytes, and
+//! not of the state.
 
 use crate::customers::{amount_due, amounts, is_running, Customers, Step};
 use crate::limit::within_ranges;
@@ -63,7 +64,7 @@ pub struct Reached {
     outcomes: [u64; 5],
     /// Ends by reason, 0 to 11.
     reasons: [u64; 12],
-    /// Approvals by method, 0 to 4.
+    /// Approvals by CVM, 0 to 4.
     approved: [u64; 5],
     /// Approvals of amount 0, of all that was left, and of the greatest amount.
     amounts: [u64; 3],
@@ -91,7 +92,7 @@ pub struct Reached {
     not_opened: [u64; 3],
     /// Caps that were spent wholly by two approvals or more, and lists with a sum of five approvals or more.
     spent: [u64; 2],
-    /// Calls with bytes behind the state.
+    /// Calls with bytes after the state.
     behind: u64,
 }
 
@@ -294,7 +295,7 @@ fn kernel_ends_with_7(terminal: &[u8]) -> bool {
     word & 0x00FF_00FF == 0x0001_0007
 }
 
-/// The buffer that a call is lent.
+/// The buffer that a call is given.
 fn buffer_of(call: &Call) -> &[u8] {
     match call {
         Call::Start { buffer, .. }
@@ -383,7 +384,7 @@ impl Pair {
         }
     }
 
-    /// Both sides tell the same of what is left.
+    /// Both sides report the same of what is left.
     fn same_left(&self) -> Result<(), String> {
         let left = model::cabinet::left(&self.state);
         let left_other = other::left(&self.state_other);
@@ -432,8 +433,8 @@ impl Pair {
     }
 }
 
-/// Makes the list of a seed on both sides; an error tells what differs, with the steps up to it. With `verbose` each step is
-/// printed.
+/// Makes the list of a seed on both sides; an error reports what differs, with the steps up to it. With `verbose` each
+/// step is printed.
 pub fn run_seed(seed: u64, reached: &mut Reached, verbose: bool) -> Result<(), String> {
     let mut customers = Customers::new(seed);
     let mut pair = Pair {

@@ -90,7 +90,7 @@ pub fn answer(rng: &mut Rng, session: &[u8], faults: bool) -> Vec<u8> {
     body
 }
 
-/// A body with 00 before or behind its one object, or nothing but that.
+/// A body with 00 before or after its one object, or nothing but that.
 fn padded_outside(rng: &mut Rng, body: Vec<u8>) -> Vec<u8> {
     let run = vec![0x00; rng.within(1..=3)];
     match rng.below(4) {
@@ -334,7 +334,7 @@ fn checksum(rng: &mut Rng, store: &Store, fault: Option<usize>) -> Vec<u8> {
     objects::template(rng, 0x77, &list)
 }
 
-/// An action code that the store does not hold, in a template 70, which may stand in the answer to GENERATE AC too.
+/// An action code that the store does not hold, in a template 70, which may be in the answer to GENERATE AC too.
 fn late_code(rng: &mut Rng, store: &Store) -> Option<Vec<u8>> {
     let code = rng.pick(&[
         Object::IssuerActionDefault,
@@ -362,7 +362,7 @@ fn shuffle(rng: &mut Rng, list: &mut [Vec<u8>]) {
     }
 }
 
-/// Adds objects that may stand in a template, that no step looks at and that the store does not hold.
+/// Adds objects that may be in a template, that no step examines and that the store does not hold.
 fn more_objects(rng: &mut Rng, store: &Store, template: Templates, list: &mut Vec<Vec<u8>>) {
     if !rng.one_in(4) {
         return;

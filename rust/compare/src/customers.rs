@@ -1,4 +1,5 @@
-//! Draws the calls of a vending cabinet: customers one after the other, on a state whose bytes are changed now and then.
+//! Draws the calls of a vending cabinet: customers one after the other, on a state whose bytes are changed
+//! now and then.
 
 use crate::damage;
 use crate::objects;
@@ -330,7 +331,8 @@ fn amount(rng: &mut Rng, left: u64) -> u64 {
     amount.min(MOST_CAP)
 }
 
-/// Start bytes of an ordinary terminal, which asks for an offline approval; some have a list for the card, broken or not.
+/// Start bytes of an ordinary terminal, which requests an offline approval; some have a list for the card,
+/// broken or not.
 fn ordinary_start(rng: &mut Rng, amount: u64) -> Vec<u8> {
     const MOST: &[u8] = &[0x99; 6];
     const ZEROS: &[u8] = &[0; 6];

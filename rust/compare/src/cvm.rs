@@ -1,4 +1,4 @@
-//! What the choices of a method reached: every step of Book C-2's selection, every code and every condition.
+//! What the choices of a CVM reached: every step of Book C-2's selection, every code and every condition.
 
 use model::analysis;
 use model::cvm::{self, Branch, NOT_APPLICABLE};
@@ -12,7 +12,7 @@ const NAMES: [u8; 8] = [0x00, 0x01, 0x02, 0x03, 0x04, 0x05, 0x1E, 0x1F];
 /// The bits of byte 2 of 9F33 that count.
 const CAPABILITIES: [u8; 5] = [0x80, 0x40, 0x20, 0x10, 0x08];
 
-/// The methods by number.
+/// The CVMs by number.
 const METHODS: [u8; 6] = [0, 1, 2, 3, 4, NOT_APPLICABLE];
 
 /// Reasons that an end after the choice has, and one before it or in stripe mode.
@@ -24,11 +24,12 @@ const EARLY_REASONS: [usize; 11] = [0, 1, 2, 3, 4, 5, 6, 7, 9, 10, 11];
 pub struct Reached {
     /// Choices made.
     choices: u64,
-    /// Phones with an amount under, equal to and over the limit for verification.
+    /// On-device CVM with an amount under, equal to and over the limit for verification.
     phones: [u64; 3],
-    /// Phones without and with a list, of cards that do not support verification by a list and of those that do.
+    /// On-device CVM without and with a CVM List, of cards that do not support verification by a list and of
+    /// those that do.
     phone_lists: [[u64; 2]; 2],
-    /// No phones: neither bit set, that of 82 alone, that of DF811B alone.
+    /// No on-device CVM: neither bit set, that of 82 alone, that of DF811B alone.
     no_phones: [u64; 3],
     /// The card does not support verification; there is no list; no rule applies.
     without_rule: [u64; 3],
@@ -56,12 +57,12 @@ pub struct Reached {
     lengths: [u64; 4],
     /// Codes performed with b8 set.
     reserved_bit: u64,
-    /// Ends by method, in the order of `METHODS`, and reason.
+    /// Ends by CVM, in the order of `METHODS`, and reason.
     ends: [[u64; 12]; 6],
 }
 
 impl Reached {
-    /// The counts, one behind the other, with what each is of.
+    /// The counts, concatenated, with what each is of.
     fn counts(&mut self) -> Vec<(String, &mut u64)> {
         let mut all: Vec<(String, &mut u64)> = Vec::new();
         let list = |what: &str, names: &[&str]| -> Vec<String> {
@@ -170,7 +171,7 @@ impl Reached {
         out
     }
 
-    /// Counts an end by the method and the reason of its word.
+    /// Counts an end by the CVM and the reason of its word.
     pub fn count_end(&mut self, method: u8, reason: u8) {
         if let Some(place) = METHODS.iter().position(|&known| known == method) {
             self.ends[place][usize::from(reason)] += 1;
@@ -195,7 +196,7 @@ impl Reached {
         }
     }
 
-    /// Counts a phone: its amount against the limit, and what is not looked at.
+    /// Counts an on-device CVM: its amount against the limit, and what is not examined.
     fn count_phone(&mut self, store: &Store) {
         let amount = store::get(store, Object::AmountAuthorised);
         let relation = amount.cmp(&store::get(store, Object::CvmRequiredLimit)) as i8 + 1;
@@ -205,7 +206,7 @@ impl Reached {
         self.phone_lists[usize::from(by_list)][usize::from(list)] += 1;
     }
 
-    /// Counts a card that is no phone by the bits that it would need.
+    /// Counts a card without on-device CVM by the bits that it would need.
     fn count_no_phone(&mut self, store: &Store) {
         let card = first_byte(store, Object::InterchangeProfile) & 0x02 != 0;
         let reader = first_byte(store, Object::KernelConfiguration) & 0x20 != 0;
@@ -299,7 +300,7 @@ impl Reached {
     }
 }
 
-/// The first byte of an object that is there.
+/// The first byte of an object that is present.
 fn first_byte(store: &Store, object: Object) -> u8 {
     store::get(store, object).map_or(0, |value| value[0])
 }

@@ -30,10 +30,10 @@ pub fn bytes(rng: &mut Rng, bytes: &mut Vec<u8>) {
     }
 }
 
-/// Values of the method's byte: the methods' numbers, and others near them.
+/// Values of the CVM's byte: the CVMs' numbers, and others near them.
 const METHODS: [u8; 10] = [0, 1, 2, 3, 4, 5, 8, 15, 16, 255];
 
-/// The method's byte for a phase, mostly one that goes with it.
+/// The CVM's byte for a phase, mostly one that goes with it.
 fn method(rng: &mut Rng, phase: u8) -> u8 {
     if phase == 3 {
         let known = rng.percent(95);
@@ -45,10 +45,10 @@ fn method(rng: &mut Rng, phase: u8) -> u8 {
     }
 }
 
-/// Where the limit in force stands in a session record.
+/// Where the transaction limit is in a session record.
 pub const LIMIT: std::ops::Range<usize> = 6..HEAD_SIZE;
 
-/// The limit that is right by the store of a session record; 0 where an object has a wrong length.
+/// The limit that is correct by the store of a session record; 0 where an object has a wrong length.
 pub fn right_limit(record: &[u8]) -> u64 {
     let store = record[HEAD_SIZE..].first_chunk().expect("a whole record");
     if store::fits(store) {
@@ -103,14 +103,14 @@ pub fn put(record: &mut [u8], object: Object, value: &[u8]) {
     record[place + 1..][..length].copy_from_slice(&value[..length]);
 }
 
-/// The number of records of the locator that a session record holds.
+/// The number of records of the AFL that a session record holds.
 pub fn records(record: &[u8]) -> Option<u32> {
     let place = place(Object::FileLocator);
     let length = usize::from(record[place]).checked_sub(1)?;
     afl::records(record.get(place + 1..place + 1 + length)?)
 }
 
-/// Fills the bytes that are free: the places of absent objects and those behind values.
+/// Fills the bytes that are free: the places of absent objects and those after values.
 fn fill_free(rng: &mut Rng, record: &mut [u8]) {
     for row in &ROWS {
         let used = usize::from(record[HEAD_SIZE + row.place]).max(1);
@@ -224,7 +224,7 @@ pub fn record(rng: &mut Rng, record: &mut [u8]) {
         16 => record[5] = rng.pick(&METHODS),
         17 | 18 => put_other_limit(rng, record),
         19 => {
-            // Another limit by the store: a phone or none, or another value.
+            // Another limit by the store: on-device CVM or none, or another value.
             let object = rng.pick(&[
                 Object::InterchangeProfile,
                 Object::KernelConfiguration,

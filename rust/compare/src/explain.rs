@@ -1,7 +1,7 @@
 //! Explanations of drawn records, by the model and by the library.
 //!
-//! The records wait on GENERATE AC or have ended with reason 0, mostly with the choice and the outcome that their stores give;
-//! objects are taken away and choice, outcome, codes and type changed.
+//! The records wait on GENERATE AC or have ended with reason 0, mostly with the choice and the outcome that their
+//! stores give; objects are taken away and choice, outcome, codes and type changed.
 
 use crate::damage::{self, place, put};
 use crate::limit::within_ranges;
@@ -57,7 +57,7 @@ pub struct Reached {
     out_of_ranges: u64,
     /// Reasons 0 to 11.
     reasons: [u64; 12],
-    /// Sessions without a choice: fresh, waiting on processing options, on a record; ended and waiting on the checksum in stripe mode.
+    /// Sessions without a choice: fresh, waiting on GPO, on a record; ended and waiting on the checksum in stripe mode.
     no_choice: [u64; 5],
     /// Sessions that ended in stripe mode, which in EMV mode would be explained, and would be refused.
     stripe: [u64; 2],
@@ -173,7 +173,7 @@ impl Reached {
         }
     }
 
-    /// Counts what a record to be explained lacks, or how it is unlike what its store gives.
+    /// Counts what a record to be explained lacks, or how it differs from what its store gives.
     fn count_lacking(&mut self, record: &[u8], refused: bool) {
         let store = store_of(record);
         let ended = record[1] == 4;
@@ -227,7 +227,7 @@ fn store_of(record: &[u8]) -> &Store {
     record[HEAD_SIZE..].first_chunk().expect("a whole record")
 }
 
-/// Whether an object of five bytes is there and has a bit, 0 for byte 1 b8.
+/// Whether an object of five bytes is present and has a bit, 0 for byte 1 b8.
 fn has_bit(store: &Store, object: Object, bit: usize) -> bool {
     store::get(store, object).is_some_and(|value| value[bit / 8] & 0x80 >> (bit % 8) != 0)
 }
@@ -293,7 +293,7 @@ fn record_to_explain(rng: &mut Rng) -> Vec<u8> {
     record
 }
 
-/// Puts result bits, terminal type and action codes in place; those of the card may be absent.
+/// Puts TVR bits, terminal type and action codes in place; those of the card may be absent.
 fn put_codes(rng: &mut Rng, record: &mut [u8], ended: bool) {
     let result = bits(rng);
     put(record, Object::VerificationResults, &result);
@@ -313,7 +313,7 @@ fn put_codes(rng: &mut Rng, record: &mut [u8], ended: bool) {
     }
 }
 
-/// Five bytes: none, one bit, one bit and others behind it, or any.
+/// Five bytes: none, one bit, one bit and others after it, or any.
 fn bits(rng: &mut Rng) -> [u8; 5] {
     let bit = 1u64 << rng.below(40);
     let behind = rng.bits() & (bit - 1);

@@ -29,9 +29,9 @@ pub struct Reached {
     pub around: [u64; 5],
     /// Primitive objects found, and templates.
     pub kinds: [u64; 2],
-    /// Objects found behind padding.
+    /// Objects found after padding.
     pub behind_padding: u64,
-    /// Objects found with another of their tag behind or inside.
+    /// Objects found with another of their tag after or inside.
     pub first_of_several: u64,
     /// Empty values found, and values that start above 65,000.
     pub values: [u64; 2],
@@ -69,7 +69,7 @@ impl Reached {
         }
     }
 
-    /// Counts where the object found stands.
+    /// Counts where the object found is.
     fn count_found(&mut self, search: &Search) {
         let mut objects = search.objects();
         objects.retain(|object| object.tag == search.tag);
@@ -120,7 +120,7 @@ struct Search {
 }
 
 impl Search {
-    /// Draws a search, mostly for a tag that is there.
+    /// Draws a search, mostly for a tag that is present.
     fn draw(rng: &mut Rng) -> Search {
         let mut search = Search {
             bytes: bytes(rng),
@@ -156,7 +156,7 @@ impl Search {
     }
 }
 
-/// Bytes of a card: an answer's body, trees one behind the other, many bytes; some of them damaged.
+/// Bytes of a card: an answer's body, trees concatenated, many bytes; some of them damaged.
 fn bytes(rng: &mut Rng) -> Vec<u8> {
     let mut bytes = match rng.below(200) {
         0 => many_bytes(rng),
@@ -179,7 +179,7 @@ fn bytes(rng: &mut Rng) -> Vec<u8> {
     bytes
 }
 
-/// About as many bytes as are looked through, with an object in front and one at the end.
+/// About as many bytes as are searched, with an object at the front and one at the end.
 fn many_bytes(rng: &mut Rng) -> Vec<u8> {
     let last = reading::any_tree(rng);
     let total = rng.pick(&[65_534, 65_535, 65_535, 65_536, 65_537]);

@@ -1,7 +1,7 @@
-//! Journals: the model's verdict against the library's, and the right record in the place of an unlike one.
+//! Journals: the model's verdict against the library's, and the conforming record in place of a mismatching one.
 //!
-//! A journal is written from calls that are drawn as a session goes on, then left whole, ended early, cut or damaged. The
-//! library is fed it in parts of drawn sizes.
+//! A journal is written from calls that are drawn as a session goes on, then left whole, ended early, truncated or
+//! damaged. The library is fed it in parts of drawn sizes.
 
 use crate::rng::Rng;
 use crate::step::Hex;
@@ -9,7 +9,7 @@ use crate::{card, damage, never, terminal};
 use model::journal::{self, Call, Verdict};
 use model::SESSION_SIZE;
 
-/// The side that is compared with the model: the library's word of a journal, and the right record.
+/// The side that is compared with the model: the library's word of a journal, and the conforming record.
 #[cfg(feature = "library")]
 use test_journal::{judge, wanted};
 
@@ -53,13 +53,13 @@ enum Change {
     Kind,
     /// A length is another.
     Length,
-    /// A byte behind those that a length counts is not zero.
+    /// A byte after those that a length counts is not zero.
     Behind,
     /// An outcome or its reason is another.
     Outcome,
     /// A record is left out.
     LeftOut,
-    /// A record stands twice.
+    /// A record appears twice.
     Twice,
     /// Two neighbours change places.
     Exchanged,
@@ -99,19 +99,20 @@ const CHANGES: [Change; 16] = [
 pub struct Reached {
     /// Journals judged.
     pub journals: u64,
-    /// Accepted, unlike and cut, by what was done.
+    /// Accepted, mismatch and truncated, by what was done.
     pub changes: [[u64; 3]; 16],
-    /// The unlike record's kind, 0 for any that no record has, where a call was due and where a reply was.
+    /// The mismatching record's kind, 0 for any that no record has, where a call was expected and where a reply was.
     pub unlike: [[u64; 7]; 2],
-    /// The cut record's kind, where a call was due and where a reply was.
+    /// The truncated record's kind, where a call was expected and where a reply was.
     pub cut: [[u64; 7]; 2],
-    /// Accepted behind a call and behind a reply.
+    /// Accepted after a call and after a reply.
     pub accepted: [u64; 2],
-    /// The right record was a command, and an outcome.
+    /// The conforming record was a command, and an outcome.
     pub right: [u64; 2],
-    /// Accepted up to the checksum's command or its answer, and with an end; the right record was the checksum's command.
+    /// Accepted up to the checksum's command or its answer, and with an end; the conforming record was the
+    /// checksum's command.
     pub checksum: [u64; 3],
-    /// A cut record stands behind an unlike one.
+    /// A truncated record is after a mismatching one.
     pub cut_behind: u64,
     /// Journals in one part, in single bytes, in parts that end inside records.
     pub parts: [u64; 3],
@@ -212,7 +213,7 @@ fn is_checksum(record: &[u8]) -> bool {
     record[0] == 5 && record[3..5] == [0x80, 0x2A]
 }
 
-/// The whole records at the front of some bytes, and what stands behind them.
+/// The whole records at the front of some bytes, and what follows them.
 fn split(mut bytes: &[u8]) -> (Vec<&[u8]>, &[u8]) {
     let mut records = Vec::new();
     while let Some(size) = bytes.first().and_then(|&kind| journal::record_size(kind)) {
@@ -255,7 +256,7 @@ impl Drawn {
     }
 }
 
-/// A call for a session as it stands, good or not, or one that is refused.
+/// A call for a session as it is, good or not, or one that is refused.
 fn draw_call(rng: &mut Rng, session: &[u8], faults: bool) -> Drawn {
     match rng.below(40) {
         0 => Drawn::LinkFailed,
@@ -334,7 +335,7 @@ impl Journal {
             .collect();
         bytes = changed(rng, change, bytes, records);
         if change != Change::Whole && change != Change::Unfinished && rng.one_in(6) {
-            // And cut as well.
+            // And truncated as well.
             bytes.truncate(rng.within(0..=bytes.len()));
         }
         let first = match rng.below(4) {
@@ -399,7 +400,7 @@ fn changed(
         Change::Whole => return bytes,
         Change::Unfinished => records.truncate(rng.within(0..=number)),
         Change::Cut => {
-            // An outcome, which is short, is cut more often.
+            // An outcome, which is short, is truncated more often.
             let least = if rng.one_in(4) {
                 bytes.len().saturating_sub(3)
             } else {
@@ -474,7 +475,7 @@ fn changed(
     records.concat()
 }
 
-/// Length FF FF, mostly in an answer's record with a zero body and where a call is due; the journal ends behind it.
+/// Length FF FF, mostly in an answer's record with a zero body and where a call is expected; the journal ends after it.
 fn put_long(rng: &mut Rng, records: &mut Vec<Vec<u8>>, at: usize) {
     let kind = rng.pick(&[2, 2, 2, 2, 1, 5]);
     let mut record = vec![0; journal::record_size(kind).unwrap_or_default()];
@@ -515,7 +516,7 @@ fn change_length(rng: &mut Rng, records: &mut [Vec<u8>], at: usize) {
     record[1..3].copy_from_slice(&(other as u16).to_be_bytes());
 }
 
-/// A byte that is not zero behind those that a length counts.
+/// A byte that is not zero after those that a length counts.
 fn change_behind(rng: &mut Rng, records: &mut [Vec<u8>], at: usize) {
     let Some(record) = records.get_mut(at).filter(|record| record.len() > 3) else {
         return;
@@ -530,7 +531,7 @@ fn change_behind(rng: &mut Rng, records: &mut [Vec<u8>], at: usize) {
     }
 }
 
-/// A call's record anywhere, mostly where a call is due.
+/// A call's record anywhere, mostly where a call is expected.
 fn put_call(rng: &mut Rng, records: &mut Vec<Vec<u8>>) {
     let start = terminal::start(rng, false);
     let call = match rng.below(4) {

@@ -5,31 +5,31 @@ use crate::objects::{self, TEMPLATES, UNKNOWN};
 use crate::rng::Rng;
 use model::dictionary::{Form, Object, Row, Setter, Templates};
 
-/// What a call is lent: the list and its layout, the lengths of the two buffers, and the byte that fills them.
+/// What a call is given: the list and its layout, the lengths of the two buffers, and the byte that fills them.
 #[derive(Clone, Debug, PartialEq, Eq)]
 pub struct Layout {
     /// The list of objects.
     pub objects: Vec<u8>,
-    /// The locator as proposed.
+    /// The AFL as proposed.
     pub entries: Vec<u8>,
     /// Record and object numbers.
     pub placements: Vec<u8>,
     /// Length of the buffer for the records.
     pub records_room: usize,
-    /// Length of the buffer for the locator.
+    /// Length of the buffer for the AFL.
     pub locator_room: usize,
     /// What the buffers hold before the call.
     pub fill: u8,
 }
 
-/// Kinds of an answer by their numbers in the word. The refusals stand in the order in which they are looked for.
+/// Kinds of an answer by their numbers in the word. The refusals are in the order in which they are looked for.
 #[derive(Clone, Copy, Debug, PartialEq, Eq, PartialOrd, Ord)]
 pub enum Kind {
-    /// Records and locator are written.
+    /// Records and AFL are written.
     Written,
     /// The buffer for the records is refused.
     RecordsBuffer,
-    /// The buffer for the locator is refused.
+    /// The buffer for the AFL is refused.
     LocatorBuffer,
     /// The list is refused.
     List,
@@ -61,7 +61,7 @@ macro_rules! damages {
             /// All damages.
             pub const ALL: [Damage; DAMAGES] = [$($(Damage::$name,)*)*];
 
-            /// The refusal that is due.
+            /// The refusal that is expected.
             pub fn kind(self) -> Kind {
                 match self {
                     $($(Damage::$name)|* => Kind::$kind,)*
@@ -80,13 +80,13 @@ damages! {
         ShortRecords,
     }
     LocatorBuffer {
-        /// The buffer for the locator is under 248 bytes.
+        /// The buffer for the AFL is under 248 bytes.
         ShortLocator,
     }
     List {
         /// Bytes that are no object.
         Broken,
-        /// The last object is cut.
+        /// The last object is truncated.
         CutObject,
         /// A length in a form that is refused.
         RefusedLength,
@@ -118,7 +118,7 @@ damages! {
     Entry {
         /// No entry.
         NoEntry,
-        /// The last entry is cut.
+        /// The last entry is truncated.
         CutEntry,
         /// 63 entries.
         Entry63,
@@ -148,11 +148,11 @@ damages! {
     Record {
         /// A placement into record 0.
         Record0,
-        /// A placement into a record behind the last.
+        /// A placement into a record after the last.
         RecordBehind,
         /// A placement of object 0.
         Object0,
-        /// A placement of an object behind the last.
+        /// A placement of an object after the last.
         ObjectBehind,
         /// A placement of one byte.
         HalfPlacement,
@@ -168,7 +168,7 @@ damages! {
 /// A drawn layout, and what is known of its answer.
 #[derive(Clone, Debug)]
 pub struct Drawn {
-    /// What the call is lent.
+    /// What the call is given.
     pub layout: Layout,
     /// The damages that it has.
     pub damages: Vec<Damage>,
@@ -262,7 +262,7 @@ fn damaged(rng: &mut Rng, damages: &[Damage]) -> Layout {
     draft.layout(rng)
 }
 
-/// How many entries and records a locator has.
+/// How many entries and records an AFL has.
 #[derive(Clone, Copy, Debug, PartialEq, Eq)]
 enum Shape {
     /// A few of both.
@@ -275,7 +275,7 @@ enum Shape {
     Records128,
 }
 
-/// One object of the list, as it stands there, and the records it is placed into.
+/// One object of the list, as it is present, and the records it is placed into.
 #[derive(Clone, Debug)]
 struct Piece {
     tag: u32,
@@ -307,7 +307,7 @@ struct Draft {
     entries: Vec<[u8; 4]>,
     /// How many records the entries name before they are damaged.
     count: usize,
-    /// Bytes of an entry that is cut.
+    /// Bytes of an entry that is truncated.
     cut_entry: Vec<u8>,
     /// Placements of no object of the list.
     placements: Vec<[u8; 2]>,
@@ -353,7 +353,7 @@ impl Draft {
         draft
     }
 
-    /// One of the locator's records, often one of the first.
+    /// One of the AFL's records, often one of the first.
     fn some_record(&self, rng: &mut Rng) -> u8 {
         let few = self.count.min(3);
         let most = rng.pick(&[few, self.count]);
@@ -373,7 +373,7 @@ impl Draft {
         self.pieces.insert(rng.within(0..=self.pieces.len()), piece);
     }
 
-    /// Puts an object into the list in the place of the one with its tag, if it is there.
+    /// Puts an object into the list in the place of the one with its tag, if it is present.
     fn replace(&mut self, rng: &mut Rng, tag: u32, value: &[u8]) {
         match self.pieces.iter().position(|piece| piece.tag == tag) {
             Some(at) => self.pieces[at] = Piece::new(rng, tag, value, self.pieces[at].records[0]),
@@ -650,7 +650,7 @@ impl Draft {
         }
     }
 
-    /// The layout as bytes; the placements stand in any order.
+    /// The layout as bytes; the placements are in any order.
     fn layout(self, rng: &mut Rng) -> Layout {
         let mut placements = self.placements;
         for (piece, number) in self.pieces.iter().zip(1..=u8::MAX) {
@@ -688,7 +688,7 @@ fn wrong_digits(rng: &mut Rng, object: Object) -> Vec<u8> {
     let mut value = rng.digits(length);
     let at = rng.below(length);
     if row.form == Form::CompressedNumeric && rng.one_in(2) {
-        // An F in front of a digit.
+        // An F before a digit.
         value[at] = 0xF0 | rng.below(10) as u8;
     } else {
         let letter = rng.within(0xA..=0xE) as u8;
@@ -735,7 +735,8 @@ fn apart(rng: &mut Rng, shape: Shape) -> Vec<[u8; 4]> {
     entries
 }
 
-/// An entry of so many records that meets none of those given, often next to one or with the same numbers in another file.
+/// An entry of so many records that meets none of those given, often next to one or with the same numbers in
+/// another file.
 fn free(rng: &mut Rng, entries: &[[u8; 4]], size: usize) -> [u8; 4] {
     let any = |rng: &mut Rng| rng.within(1..=256 - size);
     for _ in 0..20 {

@@ -1,13 +1,14 @@
 //! Differential test: sessions drawn from a seed, each call made on the model and on the static library.
 //!
 //! After each call the reply word, the whole command buffer, the count, the explanation and the whole session slice
-//! must be equal. `rng`, `objects`, `track`, `terminal`, `card`, `damage` and `play` draw the sessions; `run`
-//! makes the calls and counts what occurred, `verification` what the choices of a method reached, `limit` which limits
-//! decided, `stripe` what cards without EMV mode reached, `rows` which rows of the dictionary and `padding` where runs of 00 stood. `reading` compares single readings, with the object count that no call hands out,
-//! `find` the search for a tag in a card's bytes, and `explain` the explanations of records that no call may have left.
-//! `layout` draws lists of objects and layouts of the card's side, and `personalise` compares what is written for them.
-//! `customers` draws the calls of a vending cabinet, `cabinet` compares them and holds the sum, and `lookup` compares the
-//! lookup of its start objects.
+//! must be equal. `rng`, `objects`, `track`, `terminal`, `card`, `damage` and `play` draw the sessions; `run` makes
+//! the calls and counts what occurred, `verification` what the choices of a CVM reached, `limit` which limits decided,
+//! `stripe` what cards without EMV mode reached, `rows` which rows of the dictionary and `padding` where runs of 00
+//! stood. `reading` compares single readings, with the object count that no call hands out, `find` the search for a
+//! tag in a card's bytes, and `explain` the explanations of records that no call may have left. `layout` draws lists
+//! of objects and layouts of the card's side, and `personalise` compares what is written for them. `customers` draws
+//! the calls of a vending cabinet, `cabinet` compares them and holds the sum, and `lookup` compares the lookup of its
+//! start objects.
 
 #![forbid(unsafe_code)]
 

@@ -1,4 +1,4 @@
-//! What the sessions reached of the limit in force (document 02, Item 8).
+//! What the sessions reached of the transaction limit (document 02, Item 8).
 
 use crate::damage::{self, LIMIT};
 use model::analysis;
@@ -10,9 +10,9 @@ use model::{COMMAND_SIZE, HEAD_SIZE, SESSION_SIZE};
 /// How often each case was reached.
 #[derive(Clone, Debug, Default, PartialEq, Eq)]
 pub struct Reached {
-    /// Amounts under, equal to and over the limit: of other cards, of phones.
+    /// Amounts under, equal to and over the limit: of other cards, with on-device CVM.
     amounts: [[u64; 3]; 2],
-    /// Amounts that the other limit would have let pass, or not: of other cards, of phones.
+    /// Amounts that the other limit would have let pass, or not: of other cards, with on-device CVM.
     other_limit: [u64; 2],
     /// Records refused for their limit alone, by phase 0 to 5.
     refused: [u64; 6],
@@ -90,7 +90,7 @@ impl Reached {
     }
 }
 
-/// Whether a record keeps its ranges, by a call that is refused for its phase alone then.
+/// Whether a record is in its ranges, by a call that is refused for its phase alone then.
 pub fn within_ranges(record: &mut [u8]) -> bool {
     model::stop(record, &mut [0; COMMAND_SIZE]) != 0x0002_0000 + 25
 }

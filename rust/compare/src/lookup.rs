@@ -51,19 +51,20 @@ pub struct Reached {
     pub places: [u64; 3],
     /// Found in the site with a value in the defaults that is not empty: not empty in the site, empty there.
     pub preferred: [u64; 2],
-    /// Found with another of the tag behind: in the site, in the defaults.
+    /// Found with another of the tag after: in the site, in the defaults.
     pub first_of_several: [u64; 2],
-    /// Not found in a list that has the tag behind a template, behind padding, behind other broken bytes.
+    /// Not found in a list that has the tag after a template, after padding, after other broken bytes.
     pub behind: [u64; 3],
-    /// Not found in a list whose last object has the tag and is cut.
+    /// Not found in a list whose last object has the tag and is truncated.
     pub cut: u64,
     /// Known tags found, and unknown ones.
     pub tags: [u64; 2],
-    /// Tags of templates, which are never found though they are there.
+    /// Tags of templates, which are never found though they are present.
     pub templates: u64,
     /// Values found of 0, 1 to 127, 128 to 255 and more bytes.
     pub lengths: [u64; 4],
-    /// Empty values at the very end of the site, and of the defaults; tags in neither where the site ends with an empty value.
+    /// Empty values at the very end of the site, and of the defaults; tags in neither where the site ends with an
+    /// empty value.
     pub empty_at_end: [u64; 3],
     /// No site, no defaults, neither.
     pub no_bytes: [u64; 3],
@@ -152,9 +153,9 @@ struct Walk {
     found: Option<usize>,
     /// What ended the walk.
     end: Option<End>,
-    /// Whether another whole object of the tag stands anywhere behind what was found or behind the end.
+    /// Whether another whole object of the tag stands anywhere after what was found or after the end.
     again: bool,
-    /// Whether the walk ended at an object of the tag that is cut.
+    /// Whether the walk ended at an object of the tag that is truncated.
     cut: bool,
     /// Whether the walk ended at a template of the tag.
     is_template: bool,
@@ -245,7 +246,8 @@ impl Drawn {
         }
     }
 
-    /// Looks the tag up on both sides; an error says what differs, or that the word or the other side names another part.
+    /// Looks the tag up on both sides; an error says what differs, or that the word or the other side names
+    /// another part.
     fn compare(&self) -> Result<(), String> {
         let (site, defaults) = (&self.site[..], &self.defaults[..]);
         let word = lookup::find(site, defaults, self.tag);

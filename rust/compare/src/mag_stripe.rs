@@ -12,9 +12,9 @@ use model::{afl, dol, read_answer, SESSION_SIZE};
 /// How often each case was reached.
 #[derive(Clone, Debug, Default, PartialEq, Eq)]
 pub struct Reached {
-    /// Accepted answers to processing options: EMV mode with stripe mode on, and off; stripe mode.
+    /// Accepted answers to GPO: EMV mode with stripe mode on, and off; stripe mode.
     modes: [u64; 3],
-    /// Reason 11 with a locator that keeps the rules, and with one that does not.
+    /// Reason 11 with an AFL that satisfies the rules, and with one that does not.
     off: [u64; 2],
     /// Commands by a default list where the card has none, and an empty one; by a list of the card.
     lists: [u64; 3],
@@ -44,12 +44,13 @@ pub struct Reached {
     overlaps: [u64; 2],
     /// The last place is of the code, the number, the counter, none of them.
     last: [u64; 4],
-    /// Filled tracks: up to an F, up to the end, with an F in front of the D, with a second F behind it, with a second D among the
-    /// seven nibbles, with one among the digits, with a digit that is none of ten, with more digits than a mask has places.
+    /// Filled tracks: up to an F, up to the end, with an F before the D, with a second F after it, with a second D
+    /// among the seven nibbles, with one among the digits, with a digit that is none of ten, with more digits than a
+    /// mask has places.
     tracks: [u64; 8],
     /// Records on the checksum that were refused for one cause alone, by the places in `REPAIRS`.
     refused: [u64; REPAIRS.len()],
-    /// Records refused for the code alone, on processing options, a record and GENERATE AC; then for want of 9F6A alone.
+    /// Records refused for the code alone, on GPO, a record and GENERATE AC; then for want of 9F6A alone.
     refused_early: [u64; 6],
     /// Records refused for the mode alone, on a record and on GENERATE AC.
     refused_mode: [u64; 2],
@@ -87,7 +88,7 @@ fn put_number(record: &mut [u8]) {
     put(record, Object::UnpredictableNumberNumeric, &[0; 4]);
 }
 
-/// Whether 82 is there with b8 of byte 2 clear.
+/// Whether 82 is present with b8 of byte 2 clear.
 pub fn without_emv_mode(store: &Store) -> bool {
     store::get(store, Object::InterchangeProfile).is_some_and(|profile| profile[1] & 0x80 == 0)
 }
@@ -148,7 +149,7 @@ impl Reached {
             .collect()
     }
 
-    /// Counts the mode by the store after an answer to processing options that gave a command or this reason.
+    /// Counts the mode by the store after an answer to GPO that gave a command or this reason.
     pub fn count_mode(&mut self, store: &Store, reason: Option<u8>) {
         let off = store::get(store, Object::KernelConfiguration)
             .is_some_and(|configuration| configuration[0] & 0x80 != 0);

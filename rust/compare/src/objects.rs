@@ -1,16 +1,17 @@
-//! Values, encoded objects and data object lists.
+//! Values, encoded objects and DOLs.
 
 use crate::rng::Rng;
 use crate::track;
 use model::dictionary::{Answers, Form, Object, Row, Templates, ROWS};
 
-/// Primitive tags that the dictionary does not know, private ones among them. Some are entries of annex A that have no row.
+/// Primitive tags that the dictionary does not know, private ones among them. Some are entries of annex A that
+/// have no row.
 pub const UNKNOWN: [u32; 23] = [
     0x51, 0x4F, 0x81, 0x83, 0x8D, 0x92, 0x9B, 0x01, 0x5F20, 0x5F50, 0x5F60, 0x9F00, 0x9F48, 0x9F4B,
     0x9F4E, 0xC1, 0xDF01, 0xDF8107, 0xDF8112, 0xDF8131, 0xDF8220, 0x1F05, 0x9F8102,
 ];
 
-/// Objects of the card that a step of the session looks at.
+/// Objects of the card that a step of the session examines.
 const USED: [Object; 24] = [
     Object::Pan,
     Object::InterchangeProfile,
@@ -133,7 +134,7 @@ pub fn object(rng: &mut Rng, tag: u32, value: &[u8]) -> Vec<u8> {
     out
 }
 
-/// Objects one behind the other, with runs of 00 before, between and behind some of them, as far as 250 bytes have room.
+/// Objects concatenated, with runs of 00 before, between and after some of them, as far as 250 bytes have room.
 pub fn padded(rng: &mut Rng, list: &[Vec<u8>]) -> Vec<u8> {
     let mut room = 250usize.saturating_sub(list.iter().map(Vec::len).sum());
     let mut run = |rng: &mut Rng| {
@@ -179,7 +180,7 @@ const AMOUNTS: [u64; 10] = [
     999_999_999_999,
 ];
 
-/// A list for cardholder verification: two amounts and rules, mostly few, and in part with an odd byte behind.
+/// A list for cardholder verification: two amounts and rules, mostly few, and in part with an odd byte after.
 fn cvm_list(rng: &mut Rng) -> Vec<u8> {
     const NAMES: [u8; 16] = [
         0x00, 0x01, 0x02, 0x03, 0x04, 0x05, 0x1E, 0x1F, 0x06, 0x1D, 0x20, 0x3F, 0x02, 0x1E, 0x1F,
@@ -426,7 +427,7 @@ pub fn odd_value(rng: &mut Rng, object: Object) -> Vec<u8> {
     value
 }
 
-/// A tag for an entry of a data object list, with a length near its value's.
+/// A tag for an entry of a DOL, with a length near its value's.
 fn entry(rng: &mut Rng) -> (u32, usize) {
     let (tag, natural) = match rng.below(10) {
         0 => (rng.pick(&UNKNOWN), rng.below(8)),
@@ -447,7 +448,7 @@ fn entry(rng: &mut Rng) -> (u32, usize) {
     (tag, length)
 }
 
-/// A data object list of at most `room` bytes; its filled length is mostly at most `limit`.
+/// A DOL of at most `room` bytes; its filled length is mostly at most `limit`.
 pub fn dol(rng: &mut Rng, room: usize, limit: usize) -> Vec<u8> {
     let mut list = Vec::new();
     let mut total = 0;
@@ -520,7 +521,7 @@ pub fn dol(rng: &mut Rng, room: usize, limit: usize) -> Vec<u8> {
     list
 }
 
-/// A file locator; about one in ten breaks a rule.
+/// An AFL; about one in ten breaks a rule.
 pub fn locator(rng: &mut Rng) -> Vec<u8> {
     let (entries, most, total) = match rng.below(100) {
         0 => (62, 2, 128),
@@ -586,7 +587,7 @@ pub fn locator(rng: &mut Rng) -> Vec<u8> {
     locator
 }
 
-/// Whether a step of the session looks at an object of the card.
+/// Whether a step of the session examines an object of the card.
 pub fn is_used(object: Object) -> bool {
     USED.contains(&object)
 }
@@ -603,7 +604,7 @@ pub fn in_template(template: Templates) -> Vec<Object> {
     which(|row| row.templates.meets(template))
 }
 
-/// Objects that the card may set in a template of any answer, and that no step of the session looks at.
+/// Objects that the card may set in a template of any answer, and that no step of the session examines.
 pub fn unused_in(template: Templates) -> Vec<Object> {
     let mut all = which(|row| row.templates.meets(template) && row.answers == Answers::All);
     all.retain(|&object| !is_used(object));

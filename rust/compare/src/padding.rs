@@ -1,11 +1,11 @@
-//! Padding in what is drawn (document 02, Item 6): where runs of 00 stand, and what would be read if more were passed over.
+//! Padding in what is drawn (document 02, Item 6): where runs of 00 are, and what would be read if more were skipped.
 
 use model::dictionary::Object;
 use model::reading::{self, LEVELS};
 use model::store::{self, Store};
 use model::{dol, tlv};
 
-/// Where padding stands in a template: before its first object, between two, behind the last, and without any.
+/// Where padding is in a template: before its first object, between two, after the last, and without any.
 #[derive(Clone, Copy)]
 enum Place {
     Before,
@@ -17,7 +17,8 @@ enum Place {
 /// What single readings reached.
 #[derive(Clone, Debug, Default, PartialEq, Eq)]
 pub struct InReadings {
-    /// Well-formed answers by the level of a padded template, 1 to 4, and by the padding's place: before, between, behind, alone.
+    /// Well-formed answers by the level of a padded template, 1 to 4, and by the padding's place: before, between,
+    /// after, alone.
     pub places: [[u64; 4]; 4],
     /// Padded answers that were accepted, by answer.
     pub accepted: [u64; 4],
@@ -27,7 +28,7 @@ pub struct InReadings {
     pub other_template: u64,
     /// Answers that nest too deep, with padding alone in the fifth template.
     pub too_deep: u64,
-    /// Answers that are malformed because of 00 before the outer object, behind it, both, and for want of one.
+    /// Answers that are malformed because of 00 before the outer object, after it, both, and for want of one.
     pub outside: [u64; 4],
     /// Answers that are malformed, and would not be if FF were padding.
     pub other_byte: u64,
@@ -130,7 +131,7 @@ fn from(count: &u64) -> &[u64] {
     std::slice::from_ref(count)
 }
 
-/// Whether contents are a tree of at most so many levels of templates where these bytes are passed over before a tag.
+/// Whether contents are a tree of at most so many levels of templates where these bytes are skipped before a tag.
 fn is_tree(contents: &[u8], levels: u32, passed_over: &[u8]) -> bool {
     let mut rest = contents;
     loop {
@@ -153,7 +154,7 @@ fn is_tree(contents: &[u8], levels: u32, passed_over: &[u8]) -> bool {
     }
 }
 
-/// Tells each run of 00 in the contents of a template of this level, and in the templates inside.
+/// Reports each run of 00 in the contents of a template of this level, and in the templates inside.
 fn tell_padding(contents: &[u8], level: usize, told: &mut impl FnMut(usize, Place)) {
     let (mut rest, mut objects) = (contents, 0);
     loop {
@@ -205,12 +206,12 @@ pub fn is_padded(card: &[u8]) -> bool {
     padded
 }
 
-/// Whether start bytes are broken, and would not be if 00 were passed over.
+/// Whether start bytes are broken, and would not be if 00 were skipped.
 pub fn breaks_start(terminal: &[u8]) -> bool {
     is_tree(terminal, 0, &[0x00]) && !is_tree(terminal, 0, &[])
 }
 
-/// Whether a data object list of the store is broken, and would not be if 00 were passed over.
+/// Whether a DOL of the store is broken, and would not be if 00 were skipped.
 pub fn breaks_list(store: &Store, object: Object) -> bool {
     let Some(list) = store::get(store, object) else {
         return false;

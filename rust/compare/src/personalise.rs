@@ -1,6 +1,8 @@
-//! Layouts of the card's side, drawn and written by the model and by the library: the answer's word and both whole buffers.
+//! Layouts of the card's side, drawn and written by the model and by the library: the answer's word and both
+//! whole buffers.
 //!
-//! How a layout was drawn says which refusal is due, or that it is written; the model's answer is compared with that too.
+//! How a layout was drawn determines which refusal is expected, or that it is written; the model's answer is compared
+//! with that too.
 
 use crate::layout::{Damage, Drawn, Kind, Layout, DAMAGES};
 use crate::rng::Rng;
@@ -36,7 +38,7 @@ pub struct Left {
     pub word: u64,
     /// The buffer for the records.
     pub records: Vec<u8>,
-    /// The buffer for the locator.
+    /// The buffer for the AFL.
     pub locator: Vec<u8>,
 }
 
@@ -63,7 +65,7 @@ impl Left {
 /// The call over slices.
 type Call = fn(&[u8], &[u8], &[u8], &mut [u8], &mut [u8]) -> u64;
 
-/// Makes a call with what the layout lends.
+/// Makes a call with what the layout provides.
 fn make(call: Call, layout: &Layout) -> Left {
     let mut records = vec![layout.fill; layout.records_room];
     let mut locator = vec![layout.fill; layout.locator_room];
@@ -91,7 +93,7 @@ pub fn expected(layout: &Layout) -> Left {
 pub struct Reached {
     /// Layouts made.
     pub layouts: u64,
-    /// Answers by their kind: written, records buffer, locator buffer, list, entry, record.
+    /// Answers by their kind: written, records buffer, AFL buffer, list, entry, record.
     pub kinds: [u64; Kind::ALL.len()],
     /// Refusals of layouts with one damage, by the damage.
     pub damages: [u64; DAMAGES],

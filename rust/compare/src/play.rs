@@ -105,7 +105,7 @@ impl Play {
                 })
             }
             phase @ (1..=3 | 5) => {
-                // More often on GENERATE AC, which each method is to see, and on the checksum.
+                // More often on GENERATE AC, which each CVM is to see, and on the checksum.
                 let on_last = matches!(phase, 3 | 5) && self.rng.one_in(6);
                 let faults = on_last || self.rng.one_in(self.profile.answer);
                 Some(self.answer(session, faults))

@@ -1,5 +1,5 @@
-//! Single readings: one answer read by the model, by both readers of the library and by the plain reader, with its reason, its
-//! object count and the whole store.
+//! Single readings: one answer read by the model, by both readers of the library and by the plain reader, with its
+//! reason, its object count and the whole store.
 //!
 //! The count is compared with the tree's as well, which is counted apart from any reading.
 
@@ -24,8 +24,8 @@ const ANSWERS: [AnswerTo; 4] = [
 /// The phases in which they are awaited.
 const PHASES: [u8; 4] = [1, 2, 3, 5];
 
-/// One reading: a store, the answer's number, a record's file and the card's bytes. The word has the reason in bits 16 to 23 and
-/// the object count below, or is `NOT_READ`.
+/// One reading: a store, the answer's number, a record's file and the card's bytes. The word has the reason in bits 16
+/// to 23 and the object count below, or is `NOT_READ`.
 pub type Read = fn(&mut [u8], u32, u8, &[u8]) -> u32;
 
 /// The readers that are compared with the model.
@@ -71,7 +71,8 @@ pub struct Reached {
     pub depths: [u64; 4],
     /// Trees of five levels, which are malformed.
     pub five_levels: u64,
-    /// Objects of the card directly behind so many templates that end together, 1 to 3: in their own template, in another.
+    /// Objects of the card directly after so many templates that end together, 1 to 3: in their own
+    /// template, in another.
     pub behind_ends: [[u64; 2]; 3],
     /// Trees with so many inner templates, 1 to 3, that end together with the outer one.
     pub at_end: [u64; 3],
@@ -178,7 +179,8 @@ impl Reached {
     }
 }
 
-/// Tells each primitive object of a tree, with the template around it and how many templates have ended since the object before it.
+/// Reports each primitive object of a tree, with the template around it and how many templates have ended since the
+/// object before it.
 fn tell_objects(
     around: u32,
     contents: &[u8],
@@ -395,7 +397,8 @@ impl Reading {
         self.awaited == 1 && self.file > 10
     }
 
-    /// The object count by the tree: none are counted of a bad answer, of bytes that are no tree, or of a file above 10.
+    /// The object count by the tree: none are counted of a bad answer, of bytes that are no tree, or of a
+    /// file above 10.
     fn tree_count(&self) -> u32 {
         let Ok(body) = reading::body(&self.card) else {
             return 0;
@@ -467,7 +470,7 @@ fn answer_of(rng: &mut Rng, mut body: Vec<u8>) -> Vec<u8> {
     body
 }
 
-/// An outer template of up to five levels, with objects before and behind each inner one.
+/// An outer template of up to five levels, with objects before and after each inner one.
 pub(crate) fn any_tree(rng: &mut Rng) -> Vec<u8> {
     let levels = rng.within(1..=5);
     let mut list = some_objects(rng);
@@ -511,7 +514,7 @@ fn one_object(rng: &mut Rng, awaited: u32, object: Object) -> Vec<u8> {
     objects::object(rng, outer, &inside)
 }
 
-/// Runs of templates that end together, an object of the card behind each; some have one in the innermost.
+/// Runs of templates that end together, an object of the card after each; some have one in the innermost.
 fn ends_together(rng: &mut Rng) -> Vec<u8> {
     let outer = rng.pick(&[0x70, 0x77]);
     let mut list = Vec::new();

@@ -25,9 +25,9 @@ pub struct Reached {
     length: Counts,
     /// Starts refused for one object alone: of a length that fits and nibbles that do not.
     digits: Counts,
-    /// Lists filled with the bytes of an object that is there.
+    /// Lists filled with the bytes of an object that is present.
     filled: Counts,
-    /// Lists filled with zeros for a known object that is not there.
+    /// Lists filled with zeros for a known object that is not present.
     absent: Counts,
     /// Records refused for an object alone that does not fit its row.
     refused: Counts,

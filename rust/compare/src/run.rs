@@ -39,13 +39,13 @@ pub struct Coverage {
     pub choices: [u64; 3],
     /// Bits of 95 that were set on GENERATE AC, in the order of `RESULT_BITS`.
     pub result_bits: [u64; RESULT_BITS.len()],
-    /// Types of cryptogram (top two bits) in ended sessions, for each choice asked.
+    /// Types of cryptogram (top two bits) in ended sessions, for each choice requested.
     pub types: [[u64; 4]; 3],
     /// Objects held when a session ended.
     pub held: [u64; ROWS.len()],
     /// Sessions that handed out 130 commands.
     pub longest: u64,
-    /// What the choices of a method reached.
+    /// What the choices of a CVM reached.
     pub verification: Reached,
     /// Which limits decided, and which were refused.
     pub limit: limit::Reached,
@@ -59,7 +59,8 @@ pub struct Coverage {
     pub padding_refused: [u64; 4],
     /// Explanations of sessions that calls made, by the kinds of `EXPLANATIONS`.
     pub explanations: [u64; 5],
-    /// Sessions that ended with reason 0 and an action code that came with the answer to GENERATE AC: explained, and not.
+    /// Sessions that ended with reason 0 and an action code that came with the answer to GENERATE AC:
+    /// explained, and not.
     pub late_codes: [u64; 2],
 }
 
@@ -317,7 +318,7 @@ const AWAITED: [&str; 4] = [
 /// The kinds of explanations, from 2 on.
 const EXPLANATIONS: [&str; 5] = ["none", "reason", "no choice", "lower cryptogram", "stage"];
 
-/// The calls that hand back a reply.
+/// The calls that return a reply.
 const CALLS: [&str; 4] = ["start", "answer", "link_failed", "stop"];
 
 /// A session in which the two sides differ.
@@ -533,7 +534,7 @@ fn count_last_record(store: &Store, reason: Option<u8>, coverage: &mut Coverage)
     if reason != Some(4) {
         coverage.limit.count_decision(store);
         if reason != Some(6) && !stripe_mode {
-            // A method was chosen.
+            // A CVM was chosen.
             coverage.verification.count_choice(store);
         }
     }
@@ -653,7 +654,7 @@ fn run(
     Ok(())
 }
 
-/// Runs `sessions` sessions of the seeds from `first` on, on all cores. An error tells the first difference found.
+/// Runs `sessions` sessions of the seeds from `first` on, on all cores. An error reports the first difference found.
 pub fn run_many(
     model: &impl Side,
     other: &impl Side,

@@ -1,6 +1,6 @@
 //! The two sides of the comparison: both have the calls of docs/HOST.md on a session's bytes.
 
-/// The calls over lent bytes, with their result words.
+/// The calls over the caller's bytes, with their result words.
 pub trait Side: Sync {
     /// Bytes that a session record needs.
     fn session_size(&self) -> usize;

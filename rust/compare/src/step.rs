@@ -9,7 +9,7 @@ pub enum Step {
     Set(Vec<u8>),
     /// Opens the session.
     Open,
-    /// Starts with these bytes; the buffer lent has these contents.
+    /// Starts with these bytes; the caller's buffer has these contents.
     Start {
         /// Start bytes.
         terminal: Vec<u8>,

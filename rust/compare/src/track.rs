@@ -81,7 +81,8 @@ fn counter_digits(rng: &mut Rng, mask: &[u8]) -> Vec<u8> {
     }]
 }
 
-/// Values of the four objects, mostly such that the digits find their places; `held` gives those that the store has already.
+/// Values of the four objects, mostly such that the digits find their places; `held` gives those that the store
+/// has already.
 pub fn values<'a>(rng: &mut Rng, held: impl Fn(Object) -> Option<&'a [u8]>) -> [Vec<u8>; 4] {
     let or_drawn = |object, drawn: Vec<u8>| held(object).map_or(drawn, <[u8]>::to_vec);
     let track = or_drawn(Object::Track2Data, track(rng));

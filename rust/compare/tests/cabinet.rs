@@ -1,5 +1,5 @@
-//! Lists of calls of a vending cabinet, and lookups of start objects, against the library's. COMPARE_SEED=n makes the list of
-//! that seed alone and prints it.
+//! Lists of calls of a vending cabinet, and lookups of start objects, against the library's. COMPARE_SEED=n makes the
+//! list of that seed alone and prints it.
 
 use compare::cabinet::{self, Reached};
 use std::env;

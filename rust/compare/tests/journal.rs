@@ -1,4 +1,4 @@
-//! Verdicts on journals, right, unfinished, cut and damaged, against the library's.
+//! Verdicts on journals, conforming, unfinished, truncated and damaged, against the library's.
 
 use std::env;
 

@@ -93,7 +93,7 @@ fn templates_that_end() {
     record("70 06 E104 00 E100 00", 0, 3, &[]);
 }
 
-/// Up to three templates end at one place, and the tag around counts again for what stands behind.
+/// Up to three templates end at one place, and the tag around counts again for what is after.
 #[test]
 fn templates_that_end_together() {
     record("70 0B E104 E102 E100 9F08020002", 0, 5, &[VERSION]);
@@ -115,7 +115,7 @@ fn templates_that_end_together() {
         7,
         &stored,
     );
-    // Objects before, inside and behind.
+    // Objects before, inside and after.
     let stored = ["5F34 01", VERSION, "5F28 0056"];
     record(
         "70 13 5F340101 E100 7005 9F08020002 5F28020056 00",
@@ -141,17 +141,17 @@ fn templates_that_end_together() {
 
 #[test]
 fn ends_of_templates() {
-    // An object of the inner template ends behind it, though within the outer one.
+    // An object of the inner template ends after it, though within the outer one.
     record("70 0A E103 9F0802 0002 4200 00", 2, 0, &[]);
     record("70 06 E102 5703 AABB", 2, 0, &[]);
     record("70 06 E103 5703 AABB", 2, 0, &[]);
     record("70 07 E102 5705 AABBCC", 2, 0, &[]);
-    // A tag or a length of which a byte is behind it.
+    // A tag or a length of which a byte is after it.
     record("70 05 E101 9F 4200", 2, 0, &[]);
     record("70 06 E102 DF81 2000", 2, 0, &[]);
     record("70 06 E102 4281 0000", 2, 0, &[]);
     record("70 07 E103 428200 0000", 2, 0, &[]);
-    // A template that ends behind the one around it.
+    // A template that ends after the one around it.
     record("70 08 E102 E104 E102 E100", 2, 0, &[]);
     record("70 06 E104 E103 E100", 2, 0, &[]);
     record("70 02 E101", 2, 0, &[]);
@@ -163,7 +163,7 @@ fn levels() {
     record("70 06 E1 04 E1 02 E1 00", 0, 4, &[]);
     record("70 08 E1 06 E1 04 E1 02 E1 00", 2, 0, &[]);
     record("70 08 E1 06 E1 04 E1 02 42 00", 0, 5, &[]);
-    // A fifth level behind a malformed object, behind one that is not allowed, and after a return to the third.
+    // A fifth level after a malformed object, after one that is not allowed, and after a return to the third.
     record("70 0B 9501 00 E106 E104 E102 E100", 2, 0, &[]);
     record("70 0C E10A E108 E100 E104 E102 E100", 2, 0, &[]);
     record("70 0A E108 E106 E100 E102 4200", 0, 6, &[]);

@@ -179,7 +179,7 @@ fn each(sessions: &mut [Session; BATCH], mut call: impl FnMut(&mut Session) -> u
         .fold(0, |sum, session| sum.wrapping_add(call(session)))
 }
 
-/// The sizes of libhost.a by the program `size`, if it is there.
+/// The sizes of libhost.a by the program `size`, if it is present.
 fn library_size() -> Option<String> {
     let output = Command::new("size")
         .arg("-t")

@@ -30,7 +30,8 @@ fn unknown_tag(i: u8) -> [u8; 2] {
     [0x5F, 0x60 + i]
 }
 
-/// The objects of a full record: twelve of template 70, then twelve unknown ones with so many bytes each, the first one with one more.
+/// The objects of a full record: twelve of template 70, then twelve unknown ones with so many bytes each, the first one
+/// with one more.
 fn full_record(unknown: u8) -> Vec<Vec<u8>> {
     let mut objects: Vec<Vec<u8>> = [
         "57 13 4761739001010010D49122010000001F000000",
@@ -87,7 +88,7 @@ pub fn long_record() -> Record {
     accepted("full record", record(&full_record(7).concat()), 25)
 }
 
-/// A 00 behind each object; the unknown ones are shorter, so that the record is as long as the full one.
+/// A 00 after each object; the unknown ones are shorter, so that the record is as long as the full one.
 pub fn padded_record() -> Record {
     let mut objects = full_record(5);
     objects.iter_mut().for_each(|object| object.push(0x00));
@@ -104,7 +105,7 @@ pub fn unknown_tags() -> Record {
     accepted("record of 20 unknown tags", record(&content), 21)
 }
 
-/// The full record, its last object cut by one byte.
+/// The full record, its last object truncated by one byte.
 pub fn broken_record() -> Record {
     let mut content = full_record(7).concat();
     content.pop();
@@ -139,7 +140,7 @@ pub fn terminal() -> Vec<u8> {
     )
 }
 
-/// The answers of a purchase: processing options, three records, cryptogram.
+/// The answers of a purchase: GPO, three records, cryptogram.
 pub fn purchase() -> Vec<Vec<u8>> {
     vec![
         hex("77 0A 82 02 1980 94 04 08010300 9000"),

@@ -1,4 +1,5 @@
-//! Times both readers of the static library, the plain reader and the model's, interleaved in one run, and tells the deepest stack.
+//! Times both readers of the static library, the plain reader and the model's, interleaved in one run, and reports the
+//! deepest stack.
 //!
 //!     measure_readers [SAMPLES]    samples for each case and reader, 4,000 if not given
 //!

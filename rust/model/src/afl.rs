@@ -1,6 +1,6 @@
-//! The file locator (document 01, "Locator").
+//! The AFL (document 01, "Locator").
 
-/// A record that the locator names.
+/// A record that the AFL names.
 #[derive(Clone, Copy, Debug, PartialEq, Eq)]
 pub struct Record {
     /// File number, 1 to 30.
@@ -30,7 +30,7 @@ fn entry_records(entry: &[u8]) -> Option<u32> {
     (u32::from(authenticated) <= records).then_some(records)
 }
 
-/// The number of records in all, 1 to 128, or none if the locator breaks the rules.
+/// The number of records in all, 1 to 128, or none if the AFL breaks the rules.
 pub fn records(locator: &[u8]) -> Option<u32> {
     let total = locator
         .chunks(4)
@@ -38,7 +38,7 @@ pub fn records(locator: &[u8]) -> Option<u32> {
     (1..=128).contains(&total).then_some(total)
 }
 
-/// The k-th record, counted from 1, of a locator that keeps the rules.
+/// The k-th record, counted from 1, of an AFL that satisfies the rules.
 pub fn record(locator: &[u8], k: u32) -> Option<Record> {
     let mut before = 0;
     for entry in locator.chunks(4) {

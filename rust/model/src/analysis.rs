@@ -1,10 +1,11 @@
-//! The limit in force, result bits, usage and the choice (document 01, "Result bits and the choice"; document 02, Item 8).
+//! The transaction limit, TVR bits, usage and the choice (document 01, "Result bits and the choice"; document
+//! 02, Item 8).
 
 use crate::cvm;
 use crate::dictionary::Object;
 use crate::store::{self, Store};
 
-/// The choice asked for, as P1 of GENERATE AC.
+/// The choice requested, as P1 of GENERATE AC.
 #[derive(Clone, Copy, Debug, PartialEq, Eq)]
 pub enum Choice {
     /// 00.
@@ -47,7 +48,7 @@ pub fn amount(store: &Store, object: Object) -> Option<u64> {
     Some(digits.fold(0, |sum, digit| sum * 10 + u64::from(digit)))
 }
 
-/// The limit in force (Book C-2, S3.33 to S3.35): DF8125 for a phone that verifies its holder, else DF8124.
+/// The transaction limit (Book C-2, S3.33 to S3.35): DF8125 for a device with on-device CVM, else DF8124.
 pub fn transaction_limit(store: &Store) -> Option<u64> {
     let limit = if cvm::on_device(store) {
         Object::TransactionLimitOnDevice
@@ -85,7 +86,7 @@ pub fn result_bits(store: &Store) -> [u8; 5] {
     bits
 }
 
-/// A date with its century in front: years 00 to 49 are 2000 to 2049, 50 to 99 are 1950 to 1999.
+/// A date with its century at the front: years 00 to 49 are 2000 to 2049, 50 to 99 are 1950 to 1999.
 fn in_century(date: &[u8]) -> (u8, &[u8]) {
     let before_2000 = matches!(date.first(), Some(0x50..=0xFF));
     (if before_2000 { 19 } else { 20 }, date)
@@ -97,12 +98,12 @@ pub fn at_atm(store: &Store) -> bool {
         && first_byte(store, Object::AdditionalCapabilities).is_some_and(|first| first & 0x80 != 0)
 }
 
-/// The first byte of an object, if it is there.
+/// The first byte of an object, if it is present.
 fn first_byte(store: &Store, object: Object) -> Option<u8> {
     store::get(store, object).and_then(|value| value.first().copied())
 }
 
-/// Whether the usage control, if it is there, allows the transaction.
+/// Whether the usage control, if it is present, allows the transaction.
 fn usage_allowed(store: &Store) -> bool {
     let Some(&[control, cashback_control]) = store::get_fixed(store, Object::UsageControl) else {
         return true;
@@ -129,7 +130,7 @@ fn usage_allowed(store: &Store) -> bool {
     !cashback || cashback_control & if home { 0x80 } else { 0x40 } != 0
 }
 
-/// The choice, from the result bits, the terminal type and the three pairs of action codes.
+/// The choice, from the TVR, the terminal type and the three pairs of action codes.
 pub fn choice(store: &Store, bits: &[u8; 5]) -> Choice {
     let card = |object, absent| {
         store::get_fixed(store, object)
@@ -166,7 +167,7 @@ pub fn choice(store: &Store, bits: &[u8; 5]) -> Choice {
     }
 }
 
-/// Whether a result bit is set in either code of a pair.
+/// Whether a TVR bit is set in either code of a pair.
 fn any_bit(bits: &[u8; 5], [card, terminal]: &Pair) -> bool {
     (0..5).any(|i| bits[i] & (card[i] | terminal[i]) != 0)
 }

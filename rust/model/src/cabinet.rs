@@ -1,7 +1,8 @@
-//! The vending cabinet (document 02, Item 14): one session at a time, and a cap on what is approved offline since opening.
+//! The vending cabinet (document 02, Item 14): one session at a time, and a cap on what is approved offline
+//! since opening.
 //!
-//! The state is the kernel's record, then what is left of the cap and what is set aside for the running session, 8 bytes each,
-//! high byte first. Bytes behind stay. The calls give the words of docs/HOST.md.
+//! The state is the kernel's record, then what is left of the cap and what is set aside for the running session, 8
+//! bytes each, high byte first. Bytes after stay. The calls give the words of docs/HOST.md.
 
 use crate::analysis;
 use crate::dictionary::Object;
@@ -10,7 +11,7 @@ use crate::session::{self, Phase, Refusal, Reply, Session, COMMAND_SIZE, SESSION
 use crate::store::Store;
 use crate::word;
 
-/// Bytes of the two amounts behind the record.
+/// Bytes of the two amounts after the record.
 pub const AMOUNTS_SIZE: usize = 16;
 
 /// Bytes of a cabinet's state.
@@ -160,8 +161,8 @@ fn load(state: &[u8], command: &[u8]) -> Result<(Phase, Amounts), Refusal> {
     look(state).ok_or(Refusal::Record)
 }
 
-/// Phase and amounts of the state in `bytes`, or none if they hold none: the record keeps its ranges, what is set aside is the
-/// running session's 9F02, or 0 where none runs, and it is at most `MOST_CAP` with what is left.
+/// Phase and amounts of the state in `bytes`, or none if they hold none: the record is in its ranges, what is set aside
+/// is the running session's 9F02, or 0 where none runs, and it is at most `MOST_CAP` with what is left.
 fn look(bytes: &[u8]) -> Option<(Phase, Amounts)> {
     let (record, behind) = bytes.split_first_chunk::<SESSION_SIZE>()?;
     let amounts = Amounts::of_bytes(behind.first_chunk()?);

@@ -1,18 +1,19 @@
-//! Cardholder verification: the choice of a method, for a phone by the amount and else by the card's list (document 02,
-//! Items 5 and 8; Book C-2, 7.5, CVM.1 to CVM.25).
+//! Cardholder verification: the choice of a CVM, for on-device CVM by the amount and else by the card's list (document
+//! 02, Items 5 and 8; Book C-2, 7.5, CVM.1 to CVM.25).
 //!
-//! The list, 8E, is two amounts X and Y of four bytes each, and then rules of two bytes: a code and a condition. In a code
-//! the low six bits name the method, b7 says that the next rule applies where this one does not succeed, and b8 is reserved.
+//! The list, 8E, is two amounts X and Y of four bytes each, and then rules of two bytes: a code and a condition. In a
+//! code the low six bits name the CVM, b7 indicates that the next rule applies where this one does not succeed, and b8
+//! is reserved.
 
 use crate::analysis;
 use crate::dictionary::Object;
 use crate::store::{self, Store};
 
-/// The method of cardholder verification that the outcome tells (Book C-2, A.1.117).
+/// The CVM that the outcome reports (Book C-2, A.1.117).
 #[derive(Clone, Copy, Debug, PartialEq, Eq)]
 #[repr(u8)]
 pub enum Method {
-    /// No method.
+    /// No CVM.
     NoCvm = 0,
     /// The cardholder signs.
     Signature = 1,
@@ -24,11 +25,11 @@ pub enum Method {
     OfflinePin = 4,
 }
 
-/// The number of "not applicable": no method was chosen.
+/// The number of "not applicable": no CVM was chosen.
 pub const NOT_APPLICABLE: u8 = 15;
 
 impl Method {
-    /// All methods.
+    /// All CVMs.
     pub const ALL: [Method; 5] = [
         Method::NoCvm,
         Method::Signature,
@@ -37,7 +38,7 @@ impl Method {
         Method::OfflinePin,
     ];
 
-    /// The method of a number, if there is one. "Not applicable" is none.
+    /// The CVM of a number, if there is one. "Not applicable" is none.
     pub fn of_number(number: u8) -> Option<Method> {
         Self::ALL.into_iter().find(|&method| method as u8 == number)
     }
@@ -50,7 +51,7 @@ pub struct Selection {
     pub results: [u8; 3],
     /// The bits that are added to 95.
     pub bits: [u8; 5],
-    /// The method.
+    /// The CVM.
     pub method: Method,
 }
 
@@ -79,12 +80,12 @@ pub enum Branch {
 
 /// Byte 1 b6 of 95: data of the card is missing.
 const DATA_MISSING: [u8; 5] = [0x20, 0, 0, 0, 0];
-/// Byte 3 b8, b7 and b3 of 95: not successful, unrecognised method, online PIN entered.
+/// Byte 3 b8, b7 and b3 of 95: not successful, unrecognised CVM, online PIN entered.
 const NOT_SUCCESSFUL: u8 = 0x80;
 const UNRECOGNISED: u8 = 0x40;
 const ONLINE_PIN_ENTERED: u8 = 0x04;
 
-/// No method performed, and verification on the device performed, as the first byte of 9F34.
+/// No CVM performed, and verification on the device performed, as the first byte of 9F34.
 const NONE_PERFORMED: u8 = 0x3F;
 const ON_DEVICE_PERFORMED: u8 = 0x01;
 
@@ -93,19 +94,19 @@ const UNKNOWN: u8 = 0;
 const FAILED: u8 = 1;
 const SUCCESSFUL: u8 = 2;
 
-/// Whether the card is on a phone that verifies its holder, and the reader supports that: 82 byte 1 b2 and DF811B b6.
+/// Whether the card is on a device with on-device CVM, and the reader supports that: 82 byte 1 b2 and DF811B b6.
 pub fn on_device(store: &Store) -> bool {
     let first_byte = |object| store::get(store, object).map_or(0, |value| value[0]);
     first_byte(Object::InterchangeProfile) & 0x02 != 0
         && first_byte(Object::KernelConfiguration) & 0x20 != 0
 }
 
-/// Selects the method. The store is that of a session after its last record.
+/// Selects the CVM. The store is that of a session after its last record.
 pub fn select(store: &Store) -> Selection {
     walk(store, &mut |_| ())
 }
 
-/// Selects the method, and tells each branch on the way.
+/// Selects the CVM, and reports each branch on the way.
 pub fn walk(store: &Store, told: &mut impl FnMut(Branch)) -> Selection {
     if on_device(store) {
         return by_device(store, told);
@@ -129,8 +130,8 @@ pub fn walk(store: &Store, told: &mut impl FnMut(Branch)) -> Selection {
     }
 }
 
-/// Selects the method of a phone: it has verified its holder, which counts where the amount is above the limit for that. No
-/// list is looked at.
+/// Selects the on-device CVM: it has verified its holder, which counts where the amount is above the limit for that. No
+/// list is examined.
 fn by_device(store: &Store, told: &mut impl FnMut(Branch)) -> Selection {
     let above =
         store::get(store, Object::AmountAuthorised) > store::get(store, Object::CvmRequiredLimit);
@@ -147,7 +148,7 @@ fn by_device(store: &Store, told: &mut impl FnMut(Branch)) -> Selection {
     }
 }
 
-/// Selects the method by the rules of a list.
+/// Selects the CVM by the rules of a list.
 fn by_rules(store: &Store, list: &[u8], told: &mut impl FnMut(Branch)) -> Selection {
     let selection = |results, third, method| Selection {
         results,
@@ -189,7 +190,7 @@ fn by_rules(store: &Store, list: &[u8], told: &mut impl FnMut(Branch)) -> Select
     selection(results, third | NOT_SUCCESSFUL, Method::NoCvm)
 }
 
-/// The result, the method and the bit of 95 byte 3 of a code that is performed, by its low six bits.
+/// The result, the CVM and the bit of 95 byte 3 of a code that is performed, by its low six bits.
 fn performed(name: u8) -> (u8, Method, u8) {
     match name {
         0x02 => (UNKNOWN, Method::OnlinePin, ONLINE_PIN_ENTERED),
@@ -199,12 +200,12 @@ fn performed(name: u8) -> (u8, Method, u8) {
     }
 }
 
-/// Whether the low six bits of a code name a method of EMV's table, or fail.
+/// Whether the low six bits of a code name a CVM of EMV's table, or fail.
 pub fn recognised(name: u8) -> bool {
     matches!(name, 0x00..=0x05 | 0x1E | 0x1F)
 }
 
-/// Whether the terminal's capabilities support the method that the low six bits of a code name. Fail is always supported,
+/// Whether the terminal's capabilities support the CVM that the low six bits of a code name. Fail is always supported,
 /// and a combination where both its parts are.
 pub fn supported(store: &Store, name: u8) -> bool {
     const PLAINTEXT_PIN: u8 = 0x80;

@@ -116,7 +116,7 @@ pub struct Row {
     pub form: Form,
     /// Who may set it.
     pub setter: Setter,
-    /// The templates in which the card may set it: one of them stands directly around it.
+    /// The templates in which the card may set it: one of them is directly around it.
     pub templates: Templates,
     /// The answers in which the card may set it.
     pub answers: Answers,
@@ -367,14 +367,14 @@ impl Object {
 /// What a search says.
 #[derive(Clone, Copy, Debug, PartialEq, Eq)]
 pub struct Searched {
-    /// Where the tag stands, if it is there.
+    /// Where the tag is, if it is present.
     pub place: Option<usize>,
-    /// How many tags were looked at.
+    /// How many tags were probed.
     pub looks: usize,
 }
 
-/// Searches rising tags by halving (document 02, Item 3): at most k looks in fewer than 2 to the k tags.
-/// `Object::of_tag` goes another way, so that the tests can hold one to the other.
+/// Searches rising tags by halving (document 02, Item 3): at most k probes in fewer than 2 to the k tags.
+/// `Object::of_tag` goes another way, so that the tests can compare one with the other.
 pub fn search(tags: &[u32], tag: u32) -> Searched {
     let (mut left, mut passed, mut looks) = (tags, 0, 0);
     while let Some(&looked) = left.get(left.len() / 2) {

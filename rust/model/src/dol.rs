@@ -1,4 +1,4 @@
-//! Filling a data object list (document 01, "Filling"; Book 3, 1.4).
+//! Filling a DOL (document 01, "Filling"; Book 3, 1.4).
 
 use crate::dictionary::{Form, Object};
 use crate::store::{self, Store};
@@ -11,7 +11,7 @@ fn split_entry(list: &[u8]) -> Option<(Tag, usize, &[u8])> {
     Some((tag, usize::from(length), rest))
 }
 
-/// The length that a list asks for in all, or none if the list is broken.
+/// The length that a list requests in all, or none if the list is broken.
 pub fn filled_length(mut list: &[u8]) -> Option<usize> {
     let mut total = 0;
     while !list.is_empty() {
@@ -40,8 +40,8 @@ pub fn fill(store: &Store, mut list: &[u8], mut out: &mut [u8]) {
 
 /// Brings a value to the length of its field.
 ///
-/// A number keeps its last digits and is padded in front. All else keeps its first bytes and is padded behind:
-/// with FF for cn, with 00 for b.
+/// A number keeps its last digits and is padded at the front. All else keeps its first bytes and is padded after: with
+/// FF for cn, with 00 for b.
 pub fn fill_field(form: Form, value: &[u8], field: &mut [u8]) {
     let kept = value.len().min(field.len());
     if form == Form::Numeric {

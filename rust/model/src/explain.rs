@@ -1,8 +1,8 @@
 //! Why a choice was made, for the cashier (document 02, Item 7).
 //!
-//! The choice is worked out again from the stored result bits, terminal type and action codes. A record that does not give
-//! its own choice or outcome is not explained. How the result bits came about is not looked at. A session in stripe mode makes
-//! no choice (document 02, Item 9).
+//! The choice is recomputed from the stored TVR, terminal type and action codes. A record that does not give its own
+//! choice or outcome is not explained. How the TVR came about is not examined. A session in stripe mode makes no choice
+//! (document 02, Item 9).
 
 use crate::analysis::Choice;
 use crate::dictionary::Object;
@@ -17,7 +17,7 @@ pub enum Explanation {
     Ended(u8),
     /// No choice has been made yet, or none is made: the card has no EMV mode.
     NoChoice,
-    /// The card gave a lower cryptogram than was asked for.
+    /// The card gave a lower cryptogram than was requested.
     LowerCryptogram,
     /// The stage that decided, and the bit that forced the choice if one did.
     Decided(Stage, Option<Bit>),
@@ -119,7 +119,7 @@ fn explain_outcome(store: &Store, outcome: u8) -> Option<Explanation> {
     }
 }
 
-/// The rank of the cryptogram that a choice asks for: AAC, then ARQC, then TC.
+/// The rank of the cryptogram that a choice requests: AAC, then ARQC, then TC.
 fn rank_asked(choice: Choice) -> u8 {
     match choice {
         Choice::Decline => 0,
@@ -179,7 +179,7 @@ fn bits_of(store: &Store, object: Object) -> Option<u64> {
     )
 }
 
-/// The lowest-numbered bit that is set in the result and held by a code of the pair.
+/// The lowest-numbered bit that is set in the TVR and held by a code of the pair.
 fn lowest(result: u64, card: u64, terminal: u64) -> Option<Bit> {
     (0..BITS).find_map(|number| {
         let has = |bits: u64| bits >> (BITS - 1 - number) & 1 == 1;

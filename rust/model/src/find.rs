@@ -5,7 +5,7 @@ use alloc::vec::Vec;
 use crate::reading::LEVELS;
 use crate::tlv;
 
-/// The most bytes that are looked through.
+/// The most bytes that are searched.
 const MOST_BYTES: usize = 65_535;
 
 /// What a search finds.
@@ -28,7 +28,8 @@ pub struct Value {
     pub length: usize,
 }
 
-/// The first object of a tag in bytes that are read as the contents of a template. A template comes before what it holds.
+/// The first object of a tag in bytes that are read as the contents of a template. A template comes before
+/// what it holds.
 pub fn find(bytes: &[u8], tag: u32) -> Found {
     let mut objects = Vec::new();
     if bytes.len() > MOST_BYTES || list_objects(bytes, 0, LEVELS, &mut objects).is_none() {
@@ -49,7 +50,8 @@ pub fn word(found: Found) -> u64 {
     }
 }
 
-/// Lists the objects of a template's contents, which start at `from` of all bytes, by tag and value; none if they are malformed.
+/// Lists the objects of a template's contents, which start at `from` of all bytes, by tag and value; none if they
+/// are malformed.
 ///
 /// `levels` is how many templates may nest inside.
 fn list_objects(

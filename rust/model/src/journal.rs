@@ -1,6 +1,6 @@
 //! The journal of one session: written from its calls, and checked (document 02, Item 1).
 //!
-//! A journal is records one behind the other. A record is one byte of kind and a body of fixed size:
+//! A journal is records concatenated. A record is one byte of kind and a body of fixed size:
 //!
 //! | kind | record | body |
 //! |---|---|---|
@@ -10,9 +10,9 @@
 //! | 5 | command | length, 261 bytes |
 //! | 6 | outcome | outcome, reason |
 //!
-//! A length has two bytes, high first, and body bytes behind what it counts are zero. An answer of more than
-//! 258 bytes is not kept: its length stands as FF FF and its body is zero. Calls that are refused are not in a
-//! journal; every other call is followed by its command or outcome.
+//! A length has two bytes, high first, and body bytes after what it counts are zero. An answer of more than 258 bytes
+//! is not kept: its length stands as FF FF and its body is zero. Calls that are refused are not in a journal; every
+//! other call is followed by its command or outcome.
 
 use alloc::vec;
 use alloc::vec::Vec;
@@ -49,11 +49,11 @@ pub enum Call<'a> {
 /// What a check of a journal gives. Records count from 1.
 #[derive(Clone, Copy, Debug, PartialEq, Eq)]
 pub enum Verdict {
-    /// A right kernel can have written these records, so many.
+    /// A conforming kernel can have written these records, so many.
     Accepted(usize),
-    /// The first record that no right kernel writes behind those before it.
+    /// The first record that no conforming kernel writes after those before it.
     Unlike(usize),
-    /// The bytes end inside this record; those before it are right.
+    /// The bytes end inside this record; those before it are conforming.
     Cut(usize),
 }
 
@@ -69,21 +69,22 @@ pub fn record_size(kind: u8) -> Option<usize> {
     }
 }
 
-/// Says whether a right kernel can have written these bytes.
+/// Reports whether a conforming kernel can have written these bytes.
 ///
-/// The end between two records is always right. A piece of a record of kind 1 to 6 is cut, whatever it holds.
+/// The end between two records is always conforming. A piece of a record of kind 1 to 6 is truncated,
+/// whatever it holds.
 pub fn check(bytes: &[u8]) -> Verdict {
     examine(bytes).0
 }
 
-/// The one record that a right kernel writes in the place of the first unlike one: the reply that was due.
+/// The one record that a conforming kernel writes in place of the first mismatching one: the reply that was expected.
 ///
-/// None where no record is unlike, and where a call was due, since then none or more than one is right.
+/// None where no record is a mismatch, and where a call was expected, since then none or more than one is conforming.
 pub fn right_record(bytes: &[u8]) -> Option<Vec<u8>> {
     examine(bytes).1
 }
 
-/// The verdict, and the reply that was due where a record is unlike.
+/// The verdict, and the reply that was expected where a record is a mismatch.
 fn examine(bytes: &[u8]) -> (Verdict, Option<Vec<u8>>) {
     let mut kernel = Kernel::fresh();
     let mut reply_due: Option<Vec<u8>> = None;
@@ -147,7 +148,7 @@ impl Kernel {
         };
         Some(match reply.ok()? {
             Reply::Command(length) => filled_record(COMMAND, &buffer[..length]),
-            // The method is not in a journal.
+            // The CVM is not in a journal.
             Reply::Outcome(outcome, reason, _) => vec![OUTCOME, outcome as u8, reason],
         })
     }
@@ -168,7 +169,7 @@ fn call_record(call: Call) -> Vec<u8> {
     }
 }
 
-/// A record of a kind with a length: the length, the bytes, zeros behind.
+/// A record of a kind with a length: the length, the bytes, zeros after.
 fn filled_record(kind: u8, bytes: &[u8]) -> Vec<u8> {
     let mut record = vec![kind, (bytes.len() >> 8) as u8, bytes.len() as u8];
     record.extend(bytes);
@@ -191,7 +192,7 @@ fn read_call(record: &[u8]) -> Option<Call<'_>> {
     }
 }
 
-/// The front of a body that its length counts, if the length fits and the bytes behind are zero.
+/// The front of a body that its length counts, if the length fits and the bytes after are zero.
 fn counted(high: u8, low: u8, body: &[u8]) -> Option<&[u8]> {
     let length = usize::from(u16::from_be_bytes([high, low]));
     let (front, behind) = body.split_at_checked(length)?;

@@ -1,22 +1,22 @@
 //! A plain Rust model of one contactless session, written from documents 01 and 02.
 //!
-//! The calls take lent bytes and give the result words of docs/HOST.md, so that a reply, a
-//! command buffer, a count and the session's bytes can be compared byte for byte with the library.
+//! The calls take the caller's bytes and give the result words of docs/HOST.md, so that a reply, a command buffer, a
+//! count and the session's bytes can be compared byte for byte with the library.
 //!
 //! - `tlv`: one object at the front of some bytes, and the padding between objects
 //! - `dictionary`, `store`: the known tags, and one fixed place for each
 //! - `reason`: why a session ends early, and with which outcome
 //! - `reading`: a card's answer into a store, whole or not at all
 //! - `find`: the first object of a tag in a card's bytes
-//! - `dol`, `locator`, `analysis`: data object lists, the file locator, result bits and choice
-//! - `verification`: the method of cardholder verification by the card's list
+//! - `dol`, `locator`, `analysis`: DOLs, the AFL, TVR bits and choice
+//! - `verification`: the CVM by the card's list
 //! - `stripe`: the digits that go into the track of an old magnetic stripe card
 //! - `session`: the session record, its ranges and its steps
 //! - `explain`: why a session made its choice
 //! - `journal`: the journal of a session, written from its calls and checked
 //! - `lookup`: a start object out of a site's bytes, else out of the defaults
 //! - `cabinet`: a vending cabinet's calls, with a cap on what is approved offline
-//! - `personalise`: the card's side, records and locator written from a list of objects
+//! - `personalise`: the card's side, records and AFL written from a list of objects
 
 #![no_std]
 #![forbid(unsafe_code)]
@@ -103,7 +103,8 @@ pub fn count(session: &[u8]) -> u32 {
     session::count(session).map_or(NO_COUNT, u32::from)
 }
 
-/// Why the session made its choice: the stage, the bit that forced it and who holds it, or a word that says what there is instead.
+/// Why the session made its choice: the stage, the bit that forced it and who holds it, or a word that says what
+/// there is instead.
 pub fn explain(session: &[u8]) -> u32 {
     explain::word(explain::explain(session))
 }
@@ -113,7 +114,8 @@ pub fn find(bytes: &[u8], tag: u32) -> u64 {
     find::word(find::find(bytes, tag))
 }
 
-/// Reads one answer, status bytes included, into a store of any bytes. `file` is the record's, and counts for a record alone.
+/// Reads one answer, status bytes included, into a store of any bytes. `file` is the record's, and counts for a
+/// record alone.
 ///
 /// Gives the reason (0 if none) and the number of objects in the answer's tree. Above file 10 the status alone counts.
 pub fn read_answer(store: &mut Store, to: AnswerTo, file: u8, answer: &[u8]) -> (u8, u32) {

@@ -1,7 +1,7 @@
 //! Old magnetic stripe cards: the digits that go into track 2 (document 02, Item 9; Book C-2, S14.25 to S14.27).
 //!
-//! A track, 9F6B, is nibbles. The discretionary digits stand behind the first D and seven more nibbles, up to the first F
-//! behind that D. They are counted from the right: place i, from 1, is bit i of a mask.
+//! A track, 9F6B, is nibbles. The discretionary digits are after the first D and seven more nibbles, up to the first F
+//! after that D. They are counted from the right: place i, from 1, is bit i of a mask.
 
 use alloc::vec::Vec;
 use core::ops::Range;
@@ -17,7 +17,7 @@ pub const DEFAULT_UDOL: [u8; 3] = [0x9F, 0x6A, 0x04];
 pub enum Unsound {
     /// No nibble is D.
     NoSeparator,
-    /// No digit stands behind the first D and seven more nibbles, or an F among these seven.
+    /// No digit is after the first D and seven more nibbles, or an F among these seven.
     NoDigits,
     /// A place of the code, 9F65, is past the digits.
     CodePlace,
@@ -93,7 +93,7 @@ pub fn places_in(
     }
 }
 
-/// Where the discretionary digits stand.
+/// Where the discretionary digits are.
 fn discretionary(nibbles: &[u8]) -> Result<Range<usize>, Unsound> {
     let behind = |from: usize, nibble| {
         let at = nibbles[from..].iter().position(|&found| found == nibble);
@@ -167,7 +167,7 @@ fn set_below(mask: u16, place: usize) -> u32 {
     (1..place).filter(|&lower| is_set(mask, lower)).count() as u32
 }
 
-/// A digit of a number in decimal, 0 for the lowest; zeros stand in front.
+/// A digit of a number in decimal, 0 for the lowest; zeros are at the front.
 fn decimal_digit(number: u16, digit: u32) -> u32 {
     (u64::from(number) / 10u64.pow(digit) % 10) as u32
 }

@@ -1,8 +1,8 @@
-//! Writing the card's side: a list of objects as record templates and a file locator (document 02, Item 4).
+//! Writing the card's side: a list of objects as record templates and an AFL (document 02, Item 4).
 //!
-//! The layout says which object goes into which record, and is not trusted. Its `entries` are the locator as
-//! proposed. Its `placements` have two bytes each: the number of a record, in locator order, and of an object, in
-//! the list's order, both counted from 1. A layout is accepted as a whole, or refused and nothing is written.
+//! The layout states which object goes into which record, and is not trusted. Its `entries` are the AFL as proposed.
+//! Its `placements` have two bytes each: the number of a record, in AFL order, and of an object, in the list's order,
+//! both counted from 1. A layout is accepted as a whole, or refused and nothing is written.
 
 use alloc::vec;
 use alloc::vec::Vec;
@@ -13,13 +13,13 @@ use crate::tlv;
 /// The least length of the buffer for the records: 128 of them, each 70 81 FD and 253 bytes.
 pub const RECORDS_ROOM: usize = 32_768;
 
-/// The least length of the buffer for the locator: 62 entries of 4 bytes.
+/// The least length of the buffer for the AFL: 62 entries of 4 bytes.
 pub const LOCATOR_ROOM: usize = 248;
 
-/// The most entries of a locator.
+/// The most entries of an AFL.
 const MOST_ENTRIES: usize = 62;
 
-/// The most records that a locator names in all.
+/// The most records that an AFL names in all.
 const MOST_RECORDS: usize = 128;
 
 /// The most bytes inside the template of a record.
@@ -28,12 +28,12 @@ const MOST_CONTENT: usize = 253;
 /// The last file whose records are templates 70.
 const LAST_FILE: u8 = 10;
 
-/// The lengths of what stands at the front of the two buffers.
+/// The lengths of what is at the front of the two buffers.
 #[derive(Clone, Copy, Debug, PartialEq, Eq)]
 pub struct Written {
     /// Bytes of all records.
     pub records: usize,
-    /// Bytes of the locator.
+    /// Bytes of the AFL.
     pub locator: usize,
 }
 
@@ -42,11 +42,11 @@ pub struct Written {
 pub enum Refusal {
     /// The buffer for the records is too short.
     RecordsBuffer,
-    /// The buffer for the locator is too short.
+    /// The buffer for the AFL is too short.
     LocatorBuffer,
     /// An object is bad, comes twice, or is not placed exactly once.
     List,
-    /// The first entry that is bad behind those before it; 1 if there is none.
+    /// The first entry that is bad after those before it; 1 if there is none.
     Entry(usize),
     /// The least number of a bad record; it may be a number that no record has, 0 too.
     Record(usize),
@@ -55,8 +55,8 @@ pub enum Refusal {
 /// What was written, or why nothing was.
 pub type Answer = Result<Written, Refusal>;
 
-/// The answer as a word: the kind in bits 48 to 55, the locator's length in bits 32 to 47, and below it the records'
-/// length or the number of the entry or record (docs/HOST.md).
+/// The answer as a word: the kind in bits 48 to 55, the AFL's length in bits 32 to 47, and below it the records' length
+/// or the number of the entry or record (docs/HOST.md).
 pub fn word(answer: Answer) -> u64 {
     let (kind, locator, low) = match answer {
         Ok(written) => (0, written.locator, written.records),
@@ -69,7 +69,7 @@ pub fn word(answer: Answer) -> u64 {
     kind << 48 | (locator as u64) << 32 | low as u64
 }
 
-/// Writes the records and the locator to the front of the two buffers. Bytes behind stay, and all do after a refusal.
+/// Writes the records and the AFL to the front of the two buffers. Bytes after stay, and all do after a refusal.
 pub fn personalise(
     objects: &[u8],
     entries: &[u8],
@@ -198,7 +198,7 @@ impl Layout {
         })
     }
 
-    /// The objects of a list that go into a record, in the list's order, one behind the other.
+    /// The objects of a list that go into a record, in the list's order, concatenated.
     fn content(&self, list: &[Vec<u8>], record: usize) -> Vec<u8> {
         let goes_there = |number| {
             let mut placements = self.placements.iter();
@@ -210,8 +210,8 @@ impl Layout {
 
     /// The least number that is bad of a record, if one is.
     ///
-    /// It is bad if it is placed into and the locator's records, so many, do not have it, if it is to hold an object
-    /// that the list does not have, or if its content is too long.
+    /// It is bad if it is placed into and the AFL's records, so many, do not have it, if it is to hold an object that
+    /// the list does not have, or if its content is too long.
     fn first_bad_record(&self, list: &[Vec<u8>], records: usize) -> Option<usize> {
         let misplaced = |number| {
             let mut here = self.placements.iter().filter(|at| at.record == number);

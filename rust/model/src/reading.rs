@@ -1,4 +1,5 @@
-//! Reading a card's answer into a store, whole or not at all (document 01, "Reading an answer"; document 02, Items 6, 9 and 11).
+//! Reading a card's answer into a store, whole or not at all (document 01, "Reading an answer"; document 02, Items
+//! 6, 9 and 11).
 
 use crate::dictionary::{Answers, Object, Row, Templates};
 use crate::reason::Reason;
@@ -74,7 +75,7 @@ fn read_template(store: &mut Store, answer_to: AnswerTo, outer: Tag, contents: &
     (Ok(()), walk.count)
 }
 
-/// Reads an answer of tag 80: the values stand one behind the other. They are taken as objects of a template 77 are.
+/// Reads an answer of tag 80: the values are concatenated. They are taken as objects of a template 77 are.
 fn read_format_1(store: &mut Store, answer_to: AnswerTo, value: &[u8]) -> Result<(), Reason> {
     match answer_to {
         AnswerTo::Options => {
@@ -133,7 +134,7 @@ impl Walk {
     /// Takes the objects of a template in order, past the padding around them; none if the bytes are malformed.
     ///
     /// `levels` is how many more templates may nest inside this one.
-    /// A not allowed object does not stop the walk: a malformed one behind it decides.
+    /// A not allowed object does not stop the walk: a malformed one after it decides.
     fn contents(&mut self, around: Templates, bytes: &[u8], levels: u32) -> Option<()> {
         let mut bytes = tlv::skip_padding(bytes);
         while !bytes.is_empty() {

@@ -14,17 +14,17 @@ pub enum Reason {
     Missing = 4,
     /// An entry of 94 breaks a rule, or it names too many records.
     Locator = 5,
-    /// 9F02 is greater than the limit in force.
+    /// 9F02 is greater than the transaction limit.
     Limit = 6,
     /// 9F38, 8C or 9F69 is broken, or fills to a length that its command cannot carry.
     DataList = 7,
-    /// 9F27 has a type that was not asked for.
+    /// 9F27 has a type that was not requested.
     CryptogramType = 8,
     /// The host lost the card.
     LinkFailed = 9,
     /// The host gave up.
     Stopped = 10,
-    /// 82 says that the card has no EMV mode, and DF811B that the reader has no stripe mode.
+    /// 82 indicates that the card has no EMV mode, and DF811B that the reader has no stripe mode.
     NotEmvMode = 11,
 }
 

@@ -11,7 +11,7 @@ use crate::reason::{self, Outcome, Reason};
 use crate::store::{self, Store};
 use crate::tlv;
 
-/// Bytes in front of the store: version, phase, two bytes of detail, count, method, and eight of the limit in force.
+/// Bytes before the store: version, phase, two bytes of detail, count, CVM, and eight of the transaction limit.
 pub const HEAD_SIZE: usize = 14;
 
 /// Bytes of a session record.
@@ -45,12 +45,12 @@ pub enum Refusal {
     Cap = 31,
 }
 
-/// What a call hands back when it is not refused.
+/// What a call returns when it is not refused.
 #[derive(Clone, Copy, Debug, PartialEq, Eq)]
 pub enum Reply {
-    /// A command of this length stands at the front of the buffer.
+    /// A command of this length is at the front of the buffer.
     Command(usize),
-    /// The session has ended: how, why, and the method of cardholder verification if one was chosen. A decision has reason 0.
+    /// The session has ended: how, why, and the CVM if one was chosen. A decision has reason 0.
     Outcome(Outcome, u8, Option<Method>),
 }
 
@@ -62,7 +62,7 @@ enum Next {
     Decision(Outcome),
 }
 
-/// Where a session stands.
+/// Where a session is.
 #[derive(Clone, Copy, Debug, PartialEq, Eq)]
 pub(crate) enum Phase {
     Fresh,
@@ -105,13 +105,13 @@ enum Mode {
     Stripe,
 }
 
-/// A session record in lent bytes: the decoded head, and the store in place.
+/// A session record in the caller's bytes: the decoded head, and the store in place.
 pub struct Session<'a> {
     head: &'a mut [u8; HEAD_SIZE],
     store: &'a mut Store,
     phase: Phase,
     count: u8,
-    /// The method that is held or was just chosen.
+    /// The CVM that is held or was just chosen.
     method: Option<Method>,
 }
 
@@ -252,7 +252,7 @@ impl<'a> Session<'a> {
         })
     }
 
-    /// Start: takes the terminal's objects and asks for the processing options.
+    /// Start: takes the terminal's objects and requests GPO.
     pub fn start(mut self, terminal: &[u8], command: &mut [u8]) -> Result<Reply, Refusal> {
         if self.phase != Phase::Fresh {
             return Err(Refusal::Order);
@@ -301,7 +301,7 @@ impl<'a> Session<'a> {
         reply
     }
 
-    /// GET PROCESSING OPTIONS: its data are the values that the PDOL asks for, under tag 83.
+    /// GET PROCESSING OPTIONS: its data are the values that the PDOL requests, under tag 83.
     fn ask_options(&mut self, command: &mut [u8]) -> Result<Next, Reason> {
         let list = store::get(self.store, Object::Pdol).unwrap_or_default();
         let length = dol::filled_length(list)
@@ -321,7 +321,7 @@ impl<'a> Session<'a> {
         Ok(Next::Command(front + length + 1))
     }
 
-    /// The answer to GET PROCESSING OPTIONS; then the limit in force, which stays, and the first record.
+    /// The answer to GET PROCESSING OPTIONS; then the transaction limit, which stays, and the first record.
     fn take_options(&mut self, answer: &[u8], command: &mut [u8]) -> Result<Next, Reason> {
         let body = reading::body(answer)?;
         reading::read(self.store, AnswerTo::Options, body).0?;
@@ -345,14 +345,15 @@ impl<'a> Session<'a> {
         Ok(Next::Command(5))
     }
 
-    /// The k-th record of the accepted locator.
+    /// The k-th record of the accepted AFL.
     fn record(&self, k: u32) -> Result<afl::Record, Reason> {
         store::get(self.store, Object::FileLocator)
             .and_then(|locator| afl::record(locator, k))
             .ok_or(Reason::Locator)
     }
 
-    /// The answer to READ RECORD; then the next record, or after the last the amount against the limit and the last command.
+    /// The answer to READ RECORD; then the next record, or after the last the amount against the limit and the
+    /// last command.
     fn take_record(
         &mut self,
         k: u32,
@@ -377,7 +378,7 @@ impl<'a> Session<'a> {
         }
     }
 
-    /// After the last record in EMV mode: missing objects, restrictions, method, choice, then GENERATE AC.
+    /// After the last record in EMV mode: missing objects, restrictions, CVM, choice, then GENERATE AC.
     fn ask_cryptogram(&mut self, limit: u64, command: &mut [u8]) -> Result<Next, Reason> {
         if !holds_all(self.store, &RECORD_DATA) {
             return Err(Reason::Missing);
@@ -415,7 +416,7 @@ impl<'a> Session<'a> {
         Ok(Next::Command(length))
     }
 
-    /// The answer to GENERATE AC; its type against the choice asked for gives the outcome.
+    /// The answer to GENERATE AC; its type against the choice requested gives the outcome.
     fn take_cryptogram(&mut self, asked: Choice, answer: &[u8]) -> Result<Next, Reason> {
         let body = reading::body(answer)?;
         reading::read(self.store, AnswerTo::Cryptogram, body).0?;
@@ -434,7 +435,7 @@ impl<'a> Session<'a> {
 
     /// The answer to COMPUTE CRYPTOGRAPHIC CHECKSUM; with counter and code the digits go into the track.
     ///
-    /// The track is looked at as it stood before, and of an answer to one without place for the digits nothing is kept.
+    /// The track is examined as it stood before, and of an answer to one without place for the digits nothing is kept.
     fn take_checksum(&mut self, answer: &[u8]) -> Result<Next, Reason> {
         let body = reading::body(answer)?;
         let mut store = *self.store;
@@ -456,7 +457,7 @@ impl<'a> Session<'a> {
     }
 }
 
-/// Writes a command with the values that a list asks for as its data: its length, or the reason that there is none.
+/// Writes a command with the values that a list requests as its data: its length, or the reason that there is none.
 fn put_command(
     store: &Store,
     header: [u8; 4],
@@ -473,7 +474,7 @@ fn put_command(
     Ok(5 + length + 1)
 }
 
-/// The outcome that 9F27, by its top two bits, gives on the choice asked for, or none.
+/// The outcome that 9F27, by its top two bits, gives on the choice requested, or none.
 pub(crate) fn decision(information: u8, asked: Choice) -> Option<Outcome> {
     match (information >> 6, asked) {
         (0b00, _) => Some(Outcome::Declined),
@@ -543,18 +544,19 @@ fn running(store: &Store) -> bool {
             .all(|&object| store::has(store, object))
 }
 
-/// Whether 95 is there and zero.
+/// Whether 95 is present and zero.
 fn results_zero(store: &Store) -> bool {
     store::get(store, Object::VerificationResults) == Some(&[0; 5])
 }
 
-/// Whether 82 is there and says that the card has no EMV mode: byte 2 b8 is clear.
+/// Whether 82 is present and says that the card has no EMV mode: byte 2 b8 is clear.
 pub(crate) fn without_emv_mode(store: &Store) -> bool {
     store::get_fixed(store, Object::InterchangeProfile)
         .is_some_and(|&[_, profile]| profile & 0x80 == 0)
 }
 
-/// The mode of a session that holds 82 and DF811B, or none where DF811B says that stripe mode is off and the card has no other.
+/// The mode of a session that holds 82 and DF811B, or none where DF811B says that stripe mode is off and the card
+/// has no other.
 fn mode(store: &Store) -> Option<Mode> {
     if !store::has(store, Object::InterchangeProfile) {
         return None;
@@ -566,7 +568,7 @@ fn mode(store: &Store) -> Option<Mode> {
     (configuration & 0x80 == 0).then_some(Mode::Stripe)
 }
 
-/// The number of records of the locator, if it is there and keeps the rules.
+/// The number of records of the AFL, if it is present and satisfies the rules.
 fn records(store: &Store) -> Option<u32> {
     afl::records(store::get(store, Object::FileLocator)?)
 }
@@ -582,7 +584,7 @@ const STRIPE_DATA: [Object; 4] = [
     Object::NatcTrack2,
 ];
 
-/// Whether all of these objects are there and not empty.
+/// Whether all of these objects are present and not empty.
 fn holds_all(store: &Store, objects: &[Object]) -> bool {
     objects
         .iter()

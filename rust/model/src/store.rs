@@ -7,7 +7,7 @@ use crate::dictionary::{Object, ROWS, STORE_SIZE};
 /// The bytes of a store.
 pub type Store = [u8; STORE_SIZE];
 
-/// The value of an object, or none if it is absent. The store keeps its ranges.
+/// The value of an object, or none if it is absent. The store is in its ranges.
 pub fn get(store: &Store, object: Object) -> Option<&[u8]> {
     let place = object.row().place;
     match store[place] {
@@ -31,14 +31,14 @@ pub fn has_value(store: &Store, object: Object) -> bool {
     store[object.row().place] > 1
 }
 
-/// Stores a value that fits its row. Bytes of the place behind the value stay.
+/// Stores a value that fits its row. Bytes of the place after the value stay.
 pub fn put(store: &mut Store, object: Object, value: &[u8]) {
     let place = object.row().place;
     store[place] = value.len() as u8 + 1;
     store[place + 1..][..value.len()].copy_from_slice(value);
 }
 
-/// Whether each object that is there fits its row, by length and digits.
+/// Whether each object that is present fits its row, by length and digits.
 pub fn fits(store: &Store) -> bool {
     ROWS.iter().all(|row| match store[row.place] {
         0 => true,

@@ -1,4 +1,5 @@
-//! One object at the front of some bytes, and the padding between objects (document 01, "Reading an answer"; document 02, Item 6).
+//! One object at the front of some bytes, and the padding between objects (document 01, "Reading an answer"; document
+//! 02, Item 6).
 
 /// A tag: its bytes as a number, and whether it marks a template.
 #[derive(Clone, Copy, Debug, PartialEq, Eq)]
@@ -20,7 +21,8 @@ impl Tag {
     }
 }
 
-/// Splits a tag off the front; none if it begins with 00, if its number begins with 80, or if it goes on past three bytes.
+/// Splits a tag off the front; none if it begins with 00, if its number begins with 80, or if it goes on past
+/// three bytes.
 pub fn split_tag(bytes: &[u8]) -> Option<(Tag, &[u8])> {
     let (&first, rest) = bytes.split_first()?;
     let mut number = u32::from(first);
@@ -46,7 +48,7 @@ pub fn split_tag(bytes: &[u8]) -> Option<(Tag, &[u8])> {
     Some((Tag { number, first }, rest))
 }
 
-/// Splits a length off the front: one byte below 80, or one or two bytes behind 81 or 82.
+/// Splits a length off the front: one byte below 80, or one or two bytes after 81 or 82.
 fn split_length(bytes: &[u8]) -> Option<(usize, &[u8])> {
     match *bytes {
         [n @ 0..=0x7F, ref rest @ ..] => Some((usize::from(n), rest)),
@@ -58,7 +60,7 @@ fn split_length(bytes: &[u8]) -> Option<(usize, &[u8])> {
     }
 }
 
-/// Splits one whole object off the front: its tag, its value, the bytes behind it.
+/// Splits one whole object off the front: its tag, its value, the bytes after it.
 pub fn split_object(bytes: &[u8]) -> Option<(Tag, &[u8], &[u8])> {
     let (tag, rest) = split_tag(bytes)?;
     let (length, rest) = split_length(rest)?;
@@ -66,14 +68,14 @@ pub fn split_object(bytes: &[u8]) -> Option<(Tag, &[u8], &[u8])> {
     Some((tag, value, rest))
 }
 
-/// The contents of a template from the next tag on: a run of 00 where that would start is passed over.
+/// The contents of a template from the next tag on: a run of 00 where that would start is skipped.
 pub fn skip_padding(contents: &[u8]) -> &[u8] {
     let padding = contents.iter().take_while(|&&byte| byte == 0x00).count();
     &contents[padding..]
 }
 
-/// How many objects the tree of a template's contents has, templates and what is in them; none if it is no tree of at most so many
-/// levels.
+/// How many objects the tree of a template's contents has, templates and what is in them; none if it is no tree of at
+/// most so many levels.
 ///
 /// Each object is one, a template is one and its contents, and padding is none.
 pub fn count_objects(contents: &[u8], levels: u32) -> Option<u32> {

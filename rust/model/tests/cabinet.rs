@@ -8,7 +8,7 @@ use model::cabinet::{self, MOST_CAP, NO_LEFT, STATE_SIZE};
 use model::dictionary::Object;
 use model::{COMMAND_SIZE, HEAD_SIZE, SESSION_SIZE};
 
-/// Bytes lent behind the state.
+/// Bytes provided after the state.
 const BEHIND: usize = 3;
 
 /// The start objects of the examples, but the amount.
@@ -32,7 +32,7 @@ const TERMINAL: [&str; 17] = [
     "9F6A0400000000",
 ];
 
-/// The card's answers of the examples: processing options, the record, the cryptogram of a type.
+/// The card's answers of the examples: GPO, the record, the cryptogram of a type.
 const OPTIONS: &str = "8006008008010100 9000";
 const RECORD: &str = "702D 5F2403491231 5A084761739001010010 8C039F3704 \
                       9F0D050000000000 9F0E050000000000 9F0F050000000000 9000";
@@ -70,7 +70,8 @@ fn terminal_broken_list(amount: u64) -> Vec<u8> {
     [terminal(amount), hex("9F38019F")].concat()
 }
 
-/// A cabinet with its buffer. Every call tests that bytes which must stay do stay, and that `left` tells what is left.
+/// A cabinet with its buffer. Every call tests that bytes which must stay do stay, and that `left` reports
+/// what is left.
 #[derive(Clone)]
 struct Cabinet {
     state: Vec<u8>,
@@ -181,7 +182,7 @@ impl Cabinet {
     }
 }
 
-/// The amounts by their places: behind the record, 8 bytes each, high byte first.
+/// The amounts by their places: after the record, 8 bytes each, high byte first.
 fn amounts(state: &[u8]) -> (u64, u64) {
     let number = |at: usize| {
         state[at..at + 8]
@@ -191,7 +192,7 @@ fn amounts(state: &[u8]) -> (u64, u64) {
     (number(SESSION_SIZE), number(SESSION_SIZE + 8))
 }
 
-/// A fresh session in the front of a state.
+/// A fresh session at the front of a state.
 fn is_fresh(state: &[u8]) -> bool {
     let mut fresh = [0xAA; SESSION_SIZE];
     assert_eq!(model::open(&mut fresh), 0);
@@ -367,7 +368,7 @@ fn other_ends() {
         assert_eq!(cabinet.amounts(), (1000, 0), "{answers:?}");
         cabinet.starts(1000);
     }
-    // Select next: the amount is above the limit in force.
+    // Select next: the amount is above the transaction limit.
     let mut cabinet = Cabinet::open(1000);
     cabinet.start(&terminal_with(
         400,

@@ -52,7 +52,7 @@ fn record(body: &str, reason: u8, count: u32, stored: &[&str]) {
     assert!(read(AnswerTo::Record, &hex(body)) == expected, "{body}");
 }
 
-/// The body of an answer to processing options gives this.
+/// The body of an answer to GPO gives this.
 fn options(body: &str, reason: u8, count: u32, stored: &[&str]) {
     let expected = (reason, count, with(stored));
     assert!(read(AnswerTo::Options, &hex(body)) == expected, "{body}");
@@ -117,7 +117,7 @@ fn the_whole_table() {
     assert_eq!(count(&|row| row.answers == Answers::All), 74);
 }
 
-/// The rows that were there before keep when their objects may come.
+/// The rows that were present before keep when their objects may come.
 #[test]
 fn answers_of_some_rows() {
     for row in &ROWS {
@@ -132,7 +132,7 @@ fn answers_of_some_rows() {
     }
 }
 
-/// Each row directly in each template, which is the outer one or stands in it, in each answer.
+/// Each row directly in each template, which is the outer one or is in it, in each answer.
 #[test]
 fn every_row_in_every_template() {
     for row in &ROWS {
@@ -419,7 +419,7 @@ fn every_row_at_start() {
         let object = object(row.tag);
         let value = match object {
             Object::TerminalType => vec![0x22],
-            // Its list would ask for nothing that is known.
+            // Its list would request nothing that is known.
             Object::Pdol => vec![],
             _ => value(row),
         };
@@ -444,7 +444,7 @@ fn every_row_at_start() {
     }
 }
 
-/// Lists fill from new rows that are there, and with zeros for those that no call sets.
+/// Lists fill from new rows that are present, and with zeros for those that no call sets.
 #[test]
 fn filling() {
     let data = |changes: &[&str], length: usize| {
@@ -471,7 +471,7 @@ fn filling() {
     );
 }
 
-/// A lent record may hold any row that fits, those of the session too, and lists fill from them.
+/// A record from the host may hold any row that fits, those of the session too, and lists fill from them.
 #[test]
 fn lent_records() {
     let waiting = || Host::reading(&[], "08010100");

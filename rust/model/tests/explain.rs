@@ -54,7 +54,7 @@ fn on_record() -> Host {
     host
 }
 
-/// A session that waits on GENERATE AC: 95 is 80 00 00 00 00, and online is asked for.
+/// A session that waits on GENERATE AC: 95 is 80 00 00 00 00, and online is requested.
 fn on_cryptogram() -> Host {
     let mut host = on_record();
     assert_eq!(host.record("5F24 03 301231 5A 08 4761739001010010"), 5);
@@ -91,7 +91,7 @@ fn end(host: &mut Host, outcome: u8, reason: u8) {
     host.session[5..HEAD_SIZE].fill(0);
 }
 
-/// The word for a session, whatever bytes stand behind its record.
+/// The word for a session, whatever bytes are after its record.
 fn said(host: &Host) -> u32 {
     let word = model::explain(&host.session);
     let mut longer = host.session.clone();
@@ -187,7 +187,7 @@ fn stages_in_order() {
 fn every_bit() {
     for number in 0..40u8 {
         let bit = 1u64 << (39 - number);
-        // Bits behind the first one, held as well.
+        // Bits after the first one, held as well.
         let behind = bit - 1;
         for (stage, kind, card, terminal, choice) in [
             (Stage::Denial, "22", "9F0E", "DF8121", DECLINE),
@@ -270,7 +270,7 @@ fn outcomes() {
     }
 }
 
-/// Only what a consulted stage needs must be there.
+/// Only what a consulted stage needs must be present.
 #[test]
 fn what_may_be_absent() {
     let denied = |absent: &str| ended(DECLINED, &["DF8121 8000000000", "9F27 00", absent]);
@@ -335,7 +335,7 @@ fn sessions_without_a_choice() {
     assert_eq!(said(&host), NO_CHOICE);
     assert_eq!(host.link_failed(), outcome(NOT_APPLICABLE, 3, 9));
     assert_eq!(said(&host), by_reason(9));
-    // Above the limit, and a type of cryptogram that was not asked for.
+    // Above the limit, and a type of cryptogram that was not requested.
     let mut host = Host::reading(&["DF8124 06 000000001233"], "08010100");
     assert_eq!(host.record(""), outcome(NOT_APPLICABLE, 4, 6));
     assert_eq!(said(&host), by_reason(6));
@@ -404,7 +404,7 @@ fn drawn_code(draw: &mut Draw) -> String {
     format!("{bits:010X}")
 }
 
-/// The choice that is worked out again is the session's own, on drawn stores that lack nothing.
+/// The choice that is recomputed is the session's own, on drawn stores that lack nothing.
 #[test]
 fn the_same_choice() {
     let mut draw = Draw(0x2545_F491);

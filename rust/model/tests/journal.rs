@@ -12,7 +12,7 @@ const TERMINAL: &str = "9A03251116 9C0100 9F0206000000001234 9F09020002 9F1A0200
     DF812306000000005000 DF812406000000010000 9F3303E0F8C8 DF812606000000002500
     DF812506000000020000 DF811B0100 9F6A0400000012";
 
-/// The bytes of a text, with zeros behind up to a size.
+/// The bytes of a text, with zeros after up to a size.
 fn padded(size: usize, text: &str) -> Vec<u8> {
     let mut bytes = hex(text);
     assert!(bytes.len() <= size);
@@ -90,7 +90,7 @@ fn wrong_replies() {
     assert_eq!(after(1, std::slice::from_ref(&byte_behind)), Unlike(2));
     assert_eq!(after(1, &[byte_behind, hex("02 00")]), Unlike(2));
     assert_eq!(after(2, &[hex("04"), hex("060309")]), Unlike(4));
-    // A call where a reply is due.
+    // A call where a reply is expected.
     assert_eq!(after(1, &[good_start()]), Unlike(2));
     assert_eq!(after(1, &[answer("02 0002 9000")]), Unlike(2));
     assert_eq!(after(1, &[hex("03")]), Unlike(2));
@@ -113,7 +113,7 @@ fn wrong_calls() {
     assert_eq!(after(2, &[good_start()]), Unlike(3));
     assert_eq!(after(2, &[purchase()[1].clone()]), Unlike(3));
     assert_eq!(after(2, &[hex("060302")]), Unlike(3));
-    // Lengths, and bytes behind them.
+    // Lengths, and bytes after them.
     let mut not_zero = answer("02 FFFF");
     not_zero[260] = 1;
     assert_eq!(after(2, &[not_zero, hex("060302")]), Unlike(3));
@@ -122,7 +122,7 @@ fn wrong_calls() {
     }
     let short = start(&format!("01 0076 {TERMINAL}"));
     assert_eq!(after(0, &[short]), Unlike(1));
-    // Behind the outcome.
+    // After the outcome.
     for record in [good_start(), answer("02 0002 9000"), hex("03"), hex("04")] {
         assert_eq!(after(8, &[record]), Unlike(9));
     }
@@ -132,7 +132,7 @@ fn wrong_calls() {
 
 #[test]
 fn full_bodies() {
-    let unknown = "51 82 0381"; // 4 bytes, and 897 behind them
+    let unknown = "51 82 0381"; // 4 bytes, and 897 after them
     let full = |length: &str| start(&format!("01 {length} {TERMINAL} {unknown}"));
     let reply = purchase()[1].clone();
     assert_eq!(after(0, &[full("0400"), reply.clone()]), Accepted(2));
@@ -168,7 +168,7 @@ fn cut_records_and_unknown_kinds() {
 
 #[test]
 fn longest_journal() {
-    // 130 commands and the outcome, each behind its call.
+    // 130 commands and the outcome, each after its call.
     let start = start_with(&[]);
     let record = hex("70 00 9000");
     let last = hex("70 14 5F2403491231 5A081234567890123456 8C029505 9000");
@@ -186,7 +186,7 @@ fn longest_journal() {
         let longer = [&journal[..], &record].concat();
         assert_eq!(check(&longer), Unlike(263));
     }
-    // Calls behind the end are refused, so nothing more is written.
+    // Calls after the end are refused, so nothing more is written.
     calls.extend([Call::Stop, Call::LinkFailed, Call::Start(&start)]);
     assert_eq!(write(&calls), journal);
 }

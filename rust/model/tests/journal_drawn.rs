@@ -1,4 +1,4 @@
-//! The journal checker on drawn calls: what the writer writes, whole, unfinished, cut and damaged.
+//! The journal checker on drawn calls: what the writer writes, whole, unfinished, truncated and damaged.
 
 mod common;
 
@@ -106,7 +106,8 @@ fn records(mut bytes: &[u8]) -> Vec<&[u8]> {
     records
 }
 
-/// The verdict by what the writer writes: records are right if they are the first of the journal of their own calls.
+/// The verdict by what the writer writes: records are conforming if they are the first of the journal of
+/// their own calls.
 fn by_writing(bytes: &[u8]) -> Verdict {
     let records = records(bytes);
     let right = |&count: &usize| {
@@ -125,7 +126,7 @@ fn by_writing(bytes: &[u8]) -> Verdict {
     }
 }
 
-/// The call of a record; any call for a record of another kind, or with wrong bytes behind its length.
+/// The call of a record; any call for a record of another kind, or with wrong bytes after its length.
 fn call(record: &[u8]) -> Call<'_> {
     match *record {
         [1, high, low, ref body @ ..] => Call::Start(front(high, low, body)),
@@ -210,7 +211,7 @@ fn a_changed_byte() {
         match verdict(&journal) {
             Unlike(number) if number == record + 1 => {}
             Cut(number) if number == record + 1 => assert_eq!(place, 0),
-            // The changed record is still a right call.
+            // The changed record is still a valid call.
             Unlike(number) | Cut(number) => {
                 assert!(record.is_multiple_of(2) && number > record + 1)
             }

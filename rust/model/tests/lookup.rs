@@ -95,7 +95,7 @@ fn examples() {
 #[test]
 fn what_ends_the_walk() {
     for (site, value) in [
-        // A template that is asked for, or stands in front; a tag and lengths that are refused; a cut object.
+        // A template that is requested, or is at the front; a tag and lengths that are refused; a truncated object.
         ("E1 00 50 01 41", "42"),
         ("E1 03 50 01 41", "42"),
         ("DF80 00 50 01 41", "42"),
@@ -106,7 +106,7 @@ fn what_ends_the_walk() {
         ("50 02 41", "42"),
         ("50", "42"),
         ("FF 50 01 41", "42"),
-        // Known and unknown objects of any length in front.
+        // Known and unknown objects of any length at the front.
         ("51 00 50 01 41", "41"),
         ("51 81 01 00 50 01 41", "41"),
         ("51 82 0001 00 50 82 0001 41", "41"),

@@ -141,7 +141,7 @@ fn records() {
     assert_eq!(host.get(Object::VersionCard), None);
 }
 
-/// The content of a record after which offline is asked for.
+/// The content of a record after which offline is requested.
 const OFFLINE: &str = "5F24 03 491231 00 5A 02 1234 00 8C 02 9505 0000 9F0F 05 0000000000";
 
 #[test]
@@ -155,7 +155,7 @@ fn cryptogram() {
     assert_eq!(read_to(AnswerTo::Cryptogram, body), (0, 4, stored));
     let mut host = Host::generating(&[], OFFLINE);
     assert_eq!(host.answer_hex(&format!("{body} 9000")), decided(0));
-    // The body of an 80 is a value: a byte behind the cryptogram is issuer data.
+    // The body of an 80 is a value: a byte after the cryptogram is issuer data.
     let mut host = Host::generating(&[], OFFLINE);
     let answer = "80 0C 40 0001 0102030405060708 00 9000";
     assert_eq!(host.answer_hex(answer), decided(0));
@@ -193,7 +193,7 @@ fn not_in_data_lists() {
     }
 }
 
-/// Padding in front of the object that is missing after the last record does not bring it.
+/// Padding before the object that is missing after the last record does not bring it.
 #[test]
 fn padding_brings_nothing() {
     let mut host = Host::reading(&[], "08010100");
@@ -284,7 +284,7 @@ fn found_behind_padding() {
     );
     let five = hex("E1 0A E1 08 E1 06 E1 04 E1 02 00 00");
     assert_eq!(find(&five, 0xE1), Found::Malformed);
-    // 65,535 bytes are looked through, and no more.
+    // 65,535 bytes are searched, and no more.
     let mut long = vec![0x00; 65_535];
     assert_eq!(find(&long, 0x50), Found::Absent);
     long[65_533] = 0x50;

@@ -43,7 +43,7 @@ fn refused(objects: &str, entries: &str, placements: &str) -> Refusal {
     written(objects, entries, placements).expect_err("refused")
 }
 
-/// The number of bytes in records and locator.
+/// The number of bytes in records and AFL.
 fn lengths(objects: &str, entries: &str, placements: &str) -> (usize, usize) {
     let (records, locator) = written(objects, entries, placements).expect("accepted");
     (records.len() / 2, locator)
@@ -163,9 +163,9 @@ fn objects_that_are_bad() {
         "C10100",               // unknown, private
         "DF812306000000000000", // the terminal's, private
         "9F0206000000000000",   // the terminal's
-        "9F0802000200",         // a byte behind
+        "9F0802000200",         // a byte after
         "00",
-        "9F080200", // cut short
+        "9F080200", // truncated
         "9F08",
         "9F",
         "57 80", // lengths that are refused
@@ -212,7 +212,7 @@ fn entries_by_themselves() {
         "08020100", "08FF0100", // last below first
         "08010101", "080101FF", // byte 4
         "08018100", "0801FF00", // 129 records and more
-        "08", "0801", "080101", // cut short
+        "08", "0801", "080101", // truncated
     ] {
         assert_eq!(refused(VERSION, entry, "0101"), Entry(1), "{entry}");
         let behind = format!("18010100 {entry}");
@@ -316,9 +316,9 @@ fn bad_records() {
         assert_eq!(refused(objects, entries, placements), Record(number));
     }
     assert_eq!(refused("", "08010100", "0101"), Record(1));
-    // The list is looked at before: its second object is not placed by half a placement.
+    // The list is examined before: its second object is not placed by half a placement.
     assert_eq!(refused(objects, entries, "0101 02"), List);
-    // A record of a good number that is too long, and one of a smaller or greater number that is not there.
+    // A record of a good number that is too long, and one of a smaller or greater number that is not present.
     let objects = format!("{} 5F340101 5F28020056", cdol("81FA", 250));
     assert_eq!(refused(&objects, entries, "0201 0202 0303"), Record(2));
     assert_eq!(refused(&objects, entries, "0201 0202 0003"), Record(0));

@@ -111,8 +111,8 @@ fn shortest(tag: u32, value: &[u8]) -> Vec<u8> {
     [tag, length, value].concat()
 }
 
-/// Whether the card may set an object in template 70: a record with it alone, of any length, is read, and the store holds it
-/// then.
+/// Whether the card may set an object in template 70: a record with it alone, of any length, is read, and the store
+/// holds it then.
 fn card_may_set(tag: u32, value: &[u8]) -> bool {
     let record = shortest(0x70, &shortest(tag, value));
     let mut store = EMPTY;
@@ -121,7 +121,7 @@ fn card_may_set(tag: u32, value: &[u8]) -> bool {
     result.is_ok() && object.is_some_and(|object| store::has(&store, object))
 }
 
-/// Whether some entries are a locator of document 01 that also keeps the rules of the card's side.
+/// Whether some entries are an AFL of document 01 that also satisfies the rules of the card's side.
 fn good_entries(entries: &[u8]) -> bool {
     let records: Option<Vec<Record>> = afl::records(entries)
         .and_then(|count| (1..=count).map(|k| afl::record(entries, k)).collect());
@@ -136,7 +136,7 @@ fn good_entries(entries: &[u8]) -> bool {
     })
 }
 
-/// The records by the rules: each rule looked at by itself, those of document 01 by the model's reader.
+/// The records by the rules: each rule examined by itself, those of document 01 by the model's reader.
 fn by_the_rules(input: &Input) -> Result<Vec<Vec<u8>>, Refusal> {
     let objects = objects_of(&input.objects).ok_or(List)?;
     let placements: Vec<(usize, usize)> = [&input.placements[..], &[0]]
@@ -206,7 +206,7 @@ fn answer(input: &Input) -> Answer {
     answer
 }
 
-/// Reads the written records in locator order from an empty store: it holds the list at the end, and nothing else.
+/// Reads the written records in AFL order from an empty store: it holds the list at the end, and nothing else.
 fn read_back(input: &Input, mut records: &[u8]) {
     let count = afl::records(&input.entries).expect("document 01 takes the locator");
     let mut store = EMPTY;
@@ -299,7 +299,7 @@ fn short_buffers() {
 
 #[test]
 fn every_entry() {
-    // Each value of the first three bytes that is near an edge, behind an entry of file 1 with records 3 to 5.
+    // Each value of the first three bytes that is near an edge, after an entry of file 1 with records 3 to 5.
     let mut good = 0;
     for lead in 0..=255 {
         for (first, last) in (0..=7).flat_map(|first| (0..=7).map(move |last| (first, last))) {
@@ -332,8 +332,8 @@ fn every_tag() {
             }
         }
     }
-    // 56, 57, 8C, 8E, 8F and 90 of any bytes; then 9F07 to 9F0F, 9F1F, 9F24, 9F32, 9F46 and 9F47; then 9F4A, 9F51, 9F5B and 9F69, of
-    // which 250 bytes are good, and no record has room for them; then 9F62 to 9F67, 9F6B and 9F6E.
+    // 56, 57, 8C, 8E, 8F and 90 of any bytes; then 9F07 to 9F0F, 9F1F, 9F24, 9F32, 9F46 and 9F47; then 9F4A, 9F51, 9F5B
+    // and 9F69, of which 250 bytes are good, and no record has room for them; then 9F62 to 9F67, 9F6B and 9F6E.
     let of_any_bytes =
         (77 + 20 + 251 + 241 + 1 + 249) + (5 + 55 + 1 + 3 + 249 + 3) + 4 * 250 + (6 + 20 + 28);
     // 5A and 9F20 of 0 or F, and empty three times; the dates, 5F28, 5F30, 5F34, 9F42 and 9F44 of 0.

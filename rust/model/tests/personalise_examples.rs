@@ -20,7 +20,7 @@ fn files(ending: &str) -> Vec<PathBuf> {
     files
 }
 
-/// The bytes behind a word of a file. `#` starts a comment.
+/// The bytes after a word of a file. `#` starts a comment.
 fn bytes(text: &str, word: &str) -> Vec<u8> {
     let lines = text.lines().filter_map(|line| line.split('#').next());
     let mut found = lines.filter_map(|line| line.trim().strip_prefix(word));
@@ -29,7 +29,7 @@ fn bytes(text: &str, word: &str) -> Vec<u8> {
     bytes
 }
 
-/// Bytes as text, a blank in front of each.
+/// Bytes as text, a blank before each.
 fn blanks(bytes: &[u8]) -> String {
     bytes.iter().map(|byte| format!(" {byte:02X}")).collect()
 }

@@ -1,4 +1,4 @@
-//! Phones and their own limit (document 02, Item 8): the limit in force, and the method of verification on the device.
+//! On-device CVM and its own limit (document 02, Item 8): the transaction limit, and the CVM on the device.
 
 mod common;
 
@@ -22,11 +22,11 @@ const PLAIN: [&str; 9] = [
     "DF811B 20",
 ];
 
-/// A list of one rule behind amounts of zero.
+/// A list of one rule after amounts of zero.
 const ONLINE_PIN_LIST: &str = "8E 00000000000000004200";
 const SIGNATURE_LIST: &str = "8E 00000000000000005E00";
 
-/// 9F34, the bytes 1 and 3 of the bits added to 95, and the method's number.
+/// 9F34, the bytes 1 and 3 of the bits added to 95, and the CVM's number.
 fn selected(changes: &[&str]) -> (String, u8, u8, u32) {
     let mut store: Store = [0; STORE_SIZE];
     change(&mut store, &PLAIN);
@@ -62,7 +62,7 @@ fn methods() {
     assert_eq!(selected(&other_bits), gives("5E0000", 0x00, SIGNATURE));
 }
 
-/// One of the two bits alone is no phone; all other bits count for nothing.
+/// One of the two bits alone is no on-device CVM; all other bits count for nothing.
 #[test]
 fn both_bits() {
     for profile in 0..=255u8 {
@@ -83,12 +83,12 @@ fn both_bits() {
     }
 }
 
-/// A session past the processing options of this profile, with one record to come.
+/// A session past GPO of this AIP, with one record to come.
 fn reading(profile: &str, changes: &[&str]) -> Host {
     Host::reading_card(changes, profile, "08010100")
 }
 
-/// Content of a record that allows the purchase; its CDOL1 asks for 9F34 and 95.
+/// Content of a record that allows the purchase; its CDOL1 requests 9F34 and 95.
 const RECORD: &str = "5F24 03 491231 5A 02 1234 8C 05 9F3403 9505";
 
 /// What the answer to the last record gives.
@@ -151,7 +151,7 @@ fn the_record_holds_the_limit() {
     }
     let host = reading("1280", &LIMITS);
     assert_eq!(host.session[6..HEAD_SIZE], hex("000000E8D4A50FFF"));
-    // A fresh session, and one that ends at the processing options.
+    // A fresh session, and one that ends at GPO.
     assert_eq!(Host::open().limit(), 0);
     let mut host = Host::started(&LIMITS);
     assert_eq!(
@@ -166,7 +166,7 @@ fn in_range(host: &Host) -> bool {
     model::stop(&mut session, &mut [0; 261]) != refused(25)
 }
 
-/// The sessions of every phase, with a phone where there is a card.
+/// The sessions of every phase, with on-device CVM where there is a card.
 fn phases() -> [Host; 5] {
     let generating = || {
         let mut host = reading("1280", &LIMITS);
@@ -209,7 +209,7 @@ fn another_limit() {
     }
 }
 
-/// The limit is right by the store as it is, and two limits that are the same are one.
+/// The limit is correct by the store as it is, and two limits that are the same are one.
 #[test]
 fn another_store() {
     for phase in [2, 3] {
@@ -240,7 +240,7 @@ fn another_store() {
 
 #[test]
 fn what_the_session_says() {
-    // Above the limit for verification, and not: 9F34 and 95 in the command, and the method in every end.
+    // Above the limit for verification, and not: 9F34 and 95 in the command, and the CVM in every end.
     for (required, results, method) in [
         ("000000001233", "010002", CONFIRMATION_CODE),
         ("000000001234", "3F0002", NO_CVM),
@@ -270,7 +270,7 @@ fn what_the_session_says() {
         }
         assert_eq!(generating().link_failed(), outcome(method, 3, 9));
         assert_eq!(generating().stop(), outcome(method, 3, 10));
-        // A broken CDOL1 comes behind the choice of the method.
+        // A broken CDOL1 comes after the choice of the CVM.
         let mut host = reading("1280", &["DF811B 01 20", &required]);
         let word = host.record("5F24 03 491231 5A 02 1234 8C 01 95");
         assert_eq!(word, outcome(method, 3, 7));
@@ -278,7 +278,7 @@ fn what_the_session_says() {
     }
 }
 
-/// The method of a phone is held, and told as held.
+/// The on-device CVM is held, and reported as held.
 #[test]
 fn held_method() {
     let mut host = Host::generating(&[], "5F24 03 491231 5A 02 1234 8C 02 9505");
@@ -301,7 +301,7 @@ fn objects_from_the_card() {
         assert_eq!(limit, Some(&hex(NINES)[..]));
         assert_eq!(host.get(Object::KernelConfiguration), Some(&[0x20][..]));
     }
-    // A data object list fills from them.
+    // A DOL fills from them.
     let record = RECORD.replace("8C 05 9F3403 9505", "8C 08 DF811B01 DF812506");
     let mut host = reading("1280", &LIMITS);
     assert!(is_command(host.record(&record)));

@@ -6,7 +6,7 @@ fn tags() -> Vec<u32> {
     ROWS.iter().map(|row| row.tag).collect()
 }
 
-/// The place of each wanted tag, none where it is not there, and never more looks than `most`.
+/// The place of each tag searched for, none where it is not present, and never more probes than `most`.
 fn finds(tags: &[u32], wanted: &[u32], places: &[Option<usize>], most: usize) {
     for (&tag, &place) in wanted.iter().zip(places) {
         let said = search(tags, tag);
@@ -53,7 +53,7 @@ fn same_answers() {
     }
 }
 
-/// At most k looks in fewer than 2 to the k tags, for every length to 300.
+/// At most k probes in fewer than 2 to the k tags, for every length to 300.
 #[test]
 fn few_looks() {
     let tags: Vec<u32> = (0..300).map(|n| 2 * n + 1).collect();

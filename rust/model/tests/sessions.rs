@@ -11,7 +11,7 @@ use model::{HEAD_SIZE, NO_COUNT, SESSION_SIZE};
 
 /// Content of a record that allows the purchase.
 const GOOD: &str = "5F24 03 491231 5A 08 1234567890123456 8C 02 9505";
-/// The same with an online code of zeros, so that a terminal of type 22 asks for offline.
+/// The same with an online code of zeros, so that a terminal of type 22 requests offline.
 const OFFLINE: &str = "5F24 03 491231 5A 08 1234567890123456 8C 02 9505 9F0F 05 0000000000";
 
 fn cryptogram(information: &str) -> Vec<u8> {
@@ -365,7 +365,7 @@ fn record_answers() {
     assert_eq!(answer("70 05 9F08 02 0002 9000"), (ended(4), false));
     // Stored whole or not at all.
     assert_eq!(answer("70 08 9F08 02 0002 95 01 00 9000"), (ended(3), true));
-    // A malformed object behind a not allowed one decides.
+    // A malformed object after a not allowed one decides.
     assert_eq!(answer("70 05 95 01 00 57 01 9000"), (ended(2), true));
     // Empty, then a value; a value, then again.
     assert_eq!(answer("70 06 57 00 57 02 1234 9000"), (ended(4), false));
@@ -432,7 +432,8 @@ fn after_the_last_record() {
     assert_eq!(host.buffer[260], 0);
 }
 
-/// Transaction date, expiration date, effective date if there is one, and whether the card is expired and not yet effective.
+/// Transaction date, expiration date, effective date if there is one, and whether the card is expired and not
+/// yet effective.
 const DATES: [(&str, &str, &str, bool, bool); 12] = [
     ("251116", "301231", "990101", false, false),
     ("251116", "301231", "490101", false, true),
@@ -738,7 +739,7 @@ fn ranges() {
     for object in [Object::ExpirationDate, Object::Pan, Object::Cdol1] {
         assert!(!in_range(&with(&generating, &[(place(object), 0)])));
     }
-    // 9F34 is needed on GENERATE AC alone, and may be there before; it need not be the method's.
+    // 9F34 is needed on GENERATE AC alone, and may be present before; it need not be the CVM's.
     assert!(!in_range(&with(
         &generating,
         &[(place(Object::CvmResults), 0)]

@@ -1,4 +1,5 @@
-//! Old magnetic stripe cards (document 02, Item 9): the digits in the track, the mode, the checksum command and its answer.
+//! Old magnetic stripe cards (document 02, Item 9): the digits in the track, the mode, the checksum command
+//! and its answer.
 
 mod common;
 
@@ -112,7 +113,7 @@ fn places_of_the_masks() {
     assert_eq!(sound(TRACK, "0000 1FFF FF"), Err(Unsound::FewPlaces));
     assert_eq!(sound(TRACK, "0000 0000 00"), Ok(()));
     assert_eq!(sound(TRACK, "0000 0000 01"), Err(Unsound::FewPlaces));
-    // Every place to the thirteenth is one, and none behind it.
+    // Every place to the thirteenth is one, and none after it.
     for place in 1..=16 {
         let mask = format!("{:04X}", 1 << (place - 1));
         let good = place <= 13;
@@ -124,14 +125,14 @@ fn places_of_the_masks() {
 #[test]
 fn where_the_digits_stand() {
     for (track, digits) in [
-        // No D; a D with nothing, six, seven and eight nibbles behind it.
+        // No D; a D with nothing, six, seven and eight nibbles after it.
         ("5413251210100F", 0),
         ("541D", 0),
         ("541D251210", 0),
         ("5D2512101F", 0),
         ("54D2512101", 0),
         ("5D25121010", 1),
-        // An F in front of the D, among the seven, and right behind them.
+        // An F before the D, among the seven, and immediately after them.
         ("5F1D25121010", 1),
         ("F1D251210123", 2),
         ("54D25F210123", 0),
@@ -166,7 +167,7 @@ fn where_the_digits_stand() {
     assert_eq!(sound("5413FF", "0000 0000 00"), Err(Unsound::NoSeparator));
 }
 
-/// Places that no mask has keep their nibbles, letters and what stands behind the first F too.
+/// Places that no mask has keep their nibbles, letters and what is after the first F too.
 #[test]
 fn what_stays() {
     let track = "541FD2D12101ABCDEFD123";
@@ -208,7 +209,7 @@ fn masks_that_overlap() {
     }
 }
 
-/// The digits of a number, the lowest first, with zeros behind them.
+/// The digits of a number, the lowest first, with zeros after them.
 fn lowest_first(number: &str) -> impl Iterator<Item = u8> + '_ {
     let digits = number.bytes().rev().map(|digit| digit - b'0');
     digits.chain(std::iter::repeat(0))
@@ -334,7 +335,7 @@ const COMMAND: &str = "802A8E80 04 00003456 00";
 const ONLINE: u32 = 1;
 const DECLINED: u32 = 2;
 
-/// An outcome of stripe mode: no method was chosen.
+/// An outcome of stripe mode: no CVM was chosen.
 fn decision(kind: u32) -> u32 {
     outcome(NOT_APPLICABLE, kind, 0)
 }
@@ -457,7 +458,7 @@ fn reasons_of_the_answer() {
             ("77 0D 9F36 02 002A 70 06 9F65 02 1F35 00 9000", 3),
             ("77 0D 9F36 02 002A 70 06 9F6B 03 1D35FF 9000", 3),
             ("77 10 9F36 02 002A 9F61 02 1F35 9F67 01 04 95 00 9000", 3),
-            // A malformed object behind one that is not allowed.
+            // A malformed object after one that is not allowed.
             ("77 05 9F27 01 80 9F 9000", 2),
         ] {
             let before = waiting(data);
@@ -630,7 +631,7 @@ fn the_mode() {
     }
 }
 
-/// What is asked for after the last record, in this order: the amount, the four objects, the list.
+/// What is requested after the last record, in this order: the amount, the four objects, the list.
 #[test]
 fn after_the_last_record() {
     let all = DATA.concat();
@@ -664,7 +665,7 @@ fn after_the_last_record() {
     assert_eq!(after_record(&[], "0080", &all).0, ended(4));
     let emv = "5F24 03 491231 5A 02 1234 8C 02 9505";
     assert_eq!(after_record(&[], "0080", emv).0, 11);
-    // The limit of phones.
+    // The limit of on-device CVM.
     for (configuration, word) in [("20", 10), ("00", outcome(NOT_APPLICABLE, 4, 6))] {
         let configuration = format!("DF811B 01 {configuration}");
         let changes = ["9F02 06 000000080000", &configuration];
@@ -717,7 +718,7 @@ fn the_list_for_the_command() {
     }
 }
 
-/// All records of the locator are read, and the count is two more than their number.
+/// All records of the AFL are read, and the count is two more than their number.
 #[test]
 fn longest_session() {
     let mut host = started(&[]);
@@ -776,7 +777,7 @@ fn ranges_on_the_checksum() {
         }
         session
     };
-    // The head: version, details, count, method and limit.
+    // The head: version, details, count, CVM and limit.
     for at in 0..HEAD_SIZE {
         for value in 0..=255 {
             let session = with(&[(at, value)]);
@@ -788,7 +789,7 @@ fn ranges_on_the_checksum() {
             }
         }
     }
-    // The store: what must be there, what must not, and what may.
+    // The store: what must be present, what must not, and what may.
     let absent = |object: Object| with(&[(place(object), 0)]);
     for object in Object::ALL {
         let needed = REQUIRED_AT_START.contains(&object)
@@ -850,7 +851,8 @@ fn ranges_on_the_checksum() {
     assert!(in_range(&host.session));
 }
 
-/// The code is absent in every running phase, and 9F6A is needed; on a record the mode is EMV or stripe mode is not off.
+/// The code is absent in every running phase, and 9F6A is needed; on a record the mode is EMV or stripe
+/// mode is not off.
 #[test]
 fn ranges_of_the_other_phases() {
     let emv = "5F24 03 491231 5A 02 1234 8C 02 9505";
@@ -916,7 +918,7 @@ fn explanations() {
     let mut host = started(&["DF811B 01 80"]);
     assert_eq!(host.answer_hex("80 06 0000 08010100 9000"), ended(11));
     assert_eq!(model::explain(&host.session), 0x0003_000B);
-    // Of an ended record 82 alone is looked at, whatever the outcome and the rest.
+    // Of an ended record 82 alone is examined, whatever the outcome and the rest.
     for outcome in 0..=2 {
         for changes in [
             &["82 007F"][..],
@@ -932,7 +934,7 @@ fn explanations() {
         for (changes, why) in [
             (&["82"][..], refused(25)),
             (&["82 0080"], refused(25)),
-            // Without 82, or with EMV mode: the choice by the result bits, and 9F27.
+            // Without 82, or with EMV mode: the choice by the TVR, and 9F27.
             (&["82", "95 8000000000", "9F27 80"], 0x0006_3100),
             (&["82 0080", "95 8000000000", "9F27 80"], 0x0006_3100),
             (&["82 0080", "95 0000000000", "9F27 40"], 0x0006_30FF),

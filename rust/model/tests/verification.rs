@@ -1,4 +1,4 @@
-//! Cardholder verification: the choice of the method, its place among the steps, and the method in every end.
+//! Cardholder verification: the choice of the CVM, its place among the steps, and the CVM in every end.
 
 mod common;
 
@@ -34,7 +34,7 @@ fn changed(changes: &[&str]) -> Store {
     store
 }
 
-/// 9F34, the bytes 1 and 3 of the bits added to 95, and the method's number.
+/// 9F34, the bytes 1 and 3 of the bits added to 95, and the CVM's number.
 fn selected(changes: &[&str]) -> (String, u8, u8, u32) {
     let Selection {
         results,
@@ -46,7 +46,7 @@ fn selected(changes: &[&str]) -> (String, u8, u8, u32) {
     (results, bits[0], bits[2], method as u32)
 }
 
-/// Selects by a list of these rules behind amounts of zero.
+/// Selects by a list of these rules after amounts of zero.
 fn by_rules(rules: &str, changes: &[&str]) -> (String, u8, u8, u32) {
     let list = format!("8E {Z}{rules}");
     selected(&[&[list.as_str()], changes].concat())
@@ -255,7 +255,7 @@ fn ways_through_a_list() {
     assert_eq!(by_rules("0400", &[]), gives("3F0001", 0x80, NO_CVM));
     assert_eq!(by_rules("4600", &[]), gives("3F0001", 0xC0, NO_CVM));
     assert_eq!(by_rules("0600", &[]), gives("3F0001", 0xC0, NO_CVM));
-    // With b7 clear the rules behind do not matter.
+    // With b7 clear the rules after do not matter.
     assert_eq!(by_rules("00001F00", &[]), gives("000001", 0x80, NO_CVM));
     assert_eq!(by_rules("04001F00", &[]), gives("3F0001", 0x80, NO_CVM));
     assert_eq!(by_rules("06001F00", &[]), gives("3F0001", 0xC0, NO_CVM));
@@ -269,12 +269,12 @@ fn ways_through_a_list() {
     assert_eq!(by_rules("46000000", &[]), gives("000001", 0xC0, NO_CVM));
     assert_eq!(by_rules("46001F05", &[]), gives("3F0001", 0xC0, NO_CVM));
     assert_eq!(by_rules("7F005F00", &[]), gives("5F0002", 0x40, NO_CVM));
-    // Rules behind one that succeeds do not matter.
+    // Rules after one that succeeds do not matter.
     assert_eq!(
         by_rules("1E0046000000", &[]),
         gives("1E0000", 0x00, SIGNATURE)
     );
-    // One byte more changes nothing.
+    // One more byte changes nothing.
     for last in 0..=255u8 {
         for rules in ["4400", "46001F00", "1E05", "5E00", "4000"] {
             let odd = format!("{rules}{last:02X}");
@@ -317,7 +317,7 @@ fn after_the_restrictions_and_before_the_choice() {
     assert_eq!(host.buffer[..14], hex("80AE8000 08 420000 8040048000 00"));
     assert_eq!(host.get(Object::CvmResults), Some(&hex("420000")[..]));
     assert_eq!(host.head(), [5, 3, 0x80, 0, 3, 2]);
-    // The choice sees the bits of the method: each alone in a denial code, and in an online code.
+    // The choice sees the bits of the CVM: each alone in a denial code, and in an online code.
     for (rules, bits) in [
         ("", "2000000000"),
         ("1E05", "0000800000"),
@@ -336,7 +336,7 @@ fn after_the_restrictions_and_before_the_choice() {
 
 #[test]
 fn before_the_method() {
-    // Reason 6 comes first, then 4: no method, no 9F34, and 95 stays zero.
+    // Reason 6 comes first, then 4: no CVM, no 9F34, and 95 stays zero.
     let mut host = before_record(&["DF8124 06 000000001233"]);
     assert_eq!(
         host.record(&record("4200", "9505")),
@@ -369,7 +369,7 @@ fn broken_list_keeps_the_method() {
     }
 }
 
-/// A 9F34 that is there before, as no start leaves one, is written over.
+/// A 9F34 that is present before, as no start leaves one, is written over.
 #[test]
 fn earlier_results_are_written_over() {
     let mut host = before_record(&[]);
@@ -414,7 +414,7 @@ fn method_in_every_end() {
             outcome(number, 0, 0)
         );
     }
-    // Not applicable before: at the start, on the processing options and on a record.
+    // Not applicable before: at the start, on GPO and on a record.
     let mut host = Host::open();
     let broken = start_with(&["9F38 01 95"]);
     assert_eq!(host.start(&broken), outcome(NOT_APPLICABLE, 3, 7));
@@ -440,7 +440,7 @@ fn method_in_every_end() {
     }
 }
 
-/// The method told is the one that the record holds, and not read off 9F34.
+/// The CVM reported is the one that the record holds, and not read off 9F34.
 #[test]
 fn held_method_is_told() {
     let mut host = generating(&[], &record("1E00", "9505"));
@@ -450,7 +450,8 @@ fn held_method_is_told() {
 
 #[test]
 fn objects_from_the_card() {
-    // 8E under 10 bytes, 9F42 with a letter, 9F34 and 9F33 are reason 3; DF8126 is skipped. A list of 250 bytes fills an answer.
+    // 8E under 10 bytes, 9F42 with a letter, 9F34 and 9F33 are reason 3; DF8126 is skipped. A list of 250 bytes
+    // fills an answer.
     for (object, reason) in [
         (format!("8E 09 {Z}1F"), 3),
         ("8E 00".to_string(), 3),

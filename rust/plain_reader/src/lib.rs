@@ -1,8 +1,9 @@
 //! A plain reader of a card's answer, written to measure the library's two readers against (document 02, Item 10).
 //!
-//! It goes through the body once and keeps the open templates in an array. The objects to be stored are listed on the way and
-//! stored at the end, so that an answer is stored whole or not at all without a copy of the store. The known tags and their places
-//! are the model's; all else is written apart from it, so that the comparison of the readers has one implementation more.
+//! It goes through the body once and keeps the open templates in an array. The objects to be stored are listed on the
+//! way and stored at the end, so that an answer is stored whole or not at all without a copy of the store. The known
+//! tags and their places are the model's; all else is written apart from it, so that the comparison of the readers has
+//! one implementation more.
 
 #![no_std]
 #![forbid(unsafe_code)]
@@ -33,7 +34,7 @@ enum AnswerTo {
     Checksum,
 }
 
-/// Reads an answer, status bytes included, to processing options (0), a record of this file (1), the cryptogram (2) or the
+/// Reads an answer, status bytes included, to GPO (0), a record of this file (1), the cryptogram (2) or the
 /// checksum (3).
 ///
 /// Gives the reason in bits 16 to 23 and the object count below, or [`NOT_READ`].
@@ -107,7 +108,7 @@ fn read_body(store: &mut Store, to: AnswerTo, body: &[u8]) -> u32 {
     word(0, count)
 }
 
-/// Reads a body of tag 80, whose values stand one behind the other; gives the reason.
+/// Reads a body of tag 80, whose values are concatenated; gives the reason.
 fn read_values(store: &mut Store, to: AnswerTo, body: &[u8]) -> u32 {
     match *body {
         [a, b, ref locator @ ..] if to == AnswerTo::Options => {
@@ -138,7 +139,7 @@ fn read_values(store: &mut Store, to: AnswerTo, body: &[u8]) -> u32 {
     }
 }
 
-/// Stores values that fit their rows, or none where one is there and not empty; gives the reason.
+/// Stores values that fit their rows, or none where one is present and not empty; gives the reason.
 fn put_all(store: &mut Store, values: &[(Object, &[u8])]) -> u32 {
     if values
         .iter()
@@ -176,7 +177,7 @@ impl Tag {
     }
 }
 
-/// Splits an object off the front: its tag, its value and the bytes behind; none if there is no whole one.
+/// Splits an object off the front: its tag, its value and the bytes after; none if there is no whole one.
 #[inline]
 fn split_object(bytes: &[u8]) -> Option<(Tag, &[u8], &[u8])> {
     let (&first, mut rest) = bytes.split_first()?;
@@ -229,7 +230,7 @@ struct Walk<'a> {
 impl Walk<'_> {
     /// Goes through the objects of the outer template; none if the bytes are malformed.
     ///
-    /// Behind an object that is not allowed no more are taken, but all are counted.
+    /// After an object that is not allowed no more are taken, but all are counted.
     #[inline(never)]
     fn objects(&mut self, outer: u32, contents: &[u8]) -> Option<()> {
         // The templates around the innermost open one, and what is left of each.

@@ -1,4 +1,5 @@
-//! The verdict of the proved library on a session's journal, for tests: the crate `test_journal` of the repository's root.
+//! The verdict of the proved library on a session's journal, for tests: the crate `test_journal` of the
+//! repository's root.
 
 #![no_std]
 #![allow(unsafe_code)]
@@ -13,16 +14,16 @@ extern "C" {
 
 /// Judges a journal that is fed in parts: the first bytes, so many, then parts of one size, 0 for all that is left.
 ///
-/// Gives the record's number in the low 16 bits, and above it 0 for accepted, 1 for unlike and 2 for cut.
+/// Gives the record's number in the low 16 bits, and above it 0 for accepted, 1 for a mismatch and 2 for truncated.
 pub fn judge(journal: &[u8], first: usize, part: usize) -> u32 {
     // SAFETY: pointer and length are those of one slice.
     unsafe { emv_test_journal(journal.as_ptr(), journal.len(), first, part) }
 }
 
-/// Writes the one right record in the place of the first unlike one in front of `out`, and gives its size.
+/// Writes the one conforming record in place of the first mismatching one at the front of `out`, and gives its size.
 ///
 /// Size 0 where there is none, and where `out` is too short for it.
 pub fn wanted(journal: &[u8], out: &mut [u8]) -> usize {
-    // SAFETY: each pointer and length are those of one slice; the one lent for writing overlaps nothing.
+    // SAFETY: each pointer and length are those of one slice; the one borrowed for writing overlaps nothing.
     unsafe { emv_test_wanted(journal.as_ptr(), journal.len(), out.as_mut_ptr(), out.len()) }
 }

@@ -1,5 +1,5 @@
 //! One reading of a card's answer by each of the proved library's two readers, for tests: the crates `test_reading` and
-//! `test_reading_flat` of the repository's root. [`stack`] tells how deep a call's stack is.
+//! `test_reading_flat` of the repository's root. [`stack`] reports how deep a call's stack is.
 
 #![no_std]
 #![allow(unsafe_code)]
@@ -28,12 +28,12 @@ extern "C" {
     ) -> u32;
 }
 
-/// Reads an answer, status bytes included, to processing options (0), a record of this file (1), the cryptogram (2) or the
-/// checksum (3), with the reader that calls itself.
+/// Reads an answer, status bytes included, to GPO (0), a record of this file (1), the cryptogram (2) or the checksum
+/// (3), with the reader that calls itself.
 ///
 /// Gives the reason in bits 16 to 23 and the object count below, or [`NOT_READ`].
 pub fn read(store: &mut [u8], awaited: u32, file: u8, card: &[u8]) -> u32 {
-    // SAFETY: each pointer and length are those of one slice; the one lent for writing overlaps nothing.
+    // SAFETY: each pointer and length are those of one slice; the one borrowed for writing overlaps nothing.
     unsafe {
         emv_test_read(
             store.as_mut_ptr(),

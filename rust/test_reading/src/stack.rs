@@ -11,8 +11,8 @@ const PAINT: u8 = 0xA5;
 
 /// How many bytes of stack a call uses, its own return address among them; at most 65,536 are seen.
 ///
-/// The call must not be the first one to a function that is looked up when it is first called: link with symbols bound at start,
-/// as is usual for Rust programs.
+/// The call must not be the first one to a function that is looked up when it is first called: link with symbols bound
+/// at start, as is usual for Rust programs.
 pub fn depth(call: impl FnOnce()) -> usize {
     // Through pointers, so that each has a frame of its own, at the same place.
     let low = black_box(paint as fn() -> usize)();
@@ -34,8 +34,8 @@ fn paint() -> usize {
 fn used(low: usize) -> usize {
     let is_painted = |at: usize| {
         let byte = ptr::with_exposed_provenance::<u8>(low + at);
-        // SAFETY: the area was this thread's stack a moment ago, so it can be read, and nobody writes to it meanwhile. What is
-        // read is held to the paint and counted, no more.
+        // SAFETY: the area was this thread's stack a moment ago, so it can be read, and nobody writes to it meanwhile.
+        // What is read is compared with the paint and counted, no more.
         unsafe { byte.read_volatile() == PAINT }
     };
     DEPTH - (0..DEPTH).take_while(|&at| is_painted(at)).count()

@@ -10,7 +10,7 @@ use std::env;
 use std::error::Error;
 use tripodmoon::{reason_text, refusal_text, Reply, Session, COMMAND_SIZE};
 
-/// A card of one file: each answer is an outer tag and what stands in it.
+/// A card of one file: each answer is an outer tag and what is in it.
 struct Card {
     options: (u8, &'static str),
     records: &'static [(u8, &'static str)],

@@ -1,7 +1,8 @@
-//! The vending cabinet: one session at a time, and a cap on what is approved offline since opening. Feature `cabinet`; the
-//! library is `libcabinet.a`, an archive of its own.
+//! The vending cabinet: one session at a time, and a cap on what is approved offline since opening. Feature `cabinet`;
+//! the library is `libcabinet.a`, an archive of its own.
 //!
-//! A [`Cabinet`] owns the bytes of one state. The start objects come out of two lists, the site's and the maker's defaults:
+//! A [`Cabinet`] owns the bytes of one state. The start objects come out of two lists, the site's and the
+//! maker's defaults:
 //!
 //! ```
 //! use tripodmoon::cabinet::{find, lookup, Cabinet, Found};
@@ -23,13 +24,13 @@
 //! assert_eq!(find(&site, &defaults, 0x9F35), Some(Found::Nowhere));
 //! ```
 //!
-//! A refused call changes neither state nor buffer. An offline approval spends what the start set aside; every other end gives
-//! it back. So approvals together never exceed the cap.
+//! A refused call changes neither state nor buffer. An offline approval spends what the start set aside; every other
+//! end gives it back. So approvals together never exceed the cap.
 
 use crate::{reply, Reply, Session, SESSION_SIZE};
 use core::fmt;
 
-/// Bytes of the two amounts behind the record: what is left, and what is set aside.
+/// Bytes of the two amounts after the record: what is left, and what is set aside.
 pub const AMOUNTS_SIZE: usize = 16;
 
 /// Bytes of a cabinet's state.
@@ -108,13 +109,13 @@ pub mod calls {
 
     /// Writes a fresh session with all of the cap left: 0, or refusal 25 or 31.
     pub fn open(state: &mut [u8], cap: u64) -> u32 {
-        // SAFETY: pointer and length are those of one slice lent for writing.
+        // SAFETY: pointer and length are those of one slice borrowed for writing.
         unsafe { cabinet_open(state.as_mut_ptr(), state.len(), cap) }
     }
 
     /// Starts a session, after an end a fresh one.
     pub fn start(state: &mut [u8], terminal: &[u8], command: &mut [u8]) -> u32 {
-        // SAFETY: each pointer and length are those of one slice; those lent for writing overlap nothing.
+        // SAFETY: each pointer and length are those of one slice; those borrowed for writing overlap nothing.
         unsafe {
             cabinet_start(
                 state.as_mut_ptr(),
@@ -129,7 +130,7 @@ pub mod calls {
 
     /// Takes a card's answer with its two status bytes.
     pub fn answer(state: &mut [u8], card: &[u8], command: &mut [u8]) -> u32 {
-        // SAFETY: each pointer and length are those of one slice; those lent for writing overlap nothing.
+        // SAFETY: each pointer and length are those of one slice; those borrowed for writing overlap nothing.
         unsafe {
             cabinet_answer(
                 state.as_mut_ptr(),
@@ -144,7 +145,8 @@ pub mod calls {
 
     /// Ends a running session because the link failed.
     pub fn link_failed(state: &mut [u8], command: &mut [u8]) -> u32 {
-        // SAFETY: each pointer and length are those of one slice; both are lent for writing, so they do not overlap.
+        // SAFETY: each pointer and length are those of one slice; both are borrowed for writing, so they do
+        // not overlap.
         unsafe {
             cabinet_link_failed(
                 state.as_mut_ptr(),
@@ -157,7 +159,8 @@ pub mod calls {
 
     /// Ends a running session because the host stops it.
     pub fn stop(state: &mut [u8], command: &mut [u8]) -> u32 {
-        // SAFETY: each pointer and length are those of one slice; both are lent for writing, so they do not overlap.
+        // SAFETY: each pointer and length are those of one slice; both are borrowed for writing, so they do
+        // not overlap.
         unsafe {
             cabinet_stop(
                 state.as_mut_ptr(),
@@ -174,9 +177,9 @@ pub mod calls {
         unsafe { cabinet_left(state.as_ptr(), state.len()) }
     }
 
-    /// The value of a start object: its start, counted over the site's bytes and then the defaults', in bits 32 to 63, its
-    /// source in bits 16 and 17 and its length in bits 0 to 15; or [`TOO_MANY`]. The source is [`NOWHERE`], [`SITE`] or
-    /// [`DEFAULTS`].
+    /// The value of a start object: its start, counted over the site's bytes and then the defaults', in bits 32 to 63,
+    /// its source in bits 16 and 17 and its length in bits 0 to 15; or [`TOO_MANY`]. The source is [`NOWHERE`],
+    /// [`SITE`] or [`DEFAULTS`].
     pub fn find(site: &[u8], defaults: &[u8], tag: u32) -> u64 {
         // SAFETY: each pointer and length are those of one slice, which the call only reads.
         unsafe {
@@ -202,8 +205,8 @@ pub enum Found<'a> {
     Nowhere,
 }
 
-/// The value of a start object and the list that has it: the site's if the site has one, an empty one too, else that of the
-/// defaults. None where both have 2 to the 32 bytes or more together, which are not looked at.
+/// The value of a start object and the list that has it: the site's if the site has one, an empty one too, else that of
+/// the defaults. None where both have 2 to the 32 bytes or more together, which are not examined.
 pub fn find<'a>(site: &'a [u8], defaults: &'a [u8], tag: u32) -> Option<Found<'a>> {
     let word = calls::find(site, defaults, tag);
     if word == calls::TOO_MANY {
@@ -217,9 +220,9 @@ pub fn find<'a>(site: &'a [u8], defaults: &'a [u8], tag: u32) -> Option<Found<'a
     })
 }
 
-/// The value of a start object, in place: the site's if the site has one, an empty one too, else that of the defaults. A tag in
-/// neither gives an empty part of the defaults; [`find`] tells it from an empty value. None where both have 2 to the 32 bytes or
-/// more together, which are not looked at.
+/// The value of a start object, in place: the site's if the site has one, an empty one too, else that of the defaults.
+/// A tag in neither gives an empty part of the defaults; [`find`] tells it from an empty value. None where both have 2
+/// to the 32 bytes or more together, which are not examined.
 pub fn lookup<'a>(site: &'a [u8], defaults: &'a [u8], tag: u32) -> Option<&'a [u8]> {
     Some(match find(site, defaults, tag)? {
         Found::Site(value) | Found::Defaults(value) => value,
@@ -251,7 +254,8 @@ impl Cabinet {
         cabinet.reopen(cap).then_some(cabinet)
     }
 
-    /// Opens anew with another cap, a running session or not; false where the cap is over [`MOST_CAP`], which changes nothing.
+    /// Opens anew with another cap, a running session or not; false where the cap is over [`MOST_CAP`], which
+    /// changes nothing.
     pub fn reopen(&mut self, cap: u64) -> bool {
         calls::open(&mut self.bytes, cap) == 0
     }
@@ -277,8 +281,8 @@ impl Cabinet {
         Session::from_bytes(*record)
     }
 
-    /// Starts a session with the terminal's objects, after an end a fresh one; its amount is set aside. Refused with 30 where
-    /// less is left.
+    /// Starts a session with the terminal's objects, after an end a fresh one; its amount is set aside. Refused with 30
+    /// where less is left.
     pub fn start<'b>(&mut self, terminal: &[u8], command: &'b mut [u8]) -> Reply<'b> {
         let word = calls::start(&mut self.bytes, terminal, command);
         reply(word, command)

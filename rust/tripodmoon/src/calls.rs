@@ -56,13 +56,13 @@ pub fn session_size() -> usize {
 
 /// Writes a fresh record: 0, or refusal 25 if the bytes are too few.
 pub fn open(session: &mut [u8]) -> u32 {
-    // SAFETY: pointer and length are those of one slice lent for writing.
+    // SAFETY: pointer and length are those of one slice borrowed for writing.
     unsafe { emv_open(session.as_mut_ptr(), session.len()) }
 }
 
 /// Starts a fresh session.
 pub fn start(session: &mut [u8], terminal: &[u8], command: &mut [u8]) -> u32 {
-    // SAFETY: each pointer and length are those of one slice; those lent for writing overlap nothing.
+    // SAFETY: each pointer and length are those of one slice; those borrowed for writing overlap nothing.
     unsafe {
         emv_start(
             session.as_mut_ptr(),
@@ -77,7 +77,7 @@ pub fn start(session: &mut [u8], terminal: &[u8], command: &mut [u8]) -> u32 {
 
 /// Takes a card's answer with its two status bytes.
 pub fn answer(session: &mut [u8], card: &[u8], command: &mut [u8]) -> u32 {
-    // SAFETY: each pointer and length are those of one slice; those lent for writing overlap nothing.
+    // SAFETY: each pointer and length are those of one slice; those borrowed for writing overlap nothing.
     unsafe {
         emv_answer(
             session.as_mut_ptr(),
@@ -92,7 +92,7 @@ pub fn answer(session: &mut [u8], card: &[u8], command: &mut [u8]) -> u32 {
 
 /// Ends a running session because the link failed.
 pub fn link_failed(session: &mut [u8], command: &mut [u8]) -> u32 {
-    // SAFETY: each pointer and length are those of one slice; both are lent for writing, so they do not overlap.
+    // SAFETY: each pointer and length are those of one slice; both are borrowed for writing, so they do not overlap.
     unsafe {
         emv_link_failed(
             session.as_mut_ptr(),
@@ -105,7 +105,7 @@ pub fn link_failed(session: &mut [u8], command: &mut [u8]) -> u32 {
 
 /// Ends a running session because the host stops it.
 pub fn stop(session: &mut [u8], command: &mut [u8]) -> u32 {
-    // SAFETY: each pointer and length are those of one slice; both are lent for writing, so they do not overlap.
+    // SAFETY: each pointer and length are those of one slice; both are borrowed for writing, so they do not overlap.
     unsafe {
         emv_stop(
             session.as_mut_ptr(),
@@ -128,10 +128,10 @@ pub fn explain(session: &[u8]) -> u32 {
     unsafe { emv_explain(session.as_ptr(), session.len()) }
 }
 
-/// Reads an object back: the length of its value, which stands in front of the lent bytes then, or a
-/// word that says why not.
+/// Reads an object back: the length of its value, which is at the front of the caller's bytes then, or a word that
+/// says why not.
 pub fn object(session: &[u8], tag: u32, value: &mut [u8]) -> u32 {
-    // SAFETY: each pointer and length are those of one slice; the one lent for writing overlaps nothing.
+    // SAFETY: each pointer and length are those of one slice; the one borrowed for writing overlaps nothing.
     unsafe {
         emv_object(
             session.as_ptr(),
@@ -152,7 +152,7 @@ pub fn find(bytes: &[u8], tag: u32) -> u64 {
 
 /// Writes 0 over all bytes: 0.
 pub fn wipe(session: &mut [u8]) -> u32 {
-    // SAFETY: pointer and length are those of one slice lent for writing.
+    // SAFETY: pointer and length are those of one slice borrowed for writing.
     unsafe { emv_wipe(session.as_mut_ptr(), session.len()) }
 }
 

@@ -21,9 +21,9 @@
 //! keep a session across power loss. Bytes that hold no record, or one outside its ranges, are
 //! refused with number 25 at the next call.
 //!
-//! [`Session::explain`] tells the cashier why. After an online request [`Session::object`] reads back
-//! what is sent to the acquirer; [`Session::wipe`] forgets the session. [`find`] looks through other bytes of the card, as the
-//! answer to SELECT:
+//! [`Session::explain`] explains a choice to the cashier. After an online request [`Session::object`] reads back what
+//! is sent to the acquirer; [`Session::wipe`] forgets the session. [`find`] looks through other bytes of the card, as
+//! the answer to SELECT:
 //!
 //! ```
 //! use tripodmoon::{find, Found};
@@ -37,9 +37,8 @@
 //! The C calls, the result words and the record's layout are described in docs/HOST.md, the rules
 //! of the session in docs/SPEC-MAP.md.
 //!
-//! With the feature `personalise` the module of that name writes a card's records and file locator, by
-//! a second archive; with the feature `cabinet` the module of that name is a vending cabinet with a cap on
-//! offline approvals, by a third.
+//! With the feature `personalise` the module of that name writes a card's records and AFL, by a second archive; with
+//! the feature `cabinet` the module of that name is a vending cabinet with a cap on offline approvals, by a third.
 
 #![no_std]
 
@@ -98,7 +97,7 @@ impl fmt::Display for Outcome {
     }
 }
 
-/// The method of cardholder verification that an outcome tells. The host carries it out.
+/// The CVM that an outcome reports. The host carries it out.
 #[derive(Clone, Copy, Debug, PartialEq, Eq)]
 pub enum Method {
     /// None: the card does not support verification, none was wanted, or none succeeded; 9F34 and 95 say which.
@@ -111,12 +110,12 @@ pub enum Method {
     ConfirmationCodeVerified,
     /// A PIN that the card checks, which 9F33 says is supported. Nobody has checked it.
     OfflinePin,
-    /// No method was chosen: the session ended before, or the card has no EMV mode.
+    /// No CVM was chosen: the session ended before, or the card has no EMV mode.
     NotApplicable,
 }
 
 impl Method {
-    /// The method of its number in a result word.
+    /// The CVM of its number in a result word.
     fn of_number(number: u8) -> Option<Method> {
         Some(match number {
             0 => Method::NoCvm,
@@ -144,10 +143,10 @@ impl fmt::Display for Method {
     }
 }
 
-/// What a call hands back. `'b` is the time the command buffer is lent for.
+/// What a call returns. `'b` is the lifetime of the borrowed command buffer.
 #[derive(Clone, Copy, Debug, PartialEq, Eq)]
 pub enum Reply<'b> {
-    /// A command to send to the card. It stands at the front of the buffer.
+    /// A command to send to the card. It is at the front of the buffer.
     Command(&'b [u8]),
     /// The session has ended.
     Outcome {
@@ -155,7 +154,7 @@ pub enum Reply<'b> {
         outcome: Outcome,
         /// 0 where a decision was reached, else 1 to 11 (see [`reason_text`]).
         reason: u8,
-        /// The method of cardholder verification.
+        /// The CVM.
         method: Method,
     },
     /// The call was refused, 20 to 25, and by a cabinet 30 (see [`refusal_text`]); session and buffer are as before.
@@ -165,16 +164,16 @@ pub enum Reply<'b> {
 /// The most bytes that a value has.
 pub const MOST_VALUE: usize = 254;
 
-/// What a session says of an object. `'b` is the time the bytes for its value are lent for.
+/// What a session says of an object. `'b` is the lifetime of the borrowed bytes for its value.
 #[derive(Clone, Copy, Debug, PartialEq, Eq)]
 pub enum Object<'b> {
-    /// Its value, which may be empty. It stands at the front of the lent bytes.
+    /// Its value, which may be empty. It is at the front of the caller's bytes.
     Value(&'b [u8]),
     /// The session does not hold it.
     Absent,
     /// The dictionary does not have the tag.
     Unknown,
-    /// Its value has so many bytes, and fewer were lent.
+    /// Its value has so many bytes, and the caller provides fewer.
     Needed(usize),
     /// The call was refused with 25: the bytes hold no record within its ranges.
     Refused(u8),
@@ -243,7 +242,7 @@ pub enum Explanation {
     },
     /// No bit forced the choice; this stage was consulted last.
     Unforced(Stage),
-    /// The card gave a lower cryptogram than the one asked for.
+    /// The card gave a lower cryptogram than the one requested.
     LowerCryptogram,
     /// No choice was made yet, or none is: mag-stripe mode.
     NoChoice,
@@ -397,8 +396,8 @@ impl Session {
         reply(word, command)
     }
 
-    /// Reads an object back by its tag, as 0x9F26, into lent bytes; [`MOST_VALUE`] of them are always
-    /// enough. All but a value leave them as they were.
+    /// Reads an object back by its tag, as 0x9F26, into the caller's bytes; [`MOST_VALUE`] of them are always enough.
+    /// All but a value leave them as they were.
     pub fn object<'b>(&self, tag: u32, value: &'b mut [u8]) -> Object<'b> {
         let word = calls::object(&self.bytes, tag, value);
         let [_, kind, high, low] = word.to_be_bytes();

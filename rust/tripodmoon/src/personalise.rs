@@ -1,5 +1,5 @@
-//! Writing the card's side: a list of objects as the records and the file locator of a card, by a layout that is not
-//! trusted. Feature `personalise`; the library is `libpersonalise.a`, an archive of its own.
+//! Writing the card's side: a list of objects as the records and the AFL of a card, by a layout that is not trusted.
+//! Feature `personalise`; the library is `libpersonalise.a`, an archive of its own.
 //!
 //! ```
 //! use tripodmoon::personalise::{personalise, Refusal, LOCATOR_ROOM, RECORDS_ROOM};
@@ -25,7 +25,7 @@ use core::fmt;
 /// The least length of the buffer for the records.
 pub const RECORDS_ROOM: usize = 32_768;
 
-/// The least length of the buffer for the locator.
+/// The least length of the buffer for the AFL.
 pub const LOCATOR_ROOM: usize = 248;
 
 extern "C" {
@@ -51,7 +51,7 @@ pub fn word(
     records: &mut [u8],
     locator: &mut [u8],
 ) -> u64 {
-    // SAFETY: each pointer and length are those of one slice; those lent for writing overlap nothing.
+    // SAFETY: each pointer and length are those of one slice; those borrowed for writing overlap nothing.
     unsafe {
         emv_personalise(
             objects.as_ptr(),
@@ -68,12 +68,12 @@ pub fn word(
     }
 }
 
-/// What was written. `'b` is the time the two buffers are lent for; it stands at the front of them.
+/// What was written. `'b` is the lifetime of the two borrowed buffers; it is at the front of them.
 #[derive(Clone, Copy, Debug, PartialEq, Eq)]
 pub struct Written<'b> {
-    /// The records in locator order, one behind the other, each a template 70.
+    /// The records in AFL order, concatenated, each a template 70.
     pub records: &'b [u8],
-    /// The locator, for 94.
+    /// The AFL, for 94.
     pub locator: &'b [u8],
 }
 
@@ -82,13 +82,14 @@ pub struct Written<'b> {
 pub enum Refusal {
     /// The buffer for the records is under [`RECORDS_ROOM`].
     RecordsBuffer,
-    /// The buffer for the locator is under [`LOCATOR_ROOM`].
+    /// The buffer for the AFL is under [`LOCATOR_ROOM`].
     LocatorBuffer,
     /// An object of the list is bad, comes twice, or is not placed exactly once.
     List,
-    /// The entry of this number is the first that is bad behind those before it; 1 if there is none.
+    /// The entry of this number is the first that is bad after those before it; 1 if there is none.
     Entry(u32),
-    /// The record of this number is the first bad one; a number that no record has, 0 too, if an object is placed there.
+    /// The record of this number is the first bad one; a number that no record has, 0 too, if an object is
+    /// placed there.
     Record(u32),
 }
 
@@ -117,10 +118,10 @@ impl fmt::Display for Refusal {
 
 impl Error for Refusal {}
 
-/// Writes a list of objects as records and locator, if its layout keeps every rule.
+/// Writes a list of objects as records and AFL, if its layout keeps every rule.
 ///
-/// `entries` is the locator as proposed. `placements` has two bytes for each object: the number of its record, in
-/// locator order, and its own in the list, both counted from 1.
+/// `entries` is the AFL as proposed. `placements` has two bytes for each object: the number of its record, in AFL
+/// order, and its own in the list, both counted from 1.
 ///
 /// # Panics
 ///

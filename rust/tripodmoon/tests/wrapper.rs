@@ -105,7 +105,7 @@ fn short_session_bytes() {
     assert_eq!(short, [1; SESSION_SIZE - 1]);
 }
 
-/// The object has exactly these bytes: a byte less is too few, and bytes behind the value stay.
+/// The object has exactly these bytes: a byte less is too few, and bytes after the value stay.
 fn holds(session: &Session, tag: u32, bytes: &[u8]) {
     let mut value = [7; MOST_VALUE];
     assert_eq!(session.object(tag, &mut value), Object::Value(bytes));
@@ -317,8 +317,8 @@ fn version_of_the_layout() {
     assert_eq!(version, expected);
 }
 
-/// A session on GENERATE AC at a terminal of this type with these denial and online codes, of a card with
-/// more objects behind expiry date, PAN and CDOL1.
+/// A session on GENERATE AC at a terminal of this type with these denial and online codes, of a card with more objects
+/// after expiry date, PAN and CDOL1.
 fn on_choice(kind: u8, denial: u8, online: u8, more: &[u8]) -> Session {
     let mut terminal = TERMINAL;
     for (tag, value) in [

@@ -1,5 +1,5 @@
--- `afl::check_afl` meets its contract. The loop's invariant: what a check says of the whole is what it says of the rest, with
--- the records counted so far, which are at most 128. The measure is the length of the rest.
+-- `afl::check_afl` meets its contract. The loop's invariant: what a check reports of the whole is what it says of the
+-- rest, with the records counted so far, which are at most 128. The measure is the length of the rest.
 -- Assumes nothing.
 use borrow.Author.Needs.{needs}
 use borrow.Author.Tests.{not-true, not-false}

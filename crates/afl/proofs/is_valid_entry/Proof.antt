@@ -1,4 +1,5 @@
--- `afl::is_valid_entry` meets its contract: each way out but the last breaks one rule of the definition, and the last keeps them all.
+-- `afl::is_valid_entry` meets its contract: each way out but the last breaks one rule of the definition, and the last
+-- keeps them all.
 -- Assumes nothing.
 use borrow.Author.Needs.{needs}
 use borrow.Author.Tests.{lt-leb, ne-eqb}

@@ -1,4 +1,5 @@
--- `afl::record_at` meets its contract: what `check_afl` said is whether the locator is accepted, and `seek` finds at place k - 1.
+-- `afl::record_at` meets its contract: what `check_afl` said is whether the AFL is accepted, and `seek` finds at
+-- place k - 1.
 -- Assumes nothing.
 use borrow.Author.Needs.{needs}
 use mathlib.Core.Path.{sym, _∙_}

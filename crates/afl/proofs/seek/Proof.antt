@@ -1,5 +1,5 @@
--- `afl::seek` meets its contract. The loop's invariant: the record at the place sought is that of the rest at the place left,
--- what the entries passed named being taken off. The measure is the length of the rest.
+-- `afl::seek` meets its contract. The loop's invariant: the record at the place sought is that of the rest at the place
+-- left, what the entries passed named being taken off. The measure is the length of the rest.
 -- Assumes nothing.
 use borrow.Author.Needs.{needs}
 use mathlib.Core.Path.{_≡_, refl, sym, _∙_}

@@ -1,4 +1,4 @@
--- `cabinet::admit` meets its contract: the buffer's size first, then what the state says.
+-- `cabinet::admit` meets its contract: the buffer's size first, then what the state reports.
 -- Assumes nothing.
 use borrow.Author.Needs.{needs}
 use borrow.Author.Tests.{lt-ltb, le-ltb}

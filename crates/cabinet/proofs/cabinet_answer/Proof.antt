@@ -1,4 +1,5 @@
--- `cabinet::cabinet_answer` meets its contract: a call that is not taken by its law; else the kernel's step, with the store lent in its place.
+-- `cabinet::cabinet_answer` meets its contract: a call that is not taken by its law; else the kernel's step, with the
+-- store borrowed in its place.
 -- Assumes nothing.
 use borrow.Author.Needs.{needs}
 use native.Mathlib.Omega.{arith}

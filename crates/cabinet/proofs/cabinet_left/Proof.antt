@@ -10,7 +10,7 @@ use Rattle.cabinet.proofs.Laws.{Told, state-refused, state-taken}
 use Rattle.cabinet.proofs.cabinet_left.Statement.{statement}
 use Rattle.cabinet.proofs.cabinet_left.Tie as tie
 
--- what the state says
+-- what the state reports
 told : (c : tie.After-known-told) → Told (c .before .before .before .before .before .args .state .now) (c .before .admission .given .0 .0)
 told c = state-taken _ _ (sym (c .before .before .before .holding-in .ensures) ∙ c .before .admission .given .1)
 

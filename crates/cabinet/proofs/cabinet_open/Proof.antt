@@ -1,4 +1,5 @@
--- `cabinet::cabinet_open` meets its contract: too few bytes, then the cap; else a fresh record with the amounts behind it.
+-- `cabinet::cabinet_open` meets its contract: too few bytes, then the cap; else a fresh record with the
+-- amounts after it.
 -- Assumes nothing.
 use borrow.Author.Needs.{needs}
 use borrow.Author.Tests.{lt-ltb, le-ltb}

@@ -1,4 +1,4 @@
--- `cabinet::put_amounts` meets its contract: eight bytes each, one behind the other (`put-both`).
+-- `cabinet::put_amounts` meets its contract: eight bytes each, concatenated (`put-both`).
 -- Assumes nothing.
 use borrow.Author.Needs.{needs}
 use mathlib.Core.Path.{_≡_, ap, ap₂, _∙_}

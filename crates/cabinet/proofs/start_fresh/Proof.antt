@@ -1,4 +1,5 @@
--- `cabinet::start_fresh` meets its contract: the kernel's start on a fresh session, its refusal, then 30; else store and command are copied over.
+-- `cabinet::start_fresh` meets its contract: the kernel's start on a fresh session, its refusal, then 30; else store
+-- and command are copied over.
 -- Assumes nothing.
 use borrow.Author.Needs.{needs}
 use mathlib.Core.Path.{sym, ap, _∙_}

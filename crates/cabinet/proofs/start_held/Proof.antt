@@ -13,7 +13,7 @@ use Rattle.cabinet.proofs.Laws.{storeIn, ranged-in, ranged-out, did-ref
 use Rattle.cabinet.proofs.start_held.Statement.{statement}
 use Rattle.cabinet.proofs.start_held.Tie as tie
 
--- past its test the session keeps its ranges
+-- past its test the session is in its ranges
 kept : (c : tie.Else1) → let a = c .before .before .before .before .before .before .before .args in inRanges (sessionOf (a .holding .phase) (a .holding .count) (storeIn (a .state .now))) ≡ true
 kept c = sym (c .before .parts-in-ranges .ensures .test) ∙ not-false _ (c .if1 .left)
 

@@ -1,5 +1,5 @@
--- `cabinet_lookup::first` meets its contract. The invariant is `Reached` (proofs/Laws), which has a law for each way through a turn. The
--- measure is what is left: an object takes two bytes at least.
+-- `cabinet_lookup::first` meets its contract. The invariant is `Reached` (proofs/Laws), which has a law for each way
+-- through an iteration. The measure is what remains: an object takes two bytes at least.
 -- Assumes nothing.
 use borrow.Author.Needs.{needs}
 use mathlib.Core.Path.{_≡_, sym, _∙_}

@@ -1,5 +1,6 @@
--- `cabinet_lookup::lookup_value` meets its contract: by what `first` finds in each list, the bytes (`site-part`, `default-part`, `no-part`)
--- and the address (`site-address`, `default-address`, `no-address`); by these the word names the part (`returned`).
+-- `cabinet_lookup::lookup_value` meets its contract: by what `first` finds in each list, the bytes (`site-part`,
+-- `default-part`, `no-part`) and the address (`site-address`, `default-address`, `no-address`); by these the word names
+-- the part (`returned`).
 -- Assumes nothing.
 use borrow.Author.Needs.{needs}
 use mathlib.Core.Path.{_≡_, sym, _∙_}

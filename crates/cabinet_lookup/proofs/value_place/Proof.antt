@@ -1,5 +1,5 @@
--- `cabinet_lookup::value_place` meets its contract: too many bytes, or the word by what `first` finds in each list. A place lies inside its list
--- (`found-inside`), so the word fits.
+-- `cabinet_lookup::value_place` meets its contract: too many bytes, or the word by what `first` finds in each list. A
+-- place lies inside its list (`found-inside`), so the word fits.
 -- Assumes nothing.
 use borrow.Author.Needs.{needs}
 use mathlib.Core.Path.{_≡_, sym, _∙_}

@@ -1,4 +1,5 @@
--- `play_all`: playing the calls left from the two places gives what playing all gives (`Going`). What is left of the slice shrinks.
+-- `play_all`: playing the calls left from the two places gives what playing all gives (`Going`). What is left of the
+-- slice shrinks.
 -- Assumes nothing.
 use mathlib.Core.Path.{_≡_, refl, ap, subst, _∙_}
 use mathlib.Core.Bool.{true}

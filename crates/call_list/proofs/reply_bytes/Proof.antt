@@ -1,4 +1,4 @@
--- `reply_bytes`: by what the call handed back.
+-- `reply_bytes`: by what the call returned.
 -- Assumes nothing.
 use borrow.Author.Needs.{needs}
 use Rattle.call_list.specs.Encoding.{bigEndianBytes}

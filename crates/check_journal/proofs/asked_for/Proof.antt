@@ -1,4 +1,4 @@
--- One argument to a turn of the loop. Assumes nothing.
+-- One argument to an iteration of the loop. Assumes nothing.
 use borrow.Author.Needs.{needs}
 use native.Mathlib.Omega.{arith}
 use Prim.Native.Nat.{_-_}

@@ -1,4 +1,4 @@
--- `close`: the stores, one by one, are the header's bytes; the data between stays, and 00 goes behind it.
+-- `close`: the stores, one by one, are the header's bytes; the data between stays, and 00 goes after it.
 -- Assumes nothing.
 use mathlib.Core.Path.{refl}
 use native.Mathlib.Omega.{arith}

@@ -1,4 +1,5 @@
--- `get_processing_options`: a list that measures has a filling of that length, which goes in behind tag and length and is then closed.
+-- `get_processing_options`: a list that measures has a filling of that length, which goes in after tag and length and
+-- is then closed.
 -- Assumes nothing.
 use mathlib.Core.Path.{_≡_, sym, ap, _∙_}
 use mathlib.Core.List.{_++_}
@@ -19,7 +20,7 @@ use Rattle.command.proofs.get_processing_options.Tie as tie
 filling : (c : tie.After-measured) → Fills dictionaryRows (c .before .before .before .before .before .before .args .store .now) (dolEntries (c .before .before .before .value .result .now)) (c .measured .given .0 .0)
 filling c = fills dictionaryRows _ _ _ (sym (c .before .before .measure .ensures) ∙ c .measured .given .1)
 
--- the place behind the head: at most 8
+-- the place after the head: at most 8
 placed : (c : tie.After-gpo-head) → (5 ≤ c .gpo-head .result) × (c .gpo-head .result ≤ 8)
 placed c =
     let f = filling (c .before .before .before .before) in
@@ -27,7 +28,7 @@ placed c =
     let r = c .gpo-head .ensures .0 in
     (omega arith, omega arith)
 
--- the head, and the filling behind it: the command's data, written from place 5 on
+-- the head, and the filling after it: the command's data, written from place 5 on
 body : (c : tie.After-fill) → c .fill .last .1 .1 .0 ≡ writtenOver (c .before .before .before .before .before .before .before .before .before .before .before .before .before .before .args .buffer .now) 5 (gpoData (filling (c .before .before .before .before .before .before .before .before) .bytes))
 body c =
     let st = c .before .before .before .before .before .before .before .before .before .before .before .before .before .before in

@@ -1,4 +1,4 @@
--- `command::read_record` meets its contract: five stores at the front are the command and the old bytes behind it.
+-- `command::read_record` meets its contract: five stores at the front are the command and the old bytes after it.
 -- Assumes nothing.
 use borrow.Author.Needs.{needs}
 use mathlib.Core.Path.{_≡_, refl}

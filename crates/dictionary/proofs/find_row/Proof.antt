@@ -1,4 +1,5 @@
--- `dictionary::find_row` meets its contract: a search of the tag's part finds what `findRow` finds in the table; its looks are those of the part's search.
+-- `dictionary::find_row` meets its contract: a search of the tag's part finds what `findRow` finds in the table; its
+-- looks are those of the part's search.
 -- Assumes nothing.
 use borrow.Author.Needs.{needs}
 use mathlib.Core.Path.{_≡_, sym, ap, _∙_}

@@ -1,4 +1,5 @@
--- `dictionary::lookup_row` meets its contract: the tags are those of the rows, and these rise, so the search finds what `findRow` finds.
+-- `dictionary::lookup_row` meets its contract: the tags are those of the rows, and these rise, so the search finds what
+-- `findRow` finds.
 -- Assumes nothing.
 use borrow.Author.Needs.{needs}
 use mathlib.Core.Path.{refl}

@@ -1,4 +1,5 @@
--- `dictionary::row_tag` meets its contract: the column's entry is the row's, and past the last row it is 0. Assumes nothing.
+-- `dictionary::row_tag` meets its contract: the column's entry is the row's, and past the last row it is 0.
+-- Assumes nothing.
 use borrow.Author.Needs.{needs}
 use mathlib.Core.Path.{_≡_}
 use Rattle.dictionary.specs.Rows.{dictionaryRows}

@@ -1,4 +1,5 @@
--- `dictionary::search` meets its contract. The loop's invariant: after the looks made, a search of the part that is left says what the whole says.
+-- `dictionary::search` meets its contract. The loop's invariant: after the probes made, a search of the part that is
+-- left says what the whole says.
 -- Assumes nothing.
 use borrow.Author.Needs.{needs}
 use mathlib.Core.Path.{_≡_, sym, _∙_}

@@ -1,4 +1,5 @@
--- `dictionary::used_rows` meets its contract: each constant's row has its tag, computed over the whole table. Assumes nothing.
+-- `dictionary::used_rows` meets its contract: each constant's row has its tag, computed over the whole table.
+-- Assumes nothing.
 use mathlib.Core.Path.{refl}
 use Rattle.basics.specs.Choice.{if}
 use Rattle.dictionary.specs.Rows.{dictionaryRows, rowPast, findRow}

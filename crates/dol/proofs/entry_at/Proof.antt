@@ -1,4 +1,4 @@
--- `entry_at`: the tag that `tag_at` told, and the byte behind it where there is one.
+-- `entry_at`: the tag that `tag_at` reported, and the byte after it where there is one.
 -- Assumes nothing.
 use mathlib.Core.Path.{sym}
 use borrow.Author.Needs.{needs}

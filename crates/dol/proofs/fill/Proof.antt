@@ -1,4 +1,4 @@
--- `fill`: the table is bound once and lent to the filling.
+-- `fill`: the table is bound once and passed to the filling.
 -- Assumes nothing.
 use borrow.Author.Needs.{needs}
 use Rattle.dol.proofs.fill.Statement.{statement}

@@ -1,5 +1,5 @@
--- `fill_entries`: what is written so far, with the filling of the rest behind it, is the filling of the list. The rest shrinks, and its
--- entries have room.
+-- `fill_entries`: what is written so far, with the filling of the rest after it, is the filling of the list. The rest
+-- shrinks, and its entries have room.
 -- Assumes nothing.
 use mathlib.Core.Path.{_≡_, refl, sym, _∙_}
 use Prim.Native.Nat.{_+_, _≤_}

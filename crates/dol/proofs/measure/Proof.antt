@@ -1,4 +1,4 @@
--- `measure`: what is asked so far, with what the rest asks, is what the list asks. The rest shrinks.
+-- `measure`: what is requested so far, with what the rest requests, is what the list requests. The rest shrinks.
 -- Assumes nothing.
 use mathlib.Core.Path.{_≡_, sym, ap, _∙_}
 use mathlib.Core.List.{List}
@@ -23,7 +23,7 @@ abbrev μ-loop : tie.MeasureT-loop
 inside : (c : tie.After-front Inv-loop μ-loop) → (2 ≤ c .front .given .0 .1 .0) × (c .front .given .0 .1 .0 ≤ length (c .before .before .before .before .loop .rest .now))
 inside c = entry-inside _ _ _ (sym (c .before .before .entry-at .ensures) ∙ c .front .given .1)
 
--- the list is measured on behind it
+-- the list is measured on after it
 on : (c : tie.After-widen Inv-loop μ-loop) →
     let lp = c .before .before .before .before .before .before .loop in
     dolMeasured (dolEntries (c .before .before .before .before .before .before .before .before .args .list .now))

@@ -1,4 +1,4 @@
--- `place`: the part that was lent comes back with the bytes copied into it.
+-- `place`: the part that was borrowed comes back with the bytes copied into it.
 -- Assumes nothing.
 use borrow.Author.Needs.{needs}
 use Rattle.dol.proofs.Buffer.{over-part}

@@ -16,7 +16,7 @@ use Rattle.dol.proofs.Filling.{of-template, of-unknown, of-absent, of-p
 use Rattle.dol.proofs.write_entry.Statement.{statement}
 use Rattle.dol.proofs.write_entry.Tie as tie
 
--- zeros as many as are asked
+-- zeros as many as are requested
 zeros-of : (b : List ℕ) (at n m : ℕ) (x y : List ℕ) → x ≡ writtenOver b at (fillZeros n) → n ≡ m → y ≡ fillZeros m → x ≡ writtenOver b at y
 zeros-of b at n m x y p e q = p ∙ rw (e, q)
 

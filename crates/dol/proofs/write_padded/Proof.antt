@@ -1,4 +1,4 @@
--- `write_padded`: the value and what it gains, written one behind the other: the run first if n, else the value first.
+-- `write_padded`: the value and what it gains, written one after another: the run first if n, else the value first.
 -- Assumes nothing.
 use mathlib.Core.Path.{_≡_, refl, sym, ap, _∙_}
 use mathlib.Core.List.{_++_}

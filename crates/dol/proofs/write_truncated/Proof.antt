@@ -1,4 +1,4 @@
--- `write_truncated`: n keeps the bytes behind those that are lost, the other forms those before.
+-- `write_truncated`: n keeps the bytes after those that are lost, the other forms those before.
 -- Assumes nothing.
 use mathlib.Core.Path.{sym, ap, _∙_}
 use native.Mathlib.Omega.{arith}

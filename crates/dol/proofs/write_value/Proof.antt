@@ -1,4 +1,4 @@
--- `write_value`: cut or padded, by the lengths.
+-- `write_value`: truncated or padded, by the lengths.
 -- Assumes nothing.
 use mathlib.Core.Path.{sym, ap, _∙_}
 use borrow.Author.Needs.{needs}

@@ -1,4 +1,4 @@
--- `explain::card_asks_mag_stripe` meets its contract: 82 is there, and then its bit decides. Assumes nothing.
+-- `explain::card_asks_mag_stripe` meets its contract: 82 is present, and then its bit decides. Assumes nothing.
 use borrow.Author.Needs.{needs}
 use borrow.Author.Tests.{not-true, not-false}
 use mathlib.Core.Path.{sym, ap, _∙_}

@@ -1,4 +1,4 @@
--- `explain::choice_in` meets its contract: the choice on the stored result bits. Assumes nothing.
+-- `explain::choice_in` meets its contract: the choice on the stored TVR. Assumes nothing.
 use borrow.Author.Needs.{needs}
 use mathlib.Core.Path.{ap, _∙_}
 use Rattle.analysis.specs.Action.{choiceFor}

@@ -25,7 +25,7 @@ decided : (c : tie.After-known-told) → let f = c .before .before .before in
     decidingIn (f .before .before .before .before .args .bytes .now) ≡ Deciding.At (c .before .stage .given .0 .0)
 decided c = let f = c .before .before .before in sym (f .deciding-in .ensures) ∙ c .before .stage .given .1
 
--- 9F27 is there
+-- 9F27 is present
 there : (c : tie.Else2) → hasObject (c .before .before .before .before .before .before .before .before .before .args .bytes .now) 0x9F27 ≡ true
 there c = held-is _ _ _ at-9F27 (c .before .is-there .ensures) (not-false _ (c .if2 .left))
 

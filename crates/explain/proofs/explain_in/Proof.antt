@@ -1,4 +1,5 @@
--- `explain::explain_in` meets its contract: by the ranges and the phase it is the definition's answer, and the promise follows (`told`).
+-- `explain::explain_in` meets its contract: by the ranges and the phase it is the definition's answer, and the promise
+-- follows (`told`).
 -- Assumes nothing.
 use borrow.Author.Needs.{needs}
 use borrow.Author.Tests.{not-true, not-false}

@@ -1,4 +1,5 @@
--- `explain::is_complete` meets its contract: object by object, by row and by tag; past the first two the stage says what is left.
+-- `explain::is_complete` meets its contract: object by object, by row and by tag; past the first two the stage says
+-- what is left.
 -- Assumes nothing.
 use borrow.Author.Needs.{needs}
 use borrow.Author.Tests.{not-true, not-false}

@@ -1,4 +1,5 @@
--- `explain::reason_at` meets its contract: the lowest bit that the stage's codes hold, which is below 40, or none. Assumes nothing.
+-- `explain::reason_at` meets its contract: the lowest bit that the stage's codes hold, which is below 40, or none.
+-- Assumes nothing.
 use borrow.Author.Needs.{needs}
 use mathlib.Core.Path.{sym, ap, _∙_}
 use native.Mathlib.Omega.{arith}

@@ -1,4 +1,5 @@
--- `find::find`: too many bytes are malformed, else it is what `walk` found; the tree says the same of both (`with-tree`).
+-- `find::find`: too many bytes are malformed, else it is what `walk` found; the tree says the same of both
+-- (`with-tree`).
 -- Assumes nothing.
 use borrow.Author.Needs.{needs}
 use Rattle.find.proofs.InTree.{find-long, find-walked, with-tree}

@@ -1,5 +1,6 @@
--- `find::walk` meets its contract. The invariant is `Reached` (proofs/Steps), which has a law for each way through a turn. The measure
--- counts what is left twice and each open template once: an object takes two bytes at least, and an end closes a template.
+-- `find::walk` meets its contract. The invariant is `Reached` (proofs/Steps), which has a law for each way through an
+-- iteration. The measure counts what is left twice and each open template once: an object takes two bytes at least, and
+-- an end closes a template.
 -- Assumes nothing.
 use borrow.Author.Needs.{needs}
 use mathlib.Core.Path.{_≡_, refl, sym, _∙_}

@@ -1,4 +1,5 @@
--- `host::emv_answer` meets its contract: a call that is not taken by its law; else the step on the record's session, whose store is lent in its place.
+-- `host::emv_answer` meets its contract: a call that is not taken by its law; else the step on the record's session,
+-- whose store is borrowed in its place.
 -- Assumes nothing.
 use borrow.Author.Needs.{needs}
 use Rattle.session.specs.Answer.{answerStep}

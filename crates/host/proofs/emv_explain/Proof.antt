@@ -1,4 +1,5 @@
--- `host::emv_explain` meets its contract: no record, or the explanation of its session, whose store is shared in its place.
+-- `host::emv_explain` meets its contract: no record, or the explanation of its session, whose store is shared
+-- in its place.
 -- Assumes nothing.
 use borrow.Author.Needs.{needs}
 use mathlib.Core.Path.{_≡_, sym, ap, _∙_}

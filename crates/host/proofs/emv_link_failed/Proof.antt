@@ -1,4 +1,5 @@
--- `host::emv_link_failed` meets its contract: a call that is not taken by its law; else the step on the record's session, whose store is shared in its place.
+-- `host::emv_link_failed` meets its contract: a call that is not taken by its law; else the step on the record's
+-- session, whose store is shared in its place.
 -- Assumes nothing.
 use borrow.Author.Needs.{needs}
 use Rattle.session.specs.Steps.{linkFailedStep}

@@ -1,4 +1,5 @@
--- `host::emv_object` meets its contract: no record, a record out of its ranges, or the object of its store, which is shared in its place.
+-- `host::emv_object` meets its contract: no record, a record out of its ranges, or the object of its store, which is
+-- shared in its place.
 -- Assumes nothing.
 use borrow.Author.Needs.{needs}
 use borrow.Author.Tests.{not-true, not-false}

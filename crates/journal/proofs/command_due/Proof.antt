@@ -1,4 +1,4 @@
--- `journal::command_due` meets its contract: the copy fills the record behind its length.
+-- `journal::command_due` meets its contract: the copy fills the record after its length.
 -- Assumes nothing.
 use mathlib.Core.Path.{_≡_}
 use lib.ListN.{length, replicate}

@@ -1,4 +1,4 @@
--- `journal::due_of` meets its contract: by what the call handed back.
+-- `journal::due_of` meets its contract: by what the call returned.
 -- Assumes nothing.
 use mathlib.Core.Path.{sym, ap}
 use Rattle.journal.proofs.Due.{stands-as}

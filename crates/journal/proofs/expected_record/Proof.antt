@@ -1,4 +1,5 @@
--- `journal::expected_record` meets its contract: one law for each way out; a checker that was fed some bytes keeps what was due there.
+-- `journal::expected_record` meets its contract: one law for each way out; a checker that was fed some bytes keeps what
+-- was expected there.
 -- Assumes nothing.
 use mathlib.Core.Logic.{inl, inr}
 use native.Mathlib.Omega.{arith}

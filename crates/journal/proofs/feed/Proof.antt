@@ -1,4 +1,5 @@
--- `journal::feed` meets its contract: behind an unlike record nothing changes; else the checker behind the first i bytes of the part.
+-- `journal::feed` meets its contract: after a mismatching record nothing changes; else the checker after the first i
+-- bytes of the part.
 -- Assumes nothing.
 use mathlib.Core.Path.{_≡_, refl}
 use native.Mathlib.Omega.{arith}

@@ -1,4 +1,4 @@
--- `journal::fits` meets its contract: the length, then the bytes behind.
+-- `journal::fits` meets its contract: the length, then the bytes after.
 -- Assumes nothing.
 use mathlib.Core.Path.{sym, _∙_}
 use native.Mathlib.Omega.{arith}

@@ -1,4 +1,4 @@
--- `journal::judge` meets its contract: by what is due.
+-- `journal::judge` meets its contract: by what is expected.
 -- Assumes nothing.
 use mathlib.Core.Path.{_≡_, sym, ap, _∙_}
 use native.Mathlib.Omega.{arith}

@@ -1,4 +1,5 @@
--- `journal::push` meets its contract: the byte set behind the part that is held, and the record judged where it is whole.
+-- `journal::push` meets its contract: the byte set after the part that is held, and the record judged where
+-- it is whole.
 -- Assumes nothing.
 use mathlib.Core.Path.{_≡_, sym}
 use native.Mathlib.Omega.{arith}

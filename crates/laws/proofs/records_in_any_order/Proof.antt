@@ -1,4 +1,5 @@
--- Filling and padding are laws of `dol`; the records' are in proofs/Contents and proofs/Answers, how much an answer holds in proofs/Room.
+-- Filling and padding are laws of `dol`; the records' are in proofs/Contents and proofs/Answers, how much an answer
+-- holds in proofs/Room.
 -- Assumes nothing.
 use mathlib.Core.Path.{refl}
 use mathlib.Core.List.{List}

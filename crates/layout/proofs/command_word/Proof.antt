@@ -1,4 +1,4 @@
--- `layout::command_word` meets its contract: the length, and the most that a word tells for one above it.
+-- `layout::command_word` meets its contract: the length, and the most that a word reports for one above it.
 -- Assumes nothing.
 use borrow.Author.Needs.{needs}
 use native.Mathlib.Omega.{arith}

@@ -1,4 +1,5 @@
--- `layout::decode_record` meets its contract: nothing is touched where there is no record; else the store is copied whole.
+-- `layout::decode_record` meets its contract: nothing is touched where there is no record; else the store is
+-- copied whole.
 -- Assumes nothing.
 use borrow.Author.Needs.{needs}
 use mathlib.Core.Path.{sym, ap, _∙_}

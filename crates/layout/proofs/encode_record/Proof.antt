@@ -1,4 +1,4 @@
--- `layout::encode_record` meets its contract: the head is written and the store is copied whole behind it.
+-- `layout::encode_record` meets its contract: the head is written and the store is copied whole after it.
 -- Assumes nothing.
 use borrow.Author.Needs.{needs}
 use borrow.Author.Tests.{lt-leb, le-leb}

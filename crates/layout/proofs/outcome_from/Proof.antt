@@ -1,4 +1,5 @@
--- `layout::outcome_from` meets its contract: at each number the definition computes, and past them each of its tests fails.
+-- `layout::outcome_from` meets its contract: at each number the definition computes, and past them each of its
+-- tests fails.
 -- Assumes nothing.
 use borrow.Author.Tests.{ne-eqb}
 use mathlib.Core.Path.{sym, ap, _∙_}

@@ -1,4 +1,4 @@
--- `layout::put_head` meets its contract: six bytes are set one by one, and the limit's eight are copied behind them.
+-- `layout::put_head` meets its contract: six bytes are set one by one, and the limit's eight are copied after them.
 -- Assumes nothing.
 use borrow.Author.Needs.{needs}
 use mathlib.Core.Path.{_≡_, refl, sym, ap, _∙_}
@@ -19,7 +19,7 @@ returns c = let a = c .before .before .args in sym (headed-no (a .bytes .now) (a
 part-copy-end : tie.Need-part-copy-end
 part-copy-end c = simp length-set (omega arith)
 
--- the whole head, and what lies behind it
+-- the whole head, and what lies after it
 written : tie.Need-returns-2
 written c =
     let copy = c .before .before in

@@ -1,4 +1,5 @@
--- `mag_stripe::can_take_digits` meets its contract: each way out but the last fails one test of the definition, and the last is its last test.
+-- `mag_stripe::can_take_digits` meets its contract: each way out but the last fails one test of the definition, and the
+-- last is its last test.
 -- Assumes nothing.
 use borrow.Author.Needs.{needs}
 use mathlib.Core.Path.{_≡_, sym, ap, _∙_}

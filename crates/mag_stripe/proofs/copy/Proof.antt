@@ -1,5 +1,5 @@
--- `mag_stripe::copy` meets its contract. The invariant, `Copying`: the digits that are left, written into the track as it stands, give the
--- track of all digits.
+-- `mag_stripe::copy` meets its contract. The invariant, `Copying`: the digits that are left, written into the track as
+-- it is, give the track of all digits.
 -- Assumes nothing.
 use mathlib.Core.Path.{_≡_, refl, _∙_}
 use Prim.Native.Nat.{ℕ, _-_, _%_, _≤_, _<_}

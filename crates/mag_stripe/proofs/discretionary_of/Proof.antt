@@ -1,4 +1,4 @@
--- `mag_stripe::discretionary_of` meets its contract: the first D, and the first F behind it.
+-- `mag_stripe::discretionary_of` meets its contract: the first D, and the first F after it.
 -- Assumes nothing.
 use borrow.Author.Needs.{needs}
 use native.Mathlib.Omega.{arith}

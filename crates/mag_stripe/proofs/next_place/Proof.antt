@@ -1,4 +1,5 @@
--- `mag_stripe::next_place` meets its contract: the zeros below the lowest bit give its place, and its weight is taken off.
+-- `mag_stripe::next_place` meets its contract: the zeros below the lowest bit give its place, and its weight
+-- is taken off.
 -- Assumes nothing.
 use mathlib.Core.Path.{_≡_}
 use Prim.Native.Nat.{_*_, _^_, _%_, _≤_, _<_}

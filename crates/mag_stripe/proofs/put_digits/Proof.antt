@@ -1,4 +1,5 @@
--- `mag_stripe::put_digits` meets its contract: of a track that can take the digits by the laws of a filled one, and any other stays.
+-- `mag_stripe::put_digits` meets its contract: of a track that can take the digits by the laws of a filled one, and any
+-- other stays.
 -- Assumes nothing.
 use borrow.Author.Needs.{needs}
 use mathlib.Core.Path.{sym, _∙_}

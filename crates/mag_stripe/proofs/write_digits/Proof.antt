@@ -1,4 +1,4 @@
--- `mag_stripe::write_digits` meets its contract: three copies and nUN, one behind the other, write all digits (`all-written`).
+-- `mag_stripe::write_digits` meets its contract: three copies and nUN, concatenated, write all digits (`all-written`).
 -- Assumes nothing.
 use borrow.Author.Needs.{needs}
 use mathlib.Core.Path.{_≡_, ap, _∙_}

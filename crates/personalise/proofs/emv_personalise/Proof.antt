@@ -1,4 +1,4 @@
--- `emv_personalise` meets its contract: a word says that all is written exactly where the answer does.
+-- `emv_personalise` meets its contract: a word reports that all is written exactly where the answer does.
 -- Assumes nothing.
 use borrow.Author.Needs.{needs}
 use mathlib.Core.Path.{sym, ap, _∙_}

@@ -1,5 +1,5 @@
--- `personalise` meets its contract: one law for each way out, in the order of the refusals; what is promised beside the answer and the buffers
--- follows from these.
+-- `personalise` meets its contract: one law for each way out, in the order of the refusals; what is promised beside the
+-- answer and the buffers follows from these.
 -- Assumes nothing.
 use borrow.Author.Needs.{needs}
 use borrow.Author.Tests.{not-true, not-false}

@@ -1,4 +1,5 @@
--- `with_entries` meets its contract: by the least bad record. The entries that were accepted are at most 248 bytes and name at most 128 records.
+-- `with_entries` meets its contract: by the least bad record. The entries that were accepted are at most 248 bytes and
+-- name at most 128 records.
 -- Assumes nothing.
 use borrow.Author.Needs.{needs}
 use mathlib.Core.Path.{sym, _∙_}

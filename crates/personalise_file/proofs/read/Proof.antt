@@ -1,4 +1,4 @@
--- The space keeps its length. The measure is the number of turns that are left. Assumes nothing.
+-- The space keeps its length. The measure is the number of iterations left. Assumes nothing.
 use borrow.Author.Needs.{needs}
 use native.Mathlib.Omega.{arith}
 use mathlib.Core.Path.{_≡_, refl}

@@ -1,5 +1,6 @@
--- `reading::read` meets its contract. The recursion falls with the levels, the loop with the length of what is left. The loop's
--- invariant: whatever the objects that are left say and leave is what all of them say and leave, and the list has room for them.
+-- `reading::read` meets its contract. The recursion falls with the levels, the loop with the length of what is left.
+-- The loop's invariant: whatever the objects that are left say and leave is what all of them say and leave, and the
+-- list has room for them.
 -- Assumes nothing.
 use borrow.Author.Needs.{needs}
 use mathlib.Core.Path.{_≡_, sym, _∙_}

@@ -1,4 +1,5 @@
--- `reading::begin` meets its contract: length, status, and whether the body is read, a law of `readingBeginning` for each way out.
+-- `reading::begin` meets its contract: length, status, and whether the body is read, a law of `readingBeginning` for
+-- each way out.
 -- Assumes nothing.
 use borrow.Author.Needs.{needs}
 use mathlib.Core.Path.{sym, _∙_}

@@ -1,4 +1,5 @@
--- `reading::is_free` meets its contract. A mark says that bytes are listed; without one the store's length byte decides.
+-- `reading::is_free` meets its contract. A mark says that bytes are listed; without one the store's length
+-- byte decides.
 -- Assumes nothing.
 use borrow.Author.Needs.{needs}
 use mathlib.Core.Path.{sym, ap, _∙_}

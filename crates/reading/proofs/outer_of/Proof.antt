@@ -1,4 +1,4 @@
--- `reading::outer_of` meets its contract: one object with no byte behind it, and then its kind.
+-- `reading::outer_of` meets its contract: one object with no byte after it, and then its kind.
 -- Assumes nothing.
 use borrow.Author.Needs.{needs}
 use mathlib.Core.Path.{sym, ap, _∙_}

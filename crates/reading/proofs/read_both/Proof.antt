@@ -1,4 +1,5 @@
--- `reading::read_both` meets its contract: each reader's promises, and that the readings have the same number and count (proofs/Both).
+-- `reading::read_both` meets its contract: each reader's promises, and that the readings have the same number and count
+-- (proofs/Both).
 -- Assumes nothing.
 use borrow.Author.Needs.{needs}
 use Rattle.reading.proofs.Both.{answered, agree}

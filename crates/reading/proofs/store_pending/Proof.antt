@@ -1,4 +1,5 @@
--- `reading::store_pending` meets its contract: the listed values are put where all was accepted, and nothing is done else.
+-- `reading::store_pending` meets its contract: the listed values are put where all was accepted, and nothing
+-- is done else.
 -- Assumes nothing.
 use borrow.Author.Needs.{needs}
 use mathlib.Core.Path.{_≡_, refl, sym, ap, _∙_}

@@ -1,4 +1,5 @@
--- `reading::take_next` meets its contract. The object is taken only where all before it were allowed; an unknown one is passed over.
+-- `reading::take_next` meets its contract. The object is taken only where all before it were allowed; an unknown
+-- one is skipped.
 -- Assumes nothing.
 use borrow.Author.Needs.{needs}
 use mathlib.Core.Path.{_≡_, sym, ap, _∙_}

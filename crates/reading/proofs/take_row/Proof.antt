@@ -1,4 +1,4 @@
--- `reading::take_row` meets its contract. The lent number is the row's; then one law for each way the object goes.
+-- `reading::take_row` meets its contract. The number passed in is the row's; then one law for each way the object goes.
 -- Assumes nothing.
 use borrow.Author.Needs.{needs}
 use mathlib.Core.Path.{refl, sym, ap, _∙_}

@@ -1,4 +1,4 @@
--- One character to a turn of the loop; the slice keeps its length. Assumes nothing.
+-- One character to an iteration of the loop; the slice keeps its length. Assumes nothing.
 use borrow.Author.Needs.{needs}
 use native.Mathlib.Omega.{arith}
 use mathlib.Core.Path.{_≡_, refl}

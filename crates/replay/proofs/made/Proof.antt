@@ -1,4 +1,4 @@
--- The buffer that is lent is a part of the space. Assumes nothing.
+-- The caller's buffer is a part of the space. Assumes nothing.
 use borrow.Author.Needs.{needs}
 use native.Mathlib.Omega.{arith}
 use lib.ListN.{length-take}

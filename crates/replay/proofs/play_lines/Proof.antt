@@ -1,4 +1,4 @@
--- One line to a turn of the loop: what is left of the part gets shorter. Assumes nothing.
+-- One line to an iteration of the loop: what is left of the part gets shorter. Assumes nothing.
 use borrow.Author.Needs.{needs}
 use native.Mathlib.Omega.{arith}
 use mathlib.Core.Path.{_≡_, refl, _∙_}

@@ -1,4 +1,5 @@
--- `session::after_gpo` meets its contract: three tests in turn, then the first record of the locator that keeps its rules, with the limit.
+-- `session::after_gpo` meets its contract: three tests in turn, then the first record of the AFL that satisfies its
+-- rules, with the limit.
 -- Assumes nothing.
 use borrow.Author.Needs.{needs}
 use native.Mathlib.Omega.{arith}

@@ -1,4 +1,4 @@
--- `session::ask_gpo` meets its contract: what was written says which way `commandOrReason` goes.
+-- `session::ask_gpo` meets its contract: what was written determines which way `commandOrReason` goes.
 -- Assumes nothing.
 use borrow.Author.Needs.{needs}
 use Rattle.command.specs.WithList.{getProcessingOptions}

@@ -1,4 +1,5 @@
--- `session::ask_next_record` meets its contract: the record behind this one decides, found by the row's value and the next number.
+-- `session::ask_next_record` meets its contract: the record after this one decides, found by the row's value and the
+-- next number.
 -- Assumes nothing.
 use borrow.Author.Needs.{needs}
 use mathlib.Core.Path.{_≡_, ap}
@@ -10,7 +11,7 @@ use Rattle.session.proofs.Laws.{did-as, reply-as, found-as, found-there
 use Rattle.session.proofs.ask_next_record.Statement.{statement}
 use Rattle.session.proofs.ask_next_record.Tie as tie
 
--- the record behind this one decides
+-- the record after this one decides
 next : (c : tie.After-record-at) (x : RecordFound) → let a = c .before .before .before .before .before .before .args in c .record-at .result ≡ x
     → afterRecordRead (a .place) (a .count) (a .store .now) (a .command .now) ≡ askNextFound (a .place .limit) (a .count) (a .store .now) (a .place .number + 1) (a .command .now) x
 unfolding afterRecordRead

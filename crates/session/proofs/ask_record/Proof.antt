@@ -1,4 +1,5 @@
--- `session::ask_record` meets its contract: the record's file has five bits and the buffer is long enough, so the command is written.
+-- `session::ask_record` meets its contract: the record's file has five bits and the buffer is long enough, so the
+-- command is written.
 -- Assumes nothing.
 use borrow.Author.Needs.{needs}
 use mathlib.Core.Path.{ap, _∙_}

@@ -1,4 +1,4 @@
--- `session::checksum_outcome` meets its contract: counter and code are there or not, and each way out has its law.
+-- `session::checksum_outcome` meets its contract: counter and code are present or not, and each way out has its law.
 -- Assumes nothing.
 use borrow.Author.Needs.{needs}
 use native.Mathlib.Omega.{arith}
@@ -12,7 +12,7 @@ use Rattle.session.proofs.Laws.{reply-as, is-passed, is-failed, counter
 use Rattle.session.proofs.checksum_outcome.Statement.{statement}
 use Rattle.session.proofs.checksum_outcome.Tie as tie
 
--- behind the first answer the counter is there
+-- after the first answer the counter is present
 counted : (c : tie.After-enum-told) → hasObject (c .before .before .before .before .before .args .store .now) 0x9F36 ≡ true
 counted c = is-passed _ (omega arith) (c .before .before .atc-present .ensures) (c .enum-told .given .1)
 

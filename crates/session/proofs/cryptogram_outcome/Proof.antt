@@ -1,4 +1,4 @@
--- `session::cryptogram_outcome` meets its contract: the objects are there, and the type that was read decides.
+-- `session::cryptogram_outcome` meets its contract: the objects are present, and the type that was read decides.
 -- Assumes nothing.
 use borrow.Author.Needs.{needs}
 use native.Mathlib.Omega.{arith}

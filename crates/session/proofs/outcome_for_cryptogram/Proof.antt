@@ -1,4 +1,4 @@
--- `session::outcome_for_cryptogram` meets its contract: type by type, and then by what was asked for.
+-- `session::outcome_for_cryptogram` meets its contract: type by type, and then by what was requested.
 -- Assumes nothing.
 use borrow.Author.Needs.{needs}
 use borrow.Author.Tests.{eq-eqb, ne-eqb}
@@ -10,7 +10,7 @@ use Rattle.session.specs.Answer.{onlineByArqc, approvedByTc, cryptogramO
 use Rattle.session.proofs.outcome_for_cryptogram.Statement.{statement}
 use Rattle.session.proofs.outcome_for_cryptogram.Tie as tie
 
--- a cryptogram of type 10, and of type 01, by what was asked for
+-- a cryptogram of type 10, and of type 01, by what was requested
 online : {x y : Choice} {kind : ℕ} → (kind ≡ 0 → ⊥) → kind ≡ 2 → x ≡ y → endingFor (onlineByArqc y) ≡ endingFor (cryptogramOutcome x kind)
 unfolding cryptogramOutcome
 online n e f = ap endingFor (sym (if-no _ _ (ne-eqb _ 0 n) ∙ if-yes _ _ (eq-eqb _ 2 e) ∙ ap onlineByArqc f))

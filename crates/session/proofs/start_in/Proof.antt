@@ -1,4 +1,5 @@
--- `session::start_in` meets its contract: the two refusals by their laws; past them the record keeps its ranges and the phase decides.
+-- `session::start_in` meets its contract: the two refusals by their laws; past them the record is in its ranges and the
+-- phase decides.
 -- Assumes nothing.
 use borrow.Author.Needs.{needs}
 use borrow.Author.Tests.{not-true, not-false}
@@ -14,7 +15,7 @@ use Rattle.session.proofs.Laws.{did-as, did-without-command, admitted-s
 use Rattle.session.proofs.start_in.Statement.{statement}
 use Rattle.session.proofs.start_in.Tie as tie
 
--- past the refusals the record keeps its ranges, and the phase decides
+-- past the refusals the record is in its ranges, and the phase decides
 ranged : (c : tie.Else2) → let a = c .before .before .before .before .before .before .before .args in inRanges (sessionOf (a .phase) (a .count) (a .store .now)) ≡ true
 ranged c = sym (c .before .parts-in-ranges .ensures .test) ∙ not-false _ (c .if2 .left)
 

@@ -1,4 +1,5 @@
--- `session::store_digits` meets its contract: a track fits the array that it is copied to, and goes back as long as it was.
+-- `session::store_digits` meets its contract: a track fits the array that it is copied to, and goes back as
+-- long as it was.
 -- Assumes nothing.
 use borrow.Author.Needs.{needs}
 use mathlib.Core.Path.{_≡_, sym, ap, _∙_}

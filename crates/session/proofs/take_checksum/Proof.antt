@@ -1,4 +1,5 @@
--- `session::take_checksum` meets its contract: a track that cannot take the digits apart, the reading is accepted or not, and each has its law.
+-- `session::take_checksum` meets its contract: a track that cannot take the digits apart, the reading is accepted or
+-- not, and each has its law.
 -- Assumes nothing.
 use borrow.Author.Needs.{needs}
 use native.Mathlib.Omega.{arith}

@@ -1,4 +1,4 @@
--- `session::take_record` meets its contract: the record that was asked for, then the reading, accepted or not.
+-- `session::take_record` meets its contract: the record that was requested, then the reading, accepted or not.
 -- Assumes nothing.
 use borrow.Author.Needs.{needs}
 use mathlib.Core.Path.{_≡_, ap, _∙_}
@@ -12,7 +12,7 @@ use Rattle.session.proofs.Laws.{did-as, did-without-command, found-as, 
 use Rattle.session.proofs.take_record.Statement.{statement}
 use Rattle.session.proofs.take_record.Tie as tie
 
--- the record that was asked for decides how its answer is read
+-- the record that was requested decides how its answer is read
 asked : (c : tie.After-record-at) (x : RecordFound) → let a = c .before .before .before .before .before .before .before .args in c .record-at .result ≡ x
     → recordStep (a .place) (a .count) (a .store .now) (a .card .now) (a .command .now) ≡ readRecordFound (a .place) (a .count) (a .store .now) (a .card .now) (a .command .now) x
 unfolding recordStep

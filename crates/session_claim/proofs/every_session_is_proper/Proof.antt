@@ -1,4 +1,4 @@
--- The claim is proofs/Trace's, for every list of calls, and so are the ranges of each; the methods are proofs/Methods'.
+-- The claim is proofs/Trace's, for every list of calls, and so are the ranges of each; the CVMs are proofs/Methods'.
 -- Assumes nothing.
 use mathlib.Core.Path.{refl}
 use Rattle.session_claim.proofs.Trace.{always, call-keeps}

@@ -1,4 +1,5 @@
--- `session_record::all_required_present` meets its contract. The invariant: the rows from here on, of those that a start must bring, decide.
+-- `session_record::all_required_present` meets its contract. The invariant: the rows from here on, of those that a
+-- start must bring, decide.
 -- Assumes nothing.
 use borrow.Author.Tests.{not-true, not-false}
 use mathlib.Core.Path.{_≡_, sym, _∙_}

@@ -1,4 +1,5 @@
--- `session_record::all_rows_fit` meets its contract. The invariant: the next row's place starts at `at`, and the walk stands at that row with `allRequiredPresent` counted.
+-- `session_record::all_rows_fit` meets its contract. The invariant: the next row's place starts at `at`, and the walk
+-- is at that row with `allRequiredPresent` counted.
 -- Assumes nothing.
 use borrow.Author.Tests.{not-true, not-false}
 use mathlib.Core.Path.{_≡_, refl, sym, ap, _∙_}
@@ -54,7 +55,7 @@ next-held-requires c κs =
     let lp = c .before .loop in
     (c .before .before .before .before .pre, (c .before .before .codes .ensures, (lp .inv .0, lp .inv .1)))
 
--- the walk comes to the next object that is there
+-- the walk comes to the next object that is present
 come : (c : lts.After-next-held Claims reads.Pre reads.Post Inv-loop μ-loop)
     → Walk (c .before .before .before .before .before .args .bytes .now) (c .next-held .result .row) (c .before .before .loop .brought)
 come c = walk-on _ (c .before .before .loop .row) _ _ _ (c .before .before .loop .inv .2) (c .next-held .ensures .passed)
@@ -65,7 +66,7 @@ returns c =
     let n = c .before .before in
     c .is-enough .ensures ∙ sym (walk-end (n .before .before .before .before .before .args .asked) _ (n .next-held .result .row) _ (come n) (omega arith))
 
--- what the row at hand says, and where its place stands
+-- what the row at hand says, and where its place is
 read : (c : lts.After-unpacked Claims reads.Pre reads.Post Inv-loop μ-loop) → c .unpacked .result ≡ attributesOf (rowAt (c .before .before .next-held .result .row))
 read c =
     let n = c .before .before in

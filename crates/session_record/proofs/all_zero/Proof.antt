@@ -1,4 +1,5 @@
--- `session_record::all_zero` meets its contract. The invariant: all are zero if the greatest so far is and the bytes from i on are.
+-- `session_record::all_zero` meets its contract. The invariant: all are zero if the greatest so far is and the bytes
+-- from i on are.
 -- Assumes nothing.
 use borrow.Author.Tests.{eq-eqb, ne-eqb}
 use mathlib.Core.Path.{_≡_, refl, sym, ap, _∙_}

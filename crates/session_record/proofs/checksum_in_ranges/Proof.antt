@@ -1,4 +1,5 @@
--- `session_record::checksum_in_ranges` meets its contract: where a clause holds, the later ones decide; last the locator and the count.
+-- `session_record::checksum_in_ranges` meets its contract: where a clause holds, the later ones decide; last the AFL
+-- and the count.
 -- Assumes nothing.
 use borrow.Author.Needs.{needs}
 use borrow.Author.Tests.{not-true, not-false, eq-eqb, ne-eqb}
@@ -56,7 +57,7 @@ past-limit : (c : tie.Else5)
     ≡ both (acceptsAfl (storedAfl b)) (eqb (a .count) (2 + storedRecordCount b))
 past-limit c = past-track (c .before .before .before) ∙ both-true _ (eq-eqb _ _ (c .if5 .left ∙ c .before .before .transaction-limit .ensures))
 
--- where the locator is accepted, the count decides
+-- where the AFL is accepted, the count decides
 counted : (c : tie.After-known-told)
     → let a = c .before .before .before .before .before .before .before .before .before .before .before .before .before .before .before .before .before .before .args in
     (both (allObjectsFit (a .bytes .now)) (checksumRanges (a .checksum) (a .count) (a .bytes .now)) ≡ eqb (a .count) (2 + storedRecordCount (a .bytes .now)))

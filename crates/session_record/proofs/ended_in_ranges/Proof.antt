@@ -9,7 +9,7 @@ use Rattle.session_record.proofs.Tests.{both-right-true}
 use Rattle.session_record.proofs.ended_in_ranges.Statement.{statement}
 use Rattle.session_record.proofs.ended_in_ranges.Tie as tie
 
--- a walk that asks for nothing more
+-- a walk that requires nothing more
 fit-is : (c : tie.After-all-rows-fit) → c .all-rows-fit .result ≡ allObjectsFit (c .before .before .args .bytes .now)
 fit-is c = c .all-rows-fit .ensures ∙ both-right-true _ (either-left _ _ refl)
 

@@ -1,4 +1,5 @@
--- `session_record::fresh_in_ranges` meets its contract: the count, then the bytes; where all are zero, every object fits.
+-- `session_record::fresh_in_ranges` meets its contract: the count, then the bytes; where all are zero, every
+-- object fits.
 -- Assumes nothing.
 use borrow.Author.Needs.{needs}
 use borrow.Author.Tests.{eq-eqb, ne-eqb}

@@ -1,4 +1,5 @@
--- `session_record::is_mag_stripe` meets its contract: 82 is there, its bit clear, and then the configuration's b8 decides, its weight 128.
+-- `session_record::is_mag_stripe` meets its contract: 82 is present, its bit clear, and then the configuration's b8
+-- decides, its weight 128.
 -- Assumes nothing.
 use borrow.Author.Needs.{needs}
 use borrow.Author.Tests.{not-true, not-false}

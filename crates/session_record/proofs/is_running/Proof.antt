@@ -1,4 +1,5 @@
--- `session_record::is_running` meets its contract: the walk first, which is two of the clauses; where a clause holds, the later ones decide.
+-- `session_record::is_running` meets its contract: the walk first, which is two of the clauses; where a clause holds,
+-- the later ones decide.
 -- Assumes nothing.
 use borrow.Author.Needs.{needs}
 use borrow.Author.Tests.{not-true, not-false}
@@ -17,11 +18,11 @@ use Rattle.session_record.proofs.Tags.{held-is, bytes-are}
 use Rattle.session_record.proofs.is_running.Statement.{statement}
 use Rattle.session_record.proofs.is_running.Tie as tie
 
--- one walk says that every object fits and that what a start must bring is there
+-- one walk says that every object fits and that what a start must bring is present
 kept-is : (c : tie.After-all-rows-fit) → let b = c .before .before .args .bytes .now in c .all-rows-fit .result ≡ both (allObjectsFit b) (allRequiredPresent b)
 kept-is c = c .all-rows-fit .ensures ∙ ap (both (allObjectsFit _)) (either-false _ refl)
 
--- the walk stands before the other clauses
+-- the walk is before the other clauses
 apart : (b : List ℕ) → both (allObjectsFit b) (runningRanges b) ≡ both (both (allObjectsFit b) (allRequiredPresent b)) (both (hasObject b 0x95) (both (listedTerminalType (storedByte b 0x9F35 1)) (lastResponseAbsent b)))
 unfolding runningRanges
 apart b = both-assoc (allObjectsFit b) (hasObject b 0x95) _ ∙ both-cross (allObjectsFit b) (hasObject b 0x95) (allRequiredPresent b) _

@@ -1,4 +1,5 @@
--- `session_record::next_held` meets its contract. The invariant: the objects from the first row on are passed, and the next row's place starts at `at`.
+-- `session_record::next_held` meets its contract. The invariant: the objects from the first row on are passed, and the
+-- next row's place starts at `at`.
 -- Assumes nothing.
 use Prim.Native.Nat.{_-_}
 use native.Mathlib.Omega.{arith}
@@ -29,7 +30,7 @@ shared-slice-read-if1 c = let lp = c .before .before .loop in omega (arith, row-
 returns : tie.Need-returns Inv-loop μ-loop
 returns c = let lp = c .before .before .before .loop in record { passed = lp .inv; there = λ h. omega arith }
 
--- where the place of the row at hand stands
+-- where the place of the row at hand is
 stood : (c : lts.After-unpacked (unpacked.Asked, unpacked.Learnt) reads.Pre reads.Post Inv-loop μ-loop)
     → let lp = c .before .before .before .before .before .loop in
     Stands (lp .row) (lp .at) (c .unpacked .result .greatest)

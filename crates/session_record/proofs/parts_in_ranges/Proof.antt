@@ -1,4 +1,5 @@
--- `session_record::parts_in_ranges` meets its contract: the store's size, then what the phase keeps, the stored objects among it.
+-- `session_record::parts_in_ranges` meets its contract: the store's size, then what the phase keeps, the stored
+-- objects among it.
 -- Assumes nothing.
 use borrow.Author.Needs.{needs}
 use borrow.Author.Tests.{eq-eqb, ne-eqb}
@@ -14,7 +15,7 @@ use Rattle.session_record.proofs.Laws.{tells}
 use Rattle.session_record.proofs.parts_in_ranges.Statement.{statement}
 use Rattle.session_record.proofs.parts_in_ranges.Tie as tie
 
--- where the size is right, the phase decides; what the test says of the clauses follows (`tells`)
+-- where the size is right, the phase decides; what the test reports of the clauses follows (`tells`)
 by-phase : (c : tie.Else1) (p : Phase) {r : Bool} → let a = c .before .before .args in a .phase ≡ p
     → r ≡ both (allObjectsFit (a .bytes .now)) (phaseRanges p (sessionOf (a .phase) (a .count) (a .bytes .now)))
     → TestsRanges (sessionOf (a .phase) (a .count) (a .bytes .now)) r

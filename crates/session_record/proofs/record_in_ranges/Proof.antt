@@ -1,4 +1,5 @@
--- `session_record::record_in_ranges` meets its contract: where a clause holds, the later ones decide; last the locator, k and the count.
+-- `session_record::record_in_ranges` meets its contract: where a clause holds, the later ones decide; last the AFL, k
+-- and the count.
 -- Assumes nothing.
 use borrow.Author.Needs.{needs}
 use borrow.Author.Tests.{not-true, not-false, eq-eqb, ne-eqb, le-leb, lt-leb}
@@ -49,7 +50,7 @@ past-limit : (c : tie.Else4)
     ≡ both (acceptsAfl (storedAfl b)) (both (between 1 (a .place .number) (storedRecordCount b)) (eqb (a .count) (1 + a .place .number)))
 past-limit c = past-95 (c .before .before .before) ∙ both-true _ (eq-eqb _ _ (c .if4 .left ∙ c .before .before .transaction-limit .ensures))
 
--- where the locator is accepted, k and the count decide
+-- where the AFL is accepted, k and the count decide
 counted : (c : tie.After-known-told)
     → let a = c .before .before .before .before .before .before .before .before .before .before .before .before .before .before .before .before .args in
     (both (allObjectsFit (a .bytes .now)) (recordRanges (a .place) (a .count) (a .bytes .now)) ≡ both (between 1 (a .place .number) (storedRecordCount (a .bytes .now))) (eqb (a .count) (1 + a .place .number)))

@@ -1,4 +1,5 @@
--- `start_data::load` meets its contract. One law for each way out, in the order of the refusals; a store that is cleared is as it came.
+-- `start_data::load` meets its contract. One law for each way out, in the order of the refusals; a store that is
+-- cleared is as it came.
 -- Assumes nothing.
 use borrow.Author.Needs.{needs}
 use borrow.Author.Tests.{not-true, not-false}

@@ -1,5 +1,5 @@
--- `start_data::set_objects` meets its contract. The invariant: setting what is left in the working store as it stands is setting the whole.
--- The measure is the length of what is left. Assumes nothing.
+-- `start_data::set_objects` meets its contract. The invariant: setting what is left in the working store as it stands
+-- is setting the whole. The measure is the length of what is left. Assumes nothing.
 use borrow.Author.Needs.{needs}
 use borrow.Author.Tests.{not-true, not-false}
 use mathlib.Core.Path.{_≡_, refl, sym, _∙_}

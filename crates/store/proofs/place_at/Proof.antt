@@ -1,4 +1,5 @@
--- `store::place_at` meets its contract: each case is a row's number, computed; what is left when no case fits lies past the last row.
+-- `store::place_at` meets its contract: each case is a row's number, computed; what is left when no case fits lies past
+-- the last row.
 -- Assumes nothing.
 use mathlib.Core.Path.{_≡_, sym, ap}
 use mathlib.Core.List.{[], _∷_}

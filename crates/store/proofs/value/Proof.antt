@@ -1,4 +1,4 @@
--- `store::value` meets its contract. The part behind the length byte, as long as the stored length says.
+-- `store::value` meets its contract. The part after the length byte, as long as the stored length says.
 -- Assumes nothing.
 use borrow.Author.Needs.{needs}
 use mathlib.Core.Path.{_≡_, sym, ap, _∙_}
@@ -14,7 +14,7 @@ use Rattle.store.proofs.Laws.{length-byte-at, storedLength, value-bytes
 use Rattle.store.proofs.value.Statement.{statement}
 use Rattle.store.proofs.value.Tie as tie
 
--- a part that starts behind the length byte and is cut at the stored length, or at the store's end before it
+-- a part that starts after the length byte and ends at the stored length, or at the store's end before it
 cut : (b : List ℕ) (k start m : ℕ) → start ≡ rowOffset dictionaryRows k + 1 → start ≤ length b → (m ≡ storedLength dictionaryRows b k)
     → take m (drop start b) ≡ bytesOfValue (rowValue dictionaryRows b k)
 cut b k start m s l e =

@@ -1,4 +1,5 @@
--- `store::write` meets its contract. The invariant: the length byte and the first i bytes of the value are written, the rest is as it was.
+-- `store::write` meets its contract. The invariant: the length byte and the first i bytes of the value are written, the
+-- rest is as it was.
 -- Assumes nothing.
 use mathlib.Core.Path.{_≡_, refl, _∙_}
 use Prim.Native.Nat.{_+_, _-_, _≤_, _<_}

@@ -1,4 +1,4 @@
--- `empty_records`: one record to a turn of the loop; the slice keeps its length.
+-- `empty_records`: one record to an iteration of the loop; the slice keeps its length.
 -- Assumes nothing.
 use mathlib.Core.Path.{_≡_, refl}
 use Prim.Native.Nat.{_-_}

@@ -1,4 +1,4 @@
--- One row to a turn of the loop. Assumes nothing.
+-- One row to an iteration of the loop. Assumes nothing.
 use Prim.Native.Nat.{_-_}
 use borrow.Author.Needs.{needs}
 use Rattle.dictionary.specs.Rows.{rowCount}

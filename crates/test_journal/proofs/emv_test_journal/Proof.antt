@@ -13,7 +13,7 @@ use Rattle.test_journal.specs.Word.{verdictWord}
 use Rattle.test_journal.proofs.emv_test_journal.Statement.{statement}
 use Rattle.test_journal.proofs.emv_test_journal.Tie as tie
 
--- a part behind the front
+-- a part after the front
 parted : (b : List ℕ) (n e : ℕ) → n < e → take n b ++ take (e - n) (drop n b) ≡ take e b
 parted b n e h = let z : n + (e - n) ≡ e = omega arith in sym (take-add n (e - n) b) ∙ ap (λ (m : ℕ). take m b) z
 

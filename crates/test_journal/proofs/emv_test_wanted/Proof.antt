@@ -1,4 +1,5 @@
--- `test_journal::emv_test_wanted` meets its contract: the checker follows the bytes, and what is wanted is copied whole.
+-- `test_journal::emv_test_wanted` meets its contract: the checker follows the bytes, and what is expected is
+-- copied whole.
 -- Assumes nothing.
 use borrow.Author.Needs.{needs}
 use mathlib.Core.Path.{subst, _∙_}

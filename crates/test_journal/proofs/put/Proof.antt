@@ -1,4 +1,4 @@
--- `test_journal::put` meets its contract: the copy stands in front of what was there.
+-- `test_journal::put` meets its contract: the copy is at the front of what was there.
 -- Assumes nothing.
 use borrow.Author.Needs.{needs}
 use borrow.Author.Tests.{lt-ltb, le-ltb}

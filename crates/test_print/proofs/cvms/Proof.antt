@@ -1,4 +1,4 @@
--- One method to a turn of the loop. Assumes nothing.
+-- One CVM to an iteration of the loop. Assumes nothing.
 use Prim.Native.Nat.{_-_}
 use borrow.Author.Needs.{needs}
 use Rattle.test_print.proofs.cvms.Statement.{statement}

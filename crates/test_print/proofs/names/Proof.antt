@@ -1,4 +1,4 @@
--- One row to a turn of the loop; the store keeps its size. Assumes nothing.
+-- One row to an iteration of the loop; the store keeps its size. Assumes nothing.
 use mathlib.Core.Path.{_≡_}
 use lib.ListN.{length}
 use Rattle.dictionary.specs.Rows.{rowCount, storeSize}

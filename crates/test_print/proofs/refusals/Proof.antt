@@ -1,4 +1,4 @@
--- One refusal to a turn of the loop. Assumes nothing.
+-- One refusal to an iteration of the loop. Assumes nothing.
 use Prim.Native.Nat.{_-_}
 use borrow.Author.Needs.{needs}
 use Rattle.test_print.proofs.refusals.Statement.{statement}

@@ -1,4 +1,4 @@
--- `test_reading::emv_test_read` meets its contract: nothing is asked for, or the answer is read, each by its law.
+-- `test_reading::emv_test_read` meets its contract: nothing is requested, or the answer is read, each by its law.
 -- Assumes nothing.
 use borrow.Author.Needs.{needs}
 use mathlib.Core.Path.{sym, _∙_}

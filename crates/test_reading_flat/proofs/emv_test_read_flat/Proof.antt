@@ -1,4 +1,5 @@
--- `test_reading_flat::emv_test_read_flat` meets its contract: nothing is asked for, or the answer is read, each by its law.
+-- `test_reading_flat::emv_test_read_flat` meets its contract: nothing is requested, or the answer is read,
+-- each by its law.
 -- Assumes nothing.
 use borrow.Author.Needs.{needs}
 use mathlib.Core.Path.{sym, _∙_}

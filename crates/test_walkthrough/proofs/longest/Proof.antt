@@ -1,4 +1,4 @@
--- One record to a turn of the loop. Assumes nothing.
+-- One record to an iteration of the loop. Assumes nothing.
 use Prim.Native.Nat.{_-_}
 use borrow.Author.Needs.{needs}
 use Rattle.test_walkthrough.proofs.longest.Statement.{statement}

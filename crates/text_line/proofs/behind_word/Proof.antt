@@ -1,4 +1,4 @@
--- `text_line::behind_word` meets its contract. What stands behind the first word.
+-- `text_line::behind_word` meets its contract. What follows the first word.
 -- Assumes nothing.
 use borrow.Author.Needs.{needs}
 use mathlib.Core.Path.{ap, _∙_}

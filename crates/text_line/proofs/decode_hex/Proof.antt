@@ -1,4 +1,5 @@
--- `text_line::decode_hex` meets its contract. The invariant is `Decoding`: n bytes are in their place, the rest is still to decode.
+-- `text_line::decode_hex` meets its contract. The invariant is `Decoding`: n bytes are in their place, the rest is
+-- still to decode.
 -- Assumes nothing.
 use borrow.Author.Needs.{needs}
 use mathlib.Core.Path.{_≡_, sym, ap, _∙_}
@@ -40,7 +41,7 @@ returns-2 c =
 inside : (c : tie.Else1 Inv-loop μ-loop) → 2 ≤ length (c .before .before .before .before .before .before .loop .rest .now)
 inside c = pair-length _ _ (byte-read (c .before .before))
 
--- what is left behind it, past the blanks
+-- what is left after it, past the blanks
 left : (c : tie.After-past-blanks2 Inv-loop μ-loop)
     → c .past-blanks2 .result .now ≡ pastFront (isOfKind CharacterKind.Blank) (drop 2 (c .before .before .before .before .before .before .before .before .loop .rest .now))
 left c =

@@ -1,4 +1,4 @@
--- `text_line::first_word` meets its contract. The front part without blanks of what stands behind the blanks.
+-- `text_line::first_word` meets its contract. The front part without blanks of what follows the blanks.
 -- Assumes nothing.
 use borrow.Author.Needs.{needs}
 use mathlib.Core.Path.{ap, _∙_}

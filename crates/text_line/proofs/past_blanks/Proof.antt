@@ -1,4 +1,4 @@
--- `text_line::past_blanks` meets its contract. What stands behind the blanks in front.
+-- `text_line::past_blanks` meets its contract. What is after the leading blanks.
 -- Assumes nothing.
 use borrow.Author.Needs.{needs}
 use Rattle.text_line.proofs.Text.{past-is}

@@ -1,4 +1,4 @@
--- `tlv::behind_padding` meets its contract: what stands behind the padding.
+-- `tlv::behind_padding` meets its contract: what follows the padding.
 -- Assumes nothing.
 use borrow.Author.Needs.{needs}
 use Rattle.tlv.proofs.behind_padding.Statement.{statement}

@@ -1,4 +1,5 @@
--- `tlv::is_primitive_list` meets its contract. The invariant: what is left is a run exactly where the whole is. The measure is its length.
+-- `tlv::is_primitive_list` meets its contract. The invariant: what is left is a run exactly where the whole is. The
+-- measure is its length.
 -- Assumes nothing.
 use borrow.Author.Needs.{needs}
 use mathlib.Core.Path.{_≡_, refl, sym, _∙_}

@@ -1,4 +1,4 @@
--- `is_template`: the same test on the first byte that `first_byte` hands back.
+-- `is_template`: the same test on the first byte that `first_byte` returns.
 -- Assumes nothing.
 use borrow.Author.Needs.{needs}
 use Rattle.tlv.specs.Tag.{isTemplate}

@@ -1,4 +1,5 @@
--- `length_at`: the definition by places, with the tests that led to each way out; those that the long forms share are in `long`.
+-- `length_at`: the definition by places, with the tests that led to each way out; those that the long forms share
+-- are in `long`.
 -- Assumes nothing.
 use mathlib.Core.Path.{_≡_, _∙_}
 use native.Mathlib.Omega.{arith}

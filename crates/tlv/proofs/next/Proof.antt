@@ -1,4 +1,4 @@
--- `tlv::next` meets its contract: what stands behind the padding. That padding changes no tree holds of all bytes.
+-- `tlv::next` meets its contract: what follows the padding. That padding changes no tree holds of all bytes.
 -- Assumes nothing.
 use borrow.Author.Needs.{needs}
 use Rattle.tlv.proofs.Encoding.{passes-over}

@@ -1,4 +1,5 @@
--- `tlv::object_at` meets its contract: what `object_header` told of the bytes from the place on, which end where all bytes end.
+-- `tlv::object_at` meets its contract: what `object_header` reported of the bytes from the place on, which end where
+-- all bytes end.
 -- Assumes nothing.
 use borrow.Author.Needs.{needs}
 use mathlib.Core.Path.{_≡_, sym, ap, _∙_}
@@ -19,7 +20,7 @@ returns c =
     let a = c .before .before .before .before .before .args in
     sym (ap (λ x. nextShifted (a .at) (frontNext x)) (ap headerOf (sym (tail-is (a .s .now) (a .at))) ∙ sym (c .before .before .object-header .ensures) ∙ c .enum-told .given .1))
 
--- where an object stands there
+-- where an object is present
 abbrev At-object : Type 0
 At-object = lts.After-struct-known (head-reads.Asked, head-reads.Learnt) reads.Pre reads.Post
 

@@ -1,4 +1,4 @@
--- `tlv::object_behind` meets its contract: behind the last byte nothing is left; else the object there is next.
+-- `tlv::object_behind` meets its contract: after the last byte nothing is left; else the object there is next.
 -- Assumes nothing.
 use borrow.Author.Needs.{needs}
 use mathlib.Core.Path.{_≡_, sym, ap, _∙_}

@@ -1,4 +1,5 @@
--- `object_header`: what `tag_at` and `length_at` told is the definition's, and fits, so the sums do; the tag's number begins with the first byte.
+-- `object_header`: what `tag_at` and `length_at` reported is the definition's, and fits, so the sums do; the tag's
+-- number begins with the first byte.
 -- Assumes nothing.
 use mathlib.Core.Path.{sym, _∙_}
 use native.Mathlib.Omega.{arith}

@@ -1,4 +1,5 @@
--- `tlv::padding` meets its contract. The invariant: what is next in all bytes is what is next from `at` on, so many places further on.
+-- `tlv::padding` meets its contract. The invariant: what is next in all bytes is what is next from `at` on, so many
+-- places further on.
 -- Assumes nothing.
 use borrow.Author.Needs.{needs}
 use mathlib.Core.Path.{_≡_, sym, _∙_}

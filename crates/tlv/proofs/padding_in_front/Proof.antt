@@ -1,4 +1,4 @@
--- `tlv::padding_in_front` meets its contract: nothing is left, no padding stands there, or it is counted.
+-- `tlv::padding_in_front` meets its contract: nothing is left, no padding is there, or it is counted.
 -- Assumes nothing.
 use borrow.Author.Needs.{needs}
 use mathlib.Core.Path.{sym}

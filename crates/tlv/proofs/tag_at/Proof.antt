@@ -1,4 +1,4 @@
--- `tag_at`: no tag where `tag_size` told none, else the number that `tag_number` read of so many bytes.
+-- `tag_at`: no tag where `tag_size` reported none, else the number that `tag_number` read of so many bytes.
 -- Assumes nothing.
 use mathlib.Core.Path.{sym}
 use borrow.Author.Needs.{needs}

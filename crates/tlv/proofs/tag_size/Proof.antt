@@ -1,4 +1,5 @@
--- `tag_size`: the definition by places, with the tests that led to each way out; those that later ways share are in `second` and `third`.
+-- `tag_size`: the definition by places, with the tests that led to each way out; those that later ways share are in
+-- `second` and `third`.
 -- Assumes nothing.
 use mathlib.Core.Path.{_≡_, sym, _∙_}
 use Prim.Native.Nat.{_%_}

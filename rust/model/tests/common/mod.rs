@@ -5,7 +5,7 @@ use model::dictionary::Object;
 use model::store::{self, Store};
 use model::{HEAD_SIZE, SESSION_SIZE};
 
-/// Bytes of a hexadecimal text; blanks are passed over.
+/// Bytes of a hexadecimal text; blanks are skipped.
 pub fn hex(text: &str) -> Vec<u8> {
     let digits: Vec<u32> = text
         .chars()
@@ -85,7 +85,7 @@ pub fn is_command(word: u32) -> bool {
     word < 0x0001_0000
 }
 
-/// Whether a word is a refusal. Bits 16 to 23 tell the kind; those above are an outcome's method.
+/// Whether a word is a refusal. Bits 16 to 23 give the kind; those above are an outcome's CVM.
 pub fn is_refusal(word: u32) -> bool {
     word >> 16 & 0xFF == 2
 }
@@ -94,7 +94,7 @@ pub fn refused(number: u32) -> u32 {
     0x0002_0000 + number
 }
 
-/// The numbers of the methods in a word.
+/// The numbers of the CVMs in a word.
 pub const NO_CVM: u32 = 0;
 pub const SIGNATURE: u32 = 1;
 pub const ONLINE_PIN: u32 = 2;
@@ -102,17 +102,17 @@ pub const CONFIRMATION_CODE: u32 = 3;
 pub const OFFLINE_PIN: u32 = 4;
 pub const NOT_APPLICABLE: u32 = 15;
 
-/// An outcome with its reason and method.
+/// An outcome with its reason and CVM.
 pub fn outcome(method: u32, outcome: u32, reason: u32) -> u32 {
     (method << 24) + 0x0001_0000 + outcome * 256 + reason
 }
 
-/// A decision of a session without a method, as those of cards that do not support cardholder verification are.
+/// A decision of a session without a CVM, as those of cards that do not support cardholder verification are.
 pub fn decided(decision: u32) -> u32 {
     outcome(NO_CVM, decision, 0)
 }
 
-/// An end before the choice of a method.
+/// An end before the choice of a CVM.
 pub fn ended(reason: u32) -> u32 {
     outcome(NOT_APPLICABLE, 3, reason)
 }
@@ -145,12 +145,12 @@ impl Host {
         host
     }
 
-    /// A session past the processing options, with the locator given. The card does not support cardholder verification.
+    /// A session past GPO, with the AFL given. The card does not support cardholder verification.
     pub fn reading(changes: &[&str], locator: &str) -> Host {
         Host::reading_card(changes, "0080", locator)
     }
 
-    /// A session past the processing options, with the profile and the locator given.
+    /// A session past GPO, with the AIP and the AFL given.
     pub fn reading_card(changes: &[&str], profile: &str, locator: &str) -> Host {
         let mut host = Host::started(changes);
         let (profile, locator) = (hex(profile), hex(locator));
@@ -221,7 +221,7 @@ impl Host {
         &self.buffer[..word as usize]
     }
 
-    /// The head of the record without the limit in force: version, phase, two bytes of detail, count, method.
+    /// The head of the record without the transaction limit: version, phase, two bytes of detail, count, CVM.
     pub fn head(&self) -> [u8; 6] {
         if !matches!(self.session[1], 2 | 3 | 5) {
             assert_eq!(self.session[6..HEAD_SIZE], [0; 8]);
@@ -229,7 +229,7 @@ impl Host {
         self.session[..6].try_into().expect("a whole record")
     }
 
-    /// The limit in force that the record holds.
+    /// The transaction limit that the record holds.
     pub fn limit(&self) -> u64 {
         let limit = self.session[6..HEAD_SIZE].try_into();
         u64::from_be_bytes(limit.expect("eight bytes"))

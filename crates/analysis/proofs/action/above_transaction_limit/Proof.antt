@@ -1,4 +1,5 @@
--- `action::above_transaction_limit` meets its contract: the row is the tag's (`bytes-by-row`), against the limit that is given. Assumes nothing.
+-- `action::above_transaction_limit` meets its contract: the row is the tag's (`bytes-by-row`), against the limit that
+-- is given. Assumes nothing.
 use mathlib.Core.Path.{ap, _∙_}
 use borrow.Author.Needs.{needs}
 use Rattle.dictionary.proofs.Named.{at-9F02}

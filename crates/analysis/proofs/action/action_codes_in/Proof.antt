@@ -1,4 +1,5 @@
--- `action::action_codes_in` meets its contract: flag and bytes of the card's code are its value (`flag-bytes`). Assumes nothing.
+-- `action::action_codes_in` meets its contract: flag and bytes of the card's code are its value (`flag-bytes`).
+-- Assumes nothing.
 use mathlib.Core.Path.{ap₂, _∙_}
 use borrow.Author.Needs.{needs}
 use Rattle.analysis.specs.Choice.{actionCodesAt}

@@ -1,4 +1,5 @@
--- `action::auc_violated_in` meets its contract: the rows are the tags' (`value-by-row`, `byte-by-row`). Assumes nothing.
+-- `action::auc_violated_in` meets its contract: the rows are the tags' (`value-by-row`, `byte-by-row`).
+-- Assumes nothing.
 use mathlib.Core.Path.{_∙_}
 use borrow.Author.Needs.{needs}
 use Rattle.dictionary.proofs.Named.{at-9C, at-9F07}

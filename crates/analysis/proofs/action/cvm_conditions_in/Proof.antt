@@ -1,4 +1,5 @@
--- `action::cvm_conditions_in` meets its contract: field by field, the rows are the tags' (`bytes-by-row`, `byte-by-row`). Assumes nothing.
+-- `action::cvm_conditions_in` meets its contract: field by field, the rows are the tags' (`bytes-by-row`,
+-- `byte-by-row`). Assumes nothing.
 use mathlib.Core.Path.{ap, _∙_}
 use mathlib.Core.List.{List}
 use Prim.Native.Nat.{ℕ}

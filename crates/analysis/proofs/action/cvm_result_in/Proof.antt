@@ -1,4 +1,5 @@
--- `action::cvm_result_in` meets its contract: by the test for a phone; the rows are the tags' (`value-by-row`, `byte-by-row`).
+-- `action::cvm_result_in` meets its contract: by the test for on-device CVM; the rows are the tags' (`value-by-row`,
+-- `byte-by-row`).
 -- Assumes nothing.
 use mathlib.Core.Path.{sym, _∙_}
 use Rattle.basics.proofs.Laws.{if-yes, if-no}

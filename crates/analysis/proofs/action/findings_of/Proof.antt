@@ -1,4 +1,5 @@
--- `action::findings_of` meets its contract: what the verification gave, and the result with its bits; phones by `on-device-rules`.
+-- `action::findings_of` meets its contract: what the verification gave, and the TVR with its bits; on-device CVM by
+-- `on-device-rules`.
 -- Assumes nothing.
 use mathlib.Core.Path.{_≡_, ap, _∙_}
 use Rattle.analysis.specs.Action.{findingsOf, cvmResultIn}

@@ -1,4 +1,5 @@
--- `action::not_yet_effective_in` meets its contract: the rows are the tags' (`value-by-row`, `bytes-by-row`). Assumes nothing.
+-- `action::not_yet_effective_in` meets its contract: the rows are the tags' (`value-by-row`, `bytes-by-row`).
+-- Assumes nothing.
 use mathlib.Core.Path.{ap₂, _∙_}
 use borrow.Author.Needs.{needs}
 use Rattle.dictionary.proofs.Named.{at-5F25, at-9A}

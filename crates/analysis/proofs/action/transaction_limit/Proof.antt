@@ -1,4 +1,5 @@
--- `action::transaction_limit` meets its contract: by the test for a phone; the rows are the tags' (`bytes-by-row`). Assumes nothing.
+-- `action::transaction_limit` meets its contract: by the test for on-device CVM; the rows are the tags'
+-- (`bytes-by-row`). Assumes nothing.
 use mathlib.Core.Path.{sym, ap, _∙_}
 use borrow.Author.Needs.{needs}
 use Rattle.basics.proofs.Laws.{if-yes, if-no}

@@ -1,4 +1,5 @@
--- `action::tvr_with_cvm` meets its contract: the added bits are at most 20 in byte 1 and C4 in byte 3, so the sums are bytes.
+-- `action::tvr_with_cvm` meets its contract: the added bits are at most 20 in byte 1 and C4 in byte 3, so the
+-- sums are bytes.
 -- Assumes nothing.
 use mathlib.Core.List.{List, [], _∷_}
 use mathlib.Core.Path.{_≡_, ap, ap₂}
@@ -16,7 +17,7 @@ use Rattle.analysis.proofs.CvmLaws.{first-most, third-most, on-device-b
 use Rattle.analysis.proofs.action.tvr_with_cvm.Statement.{statement}
 use Rattle.analysis.proofs.action.tvr_with_cvm.Tie as tie
 
--- bytes 1 and 3 of the result, and the most that is added to them
+-- bytes 1 and 3 of the TVR, and the most that is added to them
 first-is : (b r : List ℕ) → r ≡ tvrOf b → getD r 0 0 ≡ 0x80
 unfolding tvrOf
 first-is b r e = ap (λ (s : List ℕ). getD s 0 0) e
@@ -45,7 +46,7 @@ add-t16 c =
     let b = c .before .before .args .bytes .now in
     record { fits = omega (arith, third-is b _ (c .tvr-of .ensures), third-added b, c .before .before .pre .1) }
 
--- the bits stand in bytes 1 and 3
+-- the bits are in bytes 1 and 3
 added : (a b c d e x z : ℕ) → (a + x) ∷ b ∷ (c + z) ∷ d ∷ e ∷ [] ≡ tvrWithBits (a ∷ b ∷ c ∷ d ∷ e ∷ []) (x ∷ 0 ∷ z ∷ 0 ∷ 0 ∷ [])
 unfolding tvrWithBits
 added a b c d e x z =

@@ -1,4 +1,5 @@
--- `action::version_differs_in` meets its contract: the rows are the tags' (`value-by-row`, `bytes-by-row`). Assumes nothing.
+-- `action::version_differs_in` meets its contract: the rows are the tags' (`value-by-row`, `bytes-by-row`).
+-- Assumes nothing.
 use mathlib.Core.Path.{ap₂, _∙_}
 use borrow.Author.Needs.{needs}
 use Rattle.dictionary.proofs.Named.{at-9F08, at-9F09}

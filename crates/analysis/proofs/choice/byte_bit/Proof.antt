@@ -1,4 +1,5 @@
--- `choice::byte_bit` meets its contract. The loop's invariant: no bit before k is held; so the first that is held is the lowest.
+-- `choice::byte_bit` meets its contract. The loop's invariant: no bit before k is held; so the first that is held
+-- is the lowest.
 -- Assumes nothing.
 use mathlib.Core.Bool.{false}
 use mathlib.Core.Path.{_≡_, sym, ap, _∙_}

@@ -1,4 +1,5 @@
--- `choice::capability_of` meets its contract: at each listed digit the definition computes, and at any other each of its tests fails.
+-- `choice::capability_of` meets its contract: at each listed digit the definition computes, and at any other each of
+-- its tests fails.
 -- Assumes nothing.
 use mathlib.Core.Logic.{inl, inr}
 use mathlib.Core.Path.{sym, ap, _∙_}

@@ -1,6 +1,6 @@
 -- `choice::choose` meets its contract. The loop's invariant: no stage before this one is consulted and holds a bit.
--- Then the first that does decides (`choice-by-stage`), and after the last the type alone (`choice-by-type`); the number follows
--- (`asks`). Assumes nothing.
+-- Then the first that does decides (`choice-by-stage`), and after the last the type alone (`choice-by-type`); the
+-- number follows (`asks`). Assumes nothing.
 use mathlib.Core.Logic.{inl, inr}
 use mathlib.Core.Path.{sym, ap, _∙_}
 use Prim.Native.Nat.{_-_, _≤_}

@@ -1,4 +1,4 @@
--- `choice::consulted` meets its contract: past denial the type alone says which stage it consults (`later`).
+-- `choice::consulted` meets its contract: past denial the type alone determines which stage it consults (`later`).
 -- Assumes nothing.
 use mathlib.Core.Path.{_≡_, sym, ap, _∙_}
 use Prim.Native.Nat.{ℕ}

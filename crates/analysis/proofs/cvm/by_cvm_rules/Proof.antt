@@ -1,5 +1,5 @@
--- `cvm::by_cvm_rules` meets its contract. The loop's invariant: what the rules say of the whole is what they say of the rest,
--- with the unrecognised methods met so far. The measure is the length of the rest.
+-- `cvm::by_cvm_rules` meets its contract. The loop's invariant: what the rules say of the whole is what they say of the
+-- rest, with the unrecognised CVMs met so far. The measure is the length of the rest.
 -- Assumes nothing.
 use mathlib.Core.Path.{_≡_, refl, sym, _∙_}
 use native.Mathlib.Omega.{arith}

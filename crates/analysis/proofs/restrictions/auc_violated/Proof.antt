@@ -1,5 +1,5 @@
--- `restrictions::auc_violated` meets its contract: the first need that is not met makes the whole fail, and after three that are met the
--- fourth decides. Assumes nothing.
+-- `restrictions::auc_violated` meets its contract: the first need that is not met makes the whole fail, and after three
+-- that are met the fourth decides. Assumes nothing.
 use mathlib.Core.Bool.{Bool, true, false, not}
 use mathlib.Core.List.{List}
 use mathlib.Core.Path.{_≡_, sym, ap, _∙_}
@@ -16,7 +16,7 @@ use Rattle.analysis.proofs.Value.{given-there, given-absent}
 use Rattle.analysis.proofs.restrictions.auc_violated.Statement.{statement}
 use Rattle.analysis.proofs.restrictions.auc_violated.Tie as tie
 
--- where the control is there, what is said of the four needs is said of the whole
+-- where the control is present, what is said of the four needs is said of the whole
 there : (t : Bool) (s : List ℕ) (atm : Bool) (k : IssuerCountry) (x : ℕ) (b v : Bool) → t ≡ true → both (aucTerminalMet s atm) (both (aucCashMet s k x) (both (aucGoodsMet s k x) (aucAllowsCashback s k b))) ≡ v → not v ≡ aucViolated (valueIf t s) atm k x b
 unfolding aucViolated
 there t s atm k x b v e m = sym (ap (λ (w : StoredValue). aucViolated w atm k x b) (given-there t s e) ∙ ap not m)

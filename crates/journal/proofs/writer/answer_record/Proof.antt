@@ -1,4 +1,5 @@
--- `journal::writer::answer_record` meets its contract: the card's bytes stand in the front of zeros, or the length says that they are too many.
+-- `journal::writer::answer_record` meets its contract: the card's bytes are at the front of zeros, or the length says
+-- that they are too many.
 -- Assumes nothing.
 use borrow.Author.Needs.{needs}
 use borrow.Author.Tests.{le-leb, lt-leb}

@@ -1,4 +1,4 @@
--- `journal::writer::command_record` meets its contract: the front of the buffer stands in the front of zeros.
+-- `journal::writer::command_record` meets its contract: the front of the buffer is at the front of zeros.
 -- Assumes nothing.
 use borrow.Author.Needs.{needs}
 use borrow.Author.Tests.{le-leb, lt-leb}

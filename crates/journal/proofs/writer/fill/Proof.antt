@@ -1,4 +1,4 @@
--- `journal::writer::fill` meets its contract: three bytes are stored, and the bytes are copied behind them.
+-- `journal::writer::fill` meets its contract: three bytes are stored, and the bytes are copied after them.
 -- Assumes nothing.
 use borrow.Author.Needs.{needs}
 use native.Mathlib.Omega.{arith}

@@ -1,4 +1,4 @@
--- `journal::writer::start_record` meets its contract: the bytes stand in the front of zeros.
+-- `journal::writer::start_record` meets its contract: the bytes are at the front of zeros.
 -- Assumes nothing.
 use borrow.Author.Needs.{needs}
 use borrow.Author.Tests.{le-leb, lt-leb}

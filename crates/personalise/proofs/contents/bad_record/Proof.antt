@@ -1,4 +1,5 @@
--- `contents::bad_record` meets its contract. The invariant: the least bad record is the first bad one from k on. The measure is 256 - k.
+-- `contents::bad_record` meets its contract. The invariant: the least bad record is the first bad one from k on. The
+-- measure is 256 - k.
 -- Assumes nothing.
 use mathlib.Core.Path.{_≡_, sym, _∙_}
 use Prim.Native.Nat.{_-_, _≤_}

@@ -1,4 +1,4 @@
--- `contents::placed_size` meets its contract: by whether the object stands there.
+-- `contents::placed_size` meets its contract: by whether the object is present.
 -- Assumes nothing.
 use borrow.Author.Needs.{needs}
 use borrow.Author.Tests.{not-true, not-false}

@@ -1,5 +1,5 @@
--- `contents::size` meets its contract. The invariant: the size so far, at most 253, and that of what is left, which is a run, are that of
--- the whole, up to the bound. The measure is the length of what is left. Assumes nothing.
+-- `contents::size` meets its contract. The invariant: the size so far, at most 253, and that of what is left, which is
+-- a run, are that of the whole, up to the bound. The measure is the length of what is left. Assumes nothing.
 use borrow.Author.Needs.{needs}
 use mathlib.Core.Path.{_≡_, refl, sym, _∙_}
 use mathlib.Core.Bool.{true}

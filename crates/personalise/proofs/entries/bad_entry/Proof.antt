@@ -1,5 +1,5 @@
--- `entries::bad_entry` meets its contract. The invariant: the first bad entry of the whole is that of what is left behind those passed,
--- which are whole. The measure is the length of what is left. Assumes nothing.
+-- `entries::bad_entry` meets its contract. The invariant: the first bad entry of the whole is that of what is left
+-- after those passed, which are whole. The measure is the length of what is left. Assumes nothing.
 use borrow.Author.Tests.{not-true, not-false}
 use mathlib.Core.Path.{_≡_, sym, _∙_}
 use Prim.Native.Nat.{_-_, _%_, _≤_}

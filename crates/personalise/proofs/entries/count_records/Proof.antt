@@ -1,5 +1,5 @@
--- `entries::count_records` meets its contract. The invariant: the count so far and that of what is left are that of the whole; each
--- entry names at most 256. The measure is the length of what is left. Assumes nothing.
+-- `entries::count_records` meets its contract. The invariant: the count so far and that of what is left are that of the
+-- whole; each entry names at most 256. The measure is the length of what is left. Assumes nothing.
 use borrow.Author.Needs.{needs}
 use mathlib.Core.Path.{_≡_, refl, _∙_}
 use Prim.Native.Nat.{_+_, _*_, _≤_}

@@ -1,5 +1,5 @@
--- `entries::is_apart` meets its contract. The invariant: the entry is apart from what is left exactly where it is from the whole.
--- The measure is the length of what is left. Assumes nothing.
+-- `entries::is_apart` meets its contract. The invariant: the entry is apart from what is left exactly where it is from
+-- the whole. The measure is the length of what is left. Assumes nothing.
 use borrow.Author.Needs.{needs}
 use mathlib.Core.Path.{_≡_, refl, sym, _∙_}
 use native.Mathlib.Omega.{arith}

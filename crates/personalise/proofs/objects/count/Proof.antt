@@ -1,5 +1,5 @@
--- `objects::count` meets its contract. The invariant: the count so far and the objects of what is left, which is a run, are those of the whole.
--- The measure is the length of what is left. Assumes nothing.
+-- `objects::count` meets its contract. The invariant: the count so far and the objects of what is left, which is a run,
+-- are those of the whole. The measure is the length of what is left. Assumes nothing.
 use borrow.Author.Needs.{needs}
 use mathlib.Core.Path.{_≡_, refl, sym, ap, _∙_}
 use Prim.Native.Nat.{_+_, _≤_}

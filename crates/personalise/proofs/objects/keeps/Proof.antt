@@ -1,5 +1,5 @@
--- `objects::keeps` meets its contract. The invariant: what is left keeps the rules, from the next number on, exactly where the whole does.
--- The measure is the length of what is left. Assumes nothing.
+-- `objects::keeps` meets its contract. The invariant: what is left satisfies the rules, from the next number on,
+-- exactly where the whole does. The measure is the length of what is left. Assumes nothing.
 use borrow.Author.Needs.{needs}
 use mathlib.Core.Path.{_≡_, refl, sym, _∙_}
 use Prim.Native.Nat.{_+_, _≤_}

@@ -1,5 +1,5 @@
--- `objects::lacks_tag` meets its contract. The invariant: what is left is a run without the tag exactly where the whole is.
--- The measure is the length of what is left. Assumes nothing.
+-- `objects::lacks_tag` meets its contract. The invariant: what is left is a run without the tag exactly where the whole
+-- is. The measure is the length of what is left. Assumes nothing.
 use borrow.Author.Needs.{needs}
 use mathlib.Core.Path.{_≡_, refl, sym, _∙_}
 use Prim.Native.Nat.{_≤_}

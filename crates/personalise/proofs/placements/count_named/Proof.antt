@@ -1,5 +1,5 @@
--- `placements::count_named` meets its contract. The invariant: the count so far and that of what is left are that of the whole.
--- The measure is the length of what is left. Assumes nothing.
+-- `placements::count_named` meets its contract. The invariant: the count so far and that of what is left are that of
+-- the whole. The measure is the length of what is left. Assumes nothing.
 use borrow.Author.Needs.{needs}
 use borrow.Author.Tests.{eq-eqb, ne-eqb}
 use mathlib.Core.Path.{_≡_, refl, sym, ap, _∙_}

@@ -1,5 +1,5 @@
--- `placements::is_misplaced` meets its contract. The invariant: some placement strays of what is left exactly where it does of the whole.
--- The measure is the length of what is left. Assumes nothing.
+-- `placements::is_misplaced` meets its contract. The invariant: some placement strays of what is left exactly where it
+-- does of the whole. The measure is the length of what is left. Assumes nothing.
 use borrow.Author.Needs.{needs}
 use mathlib.Core.Path.{_≡_, refl, sym, _∙_}
 use native.Mathlib.Omega.{arith}

@@ -1,5 +1,5 @@
--- `placements::is_placed` meets its contract. The invariant: some placement puts the object into the record of what is left exactly where it does of the whole.
--- The measure is the length of what is left. Assumes nothing.
+-- `placements::is_placed` meets its contract. The invariant: some placement puts the object into the record of what is
+-- left exactly where it does of the whole. The measure is the length of what is left. Assumes nothing.
 use borrow.Author.Needs.{needs}
 use mathlib.Core.Path.{_≡_, refl, sym, _∙_}
 use native.Mathlib.Omega.{arith}

@@ -1,5 +1,6 @@
--- `writing::put_content` meets its contract. The invariant: what is written, with the content of what is left still to be written behind it,
--- is the content of the whole; what is left is a run of objects that may be set. The measure is the length of what is left.
+-- `writing::put_content` meets its contract. The invariant: what is written, with the content of what is left still to
+-- be written after it, is the content of the whole; what is left is a run of objects that may be set. The measure is
+-- the length of what is left.
 -- Assumes nothing.
 use borrow.Author.Needs.{needs}
 use mathlib.Core.Path.{_≡_, refl, sym, ap, _∙_}

@@ -1,4 +1,4 @@
--- `writing::put_object` meets its contract: tag, length and value are written one behind the other.
+-- `writing::put_object` meets its contract: tag, length and value are written one after another.
 -- Assumes nothing.
 use borrow.Author.Needs.{needs}
 use mathlib.Core.List.{List}

@@ -1,4 +1,4 @@
--- `writing::put_placed` meets its contract: by whether the object stands there.
+-- `writing::put_placed` meets its contract: by whether the object is present.
 -- Assumes nothing.
 use borrow.Author.Needs.{needs}
 use borrow.Author.Tests.{not-true, not-false}

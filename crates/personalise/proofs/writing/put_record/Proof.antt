@@ -1,4 +1,5 @@
--- `writing::put_record` meets its contract: the template's tag, the length and the content are written one behind the other.
+-- `writing::put_record` meets its contract: the template's tag, the length and the content are written one
+-- after another.
 -- Assumes nothing.
 use borrow.Author.Needs.{needs}
 use mathlib.Core.Path.{_≡_, sym, ap, subst}

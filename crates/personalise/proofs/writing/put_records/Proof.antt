@@ -1,5 +1,5 @@
--- `writing::put_records` meets its contract. The invariant: what is written, with the records from k on still to be written behind it, is
--- all records; each of them takes at most 256 bytes. The measure is how many are left.
+-- `writing::put_records` meets its contract. The invariant: what is written, with the records from k on still to be
+-- written after it, is all records; each of them takes at most 256 bytes. The measure is how many are left.
 -- Assumes nothing.
 use mathlib.Core.Path.{_≡_, refl, sym, ap, _∙_}
 use mathlib.Core.List.{List}

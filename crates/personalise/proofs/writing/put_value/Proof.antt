@@ -1,4 +1,4 @@
--- `writing::put_value` meets its contract: the part that was lent comes back with the bytes copied into it.
+-- `writing::put_value` meets its contract: the part that was borrowed comes back with the bytes copied into it.
 -- Assumes nothing.
 use borrow.Author.Needs.{needs}
 use mathlib.Core.Path.{refl}

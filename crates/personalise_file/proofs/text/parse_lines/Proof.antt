@@ -1,4 +1,5 @@
--- One line to a turn of the loop: what is left of the file gets shorter. The buffers keep their lengths. Assumes nothing.
+-- One line to an iteration of the loop: what is left of the file gets shorter. The buffers keep their lengths.
+-- Assumes nothing.
 use borrow.Author.Needs.{needs}
 use native.Mathlib.Omega.{arith}
 use mathlib.Core.Path.{_≡_, refl}

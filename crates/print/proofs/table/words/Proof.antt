@@ -1,4 +1,4 @@
--- One byte to a turn of the loop. Assumes nothing.
+-- One byte to an iteration of the loop. Assumes nothing.
 use Prim.Native.Nat.{_-_}
 use lib.ListN.{length}
 use borrow.Author.Needs.{needs}

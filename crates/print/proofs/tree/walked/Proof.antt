@@ -1,4 +1,4 @@
--- The measure is the number of turns that are left. Assumes nothing.
+-- The measure is the number of iterations left. Assumes nothing.
 use borrow.Author.Needs.{needs}
 use native.Mathlib.Omega.{arith}
 use Rattle.print.proofs.tree.walked.Statement.{statement}

@@ -1,4 +1,5 @@
--- `flat::judge_answer` meets its contract: how the reading begins decides (`decided-judged`), or leads to the body (`body-reason`).
+-- `flat::judge_answer` meets its contract: how the reading begins decides (`decided-judged`), or leads to the body
+-- (`body-reason`).
 -- Assumes nothing.
 use borrow.Author.Needs.{needs}
 use mathlib.Core.Path.{sym, _∙_}

@@ -1,6 +1,6 @@
--- `flat::read` meets its contract. The invariant is `Reached` (proofs/Frames), which has a law for each way through a turn, and that the list has
--- room for what is left. The measure
--- counts what is left of the bytes twice and each open level once: an object takes two bytes at least, and an end closes a level.
+-- `flat::read` meets its contract. The invariant is `Reached` (proofs/Frames), which has a law for each way through an
+-- iteration, and that the list has room for what is left. The measure counts what is left of the bytes twice and each
+-- open level once: an object takes two bytes at least, and an end closes a level.
 -- Assumes nothing.
 use borrow.Author.Needs.{needs}
 use mathlib.Core.Path.{_≡_, refl, sym, _∙_}

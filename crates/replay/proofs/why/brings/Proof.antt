@@ -1,4 +1,4 @@
--- One object to a turn of the loop: what is left of the bytes gets shorter. Assumes nothing.
+-- One object to an iteration of the loop: what is left of the bytes gets shorter. Assumes nothing.
 use borrow.Author.Needs.{needs}
 use native.Mathlib.Omega.{arith}
 use lib.ListN.{length, length-take, length-drop}

@@ -1,4 +1,4 @@
--- One object to a turn of the loop: the place goes on, and stays inside the bytes. Assumes nothing.
+-- One object to an iteration of the loop: the place goes on, and stays inside the bytes. Assumes nothing.
 use borrow.Author.Needs.{needs}
 use native.Mathlib.Omega.{arith}
 use mathlib.Core.Path.{_≡_}
