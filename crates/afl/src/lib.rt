@@ -1,6 +1,5 @@
 // The AFL (94) that a card returns in its answer to GPO: whether it satisfies the rules and how many records it names
-// (`check_afl`), the k-th of them (`record_at`, k from 1), and the command that reads one (`read_record`). An AFL comes
-// in as plain bytes of any length and contents.
+// (`check_afl`), and the k-th of them (`record_at`, k from 1). An AFL comes in as plain bytes of any length and contents.
 ghost use mathlib.Core.Path.{_≡_};
 ghost use Prim.Native.Nat.{_≤_};
 ghost use lib.ListN.{length};

@@ -144,7 +144,7 @@ bufferWithCommand none b = b
 bufferWithCommand (some c) b = withPrefix c b
 
 -- ---- what holds of it, proved in proofs/Commands for all stores
---   options-proper, cryptogram-proper    a command has 5 to 261 bytes and begins with 80 A8, or 80 AE;
+--   gpo-proper, cryptogram-proper        a command has 5 to 261 bytes and begins with 80 A8, or 80 AE;
 --   checksum-proper                      or 80 2A
---   options-absent, options-empty        without 9F38, or with an empty one, it is 80 A8 00 00 02 83 00 00
---   options-bytes, cryptogram-bytes, checksum-bytes    from a store of bytes it is bytes
+--   gpo-absent, gpo-empty                without 9F38, or with an empty one, it is 80 A8 00 00 02 83 00 00
+--   gpo-bytes, cryptogram-bytes, checksum-bytes    from a store of bytes it is bytes

@@ -145,7 +145,7 @@ fn close(ins: u8, p1: u8, p2: u8, buffer: &mut [u8], end: usize) -> DolCommand
     DolCommand::Command(DolCommandSize { len: end + 1 })
 }
 
-// Writes the command that reads a record at the front of `commandP2Zero`, and returns its length, 5.
+// Writes the command that reads a record at the front of `command`, and returns its length, 5.
 // A buffer under 5 bytes or a file number over 31 gets no command: the length is 0 and the buffer stays.
 pub fn read_record(wanted: CardRecord, command: &mut [u8]) -> usize
     ensures { λ n. ⌜ WroteReadRecord n (now (command .exit)) (readRecordWritten wanted (now (command .entry))) ⌝ }
