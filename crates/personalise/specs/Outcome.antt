@@ -100,7 +100,7 @@ abbrev pub aflAfter : PersonaliseResult → List ℕ → List ℕ → List ℕ
 aflAfter a es l = aflIf (isWritten a) es l
 
 -- ---- what holds of it, proved in proofs/ (Stages, Exact, Holding) for all bytes
---   short-records, short-locator, bad-list, good-list    the answer at each test, in the order of the refusals
+--   short-records, short-afl, bad-list, good-list    the answer at each test, in the order of the refusals
 --   passes, passed    all is written exactly where every test passes
 --   exactly           all is written exactly where every rule is satisfied (specs/Clauses)
 --   holds             what is written reads back to the list (specs/Read)
