@@ -4,3 +4,4 @@ pub mod Alike
 pub mod Reason
 pub mod Front
 pub mod Recursion
+pub mod Types
