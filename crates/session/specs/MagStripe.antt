@@ -21,8 +21,7 @@ use Rattle.session_record.specs.declared.Outcome.{Outcome}
 use Rattle.session_record.specs.declared.AwaitedResponse.{AwaitedResponse}
 use Rattle.session_record.specs.Session.{endingOf}
 use Rattle.session_record.specs.Ranges.{trackDataPresent}
-use Rattle.session.specs.Steps.{Next, end, fail, askWithDol}
-use Rattle.session.specs.Reading.{readThen}
+use Rattle.session.specs.Steps.{Next, end, fail, askWithDol, readThen}
 
 -- ---- after the last record
 

@@ -7,14 +7,17 @@ use mathlib.Core.Bool.{not}
 use mathlib.Core.Option.{Option, some, none}
 use Prim.Native.Nat.{_+_}
 use lib.ListN.{length}
-use Rattle.basics.specs.Types.{StoreBytes, CommandBytes, Buffer, TvrBytes, Count, Length, Reason, RefusalNumber, CvmNumber}
-use Rattle.basics.specs.Choice.{if_then_else_, _<?_}
+use Rattle.basics.specs.Types.{StoreBytes, Response, CommandBytes, Buffer, TvrBytes}
+use Rattle.basics.specs.Types.{Count, Length, Reason, RefusalNumber, CvmNumber}
+use Rattle.basics.specs.Choice.{if_then_else_, _<?_, _=?_}
 use Rattle.basics.specs.Front.{withPrefix}
 use Rattle.basics.specs.Reason.{reasonNone, reasonDol, reasonLink, reasonStopped}
 use Rattle.basics.specs.Reason.{refusedBuffer, refusedRanges, refusedPhase}
 use Rattle.dictionary.specs.Rows.{dictionaryRows}
 use Rattle.dictionary.specs.Named.{rowNumberOf}
 use Rattle.store.specs.Place.{putRow}
+use Rattle.reading.specs.declared.Awaited.{Awaited}
+use Rattle.reading.specs.Answer.{readAnswer}
 use Rattle.analysis.specs.declared.action.AnalysisFindings.{AnalysisFindings}
 use Rattle.analysis.specs.Cvm.{cvmNumber, cvmNotApplicable}
 use Rattle.session_record.specs.declared.Ending.{Ending}
@@ -55,6 +58,14 @@ askWithDol w b (some c) = ask c w b
 abbrev pub reasonOf : Next → Reason
 reasonOf (ask c w b) = reasonNone
 reasonOf (end e m b) = e .reason
+
+-- a response is read into the store: a reason that the reading gives ends the session, which reports the CVM m, and
+-- nothing of the response is stored; else what follows goes by the store with what was read
+unfoldable pub readThen : Awaited → CvmNumber → StoreBytes → Response → (StoreBytes → Next) → Next
+readThen a m b card next =
+    let o = readAnswer a b card in
+    if o .reason =? reasonNone then next (o .store)
+    else end (endingBy (o .reason)) m b
 
 -- the store with this TVR in 95
 unfoldable pub withTvr : StoreBytes → TvrBytes → StoreBytes
