@@ -1,3 +1,4 @@
+pub mod Clauses
 pub mod Examples
 pub mod Placed
 pub mod Proposed
@@ -14,4 +15,5 @@ pub mod Arranged
 pub mod Stored
 pub mod ReadBack
 pub mod Holding
+pub mod Former
 pub mod Twice
