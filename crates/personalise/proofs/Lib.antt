@@ -15,5 +15,4 @@ pub mod Arranged
 pub mod Stored
 pub mod ReadBack
 pub mod Holding
-pub mod Former
 pub mod Twice
