@@ -2,3 +2,4 @@ pub mod Commands
 pub mod Parts
 pub mod Examples
 pub mod ReadRecord
+pub mod Former
