@@ -2,4 +2,3 @@ pub mod Commands
 pub mod Parts
 pub mod Examples
 pub mod ReadRecord
-pub mod Former
