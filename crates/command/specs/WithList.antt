@@ -3,9 +3,10 @@
 -- Assumes nothing.
 use mathlib.Core.List.{List, [], _∷_, _++_}
 use mathlib.Core.Option.{Option, some, none}
-use Prim.Native.Nat.{ℕ}
 use lib.ListN.{length}
-use Rattle.basics.specs.Choice.{if_then_else_, _and_, _≤?_}
+use Rattle.basics.specs.Types.{Buffer, Byte, Bytes, CommandBytes, DolBytes, Length, Reason, StoreBytes, Tag}
+use Rattle.basics.specs.Choice.{if_then_else_, _≤?_}
+use Rattle.basics.specs.Number.{between}
 use Rattle.basics.specs.Front.{withPrefix}
 use Rattle.basics.specs.Reason.{reasonNone, reasonDol}
 use Rattle.tlv.specs.Encoding.{lengthBytes}
@@ -18,128 +19,111 @@ use Rattle.dol.specs.Filling.{dolFilled}
 -- ---- the bytes of a command's header (Book C-2, 5.2, 5.4 and 5.5)
 
 -- the class byte of the payment application's own commands
-abbrev pub claProprietary : ℕ
+abbrev pub claProprietary : Byte
 claProprietary = 0x80
 
 -- the instruction bytes of GET PROCESSING OPTIONS, GENERATE AC and COMPUTE CRYPTOGRAPHIC CHECKSUM
-abbrev pub insGpo : ℕ
+abbrev pub insGpo : Byte
 insGpo = 0xA8
 
-abbrev pub insGenerateAc : ℕ
+abbrev pub insGenerateAc : Byte
 insGenerateAc = 0xAE
 
-abbrev pub insComputeChecksum : ℕ
+abbrev pub insComputeChecksum : Byte
 insComputeChecksum = 0x2A
 
 -- P1 and P2 of COMPUTE CRYPTOGRAPHIC CHECKSUM
-abbrev pub p1ComputeChecksum : ℕ
+abbrev pub p1ComputeChecksum : Byte
 p1ComputeChecksum = 0x8E
 
-abbrev pub p2ComputeChecksum : ℕ
+abbrev pub p2ComputeChecksum : Byte
 p2ComputeChecksum = 0x80
 
 -- the tag of the command template, which the filled PDOL is in
-abbrev pub commandTemplate : ℕ
+abbrev pub commandTemplate : Tag
 commandTemplate = 0x83
 
 -- the most bytes that a command carries, and the most of a filled PDOL: tag and length of its template take three
-abbrev pub mostData : ℕ
+abbrev pub mostData : Length
 mostData = 255
 
-abbrev pub mostPdolBytes : ℕ
+abbrev pub mostPdolBytes : Length
 mostPdolBytes = 252
 
--- ---- a command that carries data
+-- ---- a filled list in a command
 
 -- class 80, instruction, P1, P2, Lc, data, Le of 00
-abbrev pub commandWith : ℕ → ℕ → ℕ → List ℕ → List ℕ
+abbrev pub commandWith : Byte → Byte → Byte → Bytes → CommandBytes
 commandWith ins p1 p2 body = claProprietary ∷ ins ∷ p1 ∷ p2 ∷ length body ∷ (body ++ (0 ∷ []))
 
--- one of P2 00
-abbrev pub commandP2Zero : ℕ → ℕ → List ℕ → List ℕ
-commandP2Zero ins p1 body = commandWith ins p1 0 body
+-- what a list fills to, carried in a command; none, which is reason 7, where it is broken, or fills to no byte or to
+-- more than 255
+unfoldable pub carriedIn : (Bytes → CommandBytes) → Option Bytes → Option CommandBytes
+carriedIn command none = none
+carriedIn command (some v) = if between 1 (length v) mostData then some (command v) else none
+
+-- a list filled from a store, and carried so
+abbrev pub commandWithDol : (Bytes → CommandBytes) → DolBytes → StoreBytes → Option CommandBytes
+commandWithDol command list store = carriedIn command (dolFilled dictionaryRows store list)
+
+-- GENERATE AC, with CDOL1 (8C) and the type requested in P1
+unfoldable pub generateAc : Byte → StoreBytes → Option CommandBytes
+generateAc p1 store = commandWithDol (commandWith insGenerateAc p1 0) (bytesOfValue (objectValue store 0x8C)) store
+
+-- the UDOL (9F69), or the default one where it is absent or empty: 9F6A in four bytes (Book C-2, Default UDOL)
+unfoldable pub udolOrDefault : DolBytes → DolBytes
+udolOrDefault [] = 0x9F ∷ 0x6A ∷ 0x04 ∷ []
+udolOrDefault (x ∷ l) = x ∷ l
+
+-- COMPUTE CRYPTOGRAPHIC CHECKSUM, with that list
+unfoldable pub computeCryptographicChecksum : StoreBytes → Option CommandBytes
+computeCryptographicChecksum store =
+    commandWithDol (commandWith insComputeChecksum p1ComputeChecksum p2ComputeChecksum)
+    (udolOrDefault (bytesOfValue (objectValue store 0x9F69))) store
 
 -- ---- GPO
 
 -- tag 83, and the length in one byte to 127, in 81 and a byte above
-abbrev pub gpoDataHead : ℕ → List ℕ
+abbrev pub gpoDataHead : Length → Bytes
 gpoDataHead n = commandTemplate ∷ lengthBytes n
 
 -- then the filled list
-abbrev pub gpoData : List ℕ → List ℕ
+abbrev pub gpoData : Bytes → Bytes
 gpoData v = gpoDataHead (length v) ++ v
 
--- no command for a broken list or over 252 filled bytes
-unfoldable pub gpoCommandOf : Option (List ℕ) → Option (List ℕ)
+-- no command, which is reason 7, for a broken list or over 252 filled bytes; a list may fill to no byte
+unfoldable pub gpoCommandOf : Option Bytes → Option CommandBytes
 gpoCommandOf none = none
-gpoCommandOf (some v) =
-    if length v ≤? mostPdolBytes then some (commandP2Zero insGpo 0 (gpoData v))
-    else none
+gpoCommandOf (some v) = if length v ≤? mostPdolBytes then some (commandWith insGpo 0 0 (gpoData v)) else none
 
--- the command that a store gives; an absent 9F38 counts as an empty one
-unfoldable pub getProcessingOptions : List ℕ → Option (List ℕ)
+-- with the PDOL (9F38); an absent one counts as empty
+unfoldable pub getProcessingOptions : StoreBytes → Option CommandBytes
 getProcessingOptions store = gpoCommandOf (dolFilled dictionaryRows store (bytesOfValue (objectValue store 0x9F38)))
-
--- ---- GENERATE AC
-
--- a list that is broken, or that fills to no byte or to more than 255, makes no command
-unfoldable pub generateAcOf : ℕ → Option (List ℕ) → Option (List ℕ)
-generateAcOf p1 none = none
-generateAcOf p1 (some v) =
-    if 1 ≤? length v and length v ≤? mostData then some (commandP2Zero insGenerateAc p1 v)
-    else none
-
--- the command that a store gives, with the type requested in P1
-unfoldable pub generateAc : ℕ → List ℕ → Option (List ℕ)
-generateAc p1 store = generateAcOf p1 (dolFilled dictionaryRows store (bytesOfValue (objectValue store 0x8C)))
-
--- ---- COMPUTE CRYPTOGRAPHIC CHECKSUM
-
--- the UDOL (9F69), or the default one where it is absent or empty: 9F6A in four bytes (Book C-2, Default UDOL)
-unfoldable pub udolOrDefault : List ℕ → List ℕ
-udolOrDefault [] = 0x9F ∷ 0x6A ∷ 0x04 ∷ []
-udolOrDefault (x ∷ l) = x ∷ l
-
--- P1 8E and P2 80; no command as for GENERATE AC
-unfoldable pub checksumCommandOf : Option (List ℕ) → Option (List ℕ)
-checksumCommandOf none = none
-checksumCommandOf (some v) =
-    if 1 ≤? length v and length v ≤? mostData then
-      some (commandWith insComputeChecksum p1ComputeChecksum p2ComputeChecksum v)
-    else none
-
--- the command with a list filled from a store
-unfoldable pub checksumCommandWith : List ℕ → List ℕ → Option (List ℕ)
-checksumCommandWith list store = checksumCommandOf (dolFilled dictionaryRows store list)
-
--- the command that a store gives
-unfoldable pub computeCryptographicChecksum : List ℕ → Option (List ℕ)
-computeCryptographicChecksum store = checksumCommandWith (udolOrDefault (bytesOfValue (objectValue store 0x9F69))) store
 
 -- ---- returned
 
 -- a command of n bytes
-abbrev pub commandOfLength : ℕ → DolCommand
+abbrev pub commandOfLength : Length → DolCommand
 commandOfLength n = Command (record { len = n })
 
 -- a command returns its length
-abbrev pub dolCommandOf : Option (List ℕ) → DolCommand
+abbrev pub dolCommandOf : Option CommandBytes → DolCommand
 dolCommandOf none = NoCommand
 dolCommandOf (some c) = commandOfLength (length c)
 
 -- the number of what is returned (document 01, "Calls and their numbers"): 0 with a command, else 7, a list that is
 -- broken or fills to no command
-abbrev pub dolCommandReason : DolCommand → ℕ
+abbrev pub dolCommandReason : DolCommand → Reason
 dolCommandReason (Command c) = reasonNone
 dolCommandReason NoCommand = reasonDol
 
 -- the reason that a list gives: none where it makes a command
-abbrev pub dolReason : Option (List ℕ) → ℕ
+abbrev pub dolReason : Option CommandBytes → Reason
 dolReason none = reasonDol
 dolReason (some c) = reasonNone
 
 -- the buffer with the command in its front, or as it was where there is none
-abbrev pub bufferWithCommand : Option (List ℕ) → List ℕ → List ℕ
+abbrev pub bufferWithCommand : Option CommandBytes → Buffer → Buffer
 bufferWithCommand none b = b
 bufferWithCommand (some c) b = withPrefix c b
 

@@ -20,7 +20,7 @@ use Rattle.basics.proofs.Laws.{both-yes, both-left, both-right, both-no-left, b
 use Rattle.store.specs.Place.{StoredValue, bytesOfValue, objectValue}
 use Rattle.afl.specs.declared.CardRecord.{CardRecord}
 use Rattle.command.specs.ReadRecord.{readRecordCommand}
-use Rattle.command.specs.WithList.{commandP2Zero, generateAcOf, generateAc}
+use Rattle.command.specs.WithList.{commandWith, carriedIn, generateAc}
 use Rattle.command.proofs.Commands as list
 use Rattle.analysis.specs.Bits.{numberedBit}
 use Rattle.analysis.specs.Value.{firstBytes}
@@ -121,12 +121,12 @@ record-command r = both-no-left _ _ (ne-eqb 0 0x80 (λ z. omega arith))
 abbrev pub Asks : ℕ → List ℕ → Type 0
 Asks p1 c = (beginsWith 0x80 0xAE c ≡ true) × (getD c 2 0 ≡ p1)
 
-sent-is : (p1 : ℕ) (x : Option (List ℕ)) (c : List ℕ) → generateAcOf p1 x ≡ some c → Asks p1 c
-unfolding generateAcOf
+sent-is : (p1 : ℕ) (x : Option (List ℕ)) (c : List ℕ) → carriedIn (commandWith 0xAE p1 0) x ≡ some c → Asks p1 c
+unfolding carriedIn
 sent-is p1 none c = λ e. let z : _≡_ {A = ℕ} 0 1 = cc in absurd (omega arith)
 sent-is p1 (some v) c =
     if-ind P _ _ _
-    (λ t e. let z : commandP2Zero 0xAE p1 v ≡ c = cc in (
+    (λ t e. let z : commandWith 0xAE p1 0 v ≡ c = cc in (
       ap (beginsWith 0x80 0xAE) (sym z) ∙ both-yes _ _ (eq-eqb 0x80 0x80 refl) (eq-eqb 0xAE 0xAE refl),
       ap (λ (l : List ℕ). getD l 2 0) (sym z),
     ))

@@ -30,7 +30,7 @@ use Rattle.reading.specs.Taking.{allowedInTemplate, allowedInResponse, allowedN
 use Rattle.reading.specs.Answer.{responseBody, gpoParts, primitiveParts, readBody, isRead, isStatus9000, isResponseLength, readAnswer, templateParts}
 use Rattle.dol.specs.Entries.{entriesNext, dolEntries, entryWithLength, dolEntryAt, entryBefore}
 use Rattle.dol.specs.Filling.{dolData, dolDataBy, truncated, paddingByte, padded, fittedTo, dolEntryBytes}
-use Rattle.command.specs.WithList.{gpoCommandOf, getProcessingOptions, generateAcOf, generateAc}
+use Rattle.command.specs.WithList.{gpoCommandOf, getProcessingOptions, carriedIn, generateAc}
 use Rattle.analysis.specs.Bits.{numberedBit}
 use Rattle.analysis.specs.Value.{firstBytes}
 use Rattle.analysis.specs.Digits.{bcdFrom, yearOf, dateOf, dateLater, amountOf, amountAbove}
@@ -117,7 +117,7 @@ by-phase cs = if-yes _ _ (kept freshSession fresh-keeps cs) ∙ ap (λ (s : Sess
 pub worked : Worked
 unfolding playIn finalIn callsAccepted lastElement commandsSent generateAcs iacBrought bringsIac reasonMatchesOutcome outcomeOfReason
     cryptogramDataPresent askGpo getProcessingOptions gpoCommandOf dolDataBy dolData dolEntries recurse recurseBy entriesNext lengthBytes entryWithLength dolEntryAt entryBefore truncated paddingByte padded
-    fittedTo dolEntryBytes generateAcOf generateAc gpoStep gpoStoreReason afterGpoRead aflRecordAt kthRecord nthRecord acceptsAfl wholeEntries entriesOf validEntry sumOverEntries entriesRecords runOf readAnswer isResponseLength isStatus9000
+    fittedTo dolEntryBytes carriedIn generateAc gpoStep gpoStoreReason afterGpoRead aflRecordAt kthRecord nthRecord acceptsAfl wholeEntries entriesOf validEntry sumOverEntries entriesRecords runOf readAnswer isResponseLength isStatus9000
     isRead readBody responseBody primitiveParts gpoParts templateParts parseTree nextOf withLeaf withNode objectCount primitiveItems takeAll takeNext takeItem allowedNow allowedInResponse allowedInTemplate withTvr withFindings rowNumberOf
     loadStart primitiveObjects objectBefore primitiveOf headerOf tagAt tagSize tagSecondByte tagThirdByte lengthAt tagFirstByte isTemplate isPrivate bigEndianFrom if both either every dictionaryRows rowPast findRow settableByStart setObject
     setObjects fitsRow digitsFit numeric nibbles digitsThenFs compressed terminalTypeListed listedTerminalType rowOffset rowPlace placeValue rowValue putRow objectValueIn allRequiredPresent isPresentIfRequired recordStep afterRecordRead afterLastRecord afterRecordsEmv afterAnalysis

@@ -16,7 +16,7 @@ use Rattle.tlv.specs.Primitives.{Object}
 use Rattle.personalise.specs.declared.Placement.{Placement}
 use Rattle.personalise.specs.Objects.{lacksTag, tagsDistinct}
 use Rattle.personalise.specs.Placements.{placementCount, anyPlacement, isOfObject, putsObjectInto, eachPlacedOnce, objectsFrom}
-use Rattle.personalise.specs.Clauses.{placesInRecord}
+use Rattle.personalise.proofs.Clauses.{placesInRecord}
 
 -- ---- lists rearranged
 

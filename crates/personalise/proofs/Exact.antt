@@ -22,13 +22,15 @@ use Rattle.personalise.specs.declared.Placement.{Placement}
 use Rattle.personalise.specs.declared.Fault.{Fault}
 use Rattle.personalise.specs.declared.Fault.the-variants.{At, Nothing}
 use Rattle.personalise.specs.declared.PersonaliseResult.{PersonaliseResult}
+use Rattle.personalise.specs.declared.PersonaliseResult.the-variants.{BadEntry, BadRecord}
 use Rattle.personalise.specs.Objects.{settableInRecord, tagsDistinct, objectsOrNone}
 use Rattle.personalise.specs.Placements.{placementsIn, anyPlacement, putsObjectInto, eachPlacedOnce, objectsFrom}
-use Rattle.personalise.specs.Entries.{lowBitsClear, sfiInRange, firstRecordNamed, recordsInOrder, noneOffline, apartFrom, validEntryAlone, badEntry}
-use Rattle.personalise.specs.Records.{contentBytes, recordContent, mostRecordContent, inLayout, placementStrays, recordOverfull, recordBadAt, badRecord}
-use Rattle.personalise.specs.Outcome.{recordsRoom, aflRoom, listedObjects, isWritten, personaliseResult, afterRecords, afterEntries}
-use Rattle.personalise.specs.Clauses.{placesInRecord, placesObject, PersonaliseRules, WrittenExactly}
-use Rattle.personalise.specs.Inner.{parsedListValid, personaliseWritten}
+use Rattle.personalise.specs.Entries.{apartFrom, validEntryAlone, badEntry}
+use Rattle.personalise.specs.Records.{contentBytes, recordContent, mostRecordContent, placementStrays, recordBadAt, badRecord}
+use Rattle.personalise.specs.Outcome.{recordsRoom, aflRoom, CardPlan, objectsOf, placementsOf, refuseOr, personaliseResult}
+use Rattle.personalise.specs.Word.{isWritten}
+use Rattle.personalise.specs.Inner.{parsedListValid, personaliseWritten, recordStage}
+use Rattle.personalise.proofs.Clauses.{lowBitsClear, sfiInRange, firstRecordNamed, recordsInOrder, noneOffline, placesInRecord, placesObject, inLayout, PersonaliseRules, WrittenExactly}
 use Rattle.personalise.proofs.Rules.{every-split, follows-back, entries-follow, total-most}
 use Rattle.personalise.proofs.Twice.{twice-is}
 use Rattle.personalise.proofs.Least.{either-left-false, either-right-false, no-bad, no-bad-back, fitting-of}
@@ -37,48 +39,51 @@ use Rattle.personalise.proofs.Stages.{short-records, short-afl, bad-lis
 -- ---- the tests of the answer
 
 -- every test is passed
-pub record Passes (o es p r l : List ℕ) : Type 0 where
+pub record Passes (p : CardPlan) (r l : List ℕ) : Type 0 where
   pub recordsLent : recordsRoom ≤ length r
   pub aflLent : aflRoom ≤ length l
-  pub list : parsedListValid (placementsIn p) 1 (primitiveObjects o) ≡ true
-  pub entries : badEntry es ≡ Nothing
-  pub records : badRecord (listedObjects o) (placementsIn p) (aflRecordCount es) ≡ Nothing
+  pub list : parsedListValid (placementsOf p) 1 (primitiveObjects (p .list)) ≡ true
+  pub entries : badEntry (p .entries) ≡ Nothing
+  pub records : badRecord (objectsOf p) (placementsOf p) (aflRecordCount (p .entries)) ≡ Nothing
 
 -- an answer that is none of the refusals
 refused : {A : Type 0} {a b : PersonaliseResult} → isWritten a ≡ true → a ≡ b → isWritten b ≡ false → A
 refused w e f = let z = ap isWritten e in let y : _≡_ {A = ℕ} 0 1 = cc in absurd (omega arith)
 
-module _ (o es p r l : List ℕ) where
-  pub passed : Passes o es p r l → personaliseResult o es p r l ≡ personaliseWritten o es p
-  passed q =
-      good-list o es p r l (q .recordsLent) (q .aflLent) (q .list)
-      ∙ ap (afterEntries (listedObjects o) (placementsIn p) es) (q .entries) ∙ ap (afterRecords (listedObjects o) (placementsIn p) es) (q .records)
+module _ (p : CardPlan) (r l : List ℕ) where
+  by-entries : {x : Fault} → badEntry (p .entries) ≡ x → refuseOr BadEntry (badEntry (p .entries)) (recordStage p) ≡ refuseOr BadEntry x (recordStage p)
+  by-entries e = ap (λ (x : Fault). refuseOr BadEntry x (recordStage p)) e
 
-  pub passes : isWritten (personaliseResult o es p r l) ≡ true → Passes o es p r l
-  passes w = by-records (le-or-gt recordsRoom (length r))
+  by-records : {x : Fault} → badRecord (objectsOf p) (placementsOf p) (aflRecordCount (p .entries)) ≡ x → recordStage p ≡ refuseOr BadRecord x (personaliseWritten p)
+  by-records e = ap (λ (x : Fault). refuseOr BadRecord x (personaliseWritten p)) e
+
+  pub passed : Passes p r l → personaliseResult p r l ≡ personaliseWritten p
+  passed q = good-list p r l (q .recordsLent) (q .aflLent) (q .list) ∙ by-entries (q .entries) ∙ by-records (q .records)
+
+  pub passes : isWritten (personaliseResult p r l) ≡ true → Passes p r l
+  passes w = with-buffer (le-or-gt recordsRoom (length r))
     where
-      by-record : recordsRoom ≤ length r → aflRoom ≤ length l → parsedListValid (placementsIn p) 1 (primitiveObjects o) ≡ true → badEntry es ≡ Nothing
-          → (x : Fault) → badRecord (listedObjects o) (placementsIn p) (aflRecordCount es) ≡ x → Passes o es p r l
-      by-record a b c d Nothing e = record { recordsLent = a; aflLent = b; list = c; entries = d; records = e }
-      by-record a b c d (At k) e =
-          refused w (good-list o es p r l a b c ∙ ap (afterEntries (listedObjects o) (placementsIn p) es) d ∙ ap (afterRecords (listedObjects o) (placementsIn p) es) e) refl
+      with-record : recordsRoom ≤ length r → aflRoom ≤ length l → parsedListValid (placementsOf p) 1 (primitiveObjects (p .list)) ≡ true → badEntry (p .entries) ≡ Nothing
+          → (x : Fault) → badRecord (objectsOf p) (placementsOf p) (aflRecordCount (p .entries)) ≡ x → Passes p r l
+      with-record a b c d Nothing e = record { recordsLent = a; aflLent = b; list = c; entries = d; records = e }
+      with-record a b c d (At k) e = refused w (good-list p r l a b c ∙ by-entries d ∙ by-records e) refl
 
-      by-entry : recordsRoom ≤ length r → aflRoom ≤ length l → parsedListValid (placementsIn p) 1 (primitiveObjects o) ≡ true
-          → (x : Fault) → badEntry es ≡ x → Passes o es p r l
-      by-entry a b c Nothing e = by-record a b c e (badRecord (listedObjects o) (placementsIn p) (aflRecordCount es)) refl
-      by-entry a b c (At i) e = refused w (good-list o es p r l a b c ∙ ap (afterEntries (listedObjects o) (placementsIn p) es) e) refl
+      with-entry : recordsRoom ≤ length r → aflRoom ≤ length l → parsedListValid (placementsOf p) 1 (primitiveObjects (p .list)) ≡ true
+          → (x : Fault) → badEntry (p .entries) ≡ x → Passes p r l
+      with-entry a b c Nothing e = with-record a b c e (badRecord (objectsOf p) (placementsOf p) (aflRecordCount (p .entries))) refl
+      with-entry a b c (At i) e = refused w (good-list p r l a b c ∙ by-entries e) refl
 
-      by-list : recordsRoom ≤ length r → aflRoom ≤ length l → (x : Bool) → parsedListValid (placementsIn p) 1 (primitiveObjects o) ≡ x → Passes o es p r l
-      by-list a b true e = by-entry a b e (badEntry es) refl
-      by-list a b false e = refused w (bad-list o es p r l a b e) refl
+      with-list : recordsRoom ≤ length r → aflRoom ≤ length l → (x : Bool) → parsedListValid (placementsOf p) 1 (primitiveObjects (p .list)) ≡ x → Passes p r l
+      with-list a b true e = with-entry a b e (badEntry (p .entries)) refl
+      with-list a b false e = refused w (bad-list p r l a b e) refl
 
-      by-afl : recordsRoom ≤ length r → (aflRoom ≤ length l) ⊎ (length l < aflRoom) → Passes o es p r l
-      by-afl a (inl b) = by-list a b (parsedListValid (placementsIn p) 1 (primitiveObjects o)) refl
-      by-afl a (inr b) = refused w (short-afl o es p r l a b) refl
+      with-afl : recordsRoom ≤ length r → (aflRoom ≤ length l) ⊎ (length l < aflRoom) → Passes p r l
+      with-afl a (inl b) = with-list a b (parsedListValid (placementsOf p) 1 (primitiveObjects (p .list))) refl
+      with-afl a (inr b) = refused w (short-afl p r l a b) refl
 
-      by-records : (recordsRoom ≤ length r) ⊎ (length r < recordsRoom) → Passes o es p r l
-      by-records (inl a) = by-afl a (le-or-gt aflRoom (length l))
-      by-records (inr a) = refused w (short-records o es p r l a) refl
+      with-buffer : (recordsRoom ≤ length r) ⊎ (length r < recordsRoom) → Passes p r l
+      with-buffer (inl a) = with-afl a (le-or-gt aflRoom (length l))
+      with-buffer (inr a) = refused w (short-records p r l a) refl
 
 -- ---- the list
 
@@ -164,21 +169,21 @@ none-in n k ps e b j (o ∷ os) = if-no _ _ (not-named n k j ps e b) ∙ none-in
 
 -- ---- both ways
 
-module _ (o es p r l : List ℕ) where
-  pub kept-of : ((i : ℕ) → getD p i 0 < 256) → Passes o es p r l → PersonaliseRules o es p r l
+module _ (p : CardPlan) (r l : List ℕ) where
+  pub kept-of : ((i : ℕ) → getD (p .placements) i 0 < 256) → Passes p r l → PersonaliseRules p r l
   unfolding sumOverEntries recordBadAt
   kept-of b q =
-      let k = list-kept (placementsIn p) (primitiveObjects o) (q .list) in
-      let f = entries-follow es (q .entries) in
-      let a = sym (alone-split (aflEntries es)) ∙ f .alone in
+      let k = list-kept (placementsOf p) (primitiveObjects (p .list)) (q .list) in
+      let f = entries-follow (p .entries) (q .entries) in
+      let a = sym (alone-split (aflEntries (p .entries))) ∙ f .alone in
       let a₂ = both-right _ _ a in
       let a₃ = both-right _ _ a₂ in
       let a₄ = both-right _ _ a₃ in
-      let t = total-most es (q .entries) in
-      let n : aflRecordCount es < 256 = omega arith in
-      let y = sym (every-split (placesInRecord (aflRecordCount es)) (placesObject (length (listedObjects o))) (placementsIn p))
-              ∙ layout-of (aflRecordCount es) (length (listedObjects o)) (placementsIn p) (bytes-into p b)
-              (λ i h. either-left-false _ _ (no-bad (listedObjects o) (placementsIn p) (aflRecordCount es) (q .records) i h)) in
+      let t = total-most (p .entries) (q .entries) in
+      let n : aflRecordCount (p .entries) < 256 = omega arith in
+      let y = sym (every-split (placesInRecord (aflRecordCount (p .entries))) (placesObject (length (objectsOf p))) (placementsOf p))
+              ∙ layout-of (aflRecordCount (p .entries)) (length (objectsOf p)) (placementsOf p) (bytes-into (p .placements) b)
+              (λ i h. either-left-false _ _ (no-bad (objectsOf p) (placementsOf p) (aflRecordCount (p .entries)) (q .records) i h)) in
       record {
         recordsLent = q .recordsLent;
         aflLent = q .aflLent;
@@ -194,44 +199,44 @@ module _ (o es p r l : List ℕ) where
         firsts = both-left _ _ a₃;
         lasts = both-left _ _ a₄;
         byteFour = both-right _ _ a₄;
-        apart = twice-is (aflEntries es) (both-left _ _ a₄) ∙ f .apart;
-        someRecord = some-record (aflEntries es) (omega (arith, f .some)) (both-left _ _ a₄);
+        apart = twice-is (aflEntries (p .entries)) (both-left _ _ a₄) ∙ f .apart;
+        someRecord = some-record (aflEntries (p .entries)) (omega (arith, f .some)) (both-left _ _ a₄);
         fewRecords = t;
         named = both-left _ _ y;
         objectsThere = both-right _ _ y;
-        contents = λ i g h. fitting-of (listedObjects o) (placementsIn p) (aflRecordCount es) (q .records) n i h;
+        contents = λ i g h. fitting-of (objectsOf p) (placementsOf p) (aflRecordCount (p .entries)) (q .records) n i h;
       }
 
-  pub pass-of : PersonaliseRules o es p r l → Passes o es p r l
+  pub pass-of : PersonaliseRules p r l → Passes p r l
   unfolding sumOverEntries recordBadAt badEntry contentBytes
   pass-of k = record {
     recordsLent = k .recordsLent;
     aflLent = k .aflLent;
-    list = list-keeps (placementsIn p) (primitiveObjects o) (record { run = k .run; settable = k .settable; distinct = k .distinct; once = k .once });
-    entries = follows-back (aflEntries es) [] (wholeEntries es)
+    list = list-keeps (placementsOf p) (primitiveObjects (p .list)) (record { run = k .run; settable = k .settable; distinct = k .distinct; once = k .once });
+    entries = follows-back (aflEntries (p .entries)) [] (wholeEntries (p .entries))
     (record {
       whole = k .whole;
       some = omega (arith, k .someEntry);
       few = omega (arith, k .fewEntries);
-      alone = alone-split (aflEntries es) ∙ both-yes _ _ (k .lowBits) (both-yes _ _ (k .files) (both-yes _ _ (k .firsts) (both-yes _ _ (k .lasts) (k .byteFour))));
-      behind = apart-first (aflEntries es);
-      apart = sym (twice-is (aflEntries es) (k .lasts)) ∙ k .apart;
+      alone = alone-split (aflEntries (p .entries)) ∙ both-yes _ _ (k .lowBits) (both-yes _ _ (k .files) (both-yes _ _ (k .firsts) (both-yes _ _ (k .lasts) (k .byteFour))));
+      behind = apart-first (aflEntries (p .entries));
+      apart = sym (twice-is (aflEntries (p .entries)) (k .lasts)) ∙ k .apart;
       room = omega (arith, k .fewRecords);
     });
-    records = no-bad-back (listedObjects o) (placementsIn p) (aflRecordCount es) bad;
+    records = no-bad-back (objectsOf p) (placementsOf p) (aflRecordCount (p .entries)) bad;
   }
     where
-      layout : every (inLayout (aflRecordCount es) (length (listedObjects o))) (placementsIn p) ≡ true
-      layout = every-split (placesInRecord (aflRecordCount es)) (placesObject (length (listedObjects o))) (placementsIn p) ∙ both-yes _ _ (k .named) (k .objectsThere)
+      layout : every (inLayout (aflRecordCount (p .entries)) (length (objectsOf p))) (placementsOf p) ≡ true
+      layout = every-split (placesInRecord (aflRecordCount (p .entries))) (placesObject (length (objectsOf p))) (placementsOf p) ∙ both-yes _ _ (k .named) (k .objectsThere)
 
-      full : (i : ℕ) → recordOverfull (listedObjects o) (placementsIn p) i ≡ false
-      full i = elim (bool-cases (between 1 i (aflRecordCount es))) [
-        | inl y ↦ le-ltb mostRecordContent (length (recordContent (listedObjects o) (placementsIn p) i)) (k .contents i (leb-true 1 i (both-left _ _ y)) (leb-true i (aflRecordCount es) (both-right _ _ y)))
-        | inr f ↦ le-ltb mostRecordContent (length (recordContent (listedObjects o) (placementsIn p) i)) (omega (arith, ap (λ (x : List Object). length (contentBytes x)) (none-in (aflRecordCount es) i (placementsIn p) (k .named) f 1 (listedObjects o))))
+      full : (i : ℕ) → ltb mostRecordContent (length (recordContent (objectsOf p) (placementsOf p) i)) ≡ false
+      full i = elim (bool-cases (between 1 i (aflRecordCount (p .entries)))) [
+        | inl y ↦ le-ltb mostRecordContent (length (recordContent (objectsOf p) (placementsOf p) i)) (k .contents i (leb-true 1 i (both-left _ _ y)) (leb-true i (aflRecordCount (p .entries)) (both-right _ _ y)))
+        | inr f ↦ le-ltb mostRecordContent (length (recordContent (objectsOf p) (placementsOf p) i)) (omega (arith, ap (λ (x : List Object). length (contentBytes x)) (none-in (aflRecordCount (p .entries)) i (placementsOf p) (k .named) f 1 (objectsOf p))))
       ]
 
-      bad : (i : ℕ) → recordBadAt (listedObjects o) (placementsIn p) (aflRecordCount es) i ≡ false
-      bad i = either-no _ _ (none-strays (aflRecordCount es) (length (listedObjects o)) i (placementsIn p) layout) (full i)
+      bad : (i : ℕ) → recordBadAt (objectsOf p) (placementsOf p) (aflRecordCount (p .entries)) i ≡ false
+      bad i = either-no _ _ (none-strays (aflRecordCount (p .entries)) (length (objectsOf p)) i (placementsOf p) layout) (full i)
 
-  pub exactly : ((i : ℕ) → getD p i 0 < 256) → WrittenExactly (personaliseResult o es p r l) o es p r l
-  exactly b = (λ w. kept-of b (passes o es p r l w), λ k. ap isWritten (passed o es p r l (pass-of k)))
+  pub exactly : ((i : ℕ) → getD (p .placements) i 0 < 256) → WrittenExactly (personaliseResult p r l) p r l
+  exactly b = (λ w. kept-of b (passes p r l w), λ k. ap isWritten (passed p r l (pass-of k)))

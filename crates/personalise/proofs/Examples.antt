@@ -22,19 +22,21 @@ use Rattle.personalise.specs.declared.PersonaliseResult.{PersonaliseResu
 use Rattle.personalise.specs.declared.PersonaliseResult.the-variants.{Written, BadList, BadEntry, BadRecord}
 use Rattle.personalise.specs.Objects.{settableInRecord, lacksTag, tagsDistinct}
 use Rattle.personalise.specs.Placements.{placementsIn, placementCount, anyPlacement, eachPlacedOnce, objectsFrom}
-use Rattle.personalise.specs.Entries.{apartFrom, roomBehind, validEntryAlone, validEntryAfter, badEnd, badFrom, badEntry}
+use Rattle.personalise.specs.Entries.{apartFrom, validEntryAlone, validEntryAfter, badFrom, badEntry}
 use Rattle.personalise.specs.Records.{contentBytes, cardRecordsFrom, concatenatedRecords, recordBadAt, firstFault, badRecord}
-use Rattle.personalise.specs.Outcome.{listValid, afterBuffers, personaliseResult, recordsAfter, aflAfter}
+use Rattle.personalise.specs.Outcome.{cardPlan, listValid, personaliseResult, recordsAfter, aflAfter}
+use Rattle.personalise.specs.Word.{isWritten}
+use Rattle.personalise.specs.Inner.{listStage}
 use Rattle.personalise.proofs.Stages.{short-records, short-afl}
 
--- the answer to objects, entries and placements
+-- the answer to objects, entries and placements in buffers that are large enough (law `after-buffers`)
 abbrev said : List ℕ → List ℕ → List ℕ → PersonaliseResult
-said objects es placements = afterBuffers (primitiveObjects objects) (placementsIn placements) es
+said objects es placements = listStage (cardPlan objects es placements)
 
 -- the answer, with the records and the AFL that are left of no bytes
 abbrev done : List ℕ → List ℕ → List ℕ → PersonaliseResult × List ℕ × List ℕ
 done objects es placements =
-    (said objects es placements, recordsAfter (said objects es placements) objects es placements [], aflAfter (said objects es placements) es [])
+    (said objects es placements, recordsAfter (isWritten (said objects es placements)) (cardPlan objects es placements) [], aflAfter (isWritten (said objects es placements)) es [])
 
 -- records of this length and an AFL of that
 abbrev sizes : ℕ → ℕ → PersonaliseResult
@@ -113,12 +115,12 @@ pub record Examples : Type 0 where
   odd : said (0x9F ∷ 0x08 ∷ 0x02 ∷ 0x00 ∷ 0x02 ∷ []) (0x08 ∷ 0x01 ∷ 0x02 ∷ 0x00 ∷ []) (0x01 ∷ 0x01 ∷ 0x02 ∷ []) ≡ BadRecord 2
 
 examples : Examples
-unfolding primitiveObjects recurse recurseBy primitiveOf objectBefore headerOf tagAt tagSize tagSecondByte tagThirdByte lengthAt lengthOneByte tagFirstByte isTemplate isPrivate bigEndianFrom nibbles if both either every dictionaryRows rowPast findRow allowedInResponse allowedInTemplate fitsRow numeric digitsFit compressed digitsThenFs tagBytes lengthBytes settableInRecord lacksTag tagsDistinct placementsIn placementCount anyPlacement eachPlacedOnce objectsFrom aflEntries wholeEntries sumOverEntries apartFrom roomBehind validEntryAlone validEntryAfter badEnd badFrom badEntry contentBytes cardRecordsFrom concatenatedRecords recordBadAt firstFault badRecord listValid
+unfolding primitiveObjects recurse recurseBy primitiveOf objectBefore headerOf tagAt tagSize tagSecondByte tagThirdByte lengthAt lengthOneByte tagFirstByte isTemplate isPrivate bigEndianFrom nibbles if both either every dictionaryRows rowPast findRow allowedInResponse allowedInTemplate fitsRow numeric digitsFit compressed digitsThenFs tagBytes lengthBytes settableInRecord lacksTag tagsDistinct placementsIn placementCount anyPlacement eachPlacedOnce objectsFrom aflEntries wholeEntries sumOverEntries apartFrom validEntryAlone validEntryAfter badFrom badEntry contentBytes cardRecordsFrom concatenatedRecords recordBadAt firstFault badRecord listValid
 examples = record { two = refl; order = refl; empty = refl; shortest = refl; fullest = refl; over = refl; split = refl; below = refl; above = refl; twice = refl; left-out = refl; placed-twice = refl; meeting = refl; files = refl; no-entry = refl; cut = refl; sixty-three = refl; sixty-two = refl; all = refl; many = refl; total = refl; low-bits = refl; sfi-zero = refl; sfi-ten = refl; sfi-eleven = refl; first-zero = refl; not-below = refl; offline = refl; session = refl; gpo = refl; template = refl; unknown = refl; private = refl; too-long = refl; digit = refl; object-nine = refl; record-three = refl; record-zero = refl; odd = refl }
 
 -- buffers of 32,767 and 247 bytes, and of 32,768 and 247, whatever they hold, with a list that is bad and no entry
-buffers : (r l : List ℕ) → length r ≡ 32767 → length l ≡ 247 → personaliseResult (0x57 ∷ 0x00 ∷ 0x57 ∷ 0x00 ∷ []) [] [] r l ≡ PersonaliseResult.ShortRecords
-buffers r l e f = short-records (0x57 ∷ 0x00 ∷ 0x57 ∷ 0x00 ∷ []) [] [] r l (omega arith)
+buffers : (r l : List ℕ) → length r ≡ 32767 → length l ≡ 247 → personaliseResult (cardPlan (0x57 ∷ 0x00 ∷ 0x57 ∷ 0x00 ∷ []) [] []) r l ≡ PersonaliseResult.ShortRecords
+buffers r l e f = short-records (cardPlan (0x57 ∷ 0x00 ∷ 0x57 ∷ 0x00 ∷ []) [] []) r l (omega arith)
 
-second : (r l : List ℕ) → length r ≡ 32768 → length l ≡ 247 → personaliseResult (0x57 ∷ 0x00 ∷ 0x57 ∷ 0x00 ∷ []) [] [] r l ≡ PersonaliseResult.ShortAfl
-second r l e f = short-afl (0x57 ∷ 0x00 ∷ 0x57 ∷ 0x00 ∷ []) [] [] r l (omega arith) (omega arith)
+second : (r l : List ℕ) → length r ≡ 32768 → length l ≡ 247 → personaliseResult (cardPlan (0x57 ∷ 0x00 ∷ 0x57 ∷ 0x00 ∷ []) [] []) r l ≡ PersonaliseResult.ShortAfl
+second r l e f = short-afl (cardPlan (0x57 ∷ 0x00 ∷ 0x57 ∷ 0x00 ∷ []) [] []) r l (omega arith) (omega arith)

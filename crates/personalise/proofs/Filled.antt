@@ -12,10 +12,9 @@ use Rattle.tlv.specs.Primitives.{Object, primitiveOf}
 use Rattle.tlv.proofs.Primitives.{firstOf, restOf}
 use Rattle.personalise.specs.declared.Placement.{Placement}
 use Rattle.personalise.specs.Placements.{objectsFrom}
-use Rattle.personalise.specs.Objects.{recordTemplate}
+use Rattle.personalise.specs.Objects.{recordTemplate, listedObjects}
 use Rattle.personalise.specs.Records.{contentBytes, recordContent, cardRecordBytes, cardRecordsFrom, concatenatedRecords, mostRecordContent}
-use Rattle.personalise.specs.Outcome.{listedObjects, recordBytes}
-use Rattle.personalise.specs.Inner.{UsableObjects, bytesWrittenOver, PutsBytes, placedBytes}
+use Rattle.personalise.specs.Inner.{UsableObjects, bytesWrittenOver, PutsBytes, placedBytes, firstRecordsBytes}
 use Rattle.personalise.proofs.Known.{known, known-tag}
 use Rattle.personalise.proofs.Listed.{first-settable, bytes-on, object-length}
 use Rattle.personalise.proofs.Forms.{tag-one, length-most}
@@ -78,7 +77,7 @@ module _ (os : List Object) (ps : List Placement) where
   unfolding cardRecordsFrom concatenatedRecords
   records-done n k h = let e : n + 1 - k ≡ 0 = omega arith in rw e
 
-  pub records-all : (n : ℕ) → recordsLeft n 1 ≡ recordBytes os ps n
+  pub records-all : (n : ℕ) → recordsLeft n 1 ≡ firstRecordsBytes os ps n
   records-all n = let e : n + 1 - 1 ≡ n = omega arith in ap (λ (m : ℕ). concatenatedRecords (cardRecordsFrom os ps 1 m)) e
 
   -- an iteration of the loop

@@ -2,7 +2,7 @@
 -- the list's store.
 -- Assumes nothing.
 use mathlib.Core.Path.{_≡_, refl, sym, ap, subst, _∙_}
-use mathlib.Core.Bool.{true}
+use mathlib.Core.Bool.{Bool, true}
 use mathlib.Core.List.{List, [], _∷_}
 use mathlib.Core.Option.{some}
 use Prim.Native.Nat.{ℕ, zero, suc, _<_, _≤_}
@@ -22,18 +22,17 @@ use Rattle.afl.proofs.Laws.{kept-keeps}
 use Rattle.personalise.specs.declared.Placement.{Placement}
 use Rattle.personalise.specs.declared.Fault.the-variants.{Nothing}
 use Rattle.personalise.specs.declared.PersonaliseResult.{PersonaliseResult}
-use Rattle.personalise.specs.declared.PersonaliseResult.the-variants.{Written, ShortRecords, ShortAfl, BadList, BadEntry, BadRecord}
+use Rattle.personalise.specs.declared.PersonaliseResult.the-variants.{Written}
+use Rattle.personalise.specs.declared.WrittenSizes.{WrittenSizes}
 use Rattle.personalise.specs.Objects.{settableInRecord, tagsDistinct}
-use Rattle.personalise.specs.Placements.{placementsIn}
 use Rattle.personalise.specs.Entries.{validEntryAlone, badEntry}
 use Rattle.personalise.specs.Records.{cardRecordsFrom}
-use Rattle.personalise.specs.Outcome.{recordBytes, listedObjects, isWritten, personaliseResult, recordsAfter, aflAfter}
-use Rattle.personalise.specs.Clauses.{PersonaliseRules}
-use Rattle.personalise.specs.Read.{putObjects, emptyStoreBytes, storeOfObjects, readAllRecords, cardRecords, CardHoldsIfWritten}
+use Rattle.personalise.specs.Outcome.{CardPlan, objectsOf, placementsOf, cardRecords, recordBytes, personaliseResult, recordsAfter, aflAfter}
+use Rattle.personalise.specs.Word.{isWritten}
+use Rattle.personalise.specs.Read.{putObjects, emptyStoreBytes, storeOfObjects, readAllRecords, CardHolds, CardHoldsIfWritten}
 use Rattle.personalise.specs.Inner.{personaliseWritten}
-use Rattle.personalise.proofs.Rules.{entries-follow, afl-most, total-most}
-use Rattle.personalise.proofs.Least.{fitting-of}
-use Rattle.personalise.proofs.Stages.{bytes-most}
+use Rattle.personalise.proofs.Clauses.{PersonaliseRules}
+use Rattle.personalise.proofs.Rules.{entries-follow, total-most}
 use Rattle.personalise.proofs.Exact.{Passes, passes, passed, kept-of}
 use Rattle.personalise.proofs.Arranged.{ordered, arranged, perm-every, perm-distinct}
 use Rattle.personalise.proofs.Stored.{perm-put, empty-free}
@@ -72,20 +71,23 @@ accepted es q s =
 
 -- ---- the records
 
-as-many : (os : List Object) (ps : List Placement) (k n : ℕ) → length (cardRecordsFrom os ps k n) ≡ n
+pub as-many : (os : List Object) (ps : List Placement) (k n : ℕ) → length (cardRecordsFrom os ps k n) ≡ n
 unfolding cardRecordsFrom
 as-many os ps k zero = refl
 as-many os ps k (suc n) = ap suc (as-many os ps (suc k) n)
 
-module _ (o es p r l : List ℕ) (q : Passes o es p r l) (k : PersonaliseRules o es p r l) where
+module _ (p : CardPlan) (r l : List ℕ) (q : Passes p r l) (k : PersonaliseRules p r l) where
+  abbrev es : List ℕ
+  es = p .entries
+
   abbrev os : List Object
-  os = listedObjects o
+  os = objectsOf p
 
   abbrev ps : List Placement
-  ps = placementsIn p
+  ps = placementsOf p
 
   -- they read back to the store of the list
-  read-back : readAllRecords emptyStoreBytes (aflRecords es) (cardRecords o es p) ≡ some (storeOfObjects os)
+  read-back : readAllRecords emptyStoreBytes (aflRecords es) (cardRecords p) ≡ some (storeOfObjects os)
   read-back =
       let n = length (aflRecords es) in
       let e : n ≡ aflRecordCount es = records-length es in
@@ -98,30 +100,21 @@ module _ (o es p r l : List ℕ) (q : Passes o es p r l) (k : PersonaliseRules o
       ∙ ap (λ (m : ℕ). some (putObjects emptyStoreBytes (ordered ps 1 m 1 os))) e
       ∙ ap some (perm-put emptyStoreBytes a (k .settable) (k .distinct) z)
 
-  written-holds : (x y : List ℕ) → x ≡ recordsAfter (personaliseWritten o es p) o es p r → y ≡ aflAfter (personaliseWritten o es p) es l
-      → CardHoldsIfWritten o es p (personaliseWritten o es p) x y
-  written-holds x y e f =
-      let t = total-most es (q .entries) in
+  written-holds : (z : WrittenSizes) → Written z ≡ personaliseWritten p → (x y : List ℕ) → x ≡ recordsAfter true p r → y ≡ aflAfter true es l → CardHolds p z x y
+  written-holds z d x y e f =
+      let n : z .records ≡ length (recordBytes p) = cc in
+      let m : z .afl ≡ length es = cc in
       record {
-        stand = ap (take (length (recordBytes os ps (aflRecordCount es)))) (e ∙ if-yes _ _ refl) ∙ take-append-seam (recordBytes os ps (aflRecordCount es)) _;
-        recordsFit = omega (arith, bytes-most os ps (aflRecordCount es) (fitting-of os ps (aflRecordCount es) (q .records) (omega arith)));
-        aflFits = omega (arith, afl-most es (q .entries));
-        afl = ap (take (length es)) (f ∙ if-yes _ _ refl) ∙ take-append-seam es _;
+        stand = ap (λ (i : ℕ). take i x) n ∙ ap (take (length (recordBytes p))) (e ∙ if-yes _ _ refl) ∙ take-append-seam (recordBytes p) _;
+        afl = ap (λ (i : ℕ). take i y) m ∙ ap (take (length es)) (f ∙ if-yes _ _ refl) ∙ take-append-seam es _;
         accepted = accepted es (q .entries) (k .someRecord);
-        asMany = as-many os ps 1 (aflRecordCount es);
         read = read-back;
       }
 
 -- by the answer
-pub holds : (o es p r l : List ℕ) → ((i : ℕ) → getD p i 0 < 256) → (a : PersonaliseResult) → a ≡ personaliseResult o es p r l → (x y : List ℕ)
-    → x ≡ recordsAfter a o es p r → y ≡ aflAfter a es l → CardHoldsIfWritten o es p a x y
-holds o es p r l b (Written z) e x y f g =
-    let q = passes o es p r l (ap isWritten (sym e)) in
-    let d : Written z ≡ personaliseWritten o es p = e ∙ passed o es p r l q in
-    subst (λ (c : PersonaliseResult). CardHoldsIfWritten o es p c x y) (sym d)
-    (written-holds o es p r l q (kept-of o es p r l b q) x y (f ∙ ap (λ (c : PersonaliseResult). recordsAfter c o es p r) d) (g ∙ ap (λ (c : PersonaliseResult). aflAfter c es l) d))
-holds o es p r l b ShortRecords e x y f g = tt
-holds o es p r l b ShortAfl e x y f g = tt
-holds o es p r l b BadList e x y f g = tt
-holds o es p r l b (BadEntry i) e x y f g = tt
-holds o es p r l b (BadRecord k) e x y f g = tt
+pub holds : (p : CardPlan) (r l : List ℕ) → ((i : ℕ) → getD (p .placements) i 0 < 256) → (a : PersonaliseResult) → a ≡ personaliseResult p r l → (x y : List ℕ)
+    → x ≡ recordsAfter (isWritten a) p r → y ≡ aflAfter (isWritten a) (p .entries) l → CardHoldsIfWritten p a x y
+holds p r l b a e x y f g z d =
+    let w : isWritten a ≡ true = ap isWritten d in
+    let q = passes p r l (ap isWritten (sym e) ∙ w) in
+    written-holds p r l q (kept-of p r l b q) z (sym d ∙ e ∙ passed p r l q) x y (f ∙ ap (λ (c : Bool). recordsAfter c p r) w) (g ∙ ap (λ (c : Bool). aflAfter c (p .entries) l) w)

@@ -16,8 +16,8 @@ use Rattle.basics.proofs.Order.{le-or-gt, equal-or-not}
 use Rattle.tlv.specs.Primitives.{Object}
 use Rattle.personalise.specs.declared.Placement.{Placement}
 use Rattle.personalise.specs.declared.Fault.the-variants.{At, Nothing}
-use Rattle.personalise.specs.Records.{recordContent, mostRecordContent, misplaced, recordBadAt, firstFault, badRecord}
-use Rattle.personalise.specs.Inner.{cappedSize, ContentsFit}
+use Rattle.personalise.specs.Records.{recordContent, mostRecordContent, recordBadAt, firstFault, badRecord}
+use Rattle.personalise.specs.Inner.{misplaced, cappedSize, ContentsFit}
 
 -- neither of two tests passes
 pub either-left-false : (a b : Bool) → either a b ≡ false → a ≡ false

@@ -1,3 +1,4 @@
+pub mod Clauses
 pub mod Examples
 pub mod Placed
 pub mod Proposed

@@ -22,10 +22,9 @@ use Rattle.dictionary.specs.declared.RowFound.the-variants.{At, Unknown}
 use Rattle.dictionary.specs.Rows.{dictionaryRows, rowAt, findRow, inRecordResponse}
 use Rattle.reading.specs.Taking.{allowedInResponse}
 use Rattle.personalise.specs.declared.Placement.{Placement}
-use Rattle.personalise.specs.Objects.{recordTemplate, rowSettableInRecord, settableInRecord, lacksTag, tagsDistinct, objectsOrNone}
+use Rattle.personalise.specs.Objects.{recordTemplate, rowSettableInRecord, settableInRecord, lacksTag, tagsDistinct, objectsOrNone, listedObjects}
 use Rattle.personalise.specs.Placements.{placementCount, anyPlacement, isOfObject, putsObjectInto, eachPlacedOnce, objectsFrom}
 use Rattle.personalise.specs.Records.{contentBytes}
-use Rattle.personalise.specs.Outcome.{listedObjects}
 use Rattle.personalise.specs.Inner.{listLacksTag, parsedListValid, UsableObjects, objectSize, placedSize, placedBytes}
 
 -- ---- one object

@@ -12,7 +12,8 @@ use Rattle.basics.proofs.Laws.{if-yes, if-no, either-left, either-false, both-y
 use Rattle.tlv.proofs.Laws.{tail, tail-is}
 use Rattle.personalise.specs.declared.Placement.{Placement}
 use Rattle.personalise.specs.Placements.{placement, placementsIn, placementCount, anyPlacement}
-use Rattle.personalise.specs.Records.{inLayout, placementStrays}
+use Rattle.personalise.specs.Records.{placementStrays}
+use Rattle.personalise.proofs.Clauses.{inLayout}
 
 split : (s : List ℕ) → (length s ≡ 0 → ⊥) → placementsIn s ≡ placement (getD s 0 0) (getD s 1 0) ∷ placementsIn (drop 2 s)
 unfolding placementsIn

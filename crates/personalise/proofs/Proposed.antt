@@ -2,22 +2,32 @@
 -- loops cite these.
 -- Assumes nothing.
 use mathlib.Core.Path.{_≡_, refl, sym, ap, _∙_}
-use mathlib.Core.Bool.{true, false, not}
+use mathlib.Core.Bool.{Bool, true, false, not}
 use mathlib.Core.List.{List, [], _∷_, _++_}
 use Prim.Native.Nat.{ℕ, _+_, _-_, _/_, _%_, _<_, _≤_}
 use native.Mathlib.Omega.{arith}
+use lib.Dec.{leb, ltb}
 use lib.ListN.{length, take, drop, length-take, length-drop}
 use lib.Seq.{take-add, drop-drop}
 use borrow.Author.Tests.{lt-ltb, le-ltb}
-use Rattle.basics.specs.Choice.{every}
+use Rattle.basics.specs.Choice.{if, both, every}
 use Rattle.basics.proofs.Laws.{if-yes, if-no, both-yes, both-true, both-no-left, both-no-right}
 use Rattle.tlv.proofs.Laws.{tail, tail-is}
 use Rattle.afl.specs.declared.AflEntry.{AflEntry}
 use Rattle.afl.specs.Entry.{firstEntry, entryRecordCount}
 use Rattle.afl.specs.Records.{aflEntries, wholeEntries, sumOverEntries, aflRecordCount}
 use Rattle.afl.proofs.Records.{entries-front, entries-short, entries-join, whole-of, part-of}
+use Rattle.personalise.specs.declared.Fault.{Fault}
 use Rattle.personalise.specs.declared.Fault.the-variants.{At, Nothing}
-use Rattle.personalise.specs.Entries.{mostEntries, entriesOverlap, apartFrom, roomBehind, validEntryAlone, validEntryAfter, badEnd, badFrom, badEntry}
+use Rattle.personalise.specs.Entries.{mostEntries, mostRecords, entriesOverlap, apartFrom, validEntryAlone, validEntryAfter, badFrom, badEntry}
+
+-- with an entry there are at most 128 records
+abbrev pub roomBehind : List AflEntry → AflEntry → Bool
+roomBehind before e = leb (sumOverEntries entryRecordCount before + entryRecordCount e) mostRecords
+
+-- after the last whole entry
+abbrev badEnd : List AflEntry → Bool → Fault
+badEnd before whole = if (both whole (ltb 0 (length before))) Nothing (At (length before + 1))
 
 -- a quarter as many entries as bytes
 pub entries-count : (s : List ℕ) → length s % 4 ≡ 0 → length (aflEntries s) ≡ length s / 4
@@ -135,17 +145,14 @@ module _ (s : List ℕ) (at : ℕ) (w : at % 4 ≡ 0) (l : at ≤ length s) wher
     ends = let m : length (drop at s) < 4 = simp length-drop h in rw (entries-short (drop at s) m)
 
     pub bad-cut : at < length s → badFrom (aflEntries (take at s)) (aflEntries (drop at s)) (wholeEntries s) ≡ At (at / 4 + 1)
-    unfolding badEnd
     bad-cut m = ends ∙ if-no _ _ (both-no-left _ _ (part-of s (omega arith))) ∙ rw before-count
 
     pub bad-none : at ≡ 0 → badFrom (aflEntries (take at s)) (aflEntries (drop at s)) (wholeEntries s) ≡ At 1
-    unfolding badEnd
     bad-none z =
         let n : length (aflEntries (take at s)) ≡ 0 = before-count ∙ rw z in
         ends ∙ if-no _ _ (both-no-right _ _ (le-ltb 0 (length (aflEntries (take at s))) (omega arith))) ∙ rw n
 
     pub bad-nothing : length s ≤ at → (at ≡ 0 → ⊥) → badFrom (aflEntries (take at s)) (aflEntries (drop at s)) (wholeEntries s) ≡ Nothing
-    unfolding badEnd
     bad-nothing m z =
         let n = before-count in
         ends ∙ if-yes _ _ (both-yes _ _ (whole-of s (omega arith)) (lt-ltb 0 (length (aflEntries (take at s))) (omega arith)))

@@ -36,9 +36,9 @@ use Rattle.reading.proofs.Laws.{item-put, next-good}
 use Rattle.personalise.specs.Objects.{recordTemplate, settableInRecord, lacksTag, tagsDistinct}
 use Rattle.personalise.specs.declared.Placement.{Placement}
 use Rattle.personalise.specs.Placements.{objectsInRecord}
-use Rattle.personalise.specs.Entries.{sfiInRange}
 use Rattle.personalise.specs.Records.{contentBytes, recordContent, cardRecordsFrom as records, mostRecordContent}
 use Rattle.personalise.specs.Read.{putObjects, readOneRecord, readRemaining, readAllRecords}
+use Rattle.personalise.proofs.Clauses.{sfiInRange}
 use Rattle.personalise.proofs.Known.{known}
 use Rattle.personalise.proofs.Forms.{tag-one, length-most}
 use Rattle.personalise.proofs.Listed.{object-length}

@@ -19,7 +19,7 @@ use Rattle.afl.specs.Records.{aflEntries, wholeEntries, sumOverEntries, aflReco
 use Rattle.afl.proofs.Records.{whole-length}
 use Rattle.personalise.specs.declared.Fault.{Fault}
 use Rattle.personalise.specs.declared.Fault.the-variants.{At, Nothing}
-use Rattle.personalise.specs.Entries.{mostEntries, mostRecords, entriesOverlap, apartFrom, roomBehind, validEntryAlone, validEntryAfter, badEnd, badFrom, badEntry}
+use Rattle.personalise.specs.Entries.{mostEntries, mostRecords, entriesOverlap, apartFrom, validEntryAlone, validEntryAfter, badFrom, badEntry}
 use Rattle.personalise.proofs.Proposed.{entries-count}
 
 -- no two entries name a record both
@@ -95,14 +95,14 @@ pub record EntryKept (before : List AflEntry) (e : AflEntry) : Type 0 where
   pub room : sumOverEntries entryRecordCount before + entryRecordCount e ≤ mostRecords
 
 keeps-kept : (before : List AflEntry) (e : AflEntry) → validEntryAfter before e ≡ true → EntryKept before e
-unfolding validEntryAfter roomBehind
+unfolding validEntryAfter
 keeps-kept before e k =
     let b = both-right _ _ k in
     let c = both-right _ _ b in
     record { few = ltb-true _ _ (both-left _ _ k); alone = both-left _ _ b; apart = both-left _ _ c; room = leb-true _ _ (both-right _ _ c) }
 
 kept-behind : (before : List AflEntry) (e : AflEntry) → EntryKept before e → validEntryAfter before e ≡ true
-unfolding validEntryAfter roomBehind
+unfolding validEntryAfter
 kept-behind before e k = both-yes _ _ (lt-ltb _ _ (k .few)) (both-yes _ _ (k .alone) (both-yes _ _ (k .apart) (le-leb _ _ (k .room))))
 
 not-nothing : {A : Type 0} {x : Fault} {i : ℕ} → x ≡ At i → x ≡ Nothing → A
@@ -110,7 +110,7 @@ not-nothing p q = let z : _≡_ {A = ℕ} 0 1 = cc in absurd (omega arith)
 
 pub follows : (es before : List AflEntry) (w : Bool) → length before ≤ mostEntries → sumOverEntries entryRecordCount before ≤ mostRecords
     → badFrom before es w ≡ Nothing → Follows before es w
-unfolding badFrom badEnd every allApart sumOverEntries
+unfolding badFrom every allApart sumOverEntries
 follows [] before w l r q = elim (bool-cases (both w (ltb 0 (length before)))) [
   | inl y ↦ (let n : 0 < length before = ltb-true _ _ (both-right _ _ y) in
       record { whole = both-left _ _ y; some = omega arith; few = omega arith; alone = refl; behind = refl; apart = refl; room = omega arith })
@@ -137,7 +137,7 @@ follows (e ∷ es) before w l r q = elim (bool-cases (validEntryAfter before e))
 ]
 
 pub follows-back : (es before : List AflEntry) (w : Bool) → Follows before es w → badFrom before es w ≡ Nothing
-unfolding badFrom badEnd every allApart sumOverEntries
+unfolding badFrom every allApart sumOverEntries
 follows-back [] before w f = if-yes _ _ (both-yes _ _ (f .whole) (lt-ltb 0 (length before) (omega (arith, f .some))))
 follows-back (e ∷ es) before w f =
     let n = length-more before e in
@@ -157,7 +157,7 @@ follows-back (e ∷ es) before w f =
 
 -- the number of a bad entry is at most 63
 pub number-most : (es before : List AflEntry) (w : Bool) (i : ℕ) → length before ≤ mostEntries → badFrom before es w ≡ At i → i ≤ 63
-unfolding badFrom badEnd
+unfolding badFrom
 number-most [] before w i l q = elim (bool-cases (both w (ltb 0 (length before)))) [
   | inl y ↦ not-nothing q (if-yes Nothing (At (length before + 1)) y)
   | inr n ↦ (let e : At (length before + 1) ≡ At i = sym (if-no Nothing (At (length before + 1)) n) ∙ q in let z : length before + 1 ≡ i = cc in omega arith)

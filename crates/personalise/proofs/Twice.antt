@@ -15,8 +15,8 @@ use Rattle.afl.specs.declared.AflEntry.{AflEntry}
 use Rattle.afl.specs.declared.CardRecord.{CardRecord}
 use Rattle.afl.specs.Entry.{entrySfi, entryRecordCount}
 use Rattle.afl.specs.Records.{consecutiveRecords, entryRecords, entriesRecords}
-use Rattle.personalise.specs.Entries.{recordsInOrder, entriesOverlap}
-use Rattle.personalise.specs.Clauses.{sameRecord, lacksRecord, noRecordTwice}
+use Rattle.personalise.specs.Entries.{entriesOverlap}
+use Rattle.personalise.proofs.Clauses.{recordsInOrder, sameRecord, lacksRecord, noRecordTwice}
 use Rattle.personalise.proofs.Rules.{allApart, every-split, every-same}
 
 -- ---- lists joined

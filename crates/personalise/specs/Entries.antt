@@ -3,9 +3,10 @@
 -- Assumes nothing.
 use mathlib.Core.Bool.{Bool, not}
 use mathlib.Core.List.{List, [], _∷_, _++_}
-use Prim.Native.Nat.{ℕ, _+_, _%_}
+use Prim.Native.Nat.{_+_, _%_}
 use lib.ListN.{length}
-use Rattle.basics.specs.Choice.{if_then_else_, _and_, _or_, _≤?_, _<?_, _=?_, every}
+use Rattle.basics.specs.Types.{AflBytes, Count}
+use Rattle.basics.specs.Choice.{if_then_else_, _and_, _≤?_, _<?_, _=?_, every}
 use Rattle.basics.specs.Number.{between}
 use Rattle.afl.specs.declared.AflEntry.{AflEntry}
 use Rattle.afl.specs.Entry.{entrySfi, entryRecordCount}
@@ -13,36 +14,23 @@ use Rattle.afl.specs.Records.{aflEntries, wholeEntries, sumOverEntries}
 use Rattle.personalise.specs.declared.Fault.{Fault}
 use Rattle.personalise.specs.declared.Fault.the-variants.{At, Nothing}
 
--- ---- bounds
-
 -- the most entries, and the most records
-abbrev pub mostEntries : ℕ
+abbrev pub mostEntries : Count
 mostEntries = 62
 
-abbrev pub mostRecords : ℕ
+abbrev pub mostRecords : Count
 mostRecords = 128
 
 -- ---- one entry
 
--- the low three bits of byte 1 are 0
-abbrev pub lowBitsClear : AflEntry → Bool
-lowBitsClear e = e .lead % 8 =? 0
-
--- the file number is 1 to 10
-abbrev pub sfiInRange : AflEntry → Bool
-sfiInRange e = between 1 (entrySfi e) 10
-
--- the first record's number is not 0
-abbrev pub firstRecordNamed : AflEntry → Bool
-firstRecordNamed e = 1 ≤? e .first
-
--- the last record is not below the first
-abbrev pub recordsInOrder : AflEntry → Bool
-recordsInOrder e = e .first ≤? e .last
-
--- byte 4 is 0
-abbrev pub noneOffline : AflEntry → Bool
-noneOffline e = e .offline =? 0
+-- by itself: no low bit in byte 1, a file number from 1 to 10, records numbered from 1 on, in order, and byte 4 zero
+unfoldable pub validEntryAlone : AflEntry → Bool
+validEntryAlone e =
+    e .lead % 8 =? 0
+    and between 1 (entrySfi e) 10
+    and 1 ≤? e .first
+    and e .first ≤? e .last
+    and e .offline =? 0
 
 -- two entries name a record both: the same file, and their ranges meet
 abbrev pub entriesOverlap : AflEntry → AflEntry → Bool
@@ -52,39 +40,26 @@ entriesOverlap e f = entrySfi e =? entrySfi f and e .first ≤? f .last and f .f
 unfoldable pub apartFrom : List AflEntry → AflEntry → Bool
 apartFrom before e = every (λ f. not (entriesOverlap f e)) before
 
--- with an entry there are at most 128 records
-unfoldable pub roomBehind : List AflEntry → AflEntry → Bool
-roomBehind before e = sumOverEntries entryRecordCount before + entryRecordCount e ≤? mostRecords
-
--- an entry by itself
-unfoldable pub validEntryAlone : AflEntry → Bool
-validEntryAlone e = lowBitsClear e and sfiInRange e and firstRecordNamed e and recordsInOrder e and noneOffline e
-
--- an entry after those before it
+-- after those before it: one of 62 at most, valid by itself, no record named twice, 128 records at most
 unfoldable pub validEntryAfter : List AflEntry → AflEntry → Bool
-validEntryAfter before e = length before <? mostEntries and validEntryAlone e and apartFrom before e and roomBehind before e
+validEntryAfter before e =
+    length before <? mostEntries
+    and validEntryAlone e
+    and apartFrom before e
+    and sumOverEntries entryRecordCount before + entryRecordCount e ≤? mostRecords
 
 -- ---- the first bad entry, by its number from 1
 
--- the number of the entry after those before
-abbrev pub entryNumberAfter : List AflEntry → ℕ
-entryNumberAfter before = length before + 1
-
--- after the last whole entry: one that is truncated is bad, and so is the first where there is none
-unfoldable pub badEnd : List AflEntry → Bool → Fault
-badEnd before whole =
-    if whole and 0 <? length before then Nothing
-    else At (entryNumberAfter before)
-
--- the first bad one of some entries, after those before; `whole` says that no entry after them is truncated
+-- the first bad one of some entries, after those before; at their end one that is truncated is bad (`whole` says that
+-- there is none), and so is the first where there is no entry
 unfoldable pub badFrom : List AflEntry → List AflEntry → Bool → Fault
-badFrom before [] whole = badEnd before whole
+badFrom before [] whole = if whole and 0 <? length before then Nothing else At (length before + 1)
 badFrom before (e ∷ es) whole =
     if validEntryAfter before e then badFrom (before ++ (e ∷ [])) es whole
-    else At (entryNumberAfter before)
+    else At (length before + 1)
 
 -- the first bad entry of an AFL
-unfoldable pub badEntry : List ℕ → Fault
+unfoldable pub badEntry : AflBytes → Fault
 badEntry s = badFrom [] (aflEntries s) (wholeEntries s)
 
 -- ---- what holds of it, proved in proofs/ (Rules, Twice) for all entries

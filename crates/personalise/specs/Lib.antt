@@ -4,6 +4,5 @@ pub mod Entries
 pub mod Records
 pub mod Outcome
 pub mod Word
-pub mod Clauses
 pub mod Read
 pub mod Inner

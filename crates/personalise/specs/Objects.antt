@@ -1,23 +1,31 @@
 -- The list of objects that a card is to carry (document 02, Item 4): which objects it may hold, and that no tag is in
--- it twice. The list is a run of whole primitive objects, read as start bytes are.
+-- it twice. The list is whole primitive objects, concatenated, and is read as start bytes are.
 -- Assumes nothing.
 use mathlib.Core.Bool.{Bool, true, false, not}
 use mathlib.Core.List.{List, [], _∷_}
 use mathlib.Core.Option.{Option, some, none}
-use Prim.Native.Nat.{ℕ}
+use Rattle.basics.specs.Types.{Bytes, Tag, Value}
 use Rattle.basics.specs.Choice.{_and_, _=?_, every}
-use Rattle.tlv.specs.Primitives.{Object}
+use Rattle.tlv.specs.Primitives.{Object, primitiveObjects}
 use Rattle.dictionary.specs.declared.RowFound.{RowFound}
 use Rattle.dictionary.specs.Rows.{dictionaryRows, rowAt, findRow, inRecordResponse}
 use Rattle.reading.specs.Taking.{allowedInResponse}
 
 -- the template of a record
-abbrev pub recordTemplate : ℕ
+abbrev pub recordTemplate : Tag
 recordTemplate = 0x70
+
+-- the objects of a list, none where the bytes are no list
+abbrev pub objectsOrNone : Option (List Object) → List Object
+objectsOrNone none = []
+objectsOrNone (some os) = os
+
+abbrev pub listedObjects : Bytes → List Object
+listedObjects list = objectsOrNone (primitiveObjects list)
 
 -- by its row in the table: the card may set it in template 70 with an answer to READ RECORD, its length and digits fit;
 -- an unknown tag has no row
-abbrev pub rowSettableInRecord : RowFound → List ℕ → Bool
+abbrev pub rowSettableInRecord : RowFound → Value → Bool
 rowSettableInRecord RowFound.Unknown v = false
 rowSettableInRecord (RowFound.At k) v = allowedInResponse inRecordResponse (rowAt k) recordTemplate v
 
@@ -26,15 +34,10 @@ unfoldable pub settableInRecord : Object → Bool
 settableInRecord o = rowSettableInRecord (findRow dictionaryRows (o .tag)) (o .value)
 
 -- no object of a list has this tag, whatever its value
-unfoldable pub lacksTag : ℕ → List Object → Bool
+unfoldable pub lacksTag : Tag → List Object → Bool
 lacksTag t os = every (λ o. not (o .tag =? t)) os
 
 -- no tag is in the list twice
 unfoldable pub tagsDistinct : List Object → Bool
 tagsDistinct [] = true
 tagsDistinct (o ∷ os) = lacksTag (o .tag) os and tagsDistinct os
-
--- the objects of a run; none where there is no run
-abbrev pub objectsOrNone : Option (List Object) → List Object
-objectsOrNone none = []
-objectsOrNone (some os) = os

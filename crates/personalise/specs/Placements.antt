@@ -4,26 +4,29 @@
 use mathlib.Core.Bool.{Bool, true, false}
 use mathlib.Core.List.{List, [], _∷_}
 use Prim.Native.Nat.{ℕ, suc}
+use Rattle.basics.specs.Types.{Bytes, Count, RecordNumber}
 use Rattle.basics.specs.Choice.{if_then_else_, _and_, _or_, _=?_}
 use Rattle.tlv.specs.Primitives.{Object}
 use Rattle.personalise.specs.declared.Placement.{Placement}
 
+-- the number of an object in the list, from 1
+abbrev pub ObjectNumber : Type 0
+ObjectNumber = ℕ
+
 -- the object of number o goes into the record of number r
-abbrev pub placement : ℕ → ℕ → Placement
+abbrev pub placement : RecordNumber → ObjectNumber → Placement
 placement r o = record { into = r; object = o }
 
 -- the placements in some bytes
-unfoldable pub placementsIn : List ℕ → List Placement
+unfoldable pub placementsIn : Bytes → List Placement
 placementsIn [] = []
 placementsIn (r ∷ []) = placement r 0 ∷ []
 placementsIn (r ∷ o ∷ s) = placement r o ∷ placementsIn s
 
 -- how many placements pass a test
-unfoldable pub placementCount : (Placement → Bool) → List Placement → ℕ
+unfoldable pub placementCount : (Placement → Bool) → List Placement → Count
 placementCount f [] = 0
-placementCount f (p ∷ ps) =
-    if f p then suc (placementCount f ps)
-    else placementCount f ps
+placementCount f (p ∷ ps) = if f p then suc (placementCount f ps) else placementCount f ps
 
 -- some placement passes a test
 unfoldable pub anyPlacement : (Placement → Bool) → List Placement → Bool
@@ -31,25 +34,25 @@ anyPlacement f [] = false
 anyPlacement f (p ∷ ps) = f p or anyPlacement f ps
 
 -- a placement names object j
-abbrev pub isOfObject : ℕ → Placement → Bool
+abbrev pub isOfObject : ObjectNumber → Placement → Bool
 isOfObject j p = p .object =? j
 
 -- a placement puts object j into record k
-abbrev pub putsObjectInto : ℕ → ℕ → Placement → Bool
+abbrev pub putsObjectInto : RecordNumber → ObjectNumber → Placement → Bool
 putsObjectInto k j p = p .into =? k and p .object =? j
 
 -- each of the objects, which are numbered from j on, is named by one placement and no more
-unfoldable pub eachPlacedOnce : List Placement → ℕ → List Object → Bool
+unfoldable pub eachPlacedOnce : List Placement → ObjectNumber → List Object → Bool
 eachPlacedOnce ps j [] = true
 eachPlacedOnce ps j (o ∷ os) = placementCount (isOfObject j) ps =? 1 and eachPlacedOnce ps (suc j) os
 
 -- those of the objects, numbered from j on, that some placement puts into record k, in the list's order
-unfoldable pub objectsFrom : List Placement → ℕ → ℕ → List Object → List Object
+unfoldable pub objectsFrom : List Placement → RecordNumber → ObjectNumber → List Object → List Object
 objectsFrom ps k j [] = []
 objectsFrom ps k j (o ∷ os) =
     if anyPlacement (putsObjectInto k j) ps then o ∷ objectsFrom ps k (suc j) os
     else objectsFrom ps k (suc j) os
 
 -- the objects of a list that are in record k
-abbrev pub objectsInRecord : List Placement → ℕ → List Object → List Object
+abbrev pub objectsInRecord : List Placement → RecordNumber → List Object → List Object
 objectsInRecord ps k os = objectsFrom ps k 1 os

@@ -4,6 +4,7 @@ use mathlib.Core.Bool.{Bool, not}
 use mathlib.Core.List.{List, [], _∷_, _++_}
 use Prim.Native.Nat.{ℕ, zero, suc}
 use lib.ListN.{length}
+use Rattle.basics.specs.Types.{Bytes, Count, Length, RecordNumber}
 use Rattle.basics.specs.Choice.{if_then_else_, _and_, _or_, _<?_, _=?_}
 use Rattle.basics.specs.Number.{between}
 use Rattle.tlv.specs.Primitives.{Object}
@@ -17,63 +18,50 @@ use Rattle.personalise.specs.Placements.{anyPlacement, objectsInRecord}
 -- ---- bytes
 
 -- objects concatenated, each length in as few bytes as it can be
-unfoldable pub contentBytes : List Object → List ℕ
+unfoldable pub contentBytes : List Object → Bytes
 contentBytes [] = []
 contentBytes (o ∷ os) = objectBytes (o .tag) (o .value) ++ contentBytes os
 
 -- what record k holds inside its template
-abbrev pub recordContent : List Object → List Placement → ℕ → List ℕ
+abbrev pub recordContent : List Object → List Placement → RecordNumber → Bytes
 recordContent os ps k = contentBytes (objectsInRecord ps k os)
 
 -- record k: 70, the shortest length, its objects
-abbrev pub cardRecordBytes : List Object → List Placement → ℕ → List ℕ
+abbrev pub cardRecordBytes : List Object → List Placement → RecordNumber → Bytes
 cardRecordBytes os ps k = objectBytes recordTemplate (recordContent os ps k)
 
 -- n records from number k on
-unfoldable pub cardRecordsFrom : List Object → List Placement → ℕ → ℕ → List (List ℕ)
+unfoldable pub cardRecordsFrom : List Object → List Placement → RecordNumber → Count → List Bytes
 cardRecordsFrom os ps k zero = []
 cardRecordsFrom os ps k (suc n) = cardRecordBytes os ps k ∷ cardRecordsFrom os ps (suc k) n
 
 -- lists of bytes concatenated
-unfoldable pub concatenatedRecords : List (List ℕ) → List ℕ
+unfoldable pub concatenatedRecords : List Bytes → Bytes
 concatenatedRecords [] = []
 concatenatedRecords (s ∷ ss) = s ++ concatenatedRecords ss
 
 -- ---- bad records
 
 -- the most bytes inside a record's template
-abbrev pub mostRecordContent : ℕ
+abbrev pub mostRecordContent : Length
 mostRecordContent = 253
 
--- a placement's record is one of n, and its object one of m
-abbrev pub inLayout : ℕ → ℕ → Placement → Bool
-inLayout n m p = between 1 (p .into) n and between 1 (p .object) m
+-- a placement names record k, and either that is none of n records or the object none of m
+abbrev pub placementStrays : Count → Count → RecordNumber → Placement → Bool
+placementStrays n m k p = p .into =? k and not (between 1 (p .into) n and between 1 (p .object) m)
 
--- a placement names record k, and either the record is none of n or the object none of m
-abbrev pub placementStrays : ℕ → ℕ → ℕ → Placement → Bool
-placementStrays n m k p = p .into =? k and not (inLayout n m p)
-
--- some placement does, of n records and m objects
-abbrev pub misplaced : List Placement → ℕ → ℕ → ℕ → Bool
-misplaced ps n m k = anyPlacement (placementStrays n m k) ps
-
--- the content of record k is over 253 bytes
-abbrev pub recordOverfull : List Object → List Placement → ℕ → Bool
-recordOverfull os ps k = mostRecordContent <? length (recordContent os ps k)
-
--- record k is bad, of n records
-unfoldable pub recordBadAt : List Object → List Placement → ℕ → ℕ → Bool
-recordBadAt os ps n k = misplaced ps n (length os) k or recordOverfull os ps k
+-- record k is bad, of n records: a placement into it strays, or its content is over 253 bytes
+unfoldable pub recordBadAt : List Object → List Placement → Count → RecordNumber → Bool
+recordBadAt os ps n k =
+    anyPlacement (placementStrays n (length os) k) ps or mostRecordContent <? length (recordContent os ps k)
 
 -- the first of m numbers from k on that passes a test
-unfoldable pub firstFault : (ℕ → Bool) → ℕ → ℕ → Fault
+unfoldable pub firstFault : (ℕ → Bool) → ℕ → Count → Fault
 firstFault f k zero = Nothing
-firstFault f k (suc m) =
-    if f k then At k
-    else firstFault f (suc k) m
+firstFault f k (suc m) = if f k then At k else firstFault f (suc k) m
 
 -- the least bad record, of n: a placement's record is a byte, and n is at most 128
-unfoldable pub badRecord : List Object → List Placement → ℕ → Fault
+unfoldable pub badRecord : List Object → List Placement → Count → Fault
 badRecord os ps n = firstFault (recordBadAt os ps n) 0 256
 
 -- ---- what holds of it, proved in proofs/ (Least, Stages) for all lists and placements

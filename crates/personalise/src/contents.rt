@@ -11,7 +11,7 @@ ghost use Rattle.tlv.specs.Primitives.{primitiveObjects, isPrimitiveList};
 ghost use Rattle.tlv.specs.Encoding.{tagBytes, lengthBytes};
 ghost use Rattle.personalise.specs.Placements.{placementsIn};
 ghost use Rattle.personalise.specs.Records.{recordContent, recordBadAt, badRecord};
-ghost use Rattle.personalise.specs.Outcome.{listedObjects};
+ghost use Rattle.personalise.specs.Objects.{listedObjects};
 ghost use Rattle.personalise.specs.Inner.{cappedSize, objectSize, placedSize};
 
 // The most bytes of a content, and what stands for any size above.

@@ -15,9 +15,9 @@ ghost use lib.ListN.{length};
 ghost use Rattle.afl.specs.Records.{aflRecordCount};
 ghost use Rattle.personalise.specs.Placements.{placementsIn};
 ghost use Rattle.personalise.specs.Entries.{badEntry, mostRecords};
-ghost use Rattle.personalise.specs.Outcome.{aflRoom, listedObjects, personaliseResult, recordsAfter, aflAfter};
-ghost use Rattle.personalise.specs.Word.{SmallResult, personaliseWord, personaliseWordFor, recordsByWord, aflByWord};
-ghost use Rattle.personalise.specs.Clauses.{WrittenExactly};
+ghost use Rattle.personalise.specs.Objects.{listedObjects};
+ghost use Rattle.personalise.specs.Outcome.{aflRoom, cardPlan, personaliseResult, recordsAfter, aflAfter};
+ghost use Rattle.personalise.specs.Word.{SmallResult, isWritten, personaliseWord, isWrittenWord};
 ghost use Rattle.personalise.specs.Read.{CardHoldsIfWritten};
 ghost use Rattle.personalise.specs.Inner.{UsableObjects, ContentsFit, BuffersFit, entryStage, recordStage, personaliseWritten};
 
@@ -66,12 +66,14 @@ pub fn personalise(
     records: &mut [u8],
     afl: &mut [u8],
 ) -> PersonaliseResult
-    ensures said { λ r. ⌜ r ≡ personaliseResult (now (objects .entry)) (now (entries .entry)) (now (placements .entry)) (now (records .entry)) (now (afl .entry)) ⌝ }
-    ensures wrote { λ r. ⌜ now (records .exit) ≡ recordsAfter r (now (objects .entry)) (now (entries .entry)) (now (placements .entry)) (now (records .entry)) ⌝ }
-    ensures located { λ r. ⌜ now (afl .exit) ≡ aflAfter r (now (entries .entry)) (now (afl .entry)) ⌝ }
+    ensures said { λ r. ⌜ r ≡ personaliseResult
+        (cardPlan (now (objects .entry)) (now (entries .entry)) (now (placements .entry))) (now (records .entry)) (now (afl .entry)) ⌝ }
+    ensures wrote { λ r. ⌜ now (records .exit) ≡ recordsAfter (isWritten r)
+        (cardPlan (now (objects .entry)) (now (entries .entry)) (now (placements .entry))) (now (records .entry)) ⌝ }
+    ensures located { λ r. ⌜ now (afl .exit) ≡ aflAfter (isWritten r) (now (entries .entry)) (now (afl .entry)) ⌝ }
     ensures small { λ r. ⌜ SmallResult r ⌝ }
-    ensures exact { λ r. ⌜ WrittenExactly r (now (objects .entry)) (now (entries .entry)) (now (placements .entry)) (now (records .entry)) (now (afl .entry)) ⌝ }
-    ensures reads { λ r. ⌜ CardHoldsIfWritten (now (objects .entry)) (now (entries .entry)) (now (placements .entry)) r (now (records .exit)) (now (afl .exit)) ⌝ }
+    ensures reads { λ r. ⌜ CardHoldsIfWritten
+        (cardPlan (now (objects .entry)) (now (entries .entry)) (now (placements .entry))) r (now (records .exit)) (now (afl .exit)) ⌝ }
 {
     if records.len() < RECORDS_ROOM {
         return PersonaliseResult::ShortRecords;
@@ -94,9 +96,11 @@ pub extern "C" fn emv_personalise(
     records: &mut [u8],
     afl: &mut [u8],
 ) -> u64
-    ensures said { λ r. ⌜ r ≡ personaliseWordFor (now (objects .entry)) (now (entries .entry)) (now (placements .entry)) (now (records .entry)) (now (afl .entry)) ⌝ }
-    ensures wrote { λ r. ⌜ now (records .exit) ≡ recordsByWord r (now (objects .entry)) (now (entries .entry)) (now (placements .entry)) (now (records .entry)) ⌝ }
-    ensures located { λ r. ⌜ now (afl .exit) ≡ aflByWord r (now (entries .entry)) (now (afl .entry)) ⌝ }
+    ensures said { λ r. ⌜ r ≡ personaliseWord
+        (personaliseResult (cardPlan (now (objects .entry)) (now (entries .entry)) (now (placements .entry))) (now (records .entry)) (now (afl .entry))) ⌝ }
+    ensures wrote { λ r. ⌜ now (records .exit) ≡ recordsAfter (isWrittenWord r)
+        (cardPlan (now (objects .entry)) (now (entries .entry)) (now (placements .entry))) (now (records .entry)) ⌝ }
+    ensures located { λ r. ⌜ now (afl .exit) ≡ aflAfter (isWrittenWord r) (now (entries .entry)) (now (afl .entry)) ⌝ }
 {
     let answer = personalise(objects, entries, placements, records, afl);
     word(answer)
@@ -127,9 +131,10 @@ fn with_list(
 ) -> PersonaliseResult
     requires { ⌜ UsableObjects (now objects) ⌝ }
     requires { ⌜ BuffersFit (now records) (now afl) ⌝ }
-    ensures said { λ r. ⌜ r ≡ entryStage (now (objects .entry)) (now (entries .entry)) (now (placements .entry)) ⌝ }
-    ensures wrote { λ r. ⌜ now (records .exit) ≡ recordsAfter r (now (objects .entry)) (now (entries .entry)) (now (placements .entry)) (now (records .entry)) ⌝ }
-    ensures located { λ r. ⌜ now (afl .exit) ≡ aflAfter r (now (entries .entry)) (now (afl .entry)) ⌝ }
+    ensures said { λ r. ⌜ r ≡ entryStage (cardPlan (now (objects .entry)) (now (entries .entry)) (now (placements .entry))) ⌝ }
+    ensures wrote { λ r. ⌜ now (records .exit) ≡ recordsAfter (isWritten r)
+        (cardPlan (now (objects .entry)) (now (entries .entry)) (now (placements .entry))) (now (records .entry)) ⌝ }
+    ensures located { λ r. ⌜ now (afl .exit) ≡ aflAfter (isWritten r) (now (entries .entry)) (now (afl .entry)) ⌝ }
 {
     let fault = entries::bad_entry(entries);
     match fault {
@@ -149,9 +154,10 @@ fn with_entries(
     requires { ⌜ UsableObjects (now objects) ⌝ }
     requires { ⌜ BuffersFit (now records) (now afl) ⌝ }
     requires { ⌜ badEntry (now entries) ≡ Fault.Nothing ⌝ }
-    ensures said { λ r. ⌜ r ≡ recordStage (now (objects .entry)) (now (entries .entry)) (now (placements .entry)) ⌝ }
-    ensures wrote { λ r. ⌜ now (records .exit) ≡ recordsAfter r (now (objects .entry)) (now (entries .entry)) (now (placements .entry)) (now (records .entry)) ⌝ }
-    ensures located { λ r. ⌜ now (afl .exit) ≡ aflAfter r (now (entries .entry)) (now (afl .entry)) ⌝ }
+    ensures said { λ r. ⌜ r ≡ recordStage (cardPlan (now (objects .entry)) (now (entries .entry)) (now (placements .entry))) ⌝ }
+    ensures wrote { λ r. ⌜ now (records .exit) ≡ recordsAfter (isWritten r)
+        (cardPlan (now (objects .entry)) (now (entries .entry)) (now (placements .entry))) (now (records .entry)) ⌝ }
+    ensures located { λ r. ⌜ now (afl .exit) ≡ aflAfter (isWritten r) (now (entries .entry)) (now (afl .entry)) ⌝ }
 {
     let count = entries::count_records(entries);
     let fault = contents::bad_record(objects, placements, count);
@@ -174,9 +180,10 @@ fn write_all(
     requires { ⌜ BuffersFit (now records) (now afl) ⌝ }
     requires { ⌜ (count ≡ aflRecordCount (now entries)) × (count ≤ mostRecords) × (length (now entries) ≤ aflRoom) ⌝ }
     requires { ⌜ ContentsFit (listedObjects (now objects)) (placementsIn (now placements)) count ⌝ }
-    ensures said { λ r. ⌜ r ≡ personaliseWritten (now (objects .entry)) (now (entries .entry)) (now (placements .entry)) ⌝ }
-    ensures wrote { λ r. ⌜ now (records .exit) ≡ recordsAfter r (now (objects .entry)) (now (entries .entry)) (now (placements .entry)) (now (records .entry)) ⌝ }
-    ensures located { λ r. ⌜ now (afl .exit) ≡ aflAfter r (now (entries .entry)) (now (afl .entry)) ⌝ }
+    ensures said { λ r. ⌜ r ≡ personaliseWritten (cardPlan (now (objects .entry)) (now (entries .entry)) (now (placements .entry))) ⌝ }
+    ensures wrote { λ r. ⌜ now (records .exit) ≡ recordsAfter (isWritten r)
+        (cardPlan (now (objects .entry)) (now (entries .entry)) (now (placements .entry))) (now (records .entry)) ⌝ }
+    ensures located { λ r. ⌜ now (afl .exit) ≡ aflAfter (isWritten r) (now (entries .entry)) (now (afl .entry)) ⌝ }
 {
     let size = writing::put_records(objects, placements, count, records);
     bytes::copy(entries, afl);

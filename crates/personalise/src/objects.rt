@@ -9,9 +9,8 @@ ghost use Rattle.tlv.specs.Primitives.{tlvObject, primitiveObjects, isPrimitive
 ghost use Rattle.dictionary.specs.Rows.{inRecordResponse};
 ghost use Rattle.dictionary.specs.Packing.{rowWithAttributes};
 ghost use Rattle.reading.specs.Taking.{allowedInResponse};
-ghost use Rattle.personalise.specs.Objects.{recordTemplate, settableInRecord};
+ghost use Rattle.personalise.specs.Objects.{recordTemplate, listedObjects, settableInRecord};
 ghost use Rattle.personalise.specs.Placements.{placementsIn};
-ghost use Rattle.personalise.specs.Outcome.{listedObjects};
 ghost use Rattle.personalise.specs.Inner.{listLacksTag, parsedListValid};
 
 // Whether the bytes are a run of objects that may all be set, no tag twice, each placed once.

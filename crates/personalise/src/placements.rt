@@ -4,7 +4,8 @@ ghost use mathlib.Core.Path.{_≡_};
 ghost use Prim.Native.Nat.{min};
 ghost use lib.ListN.{getD};
 ghost use Rattle.personalise.specs.Placements.{placement, placementsIn, placementCount, anyPlacement, isOfObject, putsObjectInto};
-ghost use Rattle.personalise.specs.Records.{placementStrays as straysFrom, misplaced};
+ghost use Rattle.personalise.specs.Records.{placementStrays as straysFrom};
+ghost use Rattle.personalise.specs.Inner.{misplaced};
 
 // How many placements name an object.
 pub(crate) fn count_named(placements: &[u8], object: usize) -> usize

@@ -7,7 +7,7 @@ ghost use lib.ListN.{length};
 ghost use Rattle.tlv.specs.Encoding.{tagBytes, lengthBytes, objectBytes};
 ghost use Rattle.personalise.specs.Placements.{placementsIn};
 ghost use Rattle.personalise.specs.Records.{recordContent, cardRecordBytes, mostRecordContent};
-ghost use Rattle.personalise.specs.Outcome.{listedObjects};
+ghost use Rattle.personalise.specs.Objects.{listedObjects};
 ghost use Rattle.personalise.specs.Inner.{UsableObjects, ContentsFit, PutsBytes, placedBytes, bytesFor};
 
 // The tag of a record's template.

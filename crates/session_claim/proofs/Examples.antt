@@ -25,7 +25,7 @@ use Rattle.reading.specs.Taking.{allowedInTemplate, allowedInResponse, allowedN
 use Rattle.reading.specs.Answer.{responseBody, gpoParts, primitiveParts, readBody, isRead, isStatus9000, isResponseLength, readAnswer, templateParts}
 use Rattle.dol.specs.Entries.{entriesNext, dolEntries, entryWithLength, dolEntryAt, entryBefore}
 use Rattle.dol.specs.Filling.{dolData, dolDataBy, truncated, paddingByte, padded, fittedTo, dolEntryBytes}
-use Rattle.command.specs.WithList.{gpoCommandOf, getProcessingOptions, generateAcOf, generateAc, udolOrDefault, checksumCommandOf, checksumCommandWith, computeCryptographicChecksum}
+use Rattle.command.specs.WithList.{gpoCommandOf, getProcessingOptions, carriedIn, generateAc, udolOrDefault, computeCryptographicChecksum}
 use Rattle.session_record.specs.declared.Phase.{Phase}
 use Rattle.session_record.specs.declared.Session.{Session}
 use Rattle.session_record.specs.Numbers.{outcomeOfReason}
@@ -174,7 +174,7 @@ verified : map callResult (playCalls freshSession (failing verifyingAnswer))
     ≡ CallResult.Command (record { size = 8 }) ∷ CallResult.Command (record { size = 5 }) ∷ CallResult.Command (record { size = 14 })
     ∷ CallResult.Outcome (outcomeParameters Outcome.Ended 9 2) ∷ []
 unfolding commandsSent playIn finalIn callsAccepted outcomeOfReason cryptogramDataPresent askGpo getProcessingOptions gpoCommandOf dolDataBy dolData dolEntries recurse recurseBy entriesNext lengthBytes entryWithLength dolEntryAt
-    entryBefore truncated paddingByte padded fittedTo dolEntryBytes generateAcOf generateAc gpoStep gpoStoreReason afterGpoRead aflRecordAt kthRecord nthRecord acceptsAfl wholeEntries entriesOf validEntry sumOverEntries entriesRecords runOf
+    entryBefore truncated paddingByte padded fittedTo dolEntryBytes carriedIn generateAc gpoStep gpoStoreReason afterGpoRead aflRecordAt kthRecord nthRecord acceptsAfl wholeEntries entriesOf validEntry sumOverEntries entriesRecords runOf
     readAnswer isResponseLength isStatus9000 isRead readBody responseBody primitiveParts gpoParts templateParts parseTree nextOf withLeaf withNode objectCount primitiveItems takeAll takeNext takeItem allowedNow allowedInResponse
     allowedInTemplate withTvr withFindings rowNumberOf loadStart primitiveObjects objectBefore primitiveOf headerOf tagAt tagSize tagSecondByte tagThirdByte lengthAt tagFirstByte isTemplate isPrivate bigEndianFrom if both
     either every dictionaryRows rowPast findRow settableByStart setObject setObjects fitsRow digitsFit numeric nibbles digitsThenFs compressed terminalTypeListed listedTerminalType rowOffset rowPlace placeValue rowValue putRow objectValueIn allRequiredPresent
@@ -187,7 +187,7 @@ verified-sent : commandsSent (playCalls freshSession (asking verifyingAnswer))
     ≡ gpoCommand ∷ recordCommand
     ∷ (0x80 ∷ 0xAE ∷ 0x80 ∷ 0x00 ∷ 0x08 ∷ 0x80 ∷ 0x00 ∷ 0x04 ∷ 0x00 ∷ 0x00 ∷ 0x42 ∷ 0x03 ∷ 0x00 ∷ 0x00 ∷ []) ∷ []
 unfolding commandsSent playIn finalIn callsAccepted outcomeOfReason cryptogramDataPresent askGpo getProcessingOptions gpoCommandOf dolDataBy dolData dolEntries recurse recurseBy entriesNext lengthBytes entryWithLength dolEntryAt
-    entryBefore truncated paddingByte padded fittedTo dolEntryBytes generateAcOf generateAc gpoStep gpoStoreReason afterGpoRead aflRecordAt kthRecord nthRecord acceptsAfl wholeEntries entriesOf validEntry sumOverEntries entriesRecords runOf
+    entryBefore truncated paddingByte padded fittedTo dolEntryBytes carriedIn generateAc gpoStep gpoStoreReason afterGpoRead aflRecordAt kthRecord nthRecord acceptsAfl wholeEntries entriesOf validEntry sumOverEntries entriesRecords runOf
     readAnswer isResponseLength isStatus9000 isRead readBody responseBody primitiveParts gpoParts templateParts parseTree nextOf withLeaf withNode objectCount primitiveItems takeAll takeNext takeItem allowedNow allowedInResponse
     allowedInTemplate withTvr withFindings rowNumberOf loadStart primitiveObjects objectBefore primitiveOf headerOf tagAt tagSize tagSecondByte tagThirdByte lengthAt tagFirstByte isTemplate isPrivate bigEndianFrom if both
     either every dictionaryRows rowPast findRow settableByStart setObject setObjects fitsRow digitsFit numeric nibbles digitsThenFs compressed terminalTypeListed listedTerminalType rowOffset rowPlace placeValue rowValue putRow objectValueIn allRequiredPresent
@@ -207,7 +207,7 @@ onDevice : map callResult (playCalls freshSession (failing onDeviceAnswer))
     ≡ CallResult.Command (record { size = 8 }) ∷ CallResult.Command (record { size = 5 }) ∷ CallResult.Command (record { size = 14 })
     ∷ CallResult.Outcome (outcomeParameters Outcome.Ended 9 3) ∷ []
 unfolding commandsSent playIn finalIn callsAccepted outcomeOfReason cryptogramDataPresent askGpo getProcessingOptions gpoCommandOf dolDataBy dolData dolEntries recurse recurseBy entriesNext lengthBytes entryWithLength dolEntryAt
-    entryBefore truncated paddingByte padded fittedTo dolEntryBytes generateAcOf generateAc gpoStep gpoStoreReason afterGpoRead aflRecordAt kthRecord nthRecord acceptsAfl wholeEntries entriesOf validEntry sumOverEntries entriesRecords runOf
+    entryBefore truncated paddingByte padded fittedTo dolEntryBytes carriedIn generateAc gpoStep gpoStoreReason afterGpoRead aflRecordAt kthRecord nthRecord acceptsAfl wholeEntries entriesOf validEntry sumOverEntries entriesRecords runOf
     readAnswer isResponseLength isStatus9000 isRead readBody responseBody primitiveParts gpoParts templateParts parseTree nextOf withLeaf withNode objectCount primitiveItems takeAll takeNext takeItem allowedNow allowedInResponse
     allowedInTemplate withTvr withFindings rowNumberOf loadStart primitiveObjects objectBefore primitiveOf headerOf tagAt tagSize tagSecondByte tagThirdByte lengthAt tagFirstByte isTemplate isPrivate bigEndianFrom if both
     either every dictionaryRows rowPast findRow settableByStart setObject setObjects fitsRow digitsFit numeric nibbles digitsThenFs compressed terminalTypeListed listedTerminalType rowOffset rowPlace placeValue rowValue putRow objectValueIn allRequiredPresent
@@ -219,7 +219,7 @@ onDevice = ap (map callResult) (play-in freshSession fresh-keeps (failing onDevi
 on-device-held : finalSession freshSession (asking onDeviceAnswer) .phase
     ≡ Phase.Cryptogram (record { choice = Choice.Online; cvm = Cvm.ConfirmationCode; limit = 50000 })
 unfolding commandsSent playIn finalIn callsAccepted outcomeOfReason cryptogramDataPresent askGpo getProcessingOptions gpoCommandOf dolDataBy dolData dolEntries recurse recurseBy entriesNext lengthBytes entryWithLength dolEntryAt
-    entryBefore truncated paddingByte padded fittedTo dolEntryBytes generateAcOf generateAc gpoStep gpoStoreReason afterGpoRead aflRecordAt kthRecord nthRecord acceptsAfl wholeEntries entriesOf validEntry sumOverEntries entriesRecords runOf
+    entryBefore truncated paddingByte padded fittedTo dolEntryBytes carriedIn generateAc gpoStep gpoStoreReason afterGpoRead aflRecordAt kthRecord nthRecord acceptsAfl wholeEntries entriesOf validEntry sumOverEntries entriesRecords runOf
     readAnswer isResponseLength isStatus9000 isRead readBody responseBody primitiveParts gpoParts templateParts parseTree nextOf withLeaf withNode objectCount primitiveItems takeAll takeNext takeItem allowedNow allowedInResponse
     allowedInTemplate withTvr withFindings rowNumberOf loadStart primitiveObjects objectBefore primitiveOf headerOf tagAt tagSize tagSecondByte tagThirdByte lengthAt tagFirstByte isTemplate isPrivate bigEndianFrom if both
     either every dictionaryRows rowPast findRow settableByStart setObject setObjects fitsRow digitsFit numeric nibbles digitsThenFs compressed terminalTypeListed listedTerminalType rowOffset rowPlace placeValue rowValue putRow objectValueIn allRequiredPresent
@@ -232,7 +232,7 @@ on-device-sent : commandsSent (playCalls freshSession (asking onDeviceAnswer))
     ≡ gpoCommand ∷ recordCommand
     ∷ (0x80 ∷ 0xAE ∷ 0x80 ∷ 0x00 ∷ 0x08 ∷ 0x80 ∷ 0x00 ∷ 0x00 ∷ 0x00 ∷ 0x00 ∷ 0x01 ∷ 0x00 ∷ 0x02 ∷ 0x00 ∷ []) ∷ []
 unfolding commandsSent playIn finalIn callsAccepted outcomeOfReason cryptogramDataPresent askGpo getProcessingOptions gpoCommandOf dolDataBy dolData dolEntries recurse recurseBy entriesNext lengthBytes entryWithLength dolEntryAt
-    entryBefore truncated paddingByte padded fittedTo dolEntryBytes generateAcOf generateAc gpoStep gpoStoreReason afterGpoRead aflRecordAt kthRecord nthRecord acceptsAfl wholeEntries entriesOf validEntry sumOverEntries entriesRecords runOf
+    entryBefore truncated paddingByte padded fittedTo dolEntryBytes carriedIn generateAc gpoStep gpoStoreReason afterGpoRead aflRecordAt kthRecord nthRecord acceptsAfl wholeEntries entriesOf validEntry sumOverEntries entriesRecords runOf
     readAnswer isResponseLength isStatus9000 isRead readBody responseBody primitiveParts gpoParts templateParts parseTree nextOf withLeaf withNode objectCount primitiveItems takeAll takeNext takeItem allowedNow allowedInResponse
     allowedInTemplate withTvr withFindings rowNumberOf loadStart primitiveObjects objectBefore primitiveOf headerOf tagAt tagSize tagSecondByte tagThirdByte lengthAt tagFirstByte isTemplate isPrivate bigEndianFrom if both
     either every dictionaryRows rowPast findRow settableByStart setObject setObjects fitsRow digitsFit numeric nibbles digitsThenFs compressed terminalTypeListed listedTerminalType rowOffset rowPlace placeValue rowValue putRow objectValueIn allRequiredPresent
@@ -263,28 +263,28 @@ striped-said : map callResult (playCalls freshSession striped)
     ≡ CallResult.Command (record { size = 8 }) ∷ CallResult.Command (record { size = 5 }) ∷ CallResult.Command (record { size = 10 })
     ∷ CallResult.Outcome (outcomeParameters Outcome.OnlineRequest 0 15) ∷ []
 unfolding commandsSent playIn finalIn callsAccepted outcomeOfReason cryptogramDataPresent askGpo getProcessingOptions gpoCommandOf dolDataBy dolData dolEntries recurse recurseBy entriesNext lengthBytes entryWithLength dolEntryAt
-    entryBefore truncated paddingByte padded fittedTo dolEntryBytes generateAcOf generateAc gpoStep gpoStoreReason afterGpoRead aflRecordAt kthRecord nthRecord acceptsAfl wholeEntries entriesOf validEntry sumOverEntries entriesRecords runOf
+    entryBefore truncated paddingByte padded fittedTo dolEntryBytes carriedIn generateAc gpoStep gpoStoreReason afterGpoRead aflRecordAt kthRecord nthRecord acceptsAfl wholeEntries entriesOf validEntry sumOverEntries entriesRecords runOf
     readAnswer isResponseLength isStatus9000 isRead readBody responseBody primitiveParts gpoParts templateParts parseTree nextOf withLeaf withNode objectCount primitiveItems takeAll takeNext takeItem allowedNow allowedInResponse
     allowedInTemplate withTvr withFindings rowNumberOf loadStart primitiveObjects objectBefore primitiveOf headerOf tagAt tagSize tagSecondByte tagThirdByte lengthAt tagFirstByte isTemplate isPrivate bigEndianFrom if both
     either every dictionaryRows rowPast findRow settableByStart setObject setObjects fitsRow digitsFit numeric nibbles digitsThenFs compressed terminalTypeListed listedTerminalType rowOffset rowPlace placeValue rowValue putRow objectValueIn allRequiredPresent
     isPresentIfRequired recordStep afterRecordRead afterLastRecord afterRecordsEmv afterAnalysis requestedCryptogram askCryptogram hasOnDeviceCvm transactionLimit aboveTransactionLimit aucViolatedIn restrictionsByte tvrOf sameCurrency cvmConditionsIn cvmResultIn tvrWithCvm
     findingsOf actionCodesOf choiceFor numberedBit firstBytes bcdFrom yearOf dateOf dateLater amountOf amountAbove versionDiffers notYetEffective atAtm issuerCountryOf cashbackRequested aucViolated tvrWithBits stageHoldsBit
     lowestFrom lowestBit iacCode stageHolds onlineCapabilityAt choiceOf cvmRulesFrom cvmRecognised cvmSupported cvmAmountMet cvmConditionMet takenBy cvmUnsuccessful byCvmRules cvmProcessing onDeviceCvm bytesEqual trackDataPresent
-    udolOrDefault checksumCommandOf checksumCommandWith computeCryptographicChecksum askChecksum afterRecordsMagStripe afterChecksumRead checksumOutcomeOf checksumReply nibblesBefore discretionaryIn bitmapPlacesFrom bitmapPlaces bitmapWithin canTakeDigits
+    udolOrDefault computeCryptographicChecksum askChecksum afterRecordsMagStripe afterChecksumRead checksumOutcomeOf checksumReply nibblesBefore discretionaryIn bitmapPlacesFrom bitmapPlaces bitmapWithin canTakeDigits
 striped-said = ap (map callResult) (play-in freshSession fresh-keeps striped)
 
 -- the list is the default one: 9F6A in four bytes
 striped-sent : commandsSent (playCalls freshSession begunMagStripe)
     ≡ gpoCommand ∷ recordCommand ∷ (0x80 ∷ 0x2A ∷ 0x8E ∷ 0x80 ∷ 0x04 ∷ 0x00 ∷ 0x00 ∷ 0x34 ∷ 0x56 ∷ 0x00 ∷ []) ∷ []
 unfolding commandsSent playIn finalIn callsAccepted outcomeOfReason cryptogramDataPresent askGpo getProcessingOptions gpoCommandOf dolDataBy dolData dolEntries recurse recurseBy entriesNext lengthBytes entryWithLength dolEntryAt
-    entryBefore truncated paddingByte padded fittedTo dolEntryBytes generateAcOf generateAc gpoStep gpoStoreReason afterGpoRead aflRecordAt kthRecord nthRecord acceptsAfl wholeEntries entriesOf validEntry sumOverEntries entriesRecords runOf
+    entryBefore truncated paddingByte padded fittedTo dolEntryBytes carriedIn generateAc gpoStep gpoStoreReason afterGpoRead aflRecordAt kthRecord nthRecord acceptsAfl wholeEntries entriesOf validEntry sumOverEntries entriesRecords runOf
     readAnswer isResponseLength isStatus9000 isRead readBody responseBody primitiveParts gpoParts templateParts parseTree nextOf withLeaf withNode objectCount primitiveItems takeAll takeNext takeItem allowedNow allowedInResponse
     allowedInTemplate withTvr withFindings rowNumberOf loadStart primitiveObjects objectBefore primitiveOf headerOf tagAt tagSize tagSecondByte tagThirdByte lengthAt tagFirstByte isTemplate isPrivate bigEndianFrom if both
     either every dictionaryRows rowPast findRow settableByStart setObject setObjects fitsRow digitsFit numeric nibbles digitsThenFs compressed terminalTypeListed listedTerminalType rowOffset rowPlace placeValue rowValue putRow objectValueIn allRequiredPresent
     isPresentIfRequired recordStep afterRecordRead afterLastRecord afterRecordsEmv afterAnalysis requestedCryptogram askCryptogram hasOnDeviceCvm transactionLimit aboveTransactionLimit aucViolatedIn restrictionsByte tvrOf sameCurrency cvmConditionsIn cvmResultIn tvrWithCvm
     findingsOf actionCodesOf choiceFor numberedBit firstBytes bcdFrom yearOf dateOf dateLater amountOf amountAbove versionDiffers notYetEffective atAtm issuerCountryOf cashbackRequested aucViolated tvrWithBits stageHoldsBit
     lowestFrom lowestBit iacCode stageHolds onlineCapabilityAt choiceOf cvmRulesFrom cvmRecognised cvmSupported cvmAmountMet cvmConditionMet takenBy cvmUnsuccessful byCvmRules cvmProcessing onDeviceCvm bytesEqual trackDataPresent
-    udolOrDefault checksumCommandOf checksumCommandWith computeCryptographicChecksum askChecksum afterRecordsMagStripe
+    udolOrDefault computeCryptographicChecksum askChecksum afterRecordsMagStripe
 striped-sent = ap commandsSent (play-in freshSession fresh-keeps begunMagStripe)
 
 -- the published order's last command by the bytes of the first answer, under 80 and in a 77

@@ -14,7 +14,7 @@ use Rattle.afl.specs.Records.{aflEntries, wholeEntries, sumOverEntries}
 use Rattle.reading.specs.Taking.{allowedInTemplate, allowedInResponse}
 use Rattle.personalise.specs.Objects.{settableInRecord, lacksTag, tagsDistinct}
 use Rattle.personalise.specs.Placements.{placementsIn, placementCount, anyPlacement, eachPlacedOnce, objectsFrom}
-use Rattle.personalise.specs.Entries.{apartFrom, roomBehind, validEntryAlone, validEntryAfter, badEnd, badFrom, badEntry}
+use Rattle.personalise.specs.Entries.{apartFrom, validEntryAlone, validEntryAfter, badFrom, badEntry}
 use Rattle.personalise.specs.Records.{contentBytes, cardRecordsFrom, concatenatedRecords, recordBadAt, firstFault, badRecord}
 use Rattle.personalise.specs.Outcome.{listValid, personaliseResult}
 use Rattle.worked_words.specs.Personalise.{PersonaliseWords}
@@ -22,5 +22,5 @@ use Rattle.worked_words.specs.Personalise.{PersonaliseWords}
 pub words : PersonaliseWords
 unfolding personaliseResult listValid primitiveObjects recurse recurseBy primitiveOf objectBefore headerOf tagAt tagSize tagSecondByte tagThirdByte lengthAt tagFirstByte isTemplate isPrivate bigEndianFrom nibbles if
     both either every dictionaryRows rowPast findRow allowedInResponse allowedInTemplate fitsRow numeric digitsFit tagBytes lengthBytes settableInRecord lacksTag tagsDistinct placementsIn placementCount anyPlacement eachPlacedOnce objectsFrom aflEntries
-    wholeEntries sumOverEntries apartFrom roomBehind validEntryAlone validEntryAfter badEnd badFrom badEntry contentBytes cardRecordsFrom concatenatedRecords recordBadAt firstFault badRecord
+    wholeEntries sumOverEntries apartFrom validEntryAlone validEntryAfter badFrom badEntry contentBytes cardRecordsFrom concatenatedRecords recordBadAt firstFault badRecord
 words = record { written = refl; short-records = refl; short-afl = refl; bad-list = refl; bad-entry = refl; bad-record = refl }

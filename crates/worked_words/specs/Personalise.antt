@@ -5,7 +5,8 @@ use mathlib.Core.Path.{_≡_}
 use mathlib.Core.List.{List, [], _∷_, _++_}
 use Prim.Native.Nat.{ℕ}
 use lib.ListN.{replicate}
-use Rattle.personalise.specs.Word.{personaliseWordFor}
+use Rattle.personalise.specs.Outcome.{cardPlan, personaliseResult}
+use Rattle.personalise.specs.Word.{personaliseWord}
 
 -- 9F08 and 5F34; an AFL of two records, and one whose second entry breaks a rule; both objects in record 1, and
 -- one in record 3
@@ -26,7 +27,8 @@ placedInThird = 0x01 ∷ 0x01 ∷ 0x03 ∷ 0x02 ∷ []
 
 -- the word with buffers of so many bytes
 abbrev pub personaliseExampleWord : List ℕ → List ℕ → List ℕ → ℕ → ℕ → ℕ
-personaliseExampleWord os es placements records afl = personaliseWordFor os es placements (replicate records 0) (replicate afl 0)
+personaliseExampleWord os es placements records afl =
+    personaliseWord (personaliseResult (cardPlan os es placements) (replicate records 0) (replicate afl 0))
 
 pub record PersonaliseWords : Type 0 where
   -- 13 bytes of records and 4 of AFL

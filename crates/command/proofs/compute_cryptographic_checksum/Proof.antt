@@ -12,7 +12,7 @@ use Rattle.command.proofs.compute_cryptographic_checksum.Tie as tie
 
 returns : tie.Need-returns
 returns c =
-    let w = c .before .before .checksum-with .ensures in
+    let w = c .before .before .with-dol .ensures in
     let t = c .before .before .before .before in
     let a = t .before .before .before .before .args in
     let e = sym (checksum-own (a .store .now) _ (t .before .value .ensures) (t .if1 .taken)) in
@@ -20,7 +20,7 @@ returns c =
 
 returns-2 : tie.Need-returns-2
 returns-2 c =
-    let w = c .before .before .checksum-with2 .ensures in
+    let w = c .before .before .with-dol2 .ensures in
     let t = c .before .before .before .before .before in
     let a = t .before .before .before .before .args in
     let e = sym (checksum-default (a .store .now) _ (t .before .value .ensures) (t .if1 .left)) in

@@ -9,7 +9,7 @@ use lib.ListN.{length, length-append}
 use borrow.Author.Needs.{needs}
 use Rattle.dictionary.specs.Rows.{dictionaryRows}
 use Rattle.dol.specs.Entries.{dolEntries}
-use Rattle.command.specs.WithList.{getProcessingOptions, gpoCommandOf, gpoDataHead, gpoData, commandP2Zero}
+use Rattle.command.specs.WithList.{getProcessingOptions, gpoCommandOf, gpoDataHead, gpoData, commandWith}
 use Rattle.dol.specs.Measure.{writtenOver}
 use Rattle.dol.proofs.Buffer.{over-some, over-then}
 use Rattle.command.proofs.Parts.{Fills, fills, unfit, head-length, gpo-of, gpo-broken, gpo-long, gpo-some, command-length, command-front, none-written, some-written}
@@ -77,7 +77,7 @@ returns-3 c =
     let l : length (gpoData v) ≡ length (gpoDataHead n) + n = length-append (gpoDataHead (length v)) v ∙ ap (λ (i : ℕ). length (gpoDataHead i) + i) (f .long) in
     let h : 5 + length (gpoData v) < length b = omega (arith, st .pre) in
     let e : o .result + n ≡ 5 + length (gpoData v) = omega (arith, o .ensures .0) in
-    some-written (getProcessingOptions (a .store .now)) (commandP2Zero 0xA8 0 (gpoData v)) b _ (cl .result)
+    some-written (getProcessingOptions (a .store .now)) (commandWith 0xA8 0 0 (gpoData v)) b _ (cl .result)
     (gpo-of (a .store .now) _ (c .before .before .before .before .before .before .before .before .before .before .before .before .before .before .before .before .before .value .ensures) ∙ ap gpoCommandOf (f .is) ∙ gpo-some v (omega (arith, f .long)))
     (cl .ensures .0 ∙ command-length 0xA8 0 0 b (gpoData v) (o .result + n) h e)
     (command-front 0xA8 0 0 b (gpoData v) (o .result + n) h e _ _ (body (c .before .before .before .before .before .before)) (cl .ensures .1))

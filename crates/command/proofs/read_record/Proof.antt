@@ -6,8 +6,7 @@ use mathlib.Core.List.{List, [], _∷_}
 use Prim.Native.Nat.{ℕ, _≤_}
 use native.Mathlib.Omega.{arith}
 use lib.ListN.{length, set, drop, length-set}
-use Rattle.command.specs.ReadRecord.{CommandWritten, WroteReadRecord}
-use Rattle.command.proofs.ReadRecord.{written-yes, written-short, written-widen}
+use Rattle.command.proofs.ReadRecord.{written-yes, written-short, written-widen, wrote}
 use Rattle.command.proofs.read_record.Statement.{statement}
 use Rattle.command.proofs.read_record.Tie as tie
 
@@ -19,18 +18,15 @@ five (v ∷ w ∷ x ∷ []) a b c d e h = absurd (omega arith)
 five (v ∷ w ∷ x ∷ y ∷ []) a b c d e h = absurd (omega arith)
 five (v ∷ w ∷ x ∷ y ∷ z ∷ l) a b c d e h = refl
 
-wrote : (n : ℕ) (b : List ℕ) (w v : CommandWritten) → w ≡ v → n ≡ v .size → b ≡ v .buffer → WroteReadRecord n b w
-wrote n b w v e p q = rw e (record { size = p; buffer = q })
-
 returns : tie.Need-returns
 returns c =
     let a = c .before .args in
-    wrote _ _ _ _ (written-short (a .wanted) (a .command .now) (omega arith)) refl refl
+    wrote _ _ _ _ _ (written-short (a .wanted) (a .command .now) (omega arith)) refl refl
 
 returns-2 : tie.Need-returns-2
 returns-2 c =
     let a = c .before .before .before .args in
-    wrote _ _ _ _ (written-widen (a .wanted) (a .command .now) (omega arith)) refl refl
+    wrote _ _ _ _ _ (written-widen (a .wanted) (a .command .now) (omega arith)) refl refl
 
 slice-write-command-2 : tie.Need-slice-write-command-2
 slice-write-command-2 c = simp length-set (omega arith)
@@ -45,7 +41,7 @@ returns-3 : tie.Need-returns-3
 returns-3 c =
     let a = c .before .before .before .before .args in
     let h : 5 ≤ length (a .command .now) = omega arith in
-    wrote _ _ _ _ (written-yes (a .wanted) (a .command .now) h (omega arith)) refl (five (a .command .now) _ _ _ _ _ h)
+    wrote _ _ _ _ _ (written-yes (a .wanted) (a .command .now) h (omega arith)) refl (five (a .command .now) _ _ _ _ _ h)
 
 pub read-record-spec : {M : Type 1} → statement M
 read-record-spec =

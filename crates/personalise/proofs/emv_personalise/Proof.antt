@@ -3,7 +3,7 @@
 use borrow.Author.Needs.{needs}
 use mathlib.Core.Path.{sym, ap, _∙_}
 use mathlib.Core.Bool.{Bool}
-use Rattle.personalise.specs.Outcome.{recordsIf, aflIf}
+use Rattle.personalise.specs.Outcome.{cardPlan, recordsAfter, aflAfter}
 use Rattle.personalise.specs.Word.{personaliseWord, isWrittenWord}
 use Rattle.personalise.proofs.Stages.{says-written}
 use Rattle.personalise.proofs.emv_personalise.Statement.{statement}
@@ -16,8 +16,8 @@ returns c =
     let q = p .personalise .ensures in
     let w = sym (ap isWrittenWord (c .word .ensures) ∙ says-written (p .personalise .result) (q .1 .1 .1 .0)) in (
       c .word .ensures ∙ ap personaliseWord (q .0),
-      (q .1 .0 ∙ ap (λ (b : Bool). recordsIf b (a .objects .now) (a .entries .now) (a .placements .now) (a .records .now)) w,
-      q .1 .1 .0 ∙ ap (λ (b : Bool). aflIf b (a .entries .now) (a .afl .now)) w),
+      (q .1 .0 ∙ ap (λ (b : Bool). recordsAfter b (cardPlan (a .objects .now) (a .entries .now) (a .placements .now)) (a .records .now)) w,
+      q .1 .1 .0 ∙ ap (λ (b : Bool). aflAfter b (a .entries .now) (a .afl .now)) w),
     )
 
 pub emv-personalise-spec : {M : Type 1} → statement M

@@ -11,38 +11,35 @@ use lib.ListN.{getD}
 use Rattle.personalise.specs.Placements.{placementsIn}
 use Rattle.personalise.specs.declared.PersonaliseResult.{PersonaliseResult}
 use Rattle.personalise.specs.declared.PersonaliseResult.the-variants.{ShortRecords, ShortAfl, BadList}
-use Rattle.personalise.specs.Outcome.{personaliseResult, recordsAfter, aflAfter}
-use Rattle.personalise.specs.Word.{SmallResult}
-use Rattle.personalise.specs.Clauses.{WrittenExactly}
+use Rattle.personalise.specs.Outcome.{CardPlan, cardPlan, personaliseResult, recordsAfter, aflAfter}
+use Rattle.personalise.specs.Word.{SmallResult, isWritten}
 use Rattle.personalise.specs.Read.{CardHoldsIfWritten}
-use Rattle.personalise.proofs.Exact.{exactly}
 use Rattle.personalise.proofs.Holding.{holds}
 use Rattle.personalise.proofs.Stages.{short-records, short-afl, bad-list, good-list, usable, records-stay, afl-stays, small}
 use Rattle.personalise.proofs.personalise.Statement.{statement}
 use Rattle.personalise.proofs.personalise.Tie as tie
 
 -- an answer and two buffers that are those of the definition promise the rest
-promise : (o es p r l : List ℕ) → ((i : ℕ) → getD p i 0 < 256) → (a : PersonaliseResult) (x y : List ℕ)
-    → a ≡ personaliseResult o es p r l → x ≡ recordsAfter a o es p r → y ≡ aflAfter a es l
-    → (a ≡ personaliseResult o es p r l) × ((x ≡ recordsAfter a o es p r) × ((y ≡ aflAfter a es l) × (SmallResult a × (WrittenExactly a o es p r l × CardHoldsIfWritten o es p a x y))))
-promise o es p r l b a x y e f g =
-    (e, (f, (g, (subst SmallResult (sym e) (small o es p r l), (subst (λ (c : PersonaliseResult). WrittenExactly c o es p r l) (sym e) (exactly o es p r l b), holds o es p r l b a e x y f g)))))
+promise : (p : CardPlan) (r l : List ℕ) → ((i : ℕ) → getD (p .placements) i 0 < 256) → (a : PersonaliseResult) (x y : List ℕ)
+    → a ≡ personaliseResult p r l → x ≡ recordsAfter (isWritten a) p r → y ≡ aflAfter (isWritten a) (p .entries) l
+    → (a ≡ personaliseResult p r l) × ((x ≡ recordsAfter (isWritten a) p r) × ((y ≡ aflAfter (isWritten a) (p .entries) l) × (SmallResult a × CardHoldsIfWritten p a x y)))
+promise p r l b a x y e f g = (e, (f, (g, (subst SmallResult (sym e) (small p r l), holds p r l b a e x y f g))))
 
 returns : tie.Need-returns
 returns c =
     let k = c .before .before .before in
     let a = k .before .before .before .args in
-    promise (a .objects .now) (a .entries .now) (a .placements .now) (a .records .now) (a .afl .now) (λ i. omega (arith, k .shared-slice-known3 .given i)) ShortRecords _ _
-    (sym (short-records (a .objects .now) (a .entries .now) (a .placements .now) (a .records .now) (a .afl .now) (c .if1 .taken)))
-    (records-stay (a .objects .now) (a .entries .now) (a .placements .now) (a .records .now)) (afl-stays (a .entries .now) (a .afl .now))
+    promise (cardPlan (a .objects .now) (a .entries .now) (a .placements .now)) (a .records .now) (a .afl .now) (λ i. omega (arith, k .shared-slice-known3 .given i)) ShortRecords _ _
+    (sym (short-records (cardPlan (a .objects .now) (a .entries .now) (a .placements .now)) (a .records .now) (a .afl .now) (c .if1 .taken)))
+    (records-stay (cardPlan (a .objects .now) (a .entries .now) (a .placements .now)) (a .records .now)) (afl-stays (a .entries .now) (a .afl .now))
 
 returns-2 : tie.Need-returns-2
 returns-2 c =
     let k = c .before .before .before .before in
     let a = k .before .before .before .args in
-    promise (a .objects .now) (a .entries .now) (a .placements .now) (a .records .now) (a .afl .now) (λ i. omega (arith, k .shared-slice-known3 .given i)) ShortAfl _ _
-    (sym (short-afl (a .objects .now) (a .entries .now) (a .placements .now) (a .records .now) (a .afl .now) (c .before .if1 .left) (c .if2 .taken)))
-    (records-stay (a .objects .now) (a .entries .now) (a .placements .now) (a .records .now)) (afl-stays (a .entries .now) (a .afl .now))
+    promise (cardPlan (a .objects .now) (a .entries .now) (a .placements .now)) (a .records .now) (a .afl .now) (λ i. omega (arith, k .shared-slice-known3 .given i)) ShortAfl _ _
+    (sym (short-afl (cardPlan (a .objects .now) (a .entries .now) (a .placements .now)) (a .records .now) (a .afl .now) (c .before .if1 .left) (c .if2 .taken)))
+    (records-stay (cardPlan (a .objects .now) (a .entries .now) (a .placements .now)) (a .records .now)) (afl-stays (a .entries .now) (a .afl .now))
 
 returns-3 : tie.Need-returns-3
 returns-3 c =
@@ -50,9 +47,9 @@ returns-3 c =
     let u = t .before in
     let k = u .before .before .before .before in
     let a = k .before .before .before .args in
-    promise (a .objects .now) (a .entries .now) (a .placements .now) (a .records .now) (a .afl .now) (λ i. omega (arith, k .shared-slice-known3 .given i)) BadList _ _
-    (sym (bad-list (a .objects .now) (a .entries .now) (a .placements .now) (a .records .now) (a .afl .now) (u .before .if1 .left) (u .if2 .left) (sym (t .keeps .ensures) ∙ not-true _ (c .if3 .taken))))
-    (records-stay (a .objects .now) (a .entries .now) (a .placements .now) (a .records .now)) (afl-stays (a .entries .now) (a .afl .now))
+    promise (cardPlan (a .objects .now) (a .entries .now) (a .placements .now)) (a .records .now) (a .afl .now) (λ i. omega (arith, k .shared-slice-known3 .given i)) BadList _ _
+    (sym (bad-list (cardPlan (a .objects .now) (a .entries .now) (a .placements .now)) (a .records .now) (a .afl .now) (u .before .if1 .left) (u .if2 .left) (sym (t .keeps .ensures) ∙ not-true _ (c .if3 .taken))))
+    (records-stay (cardPlan (a .objects .now) (a .entries .now) (a .placements .now)) (a .records .now)) (afl-stays (a .entries .now) (a .afl .now))
 
 with-list-requires : tie.Need-with-list-requires
 with-list-requires c κs =
@@ -71,8 +68,8 @@ returns-4 c =
     let k = u .before .before .before .before in
     let a = k .before .before .before .args in
     let q = w .with-list .ensures in
-    promise (a .objects .now) (a .entries .now) (a .placements .now) (a .records .now) (a .afl .now) (λ i. omega (arith, k .shared-slice-known3 .given i)) (w .with-list .result) _ _
-    (q .0 ∙ sym (good-list (a .objects .now) (a .entries .now) (a .placements .now) (a .records .now) (a .afl .now) (u .before .if1 .left) (u .if2 .left) (sym (t .keeps .ensures) ∙ not-false _ (f .if3 .left))))
+    promise (cardPlan (a .objects .now) (a .entries .now) (a .placements .now)) (a .records .now) (a .afl .now) (λ i. omega (arith, k .shared-slice-known3 .given i)) (w .with-list .result) _ _
+    (q .0 ∙ sym (good-list (cardPlan (a .objects .now) (a .entries .now) (a .placements .now)) (a .records .now) (a .afl .now) (u .before .if1 .left) (u .if2 .left) (sym (t .keeps .ensures) ∙ not-false _ (f .if3 .left))))
     (q .1 .0) (q .1 .1)
 
 pub personalise-spec : {M : Type 1} → statement M

@@ -5,7 +5,8 @@ use borrow.Author.Needs.{needs}
 use mathlib.Core.Path.{sym, _∙_}
 use native.Mathlib.Omega.{arith}
 use Rattle.personalise.specs.Placements.{placementsIn}
-use Rattle.personalise.specs.Outcome.{listedObjects}
+use Rattle.personalise.specs.Objects.{listedObjects}
+use Rattle.personalise.specs.Outcome.{cardPlan}
 use Rattle.personalise.proofs.Rules.{afl-most, total-most}
 use Rattle.personalise.proofs.Least.{fitting-of}
 use Rattle.personalise.proofs.Stages.{record-stage, records-stay, afl-stays}
@@ -30,8 +31,8 @@ returns c =
     let b = f .before .before in
     let k = b .before in
     let a = k .before .before .before .before .before .before .args in (
-      sym (record-stage (a .objects .now) (a .placements .now) (a .entries .now) (k .count-records .result) (k .count-records .ensures .0) (b .bad-record .ensures) (f .fault .given .1)),
-      (records-stay (a .objects .now) (a .entries .now) (a .placements .now) (a .records .now), afl-stays (a .entries .now) (a .afl .now)),
+      sym (record-stage (cardPlan (a .objects .now) (a .entries .now) (a .placements .now)) (k .count-records .result) (k .count-records .ensures .0) (b .bad-record .ensures) (f .fault .given .1)),
+      (records-stay (cardPlan (a .objects .now) (a .entries .now) (a .placements .now)) (a .records .now), afl-stays (a .entries .now) (a .afl .now)),
     )
 
 returns-2 : tie.Need-returns-2
@@ -42,7 +43,7 @@ returns-2 c =
     let k = b .before in
     let a = k .before .before .before .before .before .before .args in
     let q = w .write-all .ensures in (
-      q .0 ∙ sym (record-stage (a .objects .now) (a .placements .now) (a .entries .now) (k .count-records .result) (k .count-records .ensures .0) (b .bad-record .ensures) (n .enum-told .given .1)),
+      q .0 ∙ sym (record-stage (cardPlan (a .objects .now) (a .entries .now) (a .placements .now)) (k .count-records .result) (k .count-records .ensures .0) (b .bad-record .ensures) (n .enum-told .given .1)),
       q .1,
     )
 

@@ -1,10 +1,9 @@
 -- `with_list` meets its contract: by the first bad entry.
 -- Assumes nothing.
 use borrow.Author.Needs.{needs}
-use mathlib.Core.Path.{sym, ap, _∙_}
-use Rattle.personalise.specs.Placements.{placementsIn}
-use Rattle.personalise.specs.Outcome.{listedObjects, afterEntries}
-use Rattle.personalise.proofs.Stages.{records-stay, afl-stays}
+use mathlib.Core.Path.{sym, _∙_}
+use Rattle.personalise.specs.Outcome.{cardPlan}
+use Rattle.personalise.proofs.Stages.{entry-stage, records-stay, afl-stays}
 use Rattle.personalise.proofs.with_list.Statement.{statement}
 use Rattle.personalise.proofs.with_list.Tie as tie
 
@@ -20,8 +19,8 @@ returns c =
     let f = c .before in
     let b = f .before .before in
     let a = b .before .before .before .before .before .before .args in (
-      sym (ap (afterEntries (listedObjects (a .objects .now)) (placementsIn (a .placements .now)) (a .entries .now)) (sym (b .bad-entry .ensures) ∙ f .fault .given .1)),
-      (records-stay (a .objects .now) (a .entries .now) (a .placements .now) (a .records .now), afl-stays (a .entries .now) (a .afl .now)),
+      sym (entry-stage (cardPlan (a .objects .now) (a .entries .now) (a .placements .now)) (b .bad-entry .ensures) (f .fault .given .1)),
+      (records-stay (cardPlan (a .objects .now) (a .entries .now) (a .placements .now)) (a .records .now), afl-stays (a .entries .now) (a .afl .now)),
     )
 
 returns-2 : tie.Need-returns-2
@@ -31,7 +30,7 @@ returns-2 c =
     let b = n .before .before in
     let a = b .before .before .before .before .before .before .args in
     let q = w .with-entries .ensures in
-    (q .0 ∙ sym (ap (afterEntries (listedObjects (a .objects .now)) (placementsIn (a .placements .now)) (a .entries .now)) (sym (b .bad-entry .ensures) ∙ n .enum-told .given .1)), q .1)
+    (q .0 ∙ sym (entry-stage (cardPlan (a .objects .now) (a .entries .now) (a .placements .now)) (b .bad-entry .ensures) (n .enum-told .given .1)), q .1)
 
 pub with-list-spec : {M : Type 1} → statement M
 with-list-spec =

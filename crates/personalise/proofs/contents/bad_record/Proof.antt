@@ -6,7 +6,7 @@ use Prim.Native.Nat.{_-_, _≤_}
 use native.Mathlib.Omega.{arith}
 use Rattle.personalise.specs.Placements.{placementsIn}
 use Rattle.personalise.specs.Records.{recordBadAt, firstFault, badRecord}
-use Rattle.personalise.specs.Outcome.{listedObjects}
+use Rattle.personalise.specs.Objects.{listedObjects}
 use Rattle.personalise.proofs.Least.{first-start, first-yes, first-on, first-none}
 use Rattle.personalise.proofs.contents.bad_record.Statement.{statement}
 use Rattle.personalise.proofs.contents.bad_record.Tie as tie

@@ -3,7 +3,7 @@
 use borrow.Author.Needs.{needs}
 use mathlib.Core.Path.{sym, _∙_}
 use Rattle.personalise.specs.Placements.{placementsIn}
-use Rattle.personalise.specs.Outcome.{listedObjects}
+use Rattle.personalise.specs.Objects.{listedObjects}
 use Rattle.personalise.proofs.Least.{bad-stray, bad-size}
 use Rattle.personalise.proofs.contents.is_bad.Statement.{statement}
 use Rattle.personalise.proofs.contents.is_bad.Tie as tie

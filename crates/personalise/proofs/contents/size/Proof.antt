@@ -13,7 +13,7 @@ use Rattle.tlv.proofs.Primitives.{primitive-fits}
 use Rattle.tlv.proofs.primitive.Reads as primitive
 use Rattle.personalise.specs.Placements.{placementsIn, objectsFrom}
 use Rattle.personalise.specs.Records.{contentBytes}
-use Rattle.personalise.specs.Outcome.{listedObjects}
+use Rattle.personalise.specs.Objects.{listedObjects}
 use Rattle.personalise.specs.Inner.{cappedSize}
 use Rattle.personalise.proofs.Listed.{run-broken, rest-run, rest-less, size-on, size-end}
 use Rattle.personalise.proofs.contents.size.Statement.{statement}

@@ -9,7 +9,7 @@ use lib.ListN.{length}
 use lib.Dec.{leb}
 use Rattle.afl.specs.Entry.{entryRecordCount}
 use Rattle.afl.specs.Records.{aflEntries, sumOverEntries}
-use Rattle.personalise.specs.Entries.{mostRecords, roomBehind}
+use Rattle.personalise.specs.Entries.{mostRecords}
 use Rattle.personalise.proofs.Proposed.{entries-count, behind-many, behind-alone, behind-apart, behind-room}
 use Rattle.personalise.proofs.entries.keeps_behind.Statement.{statement}
 use Rattle.personalise.proofs.entries.keeps_behind.Tie as tie
@@ -35,7 +35,6 @@ returns-3 c =
     sym (behind-apart _ _ (omega arith) (sym (a .is-apart .ensures) ∙ not-true _ (c .if3 .taken)))
 
 returns-4 : tie.Need-returns-4
-unfolding roomBehind
 returns-4 c =
     let r = c .before in
     let e = r .before in

@@ -11,7 +11,7 @@ use Rattle.tlv.proofs.Laws.{HeaderFits}
 use Rattle.tlv.proofs.Primitives.{primitive-fits}
 use Rattle.tlv.proofs.primitive.Reads as primitive
 use mathlib.Core.Bool.{true}
-use Rattle.personalise.specs.Outcome.{listedObjects}
+use Rattle.personalise.specs.Objects.{listedObjects}
 use Rattle.personalise.proofs.Listed.{listed-end, listed-on, rest-run, run-broken, rest-less}
 use Rattle.personalise.proofs.objects.count.Statement.{statement}
 use Rattle.personalise.proofs.objects.count.Tie as tie

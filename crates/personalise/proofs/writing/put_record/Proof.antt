@@ -8,10 +8,9 @@ use Prim.Native.Nat.{ℕ, _+_, _≤_}
 use native.Mathlib.Omega.{arith}
 use lib.ListN.{length}
 use Rattle.tlv.specs.Encoding.{tagBytes, lengthBytes}
-use Rattle.personalise.specs.Objects.{recordTemplate}
+use Rattle.personalise.specs.Objects.{recordTemplate, listedObjects}
 use Rattle.personalise.specs.Placements.{placementsIn}
 use Rattle.personalise.specs.Records.{recordContent, mostRecordContent}
-use Rattle.personalise.specs.Outcome.{listedObjects}
 use Rattle.personalise.specs.Inner.{cappedSize, PutsBytes}
 use Rattle.personalise.proofs.Forms.{tag-one, length-most}
 use Rattle.personalise.proofs.Over.{tag-room, length-room, value-room, all-put}

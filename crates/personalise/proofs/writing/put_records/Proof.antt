@@ -7,7 +7,7 @@ use Prim.Native.Nat.{ℕ, _+_, _-_, _*_, _≤_}
 use native.Mathlib.Omega.{arith}
 use lib.ListN.{length}
 use Rattle.personalise.specs.Placements.{placementsIn}
-use Rattle.personalise.specs.Outcome.{listedObjects}
+use Rattle.personalise.specs.Objects.{listedObjects}
 use Rattle.personalise.specs.Inner.{bytesWrittenOver}
 use Rattle.personalise.proofs.Over.{over-nothing}
 use Rattle.personalise.proofs.Filled.{recordsLeft, records-done, records-all, transition-over, transition-next, transition-length, transition-most}
