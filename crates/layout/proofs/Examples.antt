@@ -4,7 +4,9 @@
 use mathlib.Core.Path.{_≡_, refl}
 use mathlib.Core.Bool.{true, false}
 use mathlib.Core.List.{[], _∷_, map}
+use Rattle.basics.specs.Alike.{bytesEqual}
 use Rattle.basics.specs.Choice.{if, both}
+use Rattle.basics.specs.Types.{Bytes, Count}
 use Rattle.analysis.specs.declared.choice.Choice.{Choice}
 use Rattle.analysis.specs.declared.cvm.Cvm.{Cvm}
 use Rattle.analysis.specs.Cvm.{cvmNotApplicable}
@@ -12,16 +14,20 @@ use Rattle.session_record.specs.declared.Outcome.{Outcome}
 use Rattle.session_record.specs.declared.Phase.{Phase}
 use Rattle.session_record.specs.declared.CallResult.{CallResult}
 use Rattle.session_record.specs.Session.{endingOf, outcomeParameters}
-use Rattle.layout.specs.Layout.{phaseCode, choiceFrom, cvmFrom, outcomeFrom, phaseCodeOf, phaseLimit, phaseOfCode, samePhaseCode, recordHead}
+use Rattle.layout.specs.Layout.{phaseCode, phaseCodeOf, bigEndianBytes, recordHead, withNumber, phaseOfCode}
 use Rattle.layout.specs.Word.{commandWord, resultWord}
 
+-- the head of a phase and a count
+abbrev headOf : Phase → Count → Bytes
+headOf p n = recordHead (phaseCodeOf p) n
+
 -- version, number of the phase, what it holds, reason, count, CVM, limit
-heads : recordHead Phase.Fresh 0
-    ∷ recordHead Phase.Gpo 1
-    ∷ recordHead (Phase.Record (record { number = 3; limit = 999999999999 })) 4
-    ∷ recordHead (Phase.Cryptogram (record { choice = Choice.Online; cvm = Cvm.ConfirmationCode; limit = 0xFEDCBA9876543210 })) 5
-    ∷ recordHead (Phase.Checksum (record { limit = 100 })) 3
-    ∷ recordHead (Phase.Ended (endingOf Outcome.SelectNext 6)) 5
+heads : headOf Phase.Fresh 0
+    ∷ headOf Phase.Gpo 1
+    ∷ headOf (Phase.Record (record { number = 3; limit = 999999999999 })) 4
+    ∷ headOf (Phase.Cryptogram (record { choice = Choice.Online; cvm = Cvm.ConfirmationCode; limit = 0xFEDCBA9876543210 })) 5
+    ∷ headOf (Phase.Checksum (record { limit = 100 })) 3
+    ∷ headOf (Phase.Ended (endingOf Outcome.SelectNext 6)) 5
     ∷ []
     ≡ (5 ∷ 0 ∷ 0 ∷ 0 ∷ 0 ∷ 0 ∷ 0 ∷ 0 ∷ 0 ∷ 0 ∷ 0 ∷ 0 ∷ 0 ∷ 0 ∷ [])
     ∷ (5 ∷ 1 ∷ 0 ∷ 0 ∷ 1 ∷ 0 ∷ 0 ∷ 0 ∷ 0 ∷ 0 ∷ 0 ∷ 0 ∷ 0 ∷ 0 ∷ [])
@@ -30,23 +36,27 @@ heads : recordHead Phase.Fresh 0
     ∷ (5 ∷ 5 ∷ 0 ∷ 0 ∷ 3 ∷ 0 ∷ 0 ∷ 0 ∷ 0 ∷ 0 ∷ 0 ∷ 0 ∷ 0 ∷ 100 ∷ [])
     ∷ (5 ∷ 4 ∷ 4 ∷ 6 ∷ 5 ∷ 0 ∷ 0 ∷ 0 ∷ 0 ∷ 0 ∷ 0 ∷ 0 ∷ 0 ∷ 0 ∷ [])
     ∷ []
+unfolding bigEndianBytes
 heads = refl
 
 -- codes of a phase; then a byte after fresh, a reason after a record, a P1 of 20, a P1 of C0, outcome 5, phase 6; the
 -- CVMs 0 to 4, then 5 and none, and a CVM after a record and after an end; the checksum, and a byte and a CVM after it
-codes : map (λ c. samePhaseCode (phaseCodeOf (phaseOfCode c 100)) c)
-    (phaseCode 0 0 0 0 ∷ phaseCode 1 0 0 0 ∷ phaseCode 2 255 0 0 ∷ phaseCode 3 0x40 0 0 ∷ phaseCode 4 4 6 0 ∷ phaseCode 0 1 0 0 ∷ phaseCode 2 1 1 0 ∷ phaseCode 3 0x20 0 0 ∷ phaseCode 3 0xC0 0 0 ∷ phaseCode 4 5 0 0 ∷ phaseCode 6 3 1 0
-    ∷ phaseCode 3 0x80 0 0 ∷ phaseCode 3 0x80 0 1 ∷ phaseCode 3 0x80 0 2 ∷ phaseCode 3 0x80 0 3 ∷ phaseCode 3 0x80 0 4 ∷ phaseCode 3 0x80 0 5 ∷ phaseCode 3 0x80 0 15 ∷ phaseCode 2 1 0 1 ∷ phaseCode 4 0 0 15
-    ∷ phaseCode 5 0 0 0 ∷ phaseCode 5 1 0 0 ∷ phaseCode 5 0 0 15 ∷ [])
+codes : map (λ c. bytesEqual (recordHead (phaseCodeOf (phaseOfCode c)) 0) (recordHead c 0))
+    (phaseCode 0 0 0 0 0 ∷ phaseCode 1 0 0 0 0 ∷ phaseCode 2 255 0 0 100 ∷ phaseCode 3 0x40 0 0 100
+    ∷ phaseCode 4 4 6 0 0 ∷ phaseCode 0 1 0 0 0 ∷ phaseCode 2 1 1 0 100 ∷ phaseCode 3 0x20 0 0 100
+    ∷ phaseCode 3 0xC0 0 0 100 ∷ phaseCode 4 5 0 0 0 ∷ phaseCode 6 3 1 0 0 ∷ phaseCode 3 0x80 0 0 100
+    ∷ phaseCode 3 0x80 0 1 100 ∷ phaseCode 3 0x80 0 2 100 ∷ phaseCode 3 0x80 0 3 100 ∷ phaseCode 3 0x80 0 4 100
+    ∷ phaseCode 3 0x80 0 5 100 ∷ phaseCode 3 0x80 0 15 100 ∷ phaseCode 2 1 0 1 100 ∷ phaseCode 4 0 0 15 0
+    ∷ phaseCode 5 0 0 0 100 ∷ phaseCode 5 1 0 0 100 ∷ phaseCode 5 0 0 15 100 ∷ [])
     ≡ true ∷ true ∷ true ∷ true ∷ true ∷ false ∷ false ∷ false ∷ false ∷ false ∷ false
     ∷ true ∷ true ∷ true ∷ true ∷ true ∷ false ∷ false ∷ false ∷ false
     ∷ true ∷ false ∷ false ∷ []
-unfolding samePhaseCode phaseOfCode choiceFrom cvmFrom outcomeFrom both if
+unfolding bytesEqual bigEndianBytes phaseOfCode withNumber both if
 codes = refl
 
 -- a limit of 1 is held while a record, the cryptogram or the checksum is awaited, and by no other phase
-limits : map (λ c. phaseLimit (phaseOfCode c 1)) (phaseCode 0 0 0 0 ∷ phaseCode 1 0 0 0 ∷ phaseCode 2 1 0 0 ∷ phaseCode 3 0 0 0 ∷ phaseCode 4 0 0 0 ∷ phaseCode 5 0 0 0 ∷ []) ≡ 0 ∷ 0 ∷ 1 ∷ 1 ∷ 0 ∷ 1 ∷ []
-unfolding phaseOfCode choiceFrom cvmFrom outcomeFrom if
+limits : map (λ n. phaseCodeOf (phaseOfCode (phaseCode n 0 0 0 1)) .limit) (0 ∷ 1 ∷ 2 ∷ 3 ∷ 4 ∷ 5 ∷ []) ≡ 0 ∷ 0 ∷ 1 ∷ 1 ∷ 0 ∷ 1 ∷ []
+unfolding phaseOfCode withNumber if
 limits = refl
 
 -- a command's length, the longest that a word reports, one more; an approval with a signature, the last outcome before

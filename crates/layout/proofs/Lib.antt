@@ -1,3 +1,5 @@
+pub mod Number
 pub mod Laws
 pub mod Lists
+pub mod Before
 pub mod Examples

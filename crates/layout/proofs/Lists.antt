@@ -1,5 +1,5 @@
--- The lists of `encode_record`, `put_head` and `decode_record`: six bytes set one by one, the limit's eight and a store
--- after them, and both copied out again.
+-- The lists of `encode_record`, `put_head` and `decode_record`: a head and a store after it put in their places, and the
+-- store copied out again.
 -- Assumes nothing.
 use mathlib.Core.Path.{_≡_, refl, sym, ap, _∙_}
 use mathlib.Core.List.{List, [], _∷_, _++_, append-nil}
@@ -14,47 +14,37 @@ use Rattle.basics.proofs.Laws.{if-yes, if-no, if-ind}
 use Rattle.dictionary.specs.Rows.{storeSize}
 use Rattle.session_record.specs.declared.Phase.{Phase}
 use Rattle.session_record.specs.Session.{sessionOf}
-use Rattle.layout.specs.Layout.{headSize, recordSize, recordHead, encodedSession, withSessionRecord, withRecordHead}
+use Rattle.layout.specs.declared.PhaseCode.{PhaseCode}
+use Rattle.layout.specs.Layout.{headSize, recordSize, phaseCodeOf, bigEndianBytes, recordHead, encodedSession, withSessionRecord, withRecordHead}
+use Rattle.layout.proofs.Number.{bytes-length}
 
--- six bytes set one by one at the front of a list that has them
-pub set-head : (l : List ℕ) (v n d r k m : ℕ) → 6 ≤ length l
-    → set (set (set (set (set (set l 0 v) 1 n) 2 d) 3 r) 4 k) 5 m ≡ (v ∷ n ∷ d ∷ r ∷ k ∷ m ∷ []) ++ drop 6 l
-set-head [] v n d r k m h = absurd (omega arith)
-set-head (_ ∷ []) v n d r k m h = absurd (omega arith)
-set-head (_ ∷ _ ∷ []) v n d r k m h = absurd (omega arith)
-set-head (_ ∷ _ ∷ _ ∷ []) v n d r k m h = absurd (omega arith)
-set-head (_ ∷ _ ∷ _ ∷ _ ∷ []) v n d r k m h = absurd (omega arith)
-set-head (_ ∷ _ ∷ _ ∷ _ ∷ _ ∷ []) v n d r k m h = absurd (omega arith)
-set-head (_ ∷ _ ∷ _ ∷ _ ∷ _ ∷ _ ∷ l) v n d r k m h = refl
-
--- and eight bytes in the place of those after them
-pub set-limit : (l m : List ℕ) (v n d r k x : ℕ)
-    → putMid 6 8 ((v ∷ n ∷ d ∷ r ∷ k ∷ x ∷ []) ++ drop 6 l) m ≡ (v ∷ n ∷ d ∷ r ∷ k ∷ x ∷ m) ++ drop headSize l
-set-limit l m v n d r k x = ap (λ (t : List ℕ). (v ∷ n ∷ d ∷ r ∷ k ∷ x ∷ m) ++ t) (drop-drop 8 6 l)
+pub head-length : (c : PhaseCode) (n : ℕ) → length (recordHead c n) ≡ headSize
+head-length c n = omega (arith, bytes-length 8 (c .limit))
 
 module _ (l : List ℕ) (p : Phase) (n : ℕ) where
-  pub headed-yes : recordSize ≤ length l → withRecordHead p n l ≡ recordHead p n ++ drop headSize l
-  unfolding withRecordHead
+  pub headed-yes : recordSize ≤ length l → withRecordHead p n l ≡ recordHead (phaseCodeOf p) n ++ drop headSize l
+  unfolding withRecordHead bigEndianBytes
   headed-yes h = if-yes _ _ (le-leb recordSize (length l) h)
 
   pub headed-no : length l < recordSize → withRecordHead p n l ≡ l
-  unfolding withRecordHead
+  unfolding withRecordHead bigEndianBytes
   headed-no h = if-no _ _ (lt-leb recordSize (length l) h)
 
   pub headed-length : length (withRecordHead p n l) ≡ length l
-  unfolding withRecordHead
+  unfolding withRecordHead bigEndianBytes
   headed-length =
       if-ind (λ (x : List ℕ). length x ≡ length l) _ _ _
-      (λ t. let h = leb-true recordSize (length l) t in simp (length-append, length-drop) (omega arith)) (λ t. refl)
+      (λ t. let h = leb-true recordSize (length l) t in simp length-drop (omega arith)) (λ t. refl)
 
 -- a head and then the store after it, or the store and then the head before it: the record of a session, and what
 -- lay after it
 module _ (l b : List ℕ) (p : Phase) (n : ℕ) (h : recordSize ≤ length l) (e : length b ≡ storeSize) where
-  record-is : recordHead p n ++ (b ++ drop storeSize (drop headSize l)) ≡ withSessionRecord (sessionOf p n b) l
-  unfolding withSessionRecord encodedSession
-  record-is = ap (λ (x : List ℕ). recordHead p n ++ (b ++ x)) (drop-drop storeSize headSize l) ∙ sym (if-yes _ _ (le-leb recordSize (length l) h))
+  record-is : recordHead (phaseCodeOf p) n ++ (b ++ drop storeSize (drop headSize l)) ≡ withSessionRecord (sessionOf p n b) l
+  unfolding withSessionRecord encodedSession bigEndianBytes
+  record-is = ap (λ (x : List ℕ). recordHead (phaseCodeOf p) n ++ (b ++ x)) (drop-drop storeSize headSize l) ∙ sym (if-yes _ _ (le-leb recordSize (length l) h))
 
   pub put-store : putMid headSize storeSize (withRecordHead p n l) b ≡ withSessionRecord (sessionOf p n b) l
+  unfolding bigEndianBytes
   put-store = ap (λ (x : List ℕ). putMid headSize storeSize x b) (headed-yes l p n h) ∙ record-is
 
   pub put-head : withRecordHead p n (putMid headSize storeSize l b) ≡ withSessionRecord (sessionOf p n b) l
@@ -62,7 +52,7 @@ module _ (l b : List ℕ) (p : Phase) (n : ℕ) (h : recordSize ≤ length l) (e
       let size : length b ≡ length (take storeSize (drop headSize l)) = simp (length-take, length-drop) (omega arith) in
       let enough : recordSize ≤ length (putMid headSize storeSize l b) = rw (same-len-mid headSize storeSize l b size) h in
       headed-yes (putMid headSize storeSize l b) p n enough
-      ∙ ap (λ (x : List ℕ). recordHead p n ++ x) (drop-at (take headSize l) (b ++ drop storeSize (drop headSize l)) headSize (length-take-le headSize l (omega arith)))
+      ∙ ap (λ (x : List ℕ). recordHead (phaseCodeOf p) n ++ x) (drop-at (take headSize l) (b ++ drop storeSize (drop headSize l)) headSize (length-take-le headSize l (omega arith)))
       ∙ record-is
 
 -- the store of a list that is long enough, copied over another

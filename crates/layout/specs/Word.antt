@@ -2,12 +2,13 @@
 -- 2 a refusal.
 -- Assumes nothing.
 use Prim.Native.Nat.{ℕ, _+_, _*_, _/_, _%_, min}
+use Rattle.basics.specs.Types.{Length, RefusalNumber, ResultWord}
 use Rattle.session_record.specs.declared.OutcomeParameters.{OutcomeParameters}
 use Rattle.session_record.specs.declared.CallResult.{CallResult}
 use Rattle.session_record.specs.Numbers.{outcomeNumber}
 
 -- the kind of a word
-abbrev pub wordKind : ℕ → ℕ
+abbrev pub wordKind : ResultWord → ℕ
 wordKind w = w / 0x10000 % 0x100
 
 abbrev pub kindCommand : ℕ
@@ -19,27 +20,20 @@ kindOutcome = 1
 abbrev pub kindRefusal : ℕ
 kindRefusal = 2
 
--- what a word of an outcome and one of a refusal have in the bits of the kind
-abbrev pub outcomeBits : ℕ
-outcomeBits = 0x10000
-
-abbrev pub refusalBits : ℕ
-refusalBits = 0x20000
-
 -- a command is its length; a length that a word cannot tell from an outcome is truncated, and no call hands one out
-unfoldable pub commandWord : ℕ → ℕ
+unfoldable pub commandWord : Length → ResultWord
 commandWord n = min n 65535
 
 -- an outcome with its reason, and in bits 24 to 31 the CVM's number
-abbrev pub outcomeWord : OutcomeParameters → ℕ
-outcomeWord e = e .cvm * 0x1000000 + outcomeBits + outcomeNumber (e .outcome) * 256 + e .reason
+abbrev pub outcomeWord : OutcomeParameters → ResultWord
+outcomeWord e = e .cvm * 0x1000000 + kindOutcome * 0x10000 + outcomeNumber (e .outcome) * 0x100 + e .reason
 
 -- a refusal by its number
-abbrev pub refusalWord : ℕ → ℕ
-refusalWord n = refusalBits + n
+abbrev pub refusalWord : RefusalNumber → ResultWord
+refusalWord n = kindRefusal * 0x10000 + n
 
 -- an answer of a call
-abbrev pub resultWord : CallResult → ℕ
+abbrev pub resultWord : CallResult → ResultWord
 resultWord (CallResult.Command c) = commandWord (c .size)
 resultWord (CallResult.Outcome e) = outcomeWord e
 resultWord (CallResult.Refused r) = refusalWord (r .number)

@@ -15,8 +15,9 @@ ghost use lib.ListN.{length};
 ghost use Rattle.basics.specs.Number.{bigEndian as numberOf};
 ghost use Rattle.dictionary.specs.Rows.{storeSize};
 ghost use Rattle.session_record.specs.Session.{sessionOf};
-ghost use Rattle.layout.specs.Layout.{recordSize, choiceFrom, cvmFrom, outcomeFrom, phaseCodeOf, phaseLimit, limitBytes, phaseOfCode, phaseCodeIn, limitBytesIn, samePhaseCode, withRecordHead, decodedSession, recordHeld, WroteRecord, DecodesRecord};
-ghost use Rattle.layout.specs.Layout.{layoutVersion};
+ghost use Rattle.layout.specs.Layout.{layoutVersion, recordSize, phaseCodeOf, recordHead, withRecordHead};
+ghost use Rattle.layout.specs.Layout.{choiceFrom, cvmFrom, outcomeFrom, phaseOfCode, phaseCodeIn, limitBytesIn};
+ghost use Rattle.layout.specs.Layout.{decodedSession, recordHeld, WroteRecord, DecodesRecord};
 ghost use Rattle.layout.specs.Word.{commandWord, outcomeWord, refusalWord, resultWord};
 
 // The layout's version, the first byte of every record.
@@ -39,12 +40,13 @@ const ON_CRYPTOGRAM: u8 = 3;
 const ON_ENDED: u8 = 4;
 const ON_CHECKSUM: u8 = 5;
 
-// What the head reports of a phase: its number, and the bytes of what it holds, 0 where it holds nothing.
+// What the head reports of a phase: its number, and what it holds with its transaction limit, 0 where it holds nothing.
 pub struct PhaseCode {
     pub number: u8,
     pub datum: u8,
     pub reason: u8,
     pub cvm: u8,
+    pub limit: u64,
 }
 
 // The phase and the count that a record's head has.
@@ -101,15 +103,8 @@ pub fn put_head(phase: Phase, count: u8, bytes: &mut [u8])
     if bytes.len() < RECORD_SIZE {
         return;
     }
-    let code = code_of(phase);
-    bytes[0] = VERSION;
-    bytes[1] = code.number;
-    bytes[2] = code.datum;
-    bytes[3] = code.reason;
-    bytes[4] = count;
-    bytes[5] = code.cvm;
-    let limit = limit_bytes(held_limit(phase));
-    bytes::copy(&limit, &mut bytes[LIMIT..HEAD]);
+    let head = head_of(code_of(phase), count);
+    bytes::copy(&head, &mut bytes[0..HEAD]);
 }
 
 // Takes apart the record at the front of the bytes: its store goes into the caller's.
@@ -133,20 +128,13 @@ pub fn head_in(bytes: &[u8]) -> RecordHeld
     if bytes.len() < RECORD_SIZE {
         return RecordHeld::Nothing;
     }
-    if bytes[0] != VERSION {
+    let phase = phase_of(code_in(bytes));
+    let count = bytes[4];
+    let own = head_of(code_of(phase), count);
+    if !basics::same(&own, &bytes[0..HEAD]) {
         return RecordHeld::Nothing;
     }
-    let code = code_in(bytes);
-    let limit = limit_in(bytes);
-    let phase = phase_of(code, limit_from(limit));
-    if !is_same(code_of(phase), code) {
-        return RecordHeld::Nothing;
-    }
-    let own = limit_bytes(held_limit(phase));
-    if !basics::same(&own, &limit) {
-        return RecordHeld::Nothing;
-    }
-    RecordHeld::Record(RecordHead { phase, count: bytes[4] })
+    RecordHeld::Record(RecordHead { phase, count })
 }
 
 // A call's answer as a word: the command's length, or an outcome with its reason, or a refusal's number.
@@ -189,16 +177,18 @@ fn outcome_word(end: OutcomeParameters) -> u32
         + basics::widen32(end.reason)
 }
 
-// The four bytes that enough bytes have for the code.
+// The code that enough bytes have in their head.
 fn code_in(bytes: &[u8]) -> PhaseCode
     requires { ⌜ recordSize ≤ length (now bytes) ⌝ }
     ensures { λ r. ⌜ r ≡ phaseCodeIn (now (bytes .entry)) ⌝ }
 {
+    let limit = limit_from(limit_in(bytes));
     PhaseCode {
         number: bytes[1],
         datum: bytes[2],
         reason: bytes[3],
         cvm: bytes[5],
+        limit,
     }
 }
 
@@ -212,18 +202,21 @@ fn code_of(phase: Phase) -> PhaseCode
             datum: 0,
             reason: 0,
             cvm: 0,
+            limit: 0,
         },
         Phase::Gpo => PhaseCode {
             number: ON_GPO,
             datum: 0,
             reason: 0,
             cvm: 0,
+            limit: 0,
         },
         Phase::Record(place) => PhaseCode {
             number: ON_RECORD,
             datum: place.number,
             reason: 0,
             cvm: 0,
+            limit: place.limit,
         },
         Phase::Cryptogram(asked) => {
             let choice = asked.choice;
@@ -233,13 +226,15 @@ fn code_of(phase: Phase) -> PhaseCode
                 datum: analysis::choice::p1(choice),
                 reason: 0,
                 cvm: analysis::cvm::cvm_number(cvm),
+                limit: asked.limit,
             }
         }
-        Phase::Checksum(_) => PhaseCode {
+        Phase::Checksum(checksum) => PhaseCode {
             number: ON_CHECKSUM,
             datum: 0,
             reason: 0,
             cvm: 0,
+            limit: checksum.limit,
         },
         Phase::Ended(end) => {
             let outcome = end.outcome;
@@ -248,30 +243,24 @@ fn code_of(phase: Phase) -> PhaseCode
                 datum: session_record::outcome_number(outcome),
                 reason: end.reason,
                 cvm: 0,
+                limit: 0,
             }
         }
     }
 }
 
-// The transaction limit that a phase holds, 0 where it holds none.
-fn held_limit(phase: Phase) -> u64
-    ensures { λ r. ⌜ r ≡ phaseLimit phase ⌝ }
+// The head of a code and a count; the limit is eight bytes, high byte first.
+fn head_of(code: PhaseCode, count: u8) -> [u8; HEAD]
+    ensures { λ r. ⌜ r ≡ recordHead code count ⌝ }
 {
-    match phase {
-        Phase::Fresh => 0,
-        Phase::Gpo => 0,
-        Phase::Record(place) => place.limit,
-        Phase::Cryptogram(asked) => asked.limit,
-        Phase::Checksum(checksum) => checksum.limit,
-        Phase::Ended(_) => 0,
-    }
-}
-
-// A limit as eight bytes, high byte first.
-fn limit_bytes(limit: u64) -> [u8; 8]
-    ensures { λ r. ⌜ r ≡ limitBytes limit ⌝ }
-{
+    let limit = code.limit;
     [
+        VERSION,
+        code.number,
+        code.datum,
+        code.reason,
+        count,
+        code.cvm,
         (limit / 0x100000000000000) as u8,
         (limit / 0x1000000000000 % 256) as u8,
         (limit / 0x10000000000 % 256) as u8,
@@ -310,11 +299,12 @@ fn four(a: u8, b: u8, c: u8, d: u8) -> u64
     n as u64
 }
 
-// The phase that a code and a limit denote, the nearest one where no phase has that code.
-fn phase_of(code: PhaseCode, limit: u64) -> Phase
-    ensures { λ r. ⌜ r ≡ phaseOfCode code limit ⌝ }
+// The phase that a code denotes, the nearest one where no phase has that code.
+fn phase_of(code: PhaseCode) -> Phase
+    ensures { λ r. ⌜ r ≡ phaseOfCode code ⌝ }
 {
     let number = code.number;
+    let limit = code.limit;
     if number == ON_FRESH {
         return Phase::Fresh;
     }
@@ -333,22 +323,6 @@ fn phase_of(code: PhaseCode, limit: u64) -> Phase
         return Phase::Checksum(AwaitedChecksum { limit });
     }
     Phase::Ended(Ending { outcome: outcome_from(code.datum), reason: code.reason })
-}
-
-// Whether two codes are the same.
-fn is_same(a: PhaseCode, b: PhaseCode) -> bool
-    ensures { λ r. ⌜ r ≡ samePhaseCode a b ⌝ }
-{
-    if a.number != b.number {
-        return false;
-    }
-    if a.datum != b.datum {
-        return false;
-    }
-    if a.reason != b.reason {
-        return false;
-    }
-    a.cvm == b.cvm
 }
 
 // The choice that P1 of the command requests; a decline where no choice has that P1.

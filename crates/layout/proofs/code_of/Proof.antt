@@ -17,10 +17,10 @@ returns-4 : tie.Need-returns-4
 returns-4 c = rw (c .before .before .before .phase2 .given .1, c .before .p1 .ensures, c .cvm-number .ensures)
 
 returns-5 : tie.Need-returns-5
-returns-5 c = rw (c .enum-told3 .given .1)
+returns-5 c = rw (c .before .phase3 .given .1)
 
 returns-6 : tie.Need-returns-6
-returns-6 c = rw (c .before .before .phase3 .given .1, c .outcome-number .ensures)
+returns-6 c = rw (c .before .before .phase4 .given .1, c .outcome-number .ensures)
 
 pub code-of-spec : {M : Type 1} → statement M
 code-of-spec =

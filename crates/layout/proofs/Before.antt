@@ -1,0 +1,123 @@
+-- The definitions that the layout had before a code carried its limit and a head was compared whole: each agrees with
+-- the one that took its place, on every input.
+-- Assumes nothing.
+use mathlib.Core.Path.{_≡_, refl, sym, ap, ap₂, _∙_}
+use mathlib.Core.Bool.{Bool, true, false}
+use mathlib.Core.List.{List, [], _∷_, _++_}
+use mathlib.Core.Logic.{inl, inr}
+use Prim.Native.Nat.{ℕ, _/_, _%_, _≤_, _<_}
+use native.Mathlib.Omega.{arith}
+use lib.Dec.{eqb}
+use lib.ListN.{length, getD, take, drop}
+use borrow.Author.Tests.{eq-eqb, ne-eqb, eqb-true, leb-true}
+use Rattle.basics.specs.Alike.{bytesEqual}
+use Rattle.basics.specs.Choice.{if, both, if_then_else_, _and_, _≤?_, _=?_}
+use Rattle.basics.specs.Number.{bigEndian}
+use Rattle.basics.proofs.Laws.{both-true, both-no-left, both-assoc, bool-cases}
+use Rattle.analysis.specs.declared.choice.Choice.{Choice}
+use Rattle.analysis.specs.declared.cvm.Cvm.{Cvm}
+use Rattle.session_record.specs.declared.Outcome.{Outcome}
+use Rattle.session_record.specs.declared.Phase.{Phase}
+use Rattle.layout.specs.declared.PhaseCode.{PhaseCode}
+use Rattle.layout.specs.Layout.{layoutVersion, headSize, recordSize, phaseCodeOf, bigEndianBytes, recordHead, withNumber}
+use Rattle.layout.specs.Layout.{choiceFrom, cvmFrom, outcomeFrom, phaseOfCode, limitBytesIn, phaseCodeIn, phaseIn, countIn, holdsRecord}
+use Rattle.layout.proofs.Number.{eight-bytes}
+
+-- the transaction limit that a phase holds, 0 where it holds none
+phaseLimit : Phase → ℕ
+phaseLimit Phase.Fresh          = 0
+phaseLimit Phase.Gpo            = 0
+phaseLimit (Phase.Record p)     = p .limit
+phaseLimit (Phase.Cryptogram a) = a .limit
+phaseLimit (Phase.Checksum c)   = c .limit
+phaseLimit (Phase.Ended e)      = 0
+
+phase-limit : (p : Phase) → phaseLimit p ≡ phaseCodeOf p .limit
+unfolding phaseLimit
+phase-limit Phase.Fresh = refl
+phase-limit Phase.Gpo = refl
+phase-limit (Phase.Record p) = refl
+phase-limit (Phase.Cryptogram a) = refl
+phase-limit (Phase.Checksum c) = refl
+phase-limit (Phase.Ended e) = refl
+
+-- a limit as eight bytes, high byte first: `eight-bytes` of proofs/Number
+
+-- the choice, the CVM and the outcome of a number, number by number
+choice-from : (n : ℕ) → choiceFrom n ≡ (if n =? 0x40 then Choice.Offline else if n =? 0x80 then Choice.Online else Choice.Decline)
+unfolding withNumber
+choice-from n = refl
+
+cvm-from : (n : ℕ)
+    → cvmFrom n
+    ≡ (if n =? 0 then Cvm.NoCvm else if n =? 1 then Cvm.Signature else if n =? 2 then Cvm.OnlinePin
+       else if n =? 3 then Cvm.ConfirmationCode else Cvm.OfflinePin)
+unfolding withNumber
+cvm-from n = refl
+
+outcome-from : (n : ℕ)
+    → outcomeFrom n
+    ≡ (if n =? 0 then Outcome.Approved else if n =? 1 then Outcome.OnlineRequest else if n =? 2 then Outcome.Declined
+       else if n =? 3 then Outcome.Ended else Outcome.SelectNext)
+unfolding withNumber
+outcome-from n = refl
+
+-- two codes are the same, but for the limit
+samePhaseCode : PhaseCode → PhaseCode → Bool
+samePhaseCode a b =
+    a .number =? b .number
+    and a .datum =? b .datum
+    and a .reason =? b .reason
+    and a .cvm =? b .cvm
+
+-- the bytes hold a record: enough of them, of this version, with the code and the limit of a phase
+heldRecord : List ℕ → Bool
+heldRecord l =
+    recordSize ≤? length l
+    and getD l 0 0 =? layoutVersion
+    and samePhaseCode (phaseCodeOf (phaseIn l)) (phaseCodeIn l)
+    and bytesEqual (bigEndianBytes 8 (phaseCodeOf (phaseIn l) .limit)) (limitBytesIn l)
+
+eqb-sym : (m n : ℕ) → eqb m n ≡ eqb n m
+eqb-sym m n = elim (bool-cases (eqb n m)) [
+  | inl e ↦ eq-eqb m n (sym (eqb-true n m e)) ∙ sym e
+  | inr e ↦ elim (bool-cases (eqb m n)) [
+      | inl f ↦ let g = eq-eqb n m (sym (eqb-true m n f)) in f ∙ sym g
+      | inr f ↦ f ∙ sym e
+    ]
+]
+
+-- the head compared byte by byte
+head-tests : (v n d r c m : ℕ) (t : List ℕ) (k : PhaseCode)
+    → bytesEqual (recordHead k c) (v ∷ n ∷ d ∷ r ∷ c ∷ m ∷ take 8 t)
+    ≡ (v =? layoutVersion
+       and ((k .number =? n) and (k .datum =? d) and (k .reason =? r) and (k .cvm =? m))
+       and bytesEqual (bigEndianBytes 8 (k .limit)) (take 8 t))
+unfolding bytesEqual
+head-tests v n d r c m t k =
+    let e = bytesEqual (bigEndianBytes 8 (k .limit)) (take 8 t) in
+    let own : both (eqb c c) (both (eqb (k .cvm) m) e) ≡ both (eqb (k .cvm) m) e = both-true _ (eq-eqb c c refl) in
+    ap₂ both (eqb-sym layoutVersion v)
+    (ap (λ (x : Bool). both (eqb (k .number) n) (both (eqb (k .datum) d) (both (eqb (k .reason) r) x))) own
+    ∙ (ap (λ (x : Bool). both (eqb (k .number) n) (both (eqb (k .datum) d) x)) (both-assoc _ _ _)
+    ∙ (ap (both (eqb (k .number) n)) (both-assoc _ _ _) ∙ both-assoc _ _ _)))
+
+holds-record : (l : List ℕ) → holdsRecord l ≡ heldRecord l
+unfolding holdsRecord heldRecord samePhaseCode
+holds-record l = elim (bool-cases (recordSize ≤? length l)) [
+  | inl h ↦ ap (both (recordSize ≤? length l)) (long l (leb-true recordSize (length l) h))
+  | inr h ↦ both-no-left _ _ h ∙ sym (both-no-left _ _ h)
+]
+  where
+  long : (l : List ℕ) → recordSize ≤ length l
+      → bytesEqual (recordHead (phaseCodeOf (phaseIn l)) (countIn l)) (take headSize l)
+      ≡ (getD l 0 0 =? layoutVersion
+         and samePhaseCode (phaseCodeOf (phaseIn l)) (phaseCodeIn l)
+         and bytesEqual (bigEndianBytes 8 (phaseCodeOf (phaseIn l) .limit)) (limitBytesIn l))
+  long [] h = absurd (omega arith)
+  long (v ∷ []) h = absurd (omega arith)
+  long (v ∷ n ∷ []) h = absurd (omega arith)
+  long (v ∷ n ∷ d ∷ []) h = absurd (omega arith)
+  long (v ∷ n ∷ d ∷ r ∷ []) h = absurd (omega arith)
+  long (v ∷ n ∷ d ∷ r ∷ c ∷ []) h = absurd (omega arith)
+  long (v ∷ n ∷ d ∷ r ∷ c ∷ m ∷ t) h = head-tests v n d r c m t (phaseCodeOf (phaseIn (v ∷ n ∷ d ∷ r ∷ c ∷ m ∷ t)))
