@@ -1,10 +1,12 @@
 -- Written by bin/dictionary from dictionary.tsv: change that table, and run it again.
 -- Numbers of rows, counted from 0: of the tags that code uses, of what a start must bring, and of the first row of
 -- each part of the search. The proofs find each of them in the table: proofs/Named, proofs/Part, and
--- `required-numbers` in session_record/specs/Inner.
+-- `required-numbers` in session_record/specs/Inner. The row of any tag, `rowNumberOf`, is passed on from specs/Rows.
 -- Assumes nothing.
 use mathlib.Core.List.{List, [], _∷_}
 use Rattle.basics.specs.Types.{TagList, RowNumber, Count}
+pub use Rattle.dictionary.specs.Rows.{rowNumberFound}
+unfoldable pub use Rattle.dictionary.specs.Rows.{rowNumberOf}
 
 -- the tags that code uses, in the order of the constants
 unfoldable pub usedTags : TagList
