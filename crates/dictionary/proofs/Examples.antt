@@ -13,7 +13,8 @@ use Rattle.dictionary.specs.declared.SearchResult.{SearchResult}
 use Rattle.dictionary.specs.Rows.{dictionaryRows, rowAt, rowPast, formB, formN, formCn}
 use Rattle.dictionary.specs.Search.{halve, halvingOf, probedPlaces, searchOf, tagsOf, partNumber, filter, partSearchOf}
 use Rattle.dictionary.specs.Form.{numeric, digitsThenFs, compressed, digitsFit, fitsRow}
-use Rattle.dictionary.specs.Named.{rowPan, rowCvmList, rowAmount, rowNatcTrack2, rowUnNumeric, rowTrack2Data, rowKernelConfiguration, rowLimitOnDeviceCvm}
+use Rattle.dictionary.specs.Named.{rowPan, rowCdol1, rowCvmList, rowExpirationDate, rowAmount, rowReaderVersion, rowAc, rowNatcTrack2}
+use Rattle.dictionary.specs.Named.{rowUnNumeric, rowTrack2Data, rowKernelConfiguration, rowLimitOnDeviceCvm, rowCvmRequiredLimit}
 use Rattle.dictionary.specs.TerminalType.{listedTerminalType}
 
 -- terminal types: 11 to 16, 21 to 26, 34 to 36
@@ -127,21 +128,21 @@ of-eight : let tags : List ℕ = 0x57 ∷ 0x5A ∷ 0x82 ∷ 0x8C ∷ 0x94 ∷ 0x
 unfolding searchOf halvingOf halve if
 of-eight = refl
 
--- the dictionary: first row, four within, last; below all, between, above all
-of-rows : map (searchOf (tagsOf dictionaryRows)) (0x50 ∷ 0x57 ∷ 0x5F24 ∷ 0x9F09 ∷ 0xDF8126 ∷ 0xDF8307 ∷ [])
-    ≡ said (At 0) 8 ∷ said (At 2) 6 ∷ said (At 16) 7 ∷ said (At 30) 8 ∷ said (At 136) 7 ∷ said (At 157) 7 ∷ []
+-- the places probed, in their order: of eight tags the last, the first, and none of them
+places-of-eight : let tags : List ℕ = 0x57 ∷ 0x5A ∷ 0x82 ∷ 0x8C ∷ 0x94 ∷ 0x95 ∷ 0x9A ∷ 0x9C ∷ [] in
+    map (probedPlaces tags) (0x9C ∷ 0x57 ∷ 0x9B ∷ []) ≡ (4 ∷ 6 ∷ 7 ∷ []) ∷ (4 ∷ 2 ∷ 1 ∷ 0 ∷ []) ∷ (4 ∷ 6 ∷ 7 ∷ []) ∷ []
+unfolding halvingOf halve if
+places-of-eight = refl
+
+-- the dictionary: rows by their tags; then a number below all tags, templates, a tag that is not whole, and above all
+of-rows : map (λ t. searchOf (tagsOf dictionaryRows) t .found) (0x5A ∷ 0x5F24 ∷ 0x9F09 ∷ 0x9F6A ∷ 0xDF8126 ∷ [])
+    ≡ At rowPan ∷ At rowExpirationDate ∷ At rowReaderVersion ∷ At rowUnNumeric ∷ At rowCvmRequiredLimit ∷ []
 unfolding dictionaryRows searchOf halvingOf halve if
 of-rows = refl
 
-of-no-row : map (searchOf (tagsOf dictionaryRows)) (0 ∷ 0x5F26 ∷ 0xDF8131 ∷ 0xDF8308 ∷ 0xFFFFFFFF ∷ [])
-    ≡ said Unknown 8 ∷ said Unknown 7 ∷ said Unknown 8 ∷ said Unknown 7 ∷ said Unknown 7 ∷ []
+of-no-row : map (λ t. searchOf (tagsOf dictionaryRows) t .found) (0 ∷ 0x70 ∷ 0xBF0C ∷ 0xDF81 ∷ 0xFFFFFFFF ∷ []) ≡ replicate 5 Unknown
 unfolding dictionaryRows searchOf halvingOf halve if
 of-no-row = refl
-
--- the places probed, in their order
-places-of-last : probedPlaces (tagsOf dictionaryRows) 0xDF8307 ≡ 79 ∷ 119 ∷ 139 ∷ 149 ∷ 154 ∷ 156 ∷ 157 ∷ []
-unfolding dictionaryRows halvingOf halve if
-places-of-last = refl
 
 -- the parts, on both sides of each edge
 parts : map partNumber (0 ∷ 0xFF ∷ 0x100 ∷ 0x9EFF ∷ 0x9F00 ∷ 0xDEFF ∷ 0xDF00 ∷ 0xFFFF ∷ 0x10000 ∷ 0xFFFFFFFF ∷ [])
@@ -149,14 +150,27 @@ parts : map partNumber (0 ∷ 0xFF ∷ 0x100 ∷ 0x9EFF ∷ 0x9F00 ∷ 0xDEFF �
 unfolding partNumber if
 parts = refl
 
--- the dictionary by its parts, of 16, 9, 76, 5 and 52 rows: a tag in the middle of three, the first of one and the last
--- of one; then a tag at an edge of each that no row has
-of-parts : map (partSearchOf (tagsOf dictionaryRows)) (0x8C ∷ 0x5F24 ∷ 0x9F4D ∷ 0xDF61 ∷ 0xDF8307 ∷ [])
-    ≡ said (At 8) 1 ∷ said (At 16) 4 ∷ said (At 63) 1 ∷ said (At 103) 1 ∷ said (At 157) 5 ∷ []
-unfolding dictionaryRows partSearchOf partNumber filter searchOf halvingOf halve rowPast if
+-- seven tags by their parts, of two, one, two, none and two: each is found in its part, with its place among all of them
+abbrev mixed : List ℕ
+mixed = 0x57 ∷ 0x9C ∷ 0x5F24 ∷ 0x9F02 ∷ 0x9F6B ∷ 0xDF8101 ∷ 0xDF8307 ∷ []
+
+of-parts : map (partSearchOf mixed) mixed
+    ≡ said (At 0) 2 ∷ said (At 1) 1 ∷ said (At 2) 1 ∷ said (At 3) 2 ∷ said (At 4) 1 ∷ said (At 5) 2 ∷ said (At 6) 1 ∷ []
+unfolding partSearchOf partNumber filter searchOf halvingOf halve rowPast if
 of-parts = refl
 
-in-no-part : map (partSearchOf (tagsOf dictionaryRows)) (0xFF ∷ 0x100 ∷ 0xDEFF ∷ 0xDF00 ∷ 0x10000 ∷ [])
-    ≡ said Unknown 4 ∷ said Unknown 4 ∷ said Unknown 6 ∷ said Unknown 3 ∷ said Unknown 6 ∷ []
-unfolding dictionaryRows partSearchOf partNumber filter searchOf halvingOf halve rowPast if
+-- then a tag at an edge of each that is none of them
+in-no-part : map (partSearchOf mixed) (0xFF ∷ 0x100 ∷ 0xDEFF ∷ 0xDF00 ∷ 0x10000 ∷ [])
+    ≡ said Unknown 1 ∷ said Unknown 1 ∷ said Unknown 1 ∷ said Unknown 0 ∷ said Unknown 2 ∷ []
+unfolding partSearchOf partNumber filter searchOf halvingOf halve rowPast if
 in-no-part = refl
+
+-- the dictionary by its parts: a row of each of four, and a tag of each that no row has
+rows-by-parts : map (λ t. partSearchOf (tagsOf dictionaryRows) t .found) (0x8C ∷ 0x5F24 ∷ 0x9F26 ∷ 0xDF8126 ∷ [])
+    ≡ At rowCdol1 ∷ At rowExpirationDate ∷ At rowAc ∷ At rowCvmRequiredLimit ∷ []
+unfolding dictionaryRows partSearchOf partNumber filter searchOf halvingOf halve rowPast if
+rows-by-parts = refl
+
+no-row-by-parts : map (λ t. partSearchOf (tagsOf dictionaryRows) t .found) (0x70 ∷ 0x100 ∷ 0xBF0C ∷ 0xDF81 ∷ 0xFF8106 ∷ []) ≡ replicate 5 Unknown
+unfolding dictionaryRows partSearchOf partNumber filter searchOf halvingOf halve rowPast if
+no-row-by-parts = refl

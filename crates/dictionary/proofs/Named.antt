@@ -1,9 +1,19 @@
+-- Written by bin/dictionary from dictionary.tsv: change that table, and run it again.
 -- The rows of the tags that code uses, found in the table: each computed. Assumes nothing.
 use mathlib.Core.Path.{_≡_, refl}
 use Rattle.basics.specs.Choice.{if}
 use Rattle.dictionary.specs.declared.RowFound.the-variants.{At}
 use Rattle.dictionary.specs.Rows.{dictionaryRows, rowPast, findRow}
-use Rattle.dictionary.specs.Named.{rowPan, rowAip, rowCdol1, rowCvmList, rowAfl, rowTvr, rowTransactionDate, rowTransactionType, rowExpirationDate, rowEffectiveDate, rowIssuerCountry, rowTransactionCurrency, rowAmount, rowAmountOther, rowAuc, rowCardVersion, rowReaderVersion, rowIacDefault, rowIacDenial, rowIacOnline, rowIad, rowTerminalCountry, rowAc, rowCid, rowTerminalCapabilities, rowCvmResults, rowTerminalType, rowAtc, rowUn, rowPdol, rowAdditionalCapabilities, rowApplicationCurrency, rowCvc3Track2, rowPcvc3Track2, rowPunatcTrack2, rowNatcTrack2, rowUdol, rowUnNumeric, rowTrack2Data, rowKernelConfiguration, rowTacDefault, rowTacDenial, rowTacOnline, rowFloorLimit, rowLimitNoOnDeviceCvm, rowLimitOnDeviceCvm, rowCvmRequiredLimit}
+use Rattle.dictionary.specs.Named.{rowPan, rowAip, rowCdol1, rowCvmList, rowAfl, rowTvr, rowTransactionDate}
+use Rattle.dictionary.specs.Named.{rowTransactionType, rowExpirationDate, rowEffectiveDate, rowIssuerCountry}
+use Rattle.dictionary.specs.Named.{rowTransactionCurrency, rowAmount, rowAmountOther, rowAuc, rowCardVersion}
+use Rattle.dictionary.specs.Named.{rowReaderVersion, rowIacDefault, rowIacDenial, rowIacOnline, rowIad}
+use Rattle.dictionary.specs.Named.{rowTerminalCountry, rowAc, rowCid, rowTerminalCapabilities, rowCvmResults}
+use Rattle.dictionary.specs.Named.{rowTerminalType, rowAtc, rowUn, rowPdol, rowAdditionalCapabilities}
+use Rattle.dictionary.specs.Named.{rowApplicationCurrency, rowCvc3Track2, rowPcvc3Track2, rowPunatcTrack2}
+use Rattle.dictionary.specs.Named.{rowNatcTrack2, rowUdol, rowUnNumeric, rowTrack2Data, rowKernelConfiguration}
+use Rattle.dictionary.specs.Named.{rowTacDefault, rowTacDenial, rowTacOnline, rowFloorLimit}
+use Rattle.dictionary.specs.Named.{rowLimitNoOnDeviceCvm, rowLimitOnDeviceCvm, rowCvmRequiredLimit}
 
 pub at-5A : findRow dictionaryRows 0x5A ≡ At rowPan
 unfolding if dictionaryRows rowPast findRow

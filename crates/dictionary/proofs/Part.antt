@@ -19,6 +19,7 @@ use Rattle.dictionary.specs.declared.SearchResult.{SearchResult}
 use Rattle.dictionary.specs.Rows.{Row, dictionaryRows, rowCount, rowPast, findRow}
 use Rattle.dictionary.specs.Rule.{risingTags}
 use Rattle.dictionary.specs.Search.{searchOf, tagsOf, partNumber, filter, tagsInPart, partSearchOf}
+use Rattle.dictionary.specs.Named.{firstOf5F, firstOf9F, firstOfDF, firstOfThree}
 use Rattle.dictionary.specs.Inner.{rowRange, tagRange}
 
 past-none : (x : RowFound) → rowPast 0 x ≡ x
@@ -89,23 +90,23 @@ between a n low high t h i l m = find-behind a dictionaryRows low t h l ∙ ap (
 numbered : (t : ℕ) {n : ℕ} {p : RowRange} → partNumber t ≡ n → Numbered n p → Numbered (partNumber t) p
 numbered t {n} {p} e = subst (λ (m : ℕ). Numbered m p) (sym e)
 
-part-0 : Numbered 0 (rowRange 0 16)
+part-0 : Numbered 0 (rowRange 0 firstOf5F)
 unfolding dictionaryRows filter partNumber if
 part-0 = record { tags = refl; start = refl }
 
-part-1 : Numbered 1 (rowRange 16 25)
+part-1 : Numbered 1 (rowRange firstOf5F firstOf9F)
 unfolding dictionaryRows filter partNumber if
 part-1 = record { tags = refl; start = refl }
 
-part-2 : Numbered 2 (rowRange 25 101)
+part-2 : Numbered 2 (rowRange firstOf9F firstOfDF)
 unfolding dictionaryRows filter partNumber if
 part-2 = record { tags = refl; start = refl }
 
-part-3 : Numbered 3 (rowRange 101 106)
+part-3 : Numbered 3 (rowRange firstOfDF firstOfThree)
 unfolding dictionaryRows filter partNumber if
 part-3 = record { tags = refl; start = refl }
 
-part-4 : Numbered 4 (rowRange 106 rowCount)
+part-4 : Numbered 4 (rowRange firstOfThree rowCount)
 unfolding dictionaryRows filter partNumber if
 part-4 = record { tags = refl; start = refl }
 
@@ -135,16 +136,16 @@ pub part-stands : (t : ℕ) → Stands t (tagRange t)
 unfolding tagRange dictionaryRows risingTags every both
 part-stands t =
     if-ind (Stands t) _ _ _
-    (λ a. record { tags = refl; rises = refl; finds = between 0 16 0 0x100 t refl refl (omega arith) (ltb-true _ _ a); numbered = numbered t (number-0 t a) part-0 })
+    (λ a. record { tags = refl; rises = refl; finds = between 0 firstOf5F 0 0x100 t refl refl (omega arith) (ltb-true _ _ a); numbered = numbered t (number-0 t a) part-0 })
     (λ a. if-ind (Stands t) _ _ _
-    (λ b. record { tags = refl; rises = refl; finds = between 16 9 0x100 0x9F00 t refl refl (ltb-false _ _ a) (ltb-true _ _ b); numbered = numbered t (number-1 t a b) part-1 })
+    (λ b. record { tags = refl; rises = refl; finds = between firstOf5F (firstOf9F - firstOf5F) 0x100 0x9F00 t refl refl (ltb-false _ _ a) (ltb-true _ _ b); numbered = numbered t (number-1 t a b) part-1 })
     (λ b. if-ind (Stands t) _ _ _
-    (λ c. record { tags = refl; rises = refl; finds = between 25 76 0x9F00 0xDF00 t refl refl (ltb-false _ _ b) (ltb-true _ _ c); numbered = numbered t (number-2 t a b c) part-2 })
+    (λ c. record { tags = refl; rises = refl; finds = between firstOf9F (firstOfDF - firstOf9F) 0x9F00 0xDF00 t refl refl (ltb-false _ _ b) (ltb-true _ _ c); numbered = numbered t (number-2 t a b c) part-2 })
     (λ c. if-ind (Stands t) _ _ _
-    (λ d. record { tags = refl; rises = refl; finds = between 101 5 0xDF00 0x10000 t refl refl (ltb-false _ _ c) (ltb-true _ _ d); numbered = numbered t (number-3 t a b c d) part-3 })
-    (λ d. record { tags = refl; rises = refl; finds = find-behind 106 dictionaryRows 0x10000 t refl (ltb-false _ _ d) ∙ ap (rowPast 106) (sym all-left); numbered = numbered t (number-4 t a b c d) part-4 }))))
+    (λ d. record { tags = refl; rises = refl; finds = between firstOfDF (firstOfThree - firstOfDF) 0xDF00 0x10000 t refl refl (ltb-false _ _ c) (ltb-true _ _ d); numbered = numbered t (number-3 t a b c d) part-3 })
+    (λ d. record { tags = refl; rises = refl; finds = find-behind firstOfThree dictionaryRows 0x10000 t refl (ltb-false _ _ d) ∙ ap (rowPast firstOfThree) (sym all-left); numbered = numbered t (number-4 t a b c d) part-4 }))))
   where
-    all-left : findRow (take 52 (drop 106 dictionaryRows)) t ≡ findRow (drop 106 dictionaryRows) t
+    all-left : findRow (take (rowCount - firstOfThree) (drop firstOfThree dictionaryRows)) t ≡ findRow (drop firstOfThree dictionaryRows) t
     all-left = refl
 
 pub tags-length : length (tagsOf dictionaryRows) ≡ rowCount
@@ -154,26 +155,26 @@ tags-length = refl
 -- ---- which part, by the tag
 
 module _ (t : ℕ) where
-  pub one-byte : t < 0x100 → rowRange 0 16 ≡ tagRange t
+  pub one-byte : t < 0x100 → rowRange 0 firstOf5F ≡ tagRange t
   unfolding tagRange
   one-byte a = sym (if-yes _ _ (lt-ltb _ _ a))
 
   module _ (a : 0x100 ≤ t) where
-    pub from-5F : t < 0x9F00 → rowRange 16 25 ≡ tagRange t
+    pub from-5F : t < 0x9F00 → rowRange firstOf5F firstOf9F ≡ tagRange t
     unfolding tagRange
     from-5F b = sym (if-no _ _ (le-ltb _ _ a) ∙ if-yes _ _ (lt-ltb _ _ b))
 
     module _ (b : 0x9F00 ≤ t) where
-      pub from-9F : t < 0xDF00 → rowRange 25 101 ≡ tagRange t
+      pub from-9F : t < 0xDF00 → rowRange firstOf9F firstOfDF ≡ tagRange t
       unfolding tagRange
       from-9F c = sym (if-no _ _ (le-ltb _ _ a) ∙ if-no _ _ (le-ltb _ _ b) ∙ if-yes _ _ (lt-ltb _ _ c))
 
       module _ (c : 0xDF00 ≤ t) where
-        pub from-DF : t < 0x10000 → rowRange 101 106 ≡ tagRange t
+        pub from-DF : t < 0x10000 → rowRange firstOfDF firstOfThree ≡ tagRange t
         unfolding tagRange
         from-DF d = sym (if-no _ _ (le-ltb _ _ a) ∙ if-no _ _ (le-ltb _ _ b) ∙ if-no _ _ (le-ltb _ _ c) ∙ if-yes _ _ (lt-ltb _ _ d))
 
-        pub three-bytes : 0x10000 ≤ t → rowRange 106 rowCount ≡ tagRange t
+        pub three-bytes : 0x10000 ≤ t → rowRange firstOfThree rowCount ≡ tagRange t
         unfolding tagRange
         three-bytes d = sym (if-no _ _ (le-ltb _ _ a) ∙ if-no _ _ (le-ltb _ _ b) ∙ if-no _ _ (le-ltb _ _ c) ∙ if-no _ _ (le-ltb _ _ d))
 

@@ -1,3 +1,5 @@
+pub mod Row
+pub mod AnnexA
 pub mod Rows
 pub mod Rule
 pub mod Search

@@ -1,170 +1,238 @@
--- The rows of the tags that code uses: the tags in the order of the source's constants, and each row's number.
+-- Written by bin/dictionary from dictionary.tsv: change that table, and run it again.
+-- Numbers of rows, counted from 0: of the tags that code uses, of what a start must bring, and of the first row of
+-- each part of the search. The proofs find each of them in the table: proofs/Named, proofs/Part, and
+-- `required-numbers` in session_record/specs/Inner. The row of any tag, `rowNumberOf`, is passed on from specs/Rows.
 -- Assumes nothing.
 use mathlib.Core.List.{List, [], _∷_}
-use Prim.Native.Nat.{ℕ}
-use Rattle.dictionary.specs.declared.RowFound.{RowFound}
-use Rattle.dictionary.specs.declared.RowFound.the-variants.{At, Unknown}
-use Rattle.dictionary.specs.Rows.{dictionaryRows, findRow}
-
--- the row that a lookup found, the first where it found none
-abbrev pub rowNumberFound : RowFound → ℕ
-rowNumberFound Unknown = 0
-rowNumberFound (At k) = k
-
--- the row of a known tag; the first row for an unknown one, which no code uses
-unfoldable pub rowNumberOf : ℕ → ℕ
-rowNumberOf t = rowNumberFound (findRow dictionaryRows t)
+use Rattle.basics.specs.Types.{TagList, RowNumber, Count}
+pub use Rattle.dictionary.specs.Rows.{rowNumberFound}
+unfoldable pub use Rattle.dictionary.specs.Rows.{rowNumberOf}
 
 -- the tags that code uses, in the order of the constants
-unfoldable pub usedTags : List ℕ
+unfoldable pub usedTags : TagList
 usedTags =
-    0x5A ∷ 0x82 ∷ 0x8C ∷ 0x8E ∷ 0x94 ∷ 0x95 ∷ 0x9A ∷ 0x9C ∷
-    0x5F24 ∷ 0x5F25 ∷ 0x5F28 ∷ 0x5F2A ∷ 0x9F02 ∷ 0x9F03 ∷ 0x9F07 ∷ 0x9F08 ∷
-    0x9F09 ∷ 0x9F0D ∷ 0x9F0E ∷ 0x9F0F ∷ 0x9F10 ∷ 0x9F1A ∷ 0x9F26 ∷ 0x9F27 ∷
-    0x9F33 ∷ 0x9F34 ∷ 0x9F35 ∷ 0x9F36 ∷ 0x9F37 ∷ 0x9F38 ∷ 0x9F40 ∷ 0x9F42 ∷ 0x9F61 ∷
-    0x9F65 ∷ 0x9F66 ∷ 0x9F67 ∷ 0x9F69 ∷ 0x9F6A ∷ 0x9F6B ∷ 0xDF811B ∷
-    0xDF8120 ∷ 0xDF8121 ∷ 0xDF8122 ∷ 0xDF8123 ∷ 0xDF8124 ∷ 0xDF8125 ∷ 0xDF8126 ∷
-    []
+    0x5A ∷ 0x82 ∷ 0x8C ∷ 0x8E ∷ 0x94 ∷ 0x95 ∷ 0x9A ∷ 0x9C ∷ 0x5F24 ∷ 0x5F25 ∷ 0x5F28 ∷ 0x5F2A ∷ 0x9F02 ∷ 0x9F03 ∷
+    0x9F07 ∷ 0x9F08 ∷ 0x9F09 ∷ 0x9F0D ∷ 0x9F0E ∷ 0x9F0F ∷ 0x9F10 ∷ 0x9F1A ∷ 0x9F26 ∷ 0x9F27 ∷ 0x9F33 ∷ 0x9F34 ∷ 0x9F35 ∷
+    0x9F36 ∷ 0x9F37 ∷ 0x9F38 ∷ 0x9F40 ∷ 0x9F42 ∷ 0x9F61 ∷ 0x9F65 ∷ 0x9F66 ∷ 0x9F67 ∷ 0x9F69 ∷ 0x9F6A ∷ 0x9F6B ∷
+    0xDF811B ∷ 0xDF8120 ∷ 0xDF8121 ∷ 0xDF8122 ∷ 0xDF8123 ∷ 0xDF8124 ∷ 0xDF8125 ∷ 0xDF8126 ∷ []
 
--- ---- the numbers of these rows, counted from 0: proofs/Named finds each in the table
+-- ---- the rows of these tags
 
-abbrev pub rowPan : ℕ
+-- 5A Application PAN
+abbrev pub rowPan : RowNumber
 rowPan = 3
 
-abbrev pub rowAip : ℕ
+-- 82 Application Interchange Profile
+abbrev pub rowAip : RowNumber
 rowAip = 5
 
-abbrev pub rowCdol1 : ℕ
+-- 8C CDOL1
+abbrev pub rowCdol1 : RowNumber
 rowCdol1 = 8
 
-abbrev pub rowCvmList : ℕ
+-- 8E CVM List
+abbrev pub rowCvmList : RowNumber
 rowCvmList = 9
 
-abbrev pub rowAfl : ℕ
+-- 94 Application File Locator
+abbrev pub rowAfl : RowNumber
 rowAfl = 12
 
-abbrev pub rowTvr : ℕ
+-- 95 Terminal Verification Results
+abbrev pub rowTvr : RowNumber
 rowTvr = 13
 
-abbrev pub rowTransactionDate : ℕ
+-- 9A Transaction Date
+abbrev pub rowTransactionDate : RowNumber
 rowTransactionDate = 14
 
-abbrev pub rowTransactionType : ℕ
+-- 9C Transaction Type
+abbrev pub rowTransactionType : RowNumber
 rowTransactionType = 15
 
-abbrev pub rowExpirationDate : ℕ
+-- 5F24 Application Expiration Date
+abbrev pub rowExpirationDate : RowNumber
 rowExpirationDate = 16
 
-abbrev pub rowEffectiveDate : ℕ
+-- 5F25 Application Effective Date
+abbrev pub rowEffectiveDate : RowNumber
 rowEffectiveDate = 17
 
-abbrev pub rowIssuerCountry : ℕ
+-- 5F28 Issuer Country Code
+abbrev pub rowIssuerCountry : RowNumber
 rowIssuerCountry = 18
 
-abbrev pub rowTransactionCurrency : ℕ
+-- 5F2A Transaction Currency Code
+abbrev pub rowTransactionCurrency : RowNumber
 rowTransactionCurrency = 19
 
-abbrev pub rowAmount : ℕ
+-- 9F02 Amount, Authorized (Numeric)
+abbrev pub rowAmount : RowNumber
 rowAmount = 26
 
-abbrev pub rowAmountOther : ℕ
+-- 9F03 Amount, Other (Numeric)
+abbrev pub rowAmountOther : RowNumber
 rowAmountOther = 27
 
-abbrev pub rowAuc : ℕ
+-- 9F07 Application Usage Control
+abbrev pub rowAuc : RowNumber
 rowAuc = 28
 
-abbrev pub rowCardVersion : ℕ
+-- 9F08 Application Version Number (Card)
+abbrev pub rowCardVersion : RowNumber
 rowCardVersion = 29
 
-abbrev pub rowReaderVersion : ℕ
+-- 9F09 Application Version Number (Reader)
+abbrev pub rowReaderVersion : RowNumber
 rowReaderVersion = 30
 
-abbrev pub rowIacDefault : ℕ
+-- 9F0D Issuer Action Code – Default
+abbrev pub rowIacDefault : RowNumber
 rowIacDefault = 31
 
-abbrev pub rowIacDenial : ℕ
+-- 9F0E Issuer Action Code – Denial
+abbrev pub rowIacDenial : RowNumber
 rowIacDenial = 32
 
-abbrev pub rowIacOnline : ℕ
+-- 9F0F Issuer Action Code – Online
+abbrev pub rowIacOnline : RowNumber
 rowIacOnline = 33
 
-abbrev pub rowIad : ℕ
+-- 9F10 Issuer Application Data
+abbrev pub rowIad : RowNumber
 rowIad = 34
 
-abbrev pub rowTerminalCountry : ℕ
+-- 9F1A Terminal Country Code
+abbrev pub rowTerminalCountry : RowNumber
 rowTerminalCountry = 39
 
-abbrev pub rowAc : ℕ
+-- 9F26 Application Cryptogram
+abbrev pub rowAc : RowNumber
 rowAc = 47
 
-abbrev pub rowCid : ℕ
+-- 9F27 Cryptogram Information Data
+abbrev pub rowCid : RowNumber
 rowCid = 48
 
-abbrev pub rowTerminalCapabilities : ℕ
+-- 9F33 Terminal Capabilities
+abbrev pub rowTerminalCapabilities : RowNumber
 rowTerminalCapabilities = 50
 
-abbrev pub rowCvmResults : ℕ
+-- 9F34 CVM Results
+abbrev pub rowCvmResults : RowNumber
 rowCvmResults = 51
 
-abbrev pub rowTerminalType : ℕ
+-- 9F35 Terminal Type
+abbrev pub rowTerminalType : RowNumber
 rowTerminalType = 52
 
-abbrev pub rowAtc : ℕ
+-- 9F36 Application Transaction Counter
+abbrev pub rowAtc : RowNumber
 rowAtc = 53
 
-abbrev pub rowUn : ℕ
+-- 9F37 Unpredictable Number
+abbrev pub rowUn : RowNumber
 rowUn = 54
 
-abbrev pub rowPdol : ℕ
+-- 9F38 PDOL
+abbrev pub rowPdol : RowNumber
 rowPdol = 55
 
-abbrev pub rowAdditionalCapabilities : ℕ
+-- 9F40 Additional Terminal Capabilities
+abbrev pub rowAdditionalCapabilities : RowNumber
 rowAdditionalCapabilities = 56
 
-abbrev pub rowApplicationCurrency : ℕ
+-- 9F42 Application Currency Code
+abbrev pub rowApplicationCurrency : RowNumber
 rowApplicationCurrency = 57
 
-abbrev pub rowCvc3Track2 : ℕ
+-- 9F61 CVC3 (Track2)
+abbrev pub rowCvc3Track2 : RowNumber
 rowCvc3Track2 = 74
 
-abbrev pub rowPcvc3Track2 : ℕ
+-- 9F65 PCVC3(Track2)
+abbrev pub rowPcvc3Track2 : RowNumber
 rowPcvc3Track2 = 78
 
-abbrev pub rowPunatcTrack2 : ℕ
+-- 9F66 PUNATC(Track2)
+abbrev pub rowPunatcTrack2 : RowNumber
 rowPunatcTrack2 = 79
 
-abbrev pub rowNatcTrack2 : ℕ
+-- 9F67 NATC(Track2)
+abbrev pub rowNatcTrack2 : RowNumber
 rowNatcTrack2 = 80
 
-abbrev pub rowUdol : ℕ
+-- 9F69 UDOL
+abbrev pub rowUdol : RowNumber
 rowUdol = 81
 
-abbrev pub rowUnNumeric : ℕ
+-- 9F6A Unpredictable Number (Numeric)
+abbrev pub rowUnNumeric : RowNumber
 rowUnNumeric = 82
 
-abbrev pub rowTrack2Data : ℕ
+-- 9F6B Track 2 Data
+abbrev pub rowTrack2Data : RowNumber
 rowTrack2Data = 83
 
-abbrev pub rowKernelConfiguration : ℕ
+-- DF811B Kernel Configuration
+abbrev pub rowKernelConfiguration : RowNumber
 rowKernelConfiguration = 125
 
-abbrev pub rowTacDefault : ℕ
+-- DF8120 Terminal Action Code – Default
+abbrev pub rowTacDefault : RowNumber
 rowTacDefault = 130
 
-abbrev pub rowTacDenial : ℕ
+-- DF8121 Terminal Action Code – Denial
+abbrev pub rowTacDenial : RowNumber
 rowTacDenial = 131
 
-abbrev pub rowTacOnline : ℕ
+-- DF8122 Terminal Action Code – Online
+abbrev pub rowTacOnline : RowNumber
 rowTacOnline = 132
 
-abbrev pub rowFloorLimit : ℕ
+-- DF8123 Reader Contactless Floor Limit
+abbrev pub rowFloorLimit : RowNumber
 rowFloorLimit = 133
 
-abbrev pub rowLimitNoOnDeviceCvm : ℕ
+-- DF8124 Reader Contactless Transaction Limit (No On-device CVM)
+abbrev pub rowLimitNoOnDeviceCvm : RowNumber
 rowLimitNoOnDeviceCvm = 134
 
-abbrev pub rowLimitOnDeviceCvm : ℕ
+-- DF8125 Reader Contactless Transaction Limit (On-device CVM)
+abbrev pub rowLimitOnDeviceCvm : RowNumber
 rowLimitOnDeviceCvm = 135
 
-abbrev pub rowCvmRequiredLimit : ℕ
+-- DF8126 Reader CVM Required Limit
+abbrev pub rowCvmRequiredLimit : RowNumber
 rowCvmRequiredLimit = 136
+
+-- ---- what a start must bring
+
+-- how many objects
+abbrev pub requiredCount : Count
+requiredCount = 17
+
+-- their rows
+unfoldable pub requiredRows : List RowNumber
+requiredRows =
+    rowTransactionDate ∷ rowTransactionType ∷ rowAmount ∷ rowReaderVersion ∷ rowTerminalCountry ∷
+    rowTerminalCapabilities ∷ rowTerminalType ∷ rowUn ∷ rowUnNumeric ∷ rowKernelConfiguration ∷ rowTacDefault ∷
+    rowTacDenial ∷ rowTacOnline ∷ rowFloorLimit ∷ rowLimitNoOnDeviceCvm ∷ rowLimitOnDeviceCvm ∷ rowCvmRequiredLimit ∷ []
+
+-- ---- the first row of each part of the search, after that of the tags of one byte (`partNumber`, specs/Search)
+
+-- tags of two bytes before 9F
+abbrev pub firstOf5F : RowNumber
+firstOf5F = 16
+
+-- tags from 9F on
+abbrev pub firstOf9F : RowNumber
+firstOf9F = 25
+
+-- tags from DF on
+abbrev pub firstOfDF : RowNumber
+firstOfDF = 101
+
+-- tags of three bytes
+abbrev pub firstOfThree : RowNumber
+firstOfThree = 106

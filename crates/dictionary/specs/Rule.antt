@@ -4,8 +4,8 @@
 -- Assumes nothing.
 use mathlib.Core.Bool.{Bool, true}
 use mathlib.Core.List.{List, [], _∷_}
-use Prim.Native.Nat.{ℕ}
 use Rattle.basics.specs.Choice.{_and_, _≤?_, _<?_, every}
+use Rattle.basics.specs.Types.{Tag}
 use Rattle.tlv.specs.Encoding.{wellFormedTag}
 use Rattle.dictionary.specs.Rows.{Row}
 
@@ -14,7 +14,7 @@ abbrev pub properRow : Row → Bool
 properRow r = wellFormedTag (r .tag) and r .least ≤? r .greatest
 
 -- a tag is below the first tag of the rows after it
-abbrev pub belowNext : ℕ → List Row → Bool
+abbrev pub belowNext : Tag → List Row → Bool
 belowNext t [] = true
 belowNext t (r ∷ rs) = t <? r .tag
 

@@ -4,6 +4,7 @@
 use mathlib.Core.Path.{_≡_}
 use mathlib.Core.List.{List, map}
 use Prim.Native.Nat.{ℕ}
+use Rattle.basics.specs.Types.{TagList}
 use Rattle.dictionary.specs.Rows.{Row, dictionaryRows}
 use Rattle.dictionary.specs.Packing.{packedRow}
 use Rattle.dictionary.specs.Search.{tagsOf}
@@ -13,6 +14,6 @@ abbrev pub packedRows : List Row → List ℕ
 packedRows table = map packedRow table
 
 -- what is passed in is the dictionary's
-pub record TablesGiven (ts cs : List ℕ) : Type 0 where
+pub record TablesGiven (ts : TagList) (cs : List ℕ) : Type 0 where
   pub tags : ts ≡ tagsOf dictionaryRows
   pub codes : cs ≡ packedRows dictionaryRows

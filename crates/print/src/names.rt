@@ -1,3 +1,5 @@
+// Written by bin/dictionary from dictionary.tsv: change that table, and run it again.
+//
 // The names of data objects and of templates (Book C-2, annex A). A function has the tags up to the number in its name.
 use crate::table::words;
 

@@ -10,11 +10,12 @@ use lib.Dec.{eqb}
 use lib.ListN.{length}
 use Rattle.basics.specs.Choice.{if, both, either, every}
 use Rattle.dictionary.specs.Rows.{Row, dictionaryRows, rowIn, optional}
+use Rattle.dictionary.specs.Named.{requiredCount, requiredRows}
 use Rattle.store.specs.Place.{rowValue, isPresent}
 use Rattle.store.specs.Held.{hasObject}
 use Rattle.store.proofs.Rows.{rows-length}
 use Rattle.session_record.specs.Ranges.{isPresentIfRequired, allRequiredPresent}
-use Rattle.session_record.specs.Inner.{requiredCount, requiredFrom, requiredRows, required-numbers}
+use Rattle.session_record.specs.Inner.{requiredFrom, required-numbers}
 use Rattle.session_record.proofs.Tags.{row-found, held-is}
 
 -- row k's object is present

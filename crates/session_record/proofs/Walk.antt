@@ -16,12 +16,13 @@ use Rattle.basics.specs.Choice.{if, both, either, every}
 use Rattle.basics.proofs.Laws.{if-yes, if-no, both-true, both-no-left, either-left, either-right, either-no}
 use Rattle.basics.proofs.Order.{equal-or-not}
 use Rattle.dictionary.specs.Rows.{Row, dictionaryRows, blankRow, rowAt, rowCount, optional}
+use Rattle.dictionary.specs.Named.{requiredCount}
 use Rattle.store.specs.Place.{rowOffset, rowPlace, lengthByte}
 use Rattle.store.specs.Held.{hasObject}
 use Rattle.store.proofs.Laws.{there-is, length-byte-at}
 use Rattle.store.proofs.Rows.{rows-length}
 use Rattle.session_record.specs.Ranges.{objectFits, allObjectsFit, isPresentIfRequired, allRequiredPresent}
-use Rattle.session_record.specs.Inner.{RowsPassed, requiredIn, requiredCount, required-rows, allRowsFit}
+use Rattle.session_record.specs.Inner.{RowsPassed, requiredIn, required-rows, allRowsFit}
 use Rattle.session_record.proofs.Every.{every-no, every-yes, every-done}
 use Rattle.session_record.proofs.Tags.{row-found, held-is}
 use Rattle.session_record.proofs.Fit.{place-absent, object-place, Stands}

@@ -7,9 +7,9 @@
 use analysis::choice::Choice;
 use analysis::cvm::Cvm;
 use dictionary::{
-    Attributes, ROWS, ROW_PAN, ROW_EXPIRATION_DATE, ROW_AIP, ROW_CDOL1, ROW_AFL, ROW_TVR, ROW_TRANSACTION_DATE, ROW_TRANSACTION_TYPE, ROW_AMOUNT, ROW_READER_VERSION, ROW_IAD, ROW_TERMINAL_COUNTRY,
-    ROW_AC, ROW_CID, ROW_TERMINAL_CAPABILITIES, ROW_CVM_RESULTS, ROW_TERMINAL_TYPE, ROW_ATC, ROW_UN, ROW_CVC3_TRACK2, ROW_PCVC3_TRACK2, ROW_PUNATC_TRACK2, ROW_NATC_TRACK2, ROW_UN_NUMERIC, ROW_TRACK2_DATA,
-    ROW_KERNEL_CONFIGURATION, ROW_TAC_DEFAULT, ROW_TAC_DENIAL, ROW_TAC_ONLINE, ROW_FLOOR_LIMIT, ROW_LIMIT_NO_ON_DEVICE_CVM, ROW_LIMIT_ON_DEVICE_CVM, ROW_CVM_REQUIRED_LIMIT, SIZE,
+    Attributes, ROWS, REQUIRED, REQUIRED_ROWS, ROW_PAN, ROW_EXPIRATION_DATE, ROW_AIP, ROW_CDOL1, ROW_AFL, ROW_TVR,
+    ROW_IAD, ROW_AC, ROW_CID, ROW_CVM_RESULTS, ROW_TERMINAL_TYPE, ROW_ATC, ROW_CVC3_TRACK2, ROW_PCVC3_TRACK2,
+    ROW_PUNATC_TRACK2, ROW_NATC_TRACK2, ROW_TRACK2_DATA, ROW_KERNEL_CONFIGURATION, SIZE,
 };
 use afl::AflCheck;
 use store::Store;
@@ -20,6 +20,7 @@ ghost use lib.Dec.{eqb};
 ghost use lib.ListN.{length, getD};
 ghost use Rattle.basics.specs.Choice.{both, either, every};
 ghost use Rattle.dictionary.specs.Rows.{dictionaryRows, rowCount, storeSize};
+ghost use Rattle.dictionary.specs.Named.{requiredCount};
 ghost use Rattle.dictionary.specs.Packing.{rowWithAttributes};
 ghost use Rattle.dictionary.specs.Tables.{packedRows};
 ghost use Rattle.store.specs.Place.{rowRoom, rowOffset};
@@ -28,7 +29,7 @@ ghost use Rattle.session_record.specs.Session.{sessionOf, freshSession, 
 ghost use Rattle.store.specs.Held.{isZeroByte};
 ghost use Rattle.session_record.specs.Ranges.{allObjectsFit, allRequiredPresent, lastResponseAbsent, emvMode, magStripeMode, emvOrMagStripeMode, cryptogramDataPresent, trackDataPresent, runningRanges};
 ghost use Rattle.session_record.specs.Ranges.{freshRanges, waitingRanges, gpoRanges, recordRanges, cryptogramRanges, checksumRanges, endedRanges, inRanges};
-ghost use Rattle.session_record.specs.Inner.{rowPlaceFits, requiredCount, NextPresent, allRowsFit};
+ghost use Rattle.session_record.specs.Inner.{rowPlaceFits, NextPresent, allRowsFit};
 
 // How a session ends.
 pub enum Outcome {
@@ -127,15 +128,6 @@ pub struct Transition {
 
 // The most commands that a session hands out.
 const MOST: u8 = 130;
-
-// How many objects a start must bring.
-const REQUIRED: usize = 17;
-
-// Their rows.
-const REQUIRED_ROWS: [usize; REQUIRED] = [
-    ROW_TRANSACTION_DATE, ROW_TRANSACTION_TYPE, ROW_AMOUNT, ROW_READER_VERSION, ROW_TERMINAL_COUNTRY, ROW_TERMINAL_CAPABILITIES, ROW_TERMINAL_TYPE, ROW_UN,
-    ROW_UN_NUMERIC, ROW_KERNEL_CONFIGURATION, ROW_TAC_DEFAULT, ROW_TAC_DENIAL, ROW_TAC_ONLINE, ROW_FLOOR_LIMIT, ROW_LIMIT_NO_ON_DEVICE_CVM, ROW_LIMIT_ON_DEVICE_CVM, ROW_CVM_REQUIRED_LIMIT,
-];
 
 // The number of an outcome.
 pub fn outcome_number(outcome: Outcome) -> u8

@@ -2,47 +2,47 @@
 -- of no bytes is there).
 -- Assumes nothing.
 use mathlib.Core.Bool.{Bool, not}
-use mathlib.Core.List.{List}
 use Prim.Native.Nat.{ℕ, _-_}
 use lib.ListN.{length, getD}
 use Rattle.basics.specs.Choice.{_<?_, _=?_, every}
+use Rattle.basics.specs.Types.{StoreBytes, Value, Byte, Tag}
 use Rattle.dictionary.specs.Rows.{dictionaryRows, findRow}
 use Rattle.dictionary.specs.declared.RowFound.{RowFound}
 use Rattle.store.specs.Place.{objectValue, bytesOfValue, isPresent, lengthByte}
 
 -- the object is present, empty or not
-abbrev pub hasObject : List ℕ → ℕ → Bool
+abbrev pub hasObject : StoreBytes → Tag → Bool
 hasObject b t = isPresent (objectValue b t)
 
 -- it is absent
-abbrev pub lacksObject : List ℕ → ℕ → Bool
+abbrev pub lacksObject : StoreBytes → Tag → Bool
 lacksObject b t = not (hasObject b t)
 
 -- its bytes; none where it is absent
-abbrev pub storedBytes : List ℕ → ℕ → List ℕ
+abbrev pub storedBytes : StoreBytes → Tag → Value
 storedBytes b t = bytesOfValue (objectValue b t)
 
 -- it is present and not empty
-abbrev pub hasNonEmpty : List ℕ → ℕ → Bool
+abbrev pub hasNonEmpty : StoreBytes → Tag → Bool
 hasNonEmpty b t = 0 <? length (storedBytes b t)
 
 -- its byte n, the first is byte 1; 0 past the end
-abbrev pub storedByte : List ℕ → ℕ → ℕ → ℕ
+abbrev pub storedByte : StoreBytes → Tag → ℕ → Byte
 storedByte b t n = getD (storedBytes b t) (n - 1) 0
 
 -- a byte is zero
-abbrev pub isZeroByte : ℕ → Bool
+abbrev pub isZeroByte : Byte → Bool
 isZeroByte x = x =? 0
 
 -- all its bytes are zero; so they are where it is absent
-abbrev pub isZeroed : List ℕ → ℕ → Bool
+abbrev pub isZeroed : StoreBytes → Tag → Bool
 isZeroed b t = every isZeroByte (storedBytes b t)
 
 -- the length byte of its place as it is: the length + 1, 0 where it is absent
-abbrev pub lengthFound : List ℕ → RowFound → ℕ
+abbrev pub lengthFound : StoreBytes → RowFound → Byte
 lengthFound b RowFound.Unknown = 0
 lengthFound b (RowFound.At k) = lengthByte dictionaryRows b k
 
 -- by its row; 0 for an unknown tag
-unfoldable pub storedLength : List ℕ → ℕ → ℕ
+unfoldable pub storedLength : StoreBytes → Tag → Byte
 storedLength b t = lengthFound b (findRow dictionaryRows t)

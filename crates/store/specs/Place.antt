@@ -6,6 +6,7 @@ use mathlib.Core.List.{List, [], _∷_, _++_}
 use Prim.Native.Nat.{ℕ, zero, suc, _+_, _-_, _*_, _/_, _%_}
 use lib.ListN.{length, getD, take, drop}
 use Rattle.basics.specs.Choice.{if_then_else_, _=?_}
+use Rattle.basics.specs.Types.{Bytes, StoreBytes, Value, Byte, Tag, Length, Offset, RowNumber}
 use Rattle.dictionary.specs.Rows.{Row, dictionaryRows, rowIn, rowAt, findRow}
 use Rattle.store.specs.declared.RowSpan.{RowSpan}
 use Rattle.dictionary.specs.declared.RowFound.{RowFound}
@@ -14,10 +15,10 @@ use Rattle.dictionary.specs.declared.RowFound.the-variants.{At, Unknown}
 -- the value of an object: absent, or its bytes, which may be none
 pub data StoredValue : Type 0 where
   absent : StoredValue
-  present : List ℕ → StoredValue
+  present : Value → StoredValue
 
 -- its bytes, none where it is absent
-abbrev pub bytesOfValue : StoredValue → List ℕ
+abbrev pub bytesOfValue : StoredValue → Value
 bytesOfValue absent = []
 bytesOfValue (present v) = v
 
@@ -29,57 +30,57 @@ isPresent (present v) = true
 -- ---- places
 
 -- the room of a row: a byte for the length, and the greatest length
-abbrev pub rowRoom : Row → ℕ
+abbrev pub rowRoom : Row → Length
 rowRoom r = r .greatest + 1
 
 -- where row k's place starts: after the places of the rows before it
-unfoldable pub rowOffset : List Row → ℕ → ℕ
+unfoldable pub rowOffset : List Row → RowNumber → Offset
 rowOffset [] k = 0
 rowOffset (r ∷ rs) zero = 0
 rowOffset (r ∷ rs) (suc k) = rowRoom r + rowOffset rs k
 
 -- the store's size: room for every row at its greatest length at once
-unfoldable pub storeSizeOf : List Row → ℕ
+unfoldable pub storeSizeOf : List Row → Length
 storeSizeOf [] = 0
 storeSizeOf (r ∷ rs) = rowRoom r + storeSizeOf rs
 
 -- row k's place
-unfoldable pub rowPlace : List Row → List ℕ → ℕ → List ℕ
+unfoldable pub rowPlace : List Row → StoreBytes → RowNumber → Bytes
 rowPlace table b k = take (rowRoom (rowIn table k)) (drop (rowOffset table k) b)
 
 -- what a place holds: its first byte is 0 where the object is absent, else the length + 1
-unfoldable pub placeValue : List ℕ → StoredValue
+unfoldable pub placeValue : Bytes → StoredValue
 placeValue [] = absent
 placeValue (n ∷ v) =
     if n =? 0 then absent
     else present (take (n - 1) v)
 
 -- the value of row k
-unfoldable pub rowValue : List Row → List ℕ → ℕ → StoredValue
+unfoldable pub rowValue : List Row → StoreBytes → RowNumber → StoredValue
 rowValue table b k = placeValue (rowPlace table b k)
 
 -- row k's length byte as it is
-unfoldable pub lengthByte : List Row → List ℕ → ℕ → ℕ
+unfoldable pub lengthByte : List Row → StoreBytes → RowNumber → Byte
 lengthByte table b k = getD (rowPlace table b k) 0 0
 
 -- row k holds no bytes: absent, or present and empty
-abbrev pub isFree : List Row → List ℕ → ℕ → Bool
+abbrev pub isFree : List Row → StoreBytes → RowNumber → Bool
 isFree table b k = length (bytesOfValue (rowValue table b k)) =? 0
 
 -- the bytes with a length byte and the value v at the place o; bytes after v stay
-abbrev pub withValueAt : List ℕ → ℕ → List ℕ → List ℕ
+abbrev pub withValueAt : StoreBytes → Offset → Value → StoreBytes
 withValueAt b o v = take o b ++ ((length v + 1) ∷ (v ++ drop (o + 1 + length v) b))
 
 -- the store with the value v in row k's place
-unfoldable pub putRow : List Row → List ℕ → ℕ → List ℕ → List ℕ
+unfoldable pub putRow : List Row → StoreBytes → RowNumber → Value → StoreBytes
 putRow table b k v = withValueAt b (rowOffset table k) v
 
 -- a row's place in the dictionary's store, and the greatest length of its value
-abbrev pub rowSpan : ℕ → RowSpan
+abbrev pub rowSpan : RowNumber → RowSpan
 rowSpan k = record { at = rowOffset dictionaryRows k; most = rowAt k .greatest }
 
 -- a row's place in one number, as the source has it: 256 times where it starts, and the greatest length of its value
-abbrev pub packedPlace : ℕ → ℕ
+abbrev pub packedPlace : RowNumber → ℕ
 packedPlace k = rowOffset dictionaryRows k * 256 + rowAt k .greatest
 
 -- such a number taken apart
@@ -89,14 +90,14 @@ unpackedPlace n = record { at = n / 256; most = n % 256 }
 -- ---- by tag
 
 -- the value of the row that a lookup found
-abbrev pub foundValue : List Row → List ℕ → RowFound → StoredValue
+abbrev pub foundValue : List Row → StoreBytes → RowFound → StoredValue
 foundValue table b Unknown = absent
 foundValue table b (At k) = rowValue table b k
 
 -- the value of a tag: absent where the tag is unknown
-unfoldable pub objectValueIn : List Row → List ℕ → ℕ → StoredValue
+unfoldable pub objectValueIn : List Row → StoreBytes → Tag → StoredValue
 objectValueIn table b t = foundValue table b (findRow table t)
 
 -- the same in the dictionary
-abbrev pub objectValue : List ℕ → ℕ → StoredValue
+abbrev pub objectValue : StoreBytes → Tag → StoredValue
 objectValue b t = objectValueIn dictionaryRows b t

@@ -2,8 +2,8 @@
 -- Assumes nothing.
 use mathlib.Core.Path.{refl}
 use Rattle.basics.specs.Choice.{if}
-use Rattle.dictionary.specs.Rows.{dictionaryRows, rowPast, findRow}
-use Rattle.dictionary.specs.Named.{rowNumberOf, usedTags}
+use Rattle.dictionary.specs.Rows.{dictionaryRows, rowPast, findRow, rowNumberOf}
+use Rattle.dictionary.specs.Named.{usedTags}
 use Rattle.dictionary.proofs.used_rows.Statement.{statement}
 use Rattle.dictionary.proofs.used_rows.Tie as tie
 

@@ -7,8 +7,8 @@ use Prim.Native.Nat.{_-_}
 use native.Mathlib.Omega.{arith}
 use lib.ListN.{getD, drop}
 use Rattle.basics.specs.Choice.{every}
+use Rattle.dictionary.specs.Named.{requiredRows, requiredCount}
 use Rattle.session_record.specs.Ranges.{allRequiredPresent}
-use Rattle.session_record.specs.Inner.{requiredRows, requiredCount}
 use Rattle.session_record.proofs.Every.{every-no, every-yes, every-done}
 use Rattle.session_record.proofs.Required.{thereAt, brought-rows, rows-many}
 use Rattle.session_record.proofs.all_required_present.Statement.{statement}
