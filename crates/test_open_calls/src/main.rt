@@ -36,7 +36,7 @@ fn statements() {
     worked_examples::examples_hold();
     worked_words::words_hold();
     let rows = dictionary::used_rows();
-    line(b"dictionary::used_rows, the last", rows[46]);
+    line(b"dictionary::used_rows, the last", rows[dictionary::USED - 1]);
 }
 
 fn rank_of(choice: Choice) -> u8 {

@@ -4,10 +4,10 @@
 use mathlib.Core.Path.{_≡_}
 use mathlib.Core.List.{List, [], _∷_}
 use mathlib.Core.Option.{some}
-use Prim.Native.Nat.{ℕ}
+use Prim.Native.Nat.{ℕ, _-_}
 use lib.ListN.{replicate}
 use Rattle.session_record.specs.Session.{freshSession}
-use Rattle.cabinet.specs.State.{cabinet, cabinetHeldIn}
+use Rattle.cabinet.specs.State.{cabinetStateSize, cabinet, cabinetHeldIn}
 use Rattle.cabinet.specs.Calls.{startOnCabinet, cabinetStart, cabinetAnswer, cabinetLinkFailed, cabinetStop, cabinetOpenWord, remainingWord}
 use Rattle.worked_examples.specs.Calls.{fullBuffer, shortBuffer}
 use Rattle.worked_examples.specs.Refusals.{startBytesWhole}
@@ -17,10 +17,11 @@ unfoldable pub startWord : List ℕ → ℕ → ℕ
 startWord bytes left = startOnCabinet bytes [] fullBuffer (cabinet freshSession left 0) .word
 
 pub record CabinetWords : Type 0 where
-  -- 6,037 bytes with a cap over the greatest, 6,038 with it, and with the greatest
+  -- one byte less than a state with a cap over the greatest, a state's bytes with it, and with the greatest
   pub opened :
-      cabinetOpenWord 1000000000000 (replicate 6037 0) ∷ cabinetOpenWord 1000000000000 (replicate 6038 0)
-      ∷ cabinetOpenWord 999999999999 (replicate 6038 0) ∷ []
+      cabinetOpenWord 1000000000000 (replicate (cabinetStateSize - 1) 0)
+      ∷ cabinetOpenWord 1000000000000 (replicate cabinetStateSize 0)
+      ∷ cabinetOpenWord 999999999999 (replicate cabinetStateSize 0) ∷ []
       ≡ 0x20019 ∷ 0x2001F ∷ 0 ∷ []
   -- bytes that hold no cabinet; a cabinet with 1,000 left
   pub left-none : remainingWord (cabinetHeldIn []) ≡ 0xFFFFFFFFFFFFFFFF

@@ -4,12 +4,12 @@
 use mathlib.Core.Path.{_≡_}
 use mathlib.Core.List.{List, [], _∷_, _++_, map}
 use mathlib.Core.Option.{some, none}
-use Prim.Native.Nat.{ℕ}
+use Prim.Native.Nat.{ℕ, _-_}
 use lib.ListN.{replicate}
 use Rattle.session_record.specs.declared.Outcome.{Outcome}
 use Rattle.session_record.specs.declared.Session.{Session}
 use Rattle.session_record.specs.Session.{freshSession}
-use Rattle.layout.specs.Layout.{encodedSession, decodedSession}
+use Rattle.layout.specs.Layout.{recordSize, encodedSession, decodedSession}
 use Rattle.layout.specs.Word.{resultWord}
 use Rattle.find.specs.Find.{findTag}
 use Rattle.find.specs.Word.{findWord}
@@ -55,8 +55,8 @@ pub record HostWords : Type 0 where
       ≡ 0x00010000 ∷ 0x02010100 ∷ 0x01010200 ∷ 0x04010309 ∷ 0x03010308 ∷ 0x0F010406 ∷ []
   pub refusals : map (λ n. resultWord (refusalResult n)) (20 ∷ 21 ∷ 22 ∷ 23 ∷ 24 ∷ 25 ∷ [])
       ≡ 0x20014 ∷ 0x20015 ∷ 0x20016 ∷ 0x20017 ∷ 0x20018 ∷ 0x20019 ∷ []
-  -- opening 6,021 bytes and 6,022
-  pub opened : hostOpenWord (replicate 6021 0) ∷ hostOpenWord (replicate 6022 0) ∷ [] ≡ 0x20019 ∷ 0 ∷ []
+  -- opening one byte less than a record, and as many as a record
+  pub opened : hostOpenWord (replicate (recordSize - 1) 0) ∷ hostOpenWord (replicate recordSize 0) ∷ [] ≡ 0x20019 ∷ 0 ∷ []
   -- a call on bytes: too short a buffer before bytes that hold no record, for a start and an answer
   pub start-buffer-record : hostStart [] [] shortBuffer .word ≡ 0x20016
   pub start-record : hostStart [] [] fullBuffer .word ≡ 0x20019

@@ -1,8 +1,5 @@
 //! The table of known tags (document 01, "Dictionary"; document 02, Items 5, 8, 9 and 11; Book C-2, annex A).
 
-/// Bytes of the store: one place for each tag, with room for its greatest length.
-pub const STORE_SIZE: usize = 6008;
-
 /// Form of a value.
 #[derive(Clone, Copy, Debug, PartialEq, Eq)]
 pub enum Form {
@@ -80,6 +77,11 @@ impl Templates {
             0x6F => Templates::T6F,
             _ => Templates::NONE,
         }
+    }
+
+    /// The templates of either set.
+    pub fn and(self, other: Templates) -> Templates {
+        Templates(self.0 | other.0)
     }
 
     /// Whether a template is in both sets.
@@ -163,6 +165,9 @@ macro_rules! dictionary {
                 }
             }
         }
+
+        /// Bytes of the store: one place for each tag, with room for its greatest length.
+        pub const STORE_SIZE: usize = 0 $(+ 1 + $most)*;
 
         /// Number of known tags.
         pub const COUNT: usize = [$($tag),*].len();

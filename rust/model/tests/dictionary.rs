@@ -1,12 +1,12 @@
-//! The whole data dictionary (document 02, Item 11; Book C-2, annex A).
+//! The whole data dictionary (document 02, Item 11; Book C-2, annex A). `table` compares the rows with the library's.
 
 mod common;
 
 use common::{decided, ended, hex, is_command, outcome, refused, start_with, Host};
-use model::dictionary::{Answers, Form, Object, Row, Setter, Templates, REQUIRED_AT_START, ROWS};
+use model::dictionary::{Answers, Form, Object, Row, Templates, REQUIRED_AT_START, ROWS};
 use model::reading::AnswerTo;
 use model::store::{self, Store};
-use model::{tlv, HEAD_SIZE, SESSION_SIZE, STORE_SIZE};
+use model::{tlv, STORE_SIZE};
 
 const EMPTY: Store = [0; STORE_SIZE];
 
@@ -81,11 +81,6 @@ fn value(row: &Row) -> Vec<u8> {
 
 #[test]
 fn the_whole_table() {
-    assert_eq!(ROWS.len(), 158);
-    let size: usize = ROWS.iter().map(|row| 1 + usize::from(row.most)).sum();
-    assert_eq!((size, STORE_SIZE), (6008, 6008));
-    assert_eq!((HEAD_SIZE, SESSION_SIZE), (14, 6022));
-    assert_eq!(REQUIRED_AT_START.len(), 17);
     assert!(ROWS.windows(2).all(|pair| pair[0].tag < pair[1].tag));
     for row in &ROWS {
         let bytes = tag_bytes(row);
@@ -97,24 +92,6 @@ fn the_whole_table() {
         assert_eq!(row.is_of_card(), row.answers != Answers::None);
         assert!(row.is_of_card() || row.templates == Templates::NONE);
     }
-    let count = |test: &dyn Fn(&Row) -> bool| ROWS.iter().filter(|row| test(row)).count();
-    let of = |setter| count(&|row| row.setter == setter);
-    assert_eq!(
-        [
-            Setter::Start,
-            Setter::Card,
-            Setter::StartOrCard,
-            Setter::Session
-        ]
-        .map(of),
-        [36, 69, 10, 43]
-    );
-    let form = |form| count(&|row| row.form == form);
-    assert_eq!(
-        [Form::Numeric, Form::CompressedNumeric, Form::Binary].map(form),
-        [30, 3, 125]
-    );
-    assert_eq!(count(&|row| row.answers == Answers::All), 74);
 }
 
 /// The rows that were present before keep when their objects may come.

@@ -32,13 +32,9 @@ fn short_tables() {
 
 #[test]
 fn the_dictionary() {
-    finds(
-        &tags(),
-        &[0x50, 0x57, 0x5F24, 0x9F09, 0x9F6A, 0xDF8126, 0xDF8307],
-        &[0, 2, 16, 30, 82, 136, 157].map(Some),
-        8,
-    );
-    finds(&tags(), &[0, 0x5F26, 0xDF8308, 0xFFFF_FFFF], &[None; 4], 8);
+    let places: Vec<_> = (0..ROWS.len()).map(Some).collect();
+    finds(&tags(), &tags(), &places, 8);
+    finds(&tags(), &[0, 0x70, 0xDF81, 0xFFFF_FFFF], &[None; 4], 8);
 }
 
 /// The answers are the same for every tag of one and two bytes, and for those of three around the known ones.
