@@ -126,7 +126,7 @@ right-bytes rs x g = writes (right-walked rs x .walks) freshSession refl g
 -- ---- the verdict says so
 
 -- bytes of an unknown kind continue no records: no record is empty
-pub empty-wrong : (rs : List (List ℕ)) (rest : List ℕ) → firstRecordSize rest ≡ 0 → Conforming (rs ++ (take (firstRecordSize rest) rest ∷ [])) → ⊥
+empty-wrong : (rs : List (List ℕ)) (rest : List ℕ) → firstRecordSize rest ≡ 0 → Conforming (rs ++ (take (firstRecordSize rest) rest ∷ [])) → ⊥
 empty-wrong rs rest k x =
     let z : length (take (firstRecordSize rest) rest) ≡ 0 = ap (λ (m : ℕ). length (take m rest)) k in
     let h = last-some rs (take (firstRecordSize rest) rest) (right-walked (rs ++ (take (firstRecordSize rest) rest ∷ [])) x .walks) in
@@ -196,7 +196,7 @@ wrong-mismatch rs rest u n w p x g =
     ∙ ap (verdictContinues (λ t. verdictFrom t (n + 1) more) (n + 1)) (wrong-judged rs u r w h z (bytes-front (concatenated rs ++ r) more b) (x .wrong))
 
 -- a piece of a record has a byte, which says its kind
-pub some-piece : (rest : List ℕ) → length rest < firstRecordSize rest → 0 < length rest
+some-piece : (rest : List ℕ) → length rest < firstRecordSize rest → 0 < length rest
 some-piece [] h = absurd (omega (arith, size-none))
 some-piece (b ∷ rest) h = omega arith
 

@@ -13,7 +13,6 @@ pub mod Written
 pub mod ExactCall
 pub mod ExactCalls
 pub mod Exact
-pub mod VerdictParts
 pub mod Examples
 pub mod RightRecord
 pub mod Told
