@@ -6,7 +6,8 @@ use mathlib.Core.Path.{_≡_}
 use mathlib.Core.Bool.{Bool, true, not}
 use mathlib.Core.List.{List, [], _∷_}
 use mathlib.Core.Option.{some}
-use Prim.Native.Nat.{ℕ, _+_, _/_, _%_, _≤_}
+use Prim.Native.Nat.{_+_, _/_, _%_, _≤_}
+use Rattle.basics.specs.Types.{Bytes, StartBytes, Response, Buffer, Amount, ResultWord}
 use Rattle.basics.specs.Choice.{if_then_else_, _and_, _=?_, every}
 use Rattle.basics.specs.Reason.{refusedRanges}
 use Rattle.analysis.specs.Digits.{amountOf}
@@ -15,21 +16,22 @@ use Rattle.session_record.specs.Numbers.{outcomeNumber}
 use Rattle.layout.specs.Word.{wordKind, kindOutcome, kindRefusal, refusalWord}
 use Rattle.cabinet_lookup.specs.Value.{lookupValue}
 use Rattle.cabinet.specs.State.{Cabinet, mostAmount, cabinetHeldIn}
-use Rattle.cabinet.specs.Calls.{cabinetOpenWord, cabinetOpenState, cabinetStart, cabinetAnswer, cabinetLinkFailed, cabinetStop}
+use Rattle.cabinet.specs.Calls.{cabinetOpenWord, cabinetOpenState, cabinetStart, cabinetAnswer}
+use Rattle.cabinet.specs.Calls.{cabinetLinkFailed, cabinetStop}
 
 -- ---- the calls
 
 -- a call that may write the state: an opening with its cap; the others with the bytes that come in and the caller's
 -- command buffer. The remaining amount, a lookup and the size are requested with no bytes to write
 pub data CabinetCall : Type 0 where
-  opening : ℕ → CabinetCall
-  start : List ℕ → List ℕ → CabinetCall
-  answer : List ℕ → List ℕ → CabinetCall
-  link-failed : List ℕ → CabinetCall
-  stop : List ℕ → CabinetCall
+  opening : Amount → CabinetCall
+  start : StartBytes → Buffer → CabinetCall
+  answer : Response → Buffer → CabinetCall
+  link-failed : Buffer → CabinetCall
+  stop : Buffer → CabinetCall
 
 -- the word that a call gives on the state's bytes
-abbrev pub cabinetWordBy : List ℕ → CabinetCall → ℕ
+abbrev pub cabinetWordBy : Bytes → CabinetCall → ResultWord
 cabinetWordBy l (opening cap)     = cabinetOpenWord cap l
 cabinetWordBy l (start bytes buf) = cabinetStart bytes l buf .word
 cabinetWordBy l (answer card buf) = cabinetAnswer card l buf .word
@@ -37,7 +39,7 @@ cabinetWordBy l (link-failed buf) = cabinetLinkFailed l buf .word
 cabinetWordBy l (stop buf)        = cabinetStop l buf .word
 
 -- the state's bytes after it
-abbrev pub cabinetStateBy : List ℕ → CabinetCall → List ℕ
+abbrev pub cabinetStateBy : Bytes → CabinetCall → Bytes
 cabinetStateBy l (opening cap)     = cabinetOpenState cap l
 cabinetStateBy l (start bytes buf) = cabinetStart bytes l buf .state
 cabinetStateBy l (answer card buf) = cabinetAnswer card l buf .state
@@ -47,19 +49,19 @@ cabinetStateBy l (stop buf)        = cabinetStop l buf .state
 -- a call that was made, and its word
 pub record CabinetCallMade : Type 0 where
   pub call : CabinetCall
-  pub word : ℕ
+  pub word : ResultWord
 
 -- the same as a function of the two
-abbrev pub cabinetCallMade : CabinetCall → ℕ → CabinetCallMade
+abbrev pub cabinetCallMade : CabinetCall → ResultWord → CabinetCallMade
 cabinetCallMade c w = record { call = c; word = w }
 
 -- the calls of a list, each on the bytes that the call before it left
-unfoldable pub playCabinetCalls : List ℕ → List CabinetCall → List CabinetCallMade
+unfoldable pub playCabinetCalls : Bytes → List CabinetCall → List CabinetCallMade
 playCabinetCalls l [] = []
 playCabinetCalls l (c ∷ cs) = cabinetCallMade c (cabinetWordBy l c) ∷ playCabinetCalls (cabinetStateBy l c) cs
 
 -- the bytes that the last call left
-unfoldable pub finalCabinetState : List ℕ → List CabinetCall → List ℕ
+unfoldable pub finalCabinetState : Bytes → List CabinetCall → Bytes
 finalCabinetState l [] = l
 finalCabinetState l (c ∷ cs) = finalCabinetState (cabinetStateBy l c) cs
 
@@ -68,37 +70,37 @@ finalCabinetState l (c ∷ cs) = finalCabinetState (cabinetStateBy l c) cs
 -- the cap of the last accepted opening; since then the amount of the last accepted start, 0 where there is none, and
 -- the amounts approved
 pub record Account : Type 0 where
-  pub cap : ℕ
-  pub amount : ℕ
-  pub approved : ℕ
+  pub cap : Amount
+  pub amount : Amount
+  pub approved : Amount
 
 -- an account of these parts
-abbrev pub account : ℕ → ℕ → ℕ → Account
+abbrev pub account : Amount → Amount → Amount → Account
 account c n a = record { cap = c; amount = n; approved = a }
 
 -- an opening: nothing is approved
-abbrev pub accountOpened : ℕ → Account
+abbrev pub accountOpened : Amount → Account
 accountOpened cap = account cap 0 0
 
 -- the number in the 9F02 of start bytes: the value of their first object of that tag, in digits
-abbrev pub startAmountIn : List ℕ → ℕ
+abbrev pub startAmountIn : StartBytes → Amount
 startAmountIn bytes = amountOf (lookupValue 0x9F02 bytes [])
 
 -- the word of a refusal, and that of an approval, whatever the CVM in its upper bits
-abbrev pub isRefusedWord : ℕ → Bool
+abbrev pub isRefusedWord : ResultWord → Bool
 isRefusedWord w = wordKind w =? kindRefusal
 
-abbrev pub isApprovedWord : ℕ → Bool
+abbrev pub isApprovedWord : ResultWord → Bool
 isApprovedWord w = wordKind w =? kindOutcome and w / 256 % 256 =? outcomeNumber Outcome.Approved
 
 -- an approval adds the amount of the last accepted start
-abbrev pub accountApproves : ℕ → Account → Account
+abbrev pub accountApproves : ResultWord → Account → Account
 accountApproves w a =
     if isApprovedWord w then account (a .cap) (a .amount) (a .approved + a .amount)
     else a
 
 -- a call that was not refused
-abbrev pub accountAccepts : Account → CabinetCall → ℕ → Account
+abbrev pub accountAccepts : Account → CabinetCall → ResultWord → Account
 accountAccepts a (opening cap)     w = accountOpened cap
 accountAccepts a (start bytes buf) w = accountApproves w (account (a .cap) (startAmountIn bytes) (a .approved))
 accountAccepts a (answer card buf) w = accountApproves w a
@@ -117,7 +119,7 @@ accountAfter a [] = a
 accountAfter a (m ∷ ms) = accountAfter (accountEnters a m) ms
 
 -- the account of calls after an opening with this cap
-abbrev pub accountOf : ℕ → List CabinetCallMade → Account
+abbrev pub accountOf : Amount → List CabinetCallMade → Account
 accountOf cap ms = accountAfter (accountOpened cap) ms
 
 -- ---- the claim
@@ -128,7 +130,7 @@ notRefusedForRanges m = not (m .word =? refusalWord refusedRanges)
 
 -- ms are the calls of a list made one after the other (`playCabinetCalls`) since an opening with this cap was accepted,
 -- and l are the bytes that the last of them left (`finalCabinetState`), those of the opening where there are none
-pub record Balanced (cap : ℕ) (ms : List CabinetCallMade) (l : List ℕ) : Type 0 where
+pub record Balanced (cap : Amount) (ms : List CabinetCallMade) (l : Bytes) : Type 0 where
   -- the bytes hold a cabinet in order: what is reserved is the running session's amount, 0 where none runs
   pub state : Cabinet
   pub held : cabinetHeldIn l ≡ some state

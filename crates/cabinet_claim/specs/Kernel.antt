@@ -3,9 +3,9 @@
 -- Assumes nothing.
 use mathlib.Core.Path.{_≡_}
 use mathlib.Core.Bool.{false}
-use mathlib.Core.List.{List}
 use mathlib.Core.Option.{some}
-use Prim.Native.Nat.{ℕ, _≤_, _<_}
+use Prim.Native.Nat.{_≤_, _<_}
+use Rattle.basics.specs.Types.{Bytes, StartBytes, Response, Buffer}
 use Rattle.session_record.specs.declared.CallResult.{CallResult}
 use Rattle.session_record.specs.declared.Refusal.{Refusal}
 use Rattle.session.specs.Steps.{Step, linkFailedStep, stopStep}
@@ -25,17 +25,18 @@ pub record AsKernel (st : Step) (d : CabinetResult) : Type 0 where
   pub session : decodedSession (d .state) ≡ some (st .reply .session)
 
 -- a start on the state's bytes l with a buffer
-pub record AsStart (c : Cabinet) (st : Step) (l buf : List ℕ) (d : CabinetResult) : Type 0 where
+pub record AsStart (c : Cabinet) (st : Step) (l : Bytes) (buf : Buffer) (d : CabinetResult) : Type 0 where
   -- what the kernel refuses is refused by the same number, and an ended session stays
   pub refused : (r : Refusal) → st .reply .answer ≡ CallResult.Refused r → d ≡ cabinetRefusal (r .number) l buf
   -- what it does not is refused with 30 where what remains is smaller than the amount, and only there
-  pub smaller : isRefusal (st .reply .answer) ≡ false → c .remaining < startAmount st → d ≡ cabinetRefusal refusedRemaining l buf
+  pub smaller : isRefusal (st .reply .answer) ≡ false → c .remaining < startAmount st
+      → d ≡ cabinetRefusal refusedRemaining l buf
   pub enough : isRefusal (st .reply .answer) ≡ false → startAmount st ≤ c .remaining → AsKernel st d
 
 -- every call on bytes l that hold the cabinet c
-pub record AsTheKernel (c : Cabinet) (l : List ℕ) : Type 0 where
-  pub start : (bytes buf : List ℕ)
+pub record AsTheKernel (c : Cabinet) (l : Bytes) : Type 0 where
+  pub start : (bytes : StartBytes) (buf : Buffer)
       → AsStart c (startStep (sessionToStart (c .session)) bytes buf) l buf (cabinetStart bytes l buf)
-  pub answer : (card buf : List ℕ) → AsKernel (answerStep (c .session) card buf) (cabinetAnswer card l buf)
-  pub link-failed : (buf : List ℕ) → AsKernel (linkFailedStep (c .session) buf) (cabinetLinkFailed l buf)
-  pub stop : (buf : List ℕ) → AsKernel (stopStep (c .session) buf) (cabinetStop l buf)
+  pub answer : (card : Response) (buf : Buffer) → AsKernel (answerStep (c .session) card buf) (cabinetAnswer card l buf)
+  pub link-failed : (buf : Buffer) → AsKernel (linkFailedStep (c .session) buf) (cabinetLinkFailed l buf)
+  pub stop : (buf : Buffer) → AsKernel (stopStep (c .session) buf) (cabinetStop l buf)

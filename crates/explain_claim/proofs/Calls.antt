@@ -406,15 +406,17 @@ traced-on s (c ∷ cs) d i h ps qs t =
 pub always : (s : Session) (cs : List Call) → s .phase ≡ Phase.Fresh → inRanges s ≡ true → ExplainedSession (playCalls s cs) (finalSession s cs)
 always s cs q i =
     record {
-      never-25 = answered;
-      explains = λ n. explains-clause ms (finalSession s cs) in-ranges traced n (answered n);
-      p1 = λ n. p1-clause ms (finalSession s cs) in-ranges traced n;
-      stage = λ n. stage-clause ms (finalSession s cs) in-ranges traced n;
-      bit = λ n. bit-clause ms (finalSession s cs) in-ranges traced n;
-      no-bit = λ n. no-bit-clause ms (finalSession s cs) in-ranges traced n;
-      holder = λ n. holder-clause ms (finalSession s cs) in-ranges traced n;
-      lower = λ n. lower-clause ms (finalSession s cs) in-ranges traced n;
-      not-lower = λ n. not-lower-clause ms (finalSession s cs) in-ranges traced n;
+      explained = λ n. record {
+        never-25 = answered n;
+        explains = explains-clause ms (finalSession s cs) in-ranges traced n (answered n);
+        p1 = p1-clause ms (finalSession s cs) in-ranges traced n;
+        stage = stage-clause ms (finalSession s cs) in-ranges traced n;
+        bit = bit-clause ms (finalSession s cs) in-ranges traced n;
+        no-bit = no-bit-clause ms (finalSession s cs) in-ranges traced n;
+        holder = holder-clause ms (finalSession s cs) in-ranges traced n;
+        lower = lower-clause ms (finalSession s cs) in-ranges traced n;
+        not-lower = not-lower-clause ms (finalSession s cs) in-ranges traced n;
+      };
       mode = traced .mode;
     }
   where

@@ -10,12 +10,14 @@ use mathlib.Core.List.{List, [], _∷_, _++_, map}
 use mathlib.Core.Option.{Option, some, none}
 use Prim.Native.Nat.{ℕ, _≤_, _<_}
 use lib.ListN.{getD}
+use Rattle.basics.specs.Types.{Bytes, StoreBytes, CommandBytes, TvrBytes, Byte, Tag}
 use Rattle.basics.specs.Choice.{if_then_else_, _and_, _or_, _=?_}
 use Rattle.basics.specs.Reason.{reasonNone}
 use Rattle.store.specs.Held.{hasObject, lacksObject, storedBytes}
 use Rattle.analysis.specs.Value.{firstBytes}
 use Rattle.analysis.specs.Bits.{numberedBit}
-use Rattle.analysis.specs.Choice.{stageHoldsBit, denialStage, onlineStage, defaultStage, zeroCode, noActionCodes, stageHolds, onlineCapabilityOf, generateAcP1}
+use Rattle.analysis.specs.Choice.{stageHoldsBit, denialStage, onlineStage, defaultStage, zeroCode, noActionCodes}
+use Rattle.analysis.specs.Choice.{stageHolds, onlineCapabilityOf, generateAcP1}
 use Rattle.analysis.specs.Action.{terminalType, actionCodesOf}
 use Rattle.analysis.specs.declared.choice.OnlineCapability.{OnlineCapability}
 use Rattle.analysis.specs.declared.choice.Choice.{Choice}
@@ -32,7 +34,8 @@ use Rattle.explain.specs.declared.Cause.{Cause}
 use Rattle.explain.specs.declared.Explanation.{Explanation}
 use Rattle.explain.specs.declared.Holder.{Holder}
 use Rattle.explain.specs.declared.Stage.{Stage}
-use Rattle.explain.specs.Explain.{storedChoice, cryptogramRank, storedCryptogramType, requestedType, cardAsksMagStripe, explanationOf}
+use Rattle.explain.specs.Explain.{storedChoice, cryptogramRank, storedCryptogramType, requestedType, cardAsksMagStripe}
+use Rattle.explain.specs.Explain.{explanationOf}
 use Rattle.explain.specs.Promise.{choiceForcedBy, choiceUnforcedAt}
 
 -- ---- an answer that brought a code
@@ -56,12 +59,13 @@ isDecided (Phase.Checksum c)   = false
 isDecided (Phase.Ended e)      = e .reason =? reasonNone
 
 -- an object that was absent is present
-abbrev pub bringsObject : List ℕ → List ℕ → ℕ → Bool
+abbrev pub bringsObject : StoreBytes → StoreBytes → Tag → Bool
 bringsObject before after tag = lacksObject before tag and hasObject after tag
 
 -- one of the card's action codes: default, denial, online
-unfoldable pub bringsIac : List ℕ → List ℕ → Bool
-bringsIac before after = bringsObject before after 0x9F0D or bringsObject before after 0x9F0E or bringsObject before after 0x9F0F
+unfoldable pub bringsIac : StoreBytes → StoreBytes → Bool
+bringsIac before after =
+    bringsObject before after 0x9F0D or bringsObject before after 0x9F0E or bringsObject before after 0x9F0F
 
 -- a call did so with the answer to GENERATE AC
 unfoldable pub iacBrought : CallMade → Bool
@@ -82,67 +86,68 @@ endsWithCode ms = iacBroughtLast (lastElement (callsAccepted ms))
 -- ---- the choice that was handed out
 
 -- the GENERATE AC commands among commands: 80 AE at the front
-unfoldable pub generateAcs : List (List ℕ) → List (List ℕ)
+unfoldable pub generateAcs : List CommandBytes → List CommandBytes
 generateAcs [] = []
 generateAcs (c ∷ cs) =
     if beginsWith 0x80 0xAE c then c ∷ generateAcs cs
     else generateAcs cs
 
 -- the P1 of each, its third byte
-abbrev pub p1s : List (List ℕ) → List ℕ
+abbrev pub p1s : List CommandBytes → List Byte
 p1s cs = map (λ c. getD c 2 0) (generateAcs cs)
 
 -- the stores at the time of a choice: for each GENERATE AC, the store of the session that its call left
-unfoldable pub choiceStores : List CallMade → List (List ℕ)
+unfoldable pub choiceStores : List CallMade → List StoreBytes
 choiceStores [] = []
 choiceStores (m ∷ ms) =
-    map (λ c. storeBytes (m .step .reply .session)) (generateAcs (commandSent (callResult m) (m .step .buffer))) ++ choiceStores ms
+    map (λ c. storeBytes (m .step .reply .session)) (generateAcs (commandSent (callResult m) (m .step .buffer)))
+    ++ choiceStores ms
 
 -- one choice was made, and P holds of the store at that time
-pub record AtChoice (ms : List CallMade) (P : List ℕ → Type 0) : Type 0 where
-  pub store : List ℕ
+pub record AtChoice (ms : List CallMade) (P : StoreBytes → Type 0) : Type 0 where
+  pub store : StoreBytes
   pub only : choiceStores ms ≡ store ∷ []
   pub fact : P store
 
 -- ---- what decided on a store (document 01, "Result bits and the choice"), by TVR, type and codes alone
 
 -- the TVR
-abbrev pub tvrIn : List ℕ → List ℕ
+abbrev pub tvrIn : StoreBytes → TvrBytes
 tvrIn b = firstBytes 5 (storedBytes b 0x95)
 
 -- the codes that a stage consults, the card's and the terminal's; the online-only type has none: zeros
-abbrev pub consulted : List ℕ → Stage → ActionCodes
+abbrev pub consulted : StoreBytes → Stage → ActionCodes
 consulted b Stage.Denial     = getD (actionCodesOf b) denialStage noActionCodes
 consulted b Stage.OnlineOnly = record { card = zeroCode; terminal = zeroCode }
 consulted b Stage.Default    = getD (actionCodesOf b) defaultStage noActionCodes
 consulted b Stage.Online     = getD (actionCodesOf b) onlineStage noActionCodes
 
 -- bit i of TVR is set, and in a code of the stage
-abbrev pub holdsAt : List ℕ → Stage → ℕ → Bool
+abbrev pub holdsAt : StoreBytes → Stage → ℕ → Bool
 holdsAt b stage i = stageHoldsBit (tvrIn b) (consulted b stage) i
 
 -- a bit of TVR is in a denial code, and what the terminal's type allows
-abbrev pub isDenied : List ℕ → Bool
+abbrev pub isDenied : StoreBytes → Bool
 isDenied b = stageHolds (tvrIn b) (actionCodesOf b) denialStage
 
-abbrev pub capabilityIn : List ℕ → OnlineCapability
+abbrev pub capabilityIn : StoreBytes → OnlineCapability
 capabilityIn b = onlineCapabilityOf (terminalType b)
 
 -- a stage decides: denial where one of its codes has a bit of TVR, else the one of the terminal's type
-abbrev pub DecidedAt : Stage → List ℕ → Type 0
+abbrev pub DecidedAt : Stage → StoreBytes → Type 0
 DecidedAt Stage.Denial     b = isDenied b ≡ true
 DecidedAt Stage.OnlineOnly b = (isDenied b ≡ false) × (capabilityIn b ≡ OnlineCapability.OnlineOnly)
 DecidedAt Stage.Default    b = (isDenied b ≡ false) × (capabilityIn b ≡ OnlineCapability.OfflineOnly)
 DecidedAt Stage.Online     b = (isDenied b ≡ false) × (capabilityIn b ≡ OnlineCapability.OnlineCapable)
 
 -- bit i, of the 40, is the lowest that the stage holds
-pub record LowestAt (stage : Stage) (i : ℕ) (b : List ℕ) : Type 0 where
+pub record LowestAt (stage : Stage) (i : ℕ) (b : StoreBytes) : Type 0 where
   pub within : i < 40
   pub held : holdsAt b stage i ≡ true
   pub lowest : (j : ℕ) → j < i → holdsAt b stage j ≡ false
 
 -- the stage holds none of the 40
-abbrev pub NoneAt : Stage → List ℕ → Type 0
+abbrev pub NoneAt : Stage → StoreBytes → Type 0
 NoneAt stage b = (i : ℕ) → i < 40 → holdsAt b stage i ≡ false
 
 -- whether a holder is the card's code, and whether it is the terminal's
@@ -159,7 +164,7 @@ isTerminal Holder.Terminal = true
 isTerminal Holder.Both     = true
 
 -- the bit is in the card's code of its stage, and in the terminal's, exactly as the holder says
-pub record HeldBy (c : Cause) (b : List ℕ) : Type 0 where
+pub record HeldBy (c : Cause) (b : StoreBytes) : Type 0 where
   pub card : numberedBit (consulted b (c .stage) .card) (c .bit) ≡ isCard (c .holder)
   pub terminal : numberedBit (consulted b (c .stage) .terminal) (c .bit) ≡ isTerminal (c .holder)
 
@@ -172,7 +177,7 @@ hasChoice s = awaitsCryptogram (s .phase) or isDecided (s .phase) and not (magSt
 
 -- the choice that is explained: the one that a bit of the stage forces, or that is left without; with a lower
 -- cryptogram the one that the store gives; the other explanations are of none
-abbrev pub explainedChoice : List ℕ → Explanation → Option Choice
+abbrev pub explainedChoice : StoreBytes → Explanation → Option Choice
 explainedChoice b Explanation.Refused          = none
 explainedChoice b (Explanation.Reason n)       = none
 explainedChoice b Explanation.NoChoice         = none
@@ -191,33 +196,35 @@ explainedStage (Explanation.Unforced stage) = some stage
 
 -- ---- the claim
 
--- ms are the calls of a list made one after the other from a fresh session in its ranges (`play`), and s is the session
--- after them (`final`)
-pub record ExplainedSession (ms : List CallMade) (s : Session) : Type 0 where
+-- the calls ms led to the session s, and the last of them did not bring a code
+pub record ExplainedAsChosen (ms : List CallMade) (s : Session) : Type 0 where
   -- it is not refused
-  pub never-25 : endsWithCode ms ≡ false → explanationOf s ≡ Explanation.Refused → ⊥
+  pub never-25 : explanationOf s ≡ Explanation.Refused → ⊥
   -- where there is a choice, a choice is explained
-  pub explains : endsWithCode ms ≡ false → hasChoice s ≡ true → explainedChoice (storeBytes s) (explanationOf s) ≡ none → ⊥
+  pub explains : hasChoice s ≡ true → explainedChoice (storeBytes s) (explanationOf s) ≡ none → ⊥
   -- the choice explained is the one whose P1 was handed out, in the one GENERATE AC
-  pub p1 : endsWithCode ms ≡ false → (choice : Choice) → explainedChoice (storeBytes s) (explanationOf s) ≡ some choice
+  pub p1 : (choice : Choice) → explainedChoice (storeBytes s) (explanationOf s) ≡ some choice
       → p1s (commandsSent ms) ≡ generateAcP1 choice ∷ []
   -- the stage named is the one that decided at the time of the choice
-  pub stage : endsWithCode ms ≡ false → (stage : Stage) → explainedStage (explanationOf s) ≡ some stage
-      → AtChoice ms (DecidedAt stage)
+  pub stage : (stage : Stage) → explainedStage (explanationOf s) ≡ some stage → AtChoice ms (DecidedAt stage)
   -- the bit named is the lowest that this stage held then; where none is named it held none
-  pub bit : endsWithCode ms ≡ false → (c : Cause) → explanationOf s ≡ Explanation.Forced c
-      → AtChoice ms (LowestAt (c .stage) (c .bit))
-  pub no-bit : endsWithCode ms ≡ false → (stage : Stage) → explanationOf s ≡ Explanation.Unforced stage
-      → AtChoice ms (NoneAt stage)
+  pub bit : (c : Cause) → explanationOf s ≡ Explanation.Forced c → AtChoice ms (LowestAt (c .stage) (c .bit))
+  pub no-bit : (stage : Stage) → explanationOf s ≡ Explanation.Unforced stage → AtChoice ms (NoneAt stage)
   -- the holder named is whose code had the bit then
-  pub holder : endsWithCode ms ≡ false → (c : Cause) → explanationOf s ≡ Explanation.Forced c → AtChoice ms (HeldBy c)
-  -- a lower cryptogram ranks below the choice whose P1 was handed out; where a stage is named, the one that
-  -- came does not
-  pub lower : endsWithCode ms ≡ false → explanationOf s ≡ Explanation.LowerCryptogram → (choice : Choice)
-      → p1s (commandsSent ms) ≡ generateAcP1 choice ∷ [] → cryptogramRank (storedCryptogramType (storeBytes s)) < choiceRank choice
-  pub not-lower : endsWithCode ms ≡ false → isDecided (s .phase) ≡ true
-      → (stage : Stage) → explainedStage (explanationOf s) ≡ some stage → (choice : Choice)
-      → p1s (commandsSent ms) ≡ generateAcP1 choice ∷ [] → choiceRank choice ≤ cryptogramRank (storedCryptogramType (storeBytes s))
+  pub holder : (c : Cause) → explanationOf s ≡ Explanation.Forced c → AtChoice ms (HeldBy c)
+  -- a lower cryptogram ranks below the choice whose P1 was handed out; where a stage is named, the one that came
+  -- does not
+  pub lower : explanationOf s ≡ Explanation.LowerCryptogram → (choice : Choice)
+      → p1s (commandsSent ms) ≡ generateAcP1 choice ∷ []
+      → cryptogramRank (storedCryptogramType (storeBytes s)) < choiceRank choice
+  pub not-lower : isDecided (s .phase) ≡ true → (stage : Stage) → explainedStage (explanationOf s) ≡ some stage
+      → (choice : Choice) → p1s (commandsSent ms) ≡ generateAcP1 choice ∷ []
+      → choiceRank choice ≤ cryptogramRank (storedCryptogramType (storeBytes s))
+
+-- ms are the calls of a list made one after the other from a fresh session in its ranges (`playCalls`), and s is the
+-- session after them (`finalSession`)
+pub record ExplainedSession (ms : List CallMade) (s : Session) : Type 0 where
+  pub explained : endsWithCode ms ≡ false → ExplainedAsChosen ms s
   -- where a decision was reached, the card requests mag-stripe mode exactly where the session is in it
   pub mode : isDecided (s .phase) ≡ true → cardAsksMagStripe (storeBytes s) ≡ magStripeMode (storeBytes s)
 

@@ -4,7 +4,7 @@
 -- bytes. `emv_wipe` writes, too: after it an `emv_open` comes first.
 -- Assumes nothing.
 use mathlib.Core.List.{List, [], _∷_}
-use Prim.Native.Nat.{ℕ}
+use Rattle.basics.specs.Types.{Bytes, Buffer, ResultWord}
 use Rattle.session_record.specs.Session.{freshSession}
 use Rattle.session.specs.Steps.{linkFailedStep, stopStep}
 use Rattle.layout.specs.Layout.{withSessionRecord}
@@ -20,14 +20,14 @@ pub data HostCall : Type 0 where
   on-session : Call → HostCall
 
 -- what one of the four does on the session's bytes l: the promises of the exported functions
-abbrev pub callOver : List ℕ → Call → HostResult
+abbrev pub callOver : Bytes → Call → HostResult
 callOver l (start bytes buf) = hostStart bytes l buf
 callOver l (answer card buf) = hostAnswer card l buf
 callOver l (link-failed buf) = hostStepAdmitted linkFailedStep l buf
 callOver l (stop buf) = hostStepAdmitted stopStep l buf
 
 -- what a call does; `emv_open` has no command buffer
-abbrev pub hostStep : List ℕ → HostCall → HostResult
+abbrev pub hostStep : Bytes → HostCall → HostResult
 hostStep l opening = record { word = hostOpenWord l; session = withSessionRecord freshSession l; buffer = [] }
 hostStep l (on-session c) = callOver l c
 
@@ -36,20 +36,20 @@ hostStep l (on-session c) = callOver l c
 -- a call that was made, with its result word and the command buffer after it
 pub record CompletedCall : Type 0 where
   pub call : HostCall
-  pub word : ℕ
-  pub buffer : List ℕ
+  pub word : ResultWord
+  pub buffer : Buffer
 
 -- the same as a function of the three
-abbrev pub completedCall : HostCall → ℕ → List ℕ → CompletedCall
+abbrev pub completedCall : HostCall → ResultWord → Buffer → CompletedCall
 completedCall c w buf = record { call = c; word = w; buffer = buf }
 
 -- the calls of a list, each on the bytes that the call before it left
-unfoldable pub completedCalls : List ℕ → List HostCall → List CompletedCall
+unfoldable pub completedCalls : Bytes → List HostCall → List CompletedCall
 completedCalls l [] = []
 completedCalls l (c ∷ cs) =
     completedCall c (hostStep l c .word) (hostStep l c .buffer) ∷ completedCalls (hostStep l c .session) cs
 
 -- the bytes that the last call left
-unfoldable pub bytesAfter : List ℕ → List HostCall → List ℕ
+unfoldable pub bytesAfter : Bytes → List HostCall → Bytes
 bytesAfter l [] = l
 bytesAfter l (c ∷ cs) = bytesAfter (hostStep l c .session) cs

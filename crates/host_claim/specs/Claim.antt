@@ -1,13 +1,15 @@
--- Demand 3 at the C boundary (document 01, "What demand 3 counts"): the claim of trace/specs/Claim over the result
--- words, the command buffers and the session's bytes of a host's calls, and that it is that claim of session's calls.
+-- Demand 3 at the C boundary (document 01, "What demand 3 counts"): the claim of session_claim/specs/Claim over the
+-- result words, the command buffers and the session's bytes of a host's calls, and that it is that claim of session's
+-- calls.
 -- Assumes nothing.
 use mathlib.Core.Path.{_≡_}
 use mathlib.Core.Bool.{true}
 use mathlib.Core.List.{List, [], _∷_, _++_, map}
 use mathlib.Core.Option.{some}
-use Prim.Native.Nat.{ℕ, _+_, _≤_}
+use Prim.Native.Nat.{_+_, _≤_}
 use lib.ListN.{length, take, drop}
-use Rattle.basics.specs.Choice.{every}
+use Rattle.basics.specs.Types.{Bytes}
+use Rattle.basics.specs.Choice.{every, oneIf}
 use Rattle.session_record.specs.declared.Session.{Session}
 use Rattle.session_record.specs.Session.{freshSession}
 use Rattle.layout.specs.Layout.{recordSize, withSessionRecord, decodedSession}
@@ -16,7 +18,6 @@ use Rattle.session_claim.specs.Calls.{commandsSent, callsAccepted, unansweredCo
 use Rattle.session.specs.Calls.{Call, CallMade, callResult, playCalls, finalSession}
 use Rattle.session_claim.specs.Order.{commandKind, publishedOrder, lastKind, acceptedAfl}
 use Rattle.session_claim.specs.Claim.{mostCommandsFor, SessionProper}
-use Rattle.basics.specs.Choice.{oneIf}
 use Rattle.session_record.specs.Session.{isFresh, isRunning, isEnded}
 use Rattle.host.specs.Hosted.{countWord}
 use Rattle.host_claim.specs.Calls.{HostCall, opening, on-session, CompletedCall, completedCall}
@@ -26,7 +27,7 @@ use Rattle.host_claim.specs.Words.{hostAfl, hostLastKind, isNone, isLast
 -- ---- demand 3, read off words and buffers
 
 -- ms are the calls since the last accepted opening, and l are the session's bytes after them
-pub record HostDemand3 (ms : List CompletedCall) (l : List ℕ) : Type 0 where
+pub record HostDemand3 (ms : List CompletedCall) (l : Bytes) : Type 0 where
   -- the bytes hold a session
   pub session : Session
   pub held : decodedSession l ≡ some session
@@ -46,7 +47,8 @@ pub record HostDemand3 (ms : List CompletedCall) (l : List ℕ) : Type 0 where
   pub ended : isEnded (session .phase) ≡ isLastOutcome (lastElement (notRefused ms))
   -- while it runs exactly one command is unanswered, the last one handed out
   pub one-unanswered : isRunning (session .phase) ≡ true → length (hostUnanswered ms) ≡ 1
-  pub last-unanswered : isRunning (session .phase) ≡ true → lastElement (hostUnanswered ms) ≡ lastElement (hostCommands ms)
+  pub last-unanswered : isRunning (session .phase) ≡ true
+      → lastElement (hostUnanswered ms) ≡ lastElement (hostCommands ms)
   -- the calls not refused are N, and one more once the session has ended; so they are never over 131
   pub calls : length (notRefused ms) ≡ length (hostCommands ms) + oneIf (isEnded (session .phase))
   pub never-over-131 : length (notRefused ms) ≤ 131
@@ -75,7 +77,7 @@ abbrev pub asCompleted : CallMade → CompletedCall
 asCompleted m = completedCall (on-session (m .call)) (resultWord (callResult m)) (m .step .buffer)
 
 -- ms are the calls since the last accepted opening, l are the bytes after them, and before are those that were opened
-pub record SameAsSession (before : List ℕ) (ms : List CompletedCall) (l : List ℕ) : Type 0 where
+pub record SameAsSession (before : Bytes) (ms : List CompletedCall) (l : Bytes) : Type 0 where
   -- every word is that of the session's reply, and every buffer is the session's; no opening is among them
   pub words : ms ≡ map asCompleted (sessionPlay ms)
   -- the bytes are the record of the session after these calls, and those after the record stay
@@ -94,7 +96,7 @@ pub record SameAsSession (before : List ℕ) (ms : List CompletedCall) (l : List
 -- ms are the calls of a list made since an opening of the bytes `before` was accepted (`completedCalls`), and l are the
 -- bytes that the last of them left (`bytesAfter`), those of the opening where there are none. A later opening that is
 -- accepted begins anew
-pub record HostClaim (before : List ℕ) (ms : List CompletedCall) (l : List ℕ) : Type 0 where
+pub record HostClaim (before : Bytes) (ms : List CompletedCall) (l : Bytes) : Type 0 where
   pub demand-3 : HostDemand3 (sinceOpening ms) l
   pub as-session : SameAsSession before (sinceOpening ms) l
   -- none of all the calls was refused with 25; so every opening among them was accepted

@@ -4,8 +4,8 @@
 use mathlib.Core.Bool.{Bool, true, false, not}
 use mathlib.Core.List.{List, [], _∷_, _++_}
 use mathlib.Core.Option.{Option, some, none}
-use Prim.Native.Nat.{ℕ}
 use lib.ListN.{take}
+use Rattle.basics.specs.Types.{CommandBytes, AflBytes, ResultWord}
 use Rattle.basics.specs.Choice.{if_then_else_, _and_, _or_, _=?_}
 use Rattle.basics.specs.Reason.{refusedRanges}
 use Rattle.layout.specs.Word.{wordKind, kindCommand, kindOutcome, kindRefusal, refusalWord}
@@ -17,13 +17,13 @@ use Rattle.host_claim.specs.Calls.{HostCall, opening, on-session, Comple
 -- ---- a result word
 
 -- its kind reports whether the call returned a command, an outcome or a refusal
-abbrev pub isCommandWord : ℕ → Bool
+abbrev pub isCommandWord : ResultWord → Bool
 isCommandWord w = wordKind w =? kindCommand
 
-abbrev pub isOutcomeWord : ℕ → Bool
+abbrev pub isOutcomeWord : ResultWord → Bool
 isOutcomeWord w = wordKind w =? kindOutcome
 
-abbrev pub isRefusalWord : ℕ → Bool
+abbrev pub isRefusalWord : ResultWord → Bool
 isRefusalWord w = wordKind w =? kindRefusal
 
 -- the call was not refused with 25
@@ -56,13 +56,13 @@ sinceOpening (m ∷ ms) =
 -- ---- what these calls handed out
 
 -- a command is the front of its call's buffer, of the length that the word says, as it is after the call
-abbrev pub commandOf : CompletedCall → List (List ℕ)
+abbrev pub commandOf : CompletedCall → List CommandBytes
 commandOf m =
     if isCommandWord (m .word) then take (m .word) (m .buffer) ∷ []
     else []
 
 -- the commands handed out, in order
-unfoldable pub hostCommands : List CompletedCall → List (List ℕ)
+unfoldable pub hostCommands : List CompletedCall → List CommandBytes
 hostCommands [] = []
 hostCommands (m ∷ ms) = commandOf m ++ hostCommands ms
 
@@ -86,14 +86,14 @@ answerAmong [] = false
 answerAmong (m ∷ ms) = isAnswerCall (m .call) or answerAmong ms
 
 -- of calls that were not refused, the commands that no answer comes after
-unfoldable pub withoutAnswer : List CompletedCall → List (List ℕ)
+unfoldable pub withoutAnswer : List CompletedCall → List CommandBytes
 withoutAnswer [] = []
 withoutAnswer (m ∷ ms) =
     if answerAmong ms then withoutAnswer ms
     else commandOf m ++ withoutAnswer ms
 
 -- refused calls answer nothing
-unfoldable pub hostUnanswered : List CompletedCall → List (List ℕ)
+unfoldable pub hostUnanswered : List CompletedCall → List CommandBytes
 hostUnanswered ms = withoutAnswer (notRefused ms)
 
 -- ---- the accepted AFL (document 01: accepted locator), and the last command of the published order
@@ -106,7 +106,7 @@ firstAnswerCall (m ∷ ms) =
     else firstAnswerCall ms
 
 -- the AFL that the card bytes of a call bring: only an answer has card bytes
-abbrev pub cardAfl : HostCall → Option (List ℕ)
+abbrev pub cardAfl : HostCall → Option AflBytes
 cardAfl opening = none
 cardAfl (on-session (start bytes buf)) = none
 cardAfl (on-session (answer card buf)) = responseAfl card
@@ -115,14 +115,14 @@ cardAfl (on-session (stop buf)) = none
 
 -- the first answer has no reason exactly where its word is that of a command. That this is the accepted AFL by the
 -- rules is `same-afl` of the claim
-abbrev pub aflRead : Option CompletedCall → Option (List ℕ)
+abbrev pub aflRead : Option CompletedCall → Option AflBytes
 aflRead none = none
 aflRead (some m) =
     if isCommandWord (m .word) then cardAfl (m .call)
     else none
 
 -- refused calls are skipped
-unfoldable pub hostAfl : List CompletedCall → Option (List ℕ)
+unfoldable pub hostAfl : List CompletedCall → Option AflBytes
 hostAfl ms = aflRead (firstAnswerCall (notRefused ms))
 
 -- the last command by the AIP that the first answer brings

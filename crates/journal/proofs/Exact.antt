@@ -2,7 +2,7 @@
 -- follows them (`split`); conforming records are those that calls write (`Written`, `ExactCalls`).
 -- Assumes nothing.
 use mathlib.Core.Path.{_≡_, refl, sym, ap, subst, _∙_}
-use mathlib.Core.Logic.{_↔_, _⊎_, inl, inr}
+use mathlib.Core.Logic.{_↔_, inl, inr}
 use mathlib.Core.List.{List, [], _∷_, _++_, append-nil, append-assoc}
 use mathlib.Core.Option.{Option, some, none}
 use Prim.Native.Nat.{ℕ, zero, suc, _+_, _≤_, _<_}
@@ -12,12 +12,14 @@ use lib.ListN.{length, getD, take, drop, length-drop, take-append-drop}
 use lib.Seq.{length-take-le, getD-take}
 use borrow.Author.Tests.{eqb-true, eqb-false, ltb-true, ltb-false}
 use Rattle.basics.proofs.Laws.{if-ind}
+use Rattle.basics.proofs.Order.{equal-or-not}
 use Rattle.session_record.specs.Session.{freshSession}
 use Rattle.journal.specs.declared.JournalVerdict.{JournalVerdict}
 use Rattle.journal.specs.Record.{journalRecordSize, concatenated}
-use Rattle.journal.specs.Verdict.{ExpectedNext, expectedAtStart, recordJudged, verdictContinues, verdictFrom, journalVerdictOf}
-use Rattle.journal.specs.ConformingRecords.{AllBytes, Conforming, KernelWritesBytes, recordKind, firstRecordIn, UnknownKind, RecordTruncated, RecordMismatch, VerdictExact}
+use Rattle.journal.specs.Verdict.{ExpectedNext, expectedAtStart, recordJudged, verdictContinues, verdictFrom, journalVerdictOf, firstRecordSize}
+use Rattle.journal.specs.ConformingRecords.{AllBytes, Conforming, KernelWritesBytes, NoContinuation, BehindFront, VerdictOn}
 use Rattle.journal.proofs.Walk.{unroll, ends, unknown, cut, whole}
+use Rattle.journal.proofs.Byte.{size-none}
 use Rattle.journal.proofs.Written.{Walks, Walked, verdict-behind, all-walked}
 use Rattle.journal.proofs.ExactCall.{same-some, nothing, bytes-front}
 use Rattle.journal.proofs.ExactCalls.{writes}
@@ -34,6 +36,11 @@ walks-snoc : {e u t : ExpectedNext} {rs : List (List ℕ)} (r : List ℕ) → Wa
 walks-snoc r Walks.done h z j = Walks.next h z j Walks.done
 walks-snoc r (Walks.next h′ z′ j′ w) h z j = Walks.next h′ z′ j′ (walks-snoc r w h z j)
 
+-- no record is empty
+last-some : {e t : ExpectedNext} (rs : List (List ℕ)) (r : List ℕ) → Walks e (rs ++ (r ∷ [])) t → 0 < length r
+last-some [] r (Walks.next h z j w) = h
+last-some (x ∷ rs) r (Walks.next h z j w) = last-some rs r w
+
 -- what is expected after records is one thing
 last-judged : {e u : ExpectedNext} {rs : List (List ℕ)} (r : List ℕ) (t : ExpectedNext) → Walks e rs u → Walks e (rs ++ (r ∷ [])) t → recordJudged u r ≡ some t
 last-judged r t Walks.done (Walks.next h z j Walks.done) = j
@@ -45,9 +52,9 @@ last-judged r t (Walks.next {t = m} {rs = rs} h z j w) (Walks.next {t = m′} h�
 -- where the records stop, and with which verdict
 data Stops (u : ExpectedNext) (n : ℕ) : List ℕ → JournalVerdict → Type 0 where
   ended : Stops u n [] (JournalVerdict.Accepted n)
-  strange : {rest : List ℕ} → UnknownKind rest → Stops u n rest (JournalVerdict.Mismatch (n + 1))
-  short : {rest : List ℕ} → RecordTruncated rest → Stops u n rest (JournalVerdict.Truncated (n + 1))
-  mismatch : {rest : List ℕ} → 0 < journalRecordSize (recordKind rest) → journalRecordSize (recordKind rest) ≤ length rest → recordJudged u (firstRecordIn rest) ≡ none
+  strange : {rest : List ℕ} → 0 < length rest → firstRecordSize rest ≡ 0 → Stops u n rest (JournalVerdict.Mismatch (n + 1))
+  short : {rest : List ℕ} → length rest < firstRecordSize rest → Stops u n rest (JournalVerdict.Truncated (n + 1))
+  mismatch : {rest : List ℕ} → 0 < firstRecordSize rest → firstRecordSize rest ≤ length rest → recordJudged u (take (firstRecordSize rest) rest) ≡ none
       → Stops u n rest (JournalVerdict.Mismatch (n + 1))
 
 record Split (e : ExpectedNext) (n : ℕ) (s : List ℕ) (v : JournalVerdict) : Type 0 where
@@ -96,9 +103,9 @@ split (suc k) e n [] h = subst (Split e n []) (sym (ends e n)) (stops-at e n [] 
 split (suc k) e n (b ∷ s) h =
     subst (Split e n (b ∷ s)) (sym (unroll e n (b ∷ s)))
     (if-ind (Split e n (b ∷ s)) (eqb (journalRecordSize b) 0) _ _
-    (λ z. stops-at e n (b ∷ s) _ (Stops.strange (record { some = omega arith; kind = eqb-true (journalRecordSize b) 0 z })))
+    (λ z. stops-at e n (b ∷ s) _ (Stops.strange (omega arith) (eqb-true (journalRecordSize b) 0 z)))
     (λ z. if-ind (Split e n (b ∷ s)) (ltb (length (b ∷ s)) (journalRecordSize b)) _ _
-    (λ c. stops-at e n (b ∷ s) _ (Stops.short (record { some = omega arith; short = ltb-true (length (b ∷ s)) (journalRecordSize b) c })))
+    (λ c. stops-at e n (b ∷ s) _ (Stops.short (ltb-true (length (b ∷ s)) (journalRecordSize b) c)))
     (λ c. let p : 0 < journalRecordSize b = omega (arith, eqb-false (journalRecordSize b) 0 z) in
       by-judged e n b s p (ltb-false (length (b ∷ s)) (journalRecordSize b) c)
       (λ t. split k t (n + 1) (drop (journalRecordSize b) (b ∷ s)) (omega (arith, length-drop (journalRecordSize b) (b ∷ s))))
@@ -118,29 +125,36 @@ right-bytes rs x g = writes (right-walked rs x .walks) freshSession refl g
 
 -- ---- the verdict says so
 
+-- bytes of an unknown kind continue no records: no record is empty
+empty-wrong : (rs : List (List ℕ)) (rest : List ℕ) → firstRecordSize rest ≡ 0 → Conforming (rs ++ (take (firstRecordSize rest) rest ∷ [])) → ⊥
+empty-wrong rs rest k x =
+    let z : length (take (firstRecordSize rest) rest) ≡ 0 = ap (λ (m : ℕ). length (take m rest)) k in
+    let h = last-some rs (take (firstRecordSize rest) rest) (right-walked (rs ++ (take (firstRecordSize rest) rest ∷ [])) x .walks) in
+    absurd (omega arith)
+
+behind : {u : ExpectedNext} {v : JournalVerdict} {rest : List ℕ} (n : ℕ) (rs : List (List ℕ)) → n ≡ 0 + length rs → Walks expectedAtStart rs u → Stops u n rest v
+    → BehindFront rs rest v
+behind n rs c w Stops.ended = (omega arith, refl)
+behind {rest = rest} n rs c w (Stops.strange h k) = (omega arith, record { some = h; whole = omega arith; wrong = empty-wrong rs rest k })
+behind n rs c w (Stops.short h) = (omega arith, h)
+behind {rest = rest} n rs c w (Stops.mismatch h k j) =
+    (omega arith,
+    record { some = omega arith; whole = k;
+      wrong = λ x. let y = right-walked (rs ++ (take (firstRecordSize rest) rest ∷ [])) x in nothing (sym j ∙ last-judged (take (firstRecordSize rest) rest) (y .last) w (y .walks)) })
+
 module _ (s : List ℕ) (g : AllBytes s) where
   stopped : {u : ExpectedNext} {v : JournalVerdict} {rest : List ℕ} (n : ℕ) (rs : List (List ℕ)) → n ≡ 0 + length rs → Walks expectedAtStart rs u → concatenated rs ++ rest ≡ s
-      → Stops u n rest v → VerdictExact s v
-  stopped n rs c w e Stops.ended =
-      let b = sym (append-nil (concatenated rs)) ∙ e in
-      record { records = rs; count = omega arith; conforming = walks-right w (subst AllBytes (sym b) g); bytes = b }
-  stopped {rest = rest} n rs c w e (Stops.strange x) =
-      record { records = rs; rest = rest; count = omega arith; conforming = walks-right w (bytes-front (concatenated rs) rest (subst AllBytes (sym e) g)); next = inl x; bytes = e }
-  stopped {rest = rest} n rs c w e (Stops.short x) =
-      record { records = rs; rest = rest; count = omega arith; conforming = walks-right w (bytes-front (concatenated rs) rest (subst AllBytes (sym e) g)); next = x; bytes = e }
-  stopped {rest = rest} n rs c w e (Stops.mismatch h k j) =
+      → Stops u n rest v → VerdictOn s v
+  stopped {rest = rest} n rs c w e x =
       record {
-        records = rs;
+        front = rs;
         rest = rest;
-        count = omega arith;
+        splits = e;
         conforming = walks-right w (bytes-front (concatenated rs) rest (subst AllBytes (sym e) g));
-        next =
-          inr (record { kind = h; whole = k;
-            wrong = λ x. let y = right-walked (rs ++ (firstRecordIn rest ∷ [])) x in nothing (sym j ∙ last-judged (firstRecordIn rest) (y .last) w (y .walks)) });
-        bytes = e
+        behind = behind n rs c w x;
       }
 
-  says : (v : JournalVerdict) → journalVerdictOf s ≡ v → VerdictExact s v
+  says : (v : JournalVerdict) → journalVerdictOf s ≡ v → VerdictOn s v
   unfolding journalVerdictOf
   says v q =
       let x = subst (Split expectedAtStart 0 s) q (split (suc (length s)) expectedAtStart 0 s (omega arith)) in
@@ -166,42 +180,51 @@ wrong-judged rs u r w h z g f = go (recordJudged u r) refl
     go none j = refl
     go (some t) j = absurd (f (walks-right (walks-snoc r w h z j) (subst AllBytes (sym (joined-snoc rs r)) g)))
 
-wrong-mismatch : (rs : List (List ℕ)) (rest : List ℕ) (u : ExpectedNext) (n : ℕ) → Walks expectedAtStart rs u → RecordMismatch rs rest → AllBytes (concatenated rs ++ rest)
+wrong-mismatch : (rs : List (List ℕ)) (rest : List ℕ) (u : ExpectedNext) (n : ℕ) → Walks expectedAtStart rs u → 0 < firstRecordSize rest → NoContinuation rs rest → AllBytes (concatenated rs ++ rest)
     → verdictFrom u n rest ≡ JournalVerdict.Mismatch (n + 1)
-wrong-mismatch rs rest u n w x g =
-    let r = take (journalRecordSize (recordKind rest)) rest in
-    let more = drop (journalRecordSize (recordKind rest)) rest in
-    let a : r ++ more ≡ rest = take-append-drop (journalRecordSize (recordKind rest)) rest in
-    let l : length r ≡ journalRecordSize (recordKind rest) = length-take-le (journalRecordSize (recordKind rest)) rest (x .whole) in
-    let k : getD r 0 0 ≡ recordKind rest = getD-take (journalRecordSize (recordKind rest)) rest 0 0 (x .kind) in
+wrong-mismatch rs rest u n w p x g =
+    let r = take (firstRecordSize rest) rest in
+    let more = drop (firstRecordSize rest) rest in
+    let a : r ++ more ≡ rest = take-append-drop (firstRecordSize rest) rest in
+    let l : length r ≡ firstRecordSize rest = length-take-le (firstRecordSize rest) rest (x .whole) in
+    let k : getD r 0 0 ≡ getD rest 0 0 = getD-take (firstRecordSize rest) rest 0 0 p in
     let z : length r ≡ journalRecordSize (getD r 0 0) = l ∙ ap journalRecordSize (sym k) in
-    let h : 0 < length r = omega (arith, x .kind) in
+    let h : 0 < length r = omega (arith, p) in
     let b : AllBytes ((concatenated rs ++ r) ++ more) =
           subst AllBytes (ap (λ (v : List ℕ). concatenated rs ++ v) (sym a) ∙ sym (append-assoc (concatenated rs) r more)) g in
     ap (verdictFrom u n) (sym a) ∙ whole u n r more h z
     ∙ ap (verdictContinues (λ t. verdictFrom t (n + 1) more) (n + 1)) (wrong-judged rs u r w h z (bytes-front (concatenated rs ++ r) more b) (x .wrong))
 
-module _ (s : List ℕ) (g : AllBytes s) where
-  mismatch-said : (rs : List (List ℕ)) (rest : List ℕ) (w : Walked expectedAtStart rs) → concatenated rs ++ rest ≡ s → UnknownKind rest ⊎ RecordMismatch rs rest
-      → verdictFrom (w .last) (0 + length rs) rest ≡ JournalVerdict.Mismatch (0 + length rs + 1)
-  mismatch-said rs rest w e (inl x) =
-      ap (verdictFrom (w .last) (0 + length rs)) (sym (append-nil rest)) ∙ unknown (w .last) (0 + length rs) rest [] (x .some) (x .kind)
-  mismatch-said rs rest w e (inr x) = wrong-mismatch rs rest (w .last) (0 + length rs) (w .walks) x (subst AllBytes (sym e) g)
+-- a piece of a record has a byte, which says its kind
+some-piece : (rest : List ℕ) → length rest < firstRecordSize rest → 0 < length rest
+some-piece [] h = absurd (omega (arith, size-none))
+some-piece (b ∷ rest) h = omega arith
 
-  said : (v : JournalVerdict) → VerdictExact s v → journalVerdictOf s ≡ v
+module _ (s : List ℕ) (g : AllBytes s) where
+  mismatch-said : (rs : List (List ℕ)) (rest : List ℕ) (w : Walked expectedAtStart rs) → concatenated rs ++ rest ≡ s → NoContinuation rs rest
+      → verdictFrom (w .last) (0 + length rs) rest ≡ JournalVerdict.Mismatch (0 + length rs + 1)
+  mismatch-said rs rest w e x = elim (equal-or-not (firstRecordSize rest) 0) [
+    | inl z ↦
+        ap (verdictFrom (w .last) (0 + length rs)) (sym (append-nil rest)) ∙ unknown (w .last) (0 + length rs) rest [] (x .some) z
+    | inr z ↦ wrong-mismatch rs rest (w .last) (0 + length rs) (w .walks) (omega arith) x (subst AllBytes (sym e) g)
+  ]
+
+  said : (v : JournalVerdict) → VerdictOn s v → journalVerdictOf s ≡ v
   said (JournalVerdict.Accepted m) x =
-      let w = right-walked (x .records) (x .conforming) in
-      let e : 0 + length (x .records) ≡ m = omega (arith, x .count) in
-      after s (x .records) [] w (append-nil (concatenated (x .records)) ∙ x .bytes) ∙ ends (w .last) (0 + length (x .records)) ∙ ap JournalVerdict.Accepted e
+      let w = right-walked (x .front) (x .conforming) in
+      let e : 0 + length (x .front) ≡ m = omega (arith, x .behind .0) in
+      after s (x .front) (x .rest) w (x .splits) ∙ ap (verdictFrom (w .last) (0 + length (x .front))) (x .behind .1)
+      ∙ ends (w .last) (0 + length (x .front)) ∙ ap JournalVerdict.Accepted e
   said (JournalVerdict.Mismatch n) x =
-      let w = right-walked (x .records) (x .conforming) in
-      after s (x .records) (x .rest) w (x .bytes) ∙ mismatch-said (x .records) (x .rest) w (x .bytes) (x .next)
-      ∙ by-number JournalVerdict.Mismatch (length (x .records)) n (x .count)
+      let w = right-walked (x .front) (x .conforming) in
+      after s (x .front) (x .rest) w (x .splits) ∙ mismatch-said (x .front) (x .rest) w (x .splits) (x .behind .1)
+      ∙ by-number JournalVerdict.Mismatch (length (x .front)) n (x .behind .0)
   said (JournalVerdict.Truncated n) x =
-      let w = right-walked (x .records) (x .conforming) in
-      after s (x .records) (x .rest) w (x .bytes) ∙ cut (w .last) (0 + length (x .records)) (x .rest) (x .next .some) (x .next .short)
-      ∙ by-number JournalVerdict.Truncated (length (x .records)) n (x .count)
+      let w = right-walked (x .front) (x .conforming) in
+      after s (x .front) (x .rest) w (x .splits)
+      ∙ cut (w .last) (0 + length (x .front)) (x .rest) (some-piece (x .rest) (x .behind .1)) (x .behind .1)
+      ∙ by-number JournalVerdict.Truncated (length (x .front)) n (x .behind .0)
 
 -- the verdict is v exactly where v says what holds of the bytes
-pub exact : (s : List ℕ) → AllBytes s → (v : JournalVerdict) → (journalVerdictOf s ≡ v) ↔ VerdictExact s v
+pub exact : (s : List ℕ) → AllBytes s → (v : JournalVerdict) → (journalVerdictOf s ≡ v) ↔ VerdictOn s v
 exact s g v = (says s g v, said s g v)

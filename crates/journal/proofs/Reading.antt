@@ -3,7 +3,7 @@
 use mathlib.Core.Path.{_≡_, sym, ap, _∙_}
 use mathlib.Core.Bool.{true, false}
 use mathlib.Core.List.{List}
-use mathlib.Core.Option.{none}
+use mathlib.Core.Option.{some, none}
 use Prim.Native.Nat.{ℕ, _+_, _-_, _≤_, _<_}
 use native.Mathlib.Omega.{arith}
 use lib.ListN.{length, getD, take, drop}
@@ -21,7 +21,8 @@ use Rattle.session.specs.Answer.{answerStep}
 use Rattle.step_laws.proofs.EveryCall.{start-came, answer-came}
 use Rattle.journal.specs.declared.CheckState.{CheckState}
 use Rattle.journal.specs.Record.{journalRecordSize, journalBuffer, recordLength, recordDataIn, recordFits, isLongAnswer, longAnswer, mostStartInRecord, mostAnswerInRecord}
-use Rattle.journal.specs.Record.{startCallFrom, answerCallFrom, linkFailedFrom, stopCallFrom, callFrom}
+use Rattle.session.specs.Calls.{link-failed, stop}
+use Rattle.journal.specs.Record.{startCallFrom, answerCallFrom, callFrom}
 use Rattle.journal.specs.Verdict.{replyExpected, replyExpectedAfter, callJudged}
 use Rattle.journal.specs.Inner.{replyRecordWithBuffer, checkStateBy}
 use Rattle.journal.proofs.Due.{stands-as, did-due}
@@ -100,13 +101,13 @@ module _ (r : List ℕ) where
   unfolding callFrom
   kind-answer e = if-no _ _ (ne-eqb (getD r 0 0) 1 (λ z. omega arith)) ∙ if-yes _ _ (eq-eqb (getD r 0 0) 2 e)
 
-  pub kind-link : getD r 0 0 ≡ 3 → callFrom r ≡ linkFailedFrom
+  pub kind-link : getD r 0 0 ≡ 3 → callFrom r ≡ some (link-failed journalBuffer)
   unfolding callFrom
   kind-link e =
       if-no _ _ (ne-eqb (getD r 0 0) 1 (λ z. omega arith)) ∙ if-no _ _ (ne-eqb (getD r 0 0) 2 (λ z. omega arith))
       ∙ if-yes _ _ (eq-eqb (getD r 0 0) 3 e)
 
-  pub kind-stop : getD r 0 0 ≡ 4 → callFrom r ≡ stopCallFrom
+  pub kind-stop : getD r 0 0 ≡ 4 → callFrom r ≡ some (stop journalBuffer)
   unfolding callFrom
   kind-stop e =
       if-no _ _ (ne-eqb (getD r 0 0) 1 (λ z. omega arith)) ∙ if-no _ _ (ne-eqb (getD r 0 0) 2 (λ z. omega arith))

@@ -19,34 +19,31 @@ use Rattle.basics.proofs.Recursion.{AsksShorter, recurse-unroll}
 use Rattle.session_record.specs.declared.Session.{Session}
 use Rattle.journal.specs.declared.JournalVerdict.{JournalVerdict}
 use Rattle.journal.specs.Record.{journalRecordSize, callFrom}
-use Rattle.journal.specs.Verdict.{ExpectedNext, recordJudgedBy, recordJudged, verdictContinues, verdictNextRecord, verdictNextBytes, verdictFrom, firstRecordSize, replyDueThen, replyDueAfter}
+use Rattle.journal.specs.Verdict.{ExpectedNext, recordJudgedBy, recordJudged, VerdictAfter, verdictContinues, verdictNextRecord, verdictFrom, firstRecordSize, replyDueThen, replyDueAfter}
 
 -- ---- the bound of the recursion does not matter
-
-abbrev Judge : Type 0
-Judge = ExpectedNext → ℕ → List ℕ → JournalVerdict
 
 goes-same : (f g : ExpectedNext → JournalVerdict) (n : ℕ) (o : Option ExpectedNext) → ((e : ExpectedNext) → f e ≡ g e) → verdictContinues f n o ≡ verdictContinues g n o
 goes-same f g n none h = refl
 goes-same f g n (some e) h = h e
 
-next-same : (k k′ : Judge) (e : ExpectedNext) (n : ℕ) (s : List ℕ) → ((t : ExpectedNext) (m : ℕ) (v : List ℕ) → length v < length s → k t m v ≡ k′ t m v)
-    → verdictNextRecord k e n s ≡ verdictNextRecord k′ e n s
+next-same : (k k′ : List ℕ → VerdictAfter) (e : ExpectedNext) (n : ℕ) (s : List ℕ) → ((v : List ℕ) (t : ExpectedNext) (m : ℕ) → length v < length s → k v t m ≡ k′ v t m)
+    → verdictNextRecord k s e n ≡ verdictNextRecord k′ s e n
 next-same k k′ e n [] same = refl
 next-same k k′ e n (b ∷ s) same = elim (equal-or-not (journalRecordSize b) 0) [
   | inl z ↦ if-yes _ _ (eq-eqb (journalRecordSize b) 0 z) ∙ sym (if-yes _ _ (eq-eqb (journalRecordSize b) 0 z))
   | inr z ↦
       let l : length (drop (journalRecordSize b) (b ∷ s)) < length (b ∷ s) = omega (arith, length-drop (journalRecordSize b) (b ∷ s)) in
       ap (λ (x : JournalVerdict). if (eqb (journalRecordSize b) 0) (JournalVerdict.Mismatch (n + 1)) (if (ltb (length (b ∷ s)) (journalRecordSize b)) (JournalVerdict.Truncated (n + 1)) x))
-      (goes-same _ _ (n + 1) (recordJudged e (take (journalRecordSize b) (b ∷ s))) (λ t. same t (n + 1) (drop (journalRecordSize b) (b ∷ s)) l))
+      (goes-same _ _ (n + 1) (recordJudged e (take (journalRecordSize b) (b ∷ s))) (λ t. same (drop (journalRecordSize b) (b ∷ s)) t (n + 1) l))
 ]
 
-asks : AsksShorter verdictNextBytes
-asks k k′ s same = λ i e n. next-same (λ t m v. k v t m) (λ t m v. k′ v t m) e n s (λ t m v h. ap (λ (f : ExpectedNext → ℕ → JournalVerdict). f t m) (same v h)) i
+asks : AsksShorter verdictNextRecord
+asks k k′ s same = λ i e n. next-same k k′ e n s (λ v t m h. ap (λ (f : VerdictAfter). f t m) (same v h)) i
 
-pub unroll : (e : ExpectedNext) (n : ℕ) (s : List ℕ) → verdictFrom e n s ≡ verdictNextRecord verdictFrom e n s
+pub unroll : (e : ExpectedNext) (n : ℕ) (s : List ℕ) → verdictFrom e n s ≡ verdictNextRecord (λ v t m. verdictFrom t m v) s e n
 unfolding verdictFrom
-unroll e n s = ap (λ (f : ExpectedNext → ℕ → JournalVerdict). f e n) (recurse-unroll (λ e n. JournalVerdict.Accepted n) verdictNextBytes asks s)
+unroll e n s = ap (λ (f : VerdictAfter). f e n) (recurse-unroll (λ e n. JournalVerdict.Accepted n) verdictNextRecord asks s)
 
 -- ---- what is at the front
 

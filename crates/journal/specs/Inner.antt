@@ -6,8 +6,9 @@ use mathlib.Core.Path.{_≡_}
 use mathlib.Core.Bool.{Bool, true, false, not}
 use mathlib.Core.List.{List, [], _∷_, _++_}
 use mathlib.Core.Option.{Option, some, none}
-use Prim.Native.Nat.{ℕ, _+_}
+use Prim.Native.Nat.{_+_}
 use lib.ListN.{length, take, set, replicate}
+use Rattle.basics.specs.Types.{Bytes, JournalBytes, Buffer, Byte, Count}
 use Rattle.basics.specs.Choice.{if_then_else_, _and_, _or_, _≤?_, _<?_, _=?_}
 use Rattle.session_record.specs.declared.CallResult.{CallResult}
 use Rattle.session_record.specs.Numbers.{outcomeNumber}
@@ -19,13 +20,13 @@ use Rattle.journal.specs.Record.{twoByteLength, zeroPadded, startRecordS
 use Rattle.journal.specs.Verdict.{ExpectedNext, expectedNext, expectedAtStart, recordJudged, firstRecordSize}
 
 -- more records than this no session has: 131 calls and their replies
-abbrev pub mostJournalRecords : ℕ
+abbrev pub mostJournalRecords : Count
 mostJournalRecords = 1000
 
 -- ---- what is expected
 
 -- a reply's record with the whole buffer in it
-abbrev pub replyRecordWithBuffer : CallResult → List ℕ → List ℕ
+abbrev pub replyRecordWithBuffer : CallResult → Buffer → Bytes
 replyRecordWithBuffer (CallResult.Command x) buf = 5 ∷ (twoByteLength (x .size) ++ buf)
 replyRecordWithBuffer (CallResult.Outcome e) buf = 6 ∷ outcomeNumber (e .outcome) ∷ e .reason ∷ []
 replyRecordWithBuffer (CallResult.Refused r) buf = []
@@ -36,7 +37,10 @@ expectedIn s = expectedNext (s .session) (take (s .size) (s .due))
 
 -- the standing in which this is expected
 abbrev pub checkStateOf : ExpectedNext → CheckState
-checkStateOf e = record { session = e .session; due = zeroPadded commandRecordSize (e .due); size = length (e .due); conforming = true }
+checkStateOf e =
+    record {
+      session = e .session; due = zeroPadded commandRecordSize (e .due); size = length (e .due); conforming = true
+    }
 
 -- after a record that was judged; after a mismatching one only its conformance changes
 abbrev pub checkStateBy : CheckState → Option ExpectedNext → CheckState
@@ -47,18 +51,23 @@ checkStateBy s (some e) = checkStateOf e
 
 -- nothing was fed
 unfoldable pub firstChecker : JournalChecker
-firstChecker = record { standing = checkStateOf expectedAtStart; held = replicate startRecordSize 0; length = 0; records = 0 }
+firstChecker =
+    record { standing = checkStateOf expectedAtStart; held = replicate startRecordSize 0; length = 0; records = 0 }
 
 -- no record was a mismatch, and every number is within its bound; else a checker stays as it is
 abbrev pub checkerContinues : JournalChecker → Bool
-checkerContinues c = c .standing .conforming and c .length <? startRecordSize and c .standing .size ≤? commandRecordSize and c .records <? mostJournalRecords
+checkerContinues c =
+    c .standing .conforming
+    and c .length <? startRecordSize
+    and c .standing .size ≤? commandRecordSize
+    and c .records <? mostJournalRecords
 
 -- the bytes h are held, one more than before
-abbrev pub checkerHolding : JournalChecker → List ℕ → JournalChecker
+abbrev pub checkerHolding : JournalChecker → Bytes → JournalChecker
 checkerHolding c h = record { standing = c .standing; held = h; length = c .length + 1; records = c .records }
 
 -- the record at the front of the bytes h is judged
-abbrev pub checkerJudging : JournalChecker → List ℕ → JournalChecker
+abbrev pub checkerJudging : JournalChecker → Bytes → JournalChecker
 checkerJudging c h =
     record {
       standing = checkStateBy (c .standing) (recordJudged (expectedIn (c .standing)) (take (firstRecordSize h) h));
@@ -68,30 +77,30 @@ checkerJudging c h =
     }
 
 -- a record is judged once it is whole; an unknown kind at once, as a record of no bytes
-unfoldable pub judgedIfWhole : JournalChecker → List ℕ → JournalChecker
+unfoldable pub judgedIfWhole : JournalChecker → Bytes → JournalChecker
 judgedIfWhole c h =
     if c .length + 1 <? firstRecordSize h then checkerHolding c h
     else checkerJudging c h
 
 -- one more byte
-unfoldable pub checkerPushed : JournalChecker → ℕ → JournalChecker
+unfoldable pub checkerPushed : JournalChecker → Byte → JournalChecker
 checkerPushed c b =
     if checkerContinues c then judgedIfWhole c (set (c .held) (c .length) b)
     else c
 
 -- bytes one by one
-unfoldable pub checkerPushedAll : JournalChecker → List ℕ → JournalChecker
+unfoldable pub checkerPushedAll : JournalChecker → JournalBytes → JournalChecker
 checkerPushedAll c [] = c
 checkerPushedAll c (b ∷ v) = checkerPushedAll (checkerPushed c b) v
 
 -- the checker has been fed the bytes s, in whatever parts
-abbrev pub CheckerFollows : JournalChecker → List ℕ → Type 0
+abbrev pub CheckerFollows : JournalChecker → JournalBytes → Type 0
 CheckerFollows c s = c ≡ checkerPushedAll firstChecker s
 
 -- ---- where the journal ends
 
 -- the number of the record that is held, after n others
-abbrev pub heldRecordNumber : ℕ → ℕ
+abbrev pub heldRecordNumber : Count → Count
 heldRecordNumber n =
     if n <? mostJournalRecords then n + 1
     else n
@@ -106,5 +115,6 @@ checkerVerdict c =
 -- what was expected where a record was a mismatch, of size 0 where none was
 unfoldable pub checkerExpected : JournalChecker → ExpectedRecord
 checkerExpected c =
-    if c .standing .conforming or commandRecordSize <? c .standing .size then record { bytes = replicate commandRecordSize 0; size = 0 }
+    if c .standing .conforming or commandRecordSize <? c .standing .size
+    then record { bytes = replicate commandRecordSize 0; size = 0 }
     else record { bytes = c .standing .due; size = c .standing .size }

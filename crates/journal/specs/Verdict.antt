@@ -3,8 +3,9 @@
 -- Assumes nothing.
 use mathlib.Core.List.{List, [], _∷_}
 use mathlib.Core.Option.{Option, some, none}
-use Prim.Native.Nat.{ℕ, zero, suc, _+_, _-_}
+use Prim.Native.Nat.{zero, suc, _+_, _-_}
 use lib.ListN.{length, getD, take, drop}
+use Rattle.basics.specs.Types.{Bytes, JournalBytes, Length, Count}
 use Rattle.basics.specs.Choice.{if_then_else_, _<?_, _=?_}
 use Rattle.basics.specs.Alike.{bytesEqual}
 use Rattle.basics.specs.Recursion.{recurse}
@@ -20,10 +21,10 @@ use Rattle.journal.specs.Record.{journalRecordSize, callFrom, journalRep
 -- the session so far, and the reply's record that comes next; empty where a call comes next
 pub record ExpectedNext : Type 0 where
   pub session : Session
-  pub due : List ℕ
+  pub due : Bytes
 
 -- the same as a function of the two
-abbrev pub expectedNext : Session → List ℕ → ExpectedNext
+abbrev pub expectedNext : Session → Bytes → ExpectedNext
 expectedNext s d = record { session = s; due = d }
 
 -- the session begins fresh, and a call comes first
@@ -33,7 +34,7 @@ expectedAtStart = expectedNext freshSession []
 -- ---- one whole record: what is expected after it, or none where it differs from what document 01 gives
 
 -- the reply of a call that is taken is expected; a refused call has none, and is itself a mismatch
-abbrev pub replyExpected : Session → List ℕ → Option ExpectedNext
+abbrev pub replyExpected : Session → Bytes → Option ExpectedNext
 replyExpected s [] = none
 replyExpected s (b ∷ d) = some (expectedNext s (b ∷ d))
 
@@ -47,71 +48,74 @@ callJudged s none = none
 callJudged s (some c) = replyExpectedAfter (callStep s c)
 
 -- where a call is expected, by the call; where a reply is expected, it must be that record byte for byte
-abbrev pub recordJudgedBy : Session → List ℕ → List ℕ → Option ExpectedNext
+abbrev pub recordJudgedBy : Session → Bytes → Bytes → Option ExpectedNext
 recordJudgedBy s [] r = callJudged s (callFrom r)
 recordJudgedBy s (b ∷ d) r =
     if bytesEqual r (b ∷ d) then some (expectedNext s [])
     else none
 
-abbrev pub recordJudged : ExpectedNext → List ℕ → Option ExpectedNext
+abbrev pub recordJudged : ExpectedNext → Bytes → Option ExpectedNext
 recordJudged e r = recordJudgedBy (e .session) (e .due) r
 
 -- ---- all bytes
 
+-- the verdict on bytes after n conforming records, by what is expected after them
+abbrev pub VerdictAfter : Type 0
+VerdictAfter = ExpectedNext → Count → JournalVerdict
+
 -- a mismatching record is named by its number n; after a conforming one the journal goes on
-abbrev pub verdictContinues : (ExpectedNext → JournalVerdict) → ℕ → Option ExpectedNext → JournalVerdict
+abbrev pub verdictContinues : (ExpectedNext → JournalVerdict) → Count → Option ExpectedNext → JournalVerdict
 verdictContinues k n none = JournalVerdict.Mismatch n
 verdictContinues k n (some e) = k e
 
 -- after n conforming records: the end is accepted; an unknown kind is a mismatch, even as the last byte; a record with
 -- fewer bytes than its kind has is truncated, whatever it holds; a whole one is judged, and k judges what follows it
-abbrev pub verdictNextRecord : (ExpectedNext → ℕ → List ℕ → JournalVerdict) → ExpectedNext → ℕ → List ℕ → JournalVerdict
-verdictNextRecord k e n [] = JournalVerdict.Accepted n
-verdictNextRecord k e n (b ∷ s) =
+abbrev pub verdictNextRecord : (JournalBytes → VerdictAfter) → JournalBytes → VerdictAfter
+verdictNextRecord k [] e n = JournalVerdict.Accepted n
+verdictNextRecord k (b ∷ s) e n =
     if journalRecordSize b =? 0 then JournalVerdict.Mismatch (n + 1)
     else if length (b ∷ s) <? journalRecordSize b then JournalVerdict.Truncated (n + 1)
-    else verdictContinues (λ t. k t (n + 1) (drop (journalRecordSize b) (b ∷ s))) (n + 1) (recordJudged e (take (journalRecordSize b) (b ∷ s)))
-
--- the same with the bytes first
-abbrev pub verdictNextBytes : (List ℕ → ExpectedNext → ℕ → JournalVerdict) → List ℕ → ExpectedNext → ℕ → JournalVerdict
-verdictNextBytes k s e n = verdictNextRecord (λ t m v. k v t m) e n s
+    else
+      verdictContinues (λ t. k (drop (journalRecordSize b) (b ∷ s)) t (n + 1)) (n + 1)
+      (recordJudged e (take (journalRecordSize b) (b ∷ s)))
 
 -- record after record
-unfoldable pub verdictFrom : ExpectedNext → ℕ → List ℕ → JournalVerdict
-verdictFrom e n s = recurse (λ e n. JournalVerdict.Accepted n) verdictNextBytes s e n
+unfoldable pub verdictFrom : ExpectedNext → Count → JournalBytes → JournalVerdict
+verdictFrom e n s = recurse (λ e n. JournalVerdict.Accepted n) verdictNextRecord s e n
 
 -- the verdict over a whole journal
-unfoldable pub journalVerdictOf : List ℕ → JournalVerdict
+unfoldable pub journalVerdictOf : JournalBytes → JournalVerdict
 journalVerdictOf s = verdictFrom expectedAtStart 0 s
 
 -- ---- the conforming record in place of a mismatching one
 
--- the size of the record that these bytes begin with
-abbrev pub firstRecordSize : List ℕ → ℕ
+-- the size of the record that these bytes begin with, by its kind
+abbrev pub firstRecordSize : JournalBytes → Length
 firstRecordSize s = journalRecordSize (getD s 0 0)
 
 -- what k says of what is expected after a record; nothing is expected after a mismatching one
-abbrev pub replyDueThen : (ExpectedNext → List ℕ) → Option ExpectedNext → List ℕ
+abbrev pub replyDueThen : (ExpectedNext → Bytes) → Option ExpectedNext → Bytes
 replyDueThen k none = []
 replyDueThen k (some e) = k e
 
 -- the reply's record that is expected after the first m records, where e is expected before them; no bytes
 -- where a call is
-unfoldable pub replyDueAfter : ℕ → ExpectedNext → List ℕ → List ℕ
+unfoldable pub replyDueAfter : Count → ExpectedNext → JournalBytes → Bytes
 replyDueAfter zero e s = e .due
-replyDueAfter (suc m) e s = replyDueThen (λ t. replyDueAfter m t (drop (firstRecordSize s) s)) (recordJudged e (take (firstRecordSize s) s))
+replyDueAfter (suc m) e s =
+    replyDueThen (λ t. replyDueAfter m t (drop (firstRecordSize s) s)) (recordJudged e (take (firstRecordSize s) s))
 
 -- where record n is a mismatch and a reply was expected, that reply's record; else no bytes: where a call was expected,
 -- either no record would be conforming or more than one
-abbrev pub expectedReplyBy : List ℕ → JournalVerdict → List ℕ
+abbrev pub expectedReplyBy : JournalBytes → JournalVerdict → Bytes
 expectedReplyBy s (JournalVerdict.Accepted n) = []
 expectedReplyBy s (JournalVerdict.Mismatch n) = replyDueAfter (n - 1) expectedAtStart s
 expectedReplyBy s (JournalVerdict.Truncated n) = []
 
 -- the one conforming record in place of the first mismatching one of a whole journal
-unfoldable pub expectedReplyOf : List ℕ → List ℕ
+unfoldable pub expectedReplyOf : JournalBytes → Bytes
 expectedReplyOf s = expectedReplyBy s (journalVerdictOf s)
 
--- ---- what holds of it, proved in proofs/
---   unroll             verdictFrom e n s ≡ nextRecord verdictFrom e n s
--- What a verdict reports of the calls that a conforming kernel takes is in Written.antt.
+-- ---- what holds of it, proved in proofs/Walk and proofs/Exact
+--   unroll             the bound of the recursion does not matter
+--   exact              the verdict is v exactly where `VerdictOn` holds of v (ConformingRecords.antt)

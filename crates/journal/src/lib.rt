@@ -33,14 +33,15 @@ use session_record::Reply;
 use session_record::Session;
 ghost use mathlib.Core.Path.{_≡_};
 ghost use mathlib.Core.List.{List, [], _∷_, _++_};
-ghost use mathlib.Core.Option.{none};
+ghost use mathlib.Core.Option.{some, none};
 ghost use Prim.Native.Nat.{ℕ, _+_, _≤_, _<_};
 ghost use lib.ListN.{length, getD, take};
 ghost use Rattle.basics.specs.Choice.{every};
 ghost use Rattle.store.specs.Held.{isZeroByte};
 ghost use Rattle.session_record.specs.Numbers.{outcomeNumber};
 ghost use Rattle.journal.specs.Record.{journalRecordSize, twoByteLength, recordLength, recordFits as fitsIn, isLongAnswer, startCallFrom, answerCallFrom, callFrom};
-ghost use Rattle.journal.specs.Record.{linkFailedFrom, stopCallFrom};
+ghost use Rattle.journal.specs.Record.{journalBuffer};
+ghost use Rattle.session.specs.Calls.{link-failed as linkFailedCall, stop as stopCall};
 ghost use Rattle.journal.specs.Verdict.{expectedNext, replyExpected as repliedOf, callJudged as calledOf, recordJudged, journalVerdictOf, expectedReplyOf};
 ghost use Rattle.journal.specs.ConformingRecords.{AllBytes, VerdictSays, ConformingBytes, ConformingAccepted, AcceptedFew, ExpectedOnly, ExpectedAtEven};
 ghost use Rattle.journal.specs.Inner.{replyRecordWithBuffer, expectedIn, checkStateOf, checkStateBy};
@@ -318,7 +319,7 @@ fn answered(standing: CheckState, whole: &[u8]) -> CheckState
 
 // The link failed.
 fn link_failed(standing: CheckState) -> CheckState
-    ensures { λ r. ⌜ r ≡ checkStateBy standing (calledOf (standing .session) linkFailedFrom) ⌝ }
+    ensures { λ r. ⌜ r ≡ checkStateBy standing (calledOf (standing .session) (some (linkFailedCall journalBuffer))) ⌝ }
 {
     let session = standing.session;
     let mut buffer = [0u8; MOST_COMMAND];
@@ -328,7 +329,7 @@ fn link_failed(standing: CheckState) -> CheckState
 
 // A stop.
 fn stopped(standing: CheckState) -> CheckState
-    ensures { λ r. ⌜ r ≡ checkStateBy standing (calledOf (standing .session) stopCallFrom) ⌝ }
+    ensures { λ r. ⌜ r ≡ checkStateBy standing (calledOf (standing .session) (some (stopCall journalBuffer))) ⌝ }
 {
     let session = standing.session;
     let mut buffer = [0u8; MOST_COMMAND];

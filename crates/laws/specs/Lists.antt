@@ -4,16 +4,17 @@ use mathlib.Core.Path.{_≡_}
 use mathlib.Core.List.{List}
 use mathlib.Core.Option.{some}
 use Prim.Native.Nat.{ℕ}
+use Rattle.basics.specs.Types.{StoreBytes, DolBytes, Value, Bytes, Length}
 use Rattle.dictionary.specs.Rows.{Row}
 use Rattle.dol.specs.Filling.{padded, fittedTo, dolFilled}
 
 -- the bytes s are a well-formed DOL, and v is its filling from a store; how long v is plays no part
-abbrev pub FillsDol : List Row → List ℕ → List ℕ → List ℕ → Type 0
+abbrev pub FillsDol : List Row → StoreBytes → DolBytes → Bytes → Type 0
 FillsDol table store s v = dolFilled table store s ≡ some v
 
 -- a value v brought to m bytes and then to n is v brought to n at once: as padding alone, and as filling does it, which
 -- truncates a value that is too long
-pub record PaddedOnce (form m n : ℕ) (v : List ℕ) : Type 0 where
+pub record PaddedOnce (form : ℕ) (m n : Length) (v : Value) : Type 0 where
   pub padding : padded form n (padded form m v) ≡ padded form n v
   pub fitting : fittedTo form n (fittedTo form m v) ≡ fittedTo form n v
 

@@ -7,6 +7,7 @@ use mathlib.Core.Bool.{Bool, true, false}
 use mathlib.Core.List.{List}
 use Prim.Native.Nat.{ℕ, _≤_, _<_}
 use lib.ListN.{getD}
+use Rattle.basics.specs.Types.{Value, StoreBytes, TvrBytes, Tag}
 use Rattle.basics.specs.Choice.{_or_, _=?_}
 use Rattle.store.specs.Place.{absent, present, objectValue}
 use Rattle.store.specs.Held.{storedBytes}
@@ -21,15 +22,15 @@ use Rattle.laws.specs.Rank.{choiceRank}
 
 -- the second value is the first with bits added, or with none: each of the forty bits, byte 1 b8 to byte 5 b1, that
 -- the first has is in the second too
-abbrev pub BitsWithin : List ℕ → List ℕ → Type 0
+abbrev pub BitsWithin : Value → Value → Type 0
 BitsWithin s t = (i : ℕ) → i < 40 → numberedBit s i ≡ true → numberedBit t i ≡ true
 
 -- all forty bits are set
-abbrev pub AllSet : List ℕ → Type 0
+abbrev pub AllSet : Value → Type 0
 AllSet s = (i : ℕ) → i < 40 → numberedBit s i ≡ true
 
 -- none of the forty bits is set
-abbrev pub NoneSet : List ℕ → Type 0
+abbrev pub NoneSet : Value → Type 0
 NoneSet s = (i : ℕ) → i < 40 → numberedBit s i ≡ false
 
 -- of two pairs, the card's code and the terminal's
@@ -39,20 +40,21 @@ pub record ActionCodesWithin (p q : ActionCodes) : Type 0 where
 
 -- at each of the three stages
 abbrev pub StagesWithin : List ActionCodes → List ActionCodes → Type 0
-StagesWithin ps qs = (stage : ℕ) → stage < 3 → ActionCodesWithin (getD ps stage noActionCodes) (getD qs stage noActionCodes)
+StagesWithin ps qs =
+    (stage : ℕ) → stage < 3 → ActionCodesWithin (getD ps stage noActionCodes) (getD qs stage noActionCodes)
 
 -- ---- codes of a store, as they are read
 
 -- the card's code of a stage under its tag: zeros for denial and ones for the others where it is absent
-abbrev pub iacRead : List ℕ → ℕ → ℕ → List ℕ
+abbrev pub iacRead : StoreBytes → ℕ → Tag → Value
 iacRead store stage tag = iacCode stage (objectValue store tag)
 
 -- the terminal's code under its tag: zeros where it is absent, which no running session's is
-abbrev pub tacRead : List ℕ → ℕ → List ℕ
+abbrev pub tacRead : StoreBytes → Tag → Value
 tacRead store tag = firstBytes 5 (storedBytes store tag)
 
 -- each of the six codes of the old store b is contained in the new store c's; stages and tags are document 01's pairs
-pub record CodesWithin (b c : List ℕ) : Type 0 where
+pub record CodesWithin (b c : StoreBytes) : Type 0 where
   pub card-denial      : BitsWithin (iacRead b denialStage 0x9F0E) (iacRead c denialStage 0x9F0E)
   pub card-online      : BitsWithin (iacRead b onlineStage 0x9F0F) (iacRead c onlineStage 0x9F0F)
   pub card-default     : BitsWithin (iacRead b defaultStage 0x9F0D) (iacRead c defaultStage 0x9F0D)
@@ -61,41 +63,45 @@ pub record CodesWithin (b c : List ℕ) : Type 0 where
   pub terminal-default : BitsWithin (tacRead b 0xDF8120) (tacRead c 0xDF8120)
 
 -- a tag is one of the six codes'
-abbrev pub isActionCode : ℕ → Bool
+abbrev pub isActionCode : Tag → Bool
 isActionCode tag =
     tag =? 0x9F0E or tag =? 0x9F0F or tag =? 0x9F0D
     or tag =? 0xDF8121 or tag =? 0xDF8122 or tag =? 0xDF8120
 
 -- two stores are alike but for the six codes
-abbrev pub AlikeButCodes : List ℕ → List ℕ → Type 0
-AlikeButCodes b c = (tag : ℕ) → isActionCode tag ≡ false → objectValue b tag ≡ objectValue c tag
+abbrev pub AlikeButCodes : StoreBytes → StoreBytes → Type 0
+AlikeButCodes b c = (tag : Tag) → isActionCode tag ≡ false → objectValue b tag ≡ objectValue c tag
 
 -- ---- what `choice_rank` promises
 
 -- added bits never raise the choice. Old are the TVR r, the pairs ps and the store b; new are s, qs and c
 pub record NeverLoosens : Type 0 where
   -- over any TVR, type and pairs of codes
-  pub lists : (r s : List ℕ) (kind : ℕ) (ps qs : List ActionCodes) → BitsWithin r s → StagesWithin ps qs
+  pub lists : (r s : TvrBytes) (kind : ℕ) (ps qs : List ActionCodes) → BitsWithin r s → StagesWithin ps qs
       → choiceRank (choiceOf s kind qs) ≤ choiceRank (choiceOf r kind ps)
   -- over any two stores of one terminal type, on any TVR
-  pub stores : (r s b c : List ℕ) → terminalType c ≡ terminalType b → BitsWithin r s → CodesWithin b c
+  pub stores : (r s : TvrBytes) (b c : StoreBytes) → terminalType c ≡ terminalType b → BitsWithin r s → CodesWithin b c
       → choiceRank (choiceFor c s) ≤ choiceRank (choiceFor b r)
   -- over any two stores alike but for the codes, on the TVR that is found in each: what a session requests
-  pub codes-alone : (b c : List ℕ) → AlikeButCodes b c → CodesWithin b c
+  pub codes-alone : (b c : StoreBytes) → AlikeButCodes b c → CodesWithin b c
       → choiceRank (choiceFor c (findingsOf c .bits)) ≤ choiceRank (choiceFor b (findingsOf b .bits))
+
+-- a card's code of a stage that appears with the value v, and one that goes away, is an addition
+abbrev pub IacAppears : ℕ → Value → Type 0
+IacAppears stage v = BitsWithin (iacCode stage absent) (iacCode stage (present v))
+
+abbrev pub IacLeaves : ℕ → Value → Type 0
+IacLeaves stage v = BitsWithin (iacCode stage (present v)) (iacCode stage absent)
 
 -- whether a card's code that appears, or goes away, is an addition; a stage other than denial is online or default
 pub record AbsentCodes : Type 0 where
   -- a denial code that appears always is
-  pub denial-appears : (v : List ℕ) → BitsWithin (iacCode denialStage absent) (iacCode denialStage (present v))
+  pub denial-appears : (v : Value) → IacAppears denialStage v
   -- a denial code that goes away is an addition where it has no bit, and only there
-  pub denial-leaves : (v : List ℕ) → NoneSet (firstBytes 5 v) → BitsWithin (iacCode denialStage (present v)) (iacCode denialStage absent)
-  pub only-zeros : (v : List ℕ) → BitsWithin (iacCode denialStage (present v)) (iacCode denialStage absent) → NoneSet (firstBytes 5 v)
+  pub denial-leaves : (v : Value) → NoneSet (firstBytes 5 v) → IacLeaves denialStage v
+  pub only-zeros : (v : Value) → IacLeaves denialStage v → NoneSet (firstBytes 5 v)
   -- an online or default code that appears is an addition where it is all ones, and only there
-  pub other-appears : (stage : ℕ) (v : List ℕ) → (stage ≡ denialStage → ⊥) → AllSet (firstBytes 5 v)
-      → BitsWithin (iacCode stage absent) (iacCode stage (present v))
-  pub only-ones : (stage : ℕ) (v : List ℕ) → (stage ≡ denialStage → ⊥)
-      → BitsWithin (iacCode stage absent) (iacCode stage (present v)) → AllSet (firstBytes 5 v)
+  pub other-appears : (stage : ℕ) (v : Value) → (stage ≡ denialStage → ⊥) → AllSet (firstBytes 5 v) → IacAppears stage v
+  pub only-ones : (stage : ℕ) (v : Value) → (stage ≡ denialStage → ⊥) → IacAppears stage v → AllSet (firstBytes 5 v)
   -- an online or default code that goes away always is an addition
-  pub other-leaves : (stage : ℕ) (v : List ℕ) → (stage ≡ denialStage → ⊥)
-      → BitsWithin (iacCode stage (present v)) (iacCode stage absent)
+  pub other-leaves : (stage : ℕ) (v : Value) → (stage ≡ denialStage → ⊥) → IacLeaves stage v

@@ -23,7 +23,7 @@ use Rattle.session.specs.Steps.{withTvr, withFindings}
 use Rattle.session.specs.MagStripe.{askChecksum, afterRecordsMagStripe, storeWithDigits, afterChecksumRead, checksumOutcomeOf, checksumReply}
 use Rattle.session.specs.Answer.{gpoStoreReason, afterGpoRead, gpoStep, recordStep, afterRecordRead, afterLastRecord, afterRecordsEmv, afterAnalysis, requestedCryptogram, askCryptogram, cryptogramOutcome, cryptogramEnding, cryptogramReply}
 use Rattle.worked_examples.specs.Checksum.{ChecksumExamples, waitsOnSound, waitsOnUnsound}
-use Rattle.worked_examples.proofs.Laws.{each-in, says-in, stored-in}
+use Rattle.worked_examples.proofs.Laws.{each-in, says-in, order-in, before-in, stored-in}
 use Rattle.worked_examples.proofs.Ranges.{kept}
 
 pub on-checksum : ChecksumExamples
@@ -33,32 +33,13 @@ unfolding recurse recurseBy if both either every bigEndianFrom nibbles tagSize t
     bitmapPlaces inside canTakeDigits trackDigits lowestDigits digitsWritten trackWithDigits outcomeOfReason isPresentIfRequired allRequiredPresent cryptogramDataPresent trackDataPresent withTvr withFindings askChecksum afterRecordsMagStripe storeWithDigits afterChecksumRead
     checksumOutcomeOf checksumReply gpoStoreReason afterGpoRead gpoStep recordStep afterRecordRead afterLastRecord afterRecordsEmv afterAnalysis requestedCryptogram askCryptogram cryptogramOutcome cryptogramEnding cryptogramReply
 on-checksum = record {
-  length-status = says-in waitsOnSound (kept .sound) _ refl;
-  length-objects = says-in waitsOnSound (kept .sound) _ refl;
-  length-track = says-in waitsOnUnsound (kept .unsound) _ refl;
-  length-missing = says-in waitsOnSound (kept .sound) _ refl;
-  length-declined = says-in waitsOnSound (kept .sound) _ refl;
-  status-encoding = says-in waitsOnSound (kept .sound) _ refl;
-  status-outer-tag = says-in waitsOnSound (kept .sound) _ refl;
-  status-objects = says-in waitsOnSound (kept .sound) _ refl;
-  status-track = says-in waitsOnUnsound (kept .unsound) _ refl;
-  status-missing = says-in waitsOnSound (kept .sound) _ refl;
-  status-declined = says-in waitsOnSound (kept .sound) _ refl;
-  encoding-objects = says-in waitsOnSound (kept .sound) _ refl;
-  encoding-track = says-in waitsOnUnsound (kept .unsound) _ refl;
-  encoding-missing = says-in waitsOnSound (kept .sound) _ refl;
-  encoding-declined = says-in waitsOnSound (kept .sound) _ refl;
-  outer-tag-objects = says-in waitsOnSound (kept .sound) _ refl;
-  outer-tag-track = says-in waitsOnUnsound (kept .unsound) _ refl;
-  outer-tag-missing = says-in waitsOnSound (kept .sound) _ refl;
-  outer-tag-declined = says-in waitsOnSound (kept .sound) _ refl;
-  objects-missing = says-in waitsOnSound (kept .sound) _ refl;
-  objects-declined = says-in waitsOnSound (kept .sound) _ refl;
-  track-missing = says-in waitsOnUnsound (kept .unsound) _ refl;
-  track-declined = says-in waitsOnUnsound (kept .unsound) _ refl;
+  reading = order-in waitsOnSound (kept .sound) _ _ _ refl refl refl refl refl refl refl refl;
+  track = before-in waitsOnUnsound (kept .unsound) _ _ _ refl refl refl refl refl;
+  missing = before-in waitsOnSound (kept .sound) _ _ _ refl refl refl refl refl;
+  declined = before-in waitsOnSound (kept .sound) _ _ _ refl refl refl refl refl;
+  track-others = each-in waitsOnUnsound (kept .unsound) _ refl;
   missing-declined = says-in waitsOnSound (kept .sound) _ refl;
-  track-alone = says-in waitsOnUnsound (kept .unsound) _ refl;
-  others-alone = each-in waitsOnSound (kept .sound) _ refl;
+  alone = each-in waitsOnSound (kept .sound) _ refl;
   digits = stored-in waitsOnSound (kept .sound) _ _ refl;
   under80 = says-in waitsOnSound (kept .sound) _ refl;
 }

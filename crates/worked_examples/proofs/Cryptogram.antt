@@ -21,7 +21,7 @@ use Rattle.session.specs.Steps.{withTvr, withFindings}
 use Rattle.session.specs.Answer.{gpoStoreReason, afterGpoRead, gpoStep, recordStep, afterRecordRead, afterLastRecord, afterRecordsEmv, afterAnalysis, requestedCryptogram, askCryptogram, cryptogramOutcome, cryptogramEnding, cryptogramReply}
 use Rattle.worked_examples.specs.Sessions.{waitsOnCryptogram}
 use Rattle.worked_examples.specs.Cryptogram.{CryptogramExamples, waitsOnArqc}
-use Rattle.worked_examples.proofs.Laws.{each-in, says-in, stored-in}
+use Rattle.worked_examples.proofs.Laws.{each-in, says-in, order-in, before-in, stored-in}
 use Rattle.worked_examples.proofs.Ranges.{kept}
 
 pub on-cryptogram : CryptogramExamples
@@ -34,26 +34,11 @@ on-cryptogram = record {
   decline-asked = each-in (waitsOnCryptogram Choice.Decline) (kept .cryptogram Choice.Decline) _ refl;
   online-asked = each-in waitsOnArqc (kept .cryptogram Choice.Online) _ refl;
   offline-asked = each-in (waitsOnCryptogram Choice.Offline) (kept .cryptogram Choice.Offline) _ refl;
-  length-status = says-in waitsOnArqc (kept .cryptogram Choice.Online) _ refl;
-  length-objects = says-in waitsOnArqc (kept .cryptogram Choice.Online) _ refl;
-  length-missing = says-in waitsOnArqc (kept .cryptogram Choice.Online) _ refl;
-  length-type = says-in waitsOnArqc (kept .cryptogram Choice.Online) _ refl;
-  status-encoding = says-in waitsOnArqc (kept .cryptogram Choice.Online) _ refl;
-  status-outer-tag = says-in waitsOnArqc (kept .cryptogram Choice.Online) _ refl;
-  status-objects = says-in waitsOnArqc (kept .cryptogram Choice.Online) _ refl;
-  status-missing = says-in waitsOnArqc (kept .cryptogram Choice.Online) _ refl;
-  status-type = says-in waitsOnArqc (kept .cryptogram Choice.Online) _ refl;
-  encoding-objects = says-in waitsOnArqc (kept .cryptogram Choice.Online) _ refl;
-  encoding-missing = says-in waitsOnArqc (kept .cryptogram Choice.Online) _ refl;
-  encoding-type = says-in waitsOnArqc (kept .cryptogram Choice.Online) _ refl;
-  outer-tag-objects = says-in waitsOnArqc (kept .cryptogram Choice.Online) _ refl;
-  outer-tag-missing = says-in waitsOnArqc (kept .cryptogram Choice.Online) _ refl;
-  outer-tag-type = says-in waitsOnArqc (kept .cryptogram Choice.Online) _ refl;
+  reading = order-in waitsOnArqc (kept .cryptogram Choice.Online) _ _ _ refl refl refl refl refl refl refl refl;
+  missing = before-in waitsOnArqc (kept .cryptogram Choice.Online) _ _ _ refl refl refl refl refl;
+  cryptogram-type = before-in waitsOnArqc (kept .cryptogram Choice.Online) _ _ _ refl refl refl refl refl;
   body-type = says-in waitsOnArqc (kept .cryptogram Choice.Online) _ refl;
-  objects-missing = says-in waitsOnArqc (kept .cryptogram Choice.Online) _ refl;
-  objects-type = says-in waitsOnArqc (kept .cryptogram Choice.Online) _ refl;
-  missing-type = says-in waitsOnArqc (kept .cryptogram Choice.Online) _ refl;
-  missing-declined = each-in waitsOnArqc (kept .cryptogram Choice.Online) _ refl;
+  missing-others = each-in waitsOnArqc (kept .cryptogram Choice.Online) _ refl;
   under80-says = says-in waitsOnArqc (kept .cryptogram Choice.Online) _ refl;
   under80-9F27 = stored-in waitsOnArqc (kept .cryptogram Choice.Online) _ _ refl;
   under80-9F36 = stored-in waitsOnArqc (kept .cryptogram Choice.Online) _ _ refl;

@@ -26,7 +26,7 @@ use Rattle.session.specs.Steps.{withTvr, withFindings}
 use Rattle.session.specs.Answer.{gpoStoreReason, afterGpoRead, gpoStep, recordStep, afterRecordRead, afterLastRecord, afterRecordsEmv, afterAnalysis, requestedCryptogram, askCryptogram, cryptogramOutcome, cryptogramEnding, cryptogramReply}
 use Rattle.worked_examples.specs.Sessions.{waitsOnGpo}
 use Rattle.worked_examples.specs.Gpo.{GpoExamples}
-use Rattle.worked_examples.proofs.Laws.{each-in, says-in}
+use Rattle.worked_examples.proofs.Laws.{each-in, says-in, order-in, before-in}
 use Rattle.worked_examples.proofs.Ranges.{kept}
 
 pub on-gpo : GpoExamples
@@ -37,29 +37,11 @@ unfolding recurse recurseBy if both either every bigEndianFrom nibbles tagSize t
     tvrOf sameCurrency cvmConditionsIn cvmResultIn tvrWithCvm findingsOf actionCodesOf choiceFor outcomeOfReason isPresentIfRequired allRequiredPresent cryptogramDataPresent trackDataPresent withTvr withFindings gpoStoreReason afterGpoRead
     gpoStep recordStep afterRecordRead afterLastRecord afterRecordsEmv afterAnalysis requestedCryptogram askCryptogram cryptogramOutcome cryptogramEnding cryptogramReply
 on-gpo = record {
-  length-status = says-in waitsOnGpo (kept .gpo) _ refl;
-  length-objects = says-in waitsOnGpo (kept .gpo) _ refl;
-  length-missing = says-in waitsOnGpo (kept .gpo) _ refl;
-  length-mode = says-in waitsOnGpo (kept .gpo) _ refl;
-  length-afl = says-in waitsOnGpo (kept .gpo) _ refl;
-  status-encoding = says-in waitsOnGpo (kept .gpo) _ refl;
-  status-outer-tag = says-in waitsOnGpo (kept .gpo) _ refl;
-  status-objects = says-in waitsOnGpo (kept .gpo) _ refl;
-  status-missing = says-in waitsOnGpo (kept .gpo) _ refl;
-  status-mode = says-in waitsOnGpo (kept .gpo) _ refl;
-  status-afl = says-in waitsOnGpo (kept .gpo) _ refl;
-  encoding-objects = says-in waitsOnGpo (kept .gpo) _ refl;
-  encoding-missing = says-in waitsOnGpo (kept .gpo) _ refl;
-  encoding-mode = says-in waitsOnGpo (kept .gpo) _ refl;
-  encoding-afl = says-in waitsOnGpo (kept .gpo) _ refl;
-  outer-tag-objects = says-in waitsOnGpo (kept .gpo) _ refl;
-  outer-tag-missing = says-in waitsOnGpo (kept .gpo) _ refl;
-  outer-tag-mode = says-in waitsOnGpo (kept .gpo) _ refl;
-  outer-tag-afl = says-in waitsOnGpo (kept .gpo) _ refl;
+  reading = order-in waitsOnGpo (kept .gpo) _ _ _ refl refl refl refl refl refl refl refl;
+  missing = before-in waitsOnGpo (kept .gpo) _ _ _ refl refl refl refl refl;
+  mode = before-in waitsOnGpo (kept .gpo) _ _ _ refl refl refl refl refl;
+  afl = before-in waitsOnGpo (kept .gpo) _ _ _ refl refl refl refl refl;
   body-mode = says-in waitsOnGpo (kept .gpo) _ refl;
-  objects-missing = says-in waitsOnGpo (kept .gpo) _ refl;
-  objects-mode = says-in waitsOnGpo (kept .gpo) _ refl;
-  objects-afl = says-in waitsOnGpo (kept .gpo) _ refl;
   missing-mode = says-in waitsOnGpo (kept .gpo) _ refl;
   missing-afl = says-in waitsOnGpo (kept .gpo) _ refl;
   mode-afl = says-in waitsOnGpo (kept .gpo) _ refl;

@@ -2,7 +2,7 @@
 -- the ranges alone: so each example computes one step, and the ranges are shown once a session. Assumes nothing.
 use mathlib.Core.Path.{_≡_, ap, _∙_}
 use mathlib.Core.Bool.{true, false}
-use mathlib.Core.List.{List, map}
+use mathlib.Core.List.{List, [], map, _++_}
 use Prim.Native.Nat.{ℕ, _≤_, _<_}
 use lib.Dec.{lit≤, lit<}
 use lib.ListN.{length}
@@ -16,8 +16,11 @@ use Rattle.session.specs.Steps.{Step, leastBuffer, endsRunning}
 use Rattle.session.specs.Start.{startIn}
 use Rattle.session.specs.Answer.{answerIn}
 use Rattle.session.proofs.Laws.{admitted-short, admitted-ranges, admitted-in}
-use Rattle.session.specs.Calls.{commandSent}
-use Rattle.worked_examples.specs.Calls.{fullBuffer, shortBuffer, startResult, answerResult, linkResult, stopResult, refusalResult, resultOn, resultsOn, startCommand, commandOn, valueAfter}
+use Rattle.session.specs.Calls.{start, answer, link-failed, stop, commandSent}
+use Rattle.tlv.specs.Encoding.{objectBytes}
+use Rattle.worked_examples.specs.Calls.{fullBuffer, shortBuffer, refusalResult, resultOf, resultOn, resultsOn, commandOf, valueAfter}
+use Rattle.worked_examples.specs.Calls.{with9000, with6A82, answerOf259Bytes, tooLongAnswer, truncatedObject, byteBehind, wrappedBody, tvrFromCard}
+use Rattle.worked_examples.specs.ReadingOrder.{ReadingOrder, ReadingBefore}
 
 enough : leastBuffer ≤ length fullBuffer
 enough = lit≤ tt
@@ -34,20 +37,20 @@ handed st = commandSent (st .reply .answer) (st .buffer)
 -- ---- in the ranges
 
 module _ (s : Session) (i : inRanges s ≡ true) where
-  pub start-in : (bytes : List ℕ) {a : CallResult} → told (startIn (s .phase) s bytes fullBuffer) ≡ a → startResult s bytes fullBuffer ≡ a
-  unfolding startResult
+  pub start-in : (bytes : List ℕ) {a : CallResult} → told (startIn (s .phase) s bytes fullBuffer) ≡ a → resultOf s (start bytes fullBuffer) ≡ a
+  unfolding resultOf
   start-in bytes e = ap told (admitted-in s fullBuffer _ enough i) ∙ e
 
-  pub answer-in : (card : List ℕ) {a : CallResult} → told (answerIn (s .phase) s card fullBuffer) ≡ a → answerResult s card fullBuffer ≡ a
-  unfolding answerResult
+  pub answer-in : (card : List ℕ) {a : CallResult} → told (answerIn (s .phase) s card fullBuffer) ≡ a → resultOf s (answer card fullBuffer) ≡ a
+  unfolding resultOf
   answer-in card e = ap told (admitted-in s fullBuffer _ enough i) ∙ e
 
-  pub link-in : {a : CallResult} → told (endsRunning (s .phase) s reasonLink fullBuffer) ≡ a → linkResult s fullBuffer ≡ a
-  unfolding linkResult
+  pub link-in : {a : CallResult} → told (endsRunning (s .phase) s reasonLink fullBuffer) ≡ a → resultOf s (link-failed fullBuffer) ≡ a
+  unfolding resultOf
   link-in e = ap told (admitted-in s fullBuffer _ enough i) ∙ e
 
-  pub stop-in : {a : CallResult} → told (endsRunning (s .phase) s reasonStopped fullBuffer) ≡ a → stopResult s fullBuffer ≡ a
-  unfolding stopResult
+  pub stop-in : {a : CallResult} → told (endsRunning (s .phase) s reasonStopped fullBuffer) ≡ a → resultOf s (stop fullBuffer) ≡ a
+  unfolding resultOf
   stop-in e = ap told (admitted-in s fullBuffer _ enough i) ∙ e
 
   pub says-in : (card : List ℕ) {a : CallResult} → told (answerIn (s .phase) s card fullBuffer) ≡ a → resultOn s card ≡ a
@@ -58,12 +61,12 @@ module _ (s : Session) (i : inRanges s ≡ true) where
   unfolding resultsOn resultOn
   each-in cards e = (λ k. map (λ card. told (admitted-in s fullBuffer (answerIn (s .phase) s card fullBuffer) enough i k)) cards) ∙ e
 
-  pub start-sends-in : (bytes : List ℕ) {c : List (List ℕ)} → handed (startIn (s .phase) s bytes fullBuffer) ≡ c → startCommand s bytes ≡ c
-  unfolding startCommand
+  pub start-sends-in : (bytes : List ℕ) {c : List (List ℕ)} → handed (startIn (s .phase) s bytes fullBuffer) ≡ c → commandOf s (start bytes fullBuffer) ≡ c
+  unfolding commandOf
   start-sends-in bytes e = ap handed (admitted-in s fullBuffer _ enough i) ∙ e
 
-  pub sends-in : (card : List ℕ) {c : List (List ℕ)} → handed (answerIn (s .phase) s card fullBuffer) ≡ c → commandOn s card ≡ c
-  unfolding commandOn
+  pub sends-in : (card : List ℕ) {c : List (List ℕ)} → handed (answerIn (s .phase) s card fullBuffer) ≡ c → commandOf s (answer card fullBuffer) ≡ c
+  unfolding commandOf
   sends-in card e = ap handed (admitted-in s fullBuffer _ enough i) ∙ e
 
   pub stored-in : (card : List ℕ) (tag : ℕ) {v : StoredValue} → objectValue (storeBytes (answerIn (s .phase) s card fullBuffer .reply .session)) tag ≡ v
@@ -71,40 +74,67 @@ module _ (s : Session) (i : inRanges s ≡ true) where
   unfolding valueAfter
   stored-in card tag e = ap (λ (x : Step). objectValue (storeBytes (x .reply .session)) tag) (admitted-in s fullBuffer _ enough i) ∙ e
 
+  -- the order of a reading's reasons, each answer by its own step
+  abbrev stepOn : List ℕ → CallResult
+  stepOn card = told (answerIn (s .phase) s card fullBuffer)
+
+  pub order-in : (outer other : ℕ) (ended : ℕ → CallResult) → stepOn tooLongAnswer ≡ ended 2 → stepOn (answerOf259Bytes outer tvrFromCard) ≡ ended 2
+      → stepOn (with6A82 (truncatedObject outer)) ≡ ended 1 → stepOn (with6A82 (objectBytes other [])) ≡ ended 1 → stepOn (with6A82 (objectBytes outer tvrFromCard)) ≡ ended 1
+      → stepOn (with9000 (byteBehind (objectBytes outer tvrFromCard))) ≡ ended 2 → stepOn (with9000 (objectBytes other tvrFromCard)) ≡ ended 2
+      → stepOn (with9000 (objectBytes other [])) ≡ ended 2 → ReadingOrder s outer other ended
+  order-in outer other ended a b c d e f g h =
+      record {
+        length-status = says-in _ a;
+        length-objects = says-in _ b;
+        status-encoding = says-in _ c;
+        status-outer-tag = says-in _ d;
+        status-objects = says-in _ e;
+        encoding-objects = says-in _ f;
+        outer-tag-objects = says-in _ g;
+        outer-tag-missing = says-in _ h;
+      }
+
+  pub before-in : (outer : ℕ) (contents : List ℕ) (ended : ℕ → CallResult) → stepOn (answerOf259Bytes outer contents) ≡ ended 2
+      → stepOn (with6A82 (objectBytes outer contents)) ≡ ended 1 → stepOn (with9000 (byteBehind (objectBytes outer contents))) ≡ ended 2
+      → stepOn (with9000 (wrappedBody (objectBytes outer contents))) ≡ ended 2 → stepOn (with9000 (objectBytes outer (contents ++ tvrFromCard))) ≡ ended 3
+      → ReadingBefore s outer contents ended
+  before-in outer contents ended a b c d e =
+      record { length = says-in _ a; status = says-in _ b; encoding = says-in _ c; outer-tag = says-in _ d; objects = says-in _ e }
+
 -- ---- out of them
 
 module _ (s : Session) (o : inRanges s ≡ false) where
-  pub start-out : (bytes : List ℕ) → startResult s bytes fullBuffer ≡ refusalResult 25
-  unfolding startResult
+  pub start-out : (bytes : List ℕ) → resultOf s (start bytes fullBuffer) ≡ refusalResult 25
+  unfolding resultOf
   start-out bytes = ap told (admitted-ranges s fullBuffer _ enough o)
 
-  pub answer-out : (card : List ℕ) → answerResult s card fullBuffer ≡ refusalResult 25
-  unfolding answerResult
+  pub answer-out : (card : List ℕ) → resultOf s (answer card fullBuffer) ≡ refusalResult 25
+  unfolding resultOf
   answer-out card = ap told (admitted-ranges s fullBuffer _ enough o)
 
-  pub link-out : linkResult s fullBuffer ≡ refusalResult 25
-  unfolding linkResult
+  pub link-out : resultOf s (link-failed fullBuffer) ≡ refusalResult 25
+  unfolding resultOf
   link-out = ap told (admitted-ranges s fullBuffer _ enough o)
 
-  pub stop-out : stopResult s fullBuffer ≡ refusalResult 25
-  unfolding stopResult
+  pub stop-out : resultOf s (stop fullBuffer) ≡ refusalResult 25
+  unfolding resultOf
   stop-out = ap told (admitted-ranges s fullBuffer _ enough o)
 
 -- ---- a buffer that is too short
 
 module _ (s : Session) where
-  pub start-short : (bytes : List ℕ) → startResult s bytes shortBuffer ≡ refusalResult 22
-  unfolding startResult
+  pub start-short : (bytes : List ℕ) → resultOf s (start bytes shortBuffer) ≡ refusalResult 22
+  unfolding resultOf
   start-short bytes = ap told (admitted-short s shortBuffer _ short)
 
-  pub answer-short : (card : List ℕ) → answerResult s card shortBuffer ≡ refusalResult 22
-  unfolding answerResult
+  pub answer-short : (card : List ℕ) → resultOf s (answer card shortBuffer) ≡ refusalResult 22
+  unfolding resultOf
   answer-short card = ap told (admitted-short s shortBuffer _ short)
 
-  pub link-short : linkResult s shortBuffer ≡ refusalResult 22
-  unfolding linkResult
+  pub link-short : resultOf s (link-failed shortBuffer) ≡ refusalResult 22
+  unfolding resultOf
   link-short = ap told (admitted-short s shortBuffer _ short)
 
-  pub stop-short : stopResult s shortBuffer ≡ refusalResult 22
-  unfolding stopResult
+  pub stop-short : resultOf s (stop shortBuffer) ≡ refusalResult 22
+  unfolding resultOf
   stop-short = ap told (admitted-short s shortBuffer _ short)

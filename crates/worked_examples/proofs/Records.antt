@@ -35,7 +35,7 @@ use Rattle.session.specs.MagStripe.{askChecksum, afterRecordsMagStripe, storeWi
 use Rattle.session.specs.Answer.{gpoStoreReason, afterGpoRead, gpoStep, recordStep, afterRecordRead, afterLastRecord, afterRecordsEmv, afterAnalysis, requestedCryptogram, askCryptogram, cryptogramOutcome, cryptogramEnding, cryptogramReply}
 use Rattle.worked_examples.specs.Sessions.{amountBelow, amountOver, emvAip, magStripeAip, waitsOnLast}
 use Rattle.worked_examples.specs.Records.{RecordExamples, MagStripeExamples}
-use Rattle.worked_examples.proofs.Laws.{each-in, says-in}
+use Rattle.worked_examples.proofs.Laws.{each-in, says-in, order-in, before-in}
 use Rattle.worked_examples.proofs.Ranges.{kept}
 
 pub on-last-record : RecordExamples
@@ -49,33 +49,20 @@ unfolding recurse recurseBy if both either every bigEndianFrom nibbles bytesEqua
     afterRecordsMagStripe storeWithDigits afterChecksumRead checksumOutcomeOf checksumReply gpoStoreReason afterGpoRead gpoStep recordStep afterRecordRead afterLastRecord afterRecordsEmv afterAnalysis requestedCryptogram askCryptogram cryptogramOutcome
     cryptogramEnding cryptogramReply
 on-last-record = record {
-  length-status = says-in (waitsOnLast emvAip amountBelow) (kept .emv-within) _ refl;
-  length-objects = says-in (waitsOnLast emvAip amountBelow) (kept .emv-within) _ refl;
-  length-limit = says-in (waitsOnLast emvAip amountOver) (kept .emv-above) _ refl;
-  length-missing = says-in (waitsOnLast emvAip amountBelow) (kept .emv-within) _ refl;
-  length-list = says-in (waitsOnLast emvAip amountBelow) (kept .emv-within) _ refl;
-  status-encoding = says-in (waitsOnLast emvAip amountBelow) (kept .emv-within) _ refl;
-  status-outer-tag = says-in (waitsOnLast emvAip amountBelow) (kept .emv-within) _ refl;
-  status-objects = says-in (waitsOnLast emvAip amountBelow) (kept .emv-within) _ refl;
-  status-limit = says-in (waitsOnLast emvAip amountOver) (kept .emv-above) _ refl;
-  status-missing = says-in (waitsOnLast emvAip amountBelow) (kept .emv-within) _ refl;
-  status-list = says-in (waitsOnLast emvAip amountBelow) (kept .emv-within) _ refl;
-  encoding-objects = says-in (waitsOnLast emvAip amountBelow) (kept .emv-within) _ refl;
-  encoding-limit = says-in (waitsOnLast emvAip amountOver) (kept .emv-above) _ refl;
-  encoding-missing = says-in (waitsOnLast emvAip amountBelow) (kept .emv-within) _ refl;
-  encoding-list = says-in (waitsOnLast emvAip amountBelow) (kept .emv-within) _ refl;
-  outer-tag-objects = says-in (waitsOnLast emvAip amountBelow) (kept .emv-within) _ refl;
-  outer-tag-limit = says-in (waitsOnLast emvAip amountOver) (kept .emv-above) _ refl;
-  outer-tag-missing = says-in (waitsOnLast emvAip amountBelow) (kept .emv-within) _ refl;
-  outer-tag-list = says-in (waitsOnLast emvAip amountBelow) (kept .emv-within) _ refl;
-  objects-limit = says-in (waitsOnLast emvAip amountOver) (kept .emv-above) _ refl;
-  objects-missing = says-in (waitsOnLast emvAip amountBelow) (kept .emv-within) _ refl;
-  objects-list = says-in (waitsOnLast emvAip amountBelow) (kept .emv-within) _ refl;
-  limit-missing = says-in (waitsOnLast emvAip amountOver) (kept .emv-above) _ refl;
-  limit-list = says-in (waitsOnLast emvAip amountOver) (kept .emv-above) _ refl;
-  missing-list = says-in (waitsOnLast emvAip amountBelow) (kept .emv-within) _ refl;
-  above-alone = says-in (waitsOnLast emvAip amountOver) (kept .emv-above) _ refl;
-  others-alone = each-in (waitsOnLast emvAip amountBelow) (kept .emv-within) _ refl;
+  reading = order-in (waitsOnLast emvAip amountBelow) (kept .emv-within) _ _ _ refl refl refl refl refl refl refl refl;
+  limit = before-in (waitsOnLast emvAip amountOver) (kept .emv-above) _ _ _ refl refl refl refl refl;
+  missing = before-in (waitsOnLast emvAip amountBelow) (kept .emv-within) _ _ _ refl refl refl refl refl;
+  list = before-in (waitsOnLast emvAip amountBelow) (kept .emv-within) _ _ _ refl refl refl refl refl;
+  last = record {
+    objects-limit = says-in (waitsOnLast emvAip amountOver) (kept .emv-above) _ refl;
+    objects-missing = says-in (waitsOnLast emvAip amountBelow) (kept .emv-within) _ refl;
+    objects-list = says-in (waitsOnLast emvAip amountBelow) (kept .emv-within) _ refl;
+    limit-missing = says-in (waitsOnLast emvAip amountOver) (kept .emv-above) _ refl;
+    limit-list = says-in (waitsOnLast emvAip amountOver) (kept .emv-above) _ refl;
+    missing-list = says-in (waitsOnLast emvAip amountBelow) (kept .emv-within) _ refl;
+    limit-alone = says-in (waitsOnLast emvAip amountOver) (kept .emv-above) _ refl;
+  };
+  alone = each-in (waitsOnLast emvAip amountBelow) (kept .emv-within) _ refl;
 }
 
 pub on-last-mag-stripe : MagStripeExamples
@@ -89,12 +76,14 @@ unfolding recurse recurseBy if both either every bigEndianFrom nibbles bytesEqua
     afterRecordsMagStripe storeWithDigits afterChecksumRead checksumOutcomeOf checksumReply gpoStoreReason afterGpoRead gpoStep recordStep afterRecordRead afterLastRecord afterRecordsEmv afterAnalysis requestedCryptogram askCryptogram cryptogramOutcome
     cryptogramEnding cryptogramReply
 on-last-mag-stripe = record {
-  objects-limit = says-in (waitsOnLast magStripeAip amountOver) (kept .mag-stripe-above) _ refl;
-  objects-missing = says-in (waitsOnLast magStripeAip amountBelow) (kept .mag-stripe-within) _ refl;
-  objects-list = says-in (waitsOnLast magStripeAip amountBelow) (kept .mag-stripe-within) _ refl;
-  limit-missing = says-in (waitsOnLast magStripeAip amountOver) (kept .mag-stripe-above) _ refl;
-  limit-list = says-in (waitsOnLast magStripeAip amountOver) (kept .mag-stripe-above) _ refl;
-  missing-list = says-in (waitsOnLast magStripeAip amountBelow) (kept .mag-stripe-within) _ refl;
-  above-alone = says-in (waitsOnLast magStripeAip amountOver) (kept .mag-stripe-above) _ refl;
-  others-alone = each-in (waitsOnLast magStripeAip amountBelow) (kept .mag-stripe-within) _ refl;
+  last = record {
+    objects-limit = says-in (waitsOnLast magStripeAip amountOver) (kept .mag-stripe-above) _ refl;
+    objects-missing = says-in (waitsOnLast magStripeAip amountBelow) (kept .mag-stripe-within) _ refl;
+    objects-list = says-in (waitsOnLast magStripeAip amountBelow) (kept .mag-stripe-within) _ refl;
+    limit-missing = says-in (waitsOnLast magStripeAip amountOver) (kept .mag-stripe-above) _ refl;
+    limit-list = says-in (waitsOnLast magStripeAip amountOver) (kept .mag-stripe-above) _ refl;
+    missing-list = says-in (waitsOnLast magStripeAip amountBelow) (kept .mag-stripe-within) _ refl;
+    limit-alone = says-in (waitsOnLast magStripeAip amountOver) (kept .mag-stripe-above) _ refl;
+  };
+  alone = each-in (waitsOnLast magStripeAip amountBelow) (kept .mag-stripe-within) _ refl;
 }

@@ -58,12 +58,16 @@ refusals = record {
   answer-ranges-ended = answer-out endedOutOfRanges (kept .broken-ended) _;
   answer-phase = answer-in freshSession fresh-keeps _ refl;
   answer-ended = answer-in hasEnded (kept .ended) _ refl;
-  link-buffer-ranges = link-short gpoOutOfRanges;
-  link-buffer-phase = link-short freshSession;
-  link-ranges-phase = link-out freshOutOfRanges (kept .broken-fresh);
-  link-phase = link-in hasEnded (kept .ended) refl;
-  stop-buffer-ranges = stop-short gpoOutOfRanges;
-  stop-buffer-phase = stop-short freshSession;
-  stop-ranges-phase = stop-out freshOutOfRanges (kept .broken-fresh);
-  stop-phase = stop-in hasEnded (kept .ended) refl;
+  link = record {
+    buffer-ranges = link-short gpoOutOfRanges;
+    buffer-phase = link-short freshSession;
+    ranges-phase = link-out freshOutOfRanges (kept .broken-fresh);
+    phase = link-in hasEnded (kept .ended) refl;
+  };
+  stopped = record {
+    buffer-ranges = stop-short gpoOutOfRanges;
+    buffer-phase = stop-short freshSession;
+    ranges-phase = stop-out freshOutOfRanges (kept .broken-fresh);
+    phase = stop-in hasEnded (kept .ended) refl;
+  };
 }

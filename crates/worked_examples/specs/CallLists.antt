@@ -6,6 +6,7 @@ use mathlib.Core.List.{List, [], _∷_, _++_, map}
 use mathlib.Core.Option.{some, none}
 use Prim.Native.Nat.{ℕ}
 use lib.ListN.{replicate}
+use Rattle.basics.specs.Types.{Bytes, Length}
 use Rattle.session_record.specs.declared.Outcome.{Outcome}
 use Rattle.session.specs.Calls.{Call, start, answer, link-failed, stop}
 use Rattle.call_list.specs.Encoding.{encodedCall, callsOf}
@@ -13,19 +14,16 @@ use Rattle.call_list.specs.Playing.{resultBytes, playResultOf, playResultNumber
 use Rattle.worked_examples.specs.Calls.{commandResult, outcomeResult, refusalResult}
 
 -- a length in eight bytes
-abbrev pub eight : ℕ → List ℕ
+abbrev pub eight : Length → Bytes
 eight n = 0 ∷ 0 ∷ 0 ∷ 0 ∷ 0 ∷ 0 ∷ 0 ∷ n ∷ []
 
 -- each call with a buffer of two bytes, start and answer with one byte that comes in
 abbrev pub listedCalls : List Call
 listedCalls =
-    start (0x07 ∷ []) (0x08 ∷ 0x09 ∷ [])
-    ∷ answer (0x07 ∷ []) (0x08 ∷ 0x09 ∷ [])
-    ∷ link-failed (0x08 ∷ 0x09 ∷ [])
-    ∷ stop (0x08 ∷ 0x09 ∷ [])
-    ∷ []
+    start (0x07 ∷ []) (0x08 ∷ 0x09 ∷ []) ∷ answer (0x07 ∷ []) (0x08 ∷ 0x09 ∷ [])
+    ∷ link-failed (0x08 ∷ 0x09 ∷ []) ∷ stop (0x08 ∷ 0x09 ∷ []) ∷ []
 
-abbrev pub listedInBytes : List (List ℕ)
+abbrev pub listedInBytes : List Bytes
 listedInBytes =
     (1 ∷ eight 1 ++ eight 2 ++ (0x07 ∷ 0x08 ∷ 0x09 ∷ []))
     ∷ (2 ∷ eight 1 ++ eight 2 ++ (0x07 ∷ 0x08 ∷ 0x09 ∷ []))
@@ -34,7 +32,7 @@ listedInBytes =
     ∷ []
 
 -- the number of a run over these bytes, with this room for replies
-abbrev pub reported : List ℕ → ℕ → ℕ
+abbrev pub reported : Bytes → Length → ℕ
 reported bytes room = playResultNumber (playResultOf (callsOf bytes) (replicate room 0))
 
 pub record CallListExamples : Type 0 where

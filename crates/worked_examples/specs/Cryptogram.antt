@@ -1,10 +1,12 @@
 -- The answer to GENERATE AC (document 01, "Commands and steps" and the order of reasons): the outcome by the choice
--- that was requested and the cryptogram's type, the reading's reasons, an object missing (4), a type that is not
--- allowed (8); and the objects of a body under 80. The fields of an order are named by the two reasons of their answer.
+-- that was requested and the cryptogram's type, the reading's reasons (ReadingOrder.antt), an object missing (4), a
+-- type that is not allowed (8); and the objects of a body under 80. The fields of an order are named by the two reasons
+-- of their answer, or by the later one.
 -- Assumes nothing.
 use mathlib.Core.Path.{_≡_}
 use mathlib.Core.List.{List, [], _∷_, _++_, map}
-use Prim.Native.Nat.{ℕ}
+use lib.ListN.{replicate}
+use Rattle.basics.specs.Types.{Byte, Bytes, Response}
 use Rattle.tlv.specs.Encoding.{objectBytes}
 use Rattle.store.specs.Place.{absent, present}
 use Rattle.analysis.specs.declared.choice.Choice.{Choice}
@@ -12,23 +14,20 @@ use Rattle.session_record.specs.declared.CallResult.{CallResult}
 use Rattle.session_record.specs.declared.Outcome.{Outcome}
 use Rattle.session_record.specs.declared.Session.{Session}
 use Rattle.worked_examples.specs.Sessions.{objectsInBytes, waitsOnCryptogram}
-use Rattle.worked_examples.specs.Calls.{resultOn, resultsOn, valueAfter, outcomeResult, endedResultWithPin, with9000}
-use Rattle.worked_examples.specs.Calls.{with6A82, answerOf259Bytes}
-use Rattle.worked_examples.specs.Calls.{tooLongAnswer, truncated77, byteBehind, wrappedBody, tvrFromCard}
+use Rattle.worked_examples.specs.Calls.{resultOn, resultsOn, valueAfter, outcomeResult, endedResultWithPin}
+use Rattle.worked_examples.specs.Calls.{with9000, with6A82, answer77}
+use Rattle.worked_examples.specs.ReadingOrder.{ReadingOrder, ReadingBefore}
 
--- 9F27, 9F36 and 9F26, and these in a 77
-abbrev pub cryptogramObjects : ℕ → List ℕ
-cryptogramObjects information =
+-- 9F27, 9F36 and 9F26
+abbrev pub cryptogramObjects : Byte → Bytes
+cryptogramObjects cid =
     objectsInBytes
-    ((0x9F27, information ∷ []) ∷ (0x9F36, 0x00 ∷ 0x01 ∷ [])
+    ((0x9F27, cid ∷ []) ∷ (0x9F36, 0x00 ∷ 0x01 ∷ [])
     ∷ (0x9F26, 0x11 ∷ 0x22 ∷ 0x33 ∷ 0x44 ∷ 0x55 ∷ 0x66 ∷ 0x77 ∷ 0x88 ∷ []) ∷ [])
 
-abbrev pub cryptogram77 : ℕ → List ℕ
-cryptogram77 information = objectBytes 0x77 (cryptogramObjects information)
-
 -- AAC, TC, ARQC and the reserved type
-abbrev pub cryptogramTypes : List (List ℕ)
-cryptogramTypes = map (λ information. with9000 (cryptogram77 information)) (0x00 ∷ 0x40 ∷ 0x80 ∷ 0xC0 ∷ [])
+abbrev pub cryptogramTypes : List Response
+cryptogramTypes = map (λ cid. answer77 (cryptogramObjects cid)) (0x00 ∷ 0x40 ∷ 0x80 ∷ 0xC0 ∷ [])
 
 -- the outcomes; each reports the CVM that the session holds
 abbrev pub declined : CallResult
@@ -47,11 +46,8 @@ notAllowed = endedResultWithPin 8
 abbrev pub waitsOnArqc : Session
 waitsOnArqc = waitsOnCryptogram Choice.Online
 
-abbrev pub certificate : List ℕ
-certificate = cryptogram77 0x40
-
 -- under 80: 9F27, 9F36, 9F26, and after them 9F10
-abbrev pub under80 : List ℕ
+abbrev pub under80 : Bytes
 under80 =
     objectBytes 0x80
     (0x80 ∷ 0x00 ∷ 0x2A ∷ 0x11 ∷ 0x22 ∷ 0x33 ∷ 0x44 ∷ 0x55 ∷ 0x66 ∷ 0x77 ∷ 0x88 ∷ 0xAA ∷ 0xBB ∷ [])
@@ -64,34 +60,17 @@ pub record CryptogramExamples : Type 0 where
   pub offline-asked : resultsOn (waitsOnCryptogram Choice.Offline) cryptogramTypes
       ≡ declined ∷ approved ∷ onlineRequest ∷ notAllowed ∷ []
   -- the order
-  pub length-status : resultOn waitsOnArqc tooLongAnswer ≡ endedResultWithPin 2
-  pub length-objects : resultOn waitsOnArqc (answerOf259Bytes 0x77 tvrFromCard) ≡ endedResultWithPin 2
-  pub length-missing : resultOn waitsOnArqc (answerOf259Bytes 0x77 []) ≡ endedResultWithPin 2
-  pub length-type : resultOn waitsOnArqc (answerOf259Bytes 0x77 (cryptogramObjects 0x40)) ≡ endedResultWithPin 2
-  pub status-encoding : resultOn waitsOnArqc (with6A82 truncated77) ≡ endedResultWithPin 1
-  pub status-outer-tag : resultOn waitsOnArqc (with6A82 (objectBytes 0x70 [])) ≡ endedResultWithPin 1
-  pub status-objects : resultOn waitsOnArqc (with6A82 (objectBytes 0x77 tvrFromCard)) ≡ endedResultWithPin 1
-  pub status-missing : resultOn waitsOnArqc (with6A82 (objectBytes 0x77 [])) ≡ endedResultWithPin 1
-  pub status-type : resultOn waitsOnArqc (with6A82 certificate) ≡ endedResultWithPin 1
-  pub encoding-objects : resultOn waitsOnArqc (with9000 (byteBehind (objectBytes 0x77 tvrFromCard))) ≡ endedResultWithPin 2
-  pub encoding-missing : resultOn waitsOnArqc (with9000 (byteBehind (objectBytes 0x77 []))) ≡ endedResultWithPin 2
-  pub encoding-type : resultOn waitsOnArqc (with9000 (byteBehind certificate)) ≡ endedResultWithPin 2
-  pub outer-tag-objects : resultOn waitsOnArqc (with9000 (objectBytes 0x70 tvrFromCard)) ≡ endedResultWithPin 2
-  pub outer-tag-missing : resultOn waitsOnArqc (with9000 (objectBytes 0x70 [])) ≡ endedResultWithPin 2
-  pub outer-tag-type : resultOn waitsOnArqc (with9000 (wrappedBody certificate)) ≡ endedResultWithPin 2
+  pub reading : ReadingOrder waitsOnArqc 0x77 0x70 endedResultWithPin
+  pub missing : ReadingBefore waitsOnArqc 0x77 [] endedResultWithPin
+  pub cryptogram-type : ReadingBefore waitsOnArqc 0x77 (cryptogramObjects 0x40) endedResultWithPin
   pub body-type : resultOn waitsOnArqc (with9000 (objectBytes 0x80 (0x40 ∷ 0x00 ∷ 0x2A ∷ []))) ≡ endedResultWithPin 2
-  pub objects-missing : resultOn waitsOnArqc (with9000 (objectBytes 0x77 tvrFromCard)) ≡ endedResultWithPin 3
-  pub objects-type : resultOn waitsOnArqc (with9000 (objectBytes 0x77 (cryptogramObjects 0x40 ++ tvrFromCard)))
-      ≡ endedResultWithPin 3
-  pub missing-type :
-      resultOn waitsOnArqc
-      (with9000 (objectBytes 0x77 (objectsInBytes ((0x9F27, 0x40 ∷ []) ∷ (0x9F36, 0x00 ∷ 0x01 ∷ []) ∷ []))))
-      ≡ endedResultWithPin 4
-  -- a decline does not come before an object that is missing: an AAC without 9F36 and 9F26, and none of the three
-  pub missing-declined :
+  -- a type that is not allowed without 9F26; an AAC without 9F36 and 9F26, and none of the three: a decline does not
+  -- come before an object that is missing
+  pub missing-others :
       resultsOn waitsOnArqc
-      (with9000 (objectBytes 0x77 (objectBytes 0x9F27 (0x00 ∷ []))) ∷ with9000 (objectBytes 0x77 []) ∷ [])
-      ≡ endedResultWithPin 4 ∷ endedResultWithPin 4 ∷ []
+      (answer77 (objectBytes 0x9F27 (0x40 ∷ []) ++ objectBytes 0x9F36 (0x00 ∷ 0x01 ∷ []))
+      ∷ answer77 (objectBytes 0x9F27 (0x00 ∷ [])) ∷ answer77 [] ∷ [])
+      ≡ replicate 3 (endedResultWithPin 4)
   -- under 80
   pub under80-says : resultOn waitsOnArqc (with9000 under80) ≡ onlineRequest
   pub under80-9F27 : valueAfter waitsOnArqc (with9000 under80) 0x9F27 ≡ present (0x80 ∷ [])

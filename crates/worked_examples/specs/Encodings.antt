@@ -3,14 +3,14 @@
 -- Assumes nothing.
 use mathlib.Core.Path.{_≡_}
 use mathlib.Core.List.{List, [], _∷_, _++_, map}
-use Prim.Native.Nat.{ℕ}
 use lib.ListN.{replicate}
+use Rattle.basics.specs.Types.{Response, Tag}
 use Rattle.tlv.specs.Encoding.{objectBytes}
 use Rattle.worked_examples.specs.Sessions.{TagValue, waitsOnFirst}
 use Rattle.worked_examples.specs.Calls.{resultsOn, commandResult, endedWith, with9000}
 
 -- lengths of 127 bytes in one byte, in two, in three; of none in two and three; then 80, 83 and 84
-abbrev pub someLengths : List (List ℕ)
+abbrev pub someLengths : List Response
 someLengths =
     with9000 (0x70 ∷ 0x7F ∷ replicate 127 0)
     ∷ with9000 (0x70 ∷ 0x81 ∷ 0x7F ∷ replicate 127 0)
@@ -23,35 +23,23 @@ someLengths =
     ∷ []
 
 -- empty objects of unknown tags of one, two and three bytes; then a fourth byte, and a second byte of 80
-abbrev pub someTags : List (List ℕ)
+abbrev pub someTags : List Response
 someTags =
     map (λ v. with9000 (objectBytes 0x70 v))
-    ((0x42 ∷ 0x00 ∷ [])
-    ∷ (0x5F ∷ 0x60 ∷ 0x00 ∷ [])
-    ∷ (0x5F ∷ 0x81 ∷ 0x60 ∷ 0x00 ∷ [])
-    ∷ (0x5F ∷ 0x81 ∷ 0x81 ∷ 0x60 ∷ 0x00 ∷ [])
-    ∷ (0x5F ∷ 0x80 ∷ 0x60 ∷ 0x00 ∷ [])
-    ∷ [])
+    ((0x42 ∷ 0x00 ∷ []) ∷ (0x5F ∷ 0x60 ∷ 0x00 ∷ []) ∷ (0x5F ∷ 0x81 ∷ 0x60 ∷ 0x00 ∷ [])
+    ∷ (0x5F ∷ 0x81 ∷ 0x81 ∷ 0x60 ∷ 0x00 ∷ []) ∷ (0x5F ∷ 0x80 ∷ 0x60 ∷ 0x00 ∷ []) ∷ [])
 
--- objects of A5, of BF0C and of 6F; 9F6E may be in a 70, too
-abbrev pub ofA5 : List TagValue
-ofA5 =
-    (0x50, 0x41 ∷ []) ∷ (0x87, 0x01 ∷ []) ∷ (0x5F2D, 0x65 ∷ 0x6E ∷ []) ∷ (0x9F11, 0x01 ∷ []) ∷ (0x9F12, 0x41 ∷ []) ∷ []
-
-abbrev pub ofBF0C : List TagValue
-ofBF0C =
-    (0x9F4D, replicate 2 0) ∷ (0x9F5D, replicate 3 0) ∷ (0x9F5E, replicate 8 0) ∷ (0x9F6E, replicate 5 0) ∷ []
-
-abbrev pub of6F : List TagValue
-of6F = (0x84, replicate 5 0) ∷ []
+-- five objects of A5, four of BF0C and one of 6F; 9F6E may be in a 70, too
+abbrev pub templateObjects : List TagValue
+templateObjects =
+    (0x50, 0x41 ∷ []) ∷ (0x87, 0x01 ∷ []) ∷ (0x5F2D, 0x65 ∷ 0x6E ∷ []) ∷ (0x9F11, 0x01 ∷ []) ∷ (0x9F12, 0x41 ∷ [])
+    ∷ (0x9F4D, replicate 2 0) ∷ (0x9F5D, replicate 3 0) ∷ (0x9F5E, replicate 8 0) ∷ (0x9F6E, replicate 5 0)
+    ∷ (0x84, replicate 5 0) ∷ []
 
 -- each of them alone in this template, inside the 70 of the record
-abbrev pub recordsWithin : ℕ → List TagValue → List (List ℕ)
+abbrev pub recordsWithin : Tag → List TagValue → List Response
 recordsWithin template objects =
     map (λ o. with9000 (objectBytes 0x70 (objectBytes template (objectBytes (o .0) (o .1))))) objects
-
-abbrev pub templateObjects : List TagValue
-templateObjects = ofA5 ++ ofBF0C ++ of6F
 
 pub record EncodingExamples : Type 0 where
   pub lengths : resultsOn waitsOnFirst someLengths ≡ replicate 5 (commandResult 5) ++ replicate 3 (endedWith 2)

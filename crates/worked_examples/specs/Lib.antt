@@ -1,5 +1,6 @@
 pub mod Sessions
 pub mod Calls
+pub mod ReadingOrder
 pub mod Gpo
 pub mod Records
 pub mod Cryptogram

@@ -2,8 +2,8 @@
 -- in EMV mode and in mag-stripe mode, and sessions out of their ranges. proofs/Ranges shows which keep their ranges.
 -- Assumes nothing.
 use mathlib.Core.List.{List, [], _∷_, _++_}
-use Prim.Native.Nat.{ℕ}
 use lib.ListN.{replicate}
+use Rattle.basics.specs.Types.{Bytes, StoreBytes, Value, AflBytes, Byte, Tag}
 use Rattle.tlv.specs.Encoding.{objectBytes}
 use Rattle.analysis.specs.declared.choice.Choice.{Choice}
 use Rattle.analysis.specs.declared.cvm.Cvm.{Cvm}
@@ -17,72 +17,67 @@ use Rattle.session_record.proofs.Stores.{storing}
 
 -- a data object: its tag and its value
 abbrev pub TagValue : Type 0
-TagValue = ℕ × List ℕ
+TagValue = Tag × Value
 
--- what a start must bring: an amount of so many units, BCD, with no cents, and DF811B; every limit is 25.00
-abbrev pub startObjects : ℕ → ℕ → List TagValue
+-- an amount of so many units, BCD, with no cents
+abbrev pub units : Byte → Value
+units n = 0 ∷ 0 ∷ 0 ∷ 0 ∷ n ∷ 0x00 ∷ []
+
+-- what a start must bring, by the units of its amount and DF811B; every limit is 25.00
+abbrev pub startObjects : Byte → Byte → List TagValue
 startObjects amount configuration =
-    (0x9A, 0x25 ∷ 0x12 ∷ 0x31 ∷ [])
-    ∷ (0x9C, 0x00 ∷ [])
-    ∷ (0x9F02, 0 ∷ 0 ∷ 0 ∷ 0 ∷ amount ∷ 0x00 ∷ [])
-    ∷ (0x9F09, 0x00 ∷ 0x02 ∷ [])
-    ∷ (0x9F1A, 0x08 ∷ 0x40 ∷ [])
-    ∷ (0x9F33, 0xE0 ∷ 0x68 ∷ 0xC8 ∷ [])
-    ∷ (0x9F35, 0x22 ∷ [])
-    ∷ (0x9F37, 0x01 ∷ 0x02 ∷ 0x03 ∷ 0x04 ∷ [])
-    ∷ (0x9F6A, 0x00 ∷ 0x00 ∷ 0x34 ∷ 0x56 ∷ [])
+    (0x9A, 0x25 ∷ 0x12 ∷ 0x31 ∷ []) ∷ (0x9C, 0x00 ∷ [])
+    ∷ (0x9F02, units amount)
+    ∷ (0x9F09, 0x00 ∷ 0x02 ∷ []) ∷ (0x9F1A, 0x08 ∷ 0x40 ∷ [])
+    ∷ (0x9F33, 0xE0 ∷ 0x68 ∷ 0xC8 ∷ []) ∷ (0x9F35, 0x22 ∷ [])
+    ∷ (0x9F37, 0x01 ∷ 0x02 ∷ 0x03 ∷ 0x04 ∷ []) ∷ (0x9F6A, 0x00 ∷ 0x00 ∷ 0x34 ∷ 0x56 ∷ [])
     ∷ (0xDF811B, configuration ∷ [])
-    ∷ (0xDF8120, replicate 5 0)
-    ∷ (0xDF8121, replicate 5 0)
-    ∷ (0xDF8122, replicate 5 0)
-    ∷ (0xDF8123, 0 ∷ 0 ∷ 0 ∷ 0 ∷ 0x25 ∷ 0x00 ∷ [])
-    ∷ (0xDF8124, 0 ∷ 0 ∷ 0 ∷ 0 ∷ 0x25 ∷ 0x00 ∷ [])
-    ∷ (0xDF8125, 0 ∷ 0 ∷ 0 ∷ 0 ∷ 0x25 ∷ 0x00 ∷ [])
-    ∷ (0xDF8126, 0 ∷ 0 ∷ 0 ∷ 0 ∷ 0x25 ∷ 0x00 ∷ [])
+    ∷ (0xDF8120, replicate 5 0) ∷ (0xDF8121, replicate 5 0) ∷ (0xDF8122, replicate 5 0)
+    ∷ (0xDF8123, units 0x25) ∷ (0xDF8124, units 0x25) ∷ (0xDF8125, units 0x25) ∷ (0xDF8126, units 0x25)
     ∷ []
 
 -- objects concatenated, as a start brings them
-abbrev pub objectsInBytes : List TagValue → List ℕ
+abbrev pub objectsInBytes : List TagValue → Bytes
 objectsInBytes [] = []
 objectsInBytes ((t, v) ∷ more) = objectBytes t v ++ objectsInBytes more
 
 -- the amount is 10.00, within the limit, or 30.00, above it
-abbrev pub amountBelow : ℕ
+abbrev pub amountBelow : Byte
 amountBelow = 0x10
 
-abbrev pub amountOver : ℕ
+abbrev pub amountOver : Byte
 amountOver = 0x30
 
 -- DF811B: mag-stripe mode is carried, or off (byte 1 b8)
-abbrev pub magStripeCarried : ℕ
+abbrev pub magStripeCarried : Byte
 magStripeCarried = 0x00
 
-abbrev pub magStripeOff : ℕ
+abbrev pub magStripeOff : Byte
 magStripeOff = 0x80
 
 -- after a start the TVR is zero
-abbrev pub startedObjects : ℕ → ℕ → List TagValue
+abbrev pub startedObjects : Byte → Byte → List TagValue
 startedObjects amount configuration = (0x95, replicate 5 0) ∷ startObjects amount configuration
 
 -- 82 of EMV mode and of mag-stripe mode
-abbrev pub emvAip : List ℕ
+abbrev pub emvAip : Value
 emvAip = 0x00 ∷ 0x80 ∷ []
 
-abbrev pub magStripeAip : List ℕ
+abbrev pub magStripeAip : Value
 magStripeAip = 0x00 ∷ 0x00 ∷ []
 
 -- an AFL of one record, one of two, and one of file 0, which breaks the rules
-abbrev pub oneRecordAfl : List ℕ
+abbrev pub oneRecordAfl : AflBytes
 oneRecordAfl = 0x08 ∷ 0x01 ∷ 0x01 ∷ 0x00 ∷ []
 
-abbrev pub twoRecordAfl : List ℕ
+abbrev pub twoRecordAfl : AflBytes
 twoRecordAfl = 0x08 ∷ 0x01 ∷ 0x02 ∷ 0x00 ∷ []
 
-abbrev pub badAfl : List ℕ
+abbrev pub badAfl : AflBytes
 badAfl = 0x00 ∷ 0x01 ∷ 0x01 ∷ 0x00 ∷ []
 
 -- after GPO
-abbrev pub openedObjects : List ℕ → List ℕ → ℕ → List TagValue
+abbrev pub openedObjects : Value → AflBytes → Byte → List TagValue
 openedObjects aip afl amount = (0x82, aip) ∷ (0x94, afl) ∷ startedObjects amount magStripeCarried
 
 -- expiry date, account number and a CDOL1 of 95, as the card's record has them
@@ -91,23 +86,26 @@ accountObjects =
     (0x5F24, 0x30 ∷ 0x12 ∷ 0x31 ∷ []) ∷ (0x5A, 0x54 ∷ 0x13 ∷ 0x33 ∷ 0x90 ∷ []) ∷ (0x8C, 0x95 ∷ 0x05 ∷ []) ∷ []
 
 -- track 2, its bitmaps and the counter's digits; the track can take them only where it has a separator D
-abbrev pub trackObjects : List ℕ → List TagValue
+abbrev pub trackObjects : Value → List TagValue
 trackObjects track =
     (0x9F6B, track) ∷ (0x9F65, 0x00 ∷ 0x0E ∷ []) ∷ (0x9F66, 0x0F ∷ 0xF0 ∷ []) ∷ (0x9F67, 0x04 ∷ []) ∷ []
 
-abbrev pub soundTrack : List ℕ
+abbrev pub soundTrack : Value
 soundTrack =
     0x54 ∷ 0x13 ∷ 0x12 ∷ 0x34 ∷ 0x56 ∷ 0x78 ∷ 0x48 ∷ 0x00 ∷ 0xD2 ∷ 0x51 ∷ 0x21 ∷ 0x01
     ∷ 0x00 ∷ 0x00 ∷ 0x00 ∷ 0x00 ∷ 0x00 ∷ 0x00 ∷ 0x0F ∷ []
 
-abbrev pub unsoundTrack : List ℕ
+abbrev pub unsoundTrack : Value
 unsoundTrack = 0x54 ∷ 0x13 ∷ []
 
 -- ---- sessions
 
--- waiting on GPO, with mag-stripe mode off
+-- the store after a start, with mag-stripe mode off, and the session that waits on GPO with it
+abbrev pub startedStore : StoreBytes
+startedStore = storing (startedObjects amountBelow magStripeOff)
+
 abbrev pub waitsOnGpo : Session
-waitsOnGpo = sessionOf Phase.Gpo 1 (storing (startedObjects amountBelow magStripeOff))
+waitsOnGpo = sessionOf Phase.Gpo 1 startedStore
 
 -- waiting on record 1; the transaction limit is 25.00
 abbrev pub waitsOnRecord : List TagValue → Session
@@ -117,30 +115,28 @@ waitsOnRecord objects = sessionOf (Phase.Record (record { number = 1; limit = 25
 abbrev pub waitsOnFirst : Session
 waitsOnFirst = waitsOnRecord (openedObjects emvAip twoRecordAfl amountBelow)
 
-abbrev pub waitsOnLast : List ℕ → ℕ → Session
+abbrev pub waitsOnLast : Value → Byte → Session
 waitsOnLast aip amount = waitsOnRecord (openedObjects aip oneRecordAfl amount)
 
 -- the same within the limit, with a PDOL of 9A in the store
-abbrev pub waitsOnLastWithPdol : List ℕ → Session
-waitsOnLastWithPdol aip =
-    waitsOnRecord ((0x9F38, 0x9A ∷ 0x03 ∷ []) ∷ openedObjects aip oneRecordAfl amountBelow)
+abbrev pub waitsOnLastWithPdol : Value → Session
+waitsOnLastWithPdol aip = waitsOnRecord ((0x9F38, 0x9A ∷ 0x03 ∷ []) ∷ openedObjects aip oneRecordAfl amountBelow)
 
 -- waiting on the cryptogram that was requested by a choice; the CVM is an online PIN, number 2
 abbrev pub waitsOnCryptogram : Choice → Session
 waitsOnCryptogram choice =
     sessionOf (Phase.Cryptogram (record { choice = choice; cvm = Cvm.OnlinePin; limit = 2500 })) 3
-    (storing
-    ((0x9F34, 0x42 ∷ 0x03 ∷ 0x00 ∷ []) ∷ accountObjects ++ openedObjects emvAip oneRecordAfl amountBelow))
+    (storing ((0x9F34, 0x42 ∷ 0x03 ∷ 0x00 ∷ []) ∷ accountObjects ++ openedObjects emvAip oneRecordAfl amountBelow))
 
 -- waiting on the checksum, with a track
-abbrev pub waitsOnChecksum : List ℕ → Session
+abbrev pub waitsOnChecksum : Value → Session
 waitsOnChecksum track =
     sessionOf (Phase.Checksum (record { limit = 2500 })) 3
     (storing (trackObjects track ++ openedObjects magStripeAip oneRecordAfl amountBelow))
 
 -- ended by the terminal
 abbrev pub hasEnded : Session
-hasEnded = sessionOf (Phase.Ended (endingOf Outcome.Ended 10)) 1 (storing (startedObjects amountBelow magStripeOff))
+hasEnded = sessionOf (Phase.Ended (endingOf Outcome.Ended 10)) 1 startedStore
 
 -- ---- sessions out of their ranges
 
@@ -150,7 +146,7 @@ freshOutOfRanges = sessionOf Phase.Fresh 1 (storeBytes freshSession)
 
 -- waiting on GPO, and ended, with two commands and 131 counted
 abbrev pub gpoOutOfRanges : Session
-gpoOutOfRanges = sessionOf Phase.Gpo 2 (storing (startedObjects amountBelow magStripeOff))
+gpoOutOfRanges = sessionOf Phase.Gpo 2 startedStore
 
 abbrev pub endedOutOfRanges : Session
-endedOutOfRanges = sessionOf (Phase.Ended (endingOf Outcome.Ended 10)) 131 (storing (startedObjects amountBelow magStripeOff))
+endedOutOfRanges = sessionOf (Phase.Ended (endingOf Outcome.Ended 10)) 131 startedStore

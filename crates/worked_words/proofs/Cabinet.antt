@@ -56,12 +56,6 @@ words = record {
   aside-too-much = word-of _ _ refl;
   aside-all = word-of _ _ refl;
   absent-aside = word-of _ _ refl;
-  start-buffer-state = refl;
-  start-state = refl;
-  answer-buffer-state = refl;
-  answer-state = refl;
-  link-buffer-state = refl;
-  link-state = refl;
-  stop-buffer-state = refl;
-  stop-state = refl;
+  buffer-state = refl;
+  state = refl;
 }

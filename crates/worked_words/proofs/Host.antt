@@ -42,15 +42,16 @@ use Rattle.find.specs.Find.{firstFound, foundShifted, findTagIn, findTag}
 use Rattle.host.specs.Hosted.{hostStepOn, hostStepAdmitted, countWord}
 use Rattle.host.specs.Object.{objectCopiedFrom, objectOfSession}
 use Rattle.worked_examples.specs.Sessions.{waitsOnGpo}
-use Rattle.worked_examples.specs.Calls.{fullBuffer, answerResult}
+use Rattle.session.specs.Calls.{answer}
+use Rattle.worked_examples.specs.Calls.{fullBuffer, resultOf}
 use Rattle.worked_examples.proofs.Laws.{answer-in}
 use Rattle.worked_examples.proofs.Ranges.{kept}
 use Rattle.worked_words.specs.Host.{sessionInBytes, answerWord, HostWords}
 
 -- the word of an answer on a session in bytes is that of the session's own
-word-of : (s : Session) → length (storeBytes s) ≡ storeSize → (card : List ℕ) {a : CallResult} {w : ℕ} → answerResult s card fullBuffer ≡ a → resultWord a ≡ w
+word-of : (s : Session) → length (storeBytes s) ≡ storeSize → (card : List ℕ) {a : CallResult} {w : ℕ} → resultOf s (answer card fullBuffer) ≡ a → resultWord a ≡ w
     → answerWord s card ≡ w
-unfolding answerWord answerResult hostStepAdmitted if
+unfolding answerWord resultOf hostStepAdmitted if
 word-of s z card e f =
     ap (λ (x : Option Session). hostStepOn (λ (t : Session) b. answerStep t card b) (sessionInBytes s) fullBuffer x .word) (decode-encode s (0xEE ∷ []) z) ∙ ap resultWord e ∙ f
 

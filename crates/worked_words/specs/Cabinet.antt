@@ -4,17 +4,25 @@
 use mathlib.Core.Path.{_≡_}
 use mathlib.Core.List.{List, [], _∷_}
 use mathlib.Core.Option.{some}
-use Prim.Native.Nat.{ℕ, _-_}
+use Prim.Native.Nat.{_-_}
 use lib.ListN.{replicate}
+use Rattle.basics.specs.Types.{StartBytes, Buffer, Amount, ResultWord}
 use Rattle.session_record.specs.Session.{freshSession}
 use Rattle.cabinet.specs.State.{cabinetStateSize, cabinet, cabinetHeldIn}
-use Rattle.cabinet.specs.Calls.{startOnCabinet, cabinetStart, cabinetAnswer, cabinetLinkFailed, cabinetStop, cabinetOpenWord, remainingWord}
+use Rattle.cabinet.specs.Calls.{startOnCabinet, cabinetStart, cabinetAnswer, cabinetLinkFailed, cabinetStop}
+use Rattle.cabinet.specs.Calls.{cabinetOpenWord, remainingWord}
 use Rattle.worked_examples.specs.Calls.{fullBuffer, shortBuffer}
 use Rattle.worked_examples.specs.Refusals.{startBytesWhole}
 
 -- the word of a start on a fresh cabinet with so much left
-unfoldable pub startWord : List ℕ → ℕ → ℕ
+unfoldable pub startWord : StartBytes → Amount → ResultWord
 startWord bytes left = startOnCabinet bytes [] fullBuffer (cabinet freshSession left 0) .word
+
+-- the words of the four calls on bytes that hold no cabinet
+abbrev pub wordsWithoutState : Buffer → List ResultWord
+wordsWithoutState buf =
+    cabinetStart [] [] buf .word ∷ cabinetAnswer [] [] buf .word
+    ∷ cabinetLinkFailed [] buf .word ∷ cabinetStop [] buf .word ∷ []
 
 pub record CabinetWords : Type 0 where
   -- one byte less than a state with a cap over the greatest, a state's bytes with it, and with the greatest
@@ -31,11 +39,5 @@ pub record CabinetWords : Type 0 where
   pub aside-all : startWord startBytesWhole 1000 ≡ 8
   pub absent-aside : startWord [] 0 ≡ 0x20018
   -- too short a buffer before bytes that hold no cabinet
-  pub start-buffer-state : cabinetStart [] [] shortBuffer .word ≡ 0x20016
-  pub start-state : cabinetStart [] [] fullBuffer .word ≡ 0x20019
-  pub answer-buffer-state : cabinetAnswer [] [] shortBuffer .word ≡ 0x20016
-  pub answer-state : cabinetAnswer [] [] fullBuffer .word ≡ 0x20019
-  pub link-buffer-state : cabinetLinkFailed [] shortBuffer .word ≡ 0x20016
-  pub link-state : cabinetLinkFailed [] fullBuffer .word ≡ 0x20019
-  pub stop-buffer-state : cabinetStop [] shortBuffer .word ≡ 0x20016
-  pub stop-state : cabinetStop [] fullBuffer .word ≡ 0x20019
+  pub buffer-state : wordsWithoutState shortBuffer ≡ replicate 4 0x20016
+  pub state : wordsWithoutState fullBuffer ≡ replicate 4 0x20019

@@ -4,8 +4,9 @@
 use mathlib.Core.Path.{_≡_}
 use mathlib.Core.List.{List, [], _∷_, _++_, map}
 use mathlib.Core.Option.{some, none}
-use Prim.Native.Nat.{ℕ, _-_}
+use Prim.Native.Nat.{_-_}
 use lib.ListN.{replicate}
+use Rattle.basics.specs.Types.{Bytes, StoreBytes, Response, ResultWord}
 use Rattle.session_record.specs.declared.Outcome.{Outcome}
 use Rattle.session_record.specs.declared.Session.{Session}
 use Rattle.session_record.specs.Session.{freshSession}
@@ -22,27 +23,27 @@ use Rattle.host.specs.Object.{objectCopiedFrom, objectOfSession}
 use Rattle.host.specs.Explain.{explainWord}
 use Rattle.host.specs.Version.{versionWord}
 use Rattle.worked_examples.specs.Sessions.{emvAip, oneRecordAfl, badAfl, waitsOnGpo}
-use Rattle.worked_examples.specs.Calls.{fullBuffer, shortBuffer, commandResult, outcomeResult, refusalResult, with9000}
-use Rattle.worked_examples.specs.Calls.{with6A82}
+use Rattle.worked_examples.specs.Calls.{fullBuffer, shortBuffer, commandResult, outcomeResult, refusalResult}
+use Rattle.worked_examples.specs.Calls.{with9000, with6A82}
 use Rattle.worked_examples.specs.Gpo.{gpoTemplate}
 
 -- a session's record with a byte after it
-abbrev pub sessionInBytes : Session → List ℕ
+abbrev pub sessionInBytes : Session → Bytes
 sessionInBytes s = encodedSession s ++ (0xEE ∷ [])
 
 -- the word of an answer on a session in bytes
-unfoldable pub answerWord : Session → List ℕ → ℕ
+unfoldable pub answerWord : Session → Response → ResultWord
 answerWord s card = hostAnswer card (sessionInBytes s) fullBuffer .word
 
 -- a store whose first place, that of 50, holds two bytes; and one where it is present and empty
-abbrev pub storeOfTwo : List ℕ
+abbrev pub storeOfTwo : StoreBytes
 storeOfTwo = 3 ∷ 0xA1 ∷ 0xA2 ∷ []
 
-abbrev pub storeOfNone : List ℕ
+abbrev pub storeOfNone : StoreBytes
 storeOfNone = 1 ∷ []
 
 -- 5A in a 70
-abbrev pub accountRecord : List ℕ
+abbrev pub accountRecord : Bytes
 accountRecord = 0x70 ∷ 0x04 ∷ 0x5A ∷ 0x02 ∷ 0x54 ∷ 0x13 ∷ []
 
 pub record HostWords : Type 0 where
@@ -92,7 +93,8 @@ pub record HostWords : Type 0 where
       (Holder.Card ∷ Holder.Terminal ∷ Holder.Both ∷ [])
       ≡ 0x63109 ∷ 0x63209 ∷ 0x63309 ∷ []
   -- a search: the place and the length, a tag that is not present, bytes that are truncated
-  pub found : map findWord (findTag 0x5A accountRecord ∷ findTag 0x57 accountRecord ∷ findTag 0x5A (0x70 ∷ 0x04 ∷ []) ∷ [])
+  pub found :
+      map findWord (findTag 0x5A accountRecord ∷ findTag 0x57 accountRecord ∷ findTag 0x5A (0x70 ∷ 0x04 ∷ []) ∷ [])
       ≡ 0x0000000400000002 ∷ 0xFFFFFFFFFFFFFFFF ∷ 0xFFFFFFFFFFFFFFFE ∷ []
   -- 0.1.0, and version 5 of the layout
   pub version : versionWord ≡ 0x00010005

@@ -5,30 +5,31 @@ use mathlib.Core.Path.{_≡_}
 use mathlib.Core.List.{List, [], _∷_, _++_}
 use Prim.Native.Nat.{ℕ}
 use lib.ListN.{replicate}
+use Rattle.basics.specs.Types.{Bytes, AflBytes, Length}
 use Rattle.personalise.specs.Outcome.{cardPlan, personaliseResult}
 use Rattle.personalise.specs.Word.{personaliseWord}
 
 -- 9F08 and 5F34; an AFL of two records, and one whose second entry breaks a rule; both objects in record 1, and
 -- one in record 3
-abbrev pub twoObjects : List ℕ
+abbrev pub twoObjects : Bytes
 twoObjects = 0x9F ∷ 0x08 ∷ 0x02 ∷ 0x00 ∷ 0x02 ∷ 0x5F ∷ 0x34 ∷ 0x01 ∷ 0x01 ∷ []
 
-abbrev pub twoRecordEntry : List ℕ
+abbrev pub twoRecordEntry : AflBytes
 twoRecordEntry = 0x08 ∷ 0x01 ∷ 0x02 ∷ 0x00 ∷ []
 
-abbrev pub badSecondEntry : List ℕ
+abbrev pub badSecondEntry : AflBytes
 badSecondEntry = 0x08 ∷ 0x01 ∷ 0x02 ∷ 0x00 ∷ 0x10 ∷ 0x00 ∷ 0x01 ∷ 0x00 ∷ []
 
-abbrev pub placedInFirst : List ℕ
+abbrev pub placedInFirst : Bytes
 placedInFirst = 0x01 ∷ 0x01 ∷ 0x01 ∷ 0x02 ∷ []
 
-abbrev pub placedInThird : List ℕ
+abbrev pub placedInThird : Bytes
 placedInThird = 0x01 ∷ 0x01 ∷ 0x03 ∷ 0x02 ∷ []
 
--- the word with buffers of so many bytes
-abbrev pub personaliseExampleWord : List ℕ → List ℕ → List ℕ → ℕ → ℕ → ℕ
-personaliseExampleWord os es placements records afl =
-    personaliseWord (personaliseResult (cardPlan os es placements) (replicate records 0) (replicate afl 0))
+-- the word of objects, entries and placements with buffers of so many bytes
+abbrev pub personaliseExampleWord : Bytes → AflBytes → Bytes → Length → Length → ℕ
+personaliseExampleWord objects entries placements records afl =
+    personaliseWord (personaliseResult (cardPlan objects entries placements) (replicate records 0) (replicate afl 0))
 
 pub record PersonaliseWords : Type 0 where
   -- 13 bytes of records and 4 of AFL
