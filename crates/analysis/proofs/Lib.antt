@@ -14,3 +14,4 @@ pub mod CvmSteps
 pub mod CvmStore
 pub mod FindingsExamples
 pub mod OnDeviceExamples
+pub mod Former
