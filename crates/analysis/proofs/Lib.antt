@@ -14,4 +14,3 @@ pub mod CvmSteps
 pub mod CvmStore
 pub mod FindingsExamples
 pub mod OnDeviceExamples
-pub mod Former
