@@ -16,7 +16,7 @@ use Rattle.analysis.specs.Bits.{byteBit}
 use Rattle.analysis.specs.Value.{valueIf}
 use Rattle.analysis.specs.Inner.{cvmAmountMet}
 use Rattle.analysis.proofs.Value.{given-there, given-absent}
-use Rattle.analysis.specs.Cvm.{cvmRule, cvmRulesFrom, cvmRecognised, cvmPerformed, cvmConditionMet, cvmSuccessful, noCvmPerformed, cvmUnsuccessful, nextCvmApplies, cvmRulesOf, byCvmRules, cvmNotPerformed, byCvmList, cvmProcessing}
+use Rattle.analysis.specs.Cvm.{CvmRule, cvmRulesFrom, cvmRecognised, cvmPerformed, cvmConditionMet, cvmSuccessful, noCvmPerformed, cvmUnsuccessful, nextCvmApplies, cvmRulesOf, byCvmRules, cvmNotPerformed, byCvmList, cvmProcessing}
 use Rattle.analysis.specs.declared.cvm.CvmConditions.{CvmConditions}
 
 -- ---- tests joined by the code's operators
@@ -52,6 +52,10 @@ pub or-either : (a b x y : Bool) → a ≡ x → b ≡ y → (a || b) ≡ either
 or-either a b x y p q = or-is a b ∙ ap₂ either p q
 
 -- ---- the rules of a list, one at a time
+
+-- a rule of these two bytes
+abbrev pub cvmRule : ℕ → ℕ → CvmRule
+cvmRule c d = record { code = c; condition = d }
 
 -- the bytes after the first rule, as `&s[2..]` makes them
 abbrev pub tail : List ℕ → List ℕ

@@ -41,14 +41,11 @@ pub record CvmRule : Type 0 where
   pub code : Byte
   pub condition : Byte
 
-abbrev pub cvmRule : Byte → Byte → CvmRule
-cvmRule c d = record { code = c; condition = d }
-
 -- rules are pairs of bytes; an odd last byte is none
 unfoldable pub cvmRulesFrom : Bytes → List CvmRule
 cvmRulesFrom [] = []
 cvmRulesFrom (c ∷ []) = []
-cvmRulesFrom (c ∷ d ∷ s) = cvmRule c d ∷ cvmRulesFrom s
+cvmRulesFrom (c ∷ d ∷ s) = record { code = c; condition = d } ∷ cvmRulesFrom s
 
 -- the rules of the list, from byte 9 on
 abbrev pub cvmRulesOf : Value → List CvmRule
@@ -164,13 +161,11 @@ cvmResult c d r bits m = record { code = c; condition = d; result = r; tvr1 = 0;
 -- CVM.18: a supported CVM is taken; the result of no CVM is successful (02), of the others unknown (00)
 unfoldable pub cvmSuccessful : Byte → Byte → Bool → CvmResult
 cvmSuccessful code condition unrecognised =
-    if cvmCode code =? cvmOnlinePin then
-      cvmResult code condition resultUnknown (tvrByte3 false unrecognised true) OnlinePin
-    else if cvmCode code =? cvmSignature then
-      cvmResult code condition resultUnknown (tvrByte3 false unrecognised false) Signature
-    else if cvmCode code =? cvmNoCvm then
-      cvmResult code condition resultSuccessful (tvrByte3 false unrecognised false) NoCvm
-    else cvmResult code condition resultUnknown (tvrByte3 false unrecognised false) OfflinePin
+    let bits : Bool → Byte = λ pin. tvrByte3 false unrecognised pin in
+    if cvmCode code =? cvmOnlinePin then cvmResult code condition resultUnknown (bits true) OnlinePin
+    else if cvmCode code =? cvmSignature then cvmResult code condition resultUnknown (bits false) Signature
+    else if cvmCode code =? cvmNoCvm then cvmResult code condition resultSuccessful (bits false) NoCvm
+    else cvmResult code condition resultUnknown (bits false) OfflinePin
 
 -- CVM.14 and CVM.25: no rule is left, or an unsuccessful one, other than fail, ends the list
 abbrev pub noCvmPerformed : Bool → CvmResult
@@ -199,10 +194,8 @@ byCvmRules t u (r ∷ rs) =
 -- CVM.6 and CVM.8: no CVM, of which nothing is known; a list that is missing is byte 1 b6 of 95
 abbrev pub cvmNotPerformed : Bool → CvmResult
 cvmNotPerformed missing =
-    record {
-      code = codeNotPerformed; condition = always; result = resultUnknown;
-      tvr1 = bitWeight 6 missing; tvr3 = 0; cvm = NoCvm;
-    }
+    record { code = codeNotPerformed; condition = always; result = resultUnknown; tvr1 = bitWeight 6 missing;
+      tvr3 = 0; cvm = NoCvm }
 
 -- CVM.7: by the list, where there is one; an empty one counts as missing
 abbrev pub byCvmList : StoredValue → CvmConditions → CvmResult

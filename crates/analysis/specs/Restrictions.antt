@@ -62,7 +62,8 @@ aucCashMet usage country transaction =
 unfoldable pub aucGoodsMet : Value → IssuerCountry → Byte → Bool
 aucGoodsMet usage country transaction =
     if isOneOf transaction 0x00 0x09 then
-      byCountry country (valueHasBit usage 1 6 or valueHasBit usage 1 4) (valueHasBit usage 1 5 or valueHasBit usage 1 3)
+      byCountry country
+      (valueHasBit usage 1 6 or valueHasBit usage 1 4) (valueHasBit usage 1 5 or valueHasBit usage 1 3)
     else true
 
 -- cashback: byte 2 b8 at home, b7 abroad
@@ -70,18 +71,14 @@ unfoldable pub aucAllowsCashback : Value → IssuerCountry → Bool → Bool
 aucAllowsCashback usage country asked =
     if asked then byCountry country (valueHasBit usage 2 8) (valueHasBit usage 2 7) else true
 
--- everything that is needed is met
-abbrev pub aucMet : Value → Bool → IssuerCountry → Byte → Bool → Bool
-aucMet usage atm country transaction asked =
-    aucTerminalMet usage atm
-    and aucCashMet usage country transaction
-    and aucGoodsMet usage country transaction
-    and aucAllowsCashback usage country asked
-
 -- the application usage control 9F07 is present and something needed is not met
 unfoldable pub aucViolated : StoredValue → Bool → IssuerCountry → Byte → Bool → Bool
 aucViolated absent atm country transaction asked = false
-aucViolated (present usage) atm country transaction asked = not (aucMet usage atm country transaction asked)
+aucViolated (present usage) atm country transaction asked =
+    not (aucTerminalMet usage atm
+      and aucCashMet usage country transaction
+      and aucGoodsMet usage country transaction
+      and aucAllowsCashback usage country asked)
 
 -- ---- the byte of the four
 

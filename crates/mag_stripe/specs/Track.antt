@@ -5,7 +5,7 @@
 use mathlib.Core.List.{[], _∷_}
 use Prim.Native.Nat.{ℕ, suc, _+_, _-_, _*_}
 use lib.ListN.{drop}
-use Rattle.basics.specs.Types.{Bytes, Count, Digits, Offset, Value}
+use Rattle.basics.specs.Types.{Bytes, Count, Digits, Value}
 use Rattle.basics.specs.Number.{nibbles}
 use Rattle.basics.specs.Choice.{if_then_else_, _=?_}
 use Rattle.mag_stripe.specs.declared.DiscretionaryData.{DiscretionaryData}
@@ -22,18 +22,13 @@ unfoldable pub nibblesBefore : ℕ → Digits → Count
 nibblesBefore x [] = 0
 nibblesBefore x (n ∷ s) = if n =? x then 0 else suc (nibblesBefore x s)
 
--- where the nibble after the first D is
-abbrev pub behindSeparator : Digits → Offset
-behindSeparator s = nibblesBefore trackSeparator s + 1
-
--- how many nibbles are after the first D, up to the first F there or to the end
-abbrev pub discretionaryCount : Digits → Count
-discretionaryCount s = nibblesBefore trackPadding (drop (behindSeparator s) s)
-
--- the discretionary data of a track's nibbles: where they end, and how many digits they have: those after the first
--- seven, expiry date and service code
+-- the discretionary data of a track's nibbles: where they end, which is the first F after the first D or the end of the
+-- track, and how many digits they have: those after the first seven, expiry date and service code
 unfoldable pub discretionaryIn : Digits → DiscretionaryData
-discretionaryIn s = record { end = behindSeparator s + discretionaryCount s; count = discretionaryCount s - 7 }
+discretionaryIn s =
+    let start = nibblesBefore trackSeparator s + 1 in
+    let count = nibblesBefore trackPadding (drop start s) in
+    record { end = start + count; count = count - 7 }
 
 -- the same of a track's bytes
 abbrev pub discretionaryOf : Value → DiscretionaryData

@@ -53,7 +53,7 @@ use Rattle.analysis.specs.Tvr.{tvrWithBits}
 use Rattle.analysis.specs.Choice.{stageHoldsBit, lowestFrom, lowestBit, iacCode, stageHolds, onlineCapabilityAt, choiceOf}
 use Rattle.analysis.specs.declared.choice.Choice.{Choice}
 use Rattle.analysis.specs.declared.cvm.Cvm.{Cvm}
-use Rattle.analysis.specs.Cvm.{cvmRulesFrom, cvmRecognised, cvmSupported, cvmAmountMet, cvmConditionMet, cvmSuccessful as takenBy, cvmUnsuccessful, byCvmRules, cvmProcessing, onDeviceCvm, onDeviceResult}
+use Rattle.analysis.specs.Cvm.{cvmRulesFrom, cvmRecognised, cvmSupported, cvmConditionMet, cvmSuccessful as takenBy, cvmUnsuccessful, byCvmRules, cvmProcessing, onDeviceCvm, onDeviceResult}
 use Rattle.analysis.specs.Action.{hasOnDeviceCvm, transactionLimit, aboveTransactionLimit, aucViolatedIn, restrictionsByte, tvrOf, sameCurrency, cvmConditionsIn, cvmResultIn, tvrWithCvm, findingsOf, actionCodesOf, choiceFor}
 use Rattle.session_record.specs.declared.Outcome.{Outcome}
 use Rattle.session_record.specs.declared.CallResult.{CallResult}
@@ -180,7 +180,7 @@ unfolding commandsSent playIn finalIn callsAccepted outcomeOfReason cryptogramDa
     either every dictionaryRows rowPast findRow settableByStart setObject setObjects fitsRow digitsFit numeric nibbles digitsThenFs compressed terminalTypeListed listedTerminalType rowOffset rowPlace placeValue rowValue putRow objectValueIn allRequiredPresent
     isPresentIfRequired recordStep afterRecordRead afterLastRecord afterRecordsEmv afterAnalysis requestedCryptogram askCryptogram hasOnDeviceCvm transactionLimit aboveTransactionLimit aucViolatedIn restrictionsByte tvrOf sameCurrency cvmConditionsIn cvmResultIn tvrWithCvm
     findingsOf actionCodesOf choiceFor numberedBit firstBytes bcdFrom yearOf dateOf dateLater amountOf amountAbove versionDiffers notYetEffective atAtm issuerCountryOf cashbackRequested aucViolated tvrWithBits stageHoldsBit
-    lowestFrom lowestBit iacCode stageHolds onlineCapabilityAt choiceOf cvmRulesFrom cvmRecognised cvmSupported cvmAmountMet cvmConditionMet takenBy cvmUnsuccessful byCvmRules cvmProcessing onDeviceCvm bytesEqual
+    lowestFrom lowestBit iacCode stageHolds onlineCapabilityAt choiceOf cvmRulesFrom cvmRecognised cvmSupported cvmConditionMet takenBy cvmUnsuccessful byCvmRules cvmProcessing onDeviceCvm bytesEqual
 verified = ap (map callResult) (play-in freshSession fresh-keeps (failing verifyingAnswer))
 
 verified-sent : commandsSent (playCalls freshSession (asking verifyingAnswer))
@@ -193,7 +193,7 @@ unfolding commandsSent playIn finalIn callsAccepted outcomeOfReason cryptogramDa
     either every dictionaryRows rowPast findRow settableByStart setObject setObjects fitsRow digitsFit numeric nibbles digitsThenFs compressed terminalTypeListed listedTerminalType rowOffset rowPlace placeValue rowValue putRow objectValueIn allRequiredPresent
     isPresentIfRequired recordStep afterRecordRead afterLastRecord afterRecordsEmv afterAnalysis requestedCryptogram askCryptogram hasOnDeviceCvm transactionLimit aboveTransactionLimit aucViolatedIn restrictionsByte tvrOf sameCurrency cvmConditionsIn cvmResultIn tvrWithCvm
     findingsOf actionCodesOf choiceFor numberedBit firstBytes bcdFrom yearOf dateOf dateLater amountOf amountAbove versionDiffers notYetEffective atAtm issuerCountryOf cashbackRequested aucViolated tvrWithBits stageHoldsBit
-    lowestFrom lowestBit iacCode stageHolds onlineCapabilityAt choiceOf cvmRulesFrom cvmRecognised cvmSupported cvmAmountMet cvmConditionMet takenBy cvmUnsuccessful byCvmRules cvmProcessing onDeviceCvm bytesEqual
+    lowestFrom lowestBit iacCode stageHolds onlineCapabilityAt choiceOf cvmRulesFrom cvmRecognised cvmSupported cvmConditionMet takenBy cvmUnsuccessful byCvmRules cvmProcessing onDeviceCvm bytesEqual
 verified-sent = ap commandsSent (play-in freshSession fresh-keeps (asking verifyingAnswer))
 
 -- ---- on-device CVM
@@ -213,7 +213,7 @@ unfolding commandsSent playIn finalIn callsAccepted outcomeOfReason cryptogramDa
     either every dictionaryRows rowPast findRow settableByStart setObject setObjects fitsRow digitsFit numeric nibbles digitsThenFs compressed terminalTypeListed listedTerminalType rowOffset rowPlace placeValue rowValue putRow objectValueIn allRequiredPresent
     isPresentIfRequired recordStep afterRecordRead afterLastRecord afterRecordsEmv afterAnalysis requestedCryptogram askCryptogram hasOnDeviceCvm transactionLimit aboveTransactionLimit aucViolatedIn restrictionsByte tvrOf sameCurrency cvmConditionsIn cvmResultIn tvrWithCvm
     findingsOf actionCodesOf choiceFor numberedBit firstBytes bcdFrom yearOf dateOf dateLater amountOf amountAbove versionDiffers notYetEffective atAtm issuerCountryOf cashbackRequested aucViolated tvrWithBits stageHoldsBit
-    lowestFrom lowestBit iacCode stageHolds onlineCapabilityAt choiceOf cvmRulesFrom cvmRecognised cvmSupported cvmAmountMet cvmConditionMet takenBy cvmUnsuccessful byCvmRules cvmProcessing onDeviceCvm onDeviceResult bytesEqual
+    lowestFrom lowestBit iacCode stageHolds onlineCapabilityAt choiceOf cvmRulesFrom cvmRecognised cvmSupported cvmConditionMet takenBy cvmUnsuccessful byCvmRules cvmProcessing onDeviceCvm onDeviceResult bytesEqual
 onDevice = ap (map callResult) (play-in freshSession fresh-keeps (failing onDeviceAnswer))
 
 on-device-held : finalSession freshSession (asking onDeviceAnswer) .phase
@@ -225,7 +225,7 @@ unfolding commandsSent playIn finalIn callsAccepted outcomeOfReason cryptogramDa
     either every dictionaryRows rowPast findRow settableByStart setObject setObjects fitsRow digitsFit numeric nibbles digitsThenFs compressed terminalTypeListed listedTerminalType rowOffset rowPlace placeValue rowValue putRow objectValueIn allRequiredPresent
     isPresentIfRequired recordStep afterRecordRead afterLastRecord afterRecordsEmv afterAnalysis requestedCryptogram askCryptogram hasOnDeviceCvm transactionLimit aboveTransactionLimit aucViolatedIn restrictionsByte tvrOf sameCurrency cvmConditionsIn cvmResultIn tvrWithCvm
     findingsOf actionCodesOf choiceFor numberedBit firstBytes bcdFrom yearOf dateOf dateLater amountOf amountAbove versionDiffers notYetEffective atAtm issuerCountryOf cashbackRequested aucViolated tvrWithBits stageHoldsBit
-    lowestFrom lowestBit iacCode stageHolds onlineCapabilityAt choiceOf cvmRulesFrom cvmRecognised cvmSupported cvmAmountMet cvmConditionMet takenBy cvmUnsuccessful byCvmRules cvmProcessing onDeviceCvm onDeviceResult bytesEqual
+    lowestFrom lowestBit iacCode stageHolds onlineCapabilityAt choiceOf cvmRulesFrom cvmRecognised cvmSupported cvmConditionMet takenBy cvmUnsuccessful byCvmRules cvmProcessing onDeviceCvm onDeviceResult bytesEqual
 on-device-held = ap (λ (s : Session). s .phase) (final-in freshSession fresh-keeps (asking onDeviceAnswer))
 
 on-device-sent : commandsSent (playCalls freshSession (asking onDeviceAnswer))
@@ -238,7 +238,7 @@ unfolding commandsSent playIn finalIn callsAccepted outcomeOfReason cryptogramDa
     either every dictionaryRows rowPast findRow settableByStart setObject setObjects fitsRow digitsFit numeric nibbles digitsThenFs compressed terminalTypeListed listedTerminalType rowOffset rowPlace placeValue rowValue putRow objectValueIn allRequiredPresent
     isPresentIfRequired recordStep afterRecordRead afterLastRecord afterRecordsEmv afterAnalysis requestedCryptogram askCryptogram hasOnDeviceCvm transactionLimit aboveTransactionLimit aucViolatedIn restrictionsByte tvrOf sameCurrency cvmConditionsIn cvmResultIn tvrWithCvm
     findingsOf actionCodesOf choiceFor numberedBit firstBytes bcdFrom yearOf dateOf dateLater amountOf amountAbove versionDiffers notYetEffective atAtm issuerCountryOf cashbackRequested aucViolated tvrWithBits stageHoldsBit
-    lowestFrom lowestBit iacCode stageHolds onlineCapabilityAt choiceOf cvmRulesFrom cvmRecognised cvmSupported cvmAmountMet cvmConditionMet takenBy cvmUnsuccessful byCvmRules cvmProcessing onDeviceCvm onDeviceResult bytesEqual
+    lowestFrom lowestBit iacCode stageHolds onlineCapabilityAt choiceOf cvmRulesFrom cvmRecognised cvmSupported cvmConditionMet takenBy cvmUnsuccessful byCvmRules cvmProcessing onDeviceCvm onDeviceResult bytesEqual
 on-device-sent = ap commandsSent (play-in freshSession fresh-keeps (asking onDeviceAnswer))
 
 -- ---- mag-stripe mode
@@ -269,7 +269,7 @@ unfolding commandsSent playIn finalIn callsAccepted outcomeOfReason cryptogramDa
     either every dictionaryRows rowPast findRow settableByStart setObject setObjects fitsRow digitsFit numeric nibbles digitsThenFs compressed terminalTypeListed listedTerminalType rowOffset rowPlace placeValue rowValue putRow objectValueIn allRequiredPresent
     isPresentIfRequired recordStep afterRecordRead afterLastRecord afterRecordsEmv afterAnalysis requestedCryptogram askCryptogram hasOnDeviceCvm transactionLimit aboveTransactionLimit aucViolatedIn restrictionsByte tvrOf sameCurrency cvmConditionsIn cvmResultIn tvrWithCvm
     findingsOf actionCodesOf choiceFor numberedBit firstBytes bcdFrom yearOf dateOf dateLater amountOf amountAbove versionDiffers notYetEffective atAtm issuerCountryOf cashbackRequested aucViolated tvrWithBits stageHoldsBit
-    lowestFrom lowestBit iacCode stageHolds onlineCapabilityAt choiceOf cvmRulesFrom cvmRecognised cvmSupported cvmAmountMet cvmConditionMet takenBy cvmUnsuccessful byCvmRules cvmProcessing onDeviceCvm bytesEqual trackDataPresent
+    lowestFrom lowestBit iacCode stageHolds onlineCapabilityAt choiceOf cvmRulesFrom cvmRecognised cvmSupported cvmConditionMet takenBy cvmUnsuccessful byCvmRules cvmProcessing onDeviceCvm bytesEqual trackDataPresent
     udolOrDefault computeCryptographicChecksum askChecksum afterRecordsMagStripe afterChecksumRead checksumOutcomeOf checksumReply nibblesBefore discretionaryIn bitmapPlacesFrom bitmapPlaces bitmapWithin canTakeDigits
 striped-said = ap (map callResult) (play-in freshSession fresh-keeps striped)
 
@@ -283,7 +283,7 @@ unfolding commandsSent playIn finalIn callsAccepted outcomeOfReason cryptogramDa
     either every dictionaryRows rowPast findRow settableByStart setObject setObjects fitsRow digitsFit numeric nibbles digitsThenFs compressed terminalTypeListed listedTerminalType rowOffset rowPlace placeValue rowValue putRow objectValueIn allRequiredPresent
     isPresentIfRequired recordStep afterRecordRead afterLastRecord afterRecordsEmv afterAnalysis requestedCryptogram askCryptogram hasOnDeviceCvm transactionLimit aboveTransactionLimit aucViolatedIn restrictionsByte tvrOf sameCurrency cvmConditionsIn cvmResultIn tvrWithCvm
     findingsOf actionCodesOf choiceFor numberedBit firstBytes bcdFrom yearOf dateOf dateLater amountOf amountAbove versionDiffers notYetEffective atAtm issuerCountryOf cashbackRequested aucViolated tvrWithBits stageHoldsBit
-    lowestFrom lowestBit iacCode stageHolds onlineCapabilityAt choiceOf cvmRulesFrom cvmRecognised cvmSupported cvmAmountMet cvmConditionMet takenBy cvmUnsuccessful byCvmRules cvmProcessing onDeviceCvm bytesEqual trackDataPresent
+    lowestFrom lowestBit iacCode stageHolds onlineCapabilityAt choiceOf cvmRulesFrom cvmRecognised cvmSupported cvmConditionMet takenBy cvmUnsuccessful byCvmRules cvmProcessing onDeviceCvm bytesEqual trackDataPresent
     udolOrDefault computeCryptographicChecksum askChecksum afterRecordsMagStripe
 striped-sent = ap commandsSent (play-in freshSession fresh-keeps begunMagStripe)
 
