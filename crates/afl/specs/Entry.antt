@@ -2,27 +2,27 @@
 -- file locator): the file and the records that its four bytes name, and the rules that they satisfy.
 -- Assumes nothing.
 use mathlib.Core.Bool.{Bool}
-use mathlib.Core.List.{List}
-use Prim.Native.Nat.{ℕ, _+_, _-_, _/_, _%_}
+use Prim.Native.Nat.{_+_, _-_, _/_, _%_}
 use lib.ListN.{getD}
+use Rattle.basics.specs.Types.{AflBytes, Byte, Count, SfiNumber}
 use Rattle.basics.specs.Number.{between}
 use Rattle.basics.specs.Choice.{_and_, _≤?_, _=?_}
 use Rattle.afl.specs.declared.AflEntry.{AflEntry}
 
 -- an entry from its four bytes
-abbrev pub aflEntry : ℕ → ℕ → ℕ → ℕ → AflEntry
+abbrev pub aflEntry : Byte → Byte → Byte → Byte → AflEntry
 aflEntry a b c d = record { lead = a; first = b; last = c; offline = d }
 
 -- the entry in the first four of some bytes
-abbrev pub firstEntry : List ℕ → AflEntry
+abbrev pub firstEntry : AflBytes → AflEntry
 firstEntry s = aflEntry (getD s 0 0) (getD s 1 0) (getD s 2 0) (getD s 3 0)
 
 -- the file number: the top five bits of byte 1
-abbrev pub entrySfi : AflEntry → ℕ
+abbrev pub entrySfi : AflEntry → SfiNumber
 entrySfi e = e .lead / 8
 
 -- how many records it names: last - first + 1, and none where last is below first
-abbrev pub entryRecordCount : AflEntry → ℕ
+abbrev pub entryRecordCount : AflEntry → Count
 entryRecordCount e = e .last + 1 - e .first
 
 -- an entry satisfies the rules: no low bit in byte 1, a file number from 1 to 30, records numbered from 1 on, in order,

@@ -5,6 +5,7 @@ use mathlib.Core.Bool.{Bool}
 use mathlib.Core.List.{List, [], _∷_, _++_}
 use Prim.Native.Nat.{ℕ, zero, suc, _+_, _%_}
 use lib.ListN.{length}
+use Rattle.basics.specs.Types.{AflBytes, Count, Reason, RecordNumber, SfiNumber}
 use Rattle.basics.specs.Choice.{if_then_else_, _and_, _=?_, every}
 use Rattle.basics.specs.Reason.{reasonNone, reasonAfl}
 use Rattle.afl.specs.declared.AflEntry.{AflEntry}
@@ -17,7 +18,7 @@ use Rattle.afl.specs.Entry.{aflEntry, entrySfi, entryRecordCount, validE
 use Rattle.basics.specs.Number.{between}
 
 -- the entries, four bytes each, from the front; one to three bytes after the last are no entry
-unfoldable pub aflEntries : List ℕ → List AflEntry
+unfoldable pub aflEntries : AflBytes → List AflEntry
 aflEntries [] = []
 aflEntries (a ∷ []) = []
 aflEntries (a ∷ b ∷ []) = []
@@ -25,11 +26,11 @@ aflEntries (a ∷ b ∷ c ∷ []) = []
 aflEntries (a ∷ b ∷ c ∷ d ∷ rest) = aflEntry a b c d ∷ aflEntries rest
 
 -- the bytes are whole entries
-unfoldable pub wholeEntries : List ℕ → Bool
+unfoldable pub wholeEntries : AflBytes → Bool
 wholeEntries s = length s % 4 =? 0
 
 -- n records of one file, numbered upwards from a first number
-unfoldable pub consecutiveRecords : ℕ → ℕ → ℕ → List CardRecord
+unfoldable pub consecutiveRecords : SfiNumber → RecordNumber → Count → List CardRecord
 consecutiveRecords sfi number zero = []
 consecutiveRecords sfi number (suc n) = record { sfi = sfi; number = number } ∷ consecutiveRecords sfi (number + 1) n
 
@@ -48,29 +49,24 @@ sumOverEntries f [] = 0
 sumOverEntries f (e ∷ es) = f e + sumOverEntries f es
 
 -- the records that an AFL names, in the published order
-abbrev pub aflRecords : List ℕ → List CardRecord
+abbrev pub aflRecords : AflBytes → List CardRecord
 aflRecords s = entriesRecords (aflEntries s)
 
 -- R, how many records an AFL names: the sum of last - first + 1
-abbrev pub aflRecordCount : List ℕ → ℕ
+abbrev pub aflRecordCount : AflBytes → Count
 aflRecordCount s = sumOverEntries entryRecordCount (aflEntries s)
 
 -- an AFL is accepted (document 01's accepted locator): whole entries, each satisfies the rules, 1 to 128 records in all
-unfoldable pub acceptsAfl : List ℕ → Bool
-acceptsAfl s =
-    wholeEntries s
-    and every validEntry (aflEntries s)
-    and between 1 (aflRecordCount s) 128
+unfoldable pub acceptsAfl : AflBytes → Bool
+acceptsAfl s = wholeEntries s and every validEntry (aflEntries s) and between 1 (aflRecordCount s) 128
 
 -- what a check of an AFL reports: R if it is accepted
-unfoldable pub aflChecked : List ℕ → AflCheck
-aflChecked s =
-    if acceptsAfl s then Accepted (record { records = aflRecordCount s })
-    else Rejected
+unfoldable pub aflChecked : AflBytes → AflCheck
+aflChecked s = if acceptsAfl s then Accepted (record { records = aflRecordCount s }) else Rejected
 
 -- the number of a check's answer (document 01, "Calls and their numbers"): 0 where it gives no reason, else 5, an AFL
 -- that breaks its rules
-abbrev pub aflReason : AflCheck → ℕ
+abbrev pub aflReason : AflCheck → Reason
 aflReason (Accepted e) = reasonNone
 aflReason Rejected = reasonAfl
 
@@ -81,12 +77,10 @@ nthRecord zero (r ∷ l) = At r
 nthRecord (suc i) (r ∷ l) = nthRecord i l
 
 -- the k-th record of a list, k from 1
-unfoldable pub kthRecord : ℕ → List CardRecord → RecordFound
+unfoldable pub kthRecord : RecordNumber → List CardRecord → RecordFound
 kthRecord zero l = Nothing
 kthRecord (suc i) l = nthRecord i l
 
 -- the k-th record of an accepted AFL, k from 1 to R
-unfoldable pub aflRecordAt : List ℕ → ℕ → RecordFound
-aflRecordAt s k =
-    if acceptsAfl s then kthRecord k (aflRecords s)
-    else Nothing
+unfoldable pub aflRecordAt : AflBytes → RecordNumber → RecordFound
+aflRecordAt s k = if acceptsAfl s then kthRecord k (aflRecords s) else Nothing

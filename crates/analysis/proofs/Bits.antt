@@ -15,8 +15,8 @@ use Rattle.store.specs.Place.{objectValue}
 use Rattle.store.specs.Held.{storedBytes}
 use Rattle.analysis.specs.Action.{aucViolatedIn, restrictionsByte, tvrOf}
 use Rattle.analysis.specs.Bits.{numberedBit, bitWeight}
-use Rattle.analysis.specs.Digits.{amountAbove}
-use Rattle.analysis.specs.Restrictions.{versionDiffers, applicationExpired, notYetEffective, tvrByte2}
+use Rattle.analysis.specs.Digits.{dateLater, amountAbove}
+use Rattle.analysis.specs.Restrictions.{versionDiffers, notYetEffective, tvrByte2}
 use Rattle.analysis.specs.Tvr.{tvrFrom}
 
 -- a test passes at both truth values; at every number below n
@@ -53,9 +53,9 @@ agreed false false e = refl
 
 -- the tests in the order of the bits: byte 1 b8; byte 2 b8 to b5; byte 4 b8; past the list no bit is set
 abbrev pub testsOf : Bool → Bool → Bool → Bool → Bool → List Bool
-testsOf version applicationExpired early usage floor =
+testsOf version expired early usage floor =
     true ∷ false ∷ false ∷ false ∷ false ∷ false ∷ false ∷ false ∷
-    version ∷ applicationExpired ∷ early ∷ usage ∷ false ∷ false ∷ false ∷ false ∷
+    version ∷ expired ∷ early ∷ usage ∷ false ∷ false ∷ false ∷ false ∷
     false ∷ false ∷ false ∷ false ∷ false ∷ false ∷ false ∷ false ∷
     floor ∷ []
 
@@ -75,7 +75,7 @@ result-bit v x e u f i h =
 -- the tests of a store, and its bits
 abbrev pub testsIn : List ℕ → List Bool
 testsIn store =
-    testsOf (versionDiffers (objectValue store 0x9F08) (storedBytes store 0x9F09)) (applicationExpired (storedBytes store 0x9A) (storedBytes store 0x5F24))
+    testsOf (versionDiffers (objectValue store 0x9F08) (storedBytes store 0x9F09)) (dateLater (storedBytes store 0x9A) (storedBytes store 0x5F24))
     (notYetEffective (objectValue store 0x5F25) (storedBytes store 0x9A)) (aucViolatedIn store) (amountAbove (storedBytes store 0x9F02) (storedBytes store 0xDF8123))
 
 pub stored-bit : (store : List ℕ) (i : ℕ) → i < 40 → numberedBit (tvrOf store) i ≡ getD (testsIn store) i false

@@ -15,12 +15,12 @@ use Rattle.basics.specs.Choice.{if, both, either, every}
 use Rattle.basics.proofs.Laws.{if-yes, if-no, if-ind, bool-cases, both-left, both-right, either-false}
 use Rattle.store.specs.Place.{StoredValue, absent, present}
 use Rattle.analysis.specs.Bits.{byteBit, bitWeight}
-use Rattle.analysis.specs.Cvm.{CvmRule, cvmRule, cvmRulesFrom, cvmRulesOf, cvmRecognised, cvmPerformed, cvmConditionMet, tvrByte3, cvmSuccessful, noCvmPerformed, cvmUnsuccessful, nextCvmApplies, byCvmRules, cvmResult, cvmNotPerformed, byCvmList, cvmProcessing, onDeviceResult}
+use Rattle.analysis.specs.Cvm.{CvmRule, cvmRulesFrom, cvmRulesOf, cvmRecognised, cvmPerformed, cvmConditionMet, tvrByte3, cvmSuccessful, noCvmPerformed, cvmUnsuccessful, nextCvmApplies, byCvmRules, cvmResult, cvmNotPerformed, byCvmList, cvmProcessing, onDeviceResult}
 use Rattle.analysis.specs.declared.cvm.Cvm.{Cvm}
 use Rattle.analysis.specs.declared.cvm.Cvm.the-variants.{NoCvm, Signature, OnlinePin, OfflinePin}
 use Rattle.analysis.specs.declared.cvm.CvmConditions.{CvmConditions}
 use Rattle.analysis.specs.declared.cvm.CvmResult.{CvmResult}
-use Rattle.analysis.proofs.CvmSteps.{rules-short, by-bytes}
+use Rattle.analysis.proofs.CvmSteps.{cvmRule, rules-short, by-bytes}
 
 -- ---- the rule that decides
 

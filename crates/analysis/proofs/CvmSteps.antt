@@ -8,13 +8,15 @@ use native.Mathlib.Nat.{le-refl}
 use native.Mathlib.Omega.{arith}
 use lib.ListN.{length, take, drop, getD, length-drop}
 use lib.Seq.{take-all}
-use Rattle.basics.specs.Choice.{both, either}
+use borrow.Author.Tests.{ne-eqb}
+use Rattle.basics.specs.Choice.{if, both, either}
 use Rattle.basics.proofs.Laws.{if-yes, if-no}
 use Rattle.store.specs.Place.{StoredValue, present}
 use Rattle.analysis.specs.Bits.{byteBit}
 use Rattle.analysis.specs.Value.{valueIf}
+use Rattle.analysis.specs.Inner.{cvmAmountMet}
 use Rattle.analysis.proofs.Value.{given-there, given-absent}
-use Rattle.analysis.specs.Cvm.{cvmRule, cvmRulesFrom, cvmRecognised, cvmPerformed, cvmConditionMet, cvmSuccessful, noCvmPerformed, cvmUnsuccessful, nextCvmApplies, cvmRulesOf, byCvmRules, cvmNotPerformed, byCvmList, cvmProcessing}
+use Rattle.analysis.specs.Cvm.{CvmRule, cvmRulesFrom, cvmRecognised, cvmPerformed, cvmConditionMet, cvmSuccessful, noCvmPerformed, cvmUnsuccessful, nextCvmApplies, cvmRulesOf, byCvmRules, cvmNotPerformed, byCvmList, cvmProcessing}
 use Rattle.analysis.specs.declared.cvm.CvmConditions.{CvmConditions}
 
 -- ---- tests joined by the code's operators
@@ -32,10 +34,28 @@ or-is false b = refl
 pub and-both : (a b x y : Bool) → a ≡ x → b ≡ y → (a && b) ≡ both x y
 and-both a b x y p q = and-is a b ∙ ap₂ both p q
 
+-- what counts in the application's currency alone
+pub in-currency : (a b : Bool) → both a b ≡ if (not a) false b
+unfolding both if
+in-currency true b = refl
+in-currency false b = refl
+
+-- any condition but the first six is one of the amount
+pub condition-amount : (t : CvmConditions) (code d : ℕ) → (d ≡ 0 → ⊥) → (d ≡ 1 → ⊥) → (d ≡ 2 → ⊥) → (d ≡ 3 → ⊥) → (d ≡ 4 → ⊥) → (d ≡ 5 → ⊥)
+    → cvmConditionMet t code d ≡ both (t .currency) (cvmAmountMet t d)
+unfolding cvmConditionMet
+condition-amount t code d a b c e f g =
+    if-no _ _ (ne-eqb d 0 a) ∙ if-no _ _ (ne-eqb d 1 b) ∙ if-no _ _ (ne-eqb d 2 c) ∙ if-no _ _ (ne-eqb d 3 e) ∙ if-no _ _ (ne-eqb d 4 f) ∙ if-no _ _ (ne-eqb d 5 g)
+    ∙ sym (in-currency (t .currency) (cvmAmountMet t d))
+
 pub or-either : (a b x y : Bool) → a ≡ x → b ≡ y → (a || b) ≡ either x y
 or-either a b x y p q = or-is a b ∙ ap₂ either p q
 
 -- ---- the rules of a list, one at a time
+
+-- a rule of these two bytes
+abbrev pub cvmRule : ℕ → ℕ → CvmRule
+cvmRule c d = record { code = c; condition = d }
 
 -- the bytes after the first rule, as `&s[2..]` makes them
 abbrev pub tail : List ℕ → List ℕ

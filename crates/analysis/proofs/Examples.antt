@@ -16,7 +16,7 @@ use Rattle.analysis.specs.Action.{hasOnDeviceCvm, aboveTransactionLimit,
 use Rattle.analysis.specs.Bits.{numberedBit}
 use Rattle.analysis.specs.Choice.{denialStage, onlineStage, defaultStage, stageHoldsBit, lowestFrom, lowestBit, zeroCode, onesCode, iacCode, stageHolds, onlineCapabilityAt, choiceOf, generateAcP1, generateAcP1For}
 use Rattle.analysis.specs.Digits.{bcdFrom, yearOf, dateOf, dateLater, amountOf, amountAbove}
-use Rattle.analysis.specs.Restrictions.{versionDiffers, applicationExpired, notYetEffective, atAtm, issuerCountryOf, cashbackRequested, aucTerminalMet, aucCashMet, aucGoodsMet, aucAllowsCashback, aucViolated, aucViolatedBy, tvrByte2}
+use Rattle.analysis.specs.Restrictions.{versionDiffers, notYetEffective, atAtm, issuerCountryOf, cashbackRequested, aucTerminalMet, aucCashMet, aucGoodsMet, aucAllowsCashback, aucViolated, tvrByte2}
 use Rattle.analysis.specs.Tvr.{tvrByte4, tvrFrom}
 use Rattle.analysis.specs.Value.{firstBytes}
 use Rattle.analysis.specs.Cvm.{onDeviceCvm}
@@ -35,7 +35,7 @@ dates = refl
 
 -- expired by the transaction date after the expiration date, not yet effective by the effective date after the
 -- transaction date
-expirations : map (applicationExpired (0x25 ∷ 0x12 ∷ 0x31 ∷ [])) ((0x25 ∷ 0x12 ∷ 0x30 ∷ []) ∷ (0x25 ∷ 0x12 ∷ 0x31 ∷ []) ∷ []) ≡ true ∷ false ∷ []
+expirations : map (dateLater (0x25 ∷ 0x12 ∷ 0x31 ∷ [])) ((0x25 ∷ 0x12 ∷ 0x30 ∷ []) ∷ (0x25 ∷ 0x12 ∷ 0x31 ∷ []) ∷ []) ≡ true ∷ false ∷ []
 unfolding dateLater dateOf yearOf if firstBytes bcdFrom nibbles
 expirations = refl
 
@@ -52,7 +52,7 @@ years = refl
 
 -- the transaction date today is after the expiration date; the effective date is after today
 abbrev across : List ℕ → List ℕ → List ℕ → List Bool
-across today expiration effective = applicationExpired today expiration ∷ notYetEffective (present effective) today ∷ []
+across today expiration effective = dateLater today expiration ∷ notYetEffective (present effective) today ∷ []
 
 centuries :
     across (0x25 ∷ 0x11 ∷ 0x16 ∷ []) (0x30 ∷ 0x12 ∷ 0x31 ∷ []) (0x99 ∷ 0x01 ∷ 0x01 ∷ [])
@@ -68,10 +68,10 @@ unfolding notYetEffective dateLater dateOf yearOf if firstBytes bcdFrom nibbles
 centuries = refl
 
 -- the last year of the window and its first; month and day are compared as digits
-expiries : applicationExpired (0x25 ∷ 0x11 ∷ 0x16 ∷ []) (0x49 ∷ 0x12 ∷ 0x31 ∷ [])
-    ∷ applicationExpired (0x25 ∷ 0x11 ∷ 0x16 ∷ []) (0x50 ∷ 0x01 ∷ 0x01 ∷ [])
-    ∷ applicationExpired (0x00 ∷ 0x01 ∷ 0x01 ∷ []) (0x99 ∷ 0x12 ∷ 0x31 ∷ [])
-    ∷ applicationExpired (0x25 ∷ 0x13 ∷ 0x99 ∷ []) (0x25 ∷ 0x14 ∷ 0x00 ∷ []) ∷ []
+expiries : dateLater (0x25 ∷ 0x11 ∷ 0x16 ∷ []) (0x49 ∷ 0x12 ∷ 0x31 ∷ [])
+    ∷ dateLater (0x25 ∷ 0x11 ∷ 0x16 ∷ []) (0x50 ∷ 0x01 ∷ 0x01 ∷ [])
+    ∷ dateLater (0x00 ∷ 0x01 ∷ 0x01 ∷ []) (0x99 ∷ 0x12 ∷ 0x31 ∷ [])
+    ∷ dateLater (0x25 ∷ 0x13 ∷ 0x99 ∷ []) (0x25 ∷ 0x14 ∷ 0x00 ∷ []) ∷ []
     ≡ false ∷ true ∷ true ∷ false ∷ []
 unfolding dateLater dateOf yearOf if firstBytes bcdFrom nibbles
 expiries = refl
@@ -167,6 +167,11 @@ cashback-abroad = refl
 cashback-not-asked : aucAllowsCashback (0x00 ∷ 0x00 ∷ []) Home false ≡ true
 unfolding aucAllowsCashback if
 cashback-not-asked = refl
+
+-- usage over the values: 9F07, the terminal's type, 9F40, 5F28, 9F1A, 9C and 9F03
+abbrev aucViolatedBy : StoredValue → ℕ → StoredValue → StoredValue → List ℕ → ℕ → StoredValue → Bool
+aucViolatedBy control kind capabilities issuer terminal transaction other =
+    aucViolated control (atAtm kind capabilities) (issuerCountryOf issuer terminal) transaction (cashbackRequested other)
 
 -- goods at home with cashback at no ATM: all three bits, each of them missing, and no control
 usage-whole : map (λ (v : StoredValue). aucViolatedBy v 0x22 absent (present (0x08 ∷ 0x40 ∷ [])) (0x08 ∷ 0x40 ∷ []) 0x00 (present (0 ∷ 0 ∷ 0 ∷ 0 ∷ 0 ∷ 0x01 ∷ [])))

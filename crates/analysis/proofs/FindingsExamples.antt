@@ -15,7 +15,7 @@ use Rattle.analysis.specs.Value.{firstBytes}
 use Rattle.analysis.specs.Digits.{bcdFrom, yearOf, dateOf, dateLater, amountOf, amountAbove}
 use Rattle.analysis.specs.Restrictions.{versionDiffers, notYetEffective, atAtm, issuerCountryOf, cashbackRequested, aucViolated}
 use Rattle.analysis.specs.Tvr.{tvrWithBits}
-use Rattle.analysis.specs.Cvm.{cvmRulesFrom, cvmRecognised, cvmSupported, cvmAmountMet, cvmConditionMet, cvmSuccessful, cvmUnsuccessful, byCvmRules, cvmNumber, cvmProcessing, onDeviceCvm}
+use Rattle.analysis.specs.Cvm.{cvmRulesFrom, cvmRecognised, cvmSupported, cvmConditionMet, cvmSuccessful, cvmUnsuccessful, byCvmRules, cvmNumber, cvmProcessing, onDeviceCvm}
 use Rattle.analysis.specs.Action.{hasOnDeviceCvm, aucViolatedIn, restrictionsByte, tvrOf, sameCurrency, cvmConditionsIn, cvmResultIn, tvrWithCvm, findingsOf}
 use Rattle.analysis.specs.declared.action.AnalysisFindings.{AnalysisFindings}
 
@@ -57,7 +57,7 @@ supports :
     ∷ (0x3F ∷ 0x00 ∷ 0x01 ∷ 0x80 ∷ 0x00 ∷ 0x80 ∷ 0x00 ∷ 0x00 ∷ 0 ∷ [])
     ∷ []
 unfolding shown storing findingsOf tvrWithCvm cvmResultIn hasOnDeviceCvm onDeviceCvm cvmConditionsIn sameCurrency tvrOf restrictionsByte aucViolatedIn tvrWithBits versionDiffers notYetEffective aucViolated atAtm issuerCountryOf
-    cashbackRequested dateLater dateOf yearOf amountAbove amountOf bcdFrom nibbles bigEndianFrom bytesEqual cvmProcessing byCvmRules cvmRulesFrom cvmConditionMet cvmAmountMet cvmSupported cvmRecognised cvmSuccessful cvmUnsuccessful firstBytes
+    cashbackRequested dateLater dateOf yearOf amountAbove amountOf bcdFrom nibbles bigEndianFrom bytesEqual cvmProcessing byCvmRules cvmRulesFrom cvmConditionMet cvmSupported cvmRecognised cvmSuccessful cvmUnsuccessful firstBytes
     putRow rowNumberOf objectValueIn rowValue rowPlace placeValue rowOffset findRow rowPast dictionaryRows if both either
 supports = refl
 
@@ -72,7 +72,7 @@ amounts :
     ∷ (0x1F ∷ 0x00 ∷ 0x02 ∷ 0x80 ∷ 0x00 ∷ 0x00 ∷ 0x00 ∷ 0x00 ∷ 0 ∷ [])
     ∷ []
 unfolding shown storing findingsOf tvrWithCvm cvmResultIn hasOnDeviceCvm onDeviceCvm cvmConditionsIn sameCurrency tvrOf restrictionsByte aucViolatedIn tvrWithBits versionDiffers notYetEffective aucViolated atAtm issuerCountryOf
-    cashbackRequested dateLater dateOf yearOf amountAbove amountOf bcdFrom nibbles bigEndianFrom bytesEqual cvmProcessing byCvmRules cvmRulesFrom cvmConditionMet cvmAmountMet cvmSupported cvmRecognised cvmSuccessful cvmUnsuccessful firstBytes
+    cashbackRequested dateLater dateOf yearOf amountAbove amountOf bcdFrom nibbles bigEndianFrom bytesEqual cvmProcessing byCvmRules cvmRulesFrom cvmConditionMet cvmSupported cvmRecognised cvmSuccessful cvmUnsuccessful firstBytes
     putRow rowNumberOf objectValueIn rowValue rowPlace placeValue rowOffset findRow rowPast dictionaryRows if both either
 amounts = refl
 
@@ -87,7 +87,7 @@ unsuccessful-rules :
     ∷ (0x3F ∷ 0x00 ∷ 0x01 ∷ 0x80 ∷ 0x00 ∷ 0x80 ∷ 0x00 ∷ 0x00 ∷ 0 ∷ [])
     ∷ []
 unfolding shown storing findingsOf tvrWithCvm cvmResultIn hasOnDeviceCvm onDeviceCvm cvmConditionsIn sameCurrency tvrOf restrictionsByte aucViolatedIn tvrWithBits versionDiffers notYetEffective aucViolated atAtm issuerCountryOf
-    cashbackRequested dateLater dateOf yearOf amountAbove amountOf bcdFrom nibbles bigEndianFrom bytesEqual cvmProcessing byCvmRules cvmRulesFrom cvmConditionMet cvmAmountMet cvmSupported cvmRecognised cvmSuccessful cvmUnsuccessful firstBytes
+    cashbackRequested dateLater dateOf yearOf amountAbove amountOf bcdFrom nibbles bigEndianFrom bytesEqual cvmProcessing byCvmRules cvmRulesFrom cvmConditionMet cvmSupported cvmRecognised cvmSuccessful cvmUnsuccessful firstBytes
     putRow rowNumberOf objectValueIn rowValue rowPlace placeValue rowOffset findRow rowPast dictionaryRows if both either
 unsuccessful-rules = refl
 
@@ -104,7 +104,7 @@ types :
     ∷ (0x44 ∷ 0x03 ∷ 0x00 ∷ 0x80 ∷ 0x00 ∷ 0x00 ∷ 0x00 ∷ 0x00 ∷ 4 ∷ [])
     ∷ []
 unfolding shown storing findingsOf tvrWithCvm cvmResultIn hasOnDeviceCvm onDeviceCvm cvmConditionsIn sameCurrency tvrOf restrictionsByte aucViolatedIn tvrWithBits versionDiffers notYetEffective aucViolated atAtm issuerCountryOf
-    cashbackRequested dateLater dateOf yearOf amountAbove amountOf bcdFrom nibbles bigEndianFrom bytesEqual cvmProcessing byCvmRules cvmRulesFrom cvmConditionMet cvmAmountMet cvmSupported cvmRecognised cvmSuccessful cvmUnsuccessful firstBytes
+    cashbackRequested dateLater dateOf yearOf amountAbove amountOf bcdFrom nibbles bigEndianFrom bytesEqual cvmProcessing byCvmRules cvmRulesFrom cvmConditionMet cvmSupported cvmRecognised cvmSuccessful cvmUnsuccessful firstBytes
     putRow rowNumberOf objectValueIn rowValue rowPlace placeValue rowOffset findRow rowPast dictionaryRows if both either
 types = refl
 
@@ -121,7 +121,7 @@ currencies :
     ∷ (0x5E ∷ 0x09 ∷ 0x00 ∷ 0x80 ∷ 0x00 ∷ 0x00 ∷ 0x80 ∷ 0x00 ∷ 1 ∷ [])
     ∷ []
 unfolding shown storing findingsOf tvrWithCvm cvmResultIn hasOnDeviceCvm onDeviceCvm cvmConditionsIn sameCurrency tvrOf restrictionsByte aucViolatedIn tvrWithBits versionDiffers notYetEffective aucViolated atAtm issuerCountryOf
-    cashbackRequested dateLater dateOf yearOf amountAbove amountOf bcdFrom nibbles bigEndianFrom bytesEqual cvmProcessing byCvmRules cvmRulesFrom cvmConditionMet cvmAmountMet cvmSupported cvmRecognised cvmSuccessful cvmUnsuccessful firstBytes
+    cashbackRequested dateLater dateOf yearOf amountAbove amountOf bcdFrom nibbles bigEndianFrom bytesEqual cvmProcessing byCvmRules cvmRulesFrom cvmConditionMet cvmSupported cvmRecognised cvmSuccessful cvmUnsuccessful firstBytes
     putRow rowNumberOf objectValueIn rowValue rowPlace placeValue rowOffset findRow rowPast dictionaryRows if both either
 currencies = refl
 
@@ -139,6 +139,6 @@ places :
     ∷ (0x1F ∷ 0x02 ∷ 0x02 ∷ 0x80 ∷ 0x00 ∷ 0x00 ∷ 0x00 ∷ 0x00 ∷ 0 ∷ [])
     ∷ []
 unfolding shown storing findingsOf tvrWithCvm cvmResultIn hasOnDeviceCvm onDeviceCvm cvmConditionsIn sameCurrency tvrOf restrictionsByte aucViolatedIn tvrWithBits versionDiffers notYetEffective aucViolated atAtm issuerCountryOf
-    cashbackRequested dateLater dateOf yearOf amountAbove amountOf bcdFrom nibbles bigEndianFrom bytesEqual cvmProcessing byCvmRules cvmRulesFrom cvmConditionMet cvmAmountMet cvmSupported cvmRecognised cvmSuccessful cvmUnsuccessful firstBytes
+    cashbackRequested dateLater dateOf yearOf amountAbove amountOf bcdFrom nibbles bigEndianFrom bytesEqual cvmProcessing byCvmRules cvmRulesFrom cvmConditionMet cvmSupported cvmRecognised cvmSuccessful cvmUnsuccessful firstBytes
     putRow rowNumberOf objectValueIn rowValue rowPlace placeValue rowOffset findRow rowPast dictionaryRows if both either
 places = refl

@@ -16,7 +16,7 @@ use Rattle.analysis.specs.Value.{firstBytes}
 use Rattle.analysis.specs.Digits.{bcdFrom, yearOf, dateOf, dateLater, amountOf, amountAbove}
 use Rattle.analysis.specs.Restrictions.{versionDiffers, notYetEffective, atAtm, issuerCountryOf, cashbackRequested, aucViolated}
 use Rattle.analysis.specs.Tvr.{tvrWithBits}
-use Rattle.analysis.specs.Cvm.{cvmRulesFrom, cvmRecognised, cvmSupported, cvmAmountMet, cvmConditionMet, cvmSuccessful, cvmUnsuccessful, byCvmRules, cvmProcessing, onDeviceCvm, onDeviceResult}
+use Rattle.analysis.specs.Cvm.{cvmRulesFrom, cvmRecognised, cvmSupported, cvmConditionMet, cvmSuccessful, cvmUnsuccessful, byCvmRules, cvmProcessing, onDeviceCvm, onDeviceResult}
 use Rattle.analysis.specs.Action.{hasOnDeviceCvm, transactionLimit, aboveTransactionLimit, aucViolatedIn, restrictionsByte, tvrOf, sameCurrency, cvmConditionsIn, cvmResultIn, tvrWithCvm, findingsOf}
 use Rattle.analysis.proofs.FindingsExamples.{storing, plain, shown}
 
@@ -66,7 +66,7 @@ not-phones :
     ∷ (0x5E ∷ 0x00 ∷ 0x00 ∷ 0x80 ∷ 0x00 ∷ 0x00 ∷ 0x00 ∷ 0x00 ∷ 1 ∷ [])
     ∷ []
 unfolding shown storing findingsOf tvrWithCvm cvmResultIn hasOnDeviceCvm onDeviceCvm cvmConditionsIn sameCurrency tvrOf restrictionsByte aucViolatedIn tvrWithBits versionDiffers notYetEffective aucViolated atAtm issuerCountryOf
-    cashbackRequested dateLater dateOf yearOf amountAbove amountOf bcdFrom nibbles bigEndianFrom bytesEqual cvmProcessing byCvmRules cvmRulesFrom cvmConditionMet cvmAmountMet cvmSupported cvmRecognised cvmSuccessful cvmUnsuccessful firstBytes
+    cashbackRequested dateLater dateOf yearOf amountAbove amountOf bcdFrom nibbles bigEndianFrom bytesEqual cvmProcessing byCvmRules cvmRulesFrom cvmConditionMet cvmSupported cvmRecognised cvmSuccessful cvmUnsuccessful firstBytes
     putRow rowNumberOf objectValueIn rowValue rowPlace placeValue rowOffset findRow rowPast dictionaryRows if both either
 not-phones = refl
 

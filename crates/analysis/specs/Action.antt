@@ -10,16 +10,18 @@
 use mathlib.Core.Path.{_≡_}
 use mathlib.Core.Bool.{Bool, true, false}
 use mathlib.Core.List.{List, [], _∷_}
-use Prim.Native.Nat.{ℕ}
+use Rattle.basics.specs.Types.{Amount, Byte, StoreBytes, Tag, TvrBytes}
 use Rattle.basics.specs.Alike.{bytesEqual}
 use Rattle.basics.specs.Choice.{if_then_else_, _<?_, _=?_}
 use Rattle.store.specs.Place.{StoredValue, absent, present, objectValue}
 use Rattle.store.specs.Held.{storedBytes, storedByte}
 use Rattle.analysis.specs.Choice.{denialStage, onlineStage, defaultStage, actionCodesAt, choiceOf}
-use Rattle.analysis.specs.Digits.{isOneOf, amountOf, amountAbove}
-use Rattle.analysis.specs.Restrictions.{versionDiffers, applicationExpired, notYetEffective, atAtm, aucViolatedBy, tvrByte2}
+use Rattle.analysis.specs.Digits.{isOneOf, dateLater, amountOf, amountAbove}
+use Rattle.analysis.specs.Restrictions.{versionDiffers, notYetEffective, atAtm, issuerCountryOf}
+use Rattle.analysis.specs.Restrictions.{cashbackRequested, aucViolated, tvrByte2}
 use Rattle.analysis.specs.Tvr.{tvrByte4, tvrFrom, tvrWithBits}
-use Rattle.analysis.specs.Cvm.{cvmAmountX, cvmAmountY, cvmProcessing, onDeviceCvm, onDeviceResult, cvmResultsBytes, cvmTvrBits}
+use Rattle.analysis.specs.Cvm.{cvmAmountX, cvmAmountY, cvmProcessing, onDeviceCvm, onDeviceResult}
+use Rattle.analysis.specs.Cvm.{cvmResultsBytes, cvmTvrBits}
 use Rattle.analysis.specs.declared.action.AnalysisFindings.{AnalysisFindings}
 use Rattle.analysis.specs.declared.choice.Choice.{Choice}
 use Rattle.analysis.specs.declared.choice.ActionCodes.{ActionCodes}
@@ -29,51 +31,51 @@ use Rattle.analysis.specs.declared.cvm.CvmResult.{CvmResult}
 -- ---- what the store holds
 
 -- the terminal's type: the first byte of 9F35, 0 where it is absent
-abbrev pub terminalType : List ℕ → ℕ
+abbrev pub terminalType : StoreBytes → Byte
 terminalType store = storedByte store 0x9F35 1
 
 -- the transaction's type: the first byte of 9C
-abbrev pub transactionType : List ℕ → ℕ
+abbrev pub transactionType : StoreBytes → Byte
 transactionType store = storedByte store 0x9C 1
 
 -- a device with on-device CVM, by the AIP (82) and the terminal's configuration DF811B
-unfoldable pub hasOnDeviceCvm : List ℕ → Bool
+unfoldable pub hasOnDeviceCvm : StoreBytes → Bool
 hasOnDeviceCvm store = onDeviceCvm (storedByte store 0x82 1) (storedByte store 0xDF811B 1)
 
 -- ---- the transaction limit
 
 -- the Reader Contactless Transaction Limit of this session (document 02, Item 8; Book C-2, S3.33 to S3.35): DF8125 with
 -- on-device CVM, else DF8124
-unfoldable pub transactionLimit : List ℕ → ℕ
+unfoldable pub transactionLimit : StoreBytes → Amount
 transactionLimit store =
     if hasOnDeviceCvm store then amountOf (storedBytes store 0xDF8125)
     else amountOf (storedBytes store 0xDF8124)
 
 -- reason 6 (Book C-2, S456.14): the amount is above a limit; an equal one is not
-unfoldable pub aboveTransactionLimit : ℕ → List ℕ → Bool
+unfoldable pub aboveTransactionLimit : Amount → StoreBytes → Bool
 aboveTransactionLimit limit store = limit <? amountOf (storedBytes store 0x9F02)
 
 -- ---- the TVR
 
 -- byte 2 b5: the application usage control against type, capabilities, countries, transaction type and other amount
-unfoldable pub aucViolatedIn : List ℕ → Bool
+unfoldable pub aucViolatedIn : StoreBytes → Bool
 aucViolatedIn store =
-    aucViolatedBy (objectValue store 0x9F07)
-    (terminalType store) (objectValue store 0x9F40)
-    (objectValue store 0x5F28) (storedBytes store 0x9F1A)
-    (transactionType store) (objectValue store 0x9F03)
+    aucViolated (objectValue store 0x9F07)
+    (atAtm (terminalType store) (objectValue store 0x9F40))
+    (issuerCountryOf (objectValue store 0x5F28) (storedBytes store 0x9F1A))
+    (transactionType store) (cashbackRequested (objectValue store 0x9F03))
 
--- byte 2: version, expiration date, effective date, usage
-unfoldable pub restrictionsByte : List ℕ → ℕ
+-- byte 2: version; the transaction date 9A later than the expiration date 5F24; effective date; usage
+unfoldable pub restrictionsByte : StoreBytes → Byte
 restrictionsByte store =
     tvrByte2
     (versionDiffers (objectValue store 0x9F08) (storedBytes store 0x9F09))
-    (applicationExpired (storedBytes store 0x9A) (storedBytes store 0x5F24))
+    (dateLater (storedBytes store 0x9A) (storedBytes store 0x5F24))
     (notYetEffective (objectValue store 0x5F25) (storedBytes store 0x9A))
     (aucViolatedIn store)
 
 -- the five bytes of 95 by restrictions and floor limit
-unfoldable pub tvrOf : List ℕ → List ℕ
+unfoldable pub tvrOf : StoreBytes → TvrBytes
 tvrOf store = tvrFrom (restrictionsByte store) (tvrByte4 (storedBytes store 0x9F02) (storedBytes store 0xDF8123))
 
 -- ---- cardholder verification
@@ -86,7 +88,7 @@ sameCurrency (present transaction) (present application) = bytesEqual transactio
 
 -- what the conditions of the CVM List's rules depend on: byte 2 of 9F33; cash, type 01 or 17, and cashback, type 09; an
 -- ATM; the currency; the amount 9F02, and X and Y of the CVM List (8E)
-unfoldable pub cvmConditionsIn : List ℕ → CvmConditions
+unfoldable pub cvmConditionsIn : StoreBytes → CvmConditions
 cvmConditionsIn store =
     record {
       capabilities = storedByte store 0x9F33 2;
@@ -100,24 +102,24 @@ cvmConditionsIn store =
     }
 
 -- the CVM: with on-device CVM by the limit DF8126 alone, else by the AIP (82) and the CVM List (8E)
-unfoldable pub cvmResultIn : List ℕ → CvmResult
+unfoldable pub cvmResultIn : StoreBytes → CvmResult
 cvmResultIn store =
     if hasOnDeviceCvm store then onDeviceResult (amountAbove (storedBytes store 0x9F02) (storedBytes store 0xDF8126))
     else cvmProcessing (storedByte store 0x82 1) (objectValue store 0x8E) (cvmConditionsIn store)
 
 -- the five bytes of 95 with the bits that the verification adds
-unfoldable pub tvrWithCvm : List ℕ → List ℕ
+unfoldable pub tvrWithCvm : StoreBytes → TvrBytes
 tvrWithCvm store = tvrWithBits (tvrOf store) (cvmTvrBits (cvmResultIn store))
 
 -- what is found before the choice: 9F34, 95 and the CVM
-unfoldable pub findingsOf : List ℕ → AnalysisFindings
+unfoldable pub findingsOf : StoreBytes → AnalysisFindings
 findingsOf store =
     record { results = cvmResultsBytes (cvmResultIn store); bits = tvrWithCvm store; cvm = cvmResultIn store .cvm }
 
 -- ---- the choice
 
 -- the pairs of action codes, the card's and the terminal's: denial, online, default
-unfoldable pub actionCodesOf : List ℕ → List ActionCodes
+unfoldable pub actionCodesOf : StoreBytes → List ActionCodes
 actionCodesOf store =
     actionCodesAt denialStage (objectValue store 0x9F0E) (storedBytes store 0xDF8121)
     ∷ actionCodesAt onlineStage (objectValue store 0x9F0F) (storedBytes store 0xDF8122)
@@ -125,7 +127,7 @@ actionCodesOf store =
     ∷ []
 
 -- what is requested for a TVR
-unfoldable pub choiceFor : List ℕ → List ℕ → Choice
+unfoldable pub choiceFor : StoreBytes → TvrBytes → Choice
 choiceFor store result = choiceOf result (terminalType store) (actionCodesOf store)
 
 -- ---- what holds of it, proved in proofs/VerificationStore
@@ -134,12 +136,13 @@ choiceFor store result = choiceOf result (terminalType store) (actionCodesOf sto
 --                     verification is the same
 
 -- two stores are alike but for 82 and 8E
-abbrev pub AlikeButAipAndCvmList : List ℕ → List ℕ → Type 0
-AlikeButAipAndCvmList b c = (t : ℕ) → (t ≡ 0x82 → ⊥) → (t ≡ 0x8E → ⊥) → objectValue b t ≡ objectValue c t
+abbrev pub AlikeButAipAndCvmList : StoreBytes → StoreBytes → Type 0
+AlikeButAipAndCvmList b c = (t : Tag) → (t ≡ 0x82 → ⊥) → (t ≡ 0x8E → ⊥) → objectValue b t ≡ objectValue c t
 
 -- with on-device CVM the list and the other bits of the AIP do not matter; `action::findings_of` promises it
 pub record OnDeviceRules : Type 0 where
   -- of two devices with on-device CVM alike but for 82 and 8E, 9F34, 95 and the CVM are the same
-  pub same : (b c : List ℕ) → hasOnDeviceCvm b ≡ true → hasOnDeviceCvm c ≡ true → AlikeButAipAndCvmList b c → findingsOf b ≡ findingsOf c
+  pub same : (b c : StoreBytes) → hasOnDeviceCvm b ≡ true → hasOnDeviceCvm c ≡ true → AlikeButAipAndCvmList b c
+      → findingsOf b ≡ findingsOf c
   -- the verification adds no bit to 95
-  pub no-bits : (b : List ℕ) → hasOnDeviceCvm b ≡ true → findingsOf b .bits ≡ tvrOf b
+  pub no-bits : (b : StoreBytes) → hasOnDeviceCvm b ≡ true → findingsOf b .bits ≡ tvrOf b

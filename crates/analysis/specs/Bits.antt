@@ -2,24 +2,24 @@
 -- one number.
 -- Assumes nothing.
 use mathlib.Core.Bool.{Bool}
-use mathlib.Core.List.{List}
 use Prim.Native.Nat.{ℕ, _+_, _-_, _/_, _%_, _^_}
 use lib.ListN.{getD}
+use Rattle.basics.specs.Types.{Byte, Value}
 use Rattle.basics.specs.Choice.{if_then_else_}
 use Rattle.basics.specs.Number.{hasBit}
 
 -- bit b of a byte is set: b8 is the highest, b1 the lowest
-abbrev pub byteBit : ℕ → ℕ → Bool
+abbrev pub byteBit : Byte → ℕ → Bool
 byteBit x b = hasBit x (2 ^ (b - 1))
 
 -- what bit b adds to a byte where a test sets it
-abbrev pub bitWeight : ℕ → Bool → ℕ
+abbrev pub bitWeight : ℕ → Bool → Byte
 bitWeight b set = if set then 2 ^ (b - 1) else 0
 
 -- bit b of byte n of a value is set: the first byte is byte 1; past the end no bit is set
-abbrev pub valueHasBit : List ℕ → ℕ → ℕ → Bool
+abbrev pub valueHasBit : Value → ℕ → ℕ → Bool
 valueHasBit s n b = byteBit (getD s (n - 1) 0) b
 
 -- bit i is set, counted from byte 1 b8 as bit 0: byte 5 b1 is bit 39
-unfoldable pub numberedBit : List ℕ → ℕ → Bool
+unfoldable pub numberedBit : Value → ℕ → Bool
 numberedBit s i = valueHasBit s (i / 8 + 1) (8 - i % 8)

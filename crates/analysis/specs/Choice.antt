@@ -5,6 +5,7 @@ use mathlib.Core.Bool.{Bool, true, false}
 use mathlib.Core.List.{List, [], _∷_}
 use Prim.Native.Nat.{ℕ, zero, suc, _%_}
 use lib.ListN.{getD}
+use Rattle.basics.specs.Types.{Byte, TvrBytes, Value}
 use Rattle.basics.specs.Choice.{if_then_else_, _and_, _or_, _=?_}
 use Rattle.analysis.specs.Bits.{numberedBit}
 use Rattle.analysis.specs.Digits.{isOneOf}
@@ -22,18 +23,16 @@ use Rattle.analysis.specs.declared.choice.Choice.the-variants.{Decline, 
 -- ---- the bit that a stage holds
 
 -- a stage holds bit i: the TVR has it, and so has the card's code or the terminal's
-unfoldable pub stageHoldsBit : List ℕ → ActionCodes → ℕ → Bool
+unfoldable pub stageHoldsBit : TvrBytes → ActionCodes → ℕ → Bool
 stageHoldsBit result pair i = numberedBit result i and (numberedBit (pair .card) i or numberedBit (pair .terminal) i)
 
 -- the lowest of the n numbers from i on that passes a test
 unfoldable pub lowestFrom : (ℕ → Bool) → ℕ → ℕ → LowestBit
 lowestFrom f i zero = NoBit
-lowestFrom f i (suc n) =
-    if f i then Bit i
-    else lowestFrom f (suc i) n
+lowestFrom f i (suc n) = if f i then Bit i else lowestFrom f (suc i) n
 
 -- the lowest bit, 0 to 39, that a stage holds, or none
-unfoldable pub lowestBit : List ℕ → ActionCodes → LowestBit
+unfoldable pub lowestBit : TvrBytes → ActionCodes → LowestBit
 lowestBit result pair = lowestFrom (stageHoldsBit result pair) 0 40
 
 -- there is such a bit
@@ -53,24 +52,21 @@ onlineStage = 1
 abbrev pub defaultStage : ℕ
 defaultStage = 2
 
--- five bytes of zeros, and five of ones
-abbrev pub zeroCode : List ℕ
+-- a code of zeros, and one of ones
+abbrev pub zeroCode : Value
 zeroCode = 0x00 ∷ 0x00 ∷ 0x00 ∷ 0x00 ∷ 0x00 ∷ []
 
--- a code of ones
-abbrev pub onesCode : List ℕ
+abbrev pub onesCode : Value
 onesCode = 0xFF ∷ 0xFF ∷ 0xFF ∷ 0xFF ∷ 0xFF ∷ []
 
 -- the card's code for a stage: an absent one is zeros for denial and ones for the others (Book C-2's ones end in FC;
 -- document 01 decides)
-unfoldable pub iacCode : ℕ → StoredValue → List ℕ
-iacCode stage absent =
-    if stage =? denialStage then zeroCode
-    else onesCode
+unfoldable pub iacCode : ℕ → StoredValue → Value
+iacCode stage absent = if stage =? denialStage then zeroCode else onesCode
 iacCode stage (present s) = firstBytes 5 s
 
 -- the pair of a stage: the card's code, which may be absent, and the terminal's
-abbrev pub actionCodesAt : ℕ → StoredValue → List ℕ → ActionCodes
+abbrev pub actionCodesAt : ℕ → StoredValue → Value → ActionCodes
 actionCodesAt stage card terminal = record { card = iacCode stage card; terminal = firstBytes 5 terminal }
 
 -- two codes of no bytes, where there is no such stage
@@ -78,7 +74,7 @@ abbrev pub noActionCodes : ActionCodes
 noActionCodes = record { card = []; terminal = [] }
 
 -- a bit of the TVR is held at a stage
-unfoldable pub stageHolds : List ℕ → List ActionCodes → ℕ → Bool
+unfoldable pub stageHolds : TvrBytes → List ActionCodes → ℕ → Bool
 stageHolds result pairs stage = someBit (lowestBit result (getD pairs stage noActionCodes))
 
 -- ---- the choice
@@ -93,11 +89,11 @@ onlineCapabilityAt digit =
     else Unlisted
 
 -- the terminal's type is two digits in a byte: the last one decides
-abbrev pub typeLastDigit : ℕ → ℕ
+abbrev pub typeLastDigit : Byte → ℕ
 typeLastDigit kind = kind % 16
 
 -- by the terminal's type
-abbrev pub onlineCapabilityOf : ℕ → OnlineCapability
+abbrev pub onlineCapabilityOf : Byte → OnlineCapability
 onlineCapabilityOf kind = onlineCapabilityAt (typeLastDigit kind)
 
 -- what is requested, by the type and by whether a bit is held at denial, at online and at default; the rules leave an
@@ -112,7 +108,7 @@ choiceBy OnlineCapable false false d     = Offline
 choiceBy Unlisted      false o     d     = Decline
 
 -- the choice from a TVR, terminal's type and pairs of codes
-unfoldable pub choiceOf : List ℕ → ℕ → List ActionCodes → Choice
+unfoldable pub choiceOf : TvrBytes → Byte → List ActionCodes → Choice
 choiceOf result kind pairs =
     choiceBy (onlineCapabilityOf kind)
     (stageHolds result pairs denialStage)
@@ -122,13 +118,13 @@ choiceOf result kind pairs =
 -- ---- its number
 
 -- P1 of the command that requests it (document 01, "Commands and steps"): 00 decline, 40 offline, 80 online
-abbrev pub generateAcP1 : Choice → ℕ
+abbrev pub generateAcP1 : Choice → Byte
 generateAcP1 Decline = 0x00
 generateAcP1 Offline = 0x40
 generateAcP1 Online = 0x80
 
 -- the same rule with P1 itself, case by case: `generateAcP1For` is P1 of `choiceOf` (law `p1-is`)
-unfoldable pub generateAcP1For : List ℕ → ℕ → List ActionCodes → ℕ
+unfoldable pub generateAcP1For : TvrBytes → Byte → List ActionCodes → Byte
 generateAcP1For result kind pairs =
     if stageHolds result pairs denialStage then 0x00
     else if isOneOf (typeLastDigit kind) 1 4 then 0x80

@@ -1,16 +1,19 @@
--- What private functions promise, for their callers' proofs: digits byte by byte, a stage's bits within one byte, and
--- the choice stage by stage. This file states no rule of document 01: a reader of the rules can skip it. Laws tie it to
--- the rules: `decimal-three` and `decimal-six` (proofs/Decimal) to specs/Digits; `byte-found`, `byte-clear`,
--- `all-clear`, `choice-by-stage` and `choice-by-type` (proofs/Stages) to specs/Choice.
+-- What private functions promise, for their callers' proofs: digits byte by byte, a stage's bits within one byte, the
+-- choice stage by stage, and the amount's conditions of the CVM List. This file states no rule of document 01: a reader
+-- of the rules can skip it. Laws tie it to the rules: `decimal-three` and `decimal-six` (proofs/Decimal) to
+-- specs/Digits; `byte-found`, `byte-clear`, `all-clear`, `choice-by-stage` and `choice-by-type` (proofs/Stages) to
+-- specs/Choice; `in-currency` (proofs/CvmSteps) to specs/Cvm.
 -- Assumes nothing.
 use mathlib.Core.Bool.{Bool, false}
-use mathlib.Core.List.{List, [], _∷_}
+use mathlib.Core.List.{[], _∷_}
 use Prim.Native.Nat.{ℕ, _+_, _-_, _*_, _/_, _%_}
 use lib.ListN.{getD}
-use Rattle.basics.specs.Choice.{if_then_else_, _and_, _or_, _=?_}
+use Rattle.basics.specs.Types.{Byte, Bytes, Offset}
+use Rattle.basics.specs.Choice.{if_then_else_, _and_, _or_, _<?_, _=?_}
 use Rattle.analysis.specs.Bits.{byteBit}
 use Rattle.analysis.specs.Choice.{denialStage, onlineStage, defaultStage}
 use Rattle.analysis.specs.Digits.{bcdNumber}
+use Rattle.analysis.specs.declared.cvm.CvmConditions.{CvmConditions}
 use Rattle.analysis.specs.declared.choice.OnlineCapability.{OnlineCapability}
 use Rattle.analysis.specs.declared.choice.OnlineCapability.the-variants.{OnlineOnly, OnlineCapable}
 use Rattle.analysis.specs.declared.choice.OnlineCapability.the-variants.{OfflineOnly, Unlisted}
@@ -20,17 +23,17 @@ use Rattle.analysis.specs.declared.choice.Choice.the-variants.{Decline, 
 -- ---- digits
 
 -- the two digits of one byte
-unfoldable pub bcdByte : ℕ → ℕ
+unfoldable pub bcdByte : Byte → ℕ
 bcdByte b = b / 16 * 10 + b % 16
 
 -- the six digits of the three bytes from a place on
-abbrev pub bcdThreeBytes : List ℕ → ℕ → ℕ
+abbrev pub bcdThreeBytes : Bytes → Offset → ℕ
 bcdThreeBytes s i = bcdNumber (getD s i 0 ∷ getD s (i + 1) 0 ∷ getD s (i + 2) 0 ∷ [])
 
 -- ---- the bits of a byte
 
 -- bit k of a byte of the TVR is in the card's code or the terminal's: 0 is b8, 7 is b1
-unfoldable pub bitHeldIn : ℕ → ℕ → ℕ → ℕ → Bool
+unfoldable pub bitHeldIn : Byte → Byte → Byte → ℕ → Bool
 bitHeldIn result card terminal k = byteBit result (8 - k) and (byteBit card (8 - k) or byteBit terminal (8 - k))
 
 -- ---- the choice, stage by stage
@@ -48,9 +51,7 @@ stageConsulted r stage = stage =? denialStage or laterStage r stage
 
 -- what a bit held at a stage forces
 abbrev pub forcedChoice : ℕ → Choice
-forcedChoice stage =
-    if stage =? onlineStage then Online
-    else Decline
+forcedChoice stage = if stage =? onlineStage then Online else Decline
 
 -- what is requested where no stage that is consulted holds a bit
 abbrev pub unforcedChoice : OnlineCapability → Choice
@@ -58,3 +59,14 @@ unforcedChoice OnlineOnly = Online
 unforcedChoice OnlineCapable = Offline
 unforcedChoice OfflineOnly = Offline
 unforcedChoice Unlisted = Decline
+
+-- ---- the conditions of the CVM List
+
+-- the amount is under or over X or Y, by the code of the condition
+abbrev pub cvmAmountMet : CvmConditions → Byte → Bool
+cvmAmountMet t condition =
+    if condition =? 6 then t .amount <? t .x
+    else if condition =? 7 then t .x <? t .amount
+    else if condition =? 8 then t .amount <? t .y
+    else if condition =? 9 then t .y <? t .amount
+    else false

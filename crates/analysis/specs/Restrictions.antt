@@ -2,8 +2,8 @@
 -- What a session holds when the bits are made comes as its bytes, what may be missing as a `StoredValue`.
 -- Assumes nothing.
 use mathlib.Core.Bool.{Bool, true, false, not}
-use mathlib.Core.List.{List}
-use Prim.Native.Nat.{ℕ, _+_}
+use Prim.Native.Nat.{_+_}
+use Rattle.basics.specs.Types.{Byte, Value}
 use Rattle.basics.specs.Choice.{if_then_else_, _and_, _or_, _<?_, _=?_}
 use Rattle.analysis.specs.Bits.{valueHasBit, bitWeight}
 use Rattle.analysis.specs.Digits.{isOneOf, dateLater, amountOf}
@@ -13,36 +13,30 @@ use Rattle.analysis.specs.declared.restrictions.IssuerCountry.{IssuerCou
 use Rattle.analysis.specs.declared.restrictions.IssuerCountry.the-variants.{Home, Abroad, NotGiven}
 
 -- b8: the card's application version 9F08 is present and differs from the reader's 9F09
-unfoldable pub versionDiffers : StoredValue → List ℕ → Bool
+unfoldable pub versionDiffers : StoredValue → Value → Bool
 versionDiffers absent reader = false
 versionDiffers (present card) reader = not (bytesEqual card reader)
 
--- b7: the transaction date 9A is later than the expiration date 5F24
-abbrev pub applicationExpired : List ℕ → List ℕ → Bool
-applicationExpired today expiration = dateLater today expiration
-
 -- b6: the effective date 5F25 is present and later than the transaction date 9A
-unfoldable pub notYetEffective : StoredValue → List ℕ → Bool
+unfoldable pub notYetEffective : StoredValue → Value → Bool
 notYetEffective absent today = false
 notYetEffective (present effective) today = dateLater effective today
 
 -- ---- b5: usage
 
 -- a terminal type, 9F35, of an ATM
-abbrev pub isAtmType : ℕ → Bool
+abbrev pub isAtmType : Byte → Bool
 isAtmType kind = kind =? 0x14 or kind =? 0x15 or kind =? 0x16
 
 -- at an ATM: such a type, and the additional capabilities 9F40 present with byte 1 b8, cash
-unfoldable pub atAtm : ℕ → StoredValue → Bool
+unfoldable pub atAtm : Byte → StoredValue → Bool
 atAtm kind absent = false
 atAtm kind (present capabilities) = isAtmType kind and valueHasBit capabilities 1 8
 
 -- home where the issuer's country 5F28 is the terminal's 9F1A, else abroad; not given where 5F28 is absent
-unfoldable pub issuerCountryOf : StoredValue → List ℕ → IssuerCountry
+unfoldable pub issuerCountryOf : StoredValue → Value → IssuerCountry
 issuerCountryOf absent terminal = NotGiven
-issuerCountryOf (present issuer) terminal =
-    if bytesEqual issuer terminal then Home
-    else Abroad
+issuerCountryOf (present issuer) terminal = if bytesEqual issuer terminal then Home else Abroad
 
 -- cashback is requested: the other amount 9F03 is present and not zero
 unfoldable pub cashbackRequested : StoredValue → Bool
@@ -56,50 +50,39 @@ byCountry Abroad home abroad = abroad
 byCountry NotGiven home abroad = true
 
 -- the place: byte 1 b2 at an ATM, else b1
-unfoldable pub aucTerminalMet : List ℕ → Bool → Bool
-aucTerminalMet usage atm =
-    if atm then valueHasBit usage 1 2
-    else valueHasBit usage 1 1
+unfoldable pub aucTerminalMet : Value → Bool → Bool
+aucTerminalMet usage atm = if atm then valueHasBit usage 1 2 else valueHasBit usage 1 1
 
 -- cash, transaction type 9C of 01 or 17: byte 1 b8 at home, b7 abroad
-unfoldable pub aucCashMet : List ℕ → IssuerCountry → ℕ → Bool
+unfoldable pub aucCashMet : Value → IssuerCountry → Byte → Bool
 aucCashMet usage country transaction =
-    if isOneOf transaction 0x01 0x17 then byCountry country (valueHasBit usage 1 8) (valueHasBit usage 1 7)
-    else true
+    if isOneOf transaction 0x01 0x17 then byCountry country (valueHasBit usage 1 8) (valueHasBit usage 1 7) else true
 
 -- goods or services, type of 00 or 09: byte 1 b6 or b4 at home, b5 or b3 abroad
-unfoldable pub aucGoodsMet : List ℕ → IssuerCountry → ℕ → Bool
+unfoldable pub aucGoodsMet : Value → IssuerCountry → Byte → Bool
 aucGoodsMet usage country transaction =
     if isOneOf transaction 0x00 0x09 then
-        byCountry country (valueHasBit usage 1 6 or valueHasBit usage 1 4) (valueHasBit usage 1 5 or valueHasBit usage 1 3)
+      byCountry country
+      (valueHasBit usage 1 6 or valueHasBit usage 1 4) (valueHasBit usage 1 5 or valueHasBit usage 1 3)
     else true
 
 -- cashback: byte 2 b8 at home, b7 abroad
-unfoldable pub aucAllowsCashback : List ℕ → IssuerCountry → Bool → Bool
+unfoldable pub aucAllowsCashback : Value → IssuerCountry → Bool → Bool
 aucAllowsCashback usage country asked =
-    if asked then byCountry country (valueHasBit usage 2 8) (valueHasBit usage 2 7)
-    else true
-
--- everything that is needed is met
-abbrev pub aucMet : List ℕ → Bool → IssuerCountry → ℕ → Bool → Bool
-aucMet usage atm country transaction asked =
-    aucTerminalMet usage atm
-    and aucCashMet usage country transaction
-    and aucGoodsMet usage country transaction
-    and aucAllowsCashback usage country asked
+    if asked then byCountry country (valueHasBit usage 2 8) (valueHasBit usage 2 7) else true
 
 -- the application usage control 9F07 is present and something needed is not met
-unfoldable pub aucViolated : StoredValue → Bool → IssuerCountry → ℕ → Bool → Bool
+unfoldable pub aucViolated : StoredValue → Bool → IssuerCountry → Byte → Bool → Bool
 aucViolated absent atm country transaction asked = false
-aucViolated (present usage) atm country transaction asked = not (aucMet usage atm country transaction asked)
-
--- b5 over the values themselves: 9F07, the terminal's type, 9F40, 5F28, 9F1A, 9C and 9F03
-abbrev pub aucViolatedBy : StoredValue → ℕ → StoredValue → StoredValue → List ℕ → ℕ → StoredValue → Bool
-aucViolatedBy control kind capabilities issuer terminal transaction other =
-    aucViolated control (atAtm kind capabilities) (issuerCountryOf issuer terminal) transaction (cashbackRequested other)
+aucViolated (present usage) atm country transaction asked =
+    not (aucTerminalMet usage atm
+      and aucCashMet usage country transaction
+      and aucGoodsMet usage country transaction
+      and aucAllowsCashback usage country asked)
 
 -- ---- the byte of the four
 
 -- byte 2: another version b8, expired b7, not yet effective b6, usage b5
-abbrev pub tvrByte2 : Bool → Bool → Bool → Bool → ℕ
-tvrByte2 version applicationExpired notYet usage = bitWeight 8 version + bitWeight 7 applicationExpired + bitWeight 6 notYet + bitWeight 5 usage
+abbrev pub tvrByte2 : Bool → Bool → Bool → Bool → Byte
+tvrByte2 version expired notYet usage =
+    bitWeight 8 version + bitWeight 7 expired + bitWeight 6 notYet + bitWeight 5 usage

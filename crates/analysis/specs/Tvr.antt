@@ -1,21 +1,22 @@
 -- The TVR, tag 95 (document 01, "Result bits and the choice"): the floor limit's byte, the five bytes put together, and
 -- bits added to them.
 -- Assumes nothing.
-use mathlib.Core.List.{List, [], _∷_}
-use Prim.Native.Nat.{ℕ, _+_}
+use mathlib.Core.List.{[], _∷_}
+use Prim.Native.Nat.{_+_}
+use Rattle.basics.specs.Types.{Byte, TvrBytes, Value}
 use Rattle.analysis.specs.Bits.{bitWeight}
 use Rattle.analysis.specs.Digits.{amountAbove}
 
 -- byte 4: b8, the amount 9F02 is above the floor limit DF8123
-abbrev pub tvrByte4 : List ℕ → List ℕ → ℕ
+abbrev pub tvrByte4 : Value → Value → Byte
 tvrByte4 amount limit = bitWeight 8 (amountAbove amount limit)
 
 -- byte 1 has b8 alone, byte 2 the restrictions, byte 4 the floor limit
-abbrev pub tvrFrom : ℕ → ℕ → List ℕ
+abbrev pub tvrFrom : Byte → Byte → TvrBytes
 tvrFrom restrictions floor = 0x80 ∷ restrictions ∷ 0 ∷ floor ∷ 0 ∷ []
 
 -- bits added to a TVR that has none of them, byte by byte
-unfoldable pub tvrWithBits : List ℕ → List ℕ → List ℕ
+unfoldable pub tvrWithBits : TvrBytes → TvrBytes → TvrBytes
 tvrWithBits [] t = []
 tvrWithBits (x ∷ s) [] = x ∷ s
 tvrWithBits (x ∷ s) (y ∷ t) = (x + y) ∷ tvrWithBits s t

@@ -1,17 +1,18 @@
 -- Values as the rules take them: one that may be absent handed over as a flag and bytes, the first bytes of one.
 -- Assumes nothing.
 use mathlib.Core.Bool.{Bool, true, false}
-use mathlib.Core.List.{List, [], _∷_}
-use Prim.Native.Nat.{ℕ, zero, suc}
+use mathlib.Core.List.{[], _∷_}
+use Prim.Native.Nat.{zero, suc}
+use Rattle.basics.specs.Types.{Bytes, Length, Value}
 use Rattle.store.specs.Place.{StoredValue, absent, present}
 
 -- a value as a flag and bytes, which count only where the flag is set
-abbrev pub valueIf : Bool → List ℕ → StoredValue
+abbrev pub valueIf : Bool → Value → StoredValue
 valueIf true s = present s
 valueIf false s = absent
 
 -- the first n bytes, with zeros past the end
-unfoldable pub firstBytes : ℕ → List ℕ → List ℕ
+unfoldable pub firstBytes : Length → Value → Bytes
 firstBytes zero s = []
 firstBytes (suc n) [] = 0 ∷ firstBytes n []
 firstBytes (suc n) (x ∷ s) = x ∷ firstBytes n s

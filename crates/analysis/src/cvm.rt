@@ -4,7 +4,8 @@ use crate::byte;
 ghost use mathlib.Core.Path.{_≡_};
 ghost use mathlib.Core.Bool.{false};
 ghost use Rattle.analysis.specs.Value.{valueIf};
-ghost use Rattle.analysis.specs.Cvm.{cvmNumber, cvmRecognised as isRecognised, cvmSupported as isSupported, cvmPerformed, cvmAmountMet, cvmConditionMet as isMet};
+ghost use Rattle.analysis.specs.Cvm.{cvmNumber, cvmRecognised as isRecognised, cvmSupported as isSupported, cvmPerformed, cvmConditionMet as isMet};
+ghost use Rattle.analysis.specs.Inner.{cvmAmountMet};
 ghost use Rattle.analysis.specs.Cvm.{cvmRulesFrom, cvmSuccessful as takenBy, noCvmPerformed, cvmUnsuccessful as unsuccessfulBy, nextCvmApplies, cvmNotPerformed, byCvmRules, cvmProcessing};
 ghost use Rattle.analysis.specs.Cvm.{onDeviceCvm, onDeviceResult};
 

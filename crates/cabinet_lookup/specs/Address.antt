@@ -1,15 +1,15 @@
 -- The address of the part that a lookup returns: the value still in place, in the list that has it (document 02, Item
 -- 14). An address is a block of memory and a place in it, as the language's machine has them.
 -- Assumes nothing.
-use mathlib.Core.List.{List}
 use Prim.Native.Nat.{ℕ, _+_}
 use denote.Ref.{RefT}
+use Rattle.basics.specs.Types.{Length, StartBytes, Tag}
 use Rattle.cabinet_lookup.specs.declared.LookupFound.{LookupFound}
 use Rattle.cabinet_lookup.specs.declared.LookupFound.the-variants.{At, Absent}
 use Rattle.cabinet_lookup.specs.Place.{lookupFirst}
 
 -- the address so many bytes after another
-abbrev pub addressAfter : ℕ → ℕ × ℕ → ℕ × ℕ
+abbrev pub addressAfter : Length → ℕ × ℕ → ℕ × ℕ
 addressAfter n a = (a .0, n + a .1)
 
 -- by the addresses of the two lists and what each has: in neither, the front of the defaults
@@ -19,6 +19,6 @@ addressInPlace s d Absent (At p) = addressAfter (p .start) d
 addressInPlace s d Absent Absent = addressAfter 0 d
 
 -- the address of the value of the tag, of two lists passed in
-abbrev pub addressOf : ℕ → RefT (List ℕ) → RefT (List ℕ) → ℕ × ℕ
+abbrev pub addressOf : Tag → RefT StartBytes → RefT StartBytes → ℕ × ℕ
 addressOf tag site defaults =
     addressInPlace (site .ptr) (defaults .ptr) (lookupFirst tag (site .now)) (lookupFirst tag (defaults .now))

@@ -1,23 +1,24 @@
 -- The part of two lists that a word names, and that it is the one that a lookup returns (document 02, Item 14).
 -- Assumes nothing.
 use mathlib.Core.Path.{_≡_}
-use mathlib.Core.List.{List, _++_}
+use mathlib.Core.List.{_++_}
 use Prim.Native.Nat.{ℕ, _+_, _-_, _<_}
 use lib.ListN.{length}
 use denote.Ref.{RefT}
+use Rattle.basics.specs.Types.{StartBytes, Tag, Value}
 use Rattle.basics.specs.Choice.{if_then_else_, _=?_}
 use Rattle.cabinet_lookup.specs.Place.{lookupSpan, spanBytes}
 use Rattle.cabinet_lookup.specs.Address.{addressAfter}
 use Rattle.cabinet_lookup.specs.Word.{fromSite, sourceOf, placeWord, placeStart, wordSource, lengthIn}
 
 -- where the part begins: in the site's list at the start; else in the defaults, the site's bytes not counted
-abbrev pub addressNamed : ℕ → RefT (List ℕ) → RefT (List ℕ) → ℕ × ℕ
+abbrev pub addressNamed : ℕ → RefT StartBytes → RefT StartBytes → ℕ × ℕ
 addressNamed w site defaults =
     if wordSource w =? fromSite then addressAfter (placeStart w) (site .ptr)
     else addressAfter (placeStart w - length (site .now)) (defaults .ptr)
 
 -- source, start and length of a word are those of a part of the two lists
-pub record Names (w tag : ℕ) (site defaults part : RefT (List ℕ)) : Type 0 where
+pub record Names (w : ℕ) (tag : Tag) (site defaults : RefT StartBytes) (part : RefT Value) : Type 0 where
   -- the list that has the tag, or nowhere
   pub source : wordSource w ≡ sourceOf tag (site .now) (defaults .now)
   pub address : part .ptr ≡ addressNamed w site defaults
@@ -25,7 +26,7 @@ pub record Names (w tag : ℕ) (site defaults part : RefT (List ℕ)) : Type 0 w
   pub bytes : part .now ≡ spanBytes (site .now ++ defaults .now) (lookupSpan (placeStart w) (lengthIn w))
 
 -- the word of the tag names the part, where both lists together have fewer than 2^32 bytes
-abbrev pub Named : ℕ → RefT (List ℕ) → RefT (List ℕ) → RefT (List ℕ) → Type 0
+abbrev pub Named : Tag → RefT StartBytes → RefT StartBytes → RefT Value → Type 0
 Named tag site defaults part =
     length (site .now) + length (defaults .now) < 0x100000000
     → Names (placeWord tag (site .now) (defaults .now)) tag site defaults part

@@ -1,9 +1,9 @@
 -- Where the value of a tag lies (document 02, Item 14): start and length, in one list and in the site's bytes with the
 -- defaults' after them.
 -- Assumes nothing.
-use mathlib.Core.List.{List}
-use Prim.Native.Nat.{ℕ, _+_, _≤_}
+use Prim.Native.Nat.{_+_}
 use lib.ListN.{length, take, drop}
+use Rattle.basics.specs.Types.{Bytes, Length, Offset, StartBytes, Tag, Value}
 use Rattle.basics.specs.Choice.{if_then_else_, _=?_}
 use Rattle.basics.specs.Recursion.{recurse}
 use Rattle.tlv.specs.declared.ObjectFront.{ObjectFront}
@@ -15,45 +15,45 @@ use Rattle.cabinet_lookup.specs.declared.LookupFound.{LookupFound}
 use Rattle.cabinet_lookup.specs.declared.LookupFound.the-variants.{At, Absent}
 
 -- a value of n bytes whose first is at place a, counted from 0
-abbrev pub lookupSpan : ℕ → ℕ → LookupSpan
+abbrev pub lookupSpan : Offset → Length → LookupSpan
 lookupSpan a n = record { start = a; len = n }
 
 -- the bytes of a value that lies there
-abbrev pub spanBytes : List ℕ → LookupSpan → List ℕ
+abbrev pub spanBytes : Bytes → LookupSpan → Value
 spanBytes s p = take (p .len) (drop (p .start) s)
 
 -- ---- one list
 
 -- the same place, with n more bytes before it
-unfoldable pub lookupShifted : ℕ → LookupFound → LookupFound
+unfoldable pub lookupShifted : Length → LookupFound → LookupFound
 lookupShifted n Absent = Absent
 lookupShifted n (At p) = At (lookupSpan (n + p .start) (p .len))
 
 -- the object at the front where it has the tag, else what k finds after it
-abbrev pub lookupAtFront : ℕ → (List ℕ → LookupFound) → List ℕ → ObjectFront → LookupFound
+abbrev pub lookupAtFront : Tag → (StartBytes → LookupFound) → StartBytes → ObjectFront → LookupFound
 lookupAtFront tag k s front.Broken = Absent
 lookupAtFront tag k s (front.Object h) =
     if h .tag =? tag then At (lookupSpan (h .start) (h .len))
     else lookupShifted (h .start + h .len) (k (behindObject s h))
 
 -- one step, by what k finds in fewer bytes
-abbrev pub lookupNext : ℕ → (List ℕ → LookupFound) → List ℕ → LookupFound
+abbrev pub lookupNext : Tag → (StartBytes → LookupFound) → StartBytes → LookupFound
 lookupNext tag k s = lookupAtFront tag k s (primitiveOf s)
 
 -- where the first object of the tag lies; absent where the list holds none
-unfoldable pub lookupFirst : ℕ → List ℕ → LookupFound
+unfoldable pub lookupFirst : Tag → StartBytes → LookupFound
 lookupFirst tag s = recurse Absent (lookupNext tag) s
 
 -- ---- two lists
 
 -- by what each has, of a site's list of n bytes: in neither, no bytes at the front of the defaults
-unfoldable pub lookupInBoth : ℕ → LookupFound → LookupFound → LookupSpan
+unfoldable pub lookupInBoth : Length → LookupFound → LookupFound → LookupSpan
 lookupInBoth n (At p) r = p
 lookupInBoth n Absent (At p) = lookupSpan (n + p .start) (p .len)
 lookupInBoth n Absent Absent = lookupSpan n 0
 
 -- where the value of the tag lies in the site's bytes and the defaults' after them
-abbrev pub lookupPlace : ℕ → List ℕ → List ℕ → LookupSpan
+abbrev pub lookupPlace : Tag → StartBytes → StartBytes → LookupSpan
 lookupPlace tag site defaults = lookupInBoth (length site) (lookupFirst tag site) (lookupFirst tag defaults)
 
 -- ---- what holds of it, proved in proofs/Laws for all lists

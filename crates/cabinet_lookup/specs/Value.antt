@@ -2,7 +2,7 @@
 -- Assumes nothing.
 use mathlib.Core.List.{List, [], _∷_}
 use mathlib.Core.Option.{Option, some, none}
-use Prim.Native.Nat.{ℕ}
+use Rattle.basics.specs.Types.{StartBytes, Tag, Value}
 use Rattle.basics.specs.Choice.{if_then_else_, _=?_}
 use Rattle.basics.specs.Recursion.{recurse}
 use Rattle.tlv.specs.declared.ObjectFront.{ObjectFront}
@@ -13,36 +13,35 @@ use Rattle.tlv.specs.Primitives.{Object, tlvObject, primitiveOf}
 -- ---- one list
 
 -- the object at the front, and those that k reads after it; bytes from a broken object or a template on hold nothing
-abbrev pub objectsFromFront : (List ℕ → List Object) → List ℕ → ObjectFront → List Object
+abbrev pub objectsFromFront : (StartBytes → List Object) → StartBytes → ObjectFront → List Object
 objectsFromFront k s front.Broken = []
 objectsFromFront k s (front.Object h) = tlvObject (h .tag) (headerValue s h) ∷ k (behindObject s h)
 
 -- one step, by what k reads of fewer bytes
-abbrev pub nextObjects : (List ℕ → List Object) → List ℕ → List Object
+abbrev pub nextObjects : (StartBytes → List Object) → StartBytes → List Object
 nextObjects k s = objectsFromFront k s (primitiveOf s)
 
 -- the objects that a list holds: the whole primitive ones from its front, one immediately after another, no
 -- 00 in between
-unfoldable pub heldObjects : List ℕ → List Object
+unfoldable pub heldObjects : StartBytes → List Object
 heldObjects s = recurse [] nextObjects s
 
 -- the value of the first object of the tag
-unfoldable pub firstValue : ℕ → List Object → Option (List ℕ)
+unfoldable pub firstValue : Tag → List Object → Option Value
 firstValue tag [] = none
-firstValue tag (o ∷ os) =
-    if o .tag =? tag then some (o .value)
-    else firstValue tag os
+firstValue tag (o ∷ os) = if o .tag =? tag then some (o .value) else firstValue tag os
 
 -- ---- two lists
 
 -- a value that is present, an empty one too, else another
-unfoldable pub valueOrDefault : Option (List ℕ) → List ℕ → List ℕ
+unfoldable pub valueOrDefault : Option Value → Value → Value
 valueOrDefault none w = w
 valueOrDefault (some v) w = v
 
 -- the site's value of the tag, else that of the defaults, else no bytes
-abbrev pub lookupValue : ℕ → List ℕ → List ℕ → List ℕ
-lookupValue tag site defaults = valueOrDefault (firstValue tag (heldObjects site)) (valueOrDefault (firstValue tag (heldObjects defaults)) [])
+abbrev pub lookupValue : Tag → StartBytes → StartBytes → Value
+lookupValue tag site defaults =
+    valueOrDefault (firstValue tag (heldObjects site)) (valueOrDefault (firstValue tag (heldObjects defaults)) [])
 
 -- ---- what holds of it, proved in proofs/Laws for all lists
 --   held-unroll    held s ≡ nextHeld held s: the steps allowed do not matter

@@ -3,8 +3,9 @@
 -- Assumes nothing.
 use mathlib.Core.List.{List, [], _∷_}
 use mathlib.Core.Option.{Option, some, none}
-use Prim.Native.Nat.{ℕ, _+_}
+use Prim.Native.Nat.{_+_}
 use lib.ListN.{drop}
+use Rattle.basics.specs.Types.{DolBytes, Length, Tag as TagNumber}
 use Rattle.basics.specs.Recursion.{recurse}
 use Rattle.tlv.specs.Tag.{tagAt}
 use Rattle.tlv.specs.declared.Tag.{Tag}
@@ -15,21 +16,21 @@ use Rattle.dol.specs.declared.DolEntryFront.{DolEntryFront}
 use Rattle.dol.specs.declared.DolEntryFront.the-variants.{Asked, Broken}
 
 -- an entry: so many bytes are requested of a tag
-abbrev pub dolEntry : ℕ → ℕ → DolEntry
+abbrev pub dolEntry : TagNumber → Length → DolEntry
 dolEntry t n = record { tag = t; asked = n }
 
 -- a tag is followed by its length byte
-unfoldable pub entryWithLength : Tag → List ℕ → DolEntryFront
+unfoldable pub entryWithLength : Tag → DolBytes → DolEntryFront
 entryWithLength t [] = Broken
 entryWithLength t (n ∷ s) = Asked (dolEntry (t .number) n) (t .size + 1)
 
 -- a whole tag, and its length byte after it
-abbrev pub entryWithTag : List ℕ → TagFront → DolEntryFront
+abbrev pub entryWithTag : DolBytes → TagFront → DolEntryFront
 entryWithTag s Untagged = Broken
 entryWithTag s (Tagged t) = entryWithLength t (drop (t .size) s)
 
 -- the entry at the front, and how many bytes of the list it takes
-unfoldable pub dolEntryAt : List ℕ → DolEntryFront
+unfoldable pub dolEntryAt : DolBytes → DolEntryFront
 dolEntryAt s = entryWithTag s (tagAt s)
 
 -- an entry before the others; broken where any part is
@@ -38,21 +39,21 @@ entryBefore e none = none
 entryBefore e (some es) = some (e ∷ es)
 
 -- one entry, and what k parses of the bytes after it
-abbrev pub entryThenRest : (List ℕ → Option (List DolEntry)) → List ℕ → DolEntryFront → Option (List DolEntry)
+abbrev pub entryThenRest : (DolBytes → Option (List DolEntry)) → DolBytes → DolEntryFront → Option (List DolEntry)
 entryThenRest k s Broken = none
 entryThenRest k s (Asked e size) = entryBefore e (k (drop size s))
 
 -- nothing more, or one entry and what k parses of the bytes after it
-unfoldable pub entriesNext : (List ℕ → Option (List DolEntry)) → List ℕ → Option (List DolEntry)
+unfoldable pub entriesNext : (DolBytes → Option (List DolEntry)) → DolBytes → Option (List DolEntry)
 entriesNext k [] = some []
 entriesNext k (b ∷ s) = entryThenRest k (b ∷ s) (dolEntryAt (b ∷ s))
 
 -- the entries of a list, or none where it is broken: a bad tag, or an end inside an entry
-unfoldable pub dolEntries : List ℕ → Option (List DolEntry)
+unfoldable pub dolEntries : DolBytes → Option (List DolEntry)
 dolEntries s = recurse none entriesNext s
 
 -- how many bytes are requested in all
-unfoldable pub dolTotalLength : List DolEntry → ℕ
+unfoldable pub dolTotalLength : List DolEntry → Length
 dolTotalLength [] = 0
 dolTotalLength (e ∷ es) = e .asked + dolTotalLength es
 

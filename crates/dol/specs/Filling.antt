@@ -5,6 +5,7 @@ use mathlib.Core.List.{List, [], _∷_, _++_}
 use mathlib.Core.Option.{Option, some, none}
 use Prim.Native.Nat.{ℕ, _-_}
 use lib.ListN.{length, take, drop, replicate}
+use Rattle.basics.specs.Types.{Byte, Bytes, DolBytes, Length, StoreBytes, Value}
 use Rattle.basics.specs.Choice.{if_then_else_, _≤?_, _=?_}
 use Rattle.tlv.specs.Tag.{isTemplate}
 use Rattle.dictionary.specs.Rows.{Row, rowIn, findRow, formN, formCn}
@@ -15,61 +16,55 @@ use Rattle.dol.specs.declared.DolEntry.{DolEntry}
 use Rattle.dol.specs.Entries.{dolEntries}
 
 -- n bytes of 00
-abbrev pub fillZeros : ℕ → List ℕ
+abbrev pub fillZeros : Length → Bytes
 fillZeros n = replicate n 0
 
 -- a value too long for the k bytes requested: form n loses its leftmost bytes, any other its rightmost
-unfoldable pub truncated : ℕ → ℕ → List ℕ → List ℕ
-truncated form k v =
-    if form =? formN then drop (length v - k) v
-    else take k v
+unfoldable pub truncated : ℕ → Length → Value → Bytes
+truncated form k v = if form =? formN then drop (length v - k) v else take k v
 
 -- the byte that a value gains at its end: FF in form cn, else 00
-unfoldable pub paddingByte : ℕ → ℕ
-paddingByte form =
-    if form =? formCn then 0xFF
-    else 0
+unfoldable pub paddingByte : ℕ → Byte
+paddingByte form = if form =? formCn then 0xFF else 0
 
 -- a value too short for the k bytes requested: form n gains leading zeros, cn trailing FF, any other trailing zeros
-unfoldable pub padded : ℕ → ℕ → List ℕ → List ℕ
+unfoldable pub padded : ℕ → Length → Value → Bytes
 padded form k v =
     if form =? formN then fillZeros (k - length v) ++ v
     else v ++ replicate (k - length v) (paddingByte form)
 
 -- a value as the k bytes requested
-unfoldable pub fittedTo : ℕ → ℕ → List ℕ → List ℕ
-fittedTo form k v =
-    if k ≤? length v then truncated form k v
-    else padded form k v
+unfoldable pub fittedTo : ℕ → Length → Value → Bytes
+fittedTo form k v = if k ≤? length v then truncated form k v else padded form k v
 
 -- an absent object gives zeros; one that is present and empty is a value
-abbrev pub valueBytes : ℕ → ℕ → StoredValue → List ℕ
+abbrev pub valueBytes : ℕ → Length → StoredValue → Bytes
 valueBytes form k absent = fillZeros k
 valueBytes form k (present v) = fittedTo form k v
 
 -- an unknown tag gives zeros
-abbrev pub foundRowBytes : List Row → List ℕ → ℕ → RowFound → List ℕ
+abbrev pub foundRowBytes : List Row → StoreBytes → Length → RowFound → Bytes
 foundRowBytes table store k Unknown = fillZeros k
 foundRowBytes table store k (At row) = valueBytes (rowIn table row .form) k (rowValue table store row)
 
 -- an entry's bytes: a template's tag gives zeros
-unfoldable pub dolEntryBytes : List Row → List ℕ → DolEntry → List ℕ
+unfoldable pub dolEntryBytes : List Row → StoreBytes → DolEntry → Bytes
 dolEntryBytes table store e =
     if isTemplate (e .tag) then fillZeros (e .asked)
     else foundRowBytes table store (e .asked) (findRow table (e .tag))
 
 -- the entries' bytes, joined
-unfoldable pub dolData : List Row → List ℕ → List DolEntry → List ℕ
+unfoldable pub dolData : List Row → StoreBytes → List DolEntry → Bytes
 dolData table store [] = []
 dolData table store (e ∷ es) = dolEntryBytes table store e ++ dolData table store es
 
 -- the filling of the entries that a list has; none where it is broken
-unfoldable pub dolDataBy : List Row → List ℕ → Option (List DolEntry) → Option (List ℕ)
+unfoldable pub dolDataBy : List Row → StoreBytes → Option (List DolEntry) → Option Bytes
 dolDataBy table store none = none
 dolDataBy table store (some es) = some (dolData table store es)
 
 -- a list filled from a store, or none where the list is broken
-abbrev pub dolFilled : List Row → List ℕ → List ℕ → Option (List ℕ)
+abbrev pub dolFilled : List Row → StoreBytes → DolBytes → Option Bytes
 dolFilled table store list = dolDataBy table store (dolEntries list)
 
 -- ---- what holds of it, proved in proofs/ (Fitting, Filling, Bytes) for all values, lengths, forms, tables and stores

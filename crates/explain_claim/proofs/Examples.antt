@@ -37,7 +37,7 @@ use Rattle.analysis.specs.Digits.{bcdFrom, yearOf, dateOf, dateLater, amountOf,
 use Rattle.analysis.specs.Restrictions.{versionDiffers, notYetEffective, atAtm, issuerCountryOf, cashbackRequested, aucViolated}
 use Rattle.analysis.specs.Tvr.{tvrWithBits}
 use Rattle.analysis.specs.Choice.{stageHoldsBit, lowestFrom, lowestBit, iacCode, stageHolds, onlineCapabilityAt, choiceOf}
-use Rattle.analysis.specs.Cvm.{cvmRulesFrom, cvmRecognised, cvmSupported, cvmAmountMet, cvmConditionMet, cvmSuccessful as takenBy, cvmUnsuccessful, byCvmRules, onDeviceCvm, cvmProcessing}
+use Rattle.analysis.specs.Cvm.{cvmRulesFrom, cvmRecognised, cvmSupported, cvmConditionMet, cvmSuccessful as takenBy, cvmUnsuccessful, byCvmRules, onDeviceCvm, cvmProcessing}
 use Rattle.analysis.specs.Action.{hasOnDeviceCvm, transactionLimit, aboveTransactionLimit, aucViolatedIn, restrictionsByte, tvrOf, sameCurrency, cvmConditionsIn, cvmResultIn, tvrWithCvm, findingsOf, actionCodesOf, choiceFor}
 use Rattle.session_record.specs.declared.Outcome.{Outcome}
 use Rattle.session_record.specs.declared.Phase.{Phase}
@@ -123,7 +123,7 @@ unfolding playIn finalIn callsAccepted lastElement commandsSent generateAcs iacB
     setObjects fitsRow digitsFit numeric nibbles digitsThenFs compressed terminalTypeListed listedTerminalType rowOffset rowPlace placeValue rowValue putRow objectValueIn allRequiredPresent isPresentIfRequired recordStep afterRecordRead afterLastRecord afterRecordsEmv afterAnalysis
     requestedCryptogram askCryptogram hasOnDeviceCvm onDeviceCvm transactionLimit aboveTransactionLimit aucViolatedIn restrictionsByte tvrOf sameCurrency cvmConditionsIn cvmResultIn tvrWithCvm findingsOf actionCodesOf choiceFor numberedBit firstBytes bcdFrom yearOf dateOf dateLater
     amountOf amountAbove versionDiffers notYetEffective atAtm issuerCountryOf cashbackRequested aucViolated tvrWithBits stageHoldsBit lowestFrom lowestBit iacCode stageHolds onlineCapabilityAt choiceOf cvmRulesFrom cvmRecognised
-    cvmSupported cvmAmountMet cvmConditionMet takenBy cvmUnsuccessful byCvmRules cvmProcessing bytesEqual cryptogramOutcome cryptogramEnding cryptogramReply
+    cvmSupported cvmConditionMet takenBy cvmUnsuccessful byCvmRules cvmProcessing bytesEqual cryptogramOutcome cryptogramEnding cryptogramReply
     stageIn decidingIn bitHolder actionCodesOfStage explainedAt cryptogramRank explainedEnd explainedEndBy lengthByte
 worked =
     record {

@@ -2,9 +2,9 @@
 -- answer"): in the order of the bytes, a template before what it holds. Malformed anywhere is malformed.
 -- Assumes nothing.
 use mathlib.Core.Bool.{Bool}
-use mathlib.Core.List.{List}
 use Prim.Native.Nat.{ℕ, zero, suc, _+_}
 use lib.ListN.{length}
+use Rattle.basics.specs.Types.{Bytes, Count, Length, Offset, Tag}
 use Rattle.basics.specs.Choice.{if_then_else_, _≤?_, _=?_}
 use Rattle.basics.specs.Recursion.{recurse}
 use Rattle.tlv.specs.declared.TlvHeader.{TlvHeader}
@@ -19,11 +19,11 @@ use Rattle.find.specs.declared.TagFound.the-variants.{At, Absent, Malfor
 -- ---- what a search finds
 
 -- a value of n bytes whose first is at place a, counted from 0
-abbrev pub valueSpan : ℕ → ℕ → ValueSpan
+abbrev pub valueSpan : Offset → Length → ValueSpan
 valueSpan a n = record { start = a; len = n }
 
 -- that value, where the tag is the one searched for
-abbrev pub foundHere : Bool → ℕ → ℕ → TagFound
+abbrev pub foundHere : Bool → Offset → Length → TagFound
 foundHere same a n = if same then At (valueSpan a n) else Absent
 
 -- of two concatenated parts: what the first has, else what the second has; malformed where either is
@@ -35,7 +35,7 @@ firstFound (At p) (At q) = At p
 firstFound Absent r = r
 
 -- the same, with n more bytes before it
-unfoldable pub foundShifted : ℕ → TagFound → TagFound
+unfoldable pub foundShifted : Length → TagFound → TagFound
 foundShifted n Malformed = Malformed
 foundShifted n (At p) = At (valueSpan (n + p .start) (p .len))
 foundShifted n Absent = Absent
@@ -43,43 +43,42 @@ foundShifted n Absent = Absent
 -- ---- the search
 
 -- an object itself
-abbrev pub foundItself : ℕ → TlvHeader → TagFound
+abbrev pub foundItself : Tag → TlvHeader → TagFound
 foundItself tag h = foundHere (h .tag =? tag) (h .start) (h .len)
 
 -- what a template holds, by the levels still allowed; with none left it is malformed
-abbrev pub foundNested : (ℕ → TagFound) → ℕ → TagFound
+abbrev pub foundNested : (Count → TagFound) → Count → TagFound
 foundNested k zero = Malformed
 foundNested k (suc levels) = k levels
 
 -- what an object holds, by what k finds in its contents: in a primitive object nothing
-abbrev pub foundWithin : (List ℕ → ℕ → TagFound) → List ℕ → ℕ → TlvHeader → TagFound
+abbrev pub foundWithin : (Bytes → Count → TagFound) → Bytes → Count → TlvHeader → TagFound
 foundWithin k s levels h =
     if h .template then foundShifted (h .start) (foundNested (k (headerValue s h)) levels)
     else Absent
 
 -- what k finds after an object
-abbrev pub foundAfter : (List ℕ → ℕ → TagFound) → List ℕ → ℕ → TlvHeader → TagFound
+abbrev pub foundAfter : (Bytes → Count → TagFound) → Bytes → Count → TlvHeader → TagFound
 foundAfter k s levels h = foundShifted (h .start + h .len) (k (behindObject s h) levels)
 
 -- an object, then what it holds, then what is after it
-abbrev pub foundFromNext : ℕ → (List ℕ → ℕ → TagFound) → List ℕ → ℕ → Following → TagFound
+abbrev pub foundFromNext : Tag → (Bytes → Count → TagFound) → Bytes → Count → Following → TagFound
 foundFromNext tag k s levels following.End = Absent
 foundFromNext tag k s levels following.Malformed = Malformed
-foundFromNext tag k s levels (following.Inner h) = firstFound (foundItself tag h) (firstFound (foundWithin k s levels h) (foundAfter k s levels h))
+foundFromNext tag k s levels (following.Inner h) =
+    firstFound (foundItself tag h) (firstFound (foundWithin k s levels h) (foundAfter k s levels h))
 
 -- one step of the search, by what k finds in fewer bytes
-abbrev pub findNext : ℕ → (List ℕ → ℕ → TagFound) → List ℕ → ℕ → TagFound
+abbrev pub findNext : Tag → (Bytes → Count → TagFound) → Bytes → Count → TagFound
 findNext tag k s levels = foundFromNext tag k s levels (nextOf s)
 
 -- the first object of the tag in s, with templates nested at most `levels` deep
-unfoldable pub findTagIn : ℕ → ℕ → List ℕ → TagFound
+unfoldable pub findTagIn : Tag → Count → Bytes → TagFound
 findTagIn tag levels s = recurse (λ l. Malformed) (findNext tag) s levels
 
 -- the same in a card's bytes: at most 65,535 of them, and four levels
-unfoldable pub findTag : ℕ → List ℕ → TagFound
-findTag tag bytes =
-    if length bytes ≤? 65535 then findTagIn tag 4 bytes
-    else Malformed
+unfoldable pub findTag : Tag → Bytes → TagFound
+findTag tag bytes = if length bytes ≤? 65535 then findTagIn tag 4 bytes else Malformed
 
 -- ---- what holds of it, proved in proofs/ (Laws, InTree, Examples) for all bytes, levels and tags
 --   unroll         the search is one step over itself: the steps allowed do not matter

@@ -2,10 +2,10 @@
 -- exactly where no object of the tree has the tag, else a place that has the first such object's value.
 -- Assumes nothing.
 use mathlib.Core.Path.{_≡_}
-use mathlib.Core.List.{List}
 use mathlib.Core.Option.{Option, some, none}
-use Prim.Native.Nat.{ℕ, _+_, _≤_}
+use Prim.Native.Nat.{_+_, _≤_}
 use lib.ListN.{length, take, drop}
+use Rattle.basics.specs.Types.{Bytes, Tag, Value}
 use Rattle.basics.specs.Choice.{if_then_else_, _≤?_, _=?_}
 use Rattle.tlv.specs.Tree.{Forest, end, leaf, node, parseTree}
 use Rattle.find.specs.declared.ValueSpan.{ValueSpan}
@@ -13,14 +13,12 @@ use Rattle.find.specs.declared.TagFound.{TagFound}
 use Rattle.find.specs.declared.TagFound.the-variants.{At, Absent, Malformed}
 
 -- the tree of a card's bytes: at most 65,535 of them, templates nested at most four levels deep
-abbrev pub cardTree : List ℕ → Option Forest
-cardTree bytes =
-    if length bytes ≤? 65535 then parseTree 4 bytes
-    else none
+abbrev pub cardTree : Bytes → Option Forest
+cardTree bytes = if length bytes ≤? 65535 then parseTree 4 bytes else none
 
 -- an object's value: the bytes of a primitive one, the objects that a template holds
 pub data TreeValue : Type 0 where
-  primitive : List ℕ → TreeValue
+  primitive : Value → TreeValue
   template : Forest → TreeValue
 
 -- one of two parts, the second where the first has none
@@ -29,31 +27,29 @@ treeValueOr none y = y
 treeValueOr (some v) y = some v
 
 -- the value of the tree's first object of the tag, a template before what it holds
-unfoldable pub firstInTree : ℕ → Forest → Option TreeValue
+unfoldable pub firstInTree : Tag → Forest → Option TreeValue
 firstInTree tag end = none
-firstInTree tag (leaf t v r) =
-    if t =? tag then some (primitive v)
-    else firstInTree tag r
+firstInTree tag (leaf t v r) = if t =? tag then some (primitive v) else firstInTree tag r
 firstInTree tag (node t f r) =
     if t =? tag then some (template f)
     else treeValueOr (firstInTree tag f) (firstInTree tag r)
 
 -- these bytes are that value: of a template, bytes that parse to what it holds
-abbrev pub IsTreeValue : TreeValue → List ℕ → Type 0
+abbrev pub IsTreeValue : TreeValue → Bytes → Type 0
 IsTreeValue (primitive v) s = s ≡ v
 IsTreeValue (template f) s = parseTree 3 s ≡ some f
 
 -- a place inside the bytes, with that value in it
-pub record StandsAt (bytes : List ℕ) (v : TreeValue) (p : ValueSpan) : Type 0 where
+pub record StandsAt (bytes : Bytes) (v : TreeValue) (p : ValueSpan) : Type 0 where
   pub inside : p .start + p .len ≤ length bytes
   pub value : IsTreeValue v (take (p .len) (drop (p .start) bytes))
 
 -- what is found of such a value
-abbrev pub FindsValue : List ℕ → Option TreeValue → TagFound → Type 0
+abbrev pub FindsValue : Bytes → Option TreeValue → TagFound → Type 0
 FindsValue bytes none r = r ≡ Absent
 FindsValue bytes (some v) r = (p : ValueSpan) × ((r ≡ At p) × StandsAt bytes v p)
 
 -- what is found of a tag in bytes of this tree
-abbrev pub FindsTag : ℕ → List ℕ → Option Forest → TagFound → Type 0
+abbrev pub FindsTag : Tag → Bytes → Option Forest → TagFound → Type 0
 FindsTag tag bytes none r = r ≡ Malformed
 FindsTag tag bytes (some f) r = FindsValue bytes (firstInTree tag f) r

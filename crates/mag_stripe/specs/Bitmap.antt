@@ -5,17 +5,19 @@ use mathlib.Core.Bool.{Bool}
 use mathlib.Core.List.{List, [], _∷_}
 use Prim.Native.Nat.{ℕ, zero, suc, _+_, _-_, _*_, _/_, _%_}
 use lib.ListN.{length, getD}
+use Rattle.basics.specs.Types.{Count, Value}
 use Rattle.basics.specs.Choice.{if_then_else_, _and_, _≤?_, _=?_, every}
 use Rattle.mag_stripe.specs.declared.Bitmaps.{Bitmaps}
 use Rattle.mag_stripe.specs.Track.{discretionaryOf}
 
 -- two bytes as a number, byte 1 the high one; an absent byte counts as 0
-abbrev pub twoByteNumber : List ℕ → ℕ
+abbrev pub twoByteNumber : Value → ℕ
 twoByteNumber s = getD s 0 0 * 256 + getD s 1 0
 
 -- the bitmaps by the bytes of 9F65, 9F66 and 9F67
-abbrev pub bitmapsOf : List ℕ → List ℕ → List ℕ → Bitmaps
-bitmapsOf pcvc3 punatc natc = record { pcvc3 = twoByteNumber pcvc3; punatc = twoByteNumber punatc; natc = getD natc 0 0 }
+abbrev pub bitmapsOf : Value → Value → Value → Bitmaps
+bitmapsOf pcvc3 punatc natc =
+    record { pcvc3 = twoByteNumber pcvc3; punatc = twoByteNumber punatc; natc = getD natc 0 0 }
 
 -- the places that so many bits of a bitmap set, from the lowest, where the lowest bit is for place p
 unfoldable pub bitmapPlacesFrom : ℕ → ℕ → ℕ → List ℕ
@@ -29,20 +31,20 @@ unfoldable pub bitmapPlaces : ℕ → List ℕ
 bitmapPlaces bitmap = bitmapPlacesFrom 16 1 bitmap
 
 -- the number of non-zero bits of a bitmap
-abbrev pub bitCount : ℕ → ℕ
+abbrev pub bitCount : ℕ → Count
 bitCount bitmap = length (bitmapPlaces bitmap)
 
 -- nUN (S7.22): the places of PUNATC that are not the counter's; subtraction stops at 0, so `canTakeDigits`
 -- tests NATC apart
-abbrev pub unDigitCount : Bitmaps → ℕ
+abbrev pub unDigitCount : Bitmaps → Count
 unDigitCount b = bitCount (b .punatc) - b .natc
 
 -- a bitmap sets no place past the last of m digits
-unfoldable pub bitmapWithin : ℕ → ℕ → Bool
+unfoldable pub bitmapWithin : Count → ℕ → Bool
 bitmapWithin m bitmap = every (λ p. p ≤? m) (bitmapPlaces bitmap)
 
 -- a track can take the digits: it has discretionary digits, no bitmap sets a place past them, and nUN is 0 to 8
-unfoldable pub canTakeDigits : List ℕ → Bitmaps → Bool
+unfoldable pub canTakeDigits : Value → Bitmaps → Bool
 canTakeDigits t b =
     let m = discretionaryOf t .count in
     1 ≤? m

@@ -3,6 +3,7 @@
 use mathlib.Core.List.{List, [], _∷_, _++_}
 use Prim.Native.Nat.{ℕ, _+_, _-_, _*_, _/_, _%_}
 use lib.ListN.{take, drop, set}
+use Rattle.basics.specs.Types.{Digits, Offset, Value}
 use Rattle.basics.specs.Number.{nibbles}
 use Rattle.basics.specs.Choice.{if_then_else_}
 use Rattle.mag_stripe.specs.declared.Bitmaps.{Bitmaps}
@@ -11,8 +12,10 @@ use Rattle.mag_stripe.specs.Track.{discretionaryOf, packedNibbles}
 use Rattle.mag_stripe.specs.Bitmap.{twoByteNumber, bitmapPlaces, unDigitCount, canTakeDigits}
 
 -- the values by the bytes of 9F61, 9F6A and 9F36: the code and the counter are numbers, of 9F6A each nibble is a digit
-abbrev pub digitValuesOf : List ℕ → List ℕ → List ℕ → DigitValues
-digitValuesOf cvc3 un atc = record { cvc3 = twoByteNumber cvc3; un = twoByteNumber un * 65536 + twoByteNumber (drop 2 un); atc = twoByteNumber atc }
+abbrev pub digitValuesOf : Value → Value → Value → DigitValues
+digitValuesOf cvc3 un atc =
+    let digits = twoByteNumber un * 65536 + twoByteNumber (drop 2 un) in
+    record { cvc3 = twoByteNumber cvc3; un = digits; atc = twoByteNumber atc }
 
 -- a digit and its place, counted from the right, from 1
 pub record PlacedDigit : Type 0 where
@@ -44,14 +47,14 @@ unfoldable pub trackDigits : Bitmaps → DigitValues → List PlacedDigit
 trackDigits b v = cvc3Digits b v ++ unDigits b v ++ atcDigits b v ++ placedDigit 1 (unDigitCount b) ∷ []
 
 -- digits written one after the other into nibbles whose discretionary data end at `end`: a later one takes the place
-unfoldable pub digitsWritten : ℕ → List PlacedDigit → List ℕ → List ℕ
+unfoldable pub digitsWritten : Offset → List PlacedDigit → Digits → Digits
 digitsWritten end [] s = s
 digitsWritten end (d ∷ ds) s = digitsWritten end ds (set s (end - d .place) (d .digit))
 
 -- the nibbles of a track with the digits in them
-abbrev pub digitsWrittenInto : List ℕ → Bitmaps → DigitValues → List ℕ
+abbrev pub digitsWrittenInto : Value → Bitmaps → DigitValues → Digits
 digitsWrittenInto t b v = digitsWritten (discretionaryOf t .end) (trackDigits b v) (nibbles t)
 
 -- the track with the digits in it; one that cannot take them stays
-unfoldable pub trackWithDigits : List ℕ → Bitmaps → DigitValues → List ℕ
+unfoldable pub trackWithDigits : Value → Bitmaps → DigitValues → Value
 trackWithDigits t b v = if canTakeDigits t b then packedNibbles (digitsWrittenInto t b v) else t

@@ -2,9 +2,10 @@
 -- bytes, read as nibbles, high one first. After the account number come the separator D, four nibbles of the expiry
 -- date, three of the service code, the discretionary digits, and F as padding.
 -- Assumes nothing.
-use mathlib.Core.List.{List, [], _∷_}
+use mathlib.Core.List.{[], _∷_}
 use Prim.Native.Nat.{ℕ, suc, _+_, _-_, _*_}
 use lib.ListN.{drop}
+use Rattle.basics.specs.Types.{Bytes, Count, Digits, Value}
 use Rattle.basics.specs.Number.{nibbles}
 use Rattle.basics.specs.Choice.{if_then_else_, _=?_}
 use Rattle.mag_stripe.specs.declared.DiscretionaryData.{DiscretionaryData}
@@ -17,29 +18,24 @@ abbrev pub trackPadding : ℕ
 trackPadding = 0xF
 
 -- how many nibbles are before the first x, all of them where there is none
-unfoldable pub nibblesBefore : ℕ → List ℕ → ℕ
+unfoldable pub nibblesBefore : ℕ → Digits → Count
 nibblesBefore x [] = 0
 nibblesBefore x (n ∷ s) = if n =? x then 0 else suc (nibblesBefore x s)
 
--- where the nibble after the first D is
-abbrev pub behindSeparator : List ℕ → ℕ
-behindSeparator s = nibblesBefore trackSeparator s + 1
-
--- how many nibbles are after the first D, up to the first F there or to the end
-abbrev pub discretionaryCount : List ℕ → ℕ
-discretionaryCount s = nibblesBefore trackPadding (drop (behindSeparator s) s)
-
--- the discretionary data of a track's nibbles: where they end, and how many digits they have: those after the first
--- seven, expiry date and service code
-unfoldable pub discretionaryIn : List ℕ → DiscretionaryData
-discretionaryIn s = record { end = behindSeparator s + discretionaryCount s; count = discretionaryCount s - 7 }
+-- the discretionary data of a track's nibbles: where they end, which is the first F after the first D or the end of the
+-- track, and how many digits they have: those after the first seven, expiry date and service code
+unfoldable pub discretionaryIn : Digits → DiscretionaryData
+discretionaryIn s =
+    let start = nibblesBefore trackSeparator s + 1 in
+    let count = nibblesBefore trackPadding (drop start s) in
+    record { end = start + count; count = count - 7 }
 
 -- the same of a track's bytes
-abbrev pub discretionaryOf : List ℕ → DiscretionaryData
+abbrev pub discretionaryOf : Value → DiscretionaryData
 discretionaryOf t = discretionaryIn (nibbles t)
 
 -- nibbles two by two as bytes, high one first: `nibbles` undone
-unfoldable pub packedNibbles : List ℕ → List ℕ
+unfoldable pub packedNibbles : Digits → Bytes
 packedNibbles [] = []
 packedNibbles (n ∷ []) = []
 packedNibbles (h ∷ l ∷ s) = (h * 16 + l) ∷ packedNibbles s

@@ -35,7 +35,7 @@ use Rattle.reading.specs.Answer.{ReadingOutcome, readingOutcome, template, fron
 use Rattle.reading.proofs.Laws.{item-put, next-good}
 use Rattle.personalise.specs.Objects.{recordTemplate, settableInRecord, lacksTag, tagsDistinct}
 use Rattle.personalise.specs.declared.Placement.{Placement}
-use Rattle.personalise.specs.Placements.{objectsInRecord}
+use Rattle.personalise.specs.Placements.{objectsFrom}
 use Rattle.personalise.specs.Records.{contentBytes, recordContent, cardRecordsFrom as records, mostRecordContent}
 use Rattle.personalise.specs.Read.{putObjects, readOneRecord, readRemaining, readAllRecords}
 use Rattle.personalise.proofs.Clauses.{sfiInRange}
@@ -217,7 +217,7 @@ pub read-all : (os : List Object) (ps : List Placement) (rs : List CardRecord) (
 unfolding readAllRecords records ordered every putObjects
 read-all os ps [] k b g h e d l f = refl
 read-all os ps (r ∷ rs) k b g h e d l f =
-    let x = objectsInRecord ps k os in
+    let x = objectsFrom ps k 1 os in
     let y = ordered ps (suc k) (length rs) 1 os in
     let z = free-behind b x y e d l f in
     let q = read-one x (every-first settableInRecord x y e) (h k (omega arith) (omega arith)) b (distinct-first x y d) l (free-first b x y f) r (leb-true (r .sfi) 10 (both-left _ _ g)) in

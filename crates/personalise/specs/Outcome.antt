@@ -68,8 +68,8 @@ abbrev pub refuseOr : (ℕ → PersonaliseResult) → Fault → PersonaliseResul
 refuseOr refusal (At i) next = refusal i
 refuseOr refusal Nothing next = next
 
--- the answer, with the caller's buffers r for the records and l for the AFL: the first refusal of the buffers, the list,
--- the entries and the records, or how many bytes of each are written
+-- the answer, with the caller's buffers r for the records and l for the AFL: the first refusal, of the buffers, the
+-- list, the entries and the records in this order, or how many bytes of records and of the AFL are written
 unfoldable pub personaliseResult : CardPlan → Bytes → Bytes → PersonaliseResult
 personaliseResult p r l =
     if length r <? recordsRoom then ShortRecords

@@ -52,7 +52,3 @@ objectsFrom ps k j [] = []
 objectsFrom ps k j (o ∷ os) =
     if anyPlacement (putsObjectInto k j) ps then o ∷ objectsFrom ps k (suc j) os
     else objectsFrom ps k (suc j) os
-
--- the objects of a list that are in record k
-abbrev pub objectsInRecord : List Placement → RecordNumber → List Object → List Object
-objectsInRecord ps k os = objectsFrom ps k 1 os

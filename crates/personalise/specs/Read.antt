@@ -64,7 +64,8 @@ pub record CardHolds (p : CardPlan) (z : WrittenSizes) (r l : Bytes) : Type 0 wh
   -- document 01 accepts the AFL
   pub accepted : acceptsAfl (p .entries) ≡ true
   -- read in the AFL's order, each record gives reason 0 and together they give the store of the list
-  pub read : readAllRecords emptyStoreBytes (aflRecords (p .entries)) (cardRecords p) ≡ some (storeOfObjects (objectsOf p))
+  pub read : readAllRecords emptyStoreBytes (aflRecords (p .entries)) (cardRecords p)
+      ≡ some (storeOfObjects (objectsOf p))
 
 -- where the answer is that all is written
 abbrev pub CardHoldsIfWritten : CardPlan → PersonaliseResult → Bytes → Bytes → Type 0

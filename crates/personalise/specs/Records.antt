@@ -13,7 +13,7 @@ use Rattle.personalise.specs.declared.Placement.{Placement}
 use Rattle.personalise.specs.declared.Fault.{Fault}
 use Rattle.personalise.specs.declared.Fault.the-variants.{At, Nothing}
 use Rattle.personalise.specs.Objects.{recordTemplate}
-use Rattle.personalise.specs.Placements.{anyPlacement, objectsInRecord}
+use Rattle.personalise.specs.Placements.{anyPlacement, objectsFrom}
 
 -- ---- bytes
 
@@ -24,7 +24,7 @@ contentBytes (o ∷ os) = objectBytes (o .tag) (o .value) ++ contentBytes os
 
 -- what record k holds inside its template
 abbrev pub recordContent : List Object → List Placement → RecordNumber → Bytes
-recordContent os ps k = contentBytes (objectsInRecord ps k os)
+recordContent os ps k = contentBytes (objectsFrom ps k 1 os)
 
 -- record k: 70, the shortest length, its objects
 abbrev pub cardRecordBytes : List Object → List Placement → RecordNumber → Bytes

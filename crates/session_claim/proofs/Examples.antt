@@ -54,7 +54,7 @@ use Rattle.analysis.specs.Tvr.{tvrWithBits}
 use Rattle.analysis.specs.Choice.{stageHoldsBit, lowestFrom, lowestBit, iacCode, stageHolds, onlineCapabilityAt, choiceOf}
 use Rattle.analysis.specs.declared.choice.Choice.{Choice}
 use Rattle.analysis.specs.declared.cvm.Cvm.{Cvm}
-use Rattle.analysis.specs.Cvm.{cvmRulesFrom, cvmRecognised, cvmSupported, cvmAmountMet, cvmConditionMet, cvmSuccessful as takenBy, cvmUnsuccessful, byCvmRules, cvmProcessing, onDeviceCvm, onDeviceResult}
+use Rattle.analysis.specs.Cvm.{cvmRulesFrom, cvmRecognised, cvmSupported, cvmConditionMet, cvmSuccessful as takenBy, cvmUnsuccessful, byCvmRules, cvmProcessing, onDeviceCvm, onDeviceResult}
 use Rattle.analysis.specs.Action.{hasOnDeviceCvm, transactionLimit, aboveTransactionLimit, aucViolatedIn, restrictionsByte, tvrOf, sameCurrency, cvmConditionsIn, cvmResultIn, tvrWithCvm, findingsOf, actionCodesOf, choiceFor}
 use Rattle.session_record.specs.declared.Outcome.{Outcome}
 use Rattle.session_record.specs.declared.CallResult.{CallResult}
@@ -185,7 +185,7 @@ unfolding commandsSent playIn finalIn callsAccepted outcomeOfReason cryptogramDa
     either every dictionaryRows rowPast findRow settableByStart setObject setObjects fitsRow digitsFit numeric nibbles digitsThenFs compressed terminalTypeListed listedTerminalType rowOffset rowPlace placeValue rowValue putRow objectValueIn allRequiredPresent
     isPresentIfRequired recordNext afterRecord afterLastRecord afterRecordsEmv requestedCryptogram askCryptogram hasOnDeviceCvm transactionLimit aboveTransactionLimit aucViolatedIn restrictionsByte tvrOf sameCurrency cvmConditionsIn cvmResultIn tvrWithCvm
     findingsOf actionCodesOf choiceFor numberedBit firstBytes bcdFrom yearOf dateOf dateLater amountOf amountAbove versionDiffers notYetEffective atAtm issuerCountryOf cashbackRequested aucViolated tvrWithBits stageHoldsBit
-    lowestFrom lowestBit iacCode stageHolds onlineCapabilityAt choiceOf cvmRulesFrom cvmRecognised cvmSupported cvmAmountMet cvmConditionMet takenBy cvmUnsuccessful byCvmRules cvmProcessing onDeviceCvm bytesEqual
+    lowestFrom lowestBit iacCode stageHolds onlineCapabilityAt choiceOf cvmRulesFrom cvmRecognised cvmSupported cvmConditionMet takenBy cvmUnsuccessful byCvmRules cvmProcessing onDeviceCvm bytesEqual
 verified = ap (map callResult) (play-in freshSession fresh-keeps (failing verifyingAnswer))
 
 verified-sent : commandsSent (playCalls freshSession (asking verifyingAnswer))
@@ -198,7 +198,7 @@ unfolding commandsSent playIn finalIn callsAccepted outcomeOfReason cryptogramDa
     either every dictionaryRows rowPast findRow settableByStart setObject setObjects fitsRow digitsFit numeric nibbles digitsThenFs compressed terminalTypeListed listedTerminalType rowOffset rowPlace placeValue rowValue putRow objectValueIn allRequiredPresent
     isPresentIfRequired recordNext afterRecord afterLastRecord afterRecordsEmv requestedCryptogram askCryptogram hasOnDeviceCvm transactionLimit aboveTransactionLimit aucViolatedIn restrictionsByte tvrOf sameCurrency cvmConditionsIn cvmResultIn tvrWithCvm
     findingsOf actionCodesOf choiceFor numberedBit firstBytes bcdFrom yearOf dateOf dateLater amountOf amountAbove versionDiffers notYetEffective atAtm issuerCountryOf cashbackRequested aucViolated tvrWithBits stageHoldsBit
-    lowestFrom lowestBit iacCode stageHolds onlineCapabilityAt choiceOf cvmRulesFrom cvmRecognised cvmSupported cvmAmountMet cvmConditionMet takenBy cvmUnsuccessful byCvmRules cvmProcessing onDeviceCvm bytesEqual
+    lowestFrom lowestBit iacCode stageHolds onlineCapabilityAt choiceOf cvmRulesFrom cvmRecognised cvmSupported cvmConditionMet takenBy cvmUnsuccessful byCvmRules cvmProcessing onDeviceCvm bytesEqual
 verified-sent = ap commandsSent (play-in freshSession fresh-keeps (asking verifyingAnswer))
 
 -- ---- on-device CVM
@@ -218,7 +218,7 @@ unfolding commandsSent playIn finalIn callsAccepted outcomeOfReason cryptogramDa
     either every dictionaryRows rowPast findRow settableByStart setObject setObjects fitsRow digitsFit numeric nibbles digitsThenFs compressed terminalTypeListed listedTerminalType rowOffset rowPlace placeValue rowValue putRow objectValueIn allRequiredPresent
     isPresentIfRequired recordNext afterRecord afterLastRecord afterRecordsEmv requestedCryptogram askCryptogram hasOnDeviceCvm transactionLimit aboveTransactionLimit aucViolatedIn restrictionsByte tvrOf sameCurrency cvmConditionsIn cvmResultIn tvrWithCvm
     findingsOf actionCodesOf choiceFor numberedBit firstBytes bcdFrom yearOf dateOf dateLater amountOf amountAbove versionDiffers notYetEffective atAtm issuerCountryOf cashbackRequested aucViolated tvrWithBits stageHoldsBit
-    lowestFrom lowestBit iacCode stageHolds onlineCapabilityAt choiceOf cvmRulesFrom cvmRecognised cvmSupported cvmAmountMet cvmConditionMet takenBy cvmUnsuccessful byCvmRules cvmProcessing onDeviceCvm onDeviceResult bytesEqual
+    lowestFrom lowestBit iacCode stageHolds onlineCapabilityAt choiceOf cvmRulesFrom cvmRecognised cvmSupported cvmConditionMet takenBy cvmUnsuccessful byCvmRules cvmProcessing onDeviceCvm onDeviceResult bytesEqual
 onDevice = ap (map callResult) (play-in freshSession fresh-keeps (failing onDeviceAnswer))
 
 on-device-held : finalSession freshSession (asking onDeviceAnswer) .phase
@@ -230,7 +230,7 @@ unfolding commandsSent playIn finalIn callsAccepted outcomeOfReason cryptogramDa
     either every dictionaryRows rowPast findRow settableByStart setObject setObjects fitsRow digitsFit numeric nibbles digitsThenFs compressed terminalTypeListed listedTerminalType rowOffset rowPlace placeValue rowValue putRow objectValueIn allRequiredPresent
     isPresentIfRequired recordNext afterRecord afterLastRecord afterRecordsEmv requestedCryptogram askCryptogram hasOnDeviceCvm transactionLimit aboveTransactionLimit aucViolatedIn restrictionsByte tvrOf sameCurrency cvmConditionsIn cvmResultIn tvrWithCvm
     findingsOf actionCodesOf choiceFor numberedBit firstBytes bcdFrom yearOf dateOf dateLater amountOf amountAbove versionDiffers notYetEffective atAtm issuerCountryOf cashbackRequested aucViolated tvrWithBits stageHoldsBit
-    lowestFrom lowestBit iacCode stageHolds onlineCapabilityAt choiceOf cvmRulesFrom cvmRecognised cvmSupported cvmAmountMet cvmConditionMet takenBy cvmUnsuccessful byCvmRules cvmProcessing onDeviceCvm onDeviceResult bytesEqual
+    lowestFrom lowestBit iacCode stageHolds onlineCapabilityAt choiceOf cvmRulesFrom cvmRecognised cvmSupported cvmConditionMet takenBy cvmUnsuccessful byCvmRules cvmProcessing onDeviceCvm onDeviceResult bytesEqual
 on-device-held = ap (λ (s : Session). s .phase) (final-in freshSession fresh-keeps (asking onDeviceAnswer))
 
 on-device-sent : commandsSent (playCalls freshSession (asking onDeviceAnswer))
@@ -243,7 +243,7 @@ unfolding commandsSent playIn finalIn callsAccepted outcomeOfReason cryptogramDa
     either every dictionaryRows rowPast findRow settableByStart setObject setObjects fitsRow digitsFit numeric nibbles digitsThenFs compressed terminalTypeListed listedTerminalType rowOffset rowPlace placeValue rowValue putRow objectValueIn allRequiredPresent
     isPresentIfRequired recordNext afterRecord afterLastRecord afterRecordsEmv requestedCryptogram askCryptogram hasOnDeviceCvm transactionLimit aboveTransactionLimit aucViolatedIn restrictionsByte tvrOf sameCurrency cvmConditionsIn cvmResultIn tvrWithCvm
     findingsOf actionCodesOf choiceFor numberedBit firstBytes bcdFrom yearOf dateOf dateLater amountOf amountAbove versionDiffers notYetEffective atAtm issuerCountryOf cashbackRequested aucViolated tvrWithBits stageHoldsBit
-    lowestFrom lowestBit iacCode stageHolds onlineCapabilityAt choiceOf cvmRulesFrom cvmRecognised cvmSupported cvmAmountMet cvmConditionMet takenBy cvmUnsuccessful byCvmRules cvmProcessing onDeviceCvm onDeviceResult bytesEqual
+    lowestFrom lowestBit iacCode stageHolds onlineCapabilityAt choiceOf cvmRulesFrom cvmRecognised cvmSupported cvmConditionMet takenBy cvmUnsuccessful byCvmRules cvmProcessing onDeviceCvm onDeviceResult bytesEqual
 on-device-sent = ap commandsSent (play-in freshSession fresh-keeps (asking onDeviceAnswer))
 
 -- ---- mag-stripe mode
@@ -274,7 +274,7 @@ unfolding commandsSent playIn finalIn callsAccepted outcomeOfReason cryptogramDa
     either every dictionaryRows rowPast findRow settableByStart setObject setObjects fitsRow digitsFit numeric nibbles digitsThenFs compressed terminalTypeListed listedTerminalType rowOffset rowPlace placeValue rowValue putRow objectValueIn allRequiredPresent
     isPresentIfRequired recordNext afterRecord afterLastRecord afterRecordsEmv requestedCryptogram askCryptogram hasOnDeviceCvm transactionLimit aboveTransactionLimit aucViolatedIn restrictionsByte tvrOf sameCurrency cvmConditionsIn cvmResultIn tvrWithCvm
     findingsOf actionCodesOf choiceFor numberedBit firstBytes bcdFrom yearOf dateOf dateLater amountOf amountAbove versionDiffers notYetEffective atAtm issuerCountryOf cashbackRequested aucViolated tvrWithBits stageHoldsBit
-    lowestFrom lowestBit iacCode stageHolds onlineCapabilityAt choiceOf cvmRulesFrom cvmRecognised cvmSupported cvmAmountMet cvmConditionMet takenBy cvmUnsuccessful byCvmRules cvmProcessing onDeviceCvm bytesEqual trackDataPresent
+    lowestFrom lowestBit iacCode stageHolds onlineCapabilityAt choiceOf cvmRulesFrom cvmRecognised cvmSupported cvmConditionMet takenBy cvmUnsuccessful byCvmRules cvmProcessing onDeviceCvm bytesEqual trackDataPresent
     udolOrDefault computeCryptographicChecksum askChecksum afterRecordsMagStripe afterChecksum checksumTaken checksumNext nibblesBefore discretionaryIn bitmapPlacesFrom bitmapPlaces bitmapWithin canTakeDigits
 striped-said = ap (map callResult) (play-in freshSession fresh-keeps striped)
 
@@ -288,7 +288,7 @@ unfolding commandsSent playIn finalIn callsAccepted outcomeOfReason cryptogramDa
     either every dictionaryRows rowPast findRow settableByStart setObject setObjects fitsRow digitsFit numeric nibbles digitsThenFs compressed terminalTypeListed listedTerminalType rowOffset rowPlace placeValue rowValue putRow objectValueIn allRequiredPresent
     isPresentIfRequired recordNext afterRecord afterLastRecord afterRecordsEmv requestedCryptogram askCryptogram hasOnDeviceCvm transactionLimit aboveTransactionLimit aucViolatedIn restrictionsByte tvrOf sameCurrency cvmConditionsIn cvmResultIn tvrWithCvm
     findingsOf actionCodesOf choiceFor numberedBit firstBytes bcdFrom yearOf dateOf dateLater amountOf amountAbove versionDiffers notYetEffective atAtm issuerCountryOf cashbackRequested aucViolated tvrWithBits stageHoldsBit
-    lowestFrom lowestBit iacCode stageHolds onlineCapabilityAt choiceOf cvmRulesFrom cvmRecognised cvmSupported cvmAmountMet cvmConditionMet takenBy cvmUnsuccessful byCvmRules cvmProcessing onDeviceCvm bytesEqual trackDataPresent
+    lowestFrom lowestBit iacCode stageHolds onlineCapabilityAt choiceOf cvmRulesFrom cvmRecognised cvmSupported cvmConditionMet takenBy cvmUnsuccessful byCvmRules cvmProcessing onDeviceCvm bytesEqual trackDataPresent
     udolOrDefault computeCryptographicChecksum askChecksum afterRecordsMagStripe
 striped-sent = ap commandsSent (play-in freshSession fresh-keeps begunMagStripe)
 

@@ -1,11 +1,10 @@
 -- `cvm::cvm_condition_met` meets its contract: one case of the definition for each arm of the code.
 -- Assumes nothing.
-use mathlib.Core.Path.{refl}
+use mathlib.Core.Path.{refl, sym, _∙_}
 use borrow.Author.Needs.{needs}
-use borrow.Author.Tests.{ne-eqb}
 use Rattle.basics.specs.Choice.{if}
 use Rattle.analysis.specs.Cvm.{cvmConditionMet}
-use Rattle.analysis.proofs.CvmSteps.{and-both}
+use Rattle.analysis.proofs.CvmSteps.{and-both, condition-amount}
 use Rattle.analysis.proofs.cvm.cvm_condition_met.Statement.{statement}
 use Rattle.analysis.proofs.cvm.cvm_condition_met.Tie as tie
 
@@ -34,11 +33,10 @@ unfolding cvmConditionMet if
 returns-6 c = simp (c .match .keys6)
 
 returns-7 : tie.Need-returns-7
-unfolding cvmConditionMet if
 returns-7 c =
     let r = c .before .before .match .rest in
-    simp (ne-eqb _ _ (r .0 .0 .0 .0 .0 .1), ne-eqb _ _ (r .0 .0 .0 .0 .1), ne-eqb _ _ (r .0 .0 .0 .1), ne-eqb _ _ (r .0 .0 .1), ne-eqb _ _ (r .0 .1), ne-eqb _ _ (r .1))
-    (and-both _ _ _ _ refl (c .before .cvm-amount-met .ensures))
+    and-both _ _ _ _ refl (c .before .cvm-amount-met .ensures)
+    ∙ sym (condition-amount _ _ _ (r .0 .0 .0 .0 .0 .1) (r .0 .0 .0 .0 .1) (r .0 .0 .0 .1) (r .0 .0 .1) (r .0 .1) (r .1))
 
 pub cvm-condition-met-spec : {M : Type 1} → statement M
 cvm-condition-met-spec =
