@@ -55,18 +55,6 @@ isRefusal (CallResult.Command x) = false
 isRefusal (CallResult.Outcome e) = false
 isRefusal (CallResult.Refused r) = true
 
--- a command and its length
-abbrev pub isCommand : CallResult → Bool
-isCommand (CallResult.Command x) = true
-isCommand (CallResult.Outcome e) = false
-isCommand (CallResult.Refused r) = false
-
--- an outcome with its reason
-abbrev pub isOutcome : CallResult → Bool
-isOutcome (CallResult.Command x) = false
-isOutcome (CallResult.Outcome e) = true
-isOutcome (CallResult.Refused r) = false
-
 -- one of the three
 abbrev pub callResult : CallMade → CallResult
 callResult m = m .step .reply .answer
