@@ -1,11 +1,11 @@
 -- The definitions that the layout had before a code carried its limit and a head was compared whole: each agrees with
--- the one that took its place, on every input.
+-- the one that took its place.
 -- Assumes nothing.
 use mathlib.Core.Path.{_≡_, refl, sym, ap, ap₂, _∙_}
 use mathlib.Core.Bool.{Bool, true, false}
 use mathlib.Core.List.{List, [], _∷_, _++_}
 use mathlib.Core.Logic.{inl, inr}
-use Prim.Native.Nat.{ℕ, _/_, _%_, _≤_, _<_}
+use Prim.Native.Nat.{ℕ, zero, suc, _≤_}
 use native.Mathlib.Omega.{arith}
 use lib.Dec.{eqb}
 use lib.ListN.{length, getD, take, drop}
@@ -17,29 +17,60 @@ use Rattle.basics.proofs.Laws.{both-true, both-no-left, both-assoc, bool-cases}
 use Rattle.analysis.specs.declared.choice.Choice.{Choice}
 use Rattle.analysis.specs.declared.cvm.Cvm.{Cvm}
 use Rattle.session_record.specs.declared.Outcome.{Outcome}
+use Rattle.session_record.specs.declared.AwaitedResponse.{AwaitedResponse}
 use Rattle.session_record.specs.declared.Phase.{Phase}
+use Rattle.session_record.specs.Session.{endingOf}
 use Rattle.layout.specs.declared.PhaseCode.{PhaseCode}
-use Rattle.layout.specs.Layout.{layoutVersion, headSize, recordSize, phaseCodeOf, bigEndianBytes, recordHead, withNumber}
-use Rattle.layout.specs.Layout.{choiceFrom, cvmFrom, outcomeFrom, phaseOfCode, limitBytesIn, phaseCodeIn, phaseIn, countIn, holdsRecord}
+use Rattle.layout.specs.Layout.{layoutVersion, headSize, recordSize, phaseCode, awaitedCode, phaseCodeOf, bigEndianBytes, recordHead}
+use Rattle.layout.specs.Layout.{withNumber, choiceFrom, cvmFrom, outcomeFrom, awaitedOfCode, phaseOfCode}
+use Rattle.layout.specs.Layout.{limitBytesIn, phaseCodeIn, phaseIn, countIn, holdsRecord}
 use Rattle.layout.proofs.Number.{eight-bytes}
 
 -- the transaction limit that a phase holds, 0 where it holds none
+awaitedLimit : AwaitedResponse → ℕ
+awaitedLimit AwaitedResponse.Gpo            = 0
+awaitedLimit (AwaitedResponse.Record p)     = p .limit
+awaitedLimit (AwaitedResponse.Cryptogram a) = a .limit
+awaitedLimit (AwaitedResponse.Checksum c)   = c .limit
+
 phaseLimit : Phase → ℕ
-phaseLimit Phase.Fresh          = 0
-phaseLimit Phase.Gpo            = 0
-phaseLimit (Phase.Record p)     = p .limit
-phaseLimit (Phase.Cryptogram a) = a .limit
-phaseLimit (Phase.Checksum c)   = c .limit
-phaseLimit (Phase.Ended e)      = 0
+phaseLimit Phase.Fresh       = 0
+phaseLimit (Phase.Waiting w) = awaitedLimit w
+phaseLimit (Phase.Ended e)   = 0
+
+awaited-limit : (w : AwaitedResponse) → awaitedLimit w ≡ awaitedCode w .limit
+unfolding awaitedLimit
+awaited-limit AwaitedResponse.Gpo = refl
+awaited-limit (AwaitedResponse.Record p) = refl
+awaited-limit (AwaitedResponse.Cryptogram a) = refl
+awaited-limit (AwaitedResponse.Checksum c) = refl
 
 phase-limit : (p : Phase) → phaseLimit p ≡ phaseCodeOf p .limit
 unfolding phaseLimit
 phase-limit Phase.Fresh = refl
-phase-limit Phase.Gpo = refl
-phase-limit (Phase.Record p) = refl
-phase-limit (Phase.Cryptogram a) = refl
-phase-limit (Phase.Checksum c) = refl
+phase-limit (Phase.Waiting w) = awaited-limit w
 phase-limit (Phase.Ended e) = refl
+
+-- the phase of a code, where the codes that no phase has were read as an end: the two differ at such codes alone
+phaseBy : PhaseCode → Phase
+phaseBy c =
+    if c .number =? 0 then Phase.Fresh
+    else if c .number =? 1 then Phase.Waiting AwaitedResponse.Gpo
+    else if c .number =? 2 then Phase.Waiting (AwaitedResponse.Record (record { number = c .datum; limit = c .limit }))
+    else if c .number =? 3 then Phase.Waiting (AwaitedResponse.Cryptogram
+        (record { choice = choiceFrom (c .datum); cvm = cvmFrom (c .cvm); limit = c .limit }))
+    else if c .number =? 5 then Phase.Waiting (AwaitedResponse.Checksum (record { limit = c .limit }))
+    else Phase.Ended (endingOf (outcomeFrom (c .datum)) (c .reason))
+
+phase-by : (n d r m l : ℕ) → n ≤ 5 → phaseBy (phaseCode n d r m l) ≡ phaseOfCode (phaseCode n d r m l)
+unfolding phaseBy phaseOfCode awaitedOfCode if
+phase-by zero d r m l h = refl
+phase-by (suc zero) d r m l h = refl
+phase-by (suc (suc zero)) d r m l h = refl
+phase-by (suc (suc (suc zero))) d r m l h = refl
+phase-by (suc (suc (suc (suc zero)))) d r m l h = refl
+phase-by (suc (suc (suc (suc (suc zero))))) d r m l h = refl
+phase-by (suc (suc (suc (suc (suc (suc n)))))) d r m l h = absurd (omega arith)
 
 -- a limit as eight bytes, high byte first: `eight-bytes` of proofs/Number
 

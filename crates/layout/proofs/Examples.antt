@@ -11,10 +11,11 @@ use Rattle.analysis.specs.declared.choice.Choice.{Choice}
 use Rattle.analysis.specs.declared.cvm.Cvm.{Cvm}
 use Rattle.analysis.specs.Cvm.{cvmNotApplicable}
 use Rattle.session_record.specs.declared.Outcome.{Outcome}
+use Rattle.session_record.specs.declared.AwaitedResponse.{AwaitedResponse}
 use Rattle.session_record.specs.declared.Phase.{Phase}
 use Rattle.session_record.specs.declared.CallResult.{CallResult}
 use Rattle.session_record.specs.Session.{endingOf, outcomeParameters}
-use Rattle.layout.specs.Layout.{phaseCode, phaseCodeOf, bigEndianBytes, recordHead, withNumber, phaseOfCode}
+use Rattle.layout.specs.Layout.{phaseCode, phaseCodeOf, bigEndianBytes, recordHead, withNumber, awaitedOfCode, phaseOfCode}
 use Rattle.layout.specs.Word.{commandWord, resultWord}
 
 -- the head of a phase and a count
@@ -23,10 +24,11 @@ headOf p n = recordHead (phaseCodeOf p) n
 
 -- version, number of the phase, what it holds, reason, count, CVM, limit
 heads : headOf Phase.Fresh 0
-    ∷ headOf Phase.Gpo 1
-    ∷ headOf (Phase.Record (record { number = 3; limit = 999999999999 })) 4
-    ∷ headOf (Phase.Cryptogram (record { choice = Choice.Online; cvm = Cvm.ConfirmationCode; limit = 0xFEDCBA9876543210 })) 5
-    ∷ headOf (Phase.Checksum (record { limit = 100 })) 3
+    ∷ headOf (Phase.Waiting AwaitedResponse.Gpo) 1
+    ∷ headOf (Phase.Waiting (AwaitedResponse.Record (record { number = 3; limit = 999999999999 }))) 4
+    ∷ headOf (Phase.Waiting (AwaitedResponse.Cryptogram
+        (record { choice = Choice.Online; cvm = Cvm.ConfirmationCode; limit = 0xFEDCBA9876543210 }))) 5
+    ∷ headOf (Phase.Waiting (AwaitedResponse.Checksum (record { limit = 100 }))) 3
     ∷ headOf (Phase.Ended (endingOf Outcome.SelectNext 6)) 5
     ∷ []
     ≡ (5 ∷ 0 ∷ 0 ∷ 0 ∷ 0 ∷ 0 ∷ 0 ∷ 0 ∷ 0 ∷ 0 ∷ 0 ∷ 0 ∷ 0 ∷ 0 ∷ [])
@@ -51,19 +53,19 @@ codes : map (λ c. bytesEqual (recordHead (phaseCodeOf (phaseOfCode c)) 0) (reco
     ≡ true ∷ true ∷ true ∷ true ∷ true ∷ false ∷ false ∷ false ∷ false ∷ false ∷ false
     ∷ true ∷ true ∷ true ∷ true ∷ true ∷ false ∷ false ∷ false ∷ false
     ∷ true ∷ false ∷ false ∷ []
-unfolding bytesEqual bigEndianBytes phaseOfCode withNumber both if
+unfolding bytesEqual bigEndianBytes phaseOfCode awaitedOfCode withNumber both if
 codes = refl
 
 -- a limit of 1 is held while a record, the cryptogram or the checksum is awaited, and by no other phase
 limits : map (λ n. phaseCodeOf (phaseOfCode (phaseCode n 0 0 0 1)) .limit) (0 ∷ 1 ∷ 2 ∷ 3 ∷ 4 ∷ 5 ∷ []) ≡ 0 ∷ 0 ∷ 1 ∷ 1 ∷ 0 ∷ 1 ∷ []
-unfolding phaseOfCode withNumber if
+unfolding phaseOfCode awaitedOfCode withNumber if
 limits = refl
 
 -- a command's length, the longest that a word reports, one more; an approval with a signature, the last outcome before
 -- a choice of the CVM, and an end with an offline PIN; the refusals
 words : map resultWord
     (CallResult.Command (record { size = 5 }) ∷ CallResult.Command (record { size = 65535 }) ∷ CallResult.Command (record { size = 65536 })
-    ∷ CallResult.Outcome (outcomeParameters Outcome.Approved 0 1) ∷ CallResult.Outcome (outcomeParameters Outcome.SelectNext 6 cvmNotApplicable) ∷ CallResult.Outcome (outcomeParameters Outcome.Ended 9 4)
+    ∷ CallResult.Outcome (outcomeParameters (endingOf Outcome.Approved 0) 1) ∷ CallResult.Outcome (outcomeParameters (endingOf Outcome.SelectNext 6) cvmNotApplicable) ∷ CallResult.Outcome (outcomeParameters (endingOf Outcome.Ended 9) 4)
     ∷ CallResult.Refused (record { number = 20 }) ∷ CallResult.Refused (record { number = 25 }) ∷ [])
     ≡ 5 ∷ 65535 ∷ 65535 ∷ 0x01010000 ∷ 0x0F010406 ∷ 0x04010309 ∷ 0x20014 ∷ 0x20019 ∷ []
 unfolding commandWord

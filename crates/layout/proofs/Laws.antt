@@ -24,15 +24,16 @@ use Rattle.analysis.specs.declared.cvm.Cvm.{Cvm}
 use Rattle.analysis.specs.Cvm.{cvmNumber}
 use Rattle.session_record.specs.declared.Outcome.{Outcome}
 use Rattle.session_record.specs.declared.OutcomeParameters.{OutcomeParameters}
+use Rattle.session_record.specs.declared.AwaitedResponse.{AwaitedResponse}
 use Rattle.session_record.specs.declared.Phase.{Phase}
 use Rattle.session_record.specs.declared.Session.{Session}
 use Rattle.session_record.specs.Numbers.{outcomeNumber}
-use Rattle.session_record.specs.Session.{storeBytes, sessionOf}
+use Rattle.session_record.specs.Session.{storeBytes, sessionOf, endingOf}
 use Rattle.layout.specs.declared.PhaseCode.{PhaseCode}
 use Rattle.layout.specs.declared.RecordHead.{RecordHead}
 use Rattle.layout.specs.declared.RecordHeld.{RecordHeld}
-use Rattle.layout.specs.Layout.{headSize, recordSize, phaseCode, phaseCodeOf, bigEndianBytes, recordHead, encodedSession}
-use Rattle.layout.specs.Layout.{withNumber, choiceFrom, cvmFrom, outcomeFrom, phaseOfCode, phaseCodeIn, phaseIn, countIn}
+use Rattle.layout.specs.Layout.{headSize, recordSize, phaseCode, awaitedCode, phaseCodeOf, bigEndianBytes, recordHead, encodedSession}
+use Rattle.layout.specs.Layout.{withNumber, choiceFrom, cvmFrom, outcomeFrom, awaitedOfCode, phaseOfCode, phaseCodeIn, phaseIn, countIn}
 use Rattle.layout.specs.Layout.{withSessionRecord, holdsRecord, decodedSession, recordHeld, storeOfSession}
 use Rattle.layout.proofs.Number.{bytes-length, bytes-number}
 use Rattle.layout.specs.Word.{wordKind, kindCommand, kindOutcome, kindRefusal, commandWord, outcomeWord, refusalWord}
@@ -62,17 +63,27 @@ outcome-back Outcome.Ended = refl
 outcome-back Outcome.SelectNext = refl
 
 -- a phase is read back from its code
+awaited-back : (w : AwaitedResponse) → awaitedOfCode (awaitedCode w) ≡ w
+unfolding awaitedOfCode if
+awaited-back AwaitedResponse.Gpo = refl
+awaited-back (AwaitedResponse.Record p) = refl
+awaited-back (AwaitedResponse.Cryptogram a) =
+    ap₂ (λ (c : Choice) (m : Cvm). AwaitedResponse.Cryptogram (record { choice = c; cvm = m; limit = a .limit }))
+    (choice-back (a .choice)) (cvm-back (a .cvm))
+awaited-back (AwaitedResponse.Checksum c) = refl
+
+waiting-back : (w : AwaitedResponse) → phaseOfCode (awaitedCode w) ≡ Phase.Waiting (awaitedOfCode (awaitedCode w))
+unfolding phaseOfCode if
+waiting-back AwaitedResponse.Gpo = refl
+waiting-back (AwaitedResponse.Record p) = refl
+waiting-back (AwaitedResponse.Cryptogram a) = refl
+waiting-back (AwaitedResponse.Checksum c) = refl
+
 phase-back : (p : Phase) → phaseOfCode (phaseCodeOf p) ≡ p
 unfolding phaseOfCode if
 phase-back Phase.Fresh = refl
-phase-back Phase.Gpo = refl
-phase-back (Phase.Record p) = refl
-phase-back (Phase.Cryptogram a) =
-    ap₂ (λ (c : Choice) (m : Cvm). Phase.Cryptogram (record { choice = c; cvm = m; limit = a .limit }))
-    (choice-back (a .choice)) (cvm-back (a .cvm))
-phase-back (Phase.Checksum k) = refl
-phase-back (Phase.Ended e) =
-    ap (λ (o : Outcome). Phase.Ended (record { outcome = o; reason = e .reason })) (outcome-back (e .outcome))
+phase-back (Phase.Waiting w) = waiting-back w ∙ ap Phase.Waiting (awaited-back w)
+phase-back (Phase.Ended e) = ap (λ (o : Outcome). Phase.Ended (endingOf o (e .reason))) (outcome-back (e .outcome))
 
 -- ---- which bytes are a record
 

@@ -19,10 +19,11 @@ use Rattle.analysis.specs.declared.cvm.Cvm.{Cvm}
 use Rattle.analysis.specs.Cvm.{cvmNumber}
 use Rattle.session_record.specs.declared.Outcome.{Outcome}
 use Rattle.session_record.specs.declared.Outcome.the-variants.{Approved, OnlineRequest, Declined, Ended, SelectNext}
+use Rattle.session_record.specs.declared.AwaitedResponse.{AwaitedResponse}
 use Rattle.session_record.specs.declared.Phase.{Phase}
 use Rattle.session_record.specs.declared.Session.{Session}
 use Rattle.session_record.specs.Numbers.{outcomeNumber}
-use Rattle.session_record.specs.Session.{storeBytes, sessionOf}
+use Rattle.session_record.specs.Session.{storeBytes, sessionOf, endingOf}
 use Rattle.layout.specs.declared.PhaseCode.{PhaseCode}
 use Rattle.layout.specs.declared.RecordHeld.{RecordHeld}
 
@@ -43,14 +44,18 @@ recordSize = headSize + storeSize
 abbrev pub phaseCode : Byte → Byte → Reason → CvmNumber → Amount → PhaseCode
 phaseCode n d r m l = record { number = n; datum = d; reason = r; cvm = m; limit = l }
 
--- of a phase: it holds the record's number, the P1 requested or the outcome; 0 where there is none
+-- of an awaited response: its number from 1 to 3, and 5; the record's number or the P1 requested; 0 where there is none
+abbrev pub awaitedCode : AwaitedResponse → PhaseCode
+awaitedCode AwaitedResponse.Gpo            = phaseCode 1 0 0 0 0
+awaitedCode (AwaitedResponse.Record p)     = phaseCode 2 (p .number) 0 0 (p .limit)
+awaitedCode (AwaitedResponse.Cryptogram a) = phaseCode 3 (generateAcP1 (a .choice)) 0 (cvmNumber (a .cvm)) (a .limit)
+awaitedCode (AwaitedResponse.Checksum c)   = phaseCode 5 0 0 0 (c .limit)
+
+-- of a phase: fresh is 0, ended is 4 with the outcome and its reason
 abbrev pub phaseCodeOf : Phase → PhaseCode
-phaseCodeOf Phase.Fresh          = phaseCode 0 0 0 0 0
-phaseCodeOf Phase.Gpo            = phaseCode 1 0 0 0 0
-phaseCodeOf (Phase.Record p)     = phaseCode 2 (p .number) 0 0 (p .limit)
-phaseCodeOf (Phase.Cryptogram a) = phaseCode 3 (generateAcP1 (a .choice)) 0 (cvmNumber (a .cvm)) (a .limit)
-phaseCodeOf (Phase.Ended e)      = phaseCode 4 (outcomeNumber (e .outcome)) (e .reason) 0 0
-phaseCodeOf (Phase.Checksum c)   = phaseCode 5 0 0 0 (c .limit)
+phaseCodeOf Phase.Fresh       = phaseCode 0 0 0 0 0
+phaseCodeOf (Phase.Waiting w) = awaitedCode w
+phaseCodeOf (Phase.Ended e)   = phaseCode 4 (outcomeNumber (e .outcome)) (e .reason) 0 0
 
 -- a number in w bytes, high byte first; what the other bytes cannot hold is left in the first
 unfoldable pub bigEndianBytes : Length → ℕ → Bytes
@@ -81,16 +86,20 @@ cvmFrom = withNumber cvmNumber (Cvm.NoCvm ∷ Cvm.Signature ∷ Cvm.OnlinePin �
 abbrev pub outcomeFrom : Byte → Outcome
 outcomeFrom = withNumber outcomeNumber (Approved ∷ OnlineRequest ∷ Declined ∷ Ended ∷ []) SelectNext
 
--- the phase of a code
+-- the awaited response and the phase of a code
+unfoldable pub awaitedOfCode : PhaseCode → AwaitedResponse
+awaitedOfCode c =
+    if c .number =? 1 then AwaitedResponse.Gpo
+    else if c .number =? 2 then AwaitedResponse.Record (record { number = c .datum; limit = c .limit })
+    else if c .number =? 3 then
+        AwaitedResponse.Cryptogram (record { choice = choiceFrom (c .datum); cvm = cvmFrom (c .cvm); limit = c .limit })
+    else AwaitedResponse.Checksum (record { limit = c .limit })
+
 unfoldable pub phaseOfCode : PhaseCode → Phase
 phaseOfCode c =
     if c .number =? 0 then Phase.Fresh
-    else if c .number =? 1 then Phase.Gpo
-    else if c .number =? 2 then Phase.Record (record { number = c .datum; limit = c .limit })
-    else if c .number =? 3 then
-        Phase.Cryptogram (record { choice = choiceFrom (c .datum); cvm = cvmFrom (c .cvm); limit = c .limit })
-    else if c .number =? 5 then Phase.Checksum (record { limit = c .limit })
-    else Phase.Ended (record { outcome = outcomeFrom (c .datum); reason = c .reason })
+    else if c .number =? 4 then Phase.Ended (endingOf (outcomeFrom (c .datum)) (c .reason))
+    else Phase.Waiting (awaitedOfCode c)
 
 -- ---- the record
 

@@ -8,15 +8,16 @@
 use analysis::choice::Choice;
 use analysis::cvm::Cvm;
 use dictionary::SIZE;
-use session_record::{CallResult, RequestedCryptogram, AwaitedChecksum, Ending, CommandLength, Outcome, OutcomeParameters, Phase, AwaitedRecord};
+use session_record::{AwaitedChecksum, AwaitedRecord, AwaitedResponse, CallResult, CommandLength, Ending, Outcome};
+use session_record::{OutcomeParameters, Phase, RequestedCryptogram};
 ghost use mathlib.Core.Path.{_≡_};
 ghost use Prim.Native.Nat.{_+_, _*_, _≤_, _<_};
 ghost use lib.ListN.{length};
 ghost use Rattle.basics.specs.Number.{bigEndian as numberOf};
 ghost use Rattle.dictionary.specs.Rows.{storeSize};
 ghost use Rattle.session_record.specs.Session.{sessionOf};
-ghost use Rattle.layout.specs.Layout.{layoutVersion, recordSize, phaseCodeOf, recordHead, withRecordHead};
-ghost use Rattle.layout.specs.Layout.{choiceFrom, cvmFrom, outcomeFrom, phaseOfCode, phaseCodeIn, limitBytesIn};
+ghost use Rattle.layout.specs.Layout.{layoutVersion, recordSize, awaitedCode, phaseCodeOf, recordHead, withRecordHead};
+ghost use Rattle.layout.specs.Layout.{choiceFrom, cvmFrom, outcomeFrom, awaitedOfCode, phaseOfCode, phaseCodeIn, limitBytesIn};
 ghost use Rattle.layout.specs.Layout.{decodedSession, recordHeld, WroteRecord, DecodesRecord};
 ghost use Rattle.layout.specs.Word.{commandWord, outcomeWord, refusalWord, resultWord};
 
@@ -204,38 +205,7 @@ fn code_of(phase: Phase) -> PhaseCode
             cvm: 0,
             limit: 0,
         },
-        Phase::Gpo => PhaseCode {
-            number: ON_GPO,
-            datum: 0,
-            reason: 0,
-            cvm: 0,
-            limit: 0,
-        },
-        Phase::Record(place) => PhaseCode {
-            number: ON_RECORD,
-            datum: place.number,
-            reason: 0,
-            cvm: 0,
-            limit: place.limit,
-        },
-        Phase::Cryptogram(asked) => {
-            let choice = asked.choice;
-            let cvm = asked.cvm;
-            PhaseCode {
-                number: ON_CRYPTOGRAM,
-                datum: analysis::choice::p1(choice),
-                reason: 0,
-                cvm: analysis::cvm::cvm_number(cvm),
-                limit: asked.limit,
-            }
-        }
-        Phase::Checksum(checksum) => PhaseCode {
-            number: ON_CHECKSUM,
-            datum: 0,
-            reason: 0,
-            cvm: 0,
-            limit: checksum.limit,
-        },
+        Phase::Waiting(awaited) => code_of_awaited(awaited),
         Phase::Ended(end) => {
             let outcome = end.outcome;
             PhaseCode {
@@ -246,6 +216,46 @@ fn code_of(phase: Phase) -> PhaseCode
                 limit: 0,
             }
         }
+    }
+}
+
+// The code while a response is awaited.
+fn code_of_awaited(awaited: AwaitedResponse) -> PhaseCode
+    ensures { λ r. ⌜ r ≡ awaitedCode awaited ⌝ }
+{
+    match awaited {
+        AwaitedResponse::Gpo => PhaseCode {
+            number: ON_GPO,
+            datum: 0,
+            reason: 0,
+            cvm: 0,
+            limit: 0,
+        },
+        AwaitedResponse::Record(place) => PhaseCode {
+            number: ON_RECORD,
+            datum: place.number,
+            reason: 0,
+            cvm: 0,
+            limit: place.limit,
+        },
+        AwaitedResponse::Cryptogram(asked) => {
+            let choice = asked.choice;
+            let cvm = asked.cvm;
+            PhaseCode {
+                number: ON_CRYPTOGRAM,
+                datum: analysis::choice::p1(choice),
+                reason: 0,
+                cvm: analysis::cvm::cvm_number(cvm),
+                limit: asked.limit,
+            }
+        }
+        AwaitedResponse::Checksum(checksum) => PhaseCode {
+            number: ON_CHECKSUM,
+            datum: 0,
+            reason: 0,
+            cvm: 0,
+            limit: checksum.limit,
+        },
     }
 }
 
@@ -304,25 +314,33 @@ fn phase_of(code: PhaseCode) -> Phase
     ensures { λ r. ⌜ r ≡ phaseOfCode code ⌝ }
 {
     let number = code.number;
-    let limit = code.limit;
     if number == ON_FRESH {
         return Phase::Fresh;
     }
+    if number == ON_ENDED {
+        return Phase::Ended(Ending { outcome: outcome_from(code.datum), reason: code.reason });
+    }
+    Phase::Waiting(awaited_of(code))
+}
+
+// The awaited response that a code denotes, the last one where none has that code.
+fn awaited_of(code: PhaseCode) -> AwaitedResponse
+    ensures { λ r. ⌜ r ≡ awaitedOfCode code ⌝ }
+{
+    let number = code.number;
+    let limit = code.limit;
     if number == ON_GPO {
-        return Phase::Gpo;
+        return AwaitedResponse::Gpo;
     }
     if number == ON_RECORD {
-        return Phase::Record(AwaitedRecord { number: code.datum, limit });
+        return AwaitedResponse::Record(AwaitedRecord { number: code.datum, limit });
     }
     if number == ON_CRYPTOGRAM {
         let choice = choice_from(code.datum);
         let cvm = cvm_from(code.cvm);
-        return Phase::Cryptogram(RequestedCryptogram { choice, cvm, limit });
+        return AwaitedResponse::Cryptogram(RequestedCryptogram { choice, cvm, limit });
     }
-    if number == ON_CHECKSUM {
-        return Phase::Checksum(AwaitedChecksum { limit });
-    }
-    Phase::Ended(Ending { outcome: outcome_from(code.datum), reason: code.reason })
+    AwaitedResponse::Checksum(AwaitedChecksum { limit })
 }
 
 // The choice that P1 of the command requests; a decline where no choice has that P1.
