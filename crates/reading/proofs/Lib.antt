@@ -1,10 +1,5 @@
 pub mod Laws
-pub mod Listing
-pub mod Walk
+pub mod Items
+pub mod Runs
 pub mod Frames
-pub mod Parts
-pub mod Count
-pub mod Stages
-pub mod Both
-pub mod Kept
-pub mod Examples
+pub mod Pending

@@ -1,38 +1,22 @@
--- `flat::judge_answer` meets its contract: how the reading begins decides (`decided-judged`), or leads to the body
--- (`body-reason`).
--- Assumes nothing.
 use borrow.Author.Needs.{needs}
-use mathlib.Core.Path.{sym, _∙_}
-use native.Mathlib.Omega.{arith}
-use lib.ListN.{length-take}
-use Rattle.reading.proofs.Stages.{begin-size, decided-judged, body-reason}
 use Rattle.reading.proofs.flat.judge_answer.Statement.{statement}
 use Rattle.reading.proofs.flat.judge_answer.Tie as tie
+use Rattle.reading.proofs.flat.judge_answer.Reads as reads
+use Rattle.reading.proofs.flat.judge_answer.Lts as lts
+use Rattle.reading.proofs.flat.list_objects.Reads as list-objects-reads
+use Rattle.reading.proofs.judge_listed.Reads as judge-listed-reads
 
-slice-aggregate-judge-body : tie.Need-slice-aggregate-judge-body
-slice-aggregate-judge-body c =
-    let l = begin-size _ _ _ (sym (c .before .before .before .before .begin .ensures) ∙ c .before .before .beginning2 .given .1) in
-    simp length-take (omega arith)
+-- src/flat.rt:41:9
+list-objects-requires : tie.Need-list-objects-requires
+list-objects-requires c κs = search needs
 
-judge-body-requires : tie.Need-judge-body-requires
-judge-body-requires c κs =
-    let l = begin-size _ _ _ (sym (c .before .before .before .before .begin .ensures) ∙ c .before .before .beginning2 .given .1) in
-    (c .before .before .before .before .before .before .before .pre, simp length-take (omega arith))
+-- src/flat.rt:42:9
+judge-listed-requires : tie.Need-judge-listed-requires
+judge-listed-requires c κs = search needs
 
+-- src/flat.rt:36:1
 returns : tie.Need-returns
-returns c = decided-judged _ _ _ _ (sym (c .before .before .before .begin .ensures) ∙ c .before .beginning .given .1)
-
-returns-2 : tie.Need-returns-2
-returns-2 c = body-reason _ _ _ _ (sym (c .before .before .before .before .before .begin .ensures) ∙ c .before .before .before .beginning2 .given .1) (c .judge-body .ensures)
+returns c = ?
 
 pub judge-answer-spec : {M : Type 1} → statement M
-judge-answer-spec =
-    tie.close
-    (tie.spec
-    (λ c κs. search needs)
-    (λ c. search needs)
-    (λ c. search needs)
-    slice-aggregate-judge-body
-    judge-body-requires
-    returns
-    returns-2)
+judge-answer-spec = tie.close (tie.spec list-objects-requires judge-listed-requires returns)

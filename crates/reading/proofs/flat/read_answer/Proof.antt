@@ -1,41 +1,27 @@
--- `flat::read_answer` meets its contract: how it begins decides (`decided`), or leads to the body (`with-body`).
--- Assumes nothing.
 use borrow.Author.Needs.{needs}
-use mathlib.Core.Path.{sym, _∙_}
-use native.Mathlib.Omega.{arith}
-use lib.ListN.{length-take}
-use Rattle.reading.proofs.Stages.{begin-size, decided, with-body}
 use Rattle.reading.proofs.flat.read_answer.Statement.{statement}
 use Rattle.reading.proofs.flat.read_answer.Tie as tie
+use Rattle.reading.proofs.flat.read_answer.Reads as reads
+use Rattle.reading.proofs.flat.read_answer.Lts as lts
+use Rattle.reading.proofs.flat.list_objects.Reads as list-objects-reads
+use Rattle.reading.proofs.take_listed.Reads as take-listed-reads
 
-slice-aggregate-read-body : tie.Need-slice-aggregate-read-body
-slice-aggregate-read-body c =
-    let l = begin-size _ _ _ (sym (c .before .before .before .before .before .begin .ensures) ∙ c .before .before .before .beginning2 .given .1) in
-    simp length-take (omega arith)
+-- src/flat.rt:31:9
+list-objects-requires : tie.Need-list-objects-requires
+list-objects-requires c κs = search needs
 
-read-body-requires : tie.Need-read-body-requires
-read-body-requires c κs =
-    let l = begin-size _ _ _ (sym (c .before .before .before .before .before .begin .ensures) ∙ c .before .before .before .beginning2 .given .1) in
-    (c .before .before .before .before .before .before .before .before .pre, simp length-take (omega arith))
+-- src/flat.rt:32:5
+take-listed-requires : tie.Need-take-listed-requires
+take-listed-requires c κs = search needs
 
+-- src/flat.rt:23:1
+same-length : tie.Need-same-length
+same-length c = search needs
+
+-- src/flat.rt:23:1
 returns : tie.Need-returns
-returns c = decided _ _ _ _ (sym (c .before .before .before .before .begin .ensures) ∙ c .before .before .beginning .given .1) (c .reading-of .ensures) (c .before .before .before .before .before .before .before .pre)
-
-returns-2 : tie.Need-returns-2
-returns-2 c =
-    let r = c .before .before .read-body .ensures in
-    with-body _ _ _ _ (sym (c .before .before .before .before .before .before .before .before .begin .ensures) ∙ c .before .before .before .before .before .before .beginning2 .given .1) (r .0) (r .1 .0) (r .1 .1 .0)
+returns c = ?
 
 pub read-answer-spec : {M : Type 1} → statement M
 read-answer-spec =
-    tie.close
-    (tie.spec
-    (λ c κs. search needs)
-    (λ c. search needs)
-    (λ c κs. search needs)
-    (λ c. search needs)
-    slice-aggregate-read-body
-    read-body-requires
-    returns
-    (λ c. search needs)
-    returns-2)
+    tie.close (tie.spec list-objects-requires take-listed-requires same-length returns)
