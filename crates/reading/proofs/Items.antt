@@ -91,14 +91,14 @@ part s a e = take (e - a) (drop a s)
 pub part-empty : (s : List ℕ) (a e : ℕ) → e ≤ a → part s a e ≡ []
 part-empty s a e h = let z : e - a ≡ 0 = omega arith in rw z
 
+pub front-bytes : (v : List ℕ) (n : ℕ) → Bytes v → Bytes (take n v)
+front-bytes v zero h i = omega arith
+front-bytes [] (suc n) h i = omega arith
+front-bytes (x ∷ v) (suc n) h zero = h 0
+front-bytes (x ∷ v) (suc n) h (suc i) = front-bytes v n (λ j. h (suc j)) i
+
 pub part-bytes : (s : List ℕ) (a e : ℕ) → Bytes s → Bytes (part s a e)
-part-bytes s a e b i = go (drop a s) (e - a) i (λ j. rw (getD-drop a s j 0) (b (a + j)))
-  where
-    go : (v : List ℕ) (n i : ℕ) → Bytes v → getD (take n v) i 0 < 256
-    go v zero i h = omega arith
-    go [] (suc n) i h = omega arith
-    go (x ∷ v) (suc n) zero h = h 0
-    go (x ∷ v) (suc n) (suc i) h = go v n i (λ j. h (suc j))
+part-bytes s a e b = front-bytes (drop a s) (e - a) (λ j. rw (getD-drop a s j 0) (b (a + j)))
 
 module _ (s : List ℕ) (a e : ℕ) (ends : e ≤ length s) where
   pub part-length : length (part s a e) ≡ e - a

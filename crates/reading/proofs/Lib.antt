@@ -3,3 +3,9 @@ pub mod Items
 pub mod Runs
 pub mod Frames
 pub mod Pending
+pub mod Parts
+pub mod Count
+pub mod Stages
+pub mod Both
+pub mod Kept
+pub mod Examples

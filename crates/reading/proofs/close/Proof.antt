@@ -1,52 +1,39 @@
+-- `reading::close` meets its contract: by what the walk reports, then by the outer tag.
+-- Assumes nothing.
 use borrow.Author.Needs.{needs}
+use mathlib.Core.Path.{sym, ap, _∙_}
+use borrow.Author.Tests.{eq-eqb, ne-eqb}
+use Rattle.basics.proofs.Laws.{if-yes, if-no}
+use Rattle.reading.specs.Inner.{closedListing}
 use Rattle.reading.proofs.close.Statement.{statement}
 use Rattle.reading.proofs.close.Tie as tie
-use Rattle.reading.proofs.close.Reads as reads
-use Rattle.reading.proofs.close.Lts as lts
-use Rattle.reading.proofs.decided.Reads as decided-reads
-use Rattle.reading.proofs.template_tag.Reads as template-tag-reads
 
--- src/lib.rt:448:23
-enum-known-walked : tie.Need-enum-known-walked
-enum-known-walked c = search needs
-
--- src/lib.rt:449:24
-enum-told : tie.Need-enum-told
-enum-told c = search needs
-
--- src/lib.rt:449:9
-decided-requires : tie.Need-decided-requires
-decided-requires c κs = search needs
-
--- src/lib.rt:449:9
 returns : tie.Need-returns
-returns c = ?
+unfolding closedListing
+returns c = let a = c .before .before .before .args in c .decided .ensures ∙ sym (ap (closedListing (a .awaited) (a .tag)) (c .before .enum-told .given .1))
 
--- src/lib.rt:451:15
-template-tag-requires : tie.Need-template-tag-requires
-template-tag-requires c κs = search needs
-
--- src/lib.rt:452:9
-decided-requires-2 : tie.Need-decided-requires-2
-decided-requires-2 c κs = search needs
-
--- src/lib.rt:452:9
 returns-2 : tie.Need-returns-2
-returns-2 c = ?
+unfolding closedListing
+returns-2 c =
+    let a = c .before .before .before .before .before .before .args in
+    c .decided2 .ensures
+    ∙ sym (ap (closedListing (a .awaited) (a .tag)) (c .before .before .before .before .walked .given .1) ∙ if-no _ _ (ne-eqb _ _ (λ z. c .before .if1 .taken (z ∙ sym (c .before .before .template-tag .ensures)))))
 
--- src/lib.rt:445:1
 returns-3 : tie.Need-returns-3
-returns-3 c = ?
+unfolding closedListing
+returns-3 c =
+    let a = c .before .before .before .before .before .args in
+    sym (ap (closedListing (a .awaited) (a .tag)) (c .before .before .before .walked .given .1) ∙ if-yes _ _ (eq-eqb _ _ (c .if1 .left ∙ c .before .template-tag .ensures)))
 
 pub close-spec : {M : Type 1} → statement M
 close-spec =
     tie.close
     (tie.spec
-    enum-known-walked
-    enum-told
-    decided-requires
+    (λ c. search needs)
+    (λ c. search needs)
+    (λ c κs. search needs)
     returns
-    template-tag-requires
-    decided-requires-2
+    (λ c κs. search needs)
+    (λ c κs. search needs)
     returns-2
     returns-3)

@@ -1,25 +1,21 @@
+-- `reading::is_free` meets its contract. A mark says that bytes are pending; without one the store's length byte
+-- decides.
+-- Assumes nothing.
 use borrow.Author.Needs.{needs}
+use mathlib.Core.Path.{ap, _∙_}
+use Prim.Native.Nat.{ℕ}
+use lib.Dec.{leb}
+use Rattle.reading.proofs.Pending.{marked, unmarked}
 use Rattle.reading.proofs.is_free.Statement.{statement}
 use Rattle.reading.proofs.is_free.Tie as tie
-use Rattle.reading.proofs.is_free.Reads as reads
-use Rattle.reading.proofs.is_free.Lts as lts
-use Rattle.store.proofs.length_byte.Reads as length-byte-reads
 
--- src/lib.rt:580:8
-element-copy-out-if1 : tie.Need-element-copy-out-if1
-element-copy-out-if1 c = search needs
-
--- src/lib.rt:581:9
 returns : tie.Need-returns
-returns c = ?
+returns c = let st = c .before .before .before in marked (st .args .store .now) (st .args .filled .now) (st .args .row) (st .pre .0) (st .pre .1) (c .if1 .taken)
 
--- src/lib.rt:583:5
-length-byte-requires : tie.Need-length-byte-requires
-length-byte-requires c κs = search needs
-
--- src/lib.rt:576:1
 returns-2 : tie.Need-returns-2
-returns-2 c = ?
+returns-2 c =
+    let st = c .before .before .before .before in
+    ap (λ (n : ℕ). leb n 1) (c .length-byte .ensures) ∙ unmarked (st .args .store .now) (st .args .filled .now) (st .args .row) (st .pre .0) (st .pre .1) (c .before .if1 .left)
 
 pub is-free-spec : {M : Type 1} → statement M
-is-free-spec = tie.close (tie.spec element-copy-out-if1 returns length-byte-requires returns-2)
+is-free-spec = tie.close (tie.spec (λ c. search needs) returns (λ c κs. search needs) returns-2)

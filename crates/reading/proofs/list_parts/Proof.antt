@@ -1,82 +1,52 @@
+-- `reading::list_parts` meets its contract: by the tag, then by the answer that is awaited.
+-- Assumes nothing.
 use borrow.Author.Needs.{needs}
+use mathlib.Core.Path.{refl}
+use mathlib.Core.Option.{none}
+use Rattle.reading.proofs.Parts.{wrong-tag, as-gpo, as-cryptogram, as-record, as-checksum}
+use Rattle.reading.proofs.Stages.{parts-none, parts-for}
 use Rattle.reading.proofs.list_parts.Statement.{statement}
 use Rattle.reading.proofs.list_parts.Tie as tie
-use Rattle.reading.proofs.list_parts.Reads as reads
-use Rattle.reading.proofs.list_parts.Lts as lts
-use Rattle.reading.proofs.decided.Reads as decided-reads
-use Rattle.reading.proofs.list_cryptogram.Reads as list-cryptogram-reads
-use Rattle.reading.proofs.list_gpo.Reads as list-gpo-reads
 
--- src/lib.rt:464:9
-decided-requires : tie.Need-decided-requires
-decided-requires c κs = search needs
-
--- src/lib.rt:464:9
 returns : tie.Need-returns
-returns c = ?
+returns c =
+    let st = c .before .before .before in
+    (parts-none _ _ _ _ _ (λ v e. wrong-tag _ v (st .args .awaited) (c .before .if1 .taken)) (c .decided .ensures), st .pre .0)
 
--- src/lib.rt:467:50
-enum-told : tie.Need-enum-told
-enum-told c = search needs
-
--- src/lib.rt:467:25
-list-gpo-requires : tie.Need-list-gpo-requires
-list-gpo-requires c κs = search needs
-
--- src/lib.rt:468:39
-enum-told-2 : tie.Need-enum-told-2
-enum-told-2 c = search needs
-
--- src/lib.rt:468:31
-decided-requires-2 : tie.Need-decided-requires-2
-decided-requires-2 c κs = search needs
-
--- src/lib.rt:469:64
-enum-told-3 : tie.Need-enum-told-3
-enum-told-3 c = search needs
-
--- src/lib.rt:469:32
-list-cryptogram-requires : tie.Need-list-cryptogram-requires
-list-cryptogram-requires c κs = search needs
-
--- src/lib.rt:470:38
-enum-told-4 : tie.Need-enum-told-4
-enum-told-4 c = search needs
-
--- src/lib.rt:470:30
-decided-requires-3 : tie.Need-decided-requires-3
-decided-requires-3 c κs = search needs
-
--- src/lib.rt:458:1
 returns-2 : tie.Need-returns-2
-returns-2 c = ?
+returns-2 c =
+    let g = c .list-gpo .ensures in
+    (parts-for _ _ _ (c .before .before .enum-told .given .1) (λ v. as-gpo _ v (c .before .before .before .before .if1 .left)) (g .0), g .1)
 
--- src/lib.rt:458:1
 returns-3 : tie.Need-returns-3
-returns-3 c = ?
+returns-3 c =
+    let st = c .before .before .before .before .before in
+    (parts-for _ _ _ (c .before .enum-told2 .given .1) (λ v. as-record _ v _) (parts-none _ (λ v. none) _ _ _ (λ v e. refl) (c .decided2 .ensures)), st .pre .0)
 
--- src/lib.rt:458:1
 returns-4 : tie.Need-returns-4
-returns-4 c = ?
+returns-4 c =
+    let g = c .list-cryptogram .ensures in
+    (parts-for _ _ _ (c .before .before .enum-told3 .given .1) (λ v. as-cryptogram _ v (c .before .before .before .before .if1 .left)) (g .0), g .1)
 
--- src/lib.rt:458:1
 returns-5 : tie.Need-returns-5
-returns-5 c = ?
+returns-5 c =
+    let st = c .before .before .before .before .before in
+    (parts-for _ _ _ (c .before .enum-told4 .given .1) (λ v. as-checksum _ v) (parts-none _ (λ v. none) _ _ _ (λ v e. refl) (c .decided3 .ensures)), st .pre .0)
 
 pub list-parts-spec : {M : Type 1} → statement M
 list-parts-spec =
     tie.close
     (tie.spec
-    decided-requires
+    (λ c κs. search needs)
     returns
-    enum-told
-    list-gpo-requires
-    enum-told-2
-    decided-requires-2
-    enum-told-3
-    list-cryptogram-requires
-    enum-told-4
-    decided-requires-3
+    (λ c. search needs)
+    (λ c κs. search needs)
+    (λ c. search needs)
+    (λ c κs. search needs)
+    (λ c. search needs)
+    (λ c κs. search needs)
+    (λ c. search needs)
+    (λ c κs. search needs)
     returns-2
     returns-3
     returns-4

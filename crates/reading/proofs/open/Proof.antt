@@ -1,87 +1,58 @@
+-- `reading::open` meets its contract: each way out has its law in proofs/Stages.
+-- Assumes nothing.
 use borrow.Author.Needs.{needs}
+use mathlib.Core.Path.{sym, _∙_}
+use native.Mathlib.Omega.{arith}
+use lib.ListN.{length-take}
+use Rattle.reading.proofs.Stages.{begin-size, body-length, outer-fits, object-places, decided-opened, broken-opened, template-opened, primitive-opened}
 use Rattle.reading.proofs.open.Statement.{statement}
 use Rattle.reading.proofs.open.Tie as tie
-use Rattle.reading.proofs.open.Reads as reads
-use Rattle.reading.proofs.open.Lts as lts
-use Rattle.reading.proofs.begin.Reads as begin-reads
-use Rattle.reading.proofs.decided.Reads as decided-reads
-use Rattle.reading.proofs.list_parts.Reads as list-parts-reads
-use Rattle.reading.proofs.outer_of.Reads as outer-of-reads
 
--- src/lib.rt:423:9
-begin-requires : tie.Need-begin-requires
-begin-requires c κs = search needs
-
--- src/lib.rt:425:28
-enum-known-beginning : tie.Need-enum-known-beginning
-enum-known-beginning c = search needs
-
--- src/lib.rt:425:55
-decided-requires : tie.Need-decided-requires
-decided-requires c κs = search needs
-
--- src/lib.rt:426:25
-enum-known-beginning-2 : tie.Need-enum-known-beginning-2
-enum-known-beginning-2 c = search needs
-
--- src/lib.rt:427:34
 slice-aggregate-outer-of : tie.Need-slice-aggregate-outer-of
-slice-aggregate-outer-of c = ?
+slice-aggregate-outer-of c =
+    let l = begin-size _ _ _ (sym (c .before .before .before .before .begin .ensures) ∙ c .before .before .beginning2 .given .1) in
+    simp length-take (omega arith)
 
--- src/lib.rt:427:17
-outer-of-requires : tie.Need-outer-of-requires
-outer-of-requires c κs = search needs
-
--- src/lib.rt:429:63
-enum-told : tie.Need-enum-told
-enum-told c = search needs
-
--- src/lib.rt:429:55
-decided-requires-2 : tie.Need-decided-requires-2
-decided-requires-2 c κs = search needs
-
--- src/lib.rt:430:39
-enum-known-outer : tie.Need-enum-known-outer
-enum-known-outer c = search needs
-
--- src/lib.rt:431:40
-enum-known-outer-2 : tie.Need-enum-known-outer-2
-enum-known-outer-2 c = search needs
-
--- src/lib.rt:431:61
 list-parts-requires : tie.Need-list-parts-requires
-list-parts-requires c κs = ?
+list-parts-requires c κs =
+    let q = sym (c .before .before .before .before .before .before .before .before .before .begin .ensures) ∙ c .before .before .before .before .before .before .before .beginning2 .given .1 in
+    let f = outer-fits _ (c .before .before .before .before .outer-of .ensures) (c .before .before .outer2 .given .1) in
+    let o = object-places _ _ _ q _ (f .0) in
+    (c .before .before .before .before .before .before .before .before .before .before .before .pre, o .0, o .1 .1)
 
--- src/lib.rt:418:1
 returns : tie.Need-returns
-returns c = ?
+returns c = (decided-opened _ _ _ (sym (c .before .before .before .before .begin .ensures) ∙ c .before .before .beginning .given .1) _ (c .decided .ensures), c .before .before .before .before .before .before .pre)
 
--- src/lib.rt:418:1
 returns-2 : tie.Need-returns-2
-returns-2 c = ?
+returns-2 c =
+    let q = sym (c .before .before .before .before .before .before .before .before .begin .ensures) ∙ c .before .before .before .before .before .before .beginning2 .given .1 in
+    (broken-opened _ _ _ q (c .before .before .before .outer-of .ensures) (c .before .enum-told .given .1) _ (c .decided2 .ensures), c .before .before .before .before .before .before .before .before .before .before .pre)
 
--- src/lib.rt:418:1
 returns-3 : tie.Need-returns-3
-returns-3 c = ?
+returns-3 c =
+    let q = sym (c .before .before .before .before .before .before .before .before .begin .ensures) ∙ c .before .before .before .before .before .before .beginning2 .given .1 in
+    (template-opened _ _ _ q (c .before .before .before .outer-of .ensures) _ (c .before .outer .given .1) (λ i. omega (arith, c .before .before .before .before .before .before .before .before .before .shared-slice-known .given i)), c .before .before .before .before .before .before .before .before .before .before .pre)
 
--- src/lib.rt:418:1
 returns-4 : tie.Need-returns-4
-returns-4 c = ?
+returns-4 c =
+    let q = sym (c .before .before .before .before .before .before .before .before .before .before .begin .ensures) ∙ c .before .before .before .before .before .before .before .before .beginning2 .given .1 in
+    let g = c .list-parts .ensures in
+    (primitive-opened _ _ _ q (c .before .before .before .before .before .outer-of .ensures) _ (c .before .before .before .outer2 .given .1) _ (g .0), g .1)
 
 pub open-spec : {M : Type 1} → statement M
 open-spec =
     tie.close
     (tie.spec
-    begin-requires
-    enum-known-beginning
-    decided-requires
-    enum-known-beginning-2
+    (λ c κs. search needs)
+    (λ c. search needs)
+    (λ c κs. search needs)
+    (λ c. search needs)
     slice-aggregate-outer-of
-    outer-of-requires
-    enum-told
-    decided-requires-2
-    enum-known-outer
-    enum-known-outer-2
+    (λ c κs. search needs)
+    (λ c. search needs)
+    (λ c κs. search needs)
+    (λ c. search needs)
+    (λ c. search needs)
     list-parts-requires
     returns
     returns-2

@@ -1,49 +1,49 @@
+-- `reading::outer_of` meets its contract: one object with no byte after it, and then its kind.
+-- Assumes nothing.
 use borrow.Author.Needs.{needs}
+use mathlib.Core.Path.{sym, ap, _∙_}
+use native.Mathlib.Omega.{arith}
+use borrow.Author.Tests.{eq-eqb, ne-eqb}
+use Rattle.basics.proofs.Laws.{if-yes, if-no}
+use Rattle.tlv.proofs.Laws.{header-fits}
+use Rattle.reading.specs.Inner.{outerFront, outerObject}
 use Rattle.reading.proofs.outer_of.Statement.{statement}
 use Rattle.reading.proofs.outer_of.Tie as tie
-use Rattle.reading.proofs.outer_of.Reads as reads
-use Rattle.reading.proofs.outer_of.Lts as lts
-use Rattle.tlv.proofs.object_header.Reads as object-header-reads
 
--- src/lib.rt:406:9
-object-header-requires : tie.Need-object-header-requires
-object-header-requires c κs = search needs
-
--- src/lib.rt:407:29
-enum-known-front : tie.Need-enum-known-front
-enum-known-front c = search needs
-
--- src/lib.rt:408:9
-enum-told : tie.Need-enum-told
-enum-told c = search needs
-
--- src/lib.rt:408:9
 returns : tie.Need-returns
-returns c = ?
+unfolding outerObject
+returns c = sym (ap (outerFront _) (sym (c .before .before .object-header .ensures) ∙ c .enum-told .given .1))
 
--- src/lib.rt:410:8
 add-if1 : tie.Need-add-if1
-add-if1 c = ?
+add-if1 c =
+    let f = header-fits _ _ (sym (c .before .before .before .before .object-header .ensures) ∙ c .before .before .front .given .1) in omega arith
 
--- src/lib.rt:411:9
 returns-2 : tie.Need-returns-2
-returns-2 c = ?
+unfolding outerObject
+returns-2 c =
+    sym (ap (outerFront _) (sym (c .before .before .before .before .before .object-header .ensures) ∙ c .before .before .before .front .given .1) ∙ if-no _ _ (ne-eqb _ _ (c .if1 .taken)))
 
--- src/lib.rt:414:9
 returns-3 : tie.Need-returns-3
-returns-3 c = ?
+unfolding outerObject
+returns-3 c =
+    sym
+    (ap (outerFront _) (sym (c .before .before .before .before .before .before .object-header .ensures) ∙ c .before .before .before .before .front .given .1)
+    ∙ if-yes _ _ (eq-eqb _ _ (c .before .if1 .left)) ∙ if-yes _ _ (c .if2 .taken))
 
--- src/lib.rt:403:1
 returns-4 : tie.Need-returns-4
-returns-4 c = ?
+unfolding outerObject
+returns-4 c =
+    sym
+    (ap (outerFront _) (sym (c .before .before .before .before .before .before .object-header .ensures) ∙ c .before .before .before .before .front .given .1)
+    ∙ if-yes _ _ (eq-eqb _ _ (c .before .if1 .left)) ∙ if-no _ _ (c .if2 .left))
 
 pub outer-of-spec : {M : Type 1} → statement M
 outer-of-spec =
     tie.close
     (tie.spec
-    object-header-requires
-    enum-known-front
-    enum-told
+    (λ c κs. search needs)
+    (λ c. search needs)
+    (λ c. search needs)
     returns
     add-if1
     returns-2

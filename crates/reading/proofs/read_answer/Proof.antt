@@ -1,27 +1,21 @@
+-- `reading::read_answer` meets its contract: its objects are listed, judged and stored (`whole`).
+-- Assumes nothing.
 use borrow.Author.Needs.{needs}
+use Rattle.reading.proofs.Stages.{whole}
 use Rattle.reading.proofs.read_answer.Statement.{statement}
 use Rattle.reading.proofs.read_answer.Tie as tie
-use Rattle.reading.proofs.read_answer.Reads as reads
-use Rattle.reading.proofs.read_answer.Lts as lts
-use Rattle.reading.proofs.list_objects.Reads as list-objects-reads
-use Rattle.reading.proofs.take_listed.Reads as take-listed-reads
 
--- src/lib.rt:167:9
-list-objects-requires : tie.Need-list-objects-requires
-list-objects-requires c κs = search needs
-
--- src/lib.rt:168:5
-take-listed-requires : tie.Need-take-listed-requires
-take-listed-requires c κs = search needs
-
--- src/lib.rt:159:1
-same-length : tie.Need-same-length
-same-length c = search needs
-
--- src/lib.rt:159:1
 returns : tie.Need-returns
-returns c = ?
+returns c =
+    let l = c .before .before .before .before .before .list-objects .ensures in
+    let t = c .before .before .take-listed .ensures in
+    whole _ _ _ (l .0) (t .0) (t .1)
 
 pub read-answer-spec : {M : Type 1} → statement M
 read-answer-spec =
-    tie.close (tie.spec list-objects-requires take-listed-requires same-length returns)
+    tie.close
+    (tie.spec
+    (λ c κs. search needs)
+    (λ c κs. let l = c .before .before .list-objects .ensures in ((c .before .before .before .before .before .before .pre, l .1), l .0 .fits))
+    (λ c. search needs)
+    returns)

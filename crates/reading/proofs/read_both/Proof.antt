@@ -1,32 +1,16 @@
+-- `reading::read_both` meets its contract: each reader's promises, and that the readings have the same number and count
+-- (proofs/Both).
+-- Assumes nothing.
 use borrow.Author.Needs.{needs}
+use Rattle.reading.proofs.Both.{answered, agree}
 use Rattle.reading.proofs.read_both.Statement.{statement}
 use Rattle.reading.proofs.read_both.Tie as tie
-use Rattle.reading.proofs.read_both.Reads as reads
-use Rattle.reading.proofs.read_both.Lts as lts
-use Rattle.reading.proofs.flat.read_answer.Reads as flat-read-answer-reads
-use Rattle.reading.proofs.read_answer.Reads as read-answer-reads
 
--- src/lib.rt:192:9
-read-answer-requires : tie.Need-read-answer-requires
-read-answer-requires c κs = search needs
-
--- src/lib.rt:193:9
-read-answer-requires-2 : tie.Need-read-answer-requires-2
-read-answer-requires-2 c κs = search needs
-
--- src/lib.rt:185:1
-same-length : tie.Need-same-length
-same-length c = search needs
-
--- src/lib.rt:185:1
-same-length-2 : tie.Need-same-length-2
-same-length-2 c = search needs
-
--- src/lib.rt:185:1
 returns : tie.Need-returns
-returns c = ?
+returns c =
+    let r = c .before .before .before .before .before .before .read-answer .ensures in
+    let f = c .before .before .read-answer2 .ensures in
+    (answered _ _ _ _ _ r, (answered _ _ _ _ _ f, agree _ _ _ _ _ r _ _ _ f))
 
 pub read-both-spec : {M : Type 1} → statement M
-read-both-spec =
-    tie.close
-    (tie.spec read-answer-requires read-answer-requires-2 same-length same-length-2 returns)
+read-both-spec = tie.close (tie.spec (λ c κs. search needs) (λ c κs. search needs) (λ c. search needs) (λ c. search needs) returns)

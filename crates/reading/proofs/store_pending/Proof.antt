@@ -1,81 +1,63 @@
+-- `reading::store_pending` meets its contract. The invariant: the store is the one with the first i values in it.
+-- Assumes nothing.
+use borrow.Author.Needs.{needs}
+use mathlib.Core.Path.{_≡_, sym, ap, ap₂, _∙_}
+use mathlib.Core.List.{List}
+use Prim.Native.Nat.{ℕ, _+_, _-_, _≤_, _<_}
+use native.Mathlib.Omega.{arith}
+use lib.ListN.{length, getD, take, drop}
+use Rattle.dictionary.specs.Rows.{dictionaryRows, storeSize}
+use Rattle.store.specs.Place.{putRow}
+use Rattle.tlv.proofs.Laws.{contents-is}
+use Rattle.reading.specs.Items.{valueStart, valueLength, valueIn}
+use Rattle.reading.specs.Pending.{pendingRow, withPending, PendingFits}
+use Rattle.reading.proofs.Pending.{after-none, value-fits, value-long, after-one}
 use Rattle.reading.proofs.store_pending.Statement.{statement}
 use Rattle.reading.proofs.store_pending.Tie as tie
-use Rattle.reading.proofs.store_pending.Reads as reads
-use Rattle.reading.proofs.store_pending.Lts as lts
-use Rattle.reading.proofs.len_in.Reads as len-in-reads
-use Rattle.reading.proofs.row_in.Reads as row-in-reads
-use Rattle.reading.proofs.start_in.Reads as start-in-reads
-use Rattle.store.proofs.put.Reads as put-reads
 
 abbrev Inv-loop : tie.InvT-loop
-Inv-loop store₀ bytes pending n i₀ store i = ?
+Inv-loop store₀ bytes pending n i₀ store i = (i ≤ n) × ((length store ≡ storeSize) × (store ≡ withPending bytes store₀ (take i pending)))
 
 abbrev μ-loop : tie.MeasureT-loop
-μ-loop store₀ bytes pending n i₀ store i = ?
+μ-loop store₀ bytes pending n i₀ store i = n - i
 
--- src/lib.rt:322:5
+-- the bytes that the code takes are the value's
+value-is : (s : List ℕ) (x a n : ℕ) → a ≡ valueStart x → n ≡ valueLength x → take (a + n - a) (drop a s) ≡ valueIn s x
+value-is s x a n p q = contents-is s a n ∙ ap₂ (λ (i j : ℕ). take i (drop j s)) q p
+
 loop-holds : tie.Need-loop-holds Inv-loop μ-loop
-loop-holds c = ?
+loop-holds c = let st = c .before .before in (omega arith, (st .pre .0, after-none (st .args .bytes .now) _ (st .args .pending .now)))
 
--- src/lib.rt:323:21
-mul-value : tie.Need-mul-value Inv-loop μ-loop
-mul-value c = ?
-
--- src/lib.rt:323:21
-element-copy-out-value : tie.Need-element-copy-out-value Inv-loop μ-loop
-element-copy-out-value c = ?
-
--- src/lib.rt:324:13
-start-in-requires : tie.Need-start-in-requires Inv-loop μ-loop
-start-in-requires c κs = ?
-
--- src/lib.rt:325:25
-len-in-requires : tie.Need-len-in-requires Inv-loop μ-loop
-len-in-requires c κs = ?
-
--- src/lib.rt:325:17
-add-e : tie.Need-add-e Inv-loop μ-loop
-add-e c = ?
-
--- src/lib.rt:326:27
-row-in-requires : tie.Need-row-in-requires Inv-loop μ-loop
-row-in-requires c κs = ?
-
--- src/lib.rt:326:42
-sub-put : tie.Need-sub-put Inv-loop μ-loop
-sub-put c = ?
-
--- src/lib.rt:326:42
-part-put-start : tie.Need-part-put-start Inv-loop μ-loop
-part-put-start c = ?
-
--- src/lib.rt:326:42
-part-put-end : tie.Need-part-put-end Inv-loop μ-loop
-part-put-end c = ?
-
--- src/lib.rt:326:9
 put-requires : tie.Need-put-requires Inv-loop μ-loop
-put-requires c κs = ?
+put-requires c κs =
+    let st = c .before .before .before .before .before .before .before .before .before .before in
+    let lp = c .before .before .before .before .before .before .before .loop in
+    let lt = c .before .before .before .before .before .before .loop-test .taken in
+    let s = st .args .bytes .now in
+    let f = value-fits s (st .args .store .now) _ _ (st .pre .1) (lp .i) lt in
+    let l = value-long s (st .args .store .now) _ _ (st .pre .1) (lp .i) lt in
+    let v = value-is s _ _ _ (c .before .before .before .before .start-in .ensures .0) (c .before .before .before .len-in .ensures .0) in
+    let r = c .before .row-in .ensures in
+    (lp .inv .1 .0, (rw r (f .row), rw (r, v, l) (f .most)))
 
--- src/lib.rt:327:9
-add-i : tie.Need-add-i Inv-loop μ-loop
-add-i c = ?
-
--- src/lib.rt:322:5
-loop-less : tie.Need-loop-less Inv-loop μ-loop
-loop-less c = ?
-
--- src/lib.rt:322:5
 loop-again : tie.Need-loop-again Inv-loop μ-loop
-loop-again c = ?
+loop-again c =
+    let st = c .before .before .before .before .before .before .before .before .before .before .before .before .before in
+    let lp = c .before .before .before .before .before .before .before .before .before .before .loop in
+    let s = st .args .bytes .now in
+    let p = c .before .before .put .ensures in
+    let v = value-is s _ _ _ (c .before .before .before .before .before .before .before .start-in .ensures .0) (c .before .before .before .before .before .before .len-in .ensures .0) in
+    let x = getD (st .args .pending .now) (lp .i) 0 in
+    (omega (arith, c .before .before .before .before .before .before .before .before .before .loop-test .taken), (p .1,
+      p .0 ∙ ap₂ (putRow dictionaryRows _) (c .before .before .before .before .row-in .ensures) v
+      ∙ ap (λ (b : List ℕ). putRow dictionaryRows b (pendingRow x) (valueIn s x)) (lp .inv .1 .1) ∙ after-one s (st .args .store .now) _ _ (st .pre .1) (lp .i) (c .before .before .before .before .before .before .before .before .before .loop-test .taken)))
 
--- src/lib.rt:316:1
-same-length : tie.Need-same-length Inv-loop μ-loop
-same-length c = ?
-
--- src/lib.rt:316:1
 returns : tie.Need-returns Inv-loop μ-loop
-returns c = ?
+returns c =
+    let st = c .before .before .before .before in
+    let lp = c .before .loop in
+    let e : lp .i ≡ st .args .n = omega (arith, c .loop-test .left) in
+    (lp .inv .1 .1 ∙ ap (λ (i : ℕ). withPending (st .args .bytes .now) (st .args .store .now) (take i (st .args .pending .now))) e, lp .inv .1 .0)
 
 pub store-pending-spec : {M : Type 1} → statement M
 store-pending-spec =
@@ -84,18 +66,18 @@ store-pending-spec =
     Inv-loop
     μ-loop
     loop-holds
-    mul-value
-    element-copy-out-value
-    start-in-requires
-    len-in-requires
-    add-e
-    row-in-requires
-    sub-put
-    part-put-start
-    part-put-end
+    (λ c. omega (arith, c .loop-test .taken, c .before .before .before .before .pre .1 .few))
+    (λ c. omega (arith, c .loop-test .taken, c .before .before .before .before .pre .1 .few, c .before .before .before .before .pre .1 .room))
+    (λ c κs. search needs)
+    (λ c κs. search needs)
+    (λ c. omega arith)
+    (λ c κs. search needs)
+    (λ c. omega arith)
+    (λ c. let st = c .before .before .before .before .before .before .before .before .before in let f = value-fits (st .args .bytes .now) (st .args .store .now) _ _ (st .pre .1) (c .before .before .before .before .before .before .loop .i) (c .before .before .before .before .before .loop-test .taken) in omega (arith, f .inside, c .before .before .before .start-in .ensures .0, c .before .before .len-in .ensures .0))
+    (λ c. let st = c .before .before .before .before .before .before .before .before .before in let f = value-fits (st .args .bytes .now) (st .args .store .now) _ _ (st .pre .1) (c .before .before .before .before .before .before .loop .i) (c .before .before .before .before .before .loop-test .taken) in omega (arith, f .inside, c .before .before .before .start-in .ensures .0, c .before .before .len-in .ensures .0))
     put-requires
-    add-i
-    loop-less
+    (λ c. omega (arith, c .before .before .before .before .before .before .before .before .before .loop-test .taken, c .before .before .before .before .before .before .before .before .before .before .before .before .before .pre .1 .few))
+    (λ c. omega (arith, c .before .before .before .before .before .before .before .before .before .loop-test .taken))
     loop-again
-    same-length
+    (λ c. c .before .loop .inv .1 .0 ∙ sym (c .before .before .before .before .pre .0))
     returns)

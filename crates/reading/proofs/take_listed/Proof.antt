@@ -1,27 +1,20 @@
+-- `reading::take_listed` meets its contract: the objects are judged, and what is pending is put.
+-- Assumes nothing.
 use borrow.Author.Needs.{needs}
+use Rattle.reading.proofs.Parts.{restore}
 use Rattle.reading.proofs.take_listed.Statement.{statement}
 use Rattle.reading.proofs.take_listed.Tie as tie
-use Rattle.reading.proofs.take_listed.Reads as reads
-use Rattle.reading.proofs.take_listed.Lts as lts
-use Rattle.reading.proofs.judge_listed.Reads as judge-listed-reads
-use Rattle.reading.proofs.store_pending.Reads as store-pending-reads
 
--- src/lib.rt:283:9
-judge-listed-requires : tie.Need-judge-listed-requires
-judge-listed-requires c κs = search needs
-
--- src/lib.rt:284:5
-store-pending-requires : tie.Need-store-pending-requires
-store-pending-requires c κs = search needs
-
--- src/lib.rt:276:1
-same-length : tie.Need-same-length
-same-length c = search needs
-
--- src/lib.rt:276:1
 returns : tie.Need-returns
-returns c = ?
+returns c =
+    let s = c .before .before .before .store-pending .ensures in
+    (restore (s .0) (c .before .before .before .before .before .before .judge-listed .ensures .0), s .1)
 
 pub take-listed-spec : {M : Type 1} → statement M
 take-listed-spec =
-    tie.close (tie.spec judge-listed-requires store-pending-requires same-length returns)
+    tie.close
+    (tie.spec
+    (λ c κs. search needs)
+    (λ c κs. search needs)
+    (λ c. search needs)
+    returns)

@@ -1,0 +1,351 @@
+-- The stages of a reading, which both readers share, are those of its definition: how it begins (`answer-begun`), the
+-- body's one object (`outer-object`), its objects as they are listed, and what is said of them.
+-- Below each stage stands what a function that is at that stage promises, so that both readers' proofs cite it.
+-- Assumes nothing.
+use mathlib.Core.Path.{_≡_, refl, sym, ap, ap₂, subst, _∙_}
+use mathlib.Core.Bool.{Bool, true, false}
+use mathlib.Core.List.{List, [], _∷_, _++_}
+use mathlib.Core.Option.{Option, some, none}
+use Prim.Native.Nat.{ℕ, _+_, _-_, _*_, _≤_, _<_}
+use native.Mathlib.Omega.{arith}
+use lib.ListN.{length, take, drop, set, length-take, length-drop, length-set}
+use lib.Seq.{take-take, drop-drop}
+use lib.Dec.{eqb}
+use borrow.Author.Tests.{eqb-true, eqb-false, le-leb, lt-leb, leb-true}
+use Rattle.basics.specs.Choice.{if}
+use Rattle.basics.proofs.Laws.{if-yes, if-no, if-ind, both-yes, both-no-left, both-no-right, both-right}
+use Rattle.tlv.specs.declared.TlvHeader.{TlvHeader}
+use Rattle.tlv.specs.declared.ObjectFront.{ObjectFront}
+use Rattle.tlv.specs.declared.ObjectFront.the-variants.{Object, Broken}
+use Rattle.tlv.specs.Object.{headerOf, headerValue}
+use Rattle.tlv.specs.Tree.{Forest, objectCount, parseTree}
+use Rattle.tlv.proofs.Laws.{Bytes, header-fits, contents, contents-is}
+use Rattle.dictionary.specs.Rows.{storeSize}
+use Rattle.reading.specs.declared.Awaited.{Awaited}
+use Rattle.reading.specs.declared.ResponseVerdict.{ResponseVerdict}
+use Rattle.reading.specs.declared.ResponseVerdict.the-variants.{Accepted, BadStatus, Malformed, NotAllowed}
+use Rattle.reading.specs.declared.Reading.{Reading}
+use Rattle.reading.specs.declared.Tally.{Tally}
+use Rattle.reading.specs.declared.Beginning.{Beginning}
+use Rattle.reading.specs.declared.Beginning.the-variants as begins
+use Rattle.reading.specs.declared.OuterObject.{OuterObject}
+use Rattle.reading.specs.declared.OuterObject.the-variants as outer
+use Rattle.reading.specs.declared.Walked.{Walked}
+use Rattle.reading.specs.declared.Walked.the-variants as walked
+use Rattle.reading.specs.declared.Listing.{Listing}
+use Rattle.reading.specs.declared.Listing.the-variants.{Objects, Decided}
+use Rattle.reading.specs.Taking.{PrimitiveItem, primitiveItem, TakeState, takeState, takeAll}
+use Rattle.reading.specs.Items.{packedItem, itemsOf, itemsIn, mostItems, ItemList, tally, HasListed, ThenLists}
+use Rattle.reading.specs.Pending.{withPending}
+use Rattle.reading.specs.Answer.{verdictNumber, ReadingOutcome, readingOutcome, GivesReading, primitive, template, templateBody, frontBody, responseBody}
+use Rattle.reading.specs.Answer.{responseBit, primitiveParts, storedIfAllowed, readParts, readTree, readBody, isRead, isStatus9000, isResponseLength, readAnswer}
+use Rattle.reading.specs.Count.{answerObjects}
+use Rattle.reading.specs.Inner.{readingOf, readingBeginning, outerFront, outerObject, listingOutcome, ListsFor, ListsParts, readTemplate, valueOf, TemplateIn, closedListing}
+use Rattle.reading.proofs.Parts.{regive, judged-yes, template-right, template-wrong}
+use Rattle.reading.proofs.Count.{answer-tree, answer-half}
+use Rattle.reading.proofs.Items.{drop-take, front-bytes, item-packed, inside-packed, items-more, inside-more, tag-small}
+
+-- ---- the beginning: one law for each way out, and what is read from there
+
+module _ (a : Awaited) (s : List ℕ) where
+  pub begin-short : length s < 2 → readingBeginning a s ≡ begins.Decided Malformed
+  unfolding readingBeginning isResponseLength
+  begin-short h = if-no _ _ (both-no-left _ _ (lt-leb _ _ h))
+
+  pub begin-long : 258 < length s → readingBeginning a s ≡ begins.Decided Malformed
+  unfolding readingBeginning isResponseLength
+  begin-long h = if-no _ _ (both-no-right _ _ (lt-leb _ _ h))
+
+  module _ (l : 2 ≤ length s) (m : length s ≤ 258) where
+    good-length : isResponseLength s ≡ true
+    unfolding isResponseLength
+    good-length = both-yes _ _ (le-leb _ _ l) (le-leb _ _ m)
+
+    pub begin-status : isStatus9000 s ≡ false → readingBeginning a s ≡ begins.Decided BadStatus
+    unfolding readingBeginning
+    begin-status e = if-yes _ _ good-length ∙ if-no _ _ e
+
+    pub begin-unread : isStatus9000 s ≡ true → isRead a ≡ false → readingBeginning a s ≡ begins.Decided Accepted
+    unfolding readingBeginning
+    begin-unread e f = if-yes _ _ good-length ∙ if-yes _ _ e ∙ if-no _ _ f
+
+    pub begin-body : isStatus9000 s ≡ true → isRead a ≡ true → readingBeginning a s ≡ begins.Body (length s - 2)
+    unfolding readingBeginning
+    begin-body e f = if-yes _ _ good-length ∙ if-yes _ _ e ∙ if-yes _ _ f
+
+  -- a body is the answer's bytes before the status, 256 at most
+  pub begin-size : (n : ℕ) → readingBeginning a s ≡ begins.Body n → (n ≡ length s - 2) × (n ≤ 256)
+  unfolding readingBeginning isResponseLength
+  begin-size n =
+      let P : Beginning → Type 0 = λ x. x ≡ begins.Body n → (n ≡ length s - 2) × (n ≤ 256) in
+      if-ind P _ _ _
+      (λ t. if-ind P _ _ _ (λ u. if-ind P _ _ _ (λ v e. let z : length s - 2 ≡ n = cc in let m : length s ≤ 258 = leb-true _ _ (both-right _ _ t) in (omega arith, omega arith)) (λ v e. none-here Accepted e)) (λ u e. none-here BadStatus e))
+      (λ t e. none-here Malformed e)
+    where
+      none-here : (v : ResponseVerdict) → begins.Decided v ≡ begins.Body n → (n ≡ length s - 2) × (n ≤ 256)
+      none-here v e = let z : _≡_ {A = ℕ} 0 1 = cc in absurd (omega arith)
+
+  -- what a beginning leads to, into the store b
+  module _ (b : List ℕ) where
+    abbrev begun : Beginning → ReadingOutcome
+    begun (begins.Body n) = readBody a b (take n s)
+    begun (begins.Decided v) = readingOutcome (verdictNumber v) 0 b
+
+    answer-begun : readAnswer a b s ≡ begun (readingBeginning a s)
+    unfolding readAnswer readingBeginning if
+    answer-begun = by-tests (isResponseLength s) (isStatus9000 s) (isRead a)
+      where
+        by-tests : (l t r : Bool)
+            → if l (if t (if r (readBody a b (take (length s - 2) s)) (readingOutcome 0 0 b)) (readingOutcome 1 0 b)) (readingOutcome 2 0 b)
+            ≡ begun (if l (if t (if r (begins.Body (length s - 2)) (begins.Decided Accepted)) (begins.Decided BadStatus)) (begins.Decided Malformed))
+        by-tests true true true = refl
+        by-tests true true false = refl
+        by-tests true false r = refl
+        by-tests false t r = refl
+
+    pub answer-long : 258 < length s → readAnswer a b s ≡ readingOutcome 2 0 b
+    answer-long h = answer-begun ∙ ap begun (begin-long h)
+
+-- what a whole reading promises: the reading r, and the store c that it leaves of b
+abbrev pub Whole : Awaited → List ℕ → List ℕ → Reading → List ℕ → Type 0
+Whole a s b r c = GivesReading r c (readAnswer a b s) × ((length c ≡ storeSize) × ((2 * r .objects ≤ length s - 2) × (r .objects ≡ answerObjects a s)))
+
+-- ---- the body's one object
+
+module _ (s : List ℕ) where
+  -- a body that is one object has no byte after it
+  abbrev Fits : OuterObject → Type 0
+  Fits outer.Broken = Unit {0}
+  Fits (outer.Template h) = (headerOf s ≡ Object h) × (h .start + h .len ≡ length s)
+  Fits (outer.Primitive h) = (headerOf s ≡ Object h) × (h .start + h .len ≡ length s)
+
+  fits-outer : Fits (outerObject s)
+  unfolding outerObject
+  fits-outer = go (headerOf s) refl
+    where
+      go : (x : ObjectFront) → headerOf s ≡ x → Fits (outerFront s x)
+      go Broken e = tt
+      go (Object h) e =
+          if-ind Fits _ _ _ (λ t. let f : (headerOf s ≡ Object h) × (h .start + h .len ≡ length s) = (e, eqb-true _ _ t) in if-ind Fits _ _ _ (λ u. f) (λ u. f)) (λ t. tt)
+
+  pub outer-fits : {x y : OuterObject} → x ≡ outerObject s → x ≡ y → Fits y
+  outer-fits p q = subst Fits (sym p ∙ q) fits-outer
+
+  -- what an object leads to, into the store b
+  module _ (a : Awaited) (b : List ℕ) where
+    abbrev objectRead : OuterObject → ReadingOutcome
+    objectRead outer.Broken = readingOutcome 2 0 b
+    objectRead (outer.Template h) = readTemplate a (h .tag) (headerValue s h) b
+    objectRead (outer.Primitive h) = readTree a b (some (primitive (h .tag) (headerValue s h)))
+
+    outer-object : readBody a b s ≡ objectRead (outerObject s)
+    unfolding readBody responseBody outerObject if
+    outer-object = go (headerOf s)
+      where
+        by-tests : (h : TlvHeader) (t u : Bool)
+            → readTree a b (if t (if u (templateBody (h .tag) (parseTree 3 (headerValue s h))) (some (primitive (h .tag) (headerValue s h)))) none)
+            ≡ objectRead (if t (if u (outer.Template h) (outer.Primitive h)) outer.Broken)
+        by-tests h true true = refl
+        by-tests h true false = refl
+        by-tests h false u = refl
+
+        go : (x : ObjectFront) → readTree a b (frontBody s x) ≡ objectRead (outerFront s x)
+        go Broken = refl
+        go (Object h) = by-tests h (eqb (h .start + h .len) (length s)) (h .template)
+
+-- what is read of an answer whose body is read: by its one object, with its places in the whole answer
+module _ (a : Awaited) (s : List ℕ) (n : ℕ) (q : readingBeginning a s ≡ begins.Body n) where
+  abbrev body : List ℕ
+  body = take n s
+
+  pub body-length : length body ≡ n
+  body-length = let z = begin-size a s n q .0 in simp length-take (omega arith)
+
+  answer-object : {x : OuterObject} (y : OuterObject) → x ≡ outerObject body → x ≡ y → (b : List ℕ) → readAnswer a b s ≡ objectRead body a b y
+  answer-object y p e b = answer-begun a s b ∙ ap (begun a s b) q ∙ outer-object body a b ∙ ap (objectRead body a b) (sym p ∙ e)
+
+  module _ (h : TlvHeader) (e : headerOf body ≡ Object h) where
+    -- an object's places
+    pub object-places : (2 ≤ h .start) × ((h .start + h .len ≤ length s) × (h .start + h .len ≤ 256))
+    object-places =
+        let f = header-fits body h e in
+        let l = body-length in
+        let z = begin-size a s n q in
+        (f .two, (omega (arith, f .inside), omega (arith, f .inside)))
+
+    value-here : headerValue body h ≡ valueOf s h
+    value-here =
+        let f = header-fits body h e in
+        let l = body-length in
+        let m : h .len ≤ n - h .start = omega (arith, f .inside) in
+        ap (take (h .len)) (drop-take (h .start) n s) ∙ take-take (h .len) (n - h .start) (drop (h .start) s) m
+
+  module _ {x : OuterObject} (p : x ≡ outerObject body) where
+    pub broken-opened : x ≡ outer.Broken → {y : Listing} (l : List ℕ) → y ≡ Decided (readingOf Malformed 0) → ListsFor a s (λ b. readAnswer a b s) y l
+    broken-opened e l d = rw d (record { gives = λ b. answer-object outer.Broken p e b; fits = tt })
+
+    pub template-opened : (h : TlvHeader) → x ≡ outer.Template h → Bytes s → TemplateIn a s h
+    template-opened h e i =
+        let f = outer-fits body p e in
+        let o = object-places h (f .0) in
+        record {
+          gives = λ b. answer-object (outer.Template h) p e b ∙ ap (λ (v : List ℕ). readTemplate a (h .tag) v b) (value-here h (f .0));
+          two = o .0;
+          ends = o .1 .0;
+          short = o .1 .1;
+          tag = tag-small body h (front-bytes s n i) (f .0);
+        }
+
+    pub primitive-opened : (h : TlvHeader) → x ≡ outer.Primitive h → {y : Listing} (l : List ℕ)
+        → ListsParts a (primitiveParts a (h .tag)) (h .start) (h .len) y l → ListsFor a s (λ b. readAnswer a b s) y l
+    primitive-opened h e l g =
+        let f = outer-fits body p e in
+        let w = g s (object-places h (f .0) .1 .0) in
+        record {
+          gives = λ b. answer-object (outer.Primitive h) p e b ∙ ap (λ (v : List ℕ). readTree a b (some (primitive (h .tag) v))) (value-here h (f .0)) ∙ w .gives b;
+          fits = w .fits;
+        }
+
+-- ---- the objects as they are listed
+
+-- an answer that is decided by how it begins
+pub decided-opened : (a : Awaited) (s : List ℕ) (v : ResponseVerdict) → readingBeginning a s ≡ begins.Decided v → {y : Listing} (l : List ℕ)
+    → y ≡ Decided (readingOf v 0) → ListsFor a s (λ b. readAnswer a b s) y l
+decided-opened a s v q l d = rw d (record { gives = λ b. answer-begun a s b ∙ ap (begun a s b) q; fits = tt })
+
+-- a template by what the walk over its contents reports
+module _ (a : Awaited) (t : ℕ) (s v l : List ℕ) where
+  by-tree : (x : Option Forest) (w : Walked) → ThenLists t x w (HasListed s l w) 1 [] → ListsFor a s (λ b. readTree a b (templateBody t x)) (closedListing a t w) l
+  unfolding closedListing
+  by-tree none w g = subst (λ (z : Walked). ListsFor a s (λ b. readTree a b none) (closedListing a t z) l) (sym g) (record { gives = λ b. refl; fits = tt })
+  by-tree (some f) w g =
+      let Q : Listing → Type 0 = λ y. ListsFor a s (λ b. readTree a b (some (template t f))) y l in
+      subst (λ (z : Walked). Q (closedListing a t z)) (sym (g .reports))
+      (if-ind Q _ _ _
+      (λ e. record {
+        gives = λ b.
+            ap (readParts a b (1 + objectCount f)) (template-right a t f (eqb-true _ _ e))
+            ∙ ap (λ (is : List PrimitiveItem). storedIfAllowed b (1 + objectCount f) (takeAll (responseBit a) (takeState true b) is)) (sym (g .are));
+        fits = g .items;
+      })
+      (λ e. record { gives = λ b. ap (readParts a b (1 + objectCount f)) (template-wrong a t f (eqb-false _ _ e)); fits = tt }))
+
+  pub closed-listed : (w : Walked) {y : Listing} → ThenLists t (parseTree 3 v) w (HasListed s l w) 1 [] → y ≡ closedListing a t w → ListsFor a s (readTemplate a t v) y l
+  closed-listed w g d = rw d (by-tree (parseTree 3 v) w g)
+
+-- the outer template of an answer
+pub template-listed : (a : Awaited) (s : List ℕ) (h : TlvHeader) (l : List ℕ) → TemplateIn a s h → (w : Walked) {y : Listing}
+    → ThenLists (h .tag) (parseTree 3 (contents s (h .start) (h .len))) w (HasListed s l w) 1 [] → y ≡ closedListing a (h .tag) w → ListsFor a s (λ b. readAnswer a b s) y l
+template-listed a s h l i w g d =
+    let c = closed-listed a (h .tag) s (contents s (h .start) (h .len)) l w g d in
+    record { gives = λ b. i .gives b ∙ ap (λ (v : List ℕ). readTemplate a (h .tag) v b) (sym (contents-is s (h .start) (h .len))) ∙ c .gives b; fits = c .fits }
+
+-- ---- the parts of a body under 80
+
+-- the first k numbers of l are the objects `is` of s
+pub record PartList (s : List ℕ) (k : ℕ) (l : List ℕ) (is : List PrimitiveItem) : Type 0 where
+  pub list : ItemList s k l
+  pub are : itemsIn s k l ≡ is
+
+pub set-room : (l : List ℕ) (i x : ℕ) → length l ≡ mostItems → length (set l i x) ≡ mostItems
+set-room l i x e = length-set l i x ∙ e
+
+pub no-parts : (s l : List ℕ) → length l ≡ mostItems → PartList s 0 l []
+unfolding itemsOf
+no-parts s l e = record { list = record { room = e; few = omega arith; inside = tt }; are = refl }
+
+pub add-part : {s : List ℕ} {k : ℕ} {l : List ℕ} {is : List PrimitiveItem} → PartList s k l is → k < mostItems → (t p n : ℕ) → 1 ≤ p → p + n ≤ length s → p + n ≤ 256
+    → n < 256 → PartList s (k + 1) (set l k (packedItem t 0x77 p n)) (is ++ (primitiveItem 0x77 t (take n (drop p s)) ∷ []))
+add-part {s} {k} {l} {is} w h t p n i j m c =
+    let x = packedItem t 0x77 p n in
+    let q : p ≤ 256 = omega arith in
+    let d : k < length l = omega (arith, w .list .room) in
+    record {
+      list = record {
+        room = set-room l k x (w .list .room);
+        few = omega arith;
+        inside = inside-more s l k x d (w .list .inside) (inside-packed t 0x77 p n (omega arith) i q c s j);
+      };
+      are =
+        items-more s l k x d
+        ∙ ap₂ (λ (js : List PrimitiveItem) (y : PrimitiveItem). js ++ (y ∷ [])) (w .are) (item-packed t 0x77 p n (omega arith) i q c s);
+    }
+
+-- parts of a value of n bytes that starts at a place
+module _ (s : List ℕ) (start n : ℕ) where
+  abbrev pub value : List ℕ
+  value = take n (drop start s)
+
+  pub value-middle : (m j : ℕ) → m + j ≤ n → take j (drop (start + m) s) ≡ take j (drop m value)
+  value-middle m j h =
+      let i : j ≤ n - m = omega arith in
+      sym
+      (ap (take j) (drop-take m n (drop start s)) ∙ take-take j (n - m) (drop m (drop start s)) i ∙ ap (take j) (drop-drop m start s))
+
+  pub value-behind : (m : ℕ) → take (n - m) (drop (start + m) s) ≡ drop m value
+  value-behind m = sym (drop-take m n (drop start s) ∙ ap (take (n - m)) (drop-drop m start s))
+
+  value-size : start + n ≤ length s → length value ≡ n
+  value-size h = simp (length-take, length-drop) (omega arith)
+
+module _ (a : Awaited) (f : List ℕ → Option (List PrimitiveItem)) (start n : ℕ) (l : List ℕ) where
+  pub parts-none : {y : Listing} → ((v : List ℕ) → length v ≡ n → f v ≡ none) → y ≡ Decided (readingOf Malformed 1) → ListsParts a f start n y l
+  parts-none h d s i = rw d (record { gives = λ b. ap (readParts a b 1) (h (value s start n) (value-size s start n i)); fits = tt })
+
+  pub parts-some : (k : ℕ) (is : List ℕ → List PrimitiveItem) → ((v : List ℕ) → length v ≡ n → f v ≡ some (is v))
+      → ((s : List ℕ) → start + n ≤ length s → PartList s k l (is (value s start n))) → ListsParts a f start n (Objects (tally 1 k)) l
+  parts-some k is h g s i =
+      let w = g s i in
+      record {
+        gives = λ b.
+            ap (readParts a b 1) (h (value s start n) (value-size s start n i))
+            ∙ ap (λ (js : List PrimitiveItem). storedIfAllowed b 1 (takeAll (responseBit a) (takeState true b) js)) (sym (w .are));
+        fits = w .list;
+      }
+
+-- the parts of the answer c, where c is awaited
+pub parts-for : {a c : Awaited} {f : List ℕ → Option (List PrimitiveItem)} (t start n : ℕ) {y : Listing} {l : List ℕ} → a ≡ c
+    → ((v : List ℕ) → primitiveParts c t v ≡ f v) → ListsParts c f start n y l → ListsParts a (primitiveParts a t) start n y l
+parts-for {a} {c} {f} t start n {y} {l} e h g = subst (λ (z : Awaited). ListsParts z (primitiveParts z t) start n y l) (sym e) here
+  where
+    here : ListsParts c (primitiveParts c t) start n y l
+    here s i =
+        let w = g s i in
+        record { gives = λ b. ap (readParts c b 1) (h (value s start n)) ∙ w .gives b; fits = w .fits }
+
+-- ---- what is said of the objects
+
+gives : (v : ResponseVerdict) (n : ℕ) (c : List ℕ) {r : Reading} {o : ReadingOutcome} → r ≡ readingOf v n → o ≡ readingOutcome (verdictNumber v) n c → GivesReading r c o
+gives v n c e f = record {
+  reason = ap (λ (x : Reading). verdictNumber (x .verdict)) e ∙ ap (λ (x : ReadingOutcome). x .reason) (sym f);
+  objects = ap (λ (x : Reading). x .objects) e ∙ ap (λ (x : ReadingOutcome). x .objects) (sym f);
+  store = ap (λ (x : ReadingOutcome). x .store) (sym f);
+}
+
+-- the work that the objects of a listing leave
+abbrev taken : Awaited → List ℕ → List ℕ → List ℕ → Tally → TakeState
+taken a s b l t = takeAll (responseBit a) (takeState true b) (itemsIn s (t .items) l)
+
+module _ (a : Awaited) (s b l l′ : List ℕ) {x : Listing} where
+  pub decided-given : (r : Reading) → x ≡ Decided r → GivesReading r (withPending s b (take 0 l′)) (listingOutcome a s b x l)
+  unfolding withPending
+  decided-given r e = rw e (record { reason = refl; objects = refl; store = refl })
+
+  module _ (t : Tally) (e : x ≡ Objects t) {r : Reading} {p : ℕ} where
+    pub refused-given : taken a s b l t .good ≡ false → r ≡ readingOf NotAllowed (t .objects) → p ≡ 0 → GivesReading r (withPending s b (take p l′)) (listingOutcome a s b x l)
+    unfolding withPending
+    refused-given g d z = rw (z, e) (gives NotAllowed (t .objects) b d (if-no _ _ g))
+
+    pub accepted-given : (k : ℕ) → taken a s b l t ≡ takeState true (withPending s b (take k l′)) → r ≡ readingOf Accepted (t .objects) → p ≡ k
+        → GivesReading r (withPending s b (take p l′)) (listingOutcome a s b x l)
+    accepted-given k g d z = rw (z, e) (gives Accepted (t .objects) (withPending s b (take k l′)) d (judged-yes b (t .objects) g refl))
+
+-- ---- the whole reading
+
+module _ (a : Awaited) (s b : List ℕ) {x : Listing} {l : List ℕ} (w : ListsFor a s (λ b. readAnswer a b s) x l) {r : Reading} {c : List ℕ}
+    (g : GivesReading r c (listingOutcome a s b x l)) where
+  pub answer-given : GivesReading r c (readAnswer a b s)
+  answer-given = regive (sym (w .gives b)) g
+
+  pub whole : length c ≡ storeSize → Whole a s b r c
+  whole z = let t = answer-tree a b s answer-given in (answer-given, (z, (rw t (answer-half a s), t)))
