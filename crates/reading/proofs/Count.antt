@@ -5,9 +5,9 @@ use mathlib.Core.Path.{_≡_, refl, sym, ap, _∙_}
 use mathlib.Core.Logic.{inl, inr}
 use mathlib.Core.List.{List, []}
 use mathlib.Core.Option.{Option, some, none}
-use Prim.Native.Nat.{ℕ, _+_, _-_, _≤_}
+use Prim.Native.Nat.{ℕ, _+_, _-_, _*_, _≤_}
 use native.Mathlib.Omega.{arith}
-use lib.ListN.{length, take, drop-of-length-le}
+use lib.ListN.{length, take, length-take, drop-of-length-le}
 use borrow.Author.Tests.{eq-eqb, ne-eqb}
 use Rattle.basics.proofs.Laws.{if-yes, if-no, if-ind, bool-cases, both-true, both-no-left}
 use Rattle.basics.proofs.Order.{equal-or-not}
@@ -17,7 +17,7 @@ use Rattle.tlv.specs.declared.ObjectFront.the-variants.{Object, Broken}
 use Rattle.tlv.specs.Object.{headerOf, headerValue, behindObject}
 use Rattle.tlv.specs.Tree.{Forest, end, objectCount, withLeaf, withNode, parseTree}
 use Rattle.tlv.proofs.NextObject.{next-empty, next-object}
-use Rattle.tlv.proofs.Tree.{parse-end, parse-leaf, parse-node}
+use Rattle.tlv.proofs.Tree.{parse-end, parse-leaf, parse-node, parse-count}
 use Rattle.reading.specs.declared.Awaited.{Awaited}
 use Rattle.reading.specs.declared.Reading.{Reading}
 use Rattle.reading.specs.Taking.{PrimitiveItem}
@@ -112,5 +112,19 @@ module _ {r : Reading} (a : Awaited) (b s : List ℕ) {c : List ℕ} where
   pub answer-tree : GivesReading r c (readAnswer a b s) → r .objects ≡ answerObjects a s
   answer-tree g = g .objects ∙ answer-count a b s
 
-  pub body-tree : GivesReading r c (readBody a b s) → r .objects ≡ bodyObjects s
-  body-tree g = g .objects ∙ body-count a b s
+-- ---- an object has two bytes at least, and the two status bytes belong to none
+
+tree-half : (v : List ℕ) (x : Option Forest) → parseTree 4 v ≡ x → 2 * treeCount x ≤ length v
+tree-half v none e = omega arith
+tree-half v (some f) e = parse-count 4 v f e
+
+body-half : (s : List ℕ) → 2 * bodyObjects s ≤ length s
+unfolding bodyObjects
+body-half s = if-ind (λ (n : ℕ). 2 * n ≤ length s) _ _ _ (λ _. tree-half s (parseTree 4 s) refl) (λ _. omega arith)
+
+pub answer-half : (a : Awaited) (s : List ℕ) → 2 * answerObjects a s ≤ length s - 2
+unfolding answerObjects
+answer-half a s =
+    if-ind (λ (n : ℕ). 2 * n ≤ length s - 2) _ _ _
+    (λ _. let h = body-half (take (length s - 2) s) in let l = length-take (length s - 2) s in omega arith)
+    (λ _. omega arith)

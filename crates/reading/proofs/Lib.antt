@@ -1,7 +1,8 @@
 pub mod Laws
-pub mod Listing
-pub mod Walk
+pub mod Items
+pub mod Runs
 pub mod Frames
+pub mod Pending
 pub mod Parts
 pub mod Count
 pub mod Stages

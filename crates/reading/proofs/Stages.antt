@@ -1,14 +1,15 @@
 -- The stages of a reading, which both readers share, are those of its definition: how it begins (`answer-begun`), the
--- body's one object (`outer-object`), a template's contents (`contents-judged`), and the store with what was listed.
+-- body's one object (`outer-object`), its objects as they are listed, and what is said of them.
 -- Below each stage stands what a function that is at that stage promises, so that both readers' proofs cite it.
 -- Assumes nothing.
-use mathlib.Core.Path.{_≡_, refl, sym, ap, subst, subst⁻¹, _∙_}
+use mathlib.Core.Path.{_≡_, refl, sym, ap, ap₂, subst, _∙_}
 use mathlib.Core.Bool.{Bool, true, false}
-use mathlib.Core.List.{List}
+use mathlib.Core.List.{List, [], _∷_, _++_}
 use mathlib.Core.Option.{Option, some, none}
 use Prim.Native.Nat.{ℕ, _+_, _-_, _*_, _≤_, _<_}
 use native.Mathlib.Omega.{arith}
-use lib.ListN.{length, take, length-take, length-drop}
+use lib.ListN.{length, take, drop, set, length-take, length-drop, length-set}
+use lib.Seq.{take-take, drop-drop}
 use lib.Dec.{eqb}
 use borrow.Author.Tests.{eqb-true, eqb-false, le-leb, lt-leb, leb-true}
 use Rattle.basics.specs.Choice.{if}
@@ -17,27 +18,32 @@ use Rattle.tlv.specs.declared.TlvHeader.{TlvHeader}
 use Rattle.tlv.specs.declared.ObjectFront.{ObjectFront}
 use Rattle.tlv.specs.declared.ObjectFront.the-variants.{Object, Broken}
 use Rattle.tlv.specs.Object.{headerOf, headerValue}
-use Rattle.tlv.specs.Tree.{Forest, parseTree}
-use Rattle.tlv.proofs.Laws.{HeaderFits, header-fits, contents, contents-is}
+use Rattle.tlv.specs.Tree.{Forest, objectCount, parseTree}
+use Rattle.tlv.proofs.Laws.{Bytes, header-fits, contents, contents-is}
 use Rattle.dictionary.specs.Rows.{storeSize}
 use Rattle.reading.specs.declared.Awaited.{Awaited}
 use Rattle.reading.specs.declared.ResponseVerdict.{ResponseVerdict}
 use Rattle.reading.specs.declared.ResponseVerdict.the-variants.{Accepted, BadStatus, Malformed, NotAllowed}
 use Rattle.reading.specs.declared.Reading.{Reading}
+use Rattle.reading.specs.declared.Tally.{Tally}
 use Rattle.reading.specs.declared.Beginning.{Beginning}
 use Rattle.reading.specs.declared.Beginning.the-variants as begins
 use Rattle.reading.specs.declared.OuterObject.{OuterObject}
 use Rattle.reading.specs.declared.OuterObject.the-variants as outer
-use Rattle.reading.specs.declared.TemplateContents.{TemplateContents}
-use Rattle.reading.specs.declared.TemplateContents.the-variants as said
-use Rattle.reading.specs.Taking.{takeState}
-use Rattle.reading.specs.Pending.{withPending, PendingValues}
-use Rattle.reading.specs.Answer.{verdictNumber, ReadingOutcome, readingOutcome, GivesReading, primitive, templateBody, frontBody, responseBody, responseBit, readTree, readBody, isRead, isStatus9000, isResponseLength, readAnswer}
-use Rattle.reading.specs.Count.{bodyObjects, answerObjects}
-use Rattle.reading.specs.Inner.{storeAfterVerdict, GivesPending, readTemplate, readingOf, readingBeginning, outerFront, outerObject, contentsReading, LeavesContents, objectsVisited}
-use Rattle.reading.proofs.Parts.{gives, regive, restore, broken-contents, whole-contents, tree-wrong, tree-refused, tree-taken}
-use Rattle.reading.proofs.Count.{answer-tree, body-tree}
-use Rattle.reading.proofs.Listing.{noneListed, laid-none}
+use Rattle.reading.specs.declared.Walked.{Walked}
+use Rattle.reading.specs.declared.Walked.the-variants as walked
+use Rattle.reading.specs.declared.Listing.{Listing}
+use Rattle.reading.specs.declared.Listing.the-variants.{Objects, Decided}
+use Rattle.reading.specs.Taking.{PrimitiveItem, primitiveItem, TakeState, takeState, takeAll}
+use Rattle.reading.specs.Items.{packedItem, itemsOf, itemsIn, mostItems, ItemList, tally, HasListed, ThenLists}
+use Rattle.reading.specs.Pending.{withPending}
+use Rattle.reading.specs.Answer.{verdictNumber, ReadingOutcome, readingOutcome, GivesReading, primitive, template, templateBody, frontBody, responseBody}
+use Rattle.reading.specs.Answer.{responseBit, primitiveParts, storedIfAllowed, readParts, readTree, readBody, isRead, isStatus9000, isResponseLength, readAnswer}
+use Rattle.reading.specs.Count.{answerObjects}
+use Rattle.reading.specs.Inner.{readingOf, readingBeginning, outerFront, outerObject, listingOutcome, ListsFor, ListsParts, readTemplate, valueOf, TemplateIn, closedListing}
+use Rattle.reading.proofs.Parts.{regive, judged-yes, template-right, template-wrong}
+use Rattle.reading.proofs.Count.{answer-tree, answer-half}
+use Rattle.reading.proofs.Items.{drop-take, front-bytes, item-packed, inside-packed, items-more, inside-more, tag-small}
 
 -- ---- the beginning: one law for each way out, and what is read from there
 
@@ -104,36 +110,14 @@ module _ (a : Awaited) (s : List ℕ) where
 abbrev pub Whole : Awaited → List ℕ → List ℕ → Reading → List ℕ → Type 0
 Whole a s b r c = GivesReading r c (readAnswer a b s) × ((length c ≡ storeSize) × ((2 * r .objects ≤ length s - 2) × (r .objects ≡ answerObjects a s)))
 
-module _ (a : Awaited) (s b : List ℕ) {r : Reading} where
-  pub decided : (v : ResponseVerdict) → readingBeginning a s ≡ begins.Decided v → r ≡ readingOf v 0 → length b ≡ storeSize → Whole a s b r b
-  decided v q e l =
-      let g : GivesReading r b (readAnswer a b s) = gives v 0 (λ w. b) e (answer-begun a s b ∙ ap (begun a s b) q) in
-      let n : r .objects ≡ 0 = ap (λ (x : Reading). x .objects) e in
-      (g, (l, (omega arith, answer-tree a b s g)))
-
-  pub with-body : (n : ℕ) {c : List ℕ} → readingBeginning a s ≡ begins.Body n → GivesReading r c (readBody a b (take n s)) → length c ≡ storeSize → 2 * r .objects ≤ length (take n s) → Whole a s b r c
-  with-body n {c} q e l h =
-      let g : GivesReading r c (readAnswer a b s) = regive (sym (answer-begun a s b ∙ ap (begun a s b) q)) e in
-      let z = begin-size a s n q .0 in
-      let m = simp length-take at h in
-      (g, (l, (omega arith, answer-tree a b s g)))
-
--- what is said of a whole reading, by how it begins
-module _ (a : Awaited) (s b : List ℕ) where
-  pub decided-judged : (v : ResponseVerdict) → readingBeginning a s ≡ begins.Decided v → verdictNumber v ≡ readAnswer a b s .reason
-  decided-judged v q = ap (λ (o : ReadingOutcome). o .reason) (sym (answer-begun a s b ∙ ap (begun a s b) q))
-
-  pub body-reason : (n : ℕ) {k : ℕ} → readingBeginning a s ≡ begins.Body n → k ≡ readBody a b (take n s) .reason → k ≡ readAnswer a b s .reason
-  body-reason n q e = e ∙ ap (λ (o : ReadingOutcome). o .reason) (sym (answer-begun a s b ∙ ap (begun a s b) q))
-
 -- ---- the body's one object
 
 module _ (s : List ℕ) where
   -- a body that is one object has no byte after it
   abbrev Fits : OuterObject → Type 0
   Fits outer.Broken = Unit {0}
-  Fits (outer.Template h) = HeaderFits s h × (h .start + h .len ≡ length s)
-  Fits (outer.Primitive h) = HeaderFits s h × (h .start + h .len ≡ length s)
+  Fits (outer.Template h) = (headerOf s ≡ Object h) × (h .start + h .len ≡ length s)
+  Fits (outer.Primitive h) = (headerOf s ≡ Object h) × (h .start + h .len ≡ length s)
 
   fits-outer : Fits (outerObject s)
   unfolding outerObject
@@ -142,7 +126,7 @@ module _ (s : List ℕ) where
       go : (x : ObjectFront) → headerOf s ≡ x → Fits (outerFront s x)
       go Broken e = tt
       go (Object h) e =
-          if-ind Fits _ _ _ (λ t. let f : HeaderFits s h × (h .start + h .len ≡ length s) = (header-fits s h e, eqb-true _ _ t) in if-ind Fits _ _ _ (λ u. f) (λ u. f)) (λ t. tt)
+          if-ind Fits _ _ _ (λ t. let f : (headerOf s ≡ Object h) × (h .start + h .len ≡ length s) = (e, eqb-true _ _ t) in if-ind Fits _ _ _ (λ u. f) (λ u. f)) (λ t. tt)
 
   pub outer-fits : {x y : OuterObject} → x ≡ outerObject s → x ≡ y → Fits y
   outer-fits p q = subst Fits (sym p ∙ q) fits-outer
@@ -151,7 +135,7 @@ module _ (s : List ℕ) where
   module _ (a : Awaited) (b : List ℕ) where
     abbrev objectRead : OuterObject → ReadingOutcome
     objectRead outer.Broken = readingOutcome 2 0 b
-    objectRead (outer.Template h) = readTemplate a b (h .tag) (headerValue s h)
+    objectRead (outer.Template h) = readTemplate a (h .tag) (headerValue s h) b
     objectRead (outer.Primitive h) = readTree a b (some (primitive (h .tag) (headerValue s h)))
 
     outer-object : readBody a b s ≡ objectRead (outerObject s)
@@ -169,78 +153,199 @@ module _ (s : List ℕ) where
         go Broken = refl
         go (Object h) = by-tests h (eqb (h .start + h .len) (length s)) (h .template)
 
-    object-read : {x : OuterObject} (y : OuterObject) → x ≡ outerObject s → x ≡ y → readBody a b s ≡ objectRead y
-    object-read y p q = outer-object ∙ ap objectRead (sym p ∙ q)
+-- what is read of an answer whose body is read: by its one object, with its places in the whole answer
+module _ (a : Awaited) (s : List ℕ) (n : ℕ) (q : readingBeginning a s ≡ begins.Body n) where
+  abbrev body : List ℕ
+  body = take n s
 
--- ---- a template by what is said of its contents
+  pub body-length : length body ≡ n
+  body-length = let z = begin-size a s n q .0 in simp length-take (omega arith)
 
-module _ (a : Awaited) (t : ℕ) (b v w : List ℕ) where
-  abbrev GivesHere : Reading → Type 0
-  GivesHere r = GivesPending r b w (readTemplate a b t v)
+  answer-object : {x : OuterObject} (y : OuterObject) → x ≡ outerObject body → x ≡ y → (b : List ℕ) → readAnswer a b s ≡ objectRead body a b y
+  answer-object y p e b = answer-begun a s b ∙ ap (begun a s b) q ∙ outer-object body a b ∙ ap (objectRead body a b) (sym p ∙ e)
 
-  contents-judged : (c : TemplateContents) → LeavesContents (responseBit a) t 1 (takeState true b) (parseTree 3 v) c w → GivesHere (contentsReading a t c)
-  unfolding contentsReading
-  contents-judged said.Broken h =
-      gives Malformed 0 (storeAfterVerdict b w) refl (ap (λ (x : Option Forest). readTree a b (templateBody t x)) (broken-contents _ t 1 (takeState true b) (parseTree 3 v) w h))
-  contents-judged (said.Whole u) h =
-      let f = whole-contents (responseBit a) t 1 (takeState true b) (parseTree 3 v) u w h in
-      if-ind GivesHere _ _ _
-      (λ e. if-ind GivesHere _ _ _
-      (λ g. gives Accepted (u .objects) (storeAfterVerdict b w) refl (tree-taken a t b w _ u f (eqb-true _ _ e) g))
-      (λ g. gives NotAllowed (u .objects) (storeAfterVerdict b w) refl (tree-refused a t b w _ u f (eqb-true _ _ e) g)))
-      (λ e. gives Malformed (u .objects) (storeAfterVerdict b w) refl (tree-wrong a t b w _ u f (eqb-false _ _ e)))
+  module _ (h : TlvHeader) (e : headerOf body ≡ Object h) where
+    -- an object's places
+    pub object-places : (2 ≤ h .start) × ((h .start + h .len ≤ length s) × (h .start + h .len ≤ 256))
+    object-places =
+        let f = header-fits body h e in
+        let l = body-length in
+        let z = begin-size a s n q in
+        (f .two, (omega (arith, f .inside), omega (arith, f .inside)))
 
-contents-counted : (a : Awaited) (t : ℕ) (c : TemplateContents) → contentsReading a t c .objects ≡ objectsVisited c
-unfolding contentsReading
-contents-counted a t said.Broken = refl
-contents-counted a t (said.Whole u) =
-    let P : Reading → Type 0 = λ r. r .objects ≡ u .objects in
-    if-ind P _ _ _ (λ e. if-ind P _ _ _ (λ g. refl) (λ g. refl)) (λ e. refl)
+    value-here : headerValue body h ≡ valueOf s h
+    value-here =
+        let f = header-fits body h e in
+        let l = body-length in
+        let m : h .len ≤ n - h .start = omega (arith, f .inside) in
+        ap (take (h .len)) (drop-take (h .start) n s) ∙ take-take (h .len) (n - h .start) (drop (h .start) s) m
 
--- what the reading of one object promises, where the store with what was listed was b and is w, and K holds of the list
-abbrev One : Awaited → List ℕ → List ℕ → Reading → List ℕ → Type 0 → Type 0
-One a s b r w K = GivesPending r b w (readBody a b s) × (K × (2 * r .objects ≤ length s))
+  module _ {x : OuterObject} (p : x ≡ outerObject body) where
+    pub broken-opened : x ≡ outer.Broken → {y : Listing} (l : List ℕ) → y ≡ Decided (readingOf Malformed 0) → ListsFor a s (λ b. readAnswer a b s) y l
+    broken-opened e l d = rw d (record { gives = λ b. answer-object outer.Broken p e b; fits = tt })
 
-module _ (a : Awaited) (s b : List ℕ) {K : Type 0} {x : OuterObject} (p : x ≡ outerObject s) where
-  pub broken-object : {r : Reading} → x ≡ outer.Broken → r ≡ readingOf Malformed 0 → K → One a s b r b K
-  broken-object {r} q e l =
-      let n : r .objects ≡ 0 = ap (λ (x : Reading). x .objects) e in
-      (gives Malformed 0 (storeAfterVerdict b b) e (object-read s a b outer.Broken p q), (l, omega arith))
+    pub template-opened : (h : TlvHeader) → x ≡ outer.Template h → Bytes s → TemplateIn a s h
+    template-opened h e i =
+        let f = outer-fits body p e in
+        let o = object-places h (f .0) in
+        record {
+          gives = λ b. answer-object (outer.Template h) p e b ∙ ap (λ (v : List ℕ). readTemplate a (h .tag) v b) (value-here h (f .0));
+          two = o .0;
+          ends = o .1 .0;
+          short = o .1 .1;
+          tag = tag-small body h (front-bytes s n i) (f .0);
+        }
 
-  pub primitive-object : {r : Reading} (h : TlvHeader) (w : List ℕ) → x ≡ outer.Primitive h → GivesPending r b w (readTree a b (some (primitive (h .tag) (contents s (h .start) (h .len)))))
-      → K → r .objects ≡ 1 → One a s b r w K
-  primitive-object {r} h w q g l n =
-      let f = outer-fits s p q in
-      let e = ap (λ (v : List ℕ). readTree a b (some (primitive (h .tag) v))) (contents-is s (h .start) (h .len)) in
-      (regive (e ∙ sym (object-read s a b (outer.Primitive h) p q)) g, (l, omega arith))
+    pub primitive-opened : (h : TlvHeader) → x ≡ outer.Primitive h → {y : Listing} (l : List ℕ)
+        → ListsParts a (primitiveParts a (h .tag)) (h .start) (h .len) y l → ListsFor a s (λ b. readAnswer a b s) y l
+    primitive-opened h e l g =
+        let f = outer-fits body p e in
+        let w = g s (object-places h (f .0) .1 .0) in
+        record {
+          gives = λ b. answer-object (outer.Primitive h) p e b ∙ ap (λ (v : List ℕ). readTree a b (some (primitive (h .tag) v))) (value-here h (f .0)) ∙ w .gives b;
+          fits = w .fits;
+        }
 
-  pub template-object : {r : Reading} (h : TlvHeader) (w : List ℕ) (c : TemplateContents) → x ≡ outer.Template h
-      → LeavesContents (responseBit a) (h .tag) 1 (takeState true b) (parseTree 3 (contents s (h .start) (h .len))) c w → K
-      → 2 * objectsVisited c ≤ 2 + length (contents s (h .start) (h .len)) → r ≡ contentsReading a (h .tag) c → One a s b r w K
-  template-object {r} h w c q g l k e =
-      let f = outer-fits s p q in
-      let v = contents s (h .start) (h .len) in
-      let m = simp (length-take, length-drop) at (rw (contents-is s (h .start) (h .len)) at k) in
-      let n : r .objects ≡ objectsVisited c = ap (λ (y : Reading). y .objects) e ∙ contents-counted a (h .tag) c in
-      let d = subst⁻¹ (λ (y : Reading). GivesPending y b w (readTemplate a b (h .tag) v)) e (contents-judged a (h .tag) b v w c g) in
-      (regive (ap (readTemplate a b (h .tag)) (contents-is s (h .start) (h .len)) ∙ sym (object-read s a b (outer.Template h) p q)) d, (l, omega arith))
+-- ---- the objects as they are listed
 
--- ---- the store with what was listed
+-- an answer that is decided by how it begins
+pub decided-opened : (a : Awaited) (s : List ℕ) (v : ResponseVerdict) → readingBeginning a s ≡ begins.Decided v → {y : Listing} (l : List ℕ)
+    → y ≡ Decided (readingOf v 0) → ListsFor a s (λ b. readAnswer a b s) y l
+decided-opened a s v q l d = rw d (record { gives = λ b. answer-begun a s b ∙ ap (begun a s b) q; fits = tt })
 
-after-length : (b w : List ℕ) (v : ResponseVerdict) → length b ≡ storeSize → length w ≡ storeSize → length (storeAfterVerdict b w v) ≡ storeSize
-after-length b w Accepted l m = m
-after-length b w BadStatus l m = l
-after-length b w Malformed l m = l
-after-length b w NotAllowed l m = l
+-- a template by what the walk over its contents reports
+module _ (a : Awaited) (t : ℕ) (s v l : List ℕ) where
+  by-tree : (x : Option Forest) (w : Walked) → ThenLists t x w (HasListed s l w) 1 [] → ListsFor a s (λ b. readTree a b (templateBody t x)) (closedListing a t w) l
+  unfolding closedListing
+  by-tree none w g = subst (λ (z : Walked). ListsFor a s (λ b. readTree a b none) (closedListing a t z) l) (sym g) (record { gives = λ b. refl; fits = tt })
+  by-tree (some f) w g =
+      let Q : Listing → Type 0 = λ y. ListsFor a s (λ b. readTree a b (some (template t f))) y l in
+      subst (λ (z : Walked). Q (closedListing a t z)) (sym (g .reports))
+      (if-ind Q _ _ _
+      (λ e. record {
+        gives = λ b.
+            ap (readParts a b (1 + objectCount f)) (template-right a t f (eqb-true _ _ e))
+            ∙ ap (λ (is : List PrimitiveItem). storedIfAllowed b (1 + objectCount f) (takeAll (responseBit a) (takeState true b) is)) (sym (g .are));
+        fits = g .items;
+      })
+      (λ e. record { gives = λ b. ap (readParts a b (1 + objectCount f)) (template-wrong a t f (eqb-false _ _ e)); fits = tt }))
 
--- what the reading of a body promises: at first nothing is listed, and then l, which is put by the verdict
-pub body-kept : (a : Awaited) (b l f c s : List ℕ) {r : Reading} → One a s (withPending s b noneListed) r (withPending s b l) (PendingValues s b l f)
-    → c ≡ storeAfterVerdict b (withPending s b l) (r .verdict) → GivesReading r c (readBody a b s) × ((length c ≡ storeSize) × ((2 * r .objects ≤ length s) × (r .objects ≡ bodyObjects s)))
-body-kept a b l f c s {r} o k =
-    let h = o .1 .0 in
-    let g : GivesPending r b (withPending s b l) (readBody a b s) = rw (laid-none s b) at (o .0) in
-    (restore k g, (ap length k ∙ after-length b (withPending s b l) (r .verdict) (h .sized) (h .laid-sized), (o .1 .1, body-tree a b s g)))
+  pub closed-listed : (w : Walked) {y : Listing} → ThenLists t (parseTree 3 v) w (HasListed s l w) 1 [] → y ≡ closedListing a t w → ListsFor a s (readTemplate a t v) y l
+  closed-listed w g d = rw d (by-tree (parseTree 3 v) w g)
 
-pub body-judged : (a : Awaited) (b l f s : List ℕ) {r : Reading} → One a s (withPending s b noneListed) r (withPending s b l) (PendingValues s b l f)
-    → verdictNumber (r .verdict) ≡ readBody a b s .reason
-body-judged a b l f s o = o .0 .reason ∙ ap (λ (x : List ℕ). readBody a x s .reason) (laid-none s b)
+-- the outer template of an answer
+pub template-listed : (a : Awaited) (s : List ℕ) (h : TlvHeader) (l : List ℕ) → TemplateIn a s h → (w : Walked) {y : Listing}
+    → ThenLists (h .tag) (parseTree 3 (contents s (h .start) (h .len))) w (HasListed s l w) 1 [] → y ≡ closedListing a (h .tag) w → ListsFor a s (λ b. readAnswer a b s) y l
+template-listed a s h l i w g d =
+    let c = closed-listed a (h .tag) s (contents s (h .start) (h .len)) l w g d in
+    record { gives = λ b. i .gives b ∙ ap (λ (v : List ℕ). readTemplate a (h .tag) v b) (sym (contents-is s (h .start) (h .len))) ∙ c .gives b; fits = c .fits }
+
+-- ---- the parts of a body under 80
+
+-- the first k numbers of l are the objects `is` of s
+pub record PartList (s : List ℕ) (k : ℕ) (l : List ℕ) (is : List PrimitiveItem) : Type 0 where
+  pub list : ItemList s k l
+  pub are : itemsIn s k l ≡ is
+
+pub set-room : (l : List ℕ) (i x : ℕ) → length l ≡ mostItems → length (set l i x) ≡ mostItems
+set-room l i x e = length-set l i x ∙ e
+
+pub no-parts : (s l : List ℕ) → length l ≡ mostItems → PartList s 0 l []
+unfolding itemsOf
+no-parts s l e = record { list = record { room = e; few = omega arith; inside = tt }; are = refl }
+
+pub add-part : {s : List ℕ} {k : ℕ} {l : List ℕ} {is : List PrimitiveItem} → PartList s k l is → k < mostItems → (t p n : ℕ) → 1 ≤ p → p + n ≤ length s → p + n ≤ 256
+    → n < 256 → PartList s (k + 1) (set l k (packedItem t 0x77 p n)) (is ++ (primitiveItem 0x77 t (take n (drop p s)) ∷ []))
+add-part {s} {k} {l} {is} w h t p n i j m c =
+    let x = packedItem t 0x77 p n in
+    let q : p ≤ 256 = omega arith in
+    let d : k < length l = omega (arith, w .list .room) in
+    record {
+      list = record {
+        room = set-room l k x (w .list .room);
+        few = omega arith;
+        inside = inside-more s l k x d (w .list .inside) (inside-packed t 0x77 p n (omega arith) i q c s j);
+      };
+      are =
+        items-more s l k x d
+        ∙ ap₂ (λ (js : List PrimitiveItem) (y : PrimitiveItem). js ++ (y ∷ [])) (w .are) (item-packed t 0x77 p n (omega arith) i q c s);
+    }
+
+-- parts of a value of n bytes that starts at a place
+module _ (s : List ℕ) (start n : ℕ) where
+  abbrev pub value : List ℕ
+  value = take n (drop start s)
+
+  pub value-middle : (m j : ℕ) → m + j ≤ n → take j (drop (start + m) s) ≡ take j (drop m value)
+  value-middle m j h =
+      let i : j ≤ n - m = omega arith in
+      sym
+      (ap (take j) (drop-take m n (drop start s)) ∙ take-take j (n - m) (drop m (drop start s)) i ∙ ap (take j) (drop-drop m start s))
+
+  pub value-behind : (m : ℕ) → take (n - m) (drop (start + m) s) ≡ drop m value
+  value-behind m = sym (drop-take m n (drop start s) ∙ ap (take (n - m)) (drop-drop m start s))
+
+  value-size : start + n ≤ length s → length value ≡ n
+  value-size h = simp (length-take, length-drop) (omega arith)
+
+module _ (a : Awaited) (f : List ℕ → Option (List PrimitiveItem)) (start n : ℕ) (l : List ℕ) where
+  pub parts-none : {y : Listing} → ((v : List ℕ) → length v ≡ n → f v ≡ none) → y ≡ Decided (readingOf Malformed 1) → ListsParts a f start n y l
+  parts-none h d s i = rw d (record { gives = λ b. ap (readParts a b 1) (h (value s start n) (value-size s start n i)); fits = tt })
+
+  pub parts-some : (k : ℕ) (is : List ℕ → List PrimitiveItem) → ((v : List ℕ) → length v ≡ n → f v ≡ some (is v))
+      → ((s : List ℕ) → start + n ≤ length s → PartList s k l (is (value s start n))) → ListsParts a f start n (Objects (tally 1 k)) l
+  parts-some k is h g s i =
+      let w = g s i in
+      record {
+        gives = λ b.
+            ap (readParts a b 1) (h (value s start n) (value-size s start n i))
+            ∙ ap (λ (js : List PrimitiveItem). storedIfAllowed b 1 (takeAll (responseBit a) (takeState true b) js)) (sym (w .are));
+        fits = w .list;
+      }
+
+-- the parts of the answer c, where c is awaited
+pub parts-for : {a c : Awaited} {f : List ℕ → Option (List PrimitiveItem)} (t start n : ℕ) {y : Listing} {l : List ℕ} → a ≡ c
+    → ((v : List ℕ) → primitiveParts c t v ≡ f v) → ListsParts c f start n y l → ListsParts a (primitiveParts a t) start n y l
+parts-for {a} {c} {f} t start n {y} {l} e h g = subst (λ (z : Awaited). ListsParts z (primitiveParts z t) start n y l) (sym e) here
+  where
+    here : ListsParts c (primitiveParts c t) start n y l
+    here s i =
+        let w = g s i in
+        record { gives = λ b. ap (readParts c b 1) (h (value s start n)) ∙ w .gives b; fits = w .fits }
+
+-- ---- what is said of the objects
+
+gives : (v : ResponseVerdict) (n : ℕ) (c : List ℕ) {r : Reading} {o : ReadingOutcome} → r ≡ readingOf v n → o ≡ readingOutcome (verdictNumber v) n c → GivesReading r c o
+gives v n c e f = record {
+  reason = ap (λ (x : Reading). verdictNumber (x .verdict)) e ∙ ap (λ (x : ReadingOutcome). x .reason) (sym f);
+  objects = ap (λ (x : Reading). x .objects) e ∙ ap (λ (x : ReadingOutcome). x .objects) (sym f);
+  store = ap (λ (x : ReadingOutcome). x .store) (sym f);
+}
+
+-- the work that the objects of a listing leave
+abbrev taken : Awaited → List ℕ → List ℕ → List ℕ → Tally → TakeState
+taken a s b l t = takeAll (responseBit a) (takeState true b) (itemsIn s (t .items) l)
+
+module _ (a : Awaited) (s b l l′ : List ℕ) {x : Listing} where
+  pub decided-given : (r : Reading) → x ≡ Decided r → GivesReading r (withPending s b (take 0 l′)) (listingOutcome a s b x l)
+  unfolding withPending
+  decided-given r e = rw e (record { reason = refl; objects = refl; store = refl })
+
+  module _ (t : Tally) (e : x ≡ Objects t) {r : Reading} {p : ℕ} where
+    pub refused-given : taken a s b l t .good ≡ false → r ≡ readingOf NotAllowed (t .objects) → p ≡ 0 → GivesReading r (withPending s b (take p l′)) (listingOutcome a s b x l)
+    unfolding withPending
+    refused-given g d z = rw (z, e) (gives NotAllowed (t .objects) b d (if-no _ _ g))
+
+    pub accepted-given : (k : ℕ) → taken a s b l t ≡ takeState true (withPending s b (take k l′)) → r ≡ readingOf Accepted (t .objects) → p ≡ k
+        → GivesReading r (withPending s b (take p l′)) (listingOutcome a s b x l)
+    accepted-given k g d z = rw (z, e) (gives Accepted (t .objects) (withPending s b (take k l′)) d (judged-yes b (t .objects) g refl))
+
+-- ---- the whole reading
+
+module _ (a : Awaited) (s b : List ℕ) {x : Listing} {l : List ℕ} (w : ListsFor a s (λ b. readAnswer a b s) x l) {r : Reading} {c : List ℕ}
+    (g : GivesReading r c (listingOutcome a s b x l)) where
+  pub answer-given : GivesReading r c (readAnswer a b s)
+  answer-given = regive (sym (w .gives b)) g
+
+  pub whole : length c ≡ storeSize → Whole a s b r c
+  whole z = let t = answer-tree a b s answer-given in (answer-given, (z, (rw t (answer-half a s), t)))

@@ -1,71 +1,45 @@
--- What private functions promise, for their callers' proofs: the stages of a reading that both readers share, what the
--- reading of a run of objects reports and leaves, by their tree, and the store with what was listed in it. This file
--- states no rule of document 01: a reader of the rules can skip it. proofs/Parts and proofs/Stages tie it to
--- specs/Answer: `broken-contents` and `whole-contents` to the tree of a template's contents, `gives` and `restore` to
--- `GivesReading`; `answer-begun`, `outer-object` and `contents-judged` say that the stages are those of `readAnswer`.
+-- What private functions promise, for their callers' proofs: the stages of a reading that both readers share. This file
+-- states no rule of document 01: a reader of the rules can skip it. proofs/Stages ties it to specs/Answer: the stages
+-- are those of `readAnswer`.
 -- Assumes nothing.
 use mathlib.Core.Path.{_≡_}
-use mathlib.Core.Bool.{Bool}
 use mathlib.Core.List.{List}
-use mathlib.Core.Option.{Option, some, none}
-use Prim.Native.Nat.{ℕ, _+_, _-_}
-use lib.ListN.{length}
+use mathlib.Core.Option.{Option}
+use mathlib.Core.Bool.{true}
+use Prim.Native.Nat.{ℕ, _+_, _-_, _≤_, _<_}
+use lib.ListN.{length, take, drop}
 use Rattle.basics.specs.Choice.{if_then_else_, _=?_}
-use Rattle.dictionary.specs.Rows.{dictionaryRows}
-use Rattle.store.specs.Place.{putRow}
+use Rattle.basics.specs.Types.{Bytes, StoreBytes, Response, Value, Tag, Length, Offset, Count}
+use Rattle.tlv.specs.declared.TlvHeader.{TlvHeader}
 use Rattle.tlv.specs.declared.ObjectFront.{ObjectFront}
 use Rattle.tlv.specs.declared.ObjectFront.the-variants as front
-use Rattle.tlv.specs.Object.{headerOf}
-use Rattle.tlv.specs.Tree.{Forest, objectCount, parseTree}
+use Rattle.tlv.specs.Object.{headerOf, headerValue}
+use Rattle.tlv.specs.Tree.{parseTree}
 use Rattle.reading.specs.declared.Awaited.{Awaited}
 use Rattle.reading.specs.declared.ResponseVerdict.{ResponseVerdict}
 use Rattle.reading.specs.declared.ResponseVerdict.the-variants.{Accepted, BadStatus, Malformed, NotAllowed}
 use Rattle.reading.specs.declared.Reading.{Reading}
 use Rattle.reading.specs.declared.Beginning.{Beginning}
 use Rattle.reading.specs.declared.OuterObject.{OuterObject}
-use Rattle.reading.specs.declared.Tally.{Tally}
-use Rattle.reading.specs.declared.TemplateContents.{TemplateContents}
-use Rattle.reading.specs.declared.TemplateContents.the-variants.{Whole, Broken}
-use Rattle.reading.specs.Taking.{PrimitiveItem, TakeState, takeState, primitiveItems, takeNext, takeAll}
-use Rattle.reading.specs.Pending.{withPending}
-use Rattle.reading.specs.Answer.{ReadingOutcome, GivesReading, templateBody, templateTag, gpoParts, cryptogramParts}
-use Rattle.reading.specs.Answer.{readParts, readTree, isResponseLength, isStatus9000, isRead}
-
--- ---- the store with what was listed
-
--- the store by the verdict: w, with what was listed in it, where all was accepted, else b as it was
-abbrev pub storeAfterVerdict : List ℕ → List ℕ → ResponseVerdict → List ℕ
-storeAfterVerdict b w Accepted = w
-storeAfterVerdict b w BadStatus = b
-storeAfterVerdict b w Malformed = b
-storeAfterVerdict b w NotAllowed = b
-
--- the reading r, where w is the store b with what it listed, gives o
-abbrev pub GivesPending : Reading → List ℕ → List ℕ → ReadingOutcome → Type 0
-GivesPending r b w o = GivesReading r (storeAfterVerdict b w (r .verdict)) o
-
--- the reading r, which found the list l of values of the body s for the store b and left l′, gives what f gives
-abbrev pub GivesFrom : Reading → (List ℕ → ReadingOutcome) → List ℕ → List ℕ → List ℕ → List ℕ → Type 0
-GivesFrom r f s b l l′ = GivesPending r (withPending s b l) (withPending s b l′) (f (withPending s b l))
-
--- what three private functions give on the store b: a template by its tag and contents, and the two bodies under 80
-abbrev pub readTemplate : Awaited → List ℕ → ℕ → List ℕ → ReadingOutcome
-readTemplate a b t v = readTree a b (templateBody t (parseTree 3 v))
-
-abbrev pub readGpo : List ℕ → List ℕ → ReadingOutcome
-readGpo b v = readParts Awaited.Gpo b 1 (gpoParts v)
-
-abbrev pub readCryptogram : List ℕ → List ℕ → ReadingOutcome
-readCryptogram b v = readParts Awaited.Cryptogram b 1 (cryptogramParts v)
+use Rattle.reading.specs.declared.Walked.{Walked}
+use Rattle.reading.specs.declared.Walked.the-variants.{Whole, Broken}
+use Rattle.reading.specs.declared.Listing.{Listing}
+use Rattle.reading.specs.declared.Listing.the-variants.{Objects, Decided}
+use Rattle.reading.specs.declared.Opened.{Opened}
+use Rattle.reading.specs.declared.Opened.the-variants.{Template, Listed}
+use Rattle.reading.specs.Taking.{PrimitiveItem, takeState, takeAll}
+use Rattle.reading.specs.Items.{ItemList, itemsIn}
+use Rattle.reading.specs.Answer.{ReadingOutcome, readingOutcome, verdictNumber, templateBody, templateTag}
+use Rattle.reading.specs.Answer.{responseBit, storedIfAllowed, readParts, readTree, isResponseLength, isStatus9000, isRead, readAnswer}
 
 -- a reading of these parts
-abbrev pub readingOf : ResponseVerdict → ℕ → Reading
+abbrev pub readingOf : ResponseVerdict → Count → Reading
 readingOf v n = record { verdict = v; objects = n }
 
--- ---- the stages of a reading
+-- ---- how a reading begins
 
--- how it begins: with so many bytes of body, or with a verdict where length, status or file decides
-unfoldable pub readingBeginning : Awaited → List ℕ → Beginning
+-- with so many bytes of body, or with a verdict where length, status or file decides
+unfoldable pub readingBeginning : Awaited → Response → Beginning
 readingBeginning a s =
     if isResponseLength s then
       if isStatus9000 s then
@@ -75,7 +49,7 @@ readingBeginning a s =
     else Beginning.Decided Malformed
 
 -- the one object that a body is, with no byte after it
-abbrev pub outerFront : List ℕ → ObjectFront → OuterObject
+abbrev pub outerFront : Bytes → ObjectFront → OuterObject
 outerFront s front.Broken = OuterObject.Broken
 outerFront s (front.Object h) =
     if h .start + h .len =? length s then
@@ -83,60 +57,56 @@ outerFront s (front.Object h) =
       else OuterObject.Primitive h
     else OuterObject.Broken
 
-unfoldable pub outerObject : List ℕ → OuterObject
+unfoldable pub outerObject : Bytes → OuterObject
 outerObject s = outerFront s (headerOf s)
 
--- the reading of a template by what is reported of its contents: their encoding, the outer tag, the objects
-unfoldable pub contentsReading : Awaited → ℕ → TemplateContents → Reading
-contentsReading a t Broken = readingOf Malformed 0
-contentsReading a t (Whole u) =
-    if t =? templateTag a then
-      if u .good then readingOf Accepted (u .objects)
-      else readingOf NotAllowed (u .objects)
-    else readingOf Malformed (u .objects)
+-- ---- the objects that are to be judged
 
--- ---- a run of objects
+-- what a listing gives of an answer s into the store b, where l lists the objects
+abbrev pub listingOutcome : Awaited → Response → StoreBytes → Listing → List ℕ → ReadingOutcome
+listingOutcome a s b (Decided r) l = readingOutcome (verdictNumber (r .verdict)) (r .objects) b
+listingOutcome a s b (Objects t) l =
+    storedIfAllowed b (t .objects) (takeAll (responseBit a) (takeState true b) (itemsIn s (t .items) l))
 
--- n objects visited, and whether all were allowed
-abbrev pub tally : ℕ → Bool → Tally
-tally n g = record { objects = n; good = g }
+-- the objects stand in the answer
+abbrev pub ListingFits : Response → Listing → List ℕ → Type 0
+ListingFits s (Decided r) l = Unit {0}
+ListingFits s (Objects t) l = ItemList s (t .items) l
 
--- n objects visited and the work w
-abbrev pub HasVisited : ℕ → TakeState → TemplateContents → List ℕ → Type 0
-HasVisited n w r b = (r ≡ Whole (tally n (w .good))) × (b ≡ w .store)
+-- a listing of the object whose outcome f gives by the store
+pub record ListsFor (a : Awaited) (s : Response) (f : StoreBytes → ReadingOutcome) (x : Listing) (l : List ℕ) : Type 0 where
+  pub gives : (b : StoreBytes) → f b ≡ listingOutcome a s b x l
+  pub fits : ListingFits s x l
 
--- a tree directly inside the template `around`, after n objects and the work w: its count is added, its objects are
--- taken, and k holds of both; r is what is reported where there is no tree
-abbrev pub ThenReads : ℕ → ℕ → Option Forest → TemplateContents → (ℕ → TakeState → Type 0) → ℕ → TakeState → Type 0
-ThenReads answer around none r k n w = r ≡ Broken
-ThenReads answer around (some f) r k n w = k (n + objectCount f) (takeAll answer w (primitiveItems around f))
+-- what a template under a tag gives into the store b, by its contents
+abbrev pub readTemplate : Awaited → Tag → Bytes → StoreBytes → ReadingOutcome
+readTemplate a t v b = readTree a b (templateBody t (parseTree 3 v))
 
--- the same with nothing after it: r is what is reported and b the store with what is listed then; malformed bytes leave
--- the list free
-abbrev pub LeavesContents : ℕ → ℕ → ℕ → TakeState → Option Forest → TemplateContents → List ℕ → Type 0
-LeavesContents answer around n w f r b = ThenReads answer around f r (λ m v. HasVisited m v r b) n w
+-- an object's value by the places of a header in the whole answer
+abbrev pub valueOf : Response → TlvHeader → Value
+valueOf s h = take (h .len) (drop (h .start) s)
 
--- the same after the objects of a tally, into the store b
-abbrev pub ReadsContents : ℕ → ℕ → Tally → List ℕ → Option Forest → TemplateContents → List ℕ → Type 0
-ReadsContents answer around t b f r b′ = LeavesContents answer around (t .objects) (takeState (t .good) b) f r b′
+-- the parts f of a value of n bytes that starts at a place, in every answer in which it lies
+abbrev pub ListsParts : Awaited → (Value → Option (List PrimitiveItem)) → Offset → Length → Listing → List ℕ → Type 0
+ListsParts a f start n x l =
+    (s : Response) → start + n ≤ length s → ListsFor a s (λ b. readParts a b 1 (f (take n (drop start s)))) x l
 
--- the same where the values l of the body s were listed for the store b, and l′ are
-abbrev pub ReadsPending : ℕ → ℕ → Tally → Option Forest → TemplateContents → List ℕ → List ℕ → List ℕ → List ℕ → Type 0
-ReadsPending answer around t f r s b l l′ = ReadsContents answer around t (withPending s b l) f r (withPending s b l′)
+-- a template in an answer s: what it gives is what s gives, and its contents lie in the first 256 bytes
+pub record TemplateIn (a : Awaited) (s : Response) (h : TlvHeader) : Type 0 where
+  pub gives : (b : StoreBytes) → readAnswer a b s ≡ readTemplate a (h .tag) (valueOf s h) b
+  pub two : 2 ≤ h .start
+  pub ends : h .start + h .len ≤ length s
+  pub short : h .start + h .len ≤ 256
+  pub tag : h .tag < 0x1000000
 
--- one object, all before it allowed where g says so: r is reported
-abbrev pub TakesItem : ℕ → PrimitiveItem → Bool → Bool → List ℕ → List ℕ → List ℕ → List ℕ → Type 0
-TakesItem answer i g r s b l l′ = takeState r (withPending s b l′) ≡ takeNext answer (takeState g (withPending s b l)) i
+-- what an answer is before a walk
+abbrev pub Opens : Awaited → Response → Opened → List ℕ → Type 0
+Opens a s (Template h) l = TemplateIn a s h
+Opens a s (Listed x) l = ListsFor a s (λ b. readAnswer a b s) x l
 
--- one after the other
-abbrev pub TakesItems : ℕ → List PrimitiveItem → Bool → Bool → List ℕ → List ℕ → List ℕ → List ℕ → Type 0
-TakesItems answer is g r s b l l′ = takeState r (withPending s b l′) ≡ takeAll answer (takeState g (withPending s b l)) is
-
--- a value that is put into row k
-abbrev pub PutsPending : ℕ → List ℕ → List ℕ → List ℕ → List ℕ → List ℕ → Type 0
-PutsPending k v s b l l′ = withPending s b l′ ≡ putRow dictionaryRows (withPending s b l) k v
-
--- how many objects are reported
-abbrev pub objectsVisited : TemplateContents → ℕ
-objectsVisited Broken = 0
-objectsVisited (Whole t) = t .objects
+-- a template's objects by what the walk over its contents reports: their encoding, the outer tag
+unfoldable pub closedListing : Awaited → Tag → Walked → Listing
+closedListing a t Broken = Decided (readingOf Malformed 0)
+closedListing a t (Whole u) =
+    if t =? templateTag a then Objects u
+    else Decided (readingOf Malformed (u .objects))

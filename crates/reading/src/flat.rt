@@ -2,22 +2,19 @@
 // all objects.
 //
 // `read_answer` and `judge_answer` promise what the crate's functions of these names promise,
-// word for word, so a caller goes from one reader to the other by one line. The walk over the objects
-// is this module's own; all else is the crate's.
-use crate::{Awaited, Beginning, TemplateContents, OuterObject, Reading, Tally, ResponseVerdict, LIST};
-use dictionary::ROWS;
-use tlv::Following;
+// word for word, so a caller goes from one reader to the other by one line. The walk is this module's own; all else
+// is the crate's.
+use crate::{Awaited, Contents, Listing, Opened, Reading, ResponseVerdict, Tally, Walked, ITEMS};
+use tlv::ObjectFront;
 ghost use mathlib.Core.Path.{_≡_};
-ghost use mathlib.Core.Bool.{true};
-ghost use Prim.Native.Nat.{_+_, _-_, _*_, _^_, _≤_, _<_};
-ghost use lib.ListN.{length};
+ghost use Prim.Native.Nat.{_+_, _-_, _*_, _≤_, _<_};
+ghost use lib.ListN.{length, take, drop};
 ghost use Rattle.dictionary.specs.Rows.{storeSize};
-ghost use Rattle.dictionary.specs.Tables.{TablesGiven};
 ghost use Rattle.tlv.specs.Tree.{parseTree};
-ghost use Rattle.reading.specs.Count.{bodyObjects, answerObjects};
-ghost use Rattle.reading.specs.Inner.{tally, objectsVisited, GivesFrom, ReadsPending};
-ghost use Rattle.reading.specs.Pending.{StandsInBody, PendingValues, pendingCount};
-ghost use Rattle.reading.specs.Answer.{GivesReading, verdictNumber, readBody, readAnswer};
+ghost use Rattle.reading.specs.Count.{answerObjects};
+ghost use Rattle.reading.specs.Items.{mostItems, WalkFits, Walks};
+ghost use Rattle.reading.specs.Inner.{ListsFor};
+ghost use Rattle.reading.specs.Answer.{GivesReading, verdictNumber, readAnswer};
 
 // How many templates may be open at once, the outer one included.
 const LEVELS: usize = 4;
@@ -30,11 +27,9 @@ pub fn read_answer(store: &mut [u8], awaited: Awaited, answer: &[u8]) -> Reading
     ensures half { λ r. ⌜ 2 * r .objects ≤ length (now (answer .entry)) - 2 ⌝ }
     ensures tree { λ r. ⌜ r .objects ≡ answerObjects awaited (now (answer .entry)) ⌝ }
 {
-    let beginning = crate::begin(awaited, answer);
-    match beginning {
-        Beginning::Decided(verdict) => crate::reading_of(verdict, 0),
-        Beginning::Body(n) => read_body(store, awaited, &answer[..n]),
-    }
+    let mut items = [0u64; ITEMS];
+    let listing = list_objects(awaited, answer, &mut items);
+    crate::take_listed(store, awaited, answer, listing, &mut items)
 }
 
 // What a reading reports of an answer; the store stays.
@@ -42,143 +37,76 @@ pub fn judge_answer(store: &[u8], awaited: Awaited, answer: &[u8]) -> ResponseVe
     requires { ⌜ length (now store) ≡ storeSize ⌝ }
     ensures { λ r. ⌜ verdictNumber r ≡ readAnswer awaited (now (store .entry)) (now (answer .entry)) .reason ⌝ }
 {
-    let beginning = crate::begin(awaited, answer);
-    match beginning {
-        Beginning::Decided(verdict) => verdict,
-        Beginning::Body(n) => judge_body(store, awaited, &answer[..n]),
-    }
+    let mut items = [0u64; ITEMS];
+    let listing = list_objects(awaited, answer, &mut items);
+    let judged = crate::judge_listed(store, awaited, answer, listing, &mut items);
+    let reading = judged.reading;
+    reading.verdict
 }
 
-// The body of an answer: its values are listed, and put into the store where all was accepted.
-fn read_body(store: &mut [u8], awaited: Awaited, body: &[u8]) -> Reading
-    requires { ⌜ (length (now store) ≡ storeSize) × (length (now body) ≤ 256) ⌝ }
-    ensures given { λ r. ⌜ GivesReading r (now (store .exit)) (readBody awaited (now (store .entry)) (now (body .entry))) ⌝ }
-    ensures sized { λ _. ⌜ length (now (store .exit)) ≡ storeSize ⌝ }
-    ensures half { λ r. ⌜ 2 * r .objects ≤ length (now (body .entry)) ⌝ }
-    ensures tree { λ r. ⌜ r .objects ≡ bodyObjects (now (body .entry)) ⌝ }
+// The objects of an answer, a template's by the walk that has the open templates in an array.
+fn list_objects(awaited: Awaited, answer: &[u8], items: &mut [u64; ITEMS]) -> Listing
+    requires { ⌜ length (now items) ≡ mostItems ⌝ }
+    ensures lists { λ r. ⌜ ListsFor awaited (now (answer .entry)) (λ b. readAnswer awaited b (now (answer .entry))) r (now (items .exit)) ⌝ }
+    ensures room { λ _. ⌜ length (now (items .exit)) ≡ mostItems ⌝ }
 {
-    let mut pending = [0u32; LIST];
-    let mut filled = [0u8; ROWS];
-    let tags = dictionary::tags();
-    let codes = dictionary::codes();
-    let reading = read_object(store, awaited, body, &mut pending, &mut filled, &tags, &codes);
-    let verdict = reading.verdict;
-    crate::store_pending(store, body, &pending, verdict);
-    reading
-}
-
-// What a reading reports of the body of an answer.
-fn judge_body(store: &[u8], awaited: Awaited, body: &[u8]) -> ResponseVerdict
-    requires { ⌜ (length (now store) ≡ storeSize) × (length (now body) ≤ 256) ⌝ }
-    ensures { λ r. ⌜ verdictNumber r ≡ readBody awaited (now (store .entry)) (now (body .entry)) .reason ⌝ }
-{
-    let mut pending = [0u32; LIST];
-    let mut filled = [0u8; ROWS];
-    let tags = dictionary::tags();
-    let codes = dictionary::codes();
-    read_object(store, awaited, body, &mut pending, &mut filled, &tags, &codes).verdict
-}
-
-// The body's one object: its values are listed, a template's by its contents.
-fn read_object(
-    store: &[u8],
-    awaited: Awaited,
-    body: &[u8],
-    pending: &mut [u32; LIST],
-    filled: &mut [u8; ROWS],
-    tags: &[u32; ROWS],
-    codes: &[u32; ROWS],
-) -> Reading
-    requires { ⌜ PendingValues (now body) (now store) (now pending) (now filled) ⌝ }
-    requires { ⌜ pendingCount (now pending) ≡ 0 ⌝ }
-    requires { ⌜ TablesGiven (now tags) (now codes) ⌝ }
-    ensures given { λ r. ⌜ GivesFrom r (λ b. readBody awaited b (now (body .entry)))
-      (now (body .entry)) (now (store .entry)) (now (pending .entry)) (now (pending .exit)) ⌝ }
-    ensures kept { λ _. ⌜ PendingValues (now (body .entry)) (now (store .entry)) (now (pending .exit)) (now (filled .exit)) ⌝ }
-    ensures half { λ r. ⌜ 2 * r .objects ≤ length (now (body .entry)) ⌝ }
-{
-    let outer = crate::outer_of(body);
-    match outer {
-        OuterObject::Broken => crate::reading_of(ResponseVerdict::Malformed, 0),
-        OuterObject::Primitive(h) => {
+    let opened = crate::open(awaited, answer, items);
+    match opened {
+        Opened::Listed(listing) => listing,
+        Opened::Template(h) => {
             let start = h.start;
-            let e = start + h.len;
-            crate::read_primitive(awaited, h.tag, &body[start..e], start, body, store, pending, filled, codes)
-        }
-        OuterObject::Template(h) => {
-            let start = h.start;
-            let e = start + h.len;
-            let bit = crate::answer_bit(awaited);
-            let contents = read(&body[start..e], start, h.tag, bit, body, store, pending, filled, tags, codes);
-            crate::judge_contents(awaited, h.tag, contents)
+            let end = start + h.len;
+            let walked = walk(answer, Contents { start, end }, h.tag, items);
+            crate::close(awaited, h.tag, walked)
         }
     }
 }
 
-// The contents of the outer template, whose tag this is, from a place of the body on. `ends` and `around` have the end
-// and the tag of each open template, the outer one first and the innermost at `depth`; `s` is what is left of the
-// innermost. The values of the primitive objects are listed, each by the tag of the template directly around it.
-fn read(
-    bytes: &[u8],
-    start: usize,
-    tag: u32,
-    answer: u8,
-    body: &[u8],
-    store: &[u8],
-    pending: &mut [u32; LIST],
-    filled: &mut [u8; ROWS],
-    tags: &[u32; ROWS],
-    codes: &[u32; ROWS],
-) -> TemplateContents
-    requires { ⌜ PendingValues (now body) (now store) (now pending) (now filled) ⌝ }
-    requires { ⌜ StandsInBody (now body) start (now bytes) ⌝ }
-    requires { ⌜ pendingCount (now pending) ≡ 0 ⌝ }
-    requires { ⌜ 0 < answer ⌝ }
-    requires { ⌜ TablesGiven (now tags) (now codes) ⌝ }
-    ensures left { λ r. ⌜ ReadsPending answer tag (tally 1 true) (parseTree 3 (now (bytes .entry))) r
-      (now (body .entry)) (now (store .entry)) (now (pending .entry)) (now (pending .exit)) ⌝ }
-    ensures half { λ r. ⌜ 2 * objectsVisited r ≤ 2 + length (now (bytes .entry)) ⌝ }
-    ensures kept { λ _. ⌜ PendingValues (now (body .entry)) (now (store .entry)) (now (pending .exit)) (now (filled .exit)) ⌝ }
+// The objects of the outer template's contents, whose tag this is. `ends` and `around` have the end and the tag of each
+// open template, the outer one first and the innermost at `depth`. Bytes of 00 between the objects are padding.
+fn walk(bytes: &[u8], contents: Contents, tag: u32, items: &mut [u64; ITEMS]) -> Walked
+    requires { ⌜ WalkFits (now bytes) (contents .start) (contents .end) 1 0 (now items) ⌝ }
+    requires { ⌜ tag < 0x1000000 ⌝ }
+    ensures walks { λ r. ⌜ Walks (now (bytes .entry)) tag
+      (parseTree 3 (take (contents .end - contents .start) (drop (contents .start) (now (bytes .entry)))))
+      1 0 (now (items .entry)) r (now (items .exit)) ⌝ }
+    ensures room { λ _. ⌜ length (now (items .exit)) ≡ mostItems ⌝ }
 {
-    let mut ends = [bytes.len(); LEVELS];
+    let mut ends = [contents.end; LEVELS];
     let mut around = [tag; LEVELS];
     let mut depth = 0;
-    let mut s = bytes;
+    let mut at = contents.start;
     let mut n = 1;
-    let mut good = true;
+    let mut k = 0;
     loop {
-        let following = tlv::next(s);
-        match following {
-            Following::Malformed => return TemplateContents::Broken,
-            Following::End => {
-                if depth == 0 {
-                    return TemplateContents::Whole(Tally { objects: n, good });
-                }
-                let from = ends[depth];
-                depth -= 1;
-                s = &bytes[from..ends[depth]];
+        let end = ends[depth];
+        if at == end {
+            if depth == 0 {
+                return Walked::Whole(Tally { objects: n, items: k });
             }
-            Following::Inner(h) => {
-                let from = h.start;
-                let e = from + h.len;
-                let value = &s[from..e];
-                let rest = &s[e..];
-                let end = ends[depth] - rest.len();
-                n += 1;
-                if h.template {
-                    if depth + 1 == LEVELS {
-                        return TemplateContents::Broken;
-                    }
-                    ends[depth + 1] = end;
-                    around[depth + 1] = h.tag;
-                    depth += 1;
-                    s = value;
-                } else {
-                    let place = start + end - h.len;
-                    let inmost = around[depth];
-                    good = crate::take_next(good, h.tag, inmost, answer, value, place, body, store, pending, filled, tags, codes);
-                    s = rest;
+            depth -= 1;
+        } else if bytes[at] == 0 {
+            at += 1;
+        } else {
+            let front = tlv::object_header(&bytes[at..end]);
+            let ObjectFront::Object(h) = front else {
+                return Walked::Broken;
+            };
+            let from = at + h.start;
+            let e = from + h.len;
+            n += 1;
+            if h.template {
+                if depth + 1 == LEVELS {
+                    return Walked::Broken;
                 }
+                depth += 1;
+                ends[depth] = e;
+                around[depth] = h.tag;
+                at = from;
+            } else {
+                items[k] = crate::packed_item(h.tag, around[depth], from, h.len);
+                k += 1;
+                at = e;
             }
         }
     }

@@ -1,39 +1,43 @@
-// Reading a card's answer into a store, whole or not at all.
+// Reading a card's answer into a store, whole or not at all: walk, judge, store.
 //
-// `read_answer` takes the whole answer with its status bytes; `judge_answer` only reports what it would give. Inside,
-// the store is only read: a value that an object brings is listed by its row and its place in the body, and the rows
-// that have bytes listed are marked. Both arrays are passed down the templates, with the table's tags and its rows'
-// numbers. The listed values are put into the store where the answer is accepted.
+// `read_answer` takes the whole answer with its status bytes; `judge_answer` only reports what it would give. A walk
+// lists the primitive objects of the answer's template in order, a number each; a body under 80 gives such a list by
+// its fixed parts. `judge_items` goes over the list once and leaves the pending values in its place, each by its row.
+// `store_pending` puts them into the store where all were allowed. Until then the store is only read.
 //
-// Here a template's contents are read by `read`, which calls itself. The module `flat` has the same open
-// functions with the same promises and no recursion: it shares all but the walk over the objects.
-// `read_both` runs both readers and says that they agree.
+// Here the walk calls itself on a template's contents. The module `flat` has the same open functions with the same
+// promises and a walk with no recursion; it shares all else. `read_both` runs both readers and says that they agree.
 pub mod flat;
 use dictionary::Attributes;
 use dictionary::RowFound;
-use dictionary::{ROWS, ROW_AIP, ROW_AFL, ROW_IAD, ROW_AC, ROW_CID, ROW_ATC};
-use tlv::{Following, ObjectFront, TlvHeader};
+use dictionary::ROWS;
+use tlv::{ObjectFront, TlvHeader};
 ghost use mathlib.Core.Path.{_≡_};
 ghost use mathlib.Core.Bool.{true, not};
-ghost use mathlib.Core.Option.{some};
 ghost use Prim.Native.Nat.{_+_, _-_, _*_, _/_, _%_, _^_, _≤_, _<_};
-ghost use lib.ListN.{length, getD};
+ghost use lib.Dec.{eqb};
+ghost use lib.ListN.{length, getD, set, take, drop};
 ghost use Rattle.basics.specs.Choice.{both};
 ghost use Rattle.basics.specs.Number.{hasBit};
-ghost use Rattle.dictionary.specs.declared.RowFound.{RowFound};
-ghost use Rattle.dictionary.specs.Rows.{dictionaryRows, rowAt, rowCount, findRow, storeSize, inGenerateAcResponse};
+ghost use Rattle.dictionary.specs.Rows.{dictionaryRows, rowCount, storeSize};
 ghost use Rattle.dictionary.specs.Packing.{rowWithAttributes};
-ghost use Rattle.dictionary.specs.Tables.{TablesGiven, packedRows};
+ghost use Rattle.dictionary.specs.Tables.{TablesGiven};
 ghost use Rattle.store.specs.Place.{isFree};
 ghost use Rattle.tlv.specs.Tag.{isPrivate};
 ghost use Rattle.tlv.specs.Tree.{parseTree};
-ghost use Rattle.reading.specs.Taking.{primitiveItem, allowedInResponse, cardMaySet, isTemplateIn};
-ghost use Rattle.reading.specs.Count.{bodyObjects, answerObjects};
+ghost use Rattle.reading.specs.declared.Awaited.{Awaited};
+ghost use Rattle.reading.specs.declared.Listing.{Listing};
+ghost use Rattle.reading.specs.Taking.{allowedInResponse, cardMaySet, isTemplateIn};
+ghost use Rattle.reading.specs.Count.{answerObjects};
 ghost use Rattle.reading.specs.Both.{AnswerRead, ReadersAgree};
-ghost use Rattle.reading.specs.Inner.{readingOf, readingBeginning, outerObject, contentsReading, storeAfterVerdict, readGpo, readCryptogram, objectsVisited};
-ghost use Rattle.reading.specs.Inner.{GivesFrom, ReadsPending, TakesItem, TakesItems, PutsPending};
-ghost use Rattle.reading.specs.Pending.{StandsInBody, PendingList, PendingValues, withPending, pendingCount, mostPending};
-ghost use Rattle.reading.specs.Answer.{GivesReading, verdictNumber, responseBit, templateTag, primitive, iadPart, readTree, readBody, isRead, isStatus9000, readAnswer};
+ghost use Rattle.reading.specs.Items.{packedItem, itemTag, itemAround, valueStart, valueLength, ValueInside, itemOf};
+ghost use Rattle.reading.specs.Items.{mostItems, ItemList, itemsIn, WalkFits, Walks};
+ghost use Rattle.reading.specs.Pending.{judgeItem, packedPending, pendingRow, markRow, PendingList, withPending, JudgesItems};
+ghost use Rattle.reading.specs.Inner.{readingOf, readingBeginning, outerObject, listingOutcome, ListingFits, ListsFor};
+ghost use Rattle.reading.specs.Inner.{ListsParts, Opens, closedListing};
+ghost use Rattle.reading.specs.Answer.{GivesReading, verdictNumber, responseBit, templateTag, gpoParts, cryptogramParts};
+ghost use Rattle.reading.specs.Answer.{primitiveParts, isRead, isStatus9000, readAnswer};
+
 
 // An answer has at most 256 bytes and the two status bytes.
 const MOST_ANSWER: usize = 258;
@@ -45,12 +49,15 @@ const MOST_GPO_BODY: usize = 250;
 const LEAST_AC_BODY: usize = 11;
 const MOST_AC_BODY: usize = 43;
 
-// The values that are listed, after their count: room for more than the longest body can have.
-const LIST: usize = 130;
+// The primitive objects that are listed: more than 256 bytes can have.
+const ITEMS: usize = 128;
 
-// A listed value in one number: its row, its place in the body, its length.
-const ROW: u32 = 0x40000;
-const PLACE: u32 = 0x100;
+// An object in one number: its tag, the tag of the template directly around it, the place of the byte before its value,
+// and its length. A pending value in one number: its row, the same place and length.
+const TAG: u64 = 0x10000000000;
+const AROUND: u64 = 0x10000;
+const PLACE: u64 = 0x100;
+const ROW: u64 = 0x10000;
 
 // A record's file.
 pub struct Sfi {
@@ -99,16 +106,53 @@ pub enum OuterObject {
     Broken,
 }
 
-// How many objects were visited so far, and whether all were allowed.
-pub struct Tally {
-    pub objects: usize,
-    pub good: bool,
+// A template's contents: where they start and end in the bytes.
+pub struct Contents {
+    pub start: usize,
+    pub end: usize,
 }
 
-// What the reading of some contents reports.
-pub enum TemplateContents {
+// How many objects were visited, templates included, and how many of them, the primitive ones, are listed.
+pub struct Tally {
+    pub objects: usize,
+    pub items: usize,
+}
+
+// What a walk over a template's contents reports.
+pub enum Walked {
     Whole(Tally),
     Broken,
+}
+
+// The objects of an answer, which are to be judged; or a reading where the answer is decided without them.
+pub enum Listing {
+    Objects(Tally),
+    Decided(Reading),
+}
+
+// What an answer is before a walk: a template, whose contents are to be walked, or listed without one.
+pub enum Opened {
+    Template(TlvHeader),
+    Listed(Listing),
+}
+
+// What is said of an object before the store is asked: skipped, not allowed, or a value for a row.
+pub enum ItemVerdict {
+    Skipped,
+    NotAllowed,
+    ForRow(usize),
+}
+
+// What is said of all objects: so many values are pending, or one object is not allowed.
+pub enum ItemsVerdict {
+    Pending(usize),
+    NotAllowed,
+}
+
+// A reading, and how many values are pending: none, unless all objects are allowed.
+pub struct PendingReading {
+    pub reading: Reading,
+    pub pending: usize,
 }
 
 // The whole answer to the command that was handed out, status bytes included.
@@ -119,11 +163,9 @@ pub fn read_answer(store: &mut [u8], awaited: Awaited, answer: &[u8]) -> Reading
     ensures half { λ r. ⌜ 2 * r .objects ≤ length (now (answer .entry)) - 2 ⌝ }
     ensures tree { λ r. ⌜ r .objects ≡ answerObjects awaited (now (answer .entry)) ⌝ }
 {
-    let beginning = begin(awaited, answer);
-    match beginning {
-        Beginning::Decided(verdict) => reading_of(verdict, 0),
-        Beginning::Body(n) => read_body(store, awaited, &answer[..n]),
-    }
+    let mut items = [0u64; ITEMS];
+    let listing = list_objects(awaited, answer, &mut items);
+    take_listed(store, awaited, answer, listing, &mut items)
 }
 
 // What a reading reports of an answer; the store stays.
@@ -131,11 +173,11 @@ pub fn judge_answer(store: &[u8], awaited: Awaited, answer: &[u8]) -> ResponseVe
     requires { ⌜ length (now store) ≡ storeSize ⌝ }
     ensures { λ r. ⌜ verdictNumber r ≡ readAnswer awaited (now (store .entry)) (now (answer .entry)) .reason ⌝ }
 {
-    let beginning = begin(awaited, answer);
-    match beginning {
-        Beginning::Decided(verdict) => verdict,
-        Beginning::Body(n) => judge_body(store, awaited, &answer[..n]),
-    }
+    let mut items = [0u64; ITEMS];
+    let listing = list_objects(awaited, answer, &mut items);
+    let judged = judge_listed(store, awaited, answer, listing, &mut items);
+    let reading = judged.reading;
+    reading.verdict
 }
 
 // The answer by both readers, each with a store of its own; where the stores are equal, so are the readings and
@@ -167,41 +209,125 @@ pub fn verdict_number(verdict: ResponseVerdict) -> u8
     }
 }
 
-// The body of an answer: its values are listed, and put into the store where all was accepted.
-fn read_body(store: &mut [u8], awaited: Awaited, body: &[u8]) -> Reading
-    requires { ⌜ (length (now store) ≡ storeSize) × (length (now body) ≤ 256) ⌝ }
-    ensures given { λ r. ⌜ GivesReading r (now (store .exit)) (readBody awaited (now (store .entry)) (now (body .entry))) ⌝ }
+// The objects of an answer, a template's by the walk that calls itself.
+fn list_objects(awaited: Awaited, answer: &[u8], items: &mut [u64; ITEMS]) -> Listing
+    requires { ⌜ length (now items) ≡ mostItems ⌝ }
+    ensures lists { λ r. ⌜ ListsFor awaited (now (answer .entry)) (λ b. readAnswer awaited b (now (answer .entry))) r (now (items .exit)) ⌝ }
+    ensures room { λ _. ⌜ length (now (items .exit)) ≡ mostItems ⌝ }
+{
+    let opened = open(awaited, answer, items);
+    match opened {
+        Opened::Listed(listing) => listing,
+        Opened::Template(h) => {
+            let start = h.start;
+            let end = start + h.len;
+            let walked = walk(answer, Contents { start, end }, h.tag, 3, Tally { objects: 1, items: 0 }, items);
+            close(awaited, h.tag, walked)
+        }
+    }
+}
+
+// The objects of a template's contents, behind those of the tally, with so many levels of templates still allowed. Bytes
+// of 00 between them are padding.
+fn walk(bytes: &[u8], contents: Contents, around: u32, levels: usize, tally: Tally, items: &mut [u64; ITEMS]) -> Walked
+    requires { ⌜ WalkFits (now bytes) (contents .start) (contents .end) (tally .objects) (tally .items) (now items) ⌝ }
+    requires { ⌜ around < 0x1000000 ⌝ }
+    ensures walks { λ r. ⌜ Walks (now (bytes .entry)) around
+      (parseTree levels (take (contents .end - contents .start) (drop (contents .start) (now (bytes .entry)))))
+      (tally .objects) (tally .items) (now (items .entry)) r (now (items .exit)) ⌝ }
+    ensures room { λ _. ⌜ length (now (items .exit)) ≡ mostItems ⌝ }
+{
+    let end = contents.end;
+    let mut at = contents.start;
+    let mut n = tally.objects;
+    let mut k = tally.items;
+    while at < end {
+        if bytes[at] == 0 {
+            at += 1;
+        } else {
+            let front = tlv::object_header(&bytes[at..end]);
+            let ObjectFront::Object(h) = front else {
+                return Walked::Broken;
+            };
+            let from = at + h.start;
+            let e = from + h.len;
+            n += 1;
+            if h.template {
+                if levels == 0 {
+                    return Walked::Broken;
+                }
+                let inside = walk(bytes, Contents { start: from, end: e }, h.tag, levels - 1, Tally { objects: n, items: k }, items);
+                let Walked::Whole(t) = inside else {
+                    return Walked::Broken;
+                };
+                n = t.objects;
+                k = t.items;
+            } else {
+                items[k] = packed_item(h.tag, around, from, h.len);
+                k += 1;
+            }
+            at = e;
+        }
+    }
+    Walked::Whole(Tally { objects: n, items: k })
+}
+
+// The listed objects are judged, and the pending values put into the store.
+fn take_listed(store: &mut [u8], awaited: Awaited, answer: &[u8], listing: Listing, items: &mut [u64; ITEMS]) -> Reading
+    requires { ⌜ (length (now store) ≡ storeSize) × (length (now items) ≡ mostItems) ⌝ }
+    requires { ⌜ ListingFits (now answer) listing (now items) ⌝ }
+    ensures given { λ r. ⌜ GivesReading r (now (store .exit))
+      (listingOutcome awaited (now (answer .entry)) (now (store .entry)) listing (now (items .entry))) ⌝ }
     ensures sized { λ _. ⌜ length (now (store .exit)) ≡ storeSize ⌝ }
-    ensures half { λ r. ⌜ 2 * r .objects ≤ length (now (body .entry)) ⌝ }
-    ensures tree { λ r. ⌜ r .objects ≡ bodyObjects (now (body .entry)) ⌝ }
 {
-    let mut pending = [0u32; LIST];
-    let mut filled = [0u8; ROWS];
-    let tags = dictionary::tags();
-    let codes = dictionary::codes();
-    let reading = read_object(store, awaited, body, &mut pending, &mut filled, &tags, &codes);
-    let verdict = reading.verdict;
-    store_pending(store, body, &pending, verdict);
-    reading
+    let judged = judge_listed(store, awaited, answer, listing, items);
+    store_pending(store, answer, items, judged.pending);
+    judged.reading
 }
 
-// What a reading reports of the body of an answer.
-fn judge_body(store: &[u8], awaited: Awaited, body: &[u8]) -> ResponseVerdict
-    requires { ⌜ (length (now store) ≡ storeSize) × (length (now body) ≤ 256) ⌝ }
-    ensures { λ r. ⌜ verdictNumber r ≡ readBody awaited (now (store .entry)) (now (body .entry)) .reason ⌝ }
+// What is said of an answer, and how many values are pending.
+fn judge_listed(store: &[u8], awaited: Awaited, answer: &[u8], listing: Listing, items: &mut [u64; ITEMS]) -> PendingReading
+    requires { ⌜ (length (now store) ≡ storeSize) × (length (now items) ≡ mostItems) ⌝ }
+    requires { ⌜ ListingFits (now answer) listing (now items) ⌝ }
+    ensures given { λ r. ⌜ GivesReading (r .reading)
+      (withPending (now (answer .entry)) (now (store .entry)) (take (r .pending) (now (items .exit))))
+      (listingOutcome awaited (now (answer .entry)) (now (store .entry)) listing (now (items .entry))) ⌝ }
+    ensures pending { λ r. ⌜ PendingList (now (answer .entry)) (r .pending) (now (items .exit)) ⌝ }
 {
-    let mut pending = [0u32; LIST];
-    let mut filled = [0u8; ROWS];
-    let tags = dictionary::tags();
-    let codes = dictionary::codes();
-    read_object(store, awaited, body, &mut pending, &mut filled, &tags, &codes).verdict
+    match listing {
+        Listing::Decided(reading) => PendingReading { reading, pending: 0 },
+        Listing::Objects(tally) => {
+            let judged = judge_items(items, tally.items, answer_bit(awaited), answer, store);
+            match judged {
+                ItemsVerdict::NotAllowed => pending_reading(ResponseVerdict::NotAllowed, tally.objects, 0),
+                ItemsVerdict::Pending(n) => pending_reading(ResponseVerdict::Accepted, tally.objects, n),
+            }
+        }
+    }
 }
 
-// A reading of these parts.
-fn reading_of(verdict: ResponseVerdict, objects: usize) -> Reading
-    ensures { λ r. ⌜ r ≡ readingOf verdict objects ⌝ }
+// A reading of these parts, with so many values pending.
+fn pending_reading(verdict: ResponseVerdict, objects: usize, pending: usize) -> PendingReading
+    ensures { λ r. ⌜ (r .reading ≡ readingOf verdict objects) × (r .pending ≡ pending) ⌝ }
 {
-    Reading { verdict, objects }
+    let reading = Reading { verdict, objects };
+    PendingReading { reading, pending }
+}
+
+// Puts the pending values into the store, one after the other.
+fn store_pending(store: &mut [u8], bytes: &[u8], pending: &[u64; ITEMS], n: usize)
+    requires { ⌜ (length (now store) ≡ storeSize) × PendingList (now bytes) n (now pending) ⌝ }
+    ensures { λ _. ⌜ now (store .exit) ≡ withPending (now (bytes .entry)) (now (store .entry)) (take n (now (pending .entry))) ⌝ }
+    ensures sized { λ _. ⌜ length (now (store .exit)) ≡ storeSize ⌝ }
+{
+    let mut i = 0;
+    while i < n {
+        let value = pending[i];
+        let start = start_in(value);
+        let e = start + len_in(value);
+        store::put(store, row_in(value), &bytes[start..e]);
+        i += 1;
+    }
 }
 
 // Length and status, and whether the body is read.
@@ -222,60 +348,6 @@ fn begin(awaited: Awaited, answer: &[u8]) -> Beginning
         return Beginning::Decided(ResponseVerdict::Accepted);
     }
     Beginning::Body(n - 2)
-}
-
-// The store after a reading: with the listed values where all was accepted, else as it was.
-fn store_pending(store: &mut [u8], body: &[u8], pending: &[u32; LIST], verdict: ResponseVerdict)
-    requires { ⌜ (length (now store) ≡ storeSize) × PendingList (now body) (now pending) ⌝ }
-    ensures { λ _. ⌜ now (store .exit) ≡ storeAfterVerdict (now (store .entry)) (withPending (now (body .entry)) (now (store .entry)) (now (pending .entry))) verdict ⌝ }
-{
-    if let ResponseVerdict::Accepted = verdict {
-        put_listed(store, body, pending);
-    }
-}
-
-// Puts the listed values into the store, one after the other.
-fn put_listed(store: &mut [u8], body: &[u8], pending: &[u32; LIST])
-    requires { ⌜ (length (now store) ≡ storeSize) × PendingList (now body) (now pending) ⌝ }
-    ensures { λ _. ⌜ now (store .exit) ≡ withPending (now (body .entry)) (now (store .entry)) (now (pending .entry)) ⌝ }
-{
-    let n = count_of(pending);
-    let mut i = 0;
-    while i < n {
-        i += 1;
-        let value = pending[i];
-        let row = row_in(value);
-        let start = place_in(value);
-        let e = start + size_in(value);
-        store::put(store, row, &body[start..e]);
-    }
-}
-
-// How many values are listed.
-fn count_of(pending: &[u32; LIST]) -> usize
-    requires { ⌜ (length (now pending) ≡ mostPending + 1) × (pendingCount (now pending) ≤ mostPending) ⌝ }
-    ensures { λ r. ⌜ r ≡ pendingCount (now (pending .entry)) ⌝ }
-{
-    pending[0] as usize
-}
-
-// The row of a listed value, its place in the body, and its length.
-fn row_in(value: u32) -> usize
-    ensures { λ r. ⌜ r ≡ value / 0x40000 ⌝ }
-{
-    (value / ROW) as usize
-}
-
-fn place_in(value: u32) -> usize
-    ensures { λ r. ⌜ (r ≡ value / 256 % 1024) × (r < 1024) ⌝ }
-{
-    (value / PLACE % (ROW / PLACE)) as usize
-}
-
-fn size_in(value: u32) -> usize
-    ensures { λ r. ⌜ (r ≡ value % 256) × (r < 256) ⌝ }
-{
-    (value % PLACE) as usize
 }
 
 // Whether the two bytes at the end are 90 00.
@@ -344,372 +416,165 @@ fn outer_of(body: &[u8]) -> OuterObject
     OuterObject::Primitive(h)
 }
 
-// The body's one object: its values are listed, a template's by its contents.
-fn read_object(
-    store: &[u8],
-    awaited: Awaited,
-    body: &[u8],
-    pending: &mut [u32; LIST],
-    filled: &mut [u8; ROWS],
-    tags: &[u32; ROWS],
-    codes: &[u32; ROWS],
-) -> Reading
-    requires { ⌜ PendingValues (now body) (now store) (now pending) (now filled) ⌝ }
-    requires { ⌜ pendingCount (now pending) ≡ 0 ⌝ }
-    requires { ⌜ TablesGiven (now tags) (now codes) ⌝ }
-    ensures given { λ r. ⌜ GivesFrom r (λ b. readBody awaited b (now (body .entry)))
-      (now (body .entry)) (now (store .entry)) (now (pending .entry)) (now (pending .exit)) ⌝ }
-    ensures kept { λ _. ⌜ PendingValues (now (body .entry)) (now (store .entry)) (now (pending .exit)) (now (filled .exit)) ⌝ }
-    ensures half { λ r. ⌜ 2 * r .objects ≤ length (now (body .entry)) ⌝ }
+// Length, status and the body's one object: a template, or the parts of a body under 80.
+fn open(awaited: Awaited, answer: &[u8], items: &mut [u64; ITEMS]) -> Opened
+    requires { ⌜ length (now items) ≡ mostItems ⌝ }
+    ensures opens { λ r. ⌜ Opens awaited (now (answer .entry)) r (now (items .exit)) ⌝ }
+    ensures room { λ _. ⌜ length (now (items .exit)) ≡ mostItems ⌝ }
 {
-    let outer = outer_of(body);
-    match outer {
-        OuterObject::Broken => reading_of(ResponseVerdict::Malformed, 0),
-        OuterObject::Primitive(h) => {
-            let start = h.start;
-            let e = start + h.len;
-            read_primitive(awaited, h.tag, &body[start..e], start, body, store, pending, filled, codes)
-        }
-        OuterObject::Template(h) => {
-            let start = h.start;
-            let e = start + h.len;
-            let bit = answer_bit(awaited);
-            let first = Tally {
-                objects: 1,
-                good: true,
-            };
-            let contents = read(&body[start..e], start, h.tag, 3, bit, first, body, store, pending, filled, tags, codes);
-            judge_contents(awaited, h.tag, contents)
-        }
-    }
-}
-
-// The reading of a template by what is reported of its contents.
-fn judge_contents(awaited: Awaited, tag: u32, contents: TemplateContents) -> Reading
-    ensures { λ r. ⌜ r ≡ contentsReading awaited tag contents ⌝ }
-{
-    let TemplateContents::Whole(t) = contents else {
-        return reading_of(ResponseVerdict::Malformed, 0);
-    };
-    let n = t.objects;
-    if tag != template_tag(awaited) {
-        return reading_of(ResponseVerdict::Malformed, n);
-    }
-    if !t.good {
-        return reading_of(ResponseVerdict::NotAllowed, n);
-    }
-    reading_of(ResponseVerdict::Accepted, n)
-}
-
-// An answer that is a primitive object: 80, with its parts concatenated. Its value starts at a place of the body.
-fn read_primitive(
-    awaited: Awaited,
-    tag: u32,
-    value: &[u8],
-    at: usize,
-    body: &[u8],
-    store: &[u8],
-    pending: &mut [u32; LIST],
-    filled: &mut [u8; ROWS],
-    codes: &[u32; ROWS],
-) -> Reading
-    requires { ⌜ PendingValues (now body) (now store) (now pending) (now filled) ⌝ }
-    requires { ⌜ StandsInBody (now body) at (now value) ⌝ }
-    requires { ⌜ pendingCount (now pending) ≡ 0 ⌝ }
-    requires { ⌜ now codes ≡ packedRows dictionaryRows ⌝ }
-    ensures given { λ r. ⌜ GivesFrom r (λ b. readTree awaited b (some (primitive tag (now (value .entry)))))
-      (now (body .entry)) (now (store .entry)) (now (pending .entry)) (now (pending .exit)) ⌝ }
-    ensures kept { λ _. ⌜ PendingValues (now (body .entry)) (now (store .entry)) (now (pending .exit)) (now (filled .exit)) ⌝ }
-    ensures one { λ r. ⌜ r .objects ≡ 1 ⌝ }
-{
-    if tag != 0x80 {
-        return reading_of(ResponseVerdict::Malformed, 1);
-    }
-    match awaited {
-        Awaited::Gpo => read_gpo(value, at, body, store, pending, filled, codes),
-        Awaited::Record(_) => reading_of(ResponseVerdict::Malformed, 1),
-        Awaited::Cryptogram => read_cryptogram(value, at, body, store, pending, filled, codes),
-        Awaited::Checksum => reading_of(ResponseVerdict::Malformed, 1),
-    }
-}
-
-// The parts of a body under 80: the AIP, then the AFL.
-fn read_gpo(
-    value: &[u8],
-    at: usize,
-    body: &[u8],
-    store: &[u8],
-    pending: &mut [u32; LIST],
-    filled: &mut [u8; ROWS],
-    codes: &[u32; ROWS],
-) -> Reading
-    requires { ⌜ PendingValues (now body) (now store) (now pending) (now filled) ⌝ }
-    requires { ⌜ StandsInBody (now body) at (now value) ⌝ }
-    requires { ⌜ pendingCount (now pending) ≡ 0 ⌝ }
-    requires { ⌜ now codes ≡ packedRows dictionaryRows ⌝ }
-    ensures given { λ r. ⌜ GivesFrom r (λ b. readGpo b (now (value .entry)))
-      (now (body .entry)) (now (store .entry)) (now (pending .entry)) (now (pending .exit)) ⌝ }
-    ensures kept { λ _. ⌜ PendingValues (now (body .entry)) (now (store .entry)) (now (pending .exit)) (now (filled .exit)) ⌝ }
-    ensures one { λ r. ⌜ r .objects ≡ 1 ⌝ }
-{
-    let n = value.len();
-    if n < LEAST_GPO_BODY {
-        return reading_of(ResponseVerdict::Malformed, 1);
-    }
-    if MOST_GPO_BODY < n {
-        return reading_of(ResponseVerdict::Malformed, 1);
-    }
-    if (n - 2) % 4 != 0 {
-        return reading_of(ResponseVerdict::Malformed, 1);
-    }
-    let bit = dictionary::GPO;
-    let aip = take_part(true, ROW_AIP, 0x82, bit, &value[..2], at, body, store, pending, filled, codes);
-    let afl = take_part(aip, ROW_AFL, 0x94, bit, &value[2..], at + 2, body, store, pending, filled, codes);
-    if !afl {
-        return reading_of(ResponseVerdict::NotAllowed, 1);
-    }
-    reading_of(ResponseVerdict::Accepted, 1)
-}
-
-// 9F27, 9F36 and 9F26, and 9F10 if any bytes are left.
-fn read_cryptogram(
-    value: &[u8],
-    at: usize,
-    body: &[u8],
-    store: &[u8],
-    pending: &mut [u32; LIST],
-    filled: &mut [u8; ROWS],
-    codes: &[u32; ROWS],
-) -> Reading
-    requires { ⌜ PendingValues (now body) (now store) (now pending) (now filled) ⌝ }
-    requires { ⌜ StandsInBody (now body) at (now value) ⌝ }
-    requires { ⌜ pendingCount (now pending) ≡ 0 ⌝ }
-    requires { ⌜ now codes ≡ packedRows dictionaryRows ⌝ }
-    ensures given { λ r. ⌜ GivesFrom r (λ b. readCryptogram b (now (value .entry)))
-      (now (body .entry)) (now (store .entry)) (now (pending .entry)) (now (pending .exit)) ⌝ }
-    ensures kept { λ _. ⌜ PendingValues (now (body .entry)) (now (store .entry)) (now (pending .exit)) (now (filled .exit)) ⌝ }
-    ensures one { λ r. ⌜ r .objects ≡ 1 ⌝ }
-{
-    let n = value.len();
-    if n < LEAST_AC_BODY {
-        return reading_of(ResponseVerdict::Malformed, 1);
-    }
-    if MOST_AC_BODY < n {
-        return reading_of(ResponseVerdict::Malformed, 1);
-    }
-    let bit = dictionary::CRYPTOGRAM;
-    let kind = take_part(true, ROW_CID, 0x9F27, bit, &value[..1], at, body, store, pending, filled, codes);
-    let counter = take_part(kind, ROW_ATC, 0x9F36, bit, &value[1..3], at + 1, body, store, pending, filled, codes);
-    let cryptogram = take_part(counter, ROW_AC, 0x9F26, bit, &value[3..11], at + 3, body, store, pending, filled, codes);
-    let issuer = take_rest(cryptogram, &value[11..], at + 11, body, store, pending, filled, codes);
-    if !issuer {
-        return reading_of(ResponseVerdict::NotAllowed, 1);
-    }
-    reading_of(ResponseVerdict::Accepted, 1)
-}
-
-// 9F10, if any bytes are left.
-fn take_rest(
-    good: bool,
-    rest: &[u8],
-    at: usize,
-    body: &[u8],
-    store: &[u8],
-    pending: &mut [u32; LIST],
-    filled: &mut [u8; ROWS],
-    codes: &[u32; ROWS],
-) -> bool
-    requires { ⌜ PendingValues (now body) (now store) (now pending) (now filled) ⌝ }
-    requires { ⌜ StandsInBody (now body) at (now rest) ⌝ }
-    requires { ⌜ pendingCount (now pending) < mostPending ⌝ }
-    requires { ⌜ now codes ≡ packedRows dictionaryRows ⌝ }
-    ensures taken { λ r. ⌜ TakesItems inGenerateAcResponse (iadPart (now (rest .entry))) good r
-      (now (body .entry)) (now (store .entry)) (now (pending .entry)) (now (pending .exit)) ⌝ }
-    ensures kept { λ _. ⌜ PendingValues (now (body .entry)) (now (store .entry)) (now (pending .exit)) (now (filled .exit)) ⌝ }
-{
-    if rest.len() == 0 {
-        return good;
-    }
-    take_part(good, ROW_IAD, 0x9F10, dictionary::CRYPTOGRAM, rest, at, body, store, pending, filled, codes)
-}
-
-// A run of objects directly inside the template `around`, from a place of the body on, with so many levels of templates
-// still allowed, after the objects of the tally. The values of the primitive ones are listed.
-fn read(
-    bytes: &[u8],
-    start: usize,
-    around: u32,
-    levels: usize,
-    answer: u8,
-    tally: Tally,
-    body: &[u8],
-    store: &[u8],
-    pending: &mut [u32; LIST],
-    filled: &mut [u8; ROWS],
-    tags: &[u32; ROWS],
-    codes: &[u32; ROWS],
-) -> TemplateContents
-    requires { ⌜ PendingValues (now body) (now store) (now pending) (now filled) ⌝ }
-    requires { ⌜ StandsInBody (now body) start (now bytes) ⌝ }
-    requires { ⌜ 2 * pendingCount (now pending) + length (now bytes) ≤ 256 ⌝ }
-    requires { ⌜ 2 * tally .objects + length (now bytes) < 2 ^ 64 ⌝ }
-    requires { ⌜ 0 < answer ⌝ }
-    requires { ⌜ TablesGiven (now tags) (now codes) ⌝ }
-    ensures left { λ r. ⌜ ReadsPending answer around tally (parseTree levels (now (bytes .entry))) r
-      (now (body .entry)) (now (store .entry)) (now (pending .entry)) (now (pending .exit)) ⌝ }
-    ensures half { λ r. ⌜ 2 * objectsVisited r ≤ 2 * tally .objects + length (now (bytes .entry)) ⌝ }
-    ensures kept { λ _. ⌜ PendingValues (now (body .entry)) (now (store .entry)) (now (pending .exit)) (now (filled .exit)) ⌝ }
-    ensures few { λ _. ⌜ 2 * pendingCount (now (pending .exit)) ≤ 2 * pendingCount (now (pending .entry)) + length (now (bytes .entry)) ⌝ }
-{
-    let mut s = bytes;
-    let mut at = start;
-    let mut n = tally.objects;
-    let mut good = tally.good;
-    loop {
-        let following = tlv::next(s);
-        match following {
-            Following::End => return TemplateContents::Whole(Tally { objects: n, good }),
-            Following::Malformed => return TemplateContents::Broken,
-            Following::Inner(h) => {
-                let from = h.start;
-                let e = from + h.len;
-                let value = &s[from..e];
-                let rest = &s[e..];
-                let place = at + from;
-                let behind = at + e;
-                let one = n + 1;
-                if h.template {
-                    if levels == 0 {
-                        return TemplateContents::Broken;
-                    }
-                    let so_far = Tally { objects: one, good };
-                    let inside = read(value, place, h.tag, levels - 1, answer, so_far, body, store, pending, filled, tags, codes);
-                    let TemplateContents::Whole(t) = inside else {
-                        return TemplateContents::Broken;
-                    };
-                    n = t.objects;
-                    good = t.good;
-                } else {
-                    good = take_next(good, h.tag, around, answer, value, place, body, store, pending, filled, tags, codes);
-                    n = one;
-                }
-                s = rest;
-                at = behind;
+    let beginning = begin(awaited, answer);
+    match beginning {
+        Beginning::Decided(verdict) => Opened::Listed(decided(verdict, 0)),
+        Beginning::Body(n) => {
+            let outer = outer_of(&answer[..n]);
+            match outer {
+                OuterObject::Broken => Opened::Listed(decided(ResponseVerdict::Malformed, 0)),
+                OuterObject::Template(h) => Opened::Template(h),
+                OuterObject::Primitive(h) => Opened::Listed(list_parts(awaited, h, items)),
             }
         }
     }
 }
 
-// The next object, unless one before it was not allowed: whether all are allowed so far.
-fn take_next(
-    good: bool,
-    tag: u32,
-    around: u32,
-    answer: u8,
-    v: &[u8],
-    at: usize,
-    body: &[u8],
-    store: &[u8],
-    pending: &mut [u32; LIST],
-    filled: &mut [u8; ROWS],
-    tags: &[u32; ROWS],
-    codes: &[u32; ROWS],
-) -> bool
-    requires { ⌜ PendingValues (now body) (now store) (now pending) (now filled) ⌝ }
-    requires { ⌜ StandsInBody (now body) at (now v) ⌝ }
-    requires { ⌜ pendingCount (now pending) < mostPending ⌝ }
+// An answer that is decided without its objects.
+fn decided(verdict: ResponseVerdict, objects: usize) -> Listing
+    ensures { λ r. ⌜ r ≡ Listing.Decided (readingOf verdict objects) ⌝ }
+{
+    Listing::Decided(Reading { verdict, objects })
+}
+
+// The objects of a template by what the walk over its contents reports.
+fn close(awaited: Awaited, tag: u32, walked: Walked) -> Listing
+    ensures { λ r. ⌜ r ≡ closedListing awaited tag walked ⌝ }
+{
+    let Walked::Whole(t) = walked else {
+        return decided(ResponseVerdict::Malformed, 0);
+    };
+    if tag != template_tag(awaited) {
+        return decided(ResponseVerdict::Malformed, t.objects);
+    }
+    Listing::Objects(t)
+}
+
+// The parts of a primitive body, which must be under 80.
+fn list_parts(awaited: Awaited, h: TlvHeader, items: &mut [u64; ITEMS]) -> Listing
+    requires { ⌜ (length (now items) ≡ mostItems) × (2 ≤ h .start) × (h .start + h .len ≤ 256) ⌝ }
+    ensures lists { λ r. ⌜ ListsParts awaited (primitiveParts awaited (h .tag)) (h .start) (h .len) r (now (items .exit)) ⌝ }
+    ensures room { λ _. ⌜ length (now (items .exit)) ≡ mostItems ⌝ }
+{
+    if h.tag != 0x80 {
+        return decided(ResponseVerdict::Malformed, 1);
+    }
+    match awaited {
+        Awaited::Gpo => list_gpo(h.start, h.len, items),
+        Awaited::Record(_) => decided(ResponseVerdict::Malformed, 1),
+        Awaited::Cryptogram => list_cryptogram(h.start, h.len, items),
+        Awaited::Checksum => decided(ResponseVerdict::Malformed, 1),
+    }
+}
+
+// The parts of a GPO body under 80: the AIP, then the AFL.
+fn list_gpo(start: usize, n: usize, items: &mut [u64; ITEMS]) -> Listing
+    requires { ⌜ (length (now items) ≡ mostItems) × (2 ≤ start) × (start + n ≤ 256) ⌝ }
+    ensures lists { λ r. ⌜ ListsParts Awaited.Gpo gpoParts start n r (now (items .exit)) ⌝ }
+    ensures room { λ _. ⌜ length (now (items .exit)) ≡ mostItems ⌝ }
+{
+    if n < LEAST_GPO_BODY {
+        return decided(ResponseVerdict::Malformed, 1);
+    }
+    if MOST_GPO_BODY < n {
+        return decided(ResponseVerdict::Malformed, 1);
+    }
+    if (n - 2) % 4 != 0 {
+        return decided(ResponseVerdict::Malformed, 1);
+    }
+    items[0] = packed_item(0x82, 0x77, start, 2);
+    items[1] = packed_item(0x94, 0x77, start + 2, n - 2);
+    Listing::Objects(Tally { objects: 1, items: 2 })
+}
+
+// 9F27, 9F36 and 9F26, and 9F10 if any bytes are left.
+fn list_cryptogram(start: usize, n: usize, items: &mut [u64; ITEMS]) -> Listing
+    requires { ⌜ (length (now items) ≡ mostItems) × (2 ≤ start) × (start + n ≤ 256) ⌝ }
+    ensures lists { λ r. ⌜ ListsParts Awaited.Cryptogram cryptogramParts start n r (now (items .exit)) ⌝ }
+    ensures room { λ _. ⌜ length (now (items .exit)) ≡ mostItems ⌝ }
+{
+    if n < LEAST_AC_BODY {
+        return decided(ResponseVerdict::Malformed, 1);
+    }
+    if MOST_AC_BODY < n {
+        return decided(ResponseVerdict::Malformed, 1);
+    }
+    items[0] = packed_item(0x9F27, 0x77, start, 1);
+    items[1] = packed_item(0x9F36, 0x77, start + 1, 2);
+    items[2] = packed_item(0x9F26, 0x77, start + 3, 8);
+    if n == LEAST_AC_BODY {
+        return Listing::Objects(Tally { objects: 1, items: 3 });
+    }
+    items[3] = packed_item(0x9F10, 0x77, start + 11, n - 11);
+    Listing::Objects(Tally { objects: 1, items: 4 })
+}
+
+// The listed objects one after the other: the pending values take their place, from the front; or one is not allowed.
+fn judge_items(items: &mut [u64; ITEMS], n: usize, answer: u8, bytes: &[u8], store: &[u8]) -> ItemsVerdict
+    requires { ⌜ (length (now store) ≡ storeSize) × ItemList (now bytes) n (now items) ⌝ }
+    requires { ⌜ 0 < answer ⌝ }
+    ensures judges { λ r. ⌜ JudgesItems answer (now (bytes .entry)) (now (store .entry))
+      (itemsIn (now (bytes .entry)) n (now (items .entry))) r (now (items .exit)) ⌝ }
+    ensures room { λ _. ⌜ length (now (items .exit)) ≡ mostItems ⌝ }
+{
+    let mut filled = [0u8; ROWS];
+    let tags = dictionary::tags();
+    let codes = dictionary::codes();
+    let mut pending = 0;
+    let mut i = 0;
+    while i < n {
+        let item = items[i];
+        i += 1;
+        let verdict = judge_item(item, answer, bytes, &tags, &codes);
+        match verdict {
+            ItemVerdict::Skipped => {}
+            ItemVerdict::NotAllowed => return ItemsVerdict::NotAllowed,
+            ItemVerdict::ForRow(row) => {
+                if !is_free(row, store, &filled) {
+                    return ItemsVerdict::NotAllowed;
+                }
+                add_pending(row, item, pending, items, &mut filled);
+                pending += 1;
+            }
+        }
+    }
+    ItemsVerdict::Pending(pending)
+}
+
+// One object, before the store is asked.
+fn judge_item(item: u64, answer: u8, bytes: &[u8], tags: &[u32; ROWS], codes: &[u32; ROWS]) -> ItemVerdict
+    requires { ⌜ ValueInside (now bytes) item ⌝ }
     requires { ⌜ 0 < answer ⌝ }
     requires { ⌜ TablesGiven (now tags) (now codes) ⌝ }
-    ensures taken { λ r. ⌜ TakesItem answer (primitiveItem around tag (now (v .entry))) good r
-      (now (body .entry)) (now (store .entry)) (now (pending .entry)) (now (pending .exit)) ⌝ }
-    ensures kept { λ _. ⌜ PendingValues (now (body .entry)) (now (store .entry)) (now (pending .exit)) (now (filled .exit)) ⌝ }
-    ensures one { λ _. ⌜ pendingCount (now (pending .exit)) ≤ pendingCount (now (pending .entry)) + 1 ⌝ }
+    ensures { λ r. ⌜ r ≡ judgeItem answer (itemOf (now (bytes .entry)) item) ⌝ }
 {
-    if !good {
-        return false;
-    }
+    let tag = tag_in(item);
     let found = dictionary::find_row(tags, tag).found;
     let RowFound::At(row) = found else {
-        return true;
+        return ItemVerdict::Skipped;
     };
-    take_row(codes, row, tag, around, answer, v, at, body, store, pending, filled)
-}
-
-// A part of a body under 80, whose tag's row is known, unless one before it was not allowed.
-fn take_part(
-    good: bool,
-    row: usize,
-    tag: u32,
-    answer: u8,
-    v: &[u8],
-    at: usize,
-    body: &[u8],
-    store: &[u8],
-    pending: &mut [u32; LIST],
-    filled: &mut [u8; ROWS],
-    codes: &[u32; ROWS],
-) -> bool
-    requires { ⌜ PendingValues (now body) (now store) (now pending) (now filled) ⌝ }
-    requires { ⌜ StandsInBody (now body) at (now v) ⌝ }
-    requires { ⌜ pendingCount (now pending) < mostPending ⌝ }
-    requires { ⌜ 0 < answer ⌝ }
-    requires { ⌜ findRow dictionaryRows tag ≡ RowFound.At row ⌝ }
-    requires { ⌜ now codes ≡ packedRows dictionaryRows ⌝ }
-    ensures taken { λ r. ⌜ TakesItem answer (primitiveItem 0x77 tag (now (v .entry))) good r
-      (now (body .entry)) (now (store .entry)) (now (pending .entry)) (now (pending .exit)) ⌝ }
-    ensures kept { λ _. ⌜ PendingValues (now (body .entry)) (now (store .entry)) (now (pending .exit)) (now (filled .exit)) ⌝ }
-    ensures one { λ _. ⌜ pendingCount (now (pending .exit)) ≤ pendingCount (now (pending .entry)) + 1 ⌝ }
-{
-    if !good {
-        return false;
-    }
-    take_row(codes, row, tag, 0x77, answer, v, at, body, store, pending, filled)
-}
-
-// One primitive object of a known tag: skipped, listed, or not allowed.
-fn take_row(
-    codes: &[u32; ROWS],
-    row: usize,
-    tag: u32,
-    around: u32,
-    answer: u8,
-    v: &[u8],
-    at: usize,
-    body: &[u8],
-    store: &[u8],
-    pending: &mut [u32; LIST],
-    filled: &mut [u8; ROWS],
-) -> bool
-    requires { ⌜ PendingValues (now body) (now store) (now pending) (now filled) ⌝ }
-    requires { ⌜ StandsInBody (now body) at (now v) ⌝ }
-    requires { ⌜ pendingCount (now pending) < mostPending ⌝ }
-    requires { ⌜ 0 < answer ⌝ }
-    requires { ⌜ findRow dictionaryRows tag ≡ RowFound.At row ⌝ }
-    requires { ⌜ now codes ≡ packedRows dictionaryRows ⌝ }
-    ensures taken { λ r. ⌜ TakesItem answer (primitiveItem around tag (now (v .entry))) true r
-      (now (body .entry)) (now (store .entry)) (now (pending .entry)) (now (pending .exit)) ⌝ }
-    ensures kept { λ _. ⌜ PendingValues (now (body .entry)) (now (store .entry)) (now (pending .exit)) (now (filled .exit)) ⌝ }
-    ensures one { λ _. ⌜ pendingCount (now (pending .exit)) ≤ pendingCount (now (pending .entry)) + 1 ⌝ }
-{
     let attributes = dictionary::unpacked(codes[row]);
     if is_skipped(tag, attributes) {
-        return true;
+        return ItemVerdict::Skipped;
     }
-    if !may_come(attributes, around, answer, v) {
-        return false;
+    let start = start_in(item);
+    let e = start + len_in(item);
+    if !may_come(attributes, around_in(item), answer, &bytes[start..e]) {
+        return ItemVerdict::NotAllowed;
     }
-    if !is_free(row, body, store, pending, filled) {
-        return false;
-    }
-    add_pending(row, v, at, body, store, pending, filled);
-    true
+    ItemVerdict::ForRow(row)
 }
 
-// Whether no bytes are in a row's place of the store and none are listed for it.
-fn is_free(row: usize, body: &[u8], store: &[u8], pending: &[u32; LIST], filled: &[u8; ROWS]) -> bool
-    requires { ⌜ PendingValues (now body) (now store) (now pending) (now filled) ⌝ }
-    requires { ⌜ row < rowCount ⌝ }
-    ensures { λ r. ⌜ r ≡ isFree dictionaryRows (withPending (now (body .entry)) (now (store .entry)) (now (pending .entry))) row ⌝ }
+// Whether no bytes are in a row's place of the store and none are pending for it.
+fn is_free(row: usize, store: &[u8], filled: &[u8; ROWS]) -> bool
+    requires { ⌜ (row < rowCount) × (length (now store) ≡ storeSize) × (length (now filled) ≡ rowCount) ⌝ }
+    ensures { λ r. ⌜ r ≡ both (isFree dictionaryRows (now (store .entry)) row) (eqb (getD (now (filled .entry)) row 0) 0) ⌝ }
 {
     if filled[row] != 0 {
         return false;
@@ -717,32 +582,64 @@ fn is_free(row: usize, body: &[u8], store: &[u8], pending: &[u32; LIST], filled:
     store::length_byte(store, row) <= 1
 }
 
-// Lists a value of the body for a row that is free.
-fn add_pending(
-    row: usize,
-    v: &[u8],
-    at: usize,
-    body: &[u8],
-    store: &[u8],
-    pending: &mut [u32; LIST],
-    filled: &mut [u8; ROWS],
-)
-    requires { ⌜ PendingValues (now body) (now store) (now pending) (now filled) ⌝ }
-    requires { ⌜ StandsInBody (now body) at (now v) ⌝ }
-    requires { ⌜ pendingCount (now pending) < mostPending ⌝ }
-    requires { ⌜ (row < rowCount) × (length (now v) ≤ rowAt row .greatest) ⌝ }
-    requires { ⌜ isFree dictionaryRows (withPending (now body) (now store) (now pending)) row ≡ true ⌝ }
-    ensures put { λ _. ⌜ PutsPending row (now (v .entry))
-      (now (body .entry)) (now (store .entry)) (now (pending .entry)) (now (pending .exit)) ⌝ }
-    ensures kept { λ _. ⌜ PendingValues (now (body .entry)) (now (store .entry)) (now (pending .exit)) (now (filled .exit)) ⌝ }
-    ensures one { λ _. ⌜ pendingCount (now (pending .exit)) ≤ pendingCount (now (pending .entry)) + 1 ⌝ }
+// An object's value is pending for a row, behind so many others; the row is marked where the value has bytes.
+fn add_pending(row: usize, item: u64, pending: usize, items: &mut [u64; ITEMS], filled: &mut [u8; ROWS])
+    requires { ⌜ (row < rowCount) × (pending < mostItems) ⌝ }
+    requires { ⌜ (length (now items) ≡ mostItems) × (length (now filled) ≡ rowCount) ⌝ }
+    ensures put { λ _. ⌜ now (items .exit) ≡ set (now (items .entry)) pending (packedPending row item) ⌝ }
+    ensures marked { λ _. ⌜ now (filled .exit) ≡ markRow (now (filled .entry)) row (valueLength item) ⌝ }
 {
-    let next = count_of(pending) + 1;
-    pending[next] = row as u32 * ROW + at as u32 * PLACE + v.len() as u32;
-    pending[0] = next as u32;
-    if v.len() != 0 {
+    items[pending] = pending_of(row, item);
+    if len_in(item) != 0 {
         filled[row] = 1;
     }
+}
+
+// An object in one number.
+fn packed_item(tag: u32, around: u32, start: usize, len: usize) -> u64
+    requires { ⌜ (tag < 0x1000000) × (around < 0x1000000) × (1 ≤ start) × (start ≤ 256) × (len < 256) ⌝ }
+    ensures { λ r. ⌜ r ≡ packedItem tag around start len ⌝ }
+{
+    tag as u64 * TAG + around as u64 * AROUND + (start as u64 - 1) * PLACE + len as u64
+}
+
+// An object's value in one number, by its row.
+fn pending_of(row: usize, item: u64) -> u64
+    requires { ⌜ row < rowCount ⌝ }
+    ensures { λ r. ⌜ r ≡ packedPending row item ⌝ }
+{
+    row as u64 * ROW + item % ROW
+}
+
+// The parts of an object's number, and of a pending value's.
+fn tag_in(item: u64) -> u32
+    ensures { λ r. ⌜ r ≡ itemTag item ⌝ }
+{
+    (item / TAG) as u32
+}
+
+fn around_in(item: u64) -> u32
+    ensures { λ r. ⌜ r ≡ itemAround item ⌝ }
+{
+    (item / AROUND % (TAG / AROUND)) as u32
+}
+
+fn start_in(item: u64) -> usize
+    ensures { λ r. ⌜ (r ≡ valueStart item) × (r ≤ 256) ⌝ }
+{
+    (item / PLACE % PLACE) as usize + 1
+}
+
+fn len_in(item: u64) -> usize
+    ensures { λ r. ⌜ (r ≡ valueLength item) × (r < 256) ⌝ }
+{
+    (item % PLACE) as usize
+}
+
+fn row_in(value: u64) -> usize
+    ensures { λ r. ⌜ r ≡ pendingRow value ⌝ }
+{
+    (value / ROW) as usize
 }
 
 // Whether a known object is skipped: of the private class, and not the card's to set.

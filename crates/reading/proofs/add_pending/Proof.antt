@@ -1,23 +1,25 @@
--- `reading::add_pending` meets its contract. One law for a value of no bytes and one for the others.
+-- `reading::add_pending` meets its contract. The row is marked where the value has bytes.
 -- Assumes nothing.
 use borrow.Author.Needs.{needs}
-use Rattle.reading.proofs.Listing.{some-bytes, no-bytes}
+use mathlib.Core.Path.{_≡_, sym, ap, _∙_}
+use mathlib.Core.List.{List}
+use Prim.Native.Nat.{ℕ}
+use native.Mathlib.Omega.{arith}
+use lib.ListN.{set}
+use borrow.Author.Tests.{eq-eqb, ne-eqb}
+use Rattle.basics.proofs.Laws.{if-yes, if-no}
 use Rattle.reading.proofs.add_pending.Statement.{statement}
 use Rattle.reading.proofs.add_pending.Tie as tie
 
 returns : tie.Need-returns
 returns c =
-    let st = c .before .before .before .before .before .before in
-    let p = st .pre in
-    rw (c .before .count-of .ensures)
-    (some-bytes _ _ _ _ (p .0) (st .args .row) (st .args .at) _ (p .1 .0) (p .1 .1 .0) (p .1 .1 .1 .0 .0) (p .1 .1 .1 .0 .1) (p .1 .1 .1 .1) (c .if1 .taken))
+    let a = c .before .before .before .args in
+    (ap (set (a .items .now) (a .pending)) (c .before .before .pending-of .ensures), sym (if-no _ _ (ne-eqb _ _ (λ z. c .if1 .taken (c .before .len-in .ensures .0 ∙ z)))))
 
 returns-2 : tie.Need-returns-2
 returns-2 c =
-    let st = c .before .before .before .before .before .before in
-    let p = st .pre in
-    rw (c .before .count-of .ensures)
-    (no-bytes _ _ _ _ (p .0) (st .args .row) (st .args .at) _ (p .1 .0) (p .1 .1 .0) (p .1 .1 .1 .0 .0) (p .1 .1 .1 .0 .1) (p .1 .1 .1 .1) (c .if1 .left))
+    let a = c .before .before .before .args in
+    (ap (set (a .items .now) (a .pending)) (c .before .before .pending-of .ensures), sym (if-yes _ _ (eq-eqb _ _ (sym (c .before .len-in .ensures .0) ∙ c .if1 .left))))
 
 pub add-pending-spec : {M : Type 1} → statement M
 add-pending-spec =
@@ -26,16 +28,7 @@ add-pending-spec =
     (λ c κs. search needs)
     (λ c. search needs)
     (λ c. search needs)
-    (λ c. search needs)
-    (λ c. search needs)
-    (λ c. search needs)
-    (λ c. search needs)
-    (λ c. search needs)
-    (λ c. search needs)
-    (λ c. search needs)
-    (λ c. search needs)
-    (λ c. search needs)
-    (λ c. search needs)
+    (λ c κs. search needs)
     (λ c. search needs)
     returns
     returns-2)

@@ -1,0 +1,368 @@
+-- Pending values, on lists and numbers: what is said of an object is what the rules say of it, what one value more does
+-- to the store with them in it, which rows have no bytes then, and the judgement one object on (`Judging`).
+-- Assumes nothing.
+use mathlib.Core.Path.{_≡_, refl, sym, ap, ap₂, subst, _∙_}
+use mathlib.Core.Bool.{Bool, true, false, not}
+use mathlib.Core.Logic.{_⊎_, inl, inr}
+use mathlib.Core.List.{List, [], _∷_, _++_}
+use Prim.Native.Nat.{ℕ, zero, suc, _+_, _-_, _*_, _/_, _%_, _≤_, _<_}
+use native.Mathlib.Numerals.{add-one}
+use native.Mathlib.Omega.{arith}
+use lib.Dec.{eqb, leb}
+use lib.ListN.{length, getD, set, take, drop, replicate, length-take, length-drop, length-set, getD-replicate}
+use lib.Seq.{take-suc, take-suc-set, drop-cons, getD-set-same, getD-set-other, getD-take, length-take-le}
+use borrow.Author.Tests.{eq-eqb, ne-eqb, eqb-true, le-leb, lt-leb}
+use Rattle.basics.specs.Choice.{if, both}
+use Rattle.basics.proofs.Laws.{if-yes, if-no, if-ind, bool-cases, both-left, both-right, both-yes, both-true, both-no-left, both-no-right}
+use Rattle.basics.proofs.Order.{equal-or-not, le-or-gt}
+use Rattle.tlv.specs.Tag.{isPrivate}
+use Rattle.dictionary.specs.declared.Attributes.{Attributes}
+use Rattle.dictionary.specs.declared.RowFound.{RowFound}
+use Rattle.dictionary.specs.declared.RowFound.the-variants.{At, Unknown}
+use Rattle.dictionary.specs.Rows.{dictionaryRows, rowAt, rowCount, findRow, storeSize}
+use Rattle.dictionary.specs.Packing.{attributesOf, rowWithAttributes}
+use Rattle.dictionary.proofs.Fit.{fits-length}
+use Rattle.dictionary.proofs.Lent.{row-found}
+use Rattle.store.specs.Place.{StoredValue, bytesOfValue, rowOffset, lengthByte, isFree, putRow}
+use Rattle.store.proofs.Laws.{Fits, put-length, put-get, put-other, length-byte-at}
+use Rattle.store.proofs.Rows.{row-inside, fits-row, free-yes, free-no}
+use Rattle.reading.specs.declared.ItemVerdict.{ItemVerdict}
+use Rattle.reading.specs.declared.ItemVerdict.the-variants.{Skipped, NotAllowed, ForRow}
+use Rattle.reading.specs.Taking.{PrimitiveItem, cardMaySet, allowedInResponse, allowedNow, TakeState, takeState, takeKnown, takeFound, takeItem, takeNext, takeAll}
+use Rattle.reading.specs.Items.{itemTag, itemAround, itemOf, valueIn, valueStart, valueLength, ValueInside, mostItems, itemsOf, ItemList, itemsIn}
+use Rattle.reading.specs.Pending.{judgeKnown, judgeFound, judgeItem, takeJudged, packedPending, pendingRow, withPending, markRow, PendingFits, AllPendingFit, PendingList, PendingValues}
+use Rattle.reading.proofs.Laws.{row-skipped, row-comes, may-come-fits, next-good, next-bad, took, took-all}
+use Rattle.reading.proofs.Items.{inside-at}
+
+-- ---- one object
+
+judged-known : (answer : ℕ) (b : List ℕ) (i : PrimitiveItem) (k : ℕ) → takeKnown answer b i k ≡ takeJudged b i (judgeKnown answer i k)
+unfolding judgeKnown allowedNow if both
+judged-known answer b i k = by-tests (both (isPrivate (i .tag)) (not (cardMaySet (rowAt k)))) (allowedInResponse answer (rowAt k) (i .around) (i .value))
+  where
+    by-tests : (p a : Bool)
+        → if p (takeState true b) (if (both a (isFree dictionaryRows b k)) (takeState true (putRow dictionaryRows b k (i .value))) (takeState false b))
+        ≡ takeJudged b i (if p Skipped (if a (ForRow k) NotAllowed))
+    by-tests true a = refl
+    by-tests false true = refl
+    by-tests false false = refl
+
+pub item-judged : (answer : ℕ) (b : List ℕ) (i : PrimitiveItem) → takeItem answer b i ≡ takeJudged b i (judgeItem answer i)
+unfolding takeItem
+item-judged answer b i = go (findRow dictionaryRows (i .tag))
+  where
+    go : (x : RowFound) → takeFound answer b i x ≡ takeJudged b i (judgeFound answer i x)
+    go Unknown = refl
+    go (At k) = judged-known answer b i k
+
+-- a value that is for a row fits it
+abbrev ForFits : PrimitiveItem → ItemVerdict → Type 0
+ForFits i Skipped = Unit {0}
+ForFits i NotAllowed = Unit {0}
+ForFits i (ForRow k) = (k < rowCount) × (length (i .value) ≤ rowAt k .greatest)
+
+pub row-fits : (answer : ℕ) (i : PrimitiveItem) {k : ℕ} → judgeItem answer i ≡ ForRow k → (k < rowCount) × (length (i .value) ≤ rowAt k .greatest)
+unfolding judgeKnown
+row-fits answer i e = subst (ForFits i) e (go (findRow dictionaryRows (i .tag)) refl)
+  where
+    go : (x : RowFound) → findRow dictionaryRows (i .tag) ≡ x → ForFits i (judgeFound answer i x)
+    go Unknown q = tt
+    go (At k) q =
+        if-ind (ForFits i) _ _ _ (λ _. tt)
+        (λ _. if-ind (ForFits i) _ _ _ (λ a. (row-found (i .tag) q, fits-length (rowAt k) (i .value) (may-come-fits answer (rowAt k) (i .around) (i .value) a) .1)) (λ _. tt))
+
+-- ---- an object's number, as the code judges it: its tag, its row's attributes, the template around it and its value
+
+module _ (answer : ℕ) (s : List ℕ) (n : ℕ) {tag : ℕ} (t : tag ≡ itemTag n) {x : RowFound} (p : x ≡ findRow dictionaryRows tag) where
+  abbrev object : PrimitiveItem
+  object = itemOf s n
+
+  by-row : judgeItem answer object ≡ judgeFound answer object x
+  by-row = ap (judgeFound answer object) (sym (p ∙ ap (findRow dictionaryRows) t))
+
+  pub said-unknown : x ≡ Unknown → Skipped ≡ judgeItem answer object
+  said-unknown q = sym (by-row ∙ ap (judgeFound answer object) q)
+
+  module _ (k : ℕ) (q : x ≡ At k) {a : Attributes} (u : a ≡ attributesOf (rowAt k)) {z : Bool}
+      (e : z ≡ both (isPrivate tag) (not (cardMaySet (rowWithAttributes a)))) where
+    known : judgeItem answer object ≡ judgeKnown answer object k
+    known = by-row ∙ ap (judgeFound answer object) q
+
+    skips : z ≡ both (isPrivate (itemTag n)) (not (cardMaySet (rowAt k)))
+    skips = row-skipped tag (rowAt k) e u ∙ ap (λ (m : ℕ). both (isPrivate m) (not (cardMaySet (rowAt k)))) t
+
+    pub said-skipped : z ≡ true → Skipped ≡ judgeItem answer object
+    unfolding judgeKnown
+    said-skipped y = sym (known ∙ if-yes _ _ (sym skips ∙ y))
+
+    module _ (left : z ≡ false) {around : ℕ} (d : around ≡ itemAround n) {v : List ℕ} (w : v ≡ valueIn s n) {c : Bool}
+        (m : c ≡ allowedInResponse answer (rowWithAttributes a) around v) where
+      allows : c ≡ allowedInResponse answer (rowAt k) (itemAround n) (valueIn s n)
+      allows = row-comes answer (rowAt k) around v m u ∙ ap₂ (allowedInResponse answer (rowAt k)) d w
+
+      pub said-barred : c ≡ false → NotAllowed ≡ judgeItem answer object
+      unfolding judgeKnown
+      said-barred y = sym (known ∙ if-no _ _ (sym skips ∙ left) ∙ if-no _ _ (sym allows ∙ y))
+
+      pub said-row : c ≡ true → ForRow k ≡ judgeItem answer object
+      unfolding judgeKnown
+      said-row y = sym (known ∙ if-no _ _ (sym skips ∙ left) ∙ if-yes _ _ (sym allows ∙ y))
+
+-- ---- a pending value
+
+-- its number taken apart: its own row, and the object's place and length
+pub unpacked-pending : (k x : ℕ) → let y = packedPending k x in (pendingRow y ≡ k) × ((valueStart y ≡ valueStart x) × (valueLength y ≡ valueLength x))
+unpacked-pending k x = (omega arith, (omega arith, omega arith))
+
+pub laid-more : (s b xs : List ℕ) (x : ℕ) → withPending s b (xs ++ (x ∷ [])) ≡ putRow dictionaryRows (withPending s b xs) (pendingRow x) (valueIn s x)
+unfolding withPending
+laid-more s b [] x = refl
+laid-more s b (y ∷ xs) x = laid-more s (putRow dictionaryRows b (pendingRow y) (valueIn s y)) xs x
+
+fitting-more : (s xs : List ℕ) (x : ℕ) → AllPendingFit s xs → PendingFits s x → AllPendingFit s (xs ++ (x ∷ []))
+fitting-more s [] x h f = (f, tt)
+fitting-more s (y ∷ xs) x h f = (h .0, fitting-more s xs x (h .1) f)
+
+-- a value's bytes are as many as its length
+value-length : (s : List ℕ) (x : ℕ) → ValueInside s x → length (valueIn s x) ≡ valueLength x
+value-length s x h = length-take-le (valueLength x) (drop (valueStart x) s) (simp length-drop (omega arith))
+
+put-fits : (s b : List ℕ) (x : ℕ) → length b ≡ storeSize → PendingFits s x → Fits dictionaryRows b (pendingRow x) (valueIn s x)
+put-fits s b x l f = fits-row b (pendingRow x) (valueIn s x) l (f .row) (rw (value-length s x (f .inside)) (f .most))
+
+-- the store keeps its size
+pub pending-sized : (s b xs : List ℕ) → length b ≡ storeSize → AllPendingFit s xs → length (withPending s b xs) ≡ storeSize
+unfolding withPending
+pending-sized s b [] l h = l
+pending-sized s b (x ∷ xs) l h =
+    pending-sized s (putRow dictionaryRows b (pendingRow x) (valueIn s x)) xs (put-length dictionaryRows b (pendingRow x) (valueIn s x) (put-fits s b x l (h .0)) ∙ l) (h .1)
+
+-- ---- a value more, for a row k that is free: the object x
+
+module _ (s b xs f : List ℕ) (h : PendingValues s b xs f) (k x : ℕ) (row : k < rowCount) (inside : ValueInside s x)
+    (most : valueLength x ≤ rowAt k .greatest) (free : isFree dictionaryRows (withPending s b xs) k ≡ true) where
+  abbrev number : ℕ
+  number = packedPending k x
+
+  parts : (pendingRow number ≡ k) × ((valueStart number ≡ valueStart x) × (valueLength number ≡ valueLength x))
+  parts = unpacked-pending k x
+
+  number-fits : PendingFits s number
+  number-fits = record {
+    row = rw (parts .0) row;
+    most = rw (parts .0, parts .1 .1) most;
+    inside = rw (parts .1 .0, parts .1 .1) inside;
+  }
+
+  pub more-put : withPending s b (xs ++ (number ∷ [])) ≡ putRow dictionaryRows (withPending s b xs) k (valueIn s x)
+  more-put = laid-more s b xs number ∙ ap₂ (putRow dictionaryRows (withPending s b xs)) (parts .0) (rw (parts .1 .0, parts .1 .1))
+
+  fits-here : Fits dictionaryRows (withPending s b xs) k (valueIn s x)
+  fits-here = fits-row (withPending s b xs) k (valueIn s x) (pending-sized s b xs (h .sized) (h .fitting)) row (rw (value-length s x inside) most)
+
+  -- what is free before: the store's place, and no mark
+  was-free : (isFree dictionaryRows b k ≡ true) × (getD f k 0 ≡ 0)
+  was-free = let e = sym (h .free k row) ∙ free in (both-left _ _ e, eqb-true _ 0 (both-right _ _ e))
+
+  -- with these marks
+  module _ (f′ : List ℕ) (marks : length f′ ≡ rowCount) (mark : eqb (getD f′ k 0) 0 ≡ eqb (valueLength x) 0)
+      (others : (j : ℕ) → (j ≡ k → ⊥) → getD f′ j 0 ≡ getD f j 0) where
+    free-put : (j : ℕ) → j < rowCount → (j ≡ k) ⊎ (j ≡ k → ⊥)
+        → isFree dictionaryRows (putRow dictionaryRows (withPending s b xs) k (valueIn s x)) j ≡ both (isFree dictionaryRows b j) (eqb (getD f′ j 0) 0)
+    free-put j i (inl e) =
+        subst (λ (y : ℕ). isFree dictionaryRows (putRow dictionaryRows (withPending s b xs) k (valueIn s x)) y ≡ both (isFree dictionaryRows b y) (eqb (getD f′ y 0) 0)) (sym e)
+        (ap (λ (y : StoredValue). eqb (length (bytesOfValue y)) 0) (put-get dictionaryRows (withPending s b xs) k (valueIn s x) fits-here)
+        ∙ ap (λ (n : ℕ). eqb n 0) (value-length s x inside) ∙ sym mark ∙ sym (both-true _ (was-free .0)))
+    free-put j i (inr n) =
+        ap (λ (y : StoredValue). eqb (length (bytesOfValue y)) 0) (put-other dictionaryRows (withPending s b xs) k (valueIn s x) fits-here j n) ∙ h .free j i
+        ∙ ap (λ (y : ℕ). both (isFree dictionaryRows b j) (eqb y 0)) (sym (others j n))
+
+    values-put : PendingValues s b (xs ++ (number ∷ [])) f′
+    values-put = record {
+      fitting = fitting-more s xs number (h .fitting) number-fits;
+      sized = h .sized;
+      marks = marks;
+      free = λ j i. ap (λ (y : List ℕ). isFree dictionaryRows y j) more-put ∙ free-put j i (equal-or-not j k);
+    }
+
+  pub values-more : PendingValues s b (xs ++ (number ∷ [])) (markRow f k (valueLength x))
+  values-more = elim (equal-or-not (valueLength x) 0) [
+    | inl z ↦
+        subst (PendingValues s b (xs ++ (number ∷ []))) (sym (if-yes _ _ (eq-eqb _ _ z)))
+        (values-put f (h .marks) (ap (λ (y : ℕ). eqb y 0) (was-free .1) ∙ sym (eq-eqb _ _ z)) (λ j i. refl))
+    | inr z ↦
+        subst (PendingValues s b (xs ++ (number ∷ []))) (sym (if-no _ _ (ne-eqb _ _ z)))
+        (values-put (set f k 1) (length-set f k 1 ∙ h .marks)
+        (ap (λ (y : ℕ). eqb y 0) (getD-set-same f k 1 0 (omega (arith, h .marks))) ∙ sym (ne-eqb _ _ z))
+        (λ j i. getD-set-other f k j 1 0 i))
+  ]
+
+-- ---- whether a row is free
+
+module _ (b f : List ℕ) (k : ℕ) (row : k < rowCount) (sized : length b ≡ storeSize) where
+  pub marked : (getD f k 0 ≡ 0 → ⊥) → false ≡ both (isFree dictionaryRows b k) (eqb (getD f k 0) 0)
+  marked n = sym (both-no-right _ _ (ne-eqb _ _ n))
+
+  pub unmarked : getD f k 0 ≡ 0 → leb (lengthByte dictionaryRows b k) 1 ≡ both (isFree dictionaryRows b k) (eqb (getD f k 0) 0)
+  unmarked z =
+      let e = length-byte-at dictionaryRows b k in
+      ap (λ (x : ℕ). leb x 1) e
+      ∙ elim (le-or-gt (getD b (rowOffset dictionaryRows k) 0) 1)
+      [ inl i ↦ le-leb _ _ i ∙ sym (both-yes _ _ (free-yes b k sized row i) (eq-eqb _ _ z))
+      | inr i ↦ lt-leb _ _ i ∙ sym (both-no-left _ _ (free-no b k sized row i))
+      ]
+
+-- ---- the objects one after the other
+
+-- one that is not allowed decides for all
+pub all-bad : (answer : ℕ) {w : TakeState} (b : List ℕ) (is : List PrimitiveItem) → w ≡ takeState false b → takeAll answer w is .good ≡ false
+unfolding takeAll
+all-bad answer b [] e = ap (λ (w : TakeState). w .good) e
+all-bad answer b (i ∷ is) e = all-bad answer b is (ap (λ (w : TakeState). takeNext answer w i) e ∙ next-bad answer b i refl)
+
+and-true : (x : Bool) → both x true ≡ x
+unfolding both
+and-true true = refl
+and-true false = refl
+
+-- i of n objects of l₀ are judged: the first p numbers of l are pending for the store b, and the others are as they were
+pub record Judging (answer : ℕ) (s b l₀ : List ℕ) (n : ℕ) (l filled : List ℕ) (p i : ℕ) : Type 0 where
+  pub room : length l ≡ mostItems
+  pub few : p ≤ i
+  pub more : i ≤ n
+  pub rest : (j : ℕ) → i ≤ j → getD l j 0 ≡ getD l₀ j 0
+  pub values : PendingValues s b (take p l) filled
+  pub same : takeAll answer (takeState true b) (itemsIn s n l₀) ≡ takeAll answer (takeState true (withPending s b (take p l))) (itemsOf s (drop i (take n l₀)))
+
+pub judging-none : (answer : ℕ) (s b l : List ℕ) (n : ℕ) → length b ≡ storeSize → length l ≡ mostItems → Judging answer s b l n l (replicate rowCount 0) 0 0
+unfolding withPending
+judging-none answer s b l n e m = record {
+  room = m;
+  few = omega arith;
+  more = omega arith;
+  rest = λ j h. refl;
+  values = record {
+    fitting = tt;
+    sized = e;
+    marks = refl;
+    free = λ k r. sym (ap (λ (x : ℕ). both (isFree dictionaryRows b k) (eqb x 0)) (getD-replicate rowCount k 0 0 r) ∙ and-true (isFree dictionaryRows b k));
+  };
+  same = refl;
+}
+
+module _ {answer : ℕ} {s b l₀ : List ℕ} {n : ℕ} {l filled : List ℕ} {p i : ℕ} (g : ItemList s n l₀) (w : Judging answer s b l₀ n l filled p i) where
+  taken-length : length (take n l₀) ≡ n
+  taken-length = length-take-le n l₀ (omega (arith, g .room, g .few))
+
+  -- at the end all are judged
+  pub judged-all : n ≤ i → (takeAll answer (takeState true b) (itemsIn s n l₀) ≡ takeState true (withPending s b (take p l))) × PendingList s p l
+  unfolding itemsOf
+  judged-all h =
+      let z : drop i (take n l₀) ≡ [] = drop-past (take n l₀) i (omega (arith, taken-length)) in
+      (w .same ∙ ap (λ (xs : List ℕ). takeAll answer (takeState true (withPending s b (take p l))) (itemsOf s xs)) z ∙ took-all answer _,
+      record { room = w .room; few = omega (arith, w .few, w .more, g .few); fitting = w .values .fitting })
+    where
+      drop-past : (xs : List ℕ) (j : ℕ) → length xs ≤ j → drop j xs ≡ []
+      drop-past [] zero h = refl
+      drop-past [] (suc j) h = refl
+      drop-past (x ∷ xs) zero h = absurd (omega arith)
+      drop-past (x ∷ xs) (suc j) h = drop-past xs j (omega arith)
+
+  module _ (h : i < n) where
+    -- the next object
+    abbrev x : ℕ
+    x = getD l i 0
+
+    x-is : x ≡ getD (take n l₀) i 0
+    x-is = w .rest i (omega arith) ∙ sym (getD-take n l₀ i 0 h)
+
+    pub next-inside : ValueInside s x
+    next-inside = subst (ValueInside s) (sym x-is) (inside-at s (take n l₀) i (g .inside) (omega (arith, taken-length)))
+
+    abbrev left : List PrimitiveItem
+    left = itemsOf s (drop (i + 1) (take n l₀))
+
+    next-items : itemsOf s (drop i (take n l₀)) ≡ itemOf s x ∷ left
+    unfolding itemsOf
+    next-items =
+        let d : drop i (take n l₀) ≡ getD (take n l₀) i 0 ∷ drop (i + 1) (take n l₀) = rw (add-one i) (drop-cons (take n l₀) i 0 (omega (arith, taken-length))) in
+        ap (itemsOf s) d
+        ∙ ap (λ (y : ℕ). itemOf s y ∷ left) (sym x-is)
+
+    -- by what is said of it
+    next-taken : (v : ItemVerdict) → v ≡ judgeItem answer (itemOf s x)
+        → takeAll answer (takeState true b) (itemsIn s n l₀) ≡ takeAll answer (takeJudged (withPending s b (take p l)) (itemOf s x) v) left
+    next-taken v e =
+        w .same ∙ ap (takeAll answer (takeState true (withPending s b (take p l)))) next-items
+        ∙ took answer (takeState true (withPending s b (take p l))) (itemOf s x) left
+        (sym (next-good answer (withPending s b (take p l)) (itemOf s x) refl ∙ item-judged answer (withPending s b (take p l)) (itemOf s x) ∙ ap (takeJudged (withPending s b (take p l)) (itemOf s x)) (sym e)))
+
+    module _ {v : ItemVerdict} (e : v ≡ judgeItem answer (itemOf s x)) where
+      pub judged-skipped : v ≡ Skipped → Judging answer s b l₀ n l filled p (i + 1)
+      judged-skipped q = record {
+        room = w .room;
+        few = omega (arith, w .few);
+        more = omega arith;
+        rest = λ j m. w .rest j (omega arith);
+        values = w .values;
+        same = next-taken Skipped (sym q ∙ e);
+      }
+
+      pub judged-barred : v ≡ NotAllowed → takeAll answer (takeState true b) (itemsIn s n l₀) .good ≡ false
+      judged-barred q = ap (λ (t : TakeState). t .good) (next-taken NotAllowed (sym q ∙ e)) ∙ all-bad answer (withPending s b (take p l)) left refl
+
+      module _ (k : ℕ) (q : v ≡ ForRow k) where
+        pub row-is : (k < rowCount) × (valueLength x ≤ rowAt k .greatest)
+        row-is = let f = row-fits answer (itemOf s x) (sym e ∙ q) in (f .0, rw (value-length s x next-inside) at (f .1))
+
+        module _ {r : Bool} (o : r ≡ both (isFree dictionaryRows b k) (eqb (getD filled k 0) 0)) where
+          free-is : r ≡ isFree dictionaryRows (withPending s b (take p l)) k
+          free-is = o ∙ sym (w .values .free k (row-is .0))
+
+          pub judged-again : r ≡ false → takeAll answer (takeState true b) (itemsIn s n l₀) .good ≡ false
+          judged-again z =
+              ap (λ (t : TakeState). t .good) (next-taken (ForRow k) (sym q ∙ e))
+              ∙ all-bad answer (withPending s b (take p l)) left (if-no _ _ (sym free-is ∙ z))
+
+          pub judged-put : r ≡ true → Judging answer s b l₀ n (set l p (packedPending k x)) (markRow filled k (valueLength x)) (p + 1) (i + 1)
+          judged-put z =
+              let y = packedPending k x in
+              let f = sym free-is ∙ z in
+              let t : take (p + 1) (set l p y) ≡ take p l ++ (y ∷ []) = rw (add-one p) (take-suc-set l p y (omega (arith, w .room, w .few, g .few))) in
+              let m = row-is in
+              record {
+                room = length-set l p y ∙ w .room;
+                few = omega (arith, w .few);
+                more = omega arith;
+                rest = λ j a. getD-set-other l p j y 0 (λ c. omega (arith, w .few)) ∙ w .rest j (omega arith);
+                values = rw t (values-more s b (take p l) filled (w .values) k x (m .0) next-inside (m .1) f);
+                same =
+                  next-taken (ForRow k) (sym q ∙ e)
+                  ∙ ap (λ (u : TakeState). takeAll answer u left)
+                  (if-yes _ _ f ∙ ap (takeState true) (sym (ap (withPending s b) t ∙ more-put s b (take p l) filled (w .values) k x (m .0) next-inside (m .1) f)));
+              }
+
+-- ---- putting the pending values one after the other
+
+fitting-at : (s xs : List ℕ) (i : ℕ) → AllPendingFit s xs → i < length xs → PendingFits s (getD xs i 0)
+fitting-at s [] i h l = absurd (omega arith)
+fitting-at s (x ∷ xs) zero h l = h .0
+fitting-at s (x ∷ xs) (suc i) h l = fitting-at s xs i (h .1) (omega arith)
+
+pub after-none : (s b l : List ℕ) → b ≡ withPending s b (take 0 l)
+unfolding withPending
+after-none s b l = refl
+
+module _ (s b l : List ℕ) (n : ℕ) (h : PendingList s n l) (i : ℕ) (lt : i < n) where
+  pub value-fits : PendingFits s (getD l i 0)
+  value-fits =
+      subst (PendingFits s) (getD-take n l i 0 lt)
+      (fitting-at s (take n l) i (h .fitting) (omega (arith, length-take-le n l (omega (arith, h .room, h .few)))))
+
+  pub value-long : length (valueIn s (getD l i 0)) ≡ valueLength (getD l i 0)
+  value-long = value-length s (getD l i 0) (value-fits .inside)
+
+  pub after-one : putRow dictionaryRows (withPending s b (take i l)) (pendingRow (getD l i 0)) (valueIn s (getD l i 0)) ≡ withPending s b (take (i + 1) l)
+  after-one =
+      let e : take (i + 1) l ≡ take i l ++ (getD l i 0 ∷ []) = rw (add-one i) (take-suc l i 0 (omega (arith, h .room, h .few))) in
+      sym (ap (withPending s b) e ∙ laid-more s b (take i l) (getD l i 0))

@@ -1,0 +1,266 @@
+-- A run of objects, one at a time, and whatever follows it: what is left of the run after an object lists what the
+-- whole run lists. From the parse's laws; both walks cite these.
+-- Assumes nothing.
+use mathlib.Core.Path.{_≡_, refl, sym, ap, ap₂, subst, _∙_}
+use mathlib.Core.Bool.{true, false}
+use mathlib.Core.List.{List, [], _∷_, _++_, append-assoc, append-nil}
+use mathlib.Core.Option.{Option, some, none}
+use Prim.Native.Nat.{ℕ, _+_, _-_, _*_, _≤_, _<_}
+use native.Mathlib.Omega.{arith}
+use lib.ListN.{length, getD, set, length-append}
+use borrow.Author.Tests.{ne-eqb}
+use Rattle.basics.proofs.Laws.{if-no}
+use Rattle.tlv.specs.declared.TlvHeader.{TlvHeader}
+use Rattle.tlv.specs.declared.ObjectFront.the-variants as front
+use Rattle.tlv.specs.declared.Following.the-variants.{End, Inner, Malformed}
+use Rattle.tlv.specs.Object.{headerOf, headerValue, behindObject}
+use Rattle.tlv.specs.Tree.{Forest, end, leaf, node, objectCount, frontNext, nextOf, withLeaf, withNode, parseTree}
+use Rattle.tlv.proofs.Laws.{Bytes, header-fits}
+use Rattle.tlv.proofs.NextObject.{next-empty, next-object}
+use Rattle.tlv.proofs.Tree.{parse-end, parse-malformed, parse-deep, parse-node, parse-leaf, parse-count, zeros-in-front}
+use Rattle.reading.specs.declared.Tally.{Tally}
+use Rattle.reading.specs.declared.Walked.{Walked}
+use Rattle.reading.specs.declared.Walked.the-variants.{Whole, Broken}
+use Rattle.reading.specs.Taking.{PrimitiveItem, primitiveItem, primitiveItems}
+use Rattle.reading.specs.Items.{packedItem, itemOf, tally, mostItems, itemsIn, ItemList, WalkFits, HasListed, ThenLists, Walks}
+use Rattle.reading.proofs.Items.{part, part-empty, part-bytes, part-length, part-cons, object-inside, value-in, value-part, behind-part, tag-small}
+use Rattle.reading.proofs.Items.{item-packed, inside-packed, items-more, items-listed, pass, enter, has-room, list}
+
+pub whole-broken : (t : Tally) → Whole t ≡ Broken → ⊥
+whole-broken t e = let z : _≡_ {A = ℕ} 0 1 = cc in omega arith
+
+-- no object is next where none is at the front, unless padding is
+pub next-broken : (b : ℕ) (v : List ℕ) → (b ≡ 0 → ⊥) → headerOf (b ∷ v) ≡ front.Broken → nextOf (b ∷ v) ≡ Malformed
+unfolding nextOf
+next-broken b v n e = if-no _ _ (ne-eqb b 0 n) ∙ ap frontNext e
+
+-- ---- the ways that a run goes on, after n objects of which `is` are listed, with k after it
+
+module _ (around : ℕ) (r : Walked) (k : ℕ → List PrimitiveItem → Type 0) (n : ℕ) (is : List PrimitiveItem) where
+  on-leaf : (t : ℕ) (v : List ℕ) (x : Option Forest) → ThenLists around x r k (n + 1) (is ++ (primitiveItem around t v ∷ []))
+      → ThenLists around (withLeaf t v x) r k n is
+  unfolding withLeaf objectCount primitiveItems
+  on-leaf t v none h = h
+  on-leaf t v (some f) h =
+      let e : n + 1 + objectCount f ≡ n + (1 + objectCount f) = omega arith in
+      subst (λ (m : ℕ). k m (is ++ (primitiveItem around t v ∷ primitiveItems around f))) e
+      (subst (k (n + 1 + objectCount f)) (append-assoc is (primitiveItem around t v ∷ []) (primitiveItems around f)) h)
+
+  on-node : (t : ℕ) (x y : Option Forest) → ThenLists t x r (ThenLists around y r k) (n + 1) is → ThenLists around (withNode t x y) r k n is
+  unfolding withNode objectCount primitiveItems
+  on-node t none y h = h
+  on-node t (some f) none h = h
+  on-node t (some f) (some g) h =
+      let e : n + 1 + objectCount f + objectCount g ≡ n + (1 + objectCount f + objectCount g) = omega arith in
+      subst (λ (m : ℕ). k m (is ++ (primitiveItems t f ++ primitiveItems around g))) e
+      (subst (k (n + 1 + objectCount f + objectCount g)) (append-assoc is (primitiveItems t f) (primitiveItems around g)) h)
+
+  module _ (l : ℕ) (v : List ℕ) where
+    abbrev Here : Type 0
+    Here = ThenLists around (parseTree l v) r k n is
+
+    by-parse : (x : Option Forest) → parseTree l v ≡ x → ThenLists around x r k n is → Here
+    by-parse x e h = subst (λ (z : Option Forest). ThenLists around z r k n is) (sym e) h
+
+    pub then-end : nextOf v ≡ End → k n is → Here
+    unfolding objectCount primitiveItems
+    then-end e h = let z : n ≡ n + 0 = omega arith in by-parse (some end) (parse-end l v e) (subst (λ (m : ℕ). k m (is ++ [])) z (subst (k n) (sym (append-nil is)) h))
+
+    pub then-malformed : nextOf v ≡ Malformed → r ≡ Broken → Here
+    then-malformed e h = by-parse none (parse-malformed l v e) h
+
+    pub then-padding : (w : List ℕ) → w ≡ 0 ∷ v → Here → ThenLists around (parseTree l w) r k n is
+    then-padding w e h = subst (λ (z : Option Forest). ThenLists around z r k n is) (sym (ap (parseTree l) e ∙ zeros-in-front 1 l v)) h
+
+    module _ (h : TlvHeader) (e : nextOf v ≡ Inner h) where
+      pub then-deep : h .template ≡ true → l ≡ 0 → r ≡ Broken → Here
+      then-deep p z q = by-parse none (parse-deep l v h e p z) q
+
+      pub then-leaf : h .template ≡ false → ThenLists around (parseTree l (behindObject v h)) r k (n + 1) (is ++ (primitiveItem around (h .tag) (headerValue v h) ∷ [])) → Here
+      then-leaf p g = by-parse _ (parse-leaf l v h e p) (on-leaf (h .tag) _ _ g)
+
+      pub then-node : h .template ≡ true → (l ≡ 0 → ⊥)
+          → ThenLists (h .tag) (parseTree (l - 1) (headerValue v h)) r (ThenLists around (parseTree l (behindObject v h)) r k) (n + 1) is → Here
+      then-node p z g = by-parse _ (parse-node l v h e p z) (on-node (h .tag) _ _ g)
+
+-- ---- a run that was walked to its end, and what follows it
+
+module _ (s : List ℕ) (around : ℕ) (n : ℕ) (is : List PrimitiveItem) (l : List ℕ) where
+  -- where it was broken, so is all
+  pub broken-run : (x : Option Forest) (k : ℕ → List PrimitiveItem → Type 0) → ThenLists around x Broken (HasListed s l Broken) n is → ThenLists around x Broken k n is
+  broken-run none k h = refl
+  broken-run (some f) k h = absurd (whole-broken _ (sym (h .reports)))
+
+  module _ (u : Tally) where
+    -- where it was whole, what is after it goes on with its tally and list
+    pub whole-run : (x : Option Forest) (r : Walked) (k : ℕ → List PrimitiveItem → Type 0) → ThenLists around x (Whole u) (HasListed s l (Whole u)) n is
+        → k (u .objects) (itemsIn s (u .items) l) → ThenLists around x r k n is
+    whole-run none r k h g = absurd (whole-broken u h)
+    whole-run (some f) r k h g =
+        let e : u ≡ tally (n + objectCount f) (length (is ++ primitiveItems around f)) = cc in
+        let i : itemsIn s (u .items) l ≡ is ++ primitiveItems around f = ap (λ (z : Tally). itemsIn s (z .items) l) e ∙ h .are in
+        subst (λ (m : ℕ). k m (is ++ primitiveItems around f)) (ap (λ (z : Tally). z .objects) e) (subst (k (u .objects)) i g)
+
+few-items : (around : ℕ) (f : Forest) → length (primitiveItems around f) ≤ objectCount f
+unfolding primitiveItems objectCount
+few-items around end = omega arith
+few-items around (leaf t v r) = let i = few-items around r in omega arith
+few-items around (node t f r) =
+    let i = few-items t f in
+    let j = few-items around r in
+    simp length-append (omega arith)
+
+-- ---- where a walk stands: at a place of a template's contents, which end at `stop`, after n objects of which l lists k
+
+-- K is what follows the template, All what the whole walk promises
+pub record Run (s : List ℕ) (e stop levels around : ℕ) (K : Walked → List ℕ → ℕ → List PrimitiveItem → Type 0) (All : Walked → List ℕ → Type 0)
+    (at n k : ℕ) (l : List ℕ) : Type 0 where
+  pub fits : WalkFits s at e n k l
+  pub before : at ≤ stop
+  pub inside : stop ≤ e
+  pub tag : around < 0x1000000
+  pub same : (r : Walked) (l′ : List ℕ) → ThenLists around (parseTree levels (part s at stop)) r (K r l′) n (itemsIn s k l) → All r l′
+
+-- what was found at the end of all contents is reported
+pub has-listed : {s : List ℕ} {a e n k : ℕ} {l : List ℕ} → WalkFits s a e n k l → HasListed s l (Whole (tally n k)) n (itemsIn s k l)
+has-listed {s} {a} {e} {n} {k} {l} w =
+    let c = items-listed w in
+    record {
+      reports = ap (λ (m : ℕ). Whole (tally n m)) (sym c);
+      items = rw c (record { room = w .room; few = omega (arith, w .fewer, w .half); inside = w .inside });
+      are = rw c;
+    }
+
+module _ {s : List ℕ} {e stop levels around : ℕ} {K : Walked → List ℕ → ℕ → List PrimitiveItem → Type 0} {All : Walked → List ℕ → Type 0}
+    {at n k : ℕ} {l : List ℕ} (w : Run s e stop levels around K All at n k l) where
+  -- what is left of the contents
+  abbrev rest : List ℕ
+  rest = part s at stop
+
+  pub stops : stop ≤ length s
+  stops = omega (arith, w .inside, w .fits .ends)
+
+  pub ended : stop ≤ at → (r : Walked) (l′ : List ℕ) → K r l′ n (itemsIn s k l) → All r l′
+  ended z r l′ h =
+      w .same r l′
+      (then-end around r (K r l′) n (itemsIn s k l) levels rest (next-empty rest (ap length (part-empty s at stop z))) h)
+
+  module _ (m : at < stop) where
+    rest-cons : rest ≡ getD s at 0 ∷ part s (at + 1) stop
+    rest-cons = part-cons s at stop stops m
+
+    pub padding : getD s at 0 ≡ 0 → Run s e stop levels around K All (at + 1) n k l
+    padding q = record {
+      fits = pass (w .fits) (at + 1) (omega (arith, w .inside)) (omega arith);
+      before = omega arith;
+      inside = w .inside;
+      tag = w .tag;
+      same = λ r l′ h.
+          w .same r l′
+          (then-padding around r (K r l′) n (itemsIn s k l) levels (part s (at + 1) stop) rest (rest-cons ∙ ap (λ (b : ℕ). b ∷ part s (at + 1) stop) q) h);
+    }
+
+    pub failed : (getD s at 0 ≡ 0 → ⊥) → headerOf rest ≡ front.Broken → (l′ : List ℕ) → All Broken l′
+    failed q x l′ =
+        w .same Broken l′
+        (then-malformed around Broken (K Broken l′) n (itemsIn s k l) levels rest
+        (ap nextOf rest-cons ∙ next-broken _ _ q (ap headerOf (sym rest-cons) ∙ x)) refl)
+
+    module _ (h : TlvHeader) (x : headerOf rest ≡ front.Object h) where
+      -- where its value starts and ends
+      abbrev from : ℕ
+      from = at + h .start
+
+      abbrev beyond : ℕ
+      beyond = from + h .len
+
+      pub bounds : (2 ≤ h .start) × ((beyond ≤ stop) × (beyond ≤ e))
+      bounds = let o = object-inside s at stop stops h (header-fits rest h x) in (o .0, (o .1, omega (arith, w .inside)))
+
+      pub small : Bytes s → h .tag < 0x1000000
+      small b = tag-small rest h (part-bytes s at stop b) x
+
+      pub deep : h .template ≡ true → levels ≡ 0 → (l′ : List ℕ) → All Broken l′
+      deep p q l′ =
+          w .same Broken l′ (then-deep around Broken (K Broken l′) n (itemsIn s k l) levels rest h (next-object rest h x) p q refl)
+
+      -- a primitive object is listed
+      abbrev number : ℕ
+      number = packedItem (h .tag) around from (h .len)
+
+      pub number-fits : (1 ≤ from) × ((from ≤ 256) × (h .len < 256))
+      number-fits = let b = bounds in (omega arith, (omega (arith, w .fits .short), omega (arith, w .fits .short)))
+
+      pub room : k < mostItems
+      room = let b = bounds in has-room (w .fits) beyond (b .1 .1) (omega arith)
+
+      pub listed : h .template ≡ false → Run s e stop levels around K All beyond (n + 1) (k + 1) (set l k number)
+      listed p =
+          let b = bounds in
+          let f = number-fits in
+          let v : itemOf s number ≡ primitiveItem around (h .tag) (headerValue rest h) =
+            item-packed (h .tag) around from (h .len) (w .tag) (f .0) (f .1 .0) (f .1 .1) s
+            ∙ ap (primitiveItem around (h .tag)) (sym (value-in s at stop stops h (header-fits rest h x))) in
+          let m = items-more s l k number (omega (arith, room, w .fits .room)) ∙ ap (λ (i : PrimitiveItem). itemsIn s k l ++ (i ∷ [])) v in
+          record {
+            fits = list (w .fits) beyond (b .1 .1) (omega arith) number (inside-packed (h .tag) around from (h .len) (w .tag) (f .0) (f .1 .0) (f .1 .1) s (omega (arith, stops)));
+            before = b .1 .0;
+            inside = w .inside;
+            tag = w .tag;
+            same = λ r l′ g.
+                w .same r l′
+                (then-leaf around r (K r l′) n (itemsIn s k l) levels rest h (next-object rest h x) p
+                (subst (λ (is : List PrimitiveItem). ThenLists around (parseTree levels (behindObject rest h)) r (K r l′) (n + 1) is) m
+                (subst (λ (v : List ℕ). ThenLists around (parseTree levels v) r (K r l′) (n + 1) (itemsIn s (k + 1) (set l k number))) (behind-part s at stop stops h (header-fits rest h x)) g)));
+          }
+
+      -- a template, what it holds, and what follows it
+      pub entered : WalkFits s from e (n + 1) k l
+      entered = let b = bounds in enter (w .fits) from (omega arith) (omega arith)
+
+      pub node-same : h .template ≡ true → (levels ≡ 0 → ⊥) → (r : Walked) (l′ : List ℕ)
+          → ThenLists (h .tag) (parseTree (levels - 1) (part s from beyond)) r (ThenLists around (parseTree levels (part s beyond stop)) r (K r l′)) (n + 1) (itemsIn s k l)
+          → All r l′
+      node-same p q r l′ g =
+          w .same r l′
+          (then-node around r (K r l′) n (itemsIn s k l) levels rest h (next-object rest h x) p q
+          (subst (λ (v : List ℕ). ThenLists (h .tag) (parseTree (levels - 1) v) r (ThenLists around (parseTree levels (behindObject rest h)) r (K r l′)) (n + 1) (itemsIn s k l)) (value-part s at stop stops h (header-fits rest h x))
+          (subst (λ (v : List ℕ). ThenLists (h .tag) (parseTree (levels - 1) (part s from beyond)) r (ThenLists around (parseTree levels v) r (K r l′)) (n + 1) (itemsIn s k l)) (behind-part s at stop stops h (header-fits rest h x)) g)))
+
+      -- a template whose contents a walk has reported
+      module _ (p : h .template ≡ true) (q : levels ≡ 0 → ⊥) (l₁ : List ℕ) where
+        abbrev tree : Option Forest
+        tree = parseTree (levels - 1) (part s from beyond)
+
+        pub inner-broken : Walks s (h .tag) tree (n + 1) k l Broken l₁ → (l′ : List ℕ) → All Broken l′
+        inner-broken g l′ = node-same p q Broken l′ (broken-run s (h .tag) (n + 1) (itemsIn s k l) l₁ tree _ g)
+
+        inner-fits : (u : Tally) (f : Option Forest) → tree ≡ f → Walks s (h .tag) f (n + 1) k l (Whole u) l₁ → WalkFits s beyond e (u .objects) (u .items) l₁
+        inner-fits u none z g = absurd (whole-broken u g)
+        inner-fits u (some f) z g =
+            let b = bounds in
+            let i : u ≡ tally (n + 1 + objectCount f) (length (itemsIn s k l ++ primitiveItems (h .tag) f)) = cc in
+            let o : u .objects ≡ n + 1 + objectCount f = ap (λ (t : Tally). t .objects) i in
+            let y : u .items ≡ length (itemsIn s k l ++ primitiveItems (h .tag) f) = ap (λ (t : Tally). t .items) i in
+            let j : u .items ≡ k + length (primitiveItems (h .tag) f) = y ∙ length-append (itemsIn s k l) (primitiveItems (h .tag) f) ∙ ap (λ (m : ℕ). m + length (primitiveItems (h .tag) f)) (items-listed (w .fits)) in
+            let c = parse-count (levels - 1) (part s from beyond) f z in
+            let d = part-length s from beyond (omega (arith, stops)) in
+            let v = few-items (h .tag) f in
+            record {
+              begins = b .1 .1;
+              ends = w .fits .ends;
+              short = w .fits .short;
+              fewer = omega (arith, w .fits .fewer);
+              half = omega (arith, w .fits .half);
+              room = g .items .room;
+              inside = rw y (g .items .inside);
+            }
+
+        pub inner-whole : (u : Tally) → Walks s (h .tag) tree (n + 1) k l (Whole u) l₁ → Run s e stop levels around K All beyond (u .objects) (u .items) l₁
+        inner-whole u g = record {
+          fits = inner-fits u tree refl g;
+          before = bounds .1 .0;
+          inside = w .inside;
+          tag = w .tag;
+          same = λ r l′ y. node-same p q r l′ (whole-run s (h .tag) (n + 1) (itemsIn s k l) l₁ u tree r (ThenLists around (parseTree levels (part s beyond stop)) r (K r l′)) g y);
+        }
