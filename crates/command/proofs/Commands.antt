@@ -18,7 +18,7 @@ use Rattle.tlv.proofs.Laws.{Bytes}
 use Rattle.dictionary.specs.Rows.{dictionaryRows}
 use Rattle.store.specs.Place.{absent, bytesOfValue, objectValue}
 use Rattle.dol.specs.Filling.{dolFilled}
-use Rattle.command.specs.WithList.{commandP2Zero, commandWith, gpoDataHead, gpoData, gpoCommandOf, getProcessingOptions, generateAcOf, generateAc, udolOrDefault, checksumCommandOf, checksumCommandWith, computeCryptographicChecksum}
+use Rattle.command.specs.WithList.{commandP2Zero, commandWith, gpoDataHead, gpoData, gpoCommandOf, getProcessingOptions, commandCarrying, generateAc, udolOrDefault, computeCryptographicChecksum}
 use Rattle.dol.proofs.Filling.{filled-nothing}
 use Rattle.dol.proofs.Bytes.{bytes-nil, bytes-cons, bytes-append, filled-bytes}
 use Rattle.command.proofs.Parts.{head-short, head-long, head-length}
@@ -46,24 +46,13 @@ gpo-carried (some v) c p = elim (bool-cases (leb (length v) 252)) [
   | inr t ↦ no-command c (sym (if-no _ _ t) ∙ p)
 ]
 
-cryptogram-carried : (p1 : ℕ) (x : Option (List ℕ)) (c : List ℕ) → generateAcOf p1 x ≡ some c → Carried 0xAE p1 0 (λ v. v) x c
-unfolding generateAcOf
-cryptogram-carried p1 none c p = no-command c p
-cryptogram-carried p1 (some v) c p = elim (bool-cases (both (leb 1 (length v)) (leb (length v) 255))) [
+dol-carried : (ins p1 p2 : ℕ) (x : Option (List ℕ)) (c : List ℕ) → commandCarrying ins p1 p2 x ≡ some c → Carried ins p1 p2 (λ v. v) x c
+unfolding commandCarrying
+dol-carried ins p1 p2 none c p = no-command c p
+dol-carried ins p1 p2 (some v) c p = elim (bool-cases (both (leb 1 (length v)) (leb (length v) 255))) [
   | inl t ↦
       let h = leb-true (length v) 255 (both-right _ _ t) in
-      let i : some (commandP2Zero 0xAE p1 v) ≡ some c = sym (if-yes _ _ t) ∙ p in
-      record { bytes = v; is = refl; sent = cc; few = h; fits = h }
-  | inr t ↦ no-command c (sym (if-no _ _ t) ∙ p)
-]
-
-checksum-carried : (x : Option (List ℕ)) (c : List ℕ) → checksumCommandOf x ≡ some c → Carried 0x2A 0x8E 0x80 (λ v. v) x c
-unfolding checksumCommandOf
-checksum-carried none c p = no-command c p
-checksum-carried (some v) c p = elim (bool-cases (both (leb 1 (length v)) (leb (length v) 255))) [
-  | inl t ↦
-      let h = leb-true (length v) 255 (both-right _ _ t) in
-      let i : some (commandWith 0x2A 0x8E 0x80 v) ≡ some c = sym (if-yes _ _ t) ∙ p in
+      let i : some (commandWith ins p1 p2 v) ≡ some c = sym (if-yes _ _ t) ∙ p in
       record { bytes = v; is = refl; sent = cc; few = h; fits = h }
   | inr t ↦ no-command c (sym (if-no _ _ t) ∙ p)
 ]
@@ -108,11 +97,11 @@ module _ (store c : List ℕ) where
 
   pub cryptogram-proper : (p1 : ℕ) → generateAc p1 store ≡ some c → Proper 0xAE c
   unfolding generateAc
-  cryptogram-proper p1 p = carried-proper 0xAE p1 0 (λ v. v) _ c (cryptogram-carried p1 _ c p)
+  cryptogram-proper p1 p = carried-proper 0xAE p1 0 (λ v. v) _ c (dol-carried 0xAE p1 0 _ c p)
 
   pub checksum-proper : computeCryptographicChecksum store ≡ some c → Proper 0x2A c
-  unfolding computeCryptographicChecksum checksumCommandWith
-  checksum-proper p = carried-proper 0x2A 0x8E 0x80 (λ v. v) _ c (checksum-carried _ c p)
+  unfolding computeCryptographicChecksum
+  checksum-proper p = carried-proper 0x2A 0x8E 0x80 (λ v. v) _ c (dol-carried 0x2A 0x8E 0x80 _ c p)
 
   -- every byte of it is a byte
   pub gpo-bytes : Bytes store → getProcessingOptions store ≡ some c → Bytes c
@@ -125,13 +114,13 @@ module _ (store c : List ℕ) where
   pub cryptogram-bytes : Bytes store → (p1 : ℕ) → p1 < 256 → generateAc p1 store ≡ some c → Bytes c
   unfolding generateAc
   cryptogram-bytes b p1 h p =
-      let d = cryptogram-carried p1 _ c p in
+      let d = dol-carried 0xAE p1 0 _ c p in
       carried-bytes 0xAE p1 0 (λ v. v) _ c d (omega arith) h (omega arith) (filled-bytes dictionaryRows store b _ (d .bytes) (d .is))
 
   pub checksum-bytes : Bytes store → computeCryptographicChecksum store ≡ some c → Bytes c
-  unfolding computeCryptographicChecksum checksumCommandWith
+  unfolding computeCryptographicChecksum
   checksum-bytes b p =
-      let d = checksum-carried _ c p in
+      let d = dol-carried 0x2A 0x8E 0x80 _ c p in
       carried-bytes 0x2A 0x8E 0x80 (λ v. v) _ c d (omega arith) (omega arith) (omega arith) (filled-bytes dictionaryRows store b _ (d .bytes) (d .is))
 
 -- with no list, or an empty one, GPO has the data 83 00

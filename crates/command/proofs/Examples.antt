@@ -8,7 +8,7 @@ use Rattle.basics.specs.Choice.{if, both}
 use Rattle.tlv.specs.Encoding.{lengthBytes}
 use Rattle.afl.specs.Records.{aflEntries, consecutiveRecords, entriesRecords, aflRecords}
 use Rattle.command.specs.ReadRecord.{readRecordCommand}
-use Rattle.command.specs.WithList.{gpoCommandOf, generateAcOf, udolOrDefault, checksumCommandOf}
+use Rattle.command.specs.WithList.{gpoCommandOf, commandCarrying, udolOrDefault}
 
 -- ---- a record
 
@@ -28,7 +28,7 @@ gpo-edge : ℕ → List ℕ
 gpo-edge n = edge (gpoCommandOf (some (replicate n 0xAA)))
 
 cryptogram-edge : ℕ → List ℕ
-cryptogram-edge n = edge (generateAcOf 0x40 (some (replicate n 0xAA)))
+cryptogram-edge n = edge (commandCarrying 0xAE 0x40 0 (some (replicate n 0xAA)))
 
 -- GPO: a length of 127 is in one byte, 128 after 81; 252 filled bytes are carried, 253 are not
 gpo-edges : map gpo-edge (0 ∷ 127 ∷ 128 ∷ 252 ∷ 253 ∷ [])
@@ -48,12 +48,12 @@ cryptogram-edges : map cryptogram-edge (0 ∷ 1 ∷ 255 ∷ 256 ∷ [])
     ∷ (261 ∷ 0x80 ∷ 0xAE ∷ 0x40 ∷ 0 ∷ 255 ∷ 0xAA ∷ 0xAA ∷ 0xAA ∷ [])
     ∷ []
     ∷ []
-unfolding cryptogram-edge generateAcOf both if
+unfolding cryptogram-edge commandCarrying both if
 cryptogram-edges = refl
 
 -- COMPUTE CRYPTOGRAPHIC CHECKSUM: the same
 checksum-edge : ℕ → List ℕ
-checksum-edge n = edge (checksumCommandOf (some (replicate n 0xAA)))
+checksum-edge n = edge (commandCarrying 0x2A 0x8E 0x80 (some (replicate n 0xAA)))
 
 checksum-edges : map checksum-edge (0 ∷ 1 ∷ 255 ∷ 256 ∷ [])
     ≡ []
@@ -61,7 +61,7 @@ checksum-edges : map checksum-edge (0 ∷ 1 ∷ 255 ∷ 256 ∷ [])
     ∷ (261 ∷ 0x80 ∷ 0x2A ∷ 0x8E ∷ 0x80 ∷ 255 ∷ 0xAA ∷ 0xAA ∷ 0xAA ∷ [])
     ∷ []
     ∷ []
-unfolding checksum-edge checksumCommandOf if both
+unfolding checksum-edge commandCarrying if both
 checksum-edges = refl
 
 -- no list and an empty one are the default; one that has bytes is itself, broken or not

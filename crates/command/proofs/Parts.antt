@@ -24,7 +24,7 @@ use Rattle.command.specs.declared.DolCommand.{DolCommand}
 use Rattle.dol.specs.declared.DolTotal.the-variants.{Total, Unfit}
 use Rattle.dol.specs.Entries.{dolTotalLength}
 use Rattle.dol.specs.Filling.{dolData, dolDataBy, dolFilled}
-use Rattle.command.specs.WithList.{commandP2Zero, commandWith, gpoDataHead, gpoData, gpoCommandOf, getProcessingOptions, generateAcOf, generateAc, udolOrDefault, checksumCommandOf, checksumCommandWith, computeCryptographicChecksum, commandOfLength, dolCommandOf, dolCommandReason, dolReason, bufferWithCommand}
+use Rattle.command.specs.WithList.{commandP2Zero, commandWith, gpoDataHead, gpoData, gpoCommandOf, getProcessingOptions, commandCarrying, commandWithDol, generateAc, udolOrDefault, computeCryptographicChecksum, commandOfLength, dolCommandOf, dolCommandReason, dolReason, bufferWithCommand}
 use Rattle.dol.specs.Measure.{dolMeasured, DolFits, writtenOver}
 use Rattle.dol.proofs.Buffer.{over-there, over-cover}
 use Rattle.dol.proofs.Entries.{whole}
@@ -80,46 +80,31 @@ pub gpo-some : (v : List ℕ) → length v ≤ 252 → gpoCommandOf (some v) ≡
 unfolding gpoCommandOf
 gpo-some v h = if-yes _ _ (le-leb (length v) 252 h)
 
-pub cryptogram-broken : (p1 : ℕ) → generateAcOf p1 none ≡ none
-unfolding generateAcOf
-cryptogram-broken p1 = refl
+module _ (ins p1 p2 : ℕ) where
+  pub carried-broken : commandCarrying ins p1 p2 none ≡ none
+  unfolding commandCarrying
+  carried-broken = refl
 
-pub cryptogram-empty : (p1 : ℕ) (v : List ℕ) → length v ≡ 0 → generateAcOf p1 (some v) ≡ none
-unfolding generateAcOf
-cryptogram-empty p1 v h = if-no _ _ (both-no-left _ _ (lt-leb 1 (length v) (omega arith)))
+  pub carried-empty : (v : List ℕ) → length v ≡ 0 → commandCarrying ins p1 p2 (some v) ≡ none
+  unfolding commandCarrying
+  carried-empty v h = if-no _ _ (both-no-left _ _ (lt-leb 1 (length v) (omega arith)))
 
-pub cryptogram-long : (p1 : ℕ) (v : List ℕ) → 255 < length v → generateAcOf p1 (some v) ≡ none
-unfolding generateAcOf
-cryptogram-long p1 v h = if-no _ _ (both-no-right _ _ (lt-leb (length v) 255 h))
+  pub carried-long : (v : List ℕ) → 255 < length v → commandCarrying ins p1 p2 (some v) ≡ none
+  unfolding commandCarrying
+  carried-long v h = if-no _ _ (both-no-right _ _ (lt-leb (length v) 255 h))
 
-pub cryptogram-some : (p1 : ℕ) (v : List ℕ) → 1 ≤ length v → length v ≤ 255 → generateAcOf p1 (some v) ≡ some (commandP2Zero 0xAE p1 v)
-unfolding generateAcOf
-cryptogram-some p1 v h k = if-yes _ _ (both-yes _ _ (le-leb 1 (length v) h) (le-leb (length v) 255 k))
-
-pub checksum-broken : checksumCommandOf none ≡ none
-unfolding checksumCommandOf
-checksum-broken = refl
-
-pub checksum-empty : (v : List ℕ) → length v ≡ 0 → checksumCommandOf (some v) ≡ none
-unfolding checksumCommandOf
-checksum-empty v h = if-no _ _ (both-no-left _ _ (lt-leb 1 (length v) (omega arith)))
-
-pub checksum-long : (v : List ℕ) → 255 < length v → checksumCommandOf (some v) ≡ none
-unfolding checksumCommandOf
-checksum-long v h = if-no _ _ (both-no-right _ _ (lt-leb (length v) 255 h))
-
-pub checksum-some : (v : List ℕ) → 1 ≤ length v → length v ≤ 255 → checksumCommandOf (some v) ≡ some (commandWith 0x2A 0x8E 0x80 v)
-unfolding checksumCommandOf
-checksum-some v h k = if-yes _ _ (both-yes _ _ (le-leb 1 (length v) h) (le-leb (length v) 255 k))
+  pub carried-some : (v : List ℕ) → 1 ≤ length v → length v ≤ 255 → commandCarrying ins p1 p2 (some v) ≡ some (commandWith ins p1 p2 v)
+  unfolding commandCarrying
+  carried-some v h k = if-yes _ _ (both-yes _ _ (le-leb 1 (length v) h) (le-leb (length v) 255 k))
 
 -- the lists, by their rows
 pub gpo-of : (store list : List ℕ) → list ≡ bytesOfValue (rowValue dictionaryRows store rowPdol) → getProcessingOptions store ≡ gpoCommandOf (dolFilled dictionaryRows store list)
 unfolding getProcessingOptions
 gpo-of store list p = ap (λ (l : List ℕ). gpoCommandOf (dolFilled dictionaryRows store l)) (ap bytesOfValue (by-row dictionaryRows store 0x9F38 rowPdol at-9F38) ∙ sym p)
 
-pub cryptogram-of : (p1 : ℕ) (store list : List ℕ) → list ≡ bytesOfValue (rowValue dictionaryRows store rowCdol1) → generateAc p1 store ≡ generateAcOf p1 (dolFilled dictionaryRows store list)
+pub cryptogram-of : (p1 : ℕ) (store list : List ℕ) → list ≡ bytesOfValue (rowValue dictionaryRows store rowCdol1) → generateAc p1 store ≡ commandWithDol 0xAE p1 0 list store
 unfolding generateAc
-cryptogram-of p1 store list p = ap (λ (l : List ℕ). generateAcOf p1 (dolFilled dictionaryRows store l)) (ap bytesOfValue (by-row dictionaryRows store 0x8C rowCdol1 at-8C) ∙ sym p)
+cryptogram-of p1 store list p = ap (λ (l : List ℕ). commandWithDol 0xAE p1 0 l store) (ap bytesOfValue (by-row dictionaryRows store 0x8C rowCdol1 at-8C) ∙ sym p)
 
 -- the stored list where it has bytes, else the default one
 list-own : (l : List ℕ) → (length l ≡ 0 → ⊥) → udolOrDefault l ≡ l
@@ -132,16 +117,16 @@ unfolding udolOrDefault
 list-default [] h = refl
 list-default (x ∷ l) h = absurd (omega arith)
 
-checksum-of : (store list l : List ℕ) → list ≡ bytesOfValue (rowValue dictionaryRows store rowUdol) → udolOrDefault list ≡ l → computeCryptographicChecksum store ≡ checksumCommandWith l store
+checksum-of : (store list l : List ℕ) → list ≡ bytesOfValue (rowValue dictionaryRows store rowUdol) → udolOrDefault list ≡ l → computeCryptographicChecksum store ≡ commandWithDol 0x2A 0x8E 0x80 l store
 unfolding computeCryptographicChecksum
 checksum-of store list l p q =
-    ap (λ (x : List ℕ). checksumCommandWith (udolOrDefault x) store) (ap bytesOfValue (by-row dictionaryRows store 0x9F69 rowUdol at-9F69) ∙ sym p) ∙ ap (λ (x : List ℕ). checksumCommandWith x store) q
+    ap (λ (x : List ℕ). commandWithDol 0x2A 0x8E 0x80 (udolOrDefault x) store) (ap bytesOfValue (by-row dictionaryRows store 0x9F69 rowUdol at-9F69) ∙ sym p) ∙ ap (λ (x : List ℕ). commandWithDol 0x2A 0x8E 0x80 x store) q
 
-pub checksum-own : (store list : List ℕ) → list ≡ bytesOfValue (rowValue dictionaryRows store rowUdol) → (length list ≡ 0 → ⊥) → computeCryptographicChecksum store ≡ checksumCommandWith list store
+pub checksum-own : (store list : List ℕ) → list ≡ bytesOfValue (rowValue dictionaryRows store rowUdol) → (length list ≡ 0 → ⊥) → computeCryptographicChecksum store ≡ commandWithDol 0x2A 0x8E 0x80 list store
 checksum-own store list p h = checksum-of store list list p (list-own list h)
 
 pub checksum-default : (store list : List ℕ) → list ≡ bytesOfValue (rowValue dictionaryRows store rowUdol) → length list ≡ 0
-    → computeCryptographicChecksum store ≡ checksumCommandWith (0x9F ∷ 0x6A ∷ 0x04 ∷ []) store
+    → computeCryptographicChecksum store ≡ commandWithDol 0x2A 0x8E 0x80 (0x9F ∷ 0x6A ∷ 0x04 ∷ []) store
 checksum-default store list p h = checksum-of store list _ p (list-default list h)
 
 -- ---- the parts of a command

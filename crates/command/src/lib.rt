@@ -9,7 +9,7 @@ ghost use mathlib.Core.Path.{_≡_};
 ghost use Prim.Native.Nat.{_+_, _-_, _≤_, _<_};
 ghost use lib.ListN.{length, take, drop};
 ghost use Rattle.dol.specs.Measure.{writtenOver};
-ghost use Rattle.command.specs.WithList.{commandWith, gpoDataHead, getProcessingOptions, generateAc, checksumCommandWith, computeCryptographicChecksum, commandOfLength, dolCommandOf, dolCommandReason, dolReason, bufferWithCommand};
+ghost use Rattle.command.specs.WithList.{commandWith, gpoDataHead, getProcessingOptions, generateAc, commandWithDol, computeCryptographicChecksum, commandOfLength, dolCommandOf, dolCommandReason, dolReason, bufferWithCommand};
 ghost use Rattle.command.specs.ReadRecord.{WroteReadRecord, readRecordWritten};
 
 // Class bytes, instruction bytes and parameters (Book C-2, 5.2, 5.4, 5.5 and 5.8). P2 of READ RECORD is the SFI
@@ -69,15 +69,7 @@ pub fn generate_ac(store: &[u8], p1: u8, buffer: &mut [u8]) -> DolCommand
     ensures reason { λ r. ⌜ dolCommandReason r ≡ dolReason (generateAc p1 (now (store .entry))) ⌝ }
 {
     let list = store::value(store, dictionary::ROW_CDOL1);
-    let measured = dol::measure(list);
-    let DolTotal::Total(n) = measured else {
-        return DolCommand::NoCommand;
-    };
-    if n == 0 {
-        return DolCommand::NoCommand;
-    }
-    dol::fill(list, store, buffer, 5);
-    close(INS_GENERATE_AC, p1, P2_ZERO, buffer, 5 + n)
+    carry_list(INS_GENERATE_AC, p1, P2_ZERO, list, store, buffer)
 }
 
 // The command COMPUTE CRYPTOGRAPHIC CHECKSUM, with the filled UDOL (9F69) that the store holds; where it is absent or
@@ -99,9 +91,19 @@ pub fn compute_cryptographic_checksum(store: &[u8], buffer: &mut [u8]) -> DolCom
 // The same with a list.
 fn checksum_with(list: &[u8], store: &[u8], buffer: &mut [u8]) -> DolCommand
     requires { ⌜ 261 ≤ length (now buffer) ⌝ }
-    ensures said { λ r. ⌜ r ≡ dolCommandOf (checksumCommandWith (now (list .entry)) (now (store .entry))) ⌝ }
-    ensures kept { λ _. ⌜ now (buffer .exit) ≡ bufferWithCommand (checksumCommandWith (now (list .entry)) (now (store .entry))) (now (buffer .entry)) ⌝ }
-    ensures reason { λ r. ⌜ dolCommandReason r ≡ dolReason (checksumCommandWith (now (list .entry)) (now (store .entry))) ⌝ }
+    ensures said { λ r. ⌜ r ≡ dolCommandOf (commandWithDol 0x2A 0x8E 0x80 (now (list .entry)) (now (store .entry))) ⌝ }
+    ensures kept { λ _. ⌜ now (buffer .exit) ≡ bufferWithCommand (commandWithDol 0x2A 0x8E 0x80 (now (list .entry)) (now (store .entry))) (now (buffer .entry)) ⌝ }
+    ensures reason { λ r. ⌜ dolCommandReason r ≡ dolReason (commandWithDol 0x2A 0x8E 0x80 (now (list .entry)) (now (store .entry))) ⌝ }
+{
+    carry_list(INS_COMPUTE_CHECKSUM, P1_COMPUTE_CHECKSUM, P2_COMPUTE_CHECKSUM, list, store, buffer)
+}
+
+// A command whose data is a list, filled from the store.
+fn carry_list(ins: u8, p1: u8, p2: u8, list: &[u8], store: &[u8], buffer: &mut [u8]) -> DolCommand
+    requires { ⌜ 261 ≤ length (now buffer) ⌝ }
+    ensures said { λ r. ⌜ r ≡ dolCommandOf (commandWithDol ins p1 p2 (now (list .entry)) (now (store .entry))) ⌝ }
+    ensures kept { λ _. ⌜ now (buffer .exit) ≡ bufferWithCommand (commandWithDol ins p1 p2 (now (list .entry)) (now (store .entry))) (now (buffer .entry)) ⌝ }
+    ensures reason { λ r. ⌜ dolCommandReason r ≡ dolReason (commandWithDol ins p1 p2 (now (list .entry)) (now (store .entry))) ⌝ }
 {
     let measured = dol::measure(list);
     let DolTotal::Total(n) = measured else {
@@ -111,7 +113,7 @@ fn checksum_with(list: &[u8], store: &[u8], buffer: &mut [u8]) -> DolCommand
         return DolCommand::NoCommand;
     }
     dol::fill(list, store, buffer, 5);
-    close(INS_COMPUTE_CHECKSUM, P1_COMPUTE_CHECKSUM, P2_COMPUTE_CHECKSUM, buffer, 5 + n)
+    close(ins, p1, p2, buffer, 5 + n)
 }
 
 // Writes the tag 83 and the length of n filled bytes at place 5; the place after them.

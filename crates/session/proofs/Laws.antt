@@ -36,22 +36,22 @@ use Rattle.reading.specs.Answer as reading
 use Rattle.reading.specs.Taking.{PrimitiveItem}
 use Rattle.reading.proofs.ResponseVerdict.{the-type as verdict-type}
 use Rattle.analysis.specs.declared.choice.Choice.{Choice}
-use Rattle.analysis.specs.Action.{aboveTransactionLimit, findingsOf, choiceFor}
+use Rattle.analysis.specs.Action.{transactionLimit, aboveTransactionLimit, findingsOf, choiceFor}
 use Rattle.analysis.specs.Cvm.{cvmNotApplicable}
 use Rattle.analysis.specs.declared.action.AnalysisFindings.{AnalysisFindings}
 use Rattle.session_record.specs.declared.Outcome.{Outcome}
 use Rattle.session_record.specs.declared.Ending.{Ending}
 use Rattle.session_record.specs.declared.RequestedCryptogram.{RequestedCryptogram}
 use Rattle.session_record.specs.declared.Refusal.{Refusal}
+use Rattle.session_record.specs.declared.AwaitedResponse.{AwaitedResponse}
 use Rattle.session_record.specs.declared.Phase.{Phase}
 use Rattle.session_record.specs.declared.Session.{Session}
 use Rattle.session_record.specs.declared.Reply.{Reply}
 use Rattle.session_record.specs.declared.Transition.{Transition}
 use Rattle.basics.specs.Reason.{refusedPhase, refusedBuffer, refusedRanges, reasonNone, reasonNotAllowed, reasonMissing, reasonAfl, reasonAboveLimit, reasonDol, reasonCryptogram, reasonMode, unless}
-use Rattle.session_record.specs.Session.{sessionOf, endingOf, replyOf, failingTransition, commandTransition}
+use Rattle.session_record.specs.Session.{sessionOf, endingOf, endingBy, replyOf, endingTransition, failingTransition, commandTransition}
 use Rattle.store.specs.Held.{hasObject, storedByte}
-use Rattle.session_record.specs.Ranges.{emvMode, emvOrMagStripeMode, storedAfl, cryptogramDataPresent, trackDataPresent, inRanges}
-use Rattle.session_record.specs.Clauses.{zeroTvr}
+use Rattle.session_record.specs.Ranges.{emvMode, emvOrMagStripeMode, storedAfl, cryptogramDataPresent, trackDataPresent, zeroTvr, inRanges}
 use Rattle.session_record.proofs.Tags.{bytes-are}
 use Rattle.session_record.proofs.Phase.{the-type as phase-type}
 use Rattle.start_data.specs.declared.LoadResult.{LoadResult}
@@ -60,10 +60,11 @@ use Rattle.start_data.proofs.Laws.{was-taken, was-refused}
 use Rattle.session.specs.declared.Check.{Check}
 use Rattle.session.specs.declared.CryptogramOutcome.{CryptogramOutcome}
 use Rattle.session.specs.declared.Decision.{Decision}
-use Rattle.session.specs.Steps.{Step, DidStep, withoutCommand, refusedStep, endedReply, endingBy, failedStep, withTvr, withFindings, leastBuffer, admittedStep, commandOrReason}
-use Rattle.session.specs.Start.{askGpo, startLoaded, startIn}
-use Rattle.session.specs.Answer.{askRecordFound, aipAndAflPresent, gpoStoreReason, afterGpoRead, askCryptogram, requestedCryptogram, afterAnalysis, afterRecordsEmv, afterLastRecord, cryptogramOutcome, endingFor, cryptogramPresent, cryptogramEnding}
-use Rattle.session.specs.MagStripe.{askChecksum, afterRecordsMagStripe, storedTrack, storedBitmaps, storedDigitValues, trackCanTakeDigits, storeWithDigits, afterChecksumRead, checksumOutcomeOf, checksumReply}
+use Rattle.session.specs.Steps.{Next, ask, end, fail, heldCvm, askWithDol, readThen, withTvr, withFindings}
+use Rattle.session.specs.Steps.{Step, DidStep, CallEffect, refuse, stepOn, refusedStep, stepOf, leastBuffer, admittedStep}
+use Rattle.session.specs.Start.{askGpo, startLoaded, startCall}
+use Rattle.session.specs.Answer.{askFound, aipAndAflPresent, afterGpo, askCryptogram, requestedCryptogram, afterRecordsEmv, afterLastRecord, cryptogramOutcome, endingFor, cryptogramPresent, cryptogramEnding}
+use Rattle.session.specs.MagStripe.{askChecksum, afterRecordsMagStripe, storedTrack, storedBitmaps, storedDigitValues, trackCanTakeDigits, storeWithDigits, afterChecksum, checksumTaken, checksumNext}
 use Rattle.session.specs.Inner.{loadRefusalNumber, checkNumber, cryptogramOutcomeEnding}
 
 -- ---- a step by an equation
@@ -76,21 +77,29 @@ pub reply-as : {t u : Transition} (b : List ℕ) → t ≡ u → replyOf t b ≡
 reply-as b e = ap (λ (x : Transition). replyOf x b) e
 
 -- no command: the buffer stands as it was, and the transition t is u, with the store b
-pub did-without-command : {t u : Transition} (b : List ℕ) {buf : List ℕ} {s : Step} → t ≡ u → s ≡ withoutCommand (replyOf u b) buf → DidStep (replyOf t b) buf s
+pub did-without-command : {t u : Transition} (b : List ℕ) {buf : List ℕ} {s : Step} → t ≡ u → s ≡ record { reply = replyOf u b; buffer = buf } → DidStep (replyOf t b) buf s
 did-without-command b e f = did-as f (record { reply = reply-as b e; buffer = refl })
+
+-- what follows, by an equation
+pub did-next : {r : Reply} {c : List ℕ} (n : ℕ) (buf : List ℕ) {x y : Next} → x ≡ y → DidStep r c (stepOn n buf y) → DidStep r c (stepOn n buf x)
+did-next n buf e d = did-as (ap (stepOn n buf) e) d
+
+-- the session ends: the buffer stays
+pub did-end : (n : ℕ) (b buf : List ℕ) {t : Transition} {m : ℕ} {e : Ending} {x : Next} → t ≡ endingTransition m n e → x ≡ end e m b → DidStep (replyOf t b) buf (stepOn n buf x)
+did-end n b buf h f = did-next n buf f (record { reply = reply-as b h; buffer = refl })
 
 -- ---- the refusals that every call checks first
 
-module _ (s : Session) (buf : List ℕ) (step : Step) where
-  pub admitted-short : length buf < leastBuffer → admittedStep s buf step ≡ refusedStep s refusedBuffer buf
+module _ (s : Session) (buf : List ℕ) (x : CallEffect) where
+  pub admitted-short : length buf < leastBuffer → admittedStep s buf x ≡ refusedStep s refusedBuffer buf
   unfolding admittedStep
   admitted-short h = if-yes _ _ (lt-ltb (length buf) leastBuffer h)
 
-  pub admitted-ranges : leastBuffer ≤ length buf → inRanges s ≡ false → admittedStep s buf step ≡ refusedStep s refusedRanges buf
+  pub admitted-ranges : leastBuffer ≤ length buf → inRanges s ≡ false → admittedStep s buf x ≡ refusedStep s refusedRanges buf
   unfolding admittedStep
   admitted-ranges h e = if-no _ _ (le-ltb (length buf) leastBuffer h) ∙ if-yes _ _ (ap not e)
 
-  pub admitted-in : leastBuffer ≤ length buf → inRanges s ≡ true → admittedStep s buf step ≡ step
+  pub admitted-in : leastBuffer ≤ length buf → inRanges s ≡ true → admittedStep s buf x ≡ stepOf s buf x
   unfolding admittedStep
   admitted-in h e = if-no _ _ (le-ltb (length buf) leastBuffer h) ∙ if-no _ _ (ap not e)
 
@@ -127,18 +136,19 @@ unread-store : (a : Awaited) (b s : List ℕ) → (reading.readAnswer a b s .rea
 unread-store a b s = read-ind (λ (o : reading.ReadingOutcome). (o .reason ≡ 0 → ⊥) → o .store ≡ b) b (λ r n h z. refl) (λ n c z. absurd (z refl)) a s
 
 -- the answer s, awaited as a and read as r on the store b, left the store d
-module _ (a : Awaited) (b s : List ℕ) {r : Reading} {d : List ℕ} (g : reading.GivesReading r d (reading.readAnswer a b s)) where
+module _ (a : Awaited) (m : ℕ) (b s : List ℕ) (next : List ℕ → Next) {r : Reading} {d : List ℕ} (g : reading.GivesReading r d (reading.readAnswer a b s)) where
   abbrev o : reading.ReadingOutcome
   o = reading.readAnswer a b s
 
-  pub read-yes : {A : Type 0} (go : List ℕ → A) (failed : A) → r .verdict ≡ Accepted → if (eqb (o .reason) 0) (go (o .store)) failed ≡ go d
-  read-yes go failed e = if-yes _ _ (eq-eqb _ 0 (sym (g .reason) ∙ ap reading.verdictNumber e)) ∙ ap go (sym (g .store))
+  pub read-goes : r .verdict ≡ Accepted → readThen a m b s next ≡ next d
+  unfolding readThen
+  read-goes e = if-yes _ _ (eq-eqb _ 0 (sym (g .reason) ∙ ap reading.verdictNumber e)) ∙ ap next (sym (g .store))
 
-  pub read-no : {A : Type 0} (going : A) (failed : List ℕ → ℕ → A) → OneOf (1 ∷ 2 ∷ 3 ∷ []) (tagOf verdict-type (r .verdict))
-      → if (eqb (o .reason) 0) going (failed b (o .reason)) ≡ failed d (reading.verdictNumber (r .verdict))
-  read-no going failed h =
+  pub read-ends : OneOf (1 ∷ 2 ∷ 3 ∷ []) (tagOf verdict-type (r .verdict)) → readThen a m b s next ≡ end (endingBy (reading.verdictNumber (r .verdict))) m d
+  unfolding readThen
+  read-ends h =
       let z : (o .reason ≡ 0 → ⊥) = λ e. not-accepted (r .verdict) h (g .reason ∙ e) in
-      if-no _ _ (ne-eqb _ 0 z) ∙ ap₂ failed (sym (g .store ∙ unread-store a b s z)) (sym (g .reason))
+      if-no _ _ (ne-eqb _ 0 z) ∙ ap₂ (λ (n : ℕ) (c : List ℕ). end (endingBy n) m c) (sym (g .reason)) (sym (g .store ∙ unread-store a b s z))
 
 -- ---- what the code's two-case answers say of their tests
 
@@ -242,28 +252,24 @@ digits-stored b v e p = p ∙ (λ i. putRow dictionaryRows b (sym track-place i)
 -- ---- start
 
 -- a phase other than fresh
-pub not-fresh : (p : Phase) (s : Session) (bytes buf : List ℕ) → OneOf (1 ∷ 2 ∷ 3 ∷ 4 ∷ 5 ∷ []) (tagOf phase-type p) → startIn p s bytes buf ≡ refusedStep s refusedPhase buf
-not-fresh Phase.Fresh s bytes buf h =
-    absurd (⊎-elim (λ e. omega arith) (λ r. ⊎-elim (λ e. omega arith) (λ r. ⊎-elim (λ e. omega arith) (λ r. ⊎-elim (λ e. omega arith) (λ e. omega arith) r) r) r) h)
-not-fresh Phase.Gpo s bytes buf h = refl
-not-fresh (Phase.Record p) s bytes buf h = refl
-not-fresh (Phase.Cryptogram a) s bytes buf h = refl
-not-fresh (Phase.Checksum k) s bytes buf h = refl
-not-fresh (Phase.Ended e) s bytes buf h = refl
+pub not-fresh : (p : Phase) (b bytes : List ℕ) → OneOf (1 ∷ 2 ∷ []) (tagOf phase-type p) → startCall p b bytes ≡ refuse refusedPhase
+not-fresh Phase.Fresh b bytes h = absurd (⊎-elim (λ e. omega arith) (λ e. omega arith) h)
+not-fresh (Phase.Waiting w) b bytes h = refl
+not-fresh (Phase.Ended e) b bytes h = refl
+
+-- the step of a loading on a fresh session
+abbrev loading : ℕ → List ℕ → List ℕ → LoadedStore → Step
+loading n b buf x = stepOf (sessionOf Phase.Fresh n b) buf (startLoaded x)
 
 -- the loading of a fresh session said r and left the store d
 module _ (n : ℕ) (b buf : List ℕ) {r : LoadResult} {d : List ℕ} where
-  pub loading-refused : {f : Refusal} (x : LoadedStore) → LoadsStart r d b x → r ≡ LoadResult.Refused f
-      → startLoaded (sessionOf Phase.Fresh n b) buf x ≡ refusedStep (sessionOf Phase.Fresh n d) (loadRefusalNumber r) buf
+  pub loading-refused : {f : Refusal} (x : LoadedStore) → LoadsStart r d b x → r ≡ LoadResult.Refused f → loading n b buf x ≡ refusedStep (sessionOf Phase.Fresh n d) (loadRefusalNumber r) buf
   loading-refused x g e =
       let w = was-refused x g e in
-      ap (startLoaded (sessionOf Phase.Fresh n b) buf) (w .0)
-      ∙ ap₂ (λ (c : List ℕ) (y : LoadResult). refusedStep (sessionOf Phase.Fresh n c) (loadRefusalNumber y) buf) (sym (w .1)) (sym e)
+      ap (loading n b buf) (w .0) ∙ ap₂ (λ (c : List ℕ) (y : LoadResult). refusedStep (sessionOf Phase.Fresh n c) (loadRefusalNumber y) buf) (sym (w .1)) (sym e)
 
-  pub loading-taken : {k : List ℕ} (x : LoadedStore) → LoadsStart r d b x → r ≡ LoadResult.Loaded → k ≡ putRow dictionaryRows d rowTvr zeroTvr
-      → startLoaded (sessionOf Phase.Fresh n b) buf x ≡ askGpo n k buf
-  loading-taken x g e f =
-      ap (startLoaded (sessionOf Phase.Fresh n b) buf) (was-taken x g e) ∙ ap (λ (c : List ℕ). askGpo n c buf) (results-stored d zeroTvr f)
+  pub loading-taken : {k : List ℕ} (x : LoadedStore) → LoadsStart r d b x → r ≡ LoadResult.Loaded → k ≡ putRow dictionaryRows d rowTvr zeroTvr → loading n b buf x ≡ stepOn n buf (askGpo k)
+  loading-taken x g e f = ap (loading n b buf) (was-taken x g e) ∙ ap (λ (c : List ℕ). stepOn n buf (askGpo c)) (results-stored d zeroTvr f)
 
 -- ---- a record of the AFL, by the row's value and a number
 
@@ -279,91 +285,85 @@ found-there v k {r} {w} f e =
 
 -- ---- a command that carries a filled list, by what was written
 
-module _ (m n : ℕ) (d : List ℕ) (p : Phase) (buf : List ℕ) {b : List ℕ} {t : Transition} {w : DolCommand} where
+module _ (n : ℕ) (d : List ℕ) (v : AwaitedResponse) (buf : List ℕ) {b : List ℕ} {t : Transition} {w : DolCommand} where
   pub handed-none : (x : Option (List ℕ)) → w ≡ dolCommandOf x → b ≡ bufferWithCommand x buf → w ≡ NoCommand
-      → t ≡ failingTransition m n reasonDol → DidStep (replyOf t d) b (commandOrReason m n d p buf x)
+      → t ≡ failingTransition (heldCvm v) n reasonDol → DidStep (replyOf t d) b (stepOn n buf (askWithDol v d x))
   handed-none none e f g h = record { reply = reply-as d h; buffer = f }
   handed-none (some c) e f g h = let z : _≡_ {A = ℕ} 0 1 = cc in absurd (omega arith)
 
   pub handed-some : {k : Handed} (x : Option (List ℕ)) → w ≡ dolCommandOf x → b ≡ bufferWithCommand x buf → w ≡ Command k
-      → t ≡ commandTransition p (n + 1) (k .len) → DidStep (replyOf t d) b (commandOrReason m n d p buf x)
+      → t ≡ commandTransition v (n + 1) (k .len) → DidStep (replyOf t d) b (stepOn n buf (askWithDol v d x))
   handed-some none e f g h = let z : _≡_ {A = ℕ} 0 1 = cc in absurd (omega arith)
   handed-some {k} (some c) e f g h =
       let z : k ≡ record { len = length c } = cc in
-      record { reply = reply-as d (h ∙ ap (λ (y : Handed). commandTransition p (n + 1) (y .len)) z); buffer = f }
+      record { reply = reply-as d (h ∙ ap (λ (y : Handed). commandTransition v (n + 1) (y .len)) z); buffer = f }
 
-module _ (n : ℕ) (b buf : List ℕ) where
+module _ (b : List ℕ) where
   -- ---- after GPO
 
-  -- a reason of the store ends the session
-  stops : (m : ℕ) → gpoStoreReason b ≡ suc m → afterGpoRead n b buf ≡ failedStep cvmNotApplicable n b (suc m) buf
-  unfolding afterGpoRead
-  stops m e = if-no _ _ (ne-eqb (gpoStoreReason b) 0 (λ z. omega (arith, z, e))) ∙ ap (λ (r : ℕ). failedStep cvmNotApplicable n b r buf) e
+  pub gpo-missing : aipAndAflPresent b ≡ false → afterGpo b ≡ fail reasonMissing b
+  unfolding afterGpo
+  gpo-missing e = if-yes _ _ (ap not e)
 
-  pub gpo-missing : aipAndAflPresent b ≡ false → afterGpoRead n b buf ≡ failedStep cvmNotApplicable n b reasonMissing buf
-  unfolding gpoStoreReason
-  gpo-missing e = stops 3 (if-yes _ _ (ap not e))
+  pub gpo-mode : aipAndAflPresent b ≡ true → emvOrMagStripeMode b ≡ false → afterGpo b ≡ fail reasonMode b
+  unfolding afterGpo
+  gpo-mode e m = if-no _ _ (ap not e) ∙ if-yes _ _ (ap not m)
 
-  pub gpo-mode : aipAndAflPresent b ≡ true → emvOrMagStripeMode b ≡ false → afterGpoRead n b buf ≡ failedStep cvmNotApplicable n b reasonMode buf
-  unfolding gpoStoreReason
-  gpo-mode e m = stops 10 (if-no _ _ (ap not e) ∙ if-yes _ _ (ap not m))
-
-  pub gpo-afl : aipAndAflPresent b ≡ true → emvOrMagStripeMode b ≡ true → acceptsAfl (storedAfl b) ≡ false → afterGpoRead n b buf ≡ failedStep cvmNotApplicable n b reasonAfl buf
-  unfolding gpoStoreReason
-  gpo-afl e m a = stops 4 (if-no _ _ (ap not e) ∙ if-no _ _ (ap not m) ∙ if-yes _ _ (ap not a))
+  pub gpo-afl : aipAndAflPresent b ≡ true → emvOrMagStripeMode b ≡ true → acceptsAfl (storedAfl b) ≡ false → afterGpo b ≡ fail reasonAfl b
+  unfolding afterGpo
+  gpo-afl e m a = if-no _ _ (ap not e) ∙ if-no _ _ (ap not m) ∙ if-yes _ _ (ap not a)
 
   pub gpo-ask : (x : RecordFound) → aipAndAflPresent b ≡ true → emvOrMagStripeMode b ≡ true → acceptsAfl (storedAfl b) ≡ true
-      → aflRecordAt (storedAfl b) 1 ≡ x → afterGpoRead n b buf ≡ askRecordFound n b 1 buf x
-  unfolding afterGpoRead gpoStoreReason
-  gpo-ask x e m a f =
-      if-yes _ _ (eq-eqb _ 0 (if-no _ _ (ap not e) ∙ if-no _ _ (ap not m) ∙ if-no _ _ (ap not a))) ∙ ap (askRecordFound n b 1 buf) f
+      → aflRecordAt (storedAfl b) 1 ≡ x → afterGpo b ≡ askFound (transactionLimit b) 1 b (fail reasonAfl b) x
+  unfolding afterGpo
+  gpo-ask x e m a f = if-no _ _ (ap not e) ∙ if-no _ _ (ap not m) ∙ if-no _ _ (ap not a) ∙ ap (askFound (transactionLimit b) 1 b (fail reasonAfl b)) f
 
   -- ---- after the last record
 
   module _ (limit : ℕ) where
-    pub records-limit : aboveTransactionLimit limit b ≡ true → afterRecordsEmv limit n b buf ≡ failedStep cvmNotApplicable n b reasonAboveLimit buf
+    pub records-limit : aboveTransactionLimit limit b ≡ true → afterRecordsEmv limit b ≡ fail reasonAboveLimit b
     unfolding afterRecordsEmv
     records-limit e = if-yes _ _ e
 
-    pub records-missing : aboveTransactionLimit limit b ≡ false → cryptogramDataPresent b ≡ false → afterRecordsEmv limit n b buf ≡ failedStep cvmNotApplicable n b reasonMissing buf
+    pub records-missing : aboveTransactionLimit limit b ≡ false → cryptogramDataPresent b ≡ false → afterRecordsEmv limit b ≡ fail reasonMissing b
     unfolding afterRecordsEmv
     records-missing e f = if-no _ _ e ∙ if-yes _ _ (ap not f)
 
-    pub records-analysed : aboveTransactionLimit limit b ≡ false → cryptogramDataPresent b ≡ true → afterRecordsEmv limit n b buf ≡ afterAnalysis limit n b buf
+    pub records-analysed : aboveTransactionLimit limit b ≡ false → cryptogramDataPresent b ≡ true → afterRecordsEmv limit b ≡ askCryptogram (requestedCryptogram limit b) (withFindings b (findingsOf b))
     unfolding afterRecordsEmv
     records-analysed e f = if-no _ _ e ∙ if-no _ _ (ap not f)
 
     -- by the mode
-    pub last-emv : emvMode b ≡ true → afterLastRecord limit n b buf ≡ afterRecordsEmv limit n b buf
+    pub last-emv : emvMode b ≡ true → afterLastRecord limit b ≡ afterRecordsEmv limit b
     unfolding afterLastRecord
     last-emv e = if-yes _ _ e
 
-    pub last-mag-stripe : emvMode b ≡ false → afterLastRecord limit n b buf ≡ afterRecordsMagStripe limit n b buf
+    pub last-mag-stripe : emvMode b ≡ false → afterLastRecord limit b ≡ afterRecordsMagStripe limit b
     unfolding afterLastRecord
     last-mag-stripe e = if-no _ _ e
 
-    pub mag-stripe-limit : aboveTransactionLimit limit b ≡ true → afterRecordsMagStripe limit n b buf ≡ failedStep cvmNotApplicable n b reasonAboveLimit buf
+    pub mag-stripe-limit : aboveTransactionLimit limit b ≡ true → afterRecordsMagStripe limit b ≡ fail reasonAboveLimit b
     unfolding afterRecordsMagStripe
     mag-stripe-limit e = if-yes _ _ e
 
-    pub mag-stripe-missing : aboveTransactionLimit limit b ≡ false → trackDataPresent b ≡ false → afterRecordsMagStripe limit n b buf ≡ failedStep cvmNotApplicable n b reasonMissing buf
+    pub mag-stripe-missing : aboveTransactionLimit limit b ≡ false → trackDataPresent b ≡ false → afterRecordsMagStripe limit b ≡ fail reasonMissing b
     unfolding afterRecordsMagStripe
     mag-stripe-missing e f = if-no _ _ e ∙ if-yes _ _ (ap not f)
 
-    pub mag-stripe-asks : aboveTransactionLimit limit b ≡ false → trackDataPresent b ≡ true → afterRecordsMagStripe limit n b buf ≡ askChecksum limit n b buf
+    pub mag-stripe-asks : aboveTransactionLimit limit b ≡ false → trackDataPresent b ≡ true → afterRecordsMagStripe limit b ≡ askChecksum limit b
     unfolding afterRecordsMagStripe
     mag-stripe-asks e f = if-no _ _ e ∙ if-no _ _ (ap not f)
 
     -- what is found, stored and chosen on
     pub analysed-as : {f : AnalysisFindings} {k l : List ℕ} {x : Choice} → f ≡ findingsOf b → x ≡ choiceFor b (f .bits)
         → k ≡ putRow dictionaryRows b rowCvmResults (f .results) → l ≡ putRow dictionaryRows k rowTvr (f .bits)
-        → afterAnalysis limit n b buf ≡ askCryptogram n l (record { choice = x; cvm = f .cvm; limit = limit }) buf
-    unfolding afterAnalysis requestedCryptogram
+        → askCryptogram (requestedCryptogram limit b) (withFindings b (findingsOf b)) ≡ askCryptogram (record { choice = x; cvm = f .cvm; limit = limit }) l
+    unfolding requestedCryptogram
     analysed-as {f} e c p q =
-        ap₂ (λ (d : List ℕ) (a : RequestedCryptogram). askCryptogram n d a buf)
-        (ap (withFindings b) (sym e) ∙ findings-stored b f p q)
+        ap₂ askCryptogram
         (ap (λ (g : AnalysisFindings). record { choice = choiceFor b (g .bits); cvm = g .cvm; limit = limit }) (sym e)
         ∙ ap (λ (y : Choice). record { choice = y; cvm = f .cvm; limit = limit }) (sym c))
+        (ap (withFindings b) (sym e) ∙ findings-stored b f p q)
 
 -- ---- the answer to the cryptogram
 
@@ -378,32 +378,32 @@ module _ (a : RequestedCryptogram) (b : List ℕ) where
 
 -- ---- the answer to the checksum
 
-module _ (n : ℕ) (b : List ℕ) where
-  pub counter-missing : hasObject b 0x9F36 ≡ false → afterChecksumRead n b ≡ endedReply cvmNotApplicable n b (endingBy reasonMissing)
-  unfolding afterChecksumRead
+module _ (b : List ℕ) where
+  pub counter-missing : hasObject b 0x9F36 ≡ false → afterChecksum b ≡ fail reasonMissing b
+  unfolding afterChecksum
   counter-missing e = if-yes _ _ (ap not e)
 
-  pub code-missing : hasObject b 0x9F36 ≡ true → hasObject b 0x9F61 ≡ false → afterChecksumRead n b ≡ endedReply cvmNotApplicable n b (endingOf Outcome.Declined reasonNone)
-  unfolding afterChecksumRead
+  pub code-missing : hasObject b 0x9F36 ≡ true → hasObject b 0x9F61 ≡ false → afterChecksum b ≡ end (endingOf Outcome.Declined reasonNone) cvmNotApplicable b
+  unfolding afterChecksum
   code-missing e f = if-no _ _ (ap not e) ∙ if-yes _ _ (ap not f)
 
   pub digits-go-in : {d : List ℕ} → hasObject b 0x9F36 ≡ true → hasObject b 0x9F61 ≡ true → d ≡ storeWithDigits b
-      → afterChecksumRead n b ≡ endedReply cvmNotApplicable n d (endingOf Outcome.OnlineRequest reasonNone)
-  unfolding afterChecksumRead
-  digits-go-in e f g = if-no _ _ (ap not e) ∙ if-no _ _ (ap not f) ∙ ap (λ (x : List ℕ). endedReply cvmNotApplicable n x (endingOf Outcome.OnlineRequest reasonNone)) (sym g)
+      → afterChecksum b ≡ end (endingOf Outcome.OnlineRequest reasonNone) cvmNotApplicable d
+  unfolding afterChecksum
+  digits-go-in e f g = if-no _ _ (ap not e) ∙ if-no _ _ (ap not f) ∙ ap (end (endingOf Outcome.OnlineRequest reasonNone) cvmNotApplicable) (sym g)
 
-  pub taken-sound : (d : List ℕ) → trackCanTakeDigits b ≡ true → checksumOutcomeOf n b d ≡ afterChecksumRead n d
-  unfolding checksumOutcomeOf
+  pub taken-sound : (d : List ℕ) → trackCanTakeDigits b ≡ true → checksumTaken b d ≡ afterChecksum d
+  unfolding checksumTaken
   taken-sound d e = if-yes _ _ e
 
   -- a track that cannot take the digits: by the reading's verdict v
   module _ (card : List ℕ) (v : ResponseVerdict) (e : trackCanTakeDigits b ≡ false) (q : reading.verdictNumber v ≡ reading.readAnswer Awaited.Checksum b card .reason) where
-    pub unsound-read : OneOf (1 ∷ 2 ∷ 3 ∷ []) (tagOf verdict-type v) → checksumReply n b card ≡ endedReply cvmNotApplicable n b (endingBy (reading.verdictNumber v))
-    unfolding checksumReply
+    pub unsound-read : OneOf (1 ∷ 2 ∷ 3 ∷ []) (tagOf verdict-type v) → checksumNext b card ≡ fail (reading.verdictNumber v) b
+    unfolding checksumNext readThen
     unsound-read h =
         if-no _ _ (ne-eqb _ 0 (λ (y : reading.readAnswer Awaited.Checksum b card .reason ≡ 0). not-accepted v h (q ∙ y)))
-        ∙ ap (λ (x : ℕ). endedReply cvmNotApplicable n b (endingBy x)) (sym q)
+        ∙ ap (λ (x : ℕ). fail x b) (sym q)
 
-    pub unsound-kept : v ≡ Accepted → checksumReply n b card ≡ endedReply cvmNotApplicable n b (endingBy reasonNotAllowed)
-    unfolding checksumReply checksumOutcomeOf
+    pub unsound-kept : v ≡ Accepted → checksumNext b card ≡ fail reasonNotAllowed b
+    unfolding checksumNext readThen checksumTaken
     unsound-kept z = if-yes _ _ (eq-eqb _ 0 (sym q ∙ ap reading.verdictNumber z)) ∙ if-no _ _ e

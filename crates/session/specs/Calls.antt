@@ -3,8 +3,8 @@
 -- Assumes nothing.
 use mathlib.Core.Bool.{Bool, true, false}
 use mathlib.Core.List.{List, [], _∷_}
-use Prim.Native.Nat.{ℕ}
 use lib.ListN.{take}
+use Rattle.basics.specs.Types.{Response, StartBytes, CommandBytes, Buffer}
 use Rattle.session_record.specs.declared.Session.{Session}
 use Rattle.session_record.specs.declared.CallResult.{CallResult}
 use Rattle.session.specs.Steps.{Step, linkFailedStep, stopStep}
@@ -15,10 +15,10 @@ use Rattle.session.specs.Answer.{answerStep}
 
 -- a call, with the bytes that come in and the caller's command buffer
 pub data Call : Type 0 where
-  start : List ℕ → List ℕ → Call
-  answer : List ℕ → List ℕ → Call
-  link-failed : List ℕ → Call
-  stop : List ℕ → Call
+  start : StartBytes → Buffer → Call
+  answer : Response → Buffer → Call
+  link-failed : Buffer → Call
+  stop : Buffer → Call
 
 -- what a call does to a session
 abbrev pub callStep : Session → Call → Step
@@ -55,18 +55,6 @@ isRefusal (CallResult.Command x) = false
 isRefusal (CallResult.Outcome e) = false
 isRefusal (CallResult.Refused r) = true
 
--- a command and its length
-abbrev pub isCommand : CallResult → Bool
-isCommand (CallResult.Command x) = true
-isCommand (CallResult.Outcome e) = false
-isCommand (CallResult.Refused r) = false
-
--- an outcome with its reason
-abbrev pub isOutcome : CallResult → Bool
-isOutcome (CallResult.Command x) = false
-isOutcome (CallResult.Outcome e) = true
-isOutcome (CallResult.Refused r) = false
-
 -- one of the three
 abbrev pub callResult : CallMade → CallResult
 callResult m = m .step .reply .answer
@@ -76,7 +64,7 @@ abbrev pub callRefused : CallMade → Bool
 callRefused m = isRefusal (callResult m)
 
 -- the command that a call hands out: as many bytes of its buffer's front as it says, read after the call
-abbrev pub commandSent : CallResult → List ℕ → List (List ℕ)
+abbrev pub commandSent : CallResult → Buffer → List CommandBytes
 commandSent (CallResult.Command x) buf = take (x .size) buf ∷ []
 commandSent (CallResult.Outcome e) buf = []
 commandSent (CallResult.Refused r) buf = []

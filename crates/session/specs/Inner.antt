@@ -1,22 +1,21 @@
 -- What private functions promise of the enums that they pass on: the number of document 01 for each case. A reader of
 -- the rules can skip this: `is-passed` and the laws after it (proofs/Laws) tie each to its test.
 -- Assumes nothing.
-use Prim.Native.Nat.{ℕ}
+use Rattle.basics.specs.Types.{Reason, RefusalNumber}
 use Rattle.basics.specs.Reason.{reasonNone, reasonCryptogram}
 use Rattle.session_record.specs.declared.Ending.{Ending}
-use Rattle.session_record.specs.Session.{endingOf}
+use Rattle.session_record.specs.Session.{endingOf, endingBy}
 use Rattle.start_data.specs.declared.LoadResult.{LoadResult}
 use Rattle.session.specs.declared.Check.{Check}
 use Rattle.session.specs.declared.CryptogramOutcome.{CryptogramOutcome}
-use Rattle.session.specs.Steps.{endingBy}
 
 -- the number of a loading that is refused
-abbrev pub loadRefusalNumber : LoadResult → ℕ
+abbrev pub loadRefusalNumber : LoadResult → RefusalNumber
 loadRefusalNumber LoadResult.Loaded = 0
 loadRefusalNumber (LoadResult.Refused r) = r .number
 
 -- a check by the reason that it gives where it fails: 0 where the session goes on, else the reason that ends it
-abbrev pub checkNumber : ℕ → Check → ℕ
+abbrev pub checkNumber : Reason → Check → Reason
 checkNumber reason Check.Passed = reasonNone
 checkNumber reason Check.Failed = reason
 

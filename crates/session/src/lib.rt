@@ -15,30 +15,31 @@ use dictionary::{ROW_CVC3_TRACK2, ROW_PCVC3_TRACK2, ROW_PUNATC_TRACK2, ROW_NATC_
 use afl::{AflCheck, RecordFound};
 use reading as reader; // `use reading::flat as reader;` reads without recursion (bin/host-flat)
 use reading::{Awaited, Sfi, ResponseVerdict};
-use session_record::{RequestedCryptogram, AwaitedChecksum, Outcome, Phase, AwaitedRecord, Reply, Session, Transition};
+use session_record::{AwaitedChecksum, AwaitedRecord, AwaitedResponse, Outcome, Phase, Reply, RequestedCryptogram, Session, Transition};
 use store::Store;
 use mag_stripe::{Bitmaps, DigitValues};
 use start_data::LoadResult;
 ghost use mathlib.Core.Path.{_≡_};
 ghost use mathlib.Core.Bool.{false, not};
-ghost use Prim.Native.Nat.{_+_, _≤_, _<_};
+ghost use mathlib.Core.List.{List};
+ghost use Prim.Native.Nat.{ℕ, _+_, _≤_, _<_};
 ghost use lib.ListN.{length, replicate};
 ghost use Rattle.basics.specs.Front.{withPrefix};
 ghost use Rattle.basics.specs.Reason.{reasonNotAllowed, reasonMissing, reasonAboveLimit, reasonMode, unless};
 ghost use Rattle.dictionary.specs.Rows.{storeSize};
 ghost use Rattle.store.specs.Held.{hasObject};
 ghost use Rattle.command.specs.ReadRecord.{readRecordCommand};
-ghost use Rattle.analysis.specs.Action.{aboveTransactionLimit};
+ghost use Rattle.start_data.specs.StartData.{loadStart};
+ghost use Rattle.analysis.specs.Action.{aboveTransactionLimit, findingsOf};
 ghost use Rattle.analysis.specs.Cvm.{cvmNumber};
-ghost use Rattle.session_record.specs.Session.{sessionOf, replyOf, commandTransition};
+ghost use Rattle.session_record.specs.Session.{sessionOf, commandTransition};
 ghost use Rattle.session_record.specs.Ranges.{emvMode, emvOrMagStripeMode, cryptogramDataPresent, trackDataPresent};
-ghost use Rattle.session.specs.Steps.{DidStep, DidTransition, endedReply, leastBuffer, abortStep, linkFailedStep, stopStep};
-ghost use Rattle.session.specs.Start.{askGpo, startStep, startOnParts, loadOnParts};
-ghost use Rattle.session.specs.Answer.{aipAndAflPresent, afterGpoRead, gpoStep};
-ghost use Rattle.session.specs.Answer.{askCryptogram, afterAnalysis, afterRecordsEmv, afterLastRecord, afterRecordRead, recordStep};
-ghost use Rattle.session.specs.MagStripe.{askChecksum, afterRecordsMagStripe, storedTrack, storedBitmaps, storedDigitValues, trackCanTakeDigits, storeWithDigits, afterChecksumRead, checksumReply};
+ghost use Rattle.session.specs.Steps.{DidStep, DidTransition, heldCvm, stepOn, stepOf, withFindings, leastBuffer, abortStep, linkFailedStep, stopStep};
+ghost use Rattle.session.specs.Start.{askGpo, startLoaded, startStep};
+ghost use Rattle.session.specs.Answer.{aipAndAflPresent, afterGpo, gpoNext, askCryptogram, requestedCryptogram, afterRecordsEmv, afterLastRecord, afterRecord, recordNext};
+ghost use Rattle.session.specs.Answer.{cryptogramOutcome, endingFor, cryptogramPresent, afterCryptogram, cryptogramNext, responseNext, answerStep};
+ghost use Rattle.session.specs.MagStripe.{askChecksum, afterRecordsMagStripe, storedTrack, storedBitmaps, storedDigitValues, trackCanTakeDigits, storeWithDigits, afterChecksum, checksumNext};
 ghost use Rattle.mag_stripe.specs.Digits.{trackWithDigits};
-ghost use Rattle.session.specs.Answer.{cryptogramOutcome, endingFor, cryptogramPresent, cryptogramEnding, cryptogramReply, answerStep, answerOnParts};
 ghost use Rattle.session.specs.Inner.{loadRefusalNumber, checkNumber, cryptogramOutcomeEnding};
 
 // The least command buffer.
@@ -110,7 +111,7 @@ pub fn stop(session: Session, command: &mut [u8]) -> Reply
 // `start` on a session's parts, the store borrowed.
 pub fn start_in(phase: Phase, count: u8, store: &mut [u8], terminal: &[u8], command: &mut [u8]) -> Transition
     ensures { λ r. ⌜ DidTransition r (now (store .exit)) (now (command .exit))
-        (startOnParts phase count (now (store .entry)) (now (terminal .entry)) (now (command .entry))) ⌝ }
+        (startStep (sessionOf phase count (now (store .entry))) (now (terminal .entry)) (now (command .entry))) ⌝ }
 {
     if command.len() < LEAST_BUFFER {
         return session_record::refuse_call(phase, count, basics::REFUSED_BUFFER);
@@ -127,7 +128,7 @@ pub fn start_in(phase: Phase, count: u8, store: &mut [u8], terminal: &[u8], comm
 // `answer` on a session's parts, the store borrowed.
 pub fn answer_in(phase: Phase, count: u8, store: &mut [u8], card: &[u8], command: &mut [u8]) -> Transition
     ensures { λ r. ⌜ DidTransition r (now (store .exit)) (now (command .exit))
-        (answerOnParts phase count (now (store .entry)) (now (card .entry)) (now (command .entry))) ⌝ }
+        (answerStep (sessionOf phase count (now (store .entry))) (now (card .entry)) (now (command .entry))) ⌝ }
 {
     if command.len() < LEAST_BUFFER {
         return session_record::refuse_call(phase, count, basics::REFUSED_BUFFER);
@@ -137,10 +138,7 @@ pub fn answer_in(phase: Phase, count: u8, store: &mut [u8], card: &[u8], command
     }
     match phase {
         Phase::Fresh => session_record::refuse_call(phase, count, basics::REFUSED_PHASE),
-        Phase::Gpo => take_gpo(count, store, card, command),
-        Phase::Record(place) => take_record(place, count, store, card, command),
-        Phase::Cryptogram(asked) => take_cryptogram(asked, count, store, card),
-        Phase::Checksum(_) => take_checksum(count, store, card),
+        Phase::Waiting(awaited) => take_response(awaited, count, store, card, command),
         Phase::Ended(_) => session_record::refuse_call(phase, count, basics::REFUSED_PHASE),
     }
 }
@@ -174,11 +172,20 @@ fn abort(phase: Phase, count: u8, bytes: &[u8], reason: u8, command: &mut [u8]) 
     }
     match phase {
         Phase::Fresh => session_record::refuse_call(phase, count, basics::REFUSED_PHASE),
-        Phase::Gpo => session_record::fail_session(count, reason, NOT_APPLICABLE),
-        Phase::Record(_) => session_record::fail_session(count, reason, NOT_APPLICABLE),
-        Phase::Cryptogram(asked) => session_record::fail_session(count, reason, held_cvm(asked)),
-        Phase::Checksum(_) => session_record::fail_session(count, reason, NOT_APPLICABLE),
+        Phase::Waiting(awaited) => session_record::fail_session(count, reason, held_cvm(awaited)),
         Phase::Ended(_) => session_record::refuse_call(phase, count, basics::REFUSED_PHASE),
+    }
+}
+
+// The number of the CVM that a running session holds.
+fn held_cvm(awaited: AwaitedResponse) -> u8
+    ensures { λ r. ⌜ r ≡ heldCvm awaited ⌝ }
+{
+    match awaited {
+        AwaitedResponse::Gpo => NOT_APPLICABLE,
+        AwaitedResponse::Record(_) => NOT_APPLICABLE,
+        AwaitedResponse::Cryptogram(asked) => requested_cvm(asked),
+        AwaitedResponse::Checksum(_) => NOT_APPLICABLE,
     }
 }
 
@@ -187,7 +194,7 @@ fn load_objects(count: u8, store: &mut [u8], terminal: &[u8], command: &mut [u8]
     requires { ⌜ (leastBuffer ≤ length (now command)) × (count < 255) ⌝ }
     requires { ⌜ now store ≡ replicate storeSize 0 ⌝ }
     ensures { λ r. ⌜ DidTransition r (now (store .exit)) (now (command .exit))
-        (loadOnParts count (now (store .entry)) (now (terminal .entry)) (now (command .entry))) ⌝ }
+        (stepOf (sessionOf Phase.Fresh count (now (store .entry))) (now (command .entry)) (startLoaded (loadStart (now (store .entry)) (now (terminal .entry))))) ⌝ }
 {
     let said = start_data::load(store, terminal);
     let LoadResult::Loaded = said else {
@@ -212,12 +219,27 @@ fn refusal_number(said: LoadResult) -> u8
 fn ask_gpo(count: u8, bytes: &[u8], command: &mut [u8]) -> Transition
     requires { ⌜ (leastBuffer ≤ length (now command)) × (count < 255) ⌝ }
     ensures { λ r. ⌜ DidTransition r (now (bytes .entry)) (now (command .exit))
-        (askGpo count (now (bytes .entry)) (now (command .entry))) ⌝ }
+        (stepOn count (now (command .entry)) (askGpo (now (bytes .entry)))) ⌝ }
 {
     let DolCommand::Command(c) = command::get_processing_options(bytes, command) else {
         return session_record::fail_session(count, basics::REASON_DOL, NOT_APPLICABLE);
     };
-    session_record::issue_command(Phase::Gpo, count + 1, c.len)
+    session_record::issue_command(AwaitedResponse::Gpo, count + 1, c.len)
+}
+
+// The response that was awaited.
+fn take_response(awaited: AwaitedResponse, count: u8, store: &mut [u8], card: &[u8], command: &mut [u8]) -> Transition
+    requires { ⌜ (leastBuffer ≤ length (now command)) × (count < 255) ⌝ }
+    requires { ⌜ length (now store) ≡ storeSize ⌝ }
+    ensures { λ r. ⌜ DidTransition r (now (store .exit)) (now (command .exit))
+        (stepOn count (now (command .entry)) (responseNext (now (store .entry)) (now (card .entry)) awaited)) ⌝ }
+{
+    match awaited {
+        AwaitedResponse::Gpo => take_gpo(count, store, card, command),
+        AwaitedResponse::Record(place) => take_record(place, count, store, card, command),
+        AwaitedResponse::Cryptogram(asked) => take_cryptogram(asked, count, store, card),
+        AwaitedResponse::Checksum(_) => take_checksum(count, store, card),
+    }
 }
 
 // The answer to GPO.
@@ -225,7 +247,7 @@ fn take_gpo(count: u8, store: &mut [u8], card: &[u8], command: &mut [u8]) -> Tra
     requires { ⌜ (leastBuffer ≤ length (now command)) × (count < 255) ⌝ }
     requires { ⌜ length (now store) ≡ storeSize ⌝ }
     ensures { λ r. ⌜ DidTransition r (now (store .exit)) (now (command .exit))
-        (gpoStep count (now (store .entry)) (now (card .entry)) (now (command .entry))) ⌝ }
+        (stepOn count (now (command .entry)) (gpoNext (now (store .entry)) (now (card .entry)))) ⌝ }
 {
     let read = reader::read_answer(store, Awaited::Gpo, card);
     let verdict = read.verdict;
@@ -239,7 +261,7 @@ fn take_gpo(count: u8, store: &mut [u8], card: &[u8], command: &mut [u8]) -> Tra
 fn after_gpo(count: u8, bytes: &[u8], command: &mut [u8]) -> Transition
     requires { ⌜ (leastBuffer ≤ length (now command)) × (count < 255) ⌝ }
     ensures { λ r. ⌜ DidTransition r (now (bytes .entry)) (now (command .exit))
-        (afterGpoRead count (now (bytes .entry)) (now (command .entry))) ⌝ }
+        (stepOn count (now (command .entry)) (afterGpo (now (bytes .entry)))) ⌝ }
 {
     let Check::Passed = gpo_data_present(bytes) else {
         return session_record::fail_session(count, basics::REASON_MISSING, NOT_APPLICABLE);
@@ -262,11 +284,11 @@ fn after_gpo(count: u8, bytes: &[u8], command: &mut [u8]) -> Transition
 fn ask_record(count: u8, wanted: afl::CardRecord, place: AwaitedRecord, command: &mut [u8]) -> Transition
     requires { ⌜ (leastBuffer ≤ length (now command)) × (count < 255) ⌝ }
     requires { ⌜ wanted .sfi < 32 ⌝ }
-    ensures transition { λ r. ⌜ r ≡ commandTransition (Phase.Record place) (count + 1) (length (readRecordCommand wanted)) ⌝ }
+    ensures transition { λ r. ⌜ r ≡ commandTransition (AwaitedResponse.Record place) (count + 1) (length (readRecordCommand wanted)) ⌝ }
     ensures buffer { λ _. ⌜ now (command .exit) ≡ withPrefix (readRecordCommand wanted) (now (command .entry)) ⌝ }
 {
     let size = command::read_record(wanted, command);
-    session_record::issue_command(Phase::Record(place), count + 1, size)
+    session_record::issue_command(AwaitedResponse::Record(place), count + 1, size)
 }
 
 // The answer to a record.
@@ -274,7 +296,7 @@ fn take_record(place: AwaitedRecord, count: u8, store: &mut [u8], card: &[u8], c
     requires { ⌜ (leastBuffer ≤ length (now command)) × (count < 255) ⌝ }
     requires { ⌜ length (now store) ≡ storeSize ⌝ }
     ensures { λ r. ⌜ DidTransition r (now (store .exit)) (now (command .exit))
-        (recordStep place count (now (store .entry)) (now (card .entry)) (now (command .entry))) ⌝ }
+        (stepOn count (now (command .entry)) (recordNext place (now (store .entry)) (now (card .entry)))) ⌝ }
 {
     let k = basics::widen(place.number);
     let found = afl::record_at(store::value(&store[..], ROW_AFL), k);
@@ -295,7 +317,7 @@ fn ask_next_record(place: AwaitedRecord, count: u8, store: &mut [u8], command: &
     requires { ⌜ (leastBuffer ≤ length (now command)) × (count < 255) ⌝ }
     requires { ⌜ length (now store) ≡ storeSize ⌝ }
     ensures { λ r. ⌜ DidTransition r (now (store .exit)) (now (command .exit))
-        (afterRecordRead place count (now (store .entry)) (now (command .entry))) ⌝ }
+        (stepOn count (now (command .entry)) (afterRecord place (now (store .entry)))) ⌝ }
 {
     let number = place.number;
     let k = basics::widen(number) + 1;
@@ -312,7 +334,7 @@ fn after_last_record(limit: u64, count: u8, store: &mut [u8], command: &mut [u8]
     requires { ⌜ (leastBuffer ≤ length (now command)) × (count < 255) ⌝ }
     requires { ⌜ length (now store) ≡ storeSize ⌝ }
     ensures { λ r. ⌜ DidTransition r (now (store .exit)) (now (command .exit))
-        (afterLastRecord limit count (now (store .entry)) (now (command .entry))) ⌝ }
+        (stepOn count (now (command .entry)) (afterLastRecord limit (now (store .entry)))) ⌝ }
 {
     if session_record::is_emv(&store[..]) {
         return emv_mode_analysis(limit, count, store, command);
@@ -325,7 +347,7 @@ fn emv_mode_analysis(limit: u64, count: u8, store: &mut [u8], command: &mut [u8]
     requires { ⌜ (leastBuffer ≤ length (now command)) × (count < 255) ⌝ }
     requires { ⌜ length (now store) ≡ storeSize ⌝ }
     ensures { λ r. ⌜ DidTransition r (now (store .exit)) (now (command .exit))
-        (afterRecordsEmv limit count (now (store .entry)) (now (command .entry))) ⌝ }
+        (stepOn count (now (command .entry)) (afterRecordsEmv limit (now (store .entry)))) ⌝ }
 {
     let Check::Passed = limit_in(limit, &store[..]) else {
         return session_record::fail_session(count, basics::REASON_ABOVE_LIMIT, NOT_APPLICABLE);
@@ -341,7 +363,7 @@ fn analyse(limit: u64, count: u8, store: &mut [u8], command: &mut [u8]) -> Trans
     requires { ⌜ (leastBuffer ≤ length (now command)) × (count < 255) ⌝ }
     requires { ⌜ length (now store) ≡ storeSize ⌝ }
     ensures { λ r. ⌜ DidTransition r (now (store .exit)) (now (command .exit))
-        (afterAnalysis limit count (now (store .entry)) (now (command .entry))) ⌝ }
+        (stepOn count (now (command .entry)) (askCryptogram (requestedCryptogram limit (now (store .entry))) (withFindings (now (store .entry)) (findingsOf (now (store .entry)))))) ⌝ }
 {
     let found = analysis::action::findings_of(&store[..]);
     let results = found.results;
@@ -357,18 +379,18 @@ fn analyse(limit: u64, count: u8, store: &mut [u8], command: &mut [u8]) -> Trans
 fn ask_cryptogram(asked: RequestedCryptogram, count: u8, bytes: &[u8], command: &mut [u8]) -> Transition
     requires { ⌜ (leastBuffer ≤ length (now command)) × (count < 255) ⌝ }
     ensures { λ r. ⌜ DidTransition r (now (bytes .entry)) (now (command .exit))
-        (askCryptogram count (now (bytes .entry)) asked (now (command .entry))) ⌝ }
+        (stepOn count (now (command .entry)) (askCryptogram asked (now (bytes .entry)))) ⌝ }
 {
     let choice = asked.choice;
     let p1 = analysis::choice::p1(choice);
     let DolCommand::Command(c) = command::generate_ac(bytes, p1, command) else {
-        return session_record::fail_session(count, basics::REASON_DOL, held_cvm(asked));
+        return session_record::fail_session(count, basics::REASON_DOL, requested_cvm(asked));
     };
-    session_record::issue_command(Phase::Cryptogram(asked), count + 1, c.len)
+    session_record::issue_command(AwaitedResponse::Cryptogram(asked), count + 1, c.len)
 }
 
-// The number of the CVM that a session holds while it waits on the cryptogram.
-fn held_cvm(asked: RequestedCryptogram) -> u8
+// The number of the CVM that goes with a requested cryptogram.
+fn requested_cvm(asked: RequestedCryptogram) -> u8
     ensures { λ r. ⌜ r ≡ cvmNumber (asked .cvm) ⌝ }
 {
     let cvm = asked.cvm;
@@ -378,31 +400,32 @@ fn held_cvm(asked: RequestedCryptogram) -> u8
 // The answer to the cryptogram: no command follows it.
 fn take_cryptogram(asked: RequestedCryptogram, count: u8, store: &mut [u8], card: &[u8]) -> Transition
     requires { ⌜ length (now store) ≡ storeSize ⌝ }
-    ensures { λ r. ⌜ replyOf r (now (store .exit)) ≡ cryptogramReply asked count (now (store .entry)) (now (card .entry)) ⌝ }
+    ensures { λ r. ⌜ ((buf : List ℕ) → DidTransition r (now (store .exit)) buf
+        (stepOn count buf (cryptogramNext asked (now (store .entry)) (now (card .entry))))) ⌝ }
 {
     let read = reader::read_answer(store, Awaited::Cryptogram, card);
     let verdict = read.verdict;
     let ResponseVerdict::Accepted = verdict else {
-        return session_record::fail_session(count, reading::verdict_number(verdict), held_cvm(asked));
+        return session_record::fail_session(count, reading::verdict_number(verdict), requested_cvm(asked));
     };
     cryptogram_outcome(asked, count, &store[..])
 }
 
 // The outcome, by the type of the cryptogram that came.
 fn cryptogram_outcome(asked: RequestedCryptogram, count: u8, bytes: &[u8]) -> Transition
-    ensures { λ r. ⌜ replyOf r (now (bytes .entry)) 
-        ≡ endedReply (cvmNumber (asked .cvm)) count (now (bytes .entry)) (cryptogramEnding asked (now (bytes .entry))) ⌝ }
+    ensures { λ r. ⌜ ((buf : List ℕ) → DidTransition r (now (bytes .entry)) buf
+        (stepOn count buf (afterCryptogram asked (now (bytes .entry))))) ⌝ }
 {
     let Check::Passed = cryptogram_present(bytes) else {
-        return session_record::fail_session(count, basics::REASON_MISSING, held_cvm(asked));
+        return session_record::fail_session(count, basics::REASON_MISSING, requested_cvm(asked));
     };
     let kind = basics::byte_at(store::value(bytes, ROW_CID), 0) / 64;
     let choice = asked.choice;
     let CryptogramOutcome::On(d) = outcome_for_cryptogram(choice, kind) else {
-        return session_record::fail_session(count, basics::REASON_CRYPTOGRAM, held_cvm(asked));
+        return session_record::fail_session(count, basics::REASON_CRYPTOGRAM, requested_cvm(asked));
     };
     let outcome = d.outcome;
-    session_record::end_session(count, outcome, basics::REASON_NONE, held_cvm(asked))
+    session_record::end_session(count, outcome, basics::REASON_NONE, requested_cvm(asked))
 }
 
 // What a type of cryptogram decides, by what was requested.
@@ -433,7 +456,7 @@ pub fn outcome_for_cryptogram(choice: Choice, kind: u8) -> CryptogramOutcome
 fn mag_stripe_checks(limit: u64, count: u8, bytes: &[u8], command: &mut [u8]) -> Transition
     requires { ⌜ (leastBuffer ≤ length (now command)) × (count < 255) ⌝ }
     ensures { λ r. ⌜ DidTransition r (now (bytes .entry)) (now (command .exit))
-        (afterRecordsMagStripe limit count (now (bytes .entry)) (now (command .entry))) ⌝ }
+        (stepOn count (now (command .entry)) (afterRecordsMagStripe limit (now (bytes .entry)))) ⌝ }
 {
     let Check::Passed = limit_in(limit, bytes) else {
         return session_record::fail_session(count, basics::REASON_ABOVE_LIMIT, NOT_APPLICABLE);
@@ -448,19 +471,20 @@ fn mag_stripe_checks(limit: u64, count: u8, bytes: &[u8], command: &mut [u8]) ->
 fn ask_checksum(limit: u64, count: u8, bytes: &[u8], command: &mut [u8]) -> Transition
     requires { ⌜ (leastBuffer ≤ length (now command)) × (count < 255) ⌝ }
     ensures { λ r. ⌜ DidTransition r (now (bytes .entry)) (now (command .exit))
-        (askChecksum limit count (now (bytes .entry)) (now (command .entry))) ⌝ }
+        (stepOn count (now (command .entry)) (askChecksum limit (now (bytes .entry)))) ⌝ }
 {
     let DolCommand::Command(c) = command::compute_cryptographic_checksum(bytes, command) else {
         return session_record::fail_session(count, basics::REASON_DOL, NOT_APPLICABLE);
     };
-    session_record::issue_command(Phase::Checksum(AwaitedChecksum { limit }), count + 1, c.len)
+    session_record::issue_command(AwaitedResponse::Checksum(AwaitedChecksum { limit }), count + 1, c.len)
 }
 
 // The answer to the checksum: no command follows it. Of an answer to a track that cannot take the digits nothing is
 // kept, whatever the reading reports.
 fn take_checksum(count: u8, store: &mut [u8], card: &[u8]) -> Transition
     requires { ⌜ length (now store) ≡ storeSize ⌝ }
-    ensures { λ r. ⌜ replyOf r (now (store .exit)) ≡ checksumReply count (now (store .entry)) (now (card .entry)) ⌝ }
+    ensures { λ r. ⌜ ((buf : List ℕ) → DidTransition r (now (store .exit)) buf
+        (stepOn count buf (checksumNext (now (store .entry)) (now (card .entry))))) ⌝ }
 {
     let Check::Passed = track_in(&store[..]) else {
         return refuse_track(count, &store[..], card);
@@ -477,7 +501,8 @@ fn take_checksum(count: u8, store: &mut [u8], card: &[u8]) -> Transition
 fn refuse_track(count: u8, bytes: &[u8], card: &[u8]) -> Transition
     requires { ⌜ length (now bytes) ≡ storeSize ⌝ }
     requires { ⌜ trackCanTakeDigits (now bytes) ≡ false ⌝ }
-    ensures { λ r. ⌜ replyOf r (now (bytes .entry)) ≡ checksumReply count (now (bytes .entry)) (now (card .entry)) ⌝ }
+    ensures { λ r. ⌜ ((buf : List ℕ) → DidTransition r (now (bytes .entry)) buf
+        (stepOn count buf (checksumNext (now (bytes .entry)) (now (card .entry))))) ⌝ }
 {
     let verdict = reader::judge_answer(bytes, Awaited::Checksum, card);
     let ResponseVerdict::Accepted = verdict else {
@@ -489,7 +514,8 @@ fn refuse_track(count: u8, bytes: &[u8], card: &[u8]) -> Transition
 // The outcome, by what the answer brought; with ATC and CVC3 the digits go into the track.
 fn checksum_outcome(count: u8, store: &mut [u8]) -> Transition
     requires { ⌜ length (now store) ≡ storeSize ⌝ }
-    ensures { λ r. ⌜ replyOf r (now (store .exit)) ≡ afterChecksumRead count (now (store .entry)) ⌝ }
+    ensures { λ r. ⌜ ((buf : List ℕ) → DidTransition r (now (store .exit)) buf
+        (stepOn count buf (afterChecksum (now (store .entry))))) ⌝ }
 {
     let Check::Passed = atc_present(&store[..]) else {
         return session_record::fail_session(count, basics::REASON_MISSING, NOT_APPLICABLE);

@@ -18,20 +18,21 @@ use Rattle.analysis.specs.Bits.{valueHasBit}
 use Rattle.analysis.proofs.Laws.{limit-same}
 use Rattle.session_record.specs.declared.Outcome.{Outcome}
 use Rattle.session_record.specs.declared.RequestedCryptogram.{RequestedCryptogram}
+use Rattle.session_record.specs.declared.AwaitedResponse.{AwaitedResponse}
 use Rattle.session_record.specs.declared.Phase.{Phase}
 use Rattle.session_record.specs.declared.Session.{Session}
 use Rattle.basics.specs.Reason.{reasonNone}
-use Rattle.session_record.specs.Session.{storeBytes, freshSession, endedSession, storedSession, endingOf}
+use Rattle.session_record.specs.Session.{storeBytes, freshSession, endingOf}
 use Rattle.session_record.specs.Ranges.{inRanges}
-use Rattle.session_record.specs.Clauses.{GpoClauses, CryptogramClauses, PhaseClauses}
+use Rattle.session_record.proofs.Clauses.{GpoClauses, CryptogramClauses, PhaseClauses}
 use Rattle.session_record.proofs.Laws.{clauses-pass}
 use Rattle.session_record.proofs.Stored.{empty-fits, put-size, put-named, put-runs, fits-kept, apartFrom, runningTags, results-apart}
 use Rattle.session_record.proofs.Reasons.{decided}
-use Rattle.session_record.proofs.Phases.{store-size, store-fits, on-gpo, on-cryptogram, ended-keeps}
+use Rattle.session_record.proofs.Phases.{store-size, store-fits, on-gpo, on-cryptogram, endedSession, ended-keeps}
 
 -- a session with a value put into its store
 abbrev putIn : Session → ℕ → List ℕ → Session
-putIn s k v = storedSession s (record { bytes = putRow dictionaryRows (storeBytes s) k v })
+putIn s k v = record { phase = s .phase; count = s .count; store = record { bytes = putRow dictionaryRows (storeBytes s) k v } }
 
 -- an approved record with count 0
 pub approved-at-none : inRanges (endedSession freshSession (endingOf Outcome.Approved reasonNone)) ≡ true
@@ -42,13 +43,13 @@ unfolding dictionaryRows every both apartFrom
 account-apart = refl
 
 -- waiting on GPO with an account number in the store
-pub gpo-with-5A : (s : Session) → inRanges s ≡ true → s .phase ≡ Phase.Gpo → (v : List ℕ) → fitsRow (rowAt rowPan) v ≡ true → inRanges (putIn s rowPan v) ≡ true
+pub gpo-with-5A : (s : Session) → inRanges s ≡ true → s .phase ≡ Phase.Waiting AwaitedResponse.Gpo → (v : List ℕ) → fitsRow (rowAt rowPan) v ≡ true → inRanges (putIn s rowPan v) ≡ true
 gpo-with-5A s e q v w =
     clauses-pass (putIn s rowPan v)
     (record {
       size = put-size b rowPan v l h g;
       fits = fits-kept b rowPan v l h w (store-fits s e);
-      phase = subst (λ (p : Phase). PhaseClauses p (putIn s rowPan v)) (sym q) after;
+      phase = subst (λ (p : Phase). PhaseClauses p (s .count) (storeBytes (putIn s rowPan v))) (sym q) after;
     })
   where
     b : List ℕ
@@ -76,13 +77,13 @@ gpo-with-5A s e q v w =
     }
 
 -- waiting on the cryptogram with any five TVR bytes, zeros too
-pub cryptogram-with-any-95 : (s : Session) (a : RequestedCryptogram) → inRanges s ≡ true → s .phase ≡ Phase.Cryptogram a → (v : List ℕ) → fitsRow (rowAt rowTvr) v ≡ true → inRanges (putIn s rowTvr v) ≡ true
+pub cryptogram-with-any-95 : (s : Session) (a : RequestedCryptogram) → inRanges s ≡ true → s .phase ≡ Phase.Waiting (AwaitedResponse.Cryptogram a) → (v : List ℕ) → fitsRow (rowAt rowTvr) v ≡ true → inRanges (putIn s rowTvr v) ≡ true
 cryptogram-with-any-95 s a e q v w =
     clauses-pass (putIn s rowTvr v)
     (record {
       size = put-size b rowTvr v l h g;
       fits = fits-kept b rowTvr v l h w (store-fits s e);
-      phase = subst (λ (p : Phase). PhaseClauses p (putIn s rowTvr v)) (sym q) after;
+      phase = subst (λ (p : Phase). PhaseClauses p (s .count) (storeBytes (putIn s rowTvr v))) (sym q) after;
     })
   where
     b : List ℕ

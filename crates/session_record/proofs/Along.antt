@@ -37,11 +37,11 @@ all-along b = along (objectFits b) dictionaryRows b (λ k h. object-place b k (o
 
 -- the whole test
 abbrev pub rangesAlong : Session → Bool
-rangesAlong s = both (eqb (length (storeBytes s)) storeSize) (both (fitAlong dictionaryRows (storeBytes s)) (phaseRanges (s .phase) s))
+rangesAlong s = both (eqb (length (storeBytes s)) storeSize) (both (fitAlong dictionaryRows (storeBytes s)) (phaseRanges (s .phase) (s .count) (storeBytes s)))
 
 pub ranges-along : (s : Session) → inRanges s ≡ rangesAlong s
 unfolding inRanges
-ranges-along s = ap (λ (x : Bool). both (eqb (length (storeBytes s)) storeSize) (both x (phaseRanges (s .phase) s))) (all-along (storeBytes s))
+ranges-along s = ap (λ (x : Bool). both (eqb (length (storeBytes s)) storeSize) (both x (phaseRanges (s .phase) (s .count) (storeBytes s)))) (all-along (storeBytes s))
 
 -- of a list of records
 pub each-along : {A : Type 0} (f : A → Session) (xs : List A) → map (λ x. inRanges (f x)) xs ≡ map (λ x. rangesAlong (f x)) xs

@@ -21,6 +21,7 @@ use Rattle.analysis.specs.Cvm.{onDeviceCvm}
 use Rattle.analysis.specs.declared.choice.Choice.{Choice}
 use Rattle.analysis.specs.declared.cvm.Cvm.{Cvm}
 use Rattle.session_record.specs.declared.Outcome.{Outcome}
+use Rattle.session_record.specs.declared.AwaitedResponse.{AwaitedResponse}
 use Rattle.session_record.specs.declared.Phase.{Phase}
 use Rattle.session_record.specs.Numbers.{outcomeNumber, reasonMatchesOutcome, outcomeOfReason}
 use Rattle.session_record.specs.declared.Session.{Session}
@@ -109,7 +110,7 @@ fresh-ones = each-along onFresh freshOnes
 -- ---- waiting on GPO
 
 abbrev onGpo : ℕ → List ℕ → Session
-onGpo n b = sessionOf Phase.Gpo n b
+onGpo n b = sessionOf (Phase.Waiting AwaitedResponse.Gpo) n b
 
 abbrev gpoCounts : List ℕ
 gpoCounts = 0 ∷ 1 ∷ 2 ∷ []
@@ -157,7 +158,7 @@ gpo-rows = each-along (λ x. onGpo 1 (storing (x ∷ started))) gpoRows
 -- ---- waiting on a record: k from 1 to R, 1 + k commands
 
 abbrev onRecord : ℕ → ℕ → ℕ → List (ℕ × List ℕ) → Session
-onRecord k limit n l = sessionOf (Phase.Record (record { number = k; limit = limit })) n (storing l)
+onRecord k limit n l = sessionOf (Phase.Waiting (AwaitedResponse.Record (record { number = k; limit = limit }))) n (storing l)
 
 abbrev numbered : ℕ × ℕ → Session
 numbered (k, n) = onRecord k 100 n opened
@@ -208,7 +209,7 @@ record-limits = each-along withLimit recordLimits
 -- ---- waiting on the cryptogram: 2 + R commands
 
 abbrev onCryptogram : ℕ → ℕ → List ℕ → Session
-onCryptogram limit n b = sessionOf (Phase.Cryptogram (record { choice = Choice.Online; cvm = Cvm.OnlinePin; limit = limit })) n b
+onCryptogram limit n b = sessionOf (Phase.Waiting (AwaitedResponse.Cryptogram (record { choice = Choice.Online; cvm = Cvm.OnlinePin; limit = limit }))) n b
 
 abbrev cryptogramCounts : List ℕ
 cryptogramCounts = 3 ∷ 4 ∷ 5 ∷ []
@@ -258,7 +259,7 @@ abbrev striped : List (ℕ × List ℕ)
 striped = (0x9F6B, 0xFF ∷ []) ∷ (0x9F65, 0 ∷ 0 ∷ []) ∷ (0x9F66, 0 ∷ 0 ∷ []) ∷ (0x9F67, 0x09 ∷ []) ∷ (0x82, 0 ∷ 0 ∷ []) ∷ opened
 
 abbrev onChecksum : ℕ → ℕ → List ℕ → Session
-onChecksum limit n b = sessionOf (Phase.Checksum (record { limit = limit })) n b
+onChecksum limit n b = sessionOf (Phase.Waiting (AwaitedResponse.Checksum (record { limit = limit }))) n b
 
 abbrev checkedWith : ℕ × ℕ → Session
 checkedWith (limit, n) = onChecksum limit n (storing striped)

@@ -2,7 +2,7 @@
 -- for each part.
 -- Assumes nothing.
 use mathlib.Core.Path.{_≡_, refl, sym, ap, _∙_}
-use mathlib.Core.Bool.{Bool, true, false}
+use mathlib.Core.Bool.{true, false}
 use mathlib.Core.Logic.{_⊎_, inl, inr}
 use mathlib.Core.List.{List}
 use Prim.Native.Nat.{ℕ, _+_, _≤_, _<_}
@@ -19,12 +19,13 @@ use Rattle.session_record.specs.declared.AwaitedRecord.{AwaitedRecord}
 use Rattle.session_record.specs.declared.RequestedCryptogram.{RequestedCryptogram}
 use Rattle.session_record.specs.declared.AwaitedChecksum.{AwaitedChecksum}
 use Rattle.session_record.specs.declared.Ending.{Ending}
+use Rattle.session_record.specs.declared.AwaitedResponse.{AwaitedResponse}
 use Rattle.session_record.specs.declared.Phase.{Phase}
 use Rattle.session_record.specs.declared.Session.{Session}
 use Rattle.session_record.specs.Session.{storeBytes}
 use Rattle.store.specs.Held.{hasObject}
-use Rattle.session_record.specs.Ranges.{objectFits, allObjectsFit, isPresentIfRequired, allRequiredPresent, lastResponseAbsent, runningRanges, storedRecordCount, cryptogramDataPresent, trackDataPresent, freshRanges, gpoRanges, recordRanges, cryptogramRanges, checksumRanges, mostCommands, endedRanges, phaseRanges, inRanges}
-use Rattle.session_record.specs.Clauses.{AllObjectsFit, RunningClauses, FreshClauses, GpoClauses, RecordClauses, CryptogramClauses, ChecksumClauses, EndedClauses, PhaseClauses, RangesClauses, TestsRanges}
+use Rattle.session_record.specs.Ranges.{objectFits, allObjectsFit, isPresentIfRequired, allRequiredPresent, lastResponseAbsent, runningRanges, storedRecordCount, cryptogramDataPresent, trackDataPresent, freshRanges, gpoRanges, recordRanges, cryptogramRanges, checksumRanges, mostCommands, endedRanges, waitingRanges, phaseRanges, inRanges}
+use Rattle.session_record.proofs.Clauses.{AllObjectsFit, RunningClauses, FreshClauses, GpoClauses, RecordClauses, CryptogramClauses, ChecksumClauses, EndedClauses, WaitingClauses, PhaseClauses, RangesClauses}
 use Rattle.session_record.proofs.Every.{every-all}
 use Rattle.store.proofs.Rows.{rows-length}
 use Rattle.session_record.proofs.Values.{absent-of, is-lacking, zeros-of, zeros-are, zero-results, results-zero}
@@ -242,21 +243,28 @@ ended-passes x n c = both-yes _ _ (le-leb n mostCommands (c .count)) (c .reason)
 
 -- ---- the whole test
 
-phase-clauses : (p : Phase) (s : Session) → length (storeBytes s) ≡ storeSize → AllObjectsFit (storeBytes s) → phaseRanges p s ≡ true → PhaseClauses p s
-phase-clauses Phase.Fresh s l f e = fresh-clauses (s .count) (storeBytes s) l e
-phase-clauses Phase.Gpo s l f e = gpo-clauses (s .count) (storeBytes s) f e
-phase-clauses (Phase.Record p) s l f e = record-clauses p (s .count) (storeBytes s) f e
-phase-clauses (Phase.Cryptogram a) s l f e = cryptogram-clauses a (s .count) (storeBytes s) e
-phase-clauses (Phase.Checksum x) s l f e = checksum-clauses x (s .count) (storeBytes s) f e
-phase-clauses (Phase.Ended x) s l f e = ended-clauses x (s .count) e
+module _ (n : ℕ) (b : List ℕ) where
+  waiting-clauses : (w : AwaitedResponse) → AllObjectsFit b → waitingRanges w n b ≡ true → WaitingClauses w n b
+  waiting-clauses AwaitedResponse.Gpo f e = gpo-clauses n b f e
+  waiting-clauses (AwaitedResponse.Record p) f e = record-clauses p n b f e
+  waiting-clauses (AwaitedResponse.Cryptogram a) f e = cryptogram-clauses a n b e
+  waiting-clauses (AwaitedResponse.Checksum x) f e = checksum-clauses x n b f e
 
-phase-passes : (p : Phase) (s : Session) → PhaseClauses p s → phaseRanges p s ≡ true
-phase-passes Phase.Fresh s c = fresh-passes (s .count) (storeBytes s) c
-phase-passes Phase.Gpo s c = gpo-passes (s .count) (storeBytes s) c
-phase-passes (Phase.Record p) s c = record-passes p (s .count) (storeBytes s) c
-phase-passes (Phase.Cryptogram a) s c = cryptogram-passes a (s .count) (storeBytes s) c
-phase-passes (Phase.Checksum x) s c = checksum-passes x (s .count) (storeBytes s) c
-phase-passes (Phase.Ended x) s c = ended-passes x (s .count) c
+  waiting-passes : (w : AwaitedResponse) → WaitingClauses w n b → waitingRanges w n b ≡ true
+  waiting-passes AwaitedResponse.Gpo c = gpo-passes n b c
+  waiting-passes (AwaitedResponse.Record p) c = record-passes p n b c
+  waiting-passes (AwaitedResponse.Cryptogram a) c = cryptogram-passes a n b c
+  waiting-passes (AwaitedResponse.Checksum x) c = checksum-passes x n b c
+
+  phase-clauses : (p : Phase) → length b ≡ storeSize → AllObjectsFit b → phaseRanges p n b ≡ true → PhaseClauses p n b
+  phase-clauses Phase.Fresh l f e = fresh-clauses n b l e
+  phase-clauses (Phase.Waiting w) l f e = waiting-clauses w f e
+  phase-clauses (Phase.Ended x) l f e = ended-clauses x n e
+
+  phase-passes : (p : Phase) → PhaseClauses p n b → phaseRanges p n b ≡ true
+  phase-passes Phase.Fresh c = fresh-passes n b c
+  phase-passes (Phase.Waiting w) c = waiting-passes w c
+  phase-passes (Phase.Ended x) c = ended-passes x n c
 
 -- a record that passes keeps every clause
 pub clauses : (s : Session) → inRanges s ≡ true → RangesClauses s
@@ -265,15 +273,11 @@ clauses s e =
     let p = both-right _ _ e in
     let l = eqb-true (length (storeBytes s)) storeSize (both-left _ _ e) in
     let f = all-fits (storeBytes s) (both-left _ _ p) in
-    record { size = l; fits = f; phase = phase-clauses (s .phase) s l f (both-right _ _ p) }
+    record { size = l; fits = f; phase = phase-clauses (s .count) (storeBytes s) (s .phase) l f (both-right _ _ p) }
 
 -- a record that keeps every clause passes
 pub clauses-pass : (s : Session) → RangesClauses s → inRanges s ≡ true
 unfolding inRanges
 clauses-pass s r =
     both-yes _ _ (eq-eqb (length (storeBytes s)) storeSize (r .size))
-    (both-yes _ _ (fits-all (storeBytes s) (r .fits)) (phase-passes (s .phase) s (r .phase)))
-
--- so the test decides both ways
-pub tells : (s : Session) {r : Bool} → r ≡ inRanges s → TestsRanges s r
-tells s e = record { test = e; clauses = λ y. clauses s (sym e ∙ y); passes = λ c. e ∙ clauses-pass s c }
+    (both-yes _ _ (fits-all (storeBytes s) (r .fits)) (phase-passes (s .count) (storeBytes s) (s .phase) (r .phase)))

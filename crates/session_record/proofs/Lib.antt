@@ -1,4 +1,5 @@
 pub mod Tests
+pub mod Clauses
 pub mod Every
 pub mod Tags
 pub mod Fit

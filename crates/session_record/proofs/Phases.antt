@@ -19,18 +19,23 @@ use Rattle.session_record.specs.declared.AwaitedRecord.{AwaitedRecord}
 use Rattle.session_record.specs.declared.RequestedCryptogram.{RequestedCryptogram}
 use Rattle.session_record.specs.declared.AwaitedChecksum.{AwaitedChecksum}
 use Rattle.session_record.specs.declared.Ending.{Ending}
+use Rattle.session_record.specs.declared.AwaitedResponse.{AwaitedResponse}
 use Rattle.session_record.specs.declared.Phase.{Phase}
 use Rattle.session_record.specs.declared.Session.{Session}
 use Rattle.session_record.specs.Numbers.{reasonMatchesOutcome, outcomeOfReason}
 use Rattle.basics.specs.Reason.{reasonMode}
-use Rattle.session_record.specs.Session.{storeBytes, freshSession, waitingSession, endedSession, endingOf}
+use Rattle.session_record.specs.Session.{storeBytes, freshSession, waitingSession, endingOf}
 use Rattle.store.specs.Held.{hasObject}
 use Rattle.session_record.specs.Ranges.{emvMode, magStripeMode, emvOrMagStripeMode, storedAfl, mostCommands, inRanges}
-use Rattle.session_record.specs.Clauses.{AllObjectsFit, FreshClauses, GpoClauses, RecordClauses, CryptogramClauses, ChecksumClauses, EndedClauses, PhaseClauses}
+use Rattle.session_record.proofs.Clauses.{AllObjectsFit, FreshClauses, GpoClauses, RecordClauses, CryptogramClauses, ChecksumClauses, EndedClauses, WaitingClauses, PhaseClauses}
 use Rattle.session_record.proofs.Values.{bytes-there}
 use Rattle.session_record.proofs.Laws.{clauses, clauses-pass}
 use Rattle.session_record.proofs.Stored.{empty-fits}
 use Rattle.session_record.proofs.Reasons.{outcome-goes}
+
+-- the session ended: count and store stay
+abbrev pub endedSession : Session → Ending → Session
+endedSession s e = record { phase = Phase.Ended e; count = s .count; store = s .store }
 
 -- ---- from the ranges
 
@@ -41,23 +46,26 @@ module _ (s : Session) (e : inRanges s ≡ true) where
   pub store-fits : AllObjectsFit (storeBytes s)
   store-fits = clauses s e .fits
 
-  in-phase : (p : Phase) → s .phase ≡ p → PhaseClauses p s
-  in-phase p q = subst (λ (x : Phase). PhaseClauses x s) q (clauses s e .phase)
+  in-phase : (p : Phase) → s .phase ≡ p → PhaseClauses p (s .count) (storeBytes s)
+  in-phase p q = subst (λ (x : Phase). PhaseClauses x (s .count) (storeBytes s)) q (clauses s e .phase)
+
+  on-waiting : (w : AwaitedResponse) → s .phase ≡ Phase.Waiting w → WaitingClauses w (s .count) (storeBytes s)
+  on-waiting w q = in-phase (Phase.Waiting w) q
 
   pub on-fresh : s .phase ≡ Phase.Fresh → FreshClauses (s .count) (storeBytes s)
   on-fresh q = in-phase Phase.Fresh q
 
-  pub on-gpo : s .phase ≡ Phase.Gpo → GpoClauses (s .count) (storeBytes s)
-  on-gpo q = in-phase Phase.Gpo q
+  pub on-gpo : s .phase ≡ Phase.Waiting AwaitedResponse.Gpo → GpoClauses (s .count) (storeBytes s)
+  on-gpo q = on-waiting AwaitedResponse.Gpo q
 
-  pub on-record : (p : AwaitedRecord) → s .phase ≡ Phase.Record p → RecordClauses p (s .count) (storeBytes s)
-  on-record p q = in-phase (Phase.Record p) q
+  pub on-record : (p : AwaitedRecord) → s .phase ≡ Phase.Waiting (AwaitedResponse.Record p) → RecordClauses p (s .count) (storeBytes s)
+  on-record p q = on-waiting (AwaitedResponse.Record p) q
 
-  pub on-cryptogram : (a : RequestedCryptogram) → s .phase ≡ Phase.Cryptogram a → CryptogramClauses a (s .count) (storeBytes s)
-  on-cryptogram a q = in-phase (Phase.Cryptogram a) q
+  pub on-cryptogram : (a : RequestedCryptogram) → s .phase ≡ Phase.Waiting (AwaitedResponse.Cryptogram a) → CryptogramClauses a (s .count) (storeBytes s)
+  on-cryptogram a q = on-waiting (AwaitedResponse.Cryptogram a) q
 
-  pub on-checksum : (k : AwaitedChecksum) → s .phase ≡ Phase.Checksum k → ChecksumClauses k (s .count) (storeBytes s)
-  on-checksum k q = in-phase (Phase.Checksum k) q
+  pub on-checksum : (k : AwaitedChecksum) → s .phase ≡ Phase.Waiting (AwaitedResponse.Checksum k) → ChecksumClauses k (s .count) (storeBytes s)
+  on-checksum k q = on-waiting (AwaitedResponse.Checksum k) q
 
   pub on-ended : (x : Ending) → s .phase ≡ Phase.Ended x → EndedClauses x (s .count)
   on-ended x q = in-phase (Phase.Ended x) q
@@ -88,23 +96,27 @@ either-there b e = elim (bool-cases (emvMode b)) [
 ]
 
 -- a count is at most 130 in every phase
-phase-most : (p : Phase) (s : Session) → PhaseClauses p s → s .count ≤ mostCommands
-phase-most Phase.Fresh s c = omega (arith, c .count)
-phase-most Phase.Gpo s c = omega (arith, c .count)
-phase-most (Phase.Record p) s c = omega (arith, c .count, c .last, accepted-total (storedAfl (storeBytes s)) (c .afl))
-phase-most (Phase.Cryptogram a) s c = omega (arith, c .count, accepted-total (storedAfl (storeBytes s)) (c .afl))
-phase-most (Phase.Checksum x) s c = omega (arith, c .count, accepted-total (storedAfl (storeBytes s)) (c .afl))
-phase-most (Phase.Ended x) s c = c .count
+module _ (n : ℕ) (b : List ℕ) where
+  waiting-most : (w : AwaitedResponse) → WaitingClauses w n b → n ≤ mostCommands
+  waiting-most AwaitedResponse.Gpo c = omega (arith, c .count)
+  waiting-most (AwaitedResponse.Record p) c = omega (arith, c .count, c .last, accepted-total (storedAfl b) (c .afl))
+  waiting-most (AwaitedResponse.Cryptogram a) c = omega (arith, c .count, accepted-total (storedAfl b) (c .afl))
+  waiting-most (AwaitedResponse.Checksum x) c = omega (arith, c .count, accepted-total (storedAfl b) (c .afl))
+
+  phase-most : (p : Phase) → PhaseClauses p n b → n ≤ mostCommands
+  phase-most Phase.Fresh c = omega (arith, c .count)
+  phase-most (Phase.Waiting w) c = waiting-most w c
+  phase-most (Phase.Ended x) c = c .count
 
 pub count-most : (s : Session) → inRanges s ≡ true → s .count ≤ mostCommands
-count-most s e = phase-most (s .phase) s (clauses s e .phase)
+count-most s e = phase-most (s .count) (storeBytes s) (s .phase) (clauses s e .phase)
 
 -- ---- records built anew
 
 pub fresh-keeps : inRanges freshSession ≡ true
 fresh-keeps = clauses-pass freshSession (record { size = refl; fits = empty-fits; phase = record { count = refl; store = refl } })
 
-pub waiting-keeps : (s : Session) (p : Phase) (n : ℕ) → length (storeBytes s) ≡ storeSize → AllObjectsFit (storeBytes s) → PhaseClauses p (waitingSession s p n)
+pub waiting-keeps : (s : Session) (p : Phase) (n : ℕ) → length (storeBytes s) ≡ storeSize → AllObjectsFit (storeBytes s) → PhaseClauses p n (storeBytes s)
     → inRanges (waitingSession s p n) ≡ true
 waiting-keeps s p n l f c = clauses-pass (waitingSession s p n) (record { size = l; fits = f; phase = c })
 

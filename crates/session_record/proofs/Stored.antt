@@ -29,7 +29,7 @@ use Rattle.store.proofs.Laws.{lies, put-length, put-get, put-other, place-other
 use Rattle.store.proofs.Rows.{rows-length, fits-row, rows-size}
 use Rattle.store.specs.Held.{hasObject, isZeroByte}
 use Rattle.session_record.specs.Ranges.{valueFits, allObjectsFit, lastResponseTags}
-use Rattle.session_record.specs.Clauses.{RowObjectFits, AllObjectsFit, RunningClauses}
+use Rattle.session_record.proofs.Clauses.{RowObjectFits, AllObjectsFit, RunningClauses}
 use Rattle.session_record.proofs.Tags.{row-found, value-is, length-is}
 use Rattle.session_record.proofs.Values.{zeros-of}
 use Rattle.session_record.proofs.Laws.{fits-all}

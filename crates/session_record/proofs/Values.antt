@@ -18,8 +18,8 @@ use Rattle.dictionary.proofs.Fit.{fits-length}
 use Rattle.dictionary.proofs.Named.{at-95}
 use Rattle.store.specs.Place.{StoredValue, absent, present, bytesOfValue, isPresent, objectValue}
 use Rattle.store.specs.Held.{hasObject, lacksObject, storedBytes, isZeroByte, isZeroed}
-use Rattle.session_record.specs.Ranges.{valueFits}
-use Rattle.session_record.specs.Clauses.{AllObjectsFit, RunningClauses, zeroTvr}
+use Rattle.session_record.specs.Ranges.{valueFits, zeroTvr}
+use Rattle.session_record.proofs.Clauses.{AllObjectsFit, RunningClauses}
 use Rattle.store.proofs.Rows.{rows-length}
 
 -- ---- there or absent

@@ -1,5 +1,4 @@
 pub mod Numbers
 pub mod Session
 pub mod Ranges
-pub mod Clauses
 pub mod Inner

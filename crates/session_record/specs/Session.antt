@@ -2,14 +2,14 @@
 -- field is added here.
 -- Assumes nothing.
 use mathlib.Core.Bool.{Bool, true, false}
-use mathlib.Core.List.{List}
-use Prim.Native.Nat.{ℕ}
 use lib.ListN.{replicate}
+use Rattle.basics.specs.Types.{StoreBytes, Count, Length, Reason, RefusalNumber, CvmNumber}
 use Rattle.dictionary.specs.Rows.{storeSize}
 use Rattle.store.specs.declared.Store.{Store}
 use Rattle.session_record.specs.declared.Outcome.{Outcome}
 use Rattle.session_record.specs.declared.Ending.{Ending}
 use Rattle.session_record.specs.declared.OutcomeParameters.{OutcomeParameters}
+use Rattle.session_record.specs.declared.AwaitedResponse.{AwaitedResponse}
 use Rattle.session_record.specs.declared.Phase.{Phase}
 use Rattle.session_record.specs.declared.Session.{Session}
 use Rattle.session_record.specs.declared.CallResult.{CallResult}
@@ -20,11 +20,11 @@ use Rattle.session_record.specs.Numbers.{outcomeOfReason}
 -- ---- records
 
 -- the bytes of a session's store
-abbrev pub storeBytes : Session → List ℕ
+abbrev pub storeBytes : Session → StoreBytes
 storeBytes s = s .store .bytes
 
 -- a session of these parts
-abbrev pub sessionOf : Phase → ℕ → List ℕ → Session
+abbrev pub sessionOf : Phase → Count → StoreBytes → Session
 sessionOf p n b = record { phase = p; count = n; store = record { bytes = b } }
 
 -- the store that holds nothing
@@ -36,78 +36,70 @@ abbrev pub freshSession : Session
 freshSession = record { phase = Phase.Fresh; count = 0; store = emptyStore }
 
 -- the session in a phase, with a count
-abbrev pub waitingSession : Session → Phase → ℕ → Session
+abbrev pub waitingSession : Session → Phase → Count → Session
 waitingSession s p n = record { phase = p; count = n; store = s .store }
 
--- the session ended: count and store stay
-abbrev pub endedSession : Session → Ending → Session
-endedSession s e = record { phase = Phase.Ended e; count = s .count; store = s .store }
+-- ---- the stage of a session
 
--- the session with a store
-abbrev pub storedSession : Session → Store → Session
-storedSession s b = record { phase = s .phase; count = s .count; store = b }
+-- fresh: no call was taken yet; running: a response is awaited; ended: there is an outcome
+pub data Stage : Type 0 where
+  fresh : Stage
+  running : Stage
+  ended : Stage
+
+abbrev pub stageOf : Phase → Stage
+stageOf Phase.Fresh       = fresh
+stageOf (Phase.Waiting w) = running
+stageOf (Phase.Ended e)   = ended
+
+-- it runs
+abbrev pub isRunning : Phase → Bool
+isRunning Phase.Fresh       = false
+isRunning (Phase.Waiting w) = true
+isRunning (Phase.Ended e)   = false
+
+-- it has an outcome
+abbrev pub isEnded : Phase → Bool
+isEnded Phase.Fresh       = false
+isEnded (Phase.Waiting w) = false
+isEnded (Phase.Ended e)   = true
 
 -- ---- replies
 
 -- an outcome with its reason
-abbrev pub endingOf : Outcome → ℕ → Ending
+abbrev pub endingOf : Outcome → Reason → Ending
 endingOf o n = record { outcome = o; reason = n }
 
+-- a reason other than 0, with its outcome
+abbrev pub endingBy : Reason → Ending
+endingBy n = endingOf (outcomeOfReason n) n
+
 -- what an outcome reports: the outcome with its reason, and the CVM's number (document 02, Item 5)
-abbrev pub outcomeParameters : Outcome → ℕ → ℕ → OutcomeParameters
-outcomeParameters o n m = record { outcome = o; reason = n; cvm = m }
+abbrev pub outcomeParameters : Ending → CvmNumber → OutcomeParameters
+outcomeParameters e m = record { outcome = e .outcome; reason = e .reason; cvm = m }
 
 -- a refusal, by its number; the session is as it was
-abbrev pub refusedReply : Session → ℕ → Reply
+abbrev pub refusedReply : Session → RefusalNumber → Reply
 refusedReply s n = record { session = s; answer = CallResult.Refused (record { number = n }) }
 
 -- ---- transitions: a reply without the store
 
 -- a transition with the store that it left
-abbrev pub replyOf : Transition → List ℕ → Reply
+abbrev pub replyOf : Transition → StoreBytes → Reply
 replyOf t b = record { session = sessionOf (t .phase) (t .count) b; answer = t .answer }
 
 -- a refusal leaves the phase and the count
-abbrev pub refusedTransition : Phase → ℕ → ℕ → Transition
+abbrev pub refusedTransition : Phase → Count → RefusalNumber → Transition
 refusedTransition p k n = record { phase = p; count = k; answer = CallResult.Refused (record { number = n }) }
 
--- the session ends with an outcome and a reason, and reports the CVM by its number m; the record keeps no CVM
-abbrev pub endingTransition : ℕ → ℕ → Outcome → ℕ → Transition
-endingTransition m k o n = record { phase = Phase.Ended (endingOf o n); count = k; answer = CallResult.Outcome (outcomeParameters o n m) }
+-- the session ends, and reports the CVM by its number m; the record keeps no CVM
+abbrev pub endingTransition : CvmNumber → Count → Ending → Transition
+endingTransition m k e = record { phase = Phase.Ended e; count = k; answer = CallResult.Outcome (outcomeParameters e m) }
 
 -- the session ends for a reason other than 0
-abbrev pub failingTransition : ℕ → ℕ → ℕ → Transition
-failingTransition m k n = endingTransition m k (outcomeOfReason n) n
+abbrev pub failingTransition : CvmNumber → Count → Reason → Transition
+failingTransition m k n = endingTransition m k (endingBy n)
 
--- a command of n bytes is handed out, and the session waits in a phase on its answer
-abbrev pub commandTransition : Phase → ℕ → ℕ → Transition
-commandTransition p k n = record { phase = p; count = k; answer = CallResult.Command (record { size = n }) }
-
--- ---- the stage of a session: fresh, running or ended
-
--- no call was taken yet
-abbrev pub isFresh : Phase → Bool
-isFresh Phase.Fresh = true
-isFresh Phase.Gpo = false
-isFresh (Phase.Record p) = false
-isFresh (Phase.Cryptogram a) = false
-isFresh (Phase.Checksum c) = false
-isFresh (Phase.Ended e) = false
-
--- it waits on an answer: to GPO, to a record command, to the cryptogram, to the checksum
-abbrev pub isRunning : Phase → Bool
-isRunning Phase.Fresh = false
-isRunning Phase.Gpo = true
-isRunning (Phase.Record p) = true
-isRunning (Phase.Cryptogram a) = true
-isRunning (Phase.Checksum c) = true
-isRunning (Phase.Ended e) = false
-
--- it has an outcome
-abbrev pub isEnded : Phase → Bool
-isEnded Phase.Fresh = false
-isEnded Phase.Gpo = false
-isEnded (Phase.Record p) = false
-isEnded (Phase.Cryptogram a) = false
-isEnded (Phase.Checksum c) = false
-isEnded (Phase.Ended e) = true
+-- a command of n bytes is handed out, and the session waits for the response to it
+abbrev pub commandTransition : AwaitedResponse → Count → Length → Transition
+commandTransition w k n = record { phase = Phase.Waiting w; count = k; answer = CallResult.Command (record { size = n }) }

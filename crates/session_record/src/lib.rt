@@ -24,11 +24,10 @@ ghost use Rattle.dictionary.specs.Packing.{rowWithAttributes};
 ghost use Rattle.dictionary.specs.Tables.{packedRows};
 ghost use Rattle.store.specs.Place.{rowRoom, rowOffset};
 ghost use Rattle.session_record.specs.Numbers.{outcomeNumber, reasonMatchesOutcome, outcomeOfReason};
-ghost use Rattle.session_record.specs.Session.{sessionOf, freshSession, waitingSession, replyOf, refusedTransition, endingTransition, failingTransition, commandTransition};
+ghost use Rattle.session_record.specs.Session.{sessionOf, freshSession, waitingSession, endingOf, replyOf, refusedTransition, endingTransition, failingTransition, commandTransition};
 ghost use Rattle.store.specs.Held.{isZeroByte};
 ghost use Rattle.session_record.specs.Ranges.{allObjectsFit, allRequiredPresent, lastResponseAbsent, emvMode, magStripeMode, emvOrMagStripeMode, cryptogramDataPresent, trackDataPresent, runningRanges};
-ghost use Rattle.session_record.specs.Ranges.{freshRanges, gpoRanges, recordRanges, cryptogramRanges, checksumRanges, endedRanges};
-ghost use Rattle.session_record.specs.Clauses.{TestsRanges};
+ghost use Rattle.session_record.specs.Ranges.{freshRanges, waitingRanges, gpoRanges, recordRanges, cryptogramRanges, checksumRanges, endedRanges, inRanges};
 ghost use Rattle.session_record.specs.Inner.{rowPlaceFits, requiredCount, NextPresent, allRowsFit};
 
 // How a session ends.
@@ -64,13 +63,18 @@ pub struct AwaitedChecksum {
     pub limit: u64,
 }
 
-// Fresh; waiting on GPO, on a record, on the cryptogram or on the checksum; or ended.
-pub enum Phase {
-    Fresh,
+// The response that a running session awaits: to GPO, to READ RECORD, to GENERATE AC or to COMPUTE CRYPTOGRAPHIC CHECKSUM.
+pub enum AwaitedResponse {
     Gpo,
     Record(AwaitedRecord),
     Cryptogram(RequestedCryptogram),
     Checksum(AwaitedChecksum),
+}
+
+// Fresh; running, and waiting for a response; or ended.
+pub enum Phase {
+    Fresh,
+    Waiting(AwaitedResponse),
     Ended(Ending),
 }
 
@@ -200,7 +204,7 @@ pub fn refuse_call(phase: Phase, count: u8, number: u8) -> Transition
 
 // The session ends with an outcome and its reason, and reports the CVM; the record keeps no CVM.
 pub fn end_session(count: u8, outcome: Outcome, reason: u8, cvm: u8) -> Transition
-    ensures { λ r. ⌜ r ≡ endingTransition cvm count outcome reason ⌝ }
+    ensures { λ r. ⌜ r ≡ endingTransition cvm count (endingOf outcome reason) ⌝ }
 {
     Transition {
         phase: Phase::Ended(Ending { outcome, reason }),
@@ -216,12 +220,12 @@ pub fn fail_session(count: u8, reason: u8, cvm: u8) -> Transition
     end_session(count, outcome_for(reason), reason, cvm)
 }
 
-// The session waits, in a phase, on the answer to a command of so many bytes.
-pub fn issue_command(phase: Phase, count: u8, size: usize) -> Transition
-    ensures { λ r. ⌜ r ≡ commandTransition phase count size ⌝ }
+// The session waits for the response to a command of so many bytes.
+pub fn issue_command(awaited: AwaitedResponse, count: u8, size: usize) -> Transition
+    ensures { λ r. ⌜ r ≡ commandTransition awaited count size ⌝ }
 {
     Transition {
-        phase,
+        phase: Phase::Waiting(awaited),
         count,
         answer: CallResult::Command(CommandLength { size }),
     }
@@ -246,7 +250,7 @@ pub fn reply_of(transition: Transition, store: Store) -> Reply
 
 // Whether a session record is in its ranges.
 pub fn in_ranges(session: Session) -> bool
-    ensures { λ r. ⌜ TestsRanges session r ⌝ }
+    ensures { λ r. ⌜ r ≡ inRanges session ⌝ }
 {
     let phase = session.phase;
     let store = session.store;
@@ -255,17 +259,14 @@ pub fn in_ranges(session: Session) -> bool
 
 // The same of a session's parts, with the store's bytes shared.
 pub fn parts_in_ranges(phase: Phase, count: u8, bytes: &[u8]) -> bool
-    ensures { λ r. ⌜ TestsRanges (sessionOf phase count (now (bytes .entry))) r ⌝ }
+    ensures { λ r. ⌜ r ≡ inRanges (sessionOf phase count (now (bytes .entry))) ⌝ }
 {
     if bytes.len() != SIZE {
         return false;
     }
     match phase {
         Phase::Fresh => fresh_in_ranges(count, bytes),
-        Phase::Gpo => gpo_in_ranges(count, bytes),
-        Phase::Record(place) => record_in_ranges(place, count, bytes),
-        Phase::Cryptogram(asked) => cryptogram_in_ranges(asked, count, bytes),
-        Phase::Checksum(checksum) => checksum_in_ranges(checksum, count, bytes),
+        Phase::Waiting(awaited) => waiting_in_ranges(awaited, count, bytes),
         Phase::Ended(end) => ended_in_ranges(end, count, bytes),
     }
 }
@@ -279,6 +280,19 @@ fn fresh_in_ranges(count: u8, bytes: &[u8]) -> bool
         return false;
     }
     all_zero(bytes)
+}
+
+// Running: what the awaited response asks of the count and of the store.
+fn waiting_in_ranges(awaited: AwaitedResponse, count: u8, bytes: &[u8]) -> bool
+    requires { ⌜ length (now bytes) ≡ storeSize ⌝ }
+    ensures { λ r. ⌜ r ≡ both (allObjectsFit (now (bytes .entry))) (waitingRanges awaited count (now (bytes .entry))) ⌝ }
+{
+    match awaited {
+        AwaitedResponse::Gpo => gpo_in_ranges(count, bytes),
+        AwaitedResponse::Record(place) => record_in_ranges(place, count, bytes),
+        AwaitedResponse::Cryptogram(asked) => cryptogram_in_ranges(asked, count, bytes),
+        AwaitedResponse::Checksum(checksum) => checksum_in_ranges(checksum, count, bytes),
+    }
 }
 
 // Waiting on GPO: nothing of its answer is present yet.

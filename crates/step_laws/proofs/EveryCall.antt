@@ -25,6 +25,7 @@ use Rattle.analysis.proofs.Laws.{found-length, bits-length}
 use Rattle.session_record.specs.declared.Outcome.{Outcome}
 use Rattle.session_record.specs.declared.OutcomeParameters.{OutcomeParameters}
 use Rattle.session_record.specs.declared.AwaitedRecord.{AwaitedRecord}
+use Rattle.session_record.specs.declared.AwaitedResponse.{AwaitedResponse}
 use Rattle.session_record.specs.declared.Phase.{Phase}
 use Rattle.session_record.specs.declared.CommandLength.{CommandLength}
 use Rattle.session_record.specs.declared.Refusal.{Refusal}
@@ -32,24 +33,22 @@ use Rattle.session_record.specs.declared.CallResult.{CallResult}
 use Rattle.session_record.specs.declared.Session.{Session}
 use Rattle.session_record.specs.declared.Reply.{Reply}
 use Rattle.basics.specs.Reason.{reasonDol, reasonLink, reasonStopped}
-use Rattle.session_record.specs.Session.{storeBytes, endingOf, outcomeParameters}
-use Rattle.session_record.specs.Numbers.{outcomeOfReason}
+use Rattle.session_record.specs.Session.{storeBytes, endingOf, endingBy, outcomeParameters}
 use Rattle.session_record.specs.Ranges.{storedAfl}
 use Rattle.session_record.proofs.Stored.{empty-lacks}
 use Rattle.session_record.proofs.Phases.{store-size, store-fits, on-fresh}
-use Rattle.session.specs.Steps as steps
-use Rattle.session.specs.Steps.{Step, withoutCommand, refusedStep, commandStep, abortStep, linkFailedStep, stopStep}
+use Rattle.session.specs.Steps.{Step, refusedStep, abortStep, linkFailedStep, stopStep}
 use Rattle.session.specs.Start.{startStep}
 use Rattle.session.specs.Answer.{answerStep}
 use Rattle.step_laws.proofs.Kept.{read-size, read-fits, read-value, found-other, digits-other}
-use Rattle.step_laws.proofs.Ways.{Admitted, withStore, taken, GpoWay, RecordsWay, MagStripeWay, RecordWay, CryptogramWay, ChecksumWay, AnswerWay, answer-way, analysedSession, askedBy, loadedSession, StartWay, start-way, BrokenWay, broken-way}
+use Rattle.step_laws.proofs.Ways.{withoutCommand, endedReply, commandStep, Admitted, withStore, taken, GpoWay, RecordsWay, MagStripeWay, RecordWay, CryptogramWay, ChecksumWay, AnswerWay, answer-way, analysedSession, askedBy, loadedSession, StartWay, start-way, BrokenWay, broken-way}
 
 -- ---- how a call comes out: refused, ended, or with a command; another store, and nothing else of the record
 
 pub data Came (s : Session) (buf : List ℕ) : Step → Type 0 where
   refused : (n : ℕ) → Came s buf (refusedStep s n buf)
-  ended : (m : ℕ) (b : List ℕ) (o : Outcome) (n : ℕ) → Came s buf (withoutCommand (steps.endedReply m (s .count) b (endingOf o n)) buf)
-  sent : (b : List ℕ) (p : Phase) (c : List ℕ) → length c ≤ length buf → Came s buf (commandStep (s .count) b p c buf)
+  ended : (m : ℕ) (b : List ℕ) (o : Outcome) (n : ℕ) → Came s buf (withoutCommand (endedReply m (s .count) b (endingOf o n)) buf)
+  sent : (b : List ℕ) (p : AwaitedResponse) (c : List ℕ) → length c ≤ length buf → Came s buf (commandStep (s .count) b p c buf)
 
 module _ (s : Session) (card buf : List ℕ) where
   came-gpo : {st : Step} (b : List ℕ) → Admitted s (length buf) → GpoWay (withStore s b) buf st → Came s buf st
@@ -241,11 +240,11 @@ accepted-bytes s a z = omega (arith, accepted-length (storedAfl (storeBytes s)) 
 -- ---- a start that ends the session: its list gives no command (7), and none was handed out
 
 pub start-ended : (s : Session) (bytes buf : List ℕ) (e : OutcomeParameters) → startStep s bytes buf .reply .answer ≡ CallResult.Outcome e
-    → (e ≡ outcomeParameters (outcomeOfReason reasonDol) reasonDol cvmNotApplicable) × (startStep s bytes buf .reply .session .count ≡ 0)
+    → (e ≡ outcomeParameters (endingBy reasonDol) cvmNotApplicable) × (startStep s bytes buf .reply .session .count ≡ 0)
 start-ended s bytes buf e = go (start-way s bytes buf)
   where
     go : {st : Step} → StartWay s bytes buf st → st .reply .answer ≡ CallResult.Outcome e
-        → (e ≡ outcomeParameters (outcomeOfReason reasonDol) reasonDol cvmNotApplicable) × (st .reply .session .count ≡ 0)
+        → (e ≡ outcomeParameters (endingBy reasonDol) cvmNotApplicable) × (st .reply .session .count ≡ 0)
     go (StartWay.refused n l) p = let z : _≡_ {A = ℕ} 0 1 = cc in absurd (omega arith)
     go (StartWay.unlisted b i q l) p = (cc, on-fresh s (i .ranges) q .count)
     go (StartWay.asked b c i q l f) p = let z : _≡_ {A = ℕ} 0 1 = cc in absurd (omega arith)

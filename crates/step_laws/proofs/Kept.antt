@@ -30,8 +30,8 @@ use Rattle.analysis.specs.Action.{transactionLimit}
 use Rattle.analysis.proofs.Laws.{limit-same}
 use Rattle.analysis.specs.declared.action.AnalysisFindings.{AnalysisFindings}
 use Rattle.store.specs.Held.{hasObject, storedBytes}
-use Rattle.session_record.specs.Ranges.{valueFits, emvOrMagStripeMode, storedAfl}
-use Rattle.session_record.specs.Clauses.{AllObjectsFit, RunningClauses, zeroTvr}
+use Rattle.session_record.specs.Ranges.{valueFits, emvOrMagStripeMode, storedAfl, zeroTvr}
+use Rattle.session_record.proofs.Clauses.{AllObjectsFit, RunningClauses}
 use Rattle.session_record.proofs.Stored.{put-size, put-here, put-named, put-holds, put-apart, put-runs, fits-kept, apartFrom, apart-rest, card-apart, runningTags, results-apart}
 use Rattle.session_record.proofs.Values.{value-fits, held-length}
 use Rattle.session_record.proofs.Phases.{either-there}

@@ -15,26 +15,24 @@ use Rattle.reading.specs.declared.Awaited.{Awaited}
 use Rattle.reading.specs.Answer as reading
 use Rattle.analysis.specs.Cvm.{cvmNumber, cvmNotApplicable}
 use Rattle.session_record.specs.declared.AwaitedRecord.{AwaitedRecord}
+use Rattle.session_record.specs.declared.AwaitedResponse.{AwaitedResponse}
 use Rattle.session_record.specs.declared.Phase.{Phase}
 use Rattle.session_record.specs.declared.Session.{Session}
-use Rattle.session_record.specs.Session.{storeBytes}
+use Rattle.session_record.specs.Session.{storeBytes, endingBy}
 use Rattle.session_record.specs.Ranges.{storedAfl}
 use Rattle.start_data.specs.StartData.{mostStartBytes}
 use Rattle.start_data.proofs.Laws.{load-long-same}
-use Rattle.session.specs.Steps.{withoutCommand, endedReply, endingBy, failedStep, admittedStep}
-use Rattle.session.specs.Start.{startLoaded, startIn, startStep}
-use Rattle.session.specs.MagStripe.{checksumOutcomeOf, checksumReply}
-use Rattle.session.specs.Answer.{afterGpoRead, gpoStep, afterRecordRead, readRecordFound, recordStep, cryptogramEnding, cryptogramReply, answerIn, answerStep}
+use Rattle.session.specs.Steps.{Next, end, readThen, admittedStep, whileRunning, follow}
+use Rattle.session.specs.Start.{startLoaded, startCall, startStep}
+use Rattle.session.specs.MagStripe.{checksumTaken, checksumNext}
+use Rattle.session.specs.Answer.{afterGpo, gpoNext, afterRecord, readFound, recordNext, afterCryptogram, cryptogramNext, responseNext, answerStep}
 
 -- ---- start
 
 module _ (s : Session) (x y buf : List ℕ) (h : mostStartBytes < length x) (k : mostStartBytes < length y) where
-  start-in : (p : Phase) → startIn p s x buf ≡ startIn p s y buf
-  start-in Phase.Fresh = ap (startLoaded s buf) (load-long-same (storeBytes s) (storeBytes s) x y h k)
-  start-in Phase.Gpo = refl
-  start-in (Phase.Record p) = refl
-  start-in (Phase.Cryptogram a) = refl
-  start-in (Phase.Checksum k) = refl
+  start-in : (p : Phase) → startCall p (storeBytes s) x ≡ startCall p (storeBytes s) y
+  start-in Phase.Fresh = ap startLoaded (load-long-same (storeBytes s) (storeBytes s) x y h k)
+  start-in (Phase.Waiting w) = refl
   start-in (Phase.Ended e) = refl
 
   pub start-long : startStep s x buf ≡ startStep s y buf
@@ -47,28 +45,26 @@ unfolding reading.readAnswer reading.isResponseLength
 long-read a b x h = if-no _ _ (both-no-right _ _ (lt-leb (length x) 258 h))
 
 module _ (s : Session) (x y buf : List ℕ) (h : 258 < length x) (k : 258 < length y) where
-  same-read : (a : Awaited) → reading.readAnswer a (storeBytes s) x ≡ reading.readAnswer a (storeBytes s) y
-  same-read a = long-read a (storeBytes s) x h ∙ sym (long-read a (storeBytes s) y k)
+  same-read : (a : Awaited) (m : ℕ) (next : List ℕ → Next) → readThen a m (storeBytes s) x next ≡ readThen a m (storeBytes s) y next
+  unfolding readThen
+  same-read a m next =
+      ap (λ (o : reading.ReadingOutcome). if (eqb (o .reason) 0) (next (o .store)) (end (endingBy (o .reason)) m (storeBytes s)))
+      (long-read a (storeBytes s) x h ∙ sym (long-read a (storeBytes s) y k))
 
-  long-found : (p : AwaitedRecord) (f : RecordFound) → readRecordFound p (s .count) (storeBytes s) x buf f ≡ readRecordFound p (s .count) (storeBytes s) y buf f
+  long-found : (p : AwaitedRecord) (f : RecordFound) → readFound p (storeBytes s) x f ≡ readFound p (storeBytes s) y f
   long-found p RecordFound.Nothing = refl
-  long-found p (RecordFound.At r) =
-      ap (λ (o : reading.ReadingOutcome). if (eqb (o .reason) 0) (afterRecordRead p (s .count) (o .store) buf) (failedStep cvmNotApplicable (s .count) (storeBytes s) (o .reason) buf))
-      (same-read (Awaited.Record (record { number = r .sfi })))
+  long-found p (RecordFound.At r) = same-read (Awaited.Record (record { number = r .sfi })) cvmNotApplicable (afterRecord p)
 
-  long-in : (p : Phase) → answerIn p s x buf ≡ answerIn p s y buf
-  unfolding gpoStep recordStep cryptogramReply checksumReply
+  long-awaited : (w : AwaitedResponse) → responseNext (storeBytes s) x w ≡ responseNext (storeBytes s) y w
+  unfolding gpoNext recordNext cryptogramNext checksumNext
+  long-awaited AwaitedResponse.Gpo = same-read Awaited.Gpo cvmNotApplicable afterGpo
+  long-awaited (AwaitedResponse.Record p) = long-found p (aflRecordAt (storedAfl (storeBytes s)) (p .number))
+  long-awaited (AwaitedResponse.Cryptogram a) = same-read Awaited.Cryptogram (cvmNumber (a .cvm)) (afterCryptogram a)
+  long-awaited (AwaitedResponse.Checksum c) = same-read Awaited.Checksum cvmNotApplicable (checksumTaken (storeBytes s))
+
+  long-in : (p : Phase) → whileRunning p (responseNext (storeBytes s) x) ≡ whileRunning p (responseNext (storeBytes s) y)
   long-in Phase.Fresh = refl
-  long-in Phase.Gpo =
-      ap (λ (o : reading.ReadingOutcome). if (eqb (o .reason) 0) (afterGpoRead (s .count) (o .store) buf) (failedStep cvmNotApplicable (s .count) (storeBytes s) (o .reason) buf))
-      (same-read Awaited.Gpo)
-  long-in (Phase.Record p) = long-found p (aflRecordAt (storedAfl (storeBytes s)) (p .number))
-  long-in (Phase.Cryptogram a) =
-      ap (λ (o : reading.ReadingOutcome). withoutCommand (if (eqb (o .reason) 0) (endedReply (cvmNumber (a .cvm)) (s .count) (o .store) (cryptogramEnding a (o .store))) (endedReply (cvmNumber (a .cvm)) (s .count) (storeBytes s) (endingBy (o .reason)))) buf)
-      (same-read Awaited.Cryptogram)
-  long-in (Phase.Checksum k) =
-      ap (λ (o : reading.ReadingOutcome). withoutCommand (if (eqb (o .reason) 0) (checksumOutcomeOf (s .count) (storeBytes s) (o .store)) (endedReply cvmNotApplicable (s .count) (storeBytes s) (endingBy (o .reason)))) buf)
-      (same-read Awaited.Checksum)
+  long-in (Phase.Waiting w) = ap follow (long-awaited w)
   long-in (Phase.Ended e) = refl
 
   pub answer-long : answerStep s x buf ≡ answerStep s y buf

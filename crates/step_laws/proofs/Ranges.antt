@@ -27,25 +27,26 @@ use Rattle.analysis.specs.declared.action.AnalysisFindings.{AnalysisFindings}
 use Rattle.analysis.proofs.Laws.{found-length, bits-length}
 use Rattle.session_record.specs.declared.Outcome.{Outcome}
 use Rattle.session_record.specs.declared.AwaitedRecord.{AwaitedRecord}
+use Rattle.session_record.specs.declared.AwaitedResponse.{AwaitedResponse}
 use Rattle.session_record.specs.declared.Phase.{Phase}
 use Rattle.session_record.specs.declared.Session.{Session}
 use Rattle.session_record.specs.declared.Reply.{Reply}
 use Rattle.session_record.specs.Numbers.{outcomeOfReason}
 use Rattle.basics.specs.Reason.{reasonMissing, reasonDol, reasonLink, reasonStopped}
-use Rattle.session_record.specs.Session.{storeBytes, endedSession, endingOf}
+use Rattle.session_record.specs.Session.{storeBytes, endingOf}
 use Rattle.store.specs.Held.{storedBytes}
-use Rattle.session_record.specs.Ranges.{emvMode, emvOrMagStripeMode, storedAfl, storedRecordCount, cryptogramDataPresent, trackDataPresent, mostCommands, inRanges}
-use Rattle.session_record.specs.Clauses.{AllObjectsFit, RunningClauses, FreshClauses, GpoClauses, RecordClauses, zeroTvr}
+use Rattle.session_record.specs.Ranges.{emvMode, emvOrMagStripeMode, storedAfl, storedRecordCount, cryptogramDataPresent, trackDataPresent, mostCommands, zeroTvr, inRanges}
+use Rattle.session_record.proofs.Clauses.{AllObjectsFit, RunningClauses, FreshClauses, GpoClauses, RecordClauses}
 use Rattle.session_record.proofs.Laws.{all-fits, fits-all, all-brought}
 use Rattle.session_record.proofs.Stored.{empty-lacks}
 use Rattle.session_record.proofs.Reasons.{decided, outcome-goes}
-use Rattle.session_record.proofs.Phases.{store-size, store-fits, on-fresh, on-gpo, on-record, count-most, waiting-keeps, ended-keeps, fails-keeps}
+use Rattle.session_record.proofs.Phases.{store-size, store-fits, on-fresh, on-gpo, on-record, count-most, endedSession, waiting-keeps, ended-keeps, fails-keeps}
 use Rattle.start_data.specs.StartData.{loaded, loadStart}
 use Rattle.start_data.proofs.Laws.{load-brought, load-size, load-fits, load-untouched-of, load-listed}
 use Rattle.session.specs.Steps.{Step, withTvr, withFindings, abortStep, linkFailedStep, stopStep}
 use Rattle.session.specs.Start.{startStep}
-use Rattle.session.specs.Answer.{recordPhase, requestedCryptogram, answerStep}
-use Rattle.session.specs.MagStripe.{checksumPhase, storeWithDigits}
+use Rattle.session.specs.Answer.{awaitedRecord, requestedCryptogram, answerStep}
+use Rattle.session.specs.MagStripe.{awaitedChecksum, storeWithDigits}
 use Rattle.step_laws.proofs.Kept.{Waits, gpo-plain, record-plain, read-waits, read-fits, read-mode, read-either, read-afl, read-limit, bits-size, bits-fits, bits-runs, bits-here, bits-other, bits-hold, found-size, found-fits, found-runs, found-9F34, found-other, found-limit, digits-size, digits-fits}
 use Rattle.step_laws.proofs.Ways.{Reason, withStore, taken, GpoWay, RecordsWay, MagStripeWay, RecordWay, CryptogramWay, ChecksumWay, AnswerWay, answer-way, loadedSession, analysedSession, StartWay, start-way, BrokenWay, broken-way}
 
@@ -59,7 +60,7 @@ list-reason = record { least = omega arith; most = omega arith }
 
 -- ---- after GPO
 
-module _ (s : Session) (i : inRanges s ≡ true) (q : s .phase ≡ Phase.Gpo) (card buf : List ℕ) where
+module _ (s : Session) (i : inRanges s ≡ true) (q : s .phase ≡ Phase.Waiting AwaitedResponse.Gpo) (card buf : List ℕ) where
   gpo-on : GpoClauses (s .count) (storeBytes s)
   gpo-on = on-gpo s i q
 
@@ -72,7 +73,7 @@ module _ (s : Session) (i : inRanges s ≡ true) (q : s .phase ≡ Phase.Gpo) (c
   gpo-keeps : {st : Step} → GpoWay (taken Awaited.Gpo s card) buf st → inRanges (st .reply .session) ≡ true
   gpo-keeps (GpoWay.failed n r) = failing (taken Awaited.Gpo s card) n r (gpo-after .size) (gpo-after .fits) (count-most s i)
   gpo-keeps (GpoWay.first r m a e) =
-      waiting-keeps (taken Awaited.Gpo s card) (recordPhase (transactionLimit (storeBytes (taken Awaited.Gpo s card))) 1) (s .count + 1) (gpo-after .size) (gpo-after .fits)
+      waiting-keeps (taken Awaited.Gpo s card) (Phase.Waiting (awaitedRecord (transactionLimit (storeBytes (taken Awaited.Gpo s card))) 1)) (s .count + 1) (gpo-after .size) (gpo-after .fits)
       (record {
         runs = gpo-after .runs;
         mode = m;
@@ -86,7 +87,7 @@ module _ (s : Session) (i : inRanges s ≡ true) (q : s .phase ≡ Phase.Gpo) (c
 
 -- ---- after a record
 
-module _ (s : Session) (i : inRanges s ≡ true) (p : AwaitedRecord) (q : s .phase ≡ Phase.Record p) (sfi : ℕ) (card buf : List ℕ) where
+module _ (s : Session) (i : inRanges s ≡ true) (p : AwaitedRecord) (q : s .phase ≡ Phase.Waiting (AwaitedResponse.Record p)) (sfi : ℕ) (card buf : List ℕ) where
   record-on : RecordClauses p (s .count) (storeBytes s)
   record-on = on-record s i p q
 
@@ -144,7 +145,7 @@ module _ (s : Session) (i : inRanges s ≡ true) (p : AwaitedRecord) (q : s .pha
       m : length (f .bits) ≡ 5
       m = bits-length (storeBytes t)
   records-keeps d v (RecordsWay.asked c h g) =
-      waiting-keeps (analysedSession t) _ (s .count + 1) (found-size b f l n m) (found-fits b f l n m (record-after .fits))
+      waiting-keeps (analysedSession t) (Phase.Waiting (AwaitedResponse.Cryptogram (requestedCryptogram (p .limit) (storeBytes t)))) (s .count + 1) (found-size b f l n m) (found-fits b f l n m (record-after .fits))
       (record {
         runs = found-runs b f l n m (record-after .runs);
         mode = ap (λ (x : StoredValue). valueHasBit (bytesOfValue x) 2 8) (found-other b f l n m 0x82 rowAip at-82 (λ z. omega arith) (λ z. omega arith)) ∙ v;
@@ -182,7 +183,7 @@ module _ (s : Session) (i : inRanges s ≡ true) (p : AwaitedRecord) (q : s .pha
   unfolding trackDataPresent every
   mag-stripe-keeps d v (MagStripeWay.failed n r) = failing t n r (record-after .size) (record-after .fits) (count-most s i)
   mag-stripe-keeps d v (MagStripeWay.asked c h g) =
-      waiting-keeps t (checksumPhase (p .limit)) (s .count + 1) (record-after .size) (record-after .fits)
+      waiting-keeps t (Phase.Waiting (awaitedChecksum (p .limit))) (s .count + 1) (record-after .size) (record-after .fits)
       (record {
         runs = record-after .runs;
         mode = sym (either-false _ v) ∙ mode;
@@ -198,7 +199,7 @@ module _ (s : Session) (i : inRanges s ≡ true) (p : AwaitedRecord) (q : s .pha
 
   record-keeps : {st : Step} → RecordWay p t buf st → inRanges (st .reply .session) ≡ true
   record-keeps (RecordWay.next r e) =
-      waiting-keeps t (recordPhase (p .limit) (p .number + 1)) (s .count + 1) (record-after .size) (record-after .fits)
+      waiting-keeps t (Phase.Waiting (awaitedRecord (p .limit) (p .number + 1))) (s .count + 1) (record-after .size) (record-after .fits)
       (record {
         runs = record-after .runs;
         mode = mode;
@@ -304,9 +305,9 @@ module _ (s : Session) (i : inRanges s ≡ true) (q : s .phase ≡ Phase.Fresh) 
   start-fails : inRanges (endedSession (loadedSession s b) (endingOf (outcomeOfReason reasonDol) reasonDol)) ≡ true
   start-fails = failing (loadedSession s b) reasonDol list-reason (bits-size b zeroTvr size refl) (bits-fits b zeroTvr size refl fits) (count-most s i)
 
-  start-waits : inRanges (record { phase = Phase.Gpo; count = s .count + 1; store = record { bytes = withTvr b zeroTvr } }) ≡ true
+  start-waits : inRanges (record { phase = Phase.Waiting AwaitedResponse.Gpo; count = s .count + 1; store = record { bytes = withTvr b zeroTvr } }) ≡ true
   start-waits =
-      waiting-keeps (loadedSession s b) Phase.Gpo (s .count + 1) (bits-size b zeroTvr size refl) (bits-fits b zeroTvr size refl fits)
+      waiting-keeps (loadedSession s b) (Phase.Waiting AwaitedResponse.Gpo) (s .count + 1) (bits-size b zeroTvr size refl) (bits-fits b zeroTvr size refl fits)
       (record {
         runs = running;
         no-82 = lacking 0x82 rowAip at-82 (not-set .0) (λ z. omega arith);

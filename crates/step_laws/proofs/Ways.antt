@@ -9,8 +9,6 @@ use Prim.Native.Nat.{ℕ, _+_, _/_, _≤_}
 use native.Mathlib.Omega.{arith}
 use lib.ListN.{length}
 use borrow.Author.Tests.{eqb-true, eqb-false, ltb-false, not-false}
-use lib.Dec.{eqb}
-use Rattle.basics.specs.Choice.{if}
 use Rattle.basics.proofs.Laws.{if-ind}
 use Rattle.afl.specs.declared.CardRecord.{CardRecord}
 use Rattle.afl.specs.declared.RecordFound.{RecordFound}
@@ -27,28 +25,47 @@ use Rattle.session_record.specs.declared.Outcome.{Outcome}
 use Rattle.session_record.specs.declared.AwaitedRecord.{AwaitedRecord}
 use Rattle.session_record.specs.declared.RequestedCryptogram.{RequestedCryptogram}
 use Rattle.session_record.specs.declared.AwaitedChecksum.{AwaitedChecksum}
+use Rattle.session_record.specs.declared.AwaitedResponse.{AwaitedResponse}
 use Rattle.session_record.specs.declared.Phase.{Phase}
 use Rattle.session_record.specs.declared.Session.{Session}
 use Rattle.session_record.specs.declared.Reply.{Reply}
 use Rattle.session_record.specs.Numbers.{reasonMatchesOutcome}
 use Rattle.basics.specs.Reason.{refusedBytes, refusedPhase, refusedBuffer, refusedObject, refusedAbsent, refusedRanges, reasonNone, reasonNotAllowed, reasonMissing, reasonAfl, reasonAboveLimit, reasonDol, reasonCryptogram, reasonMode}
 use Rattle.session_record.specs.declared.Ending.{Ending}
-use Rattle.session_record.specs.Session.{storeBytes, storedSession, endingOf}
+use Rattle.session_record.specs.Session.{storeBytes, endingOf, endingBy, replyOf, endingTransition}
 use Rattle.store.specs.Held.{storedByte}
-use Rattle.session_record.specs.Ranges.{emvMode, emvOrMagStripeMode, storedAfl, cryptogramDataPresent, trackDataPresent, inRanges}
-use Rattle.session_record.specs.Clauses.{zeroTvr}
+use Rattle.session_record.specs.Ranges.{emvMode, emvOrMagStripeMode, storedAfl, cryptogramDataPresent, trackDataPresent, zeroTvr, inRanges}
 use Rattle.session_record.proofs.Reasons.{decided}
 use Rattle.tlv.specs.Primitives.{Object, primitiveObjects}
 use Rattle.start_data.specs.StartData.{LoadedStore, refusal, loaded, setObjects, afterSetting, afterRun, loadStart}
-use Rattle.session.specs.Steps.{Step, withoutCommand, refusedStep, endedReply, endingBy, failedStep, commandStep, withTvr, withFindings, leastBuffer, admittedStep, commandOrReason, endsRunning, abortStep}
-use Rattle.session.specs.Start.{askGpo, startLoaded, startIn, startStep}
-use Rattle.session.specs.Answer.{recordPhase, askRecordFound, gpoStoreReason, afterGpoRead, gpoStep, askCryptogram, requestedCryptogram, afterAnalysis, afterRecordsEmv, afterLastRecord, askNextFound, afterRecordRead, readRecordFound, recordStep, onlineByArqc, approvedByTc, cryptogramOutcome, endingFor, cryptogramEnding, cryptogramReply, answerIn, answerStep}
-use Rattle.session.specs.MagStripe.{checksumPhase, askChecksum, afterRecordsMagStripe, storeWithDigits, afterChecksumRead, checksumOutcomeOf, checksumReply}
+use Rattle.session.specs.Steps.{Next, ask, end, heldCvm, askWithDol, reasonOf, readThen, withTvr, withFindings}
+use Rattle.session.specs.Steps.{Step, CallEffect, stepOn, refusedStep, stepOf, leastBuffer, admittedStep, whileRunning, abortStep}
+use Rattle.session.specs.Start.{askGpo, startLoaded, startCall, startStep}
+use Rattle.session.specs.Answer.{awaitedRecord, askFound, afterGpo, gpoNext, askCryptogram, requestedCryptogram, afterRecordsEmv, afterLastRecord, afterRecord, readFound, recordNext, onlineByArqc, approvedByTc, cryptogramOutcome, endingFor, cryptogramEnding, afterCryptogram, cryptogramNext, responseNext, answerStep}
+use Rattle.session.specs.MagStripe.{awaitedChecksum, askChecksum, afterRecordsMagStripe, storeWithDigits, afterChecksum, checksumTaken, checksumNext}
 use Rattle.session.proofs.Laws.{read-ind}
 
 -- the session with a store of these bytes
 abbrev pub withStore : Session → List ℕ → Session
-withStore s b = storedSession s (record { bytes = b })
+withStore s b = record { phase = s .phase; count = s .count; store = record { bytes = b } }
+
+-- ---- the forms of a step
+
+-- no command: the whole buffer stays
+abbrev pub withoutCommand : Reply → List ℕ → Step
+withoutCommand r buf = record { reply = r; buffer = buf }
+
+-- a session of count n and store b ends; m is the number of the CVM that is reported
+abbrev pub endedReply : ℕ → ℕ → List ℕ → Ending → Reply
+endedReply m n b e = replyOf (endingTransition m n e) b
+
+-- it ends for a reason other than 0
+abbrev pub failedStep : ℕ → ℕ → List ℕ → ℕ → List ℕ → Step
+failedStep m n b r buf = stepOn n buf (end (endingBy r) m b)
+
+-- a command, and what is awaited
+abbrev pub commandStep : ℕ → List ℕ → AwaitedResponse → List ℕ → List ℕ → Step
+commandStep n b w c buf = stepOn n buf (ask c w b)
 
 -- a reason that ends a session
 pub record Reason (n : ℕ) : Type 0 where
@@ -65,10 +82,10 @@ pub record Admitted (s : Session) (size : ℕ) : Type 0 where
   pub room : leastBuffer ≤ size
   pub ranges : inRanges s ≡ true
 
-admitted-ind : (P : Step → Type 0) (s : Session) (buf : List ℕ) (step : Step)
-    → ((n : ℕ) → n ≤ refusedRanges → P (refusedStep s n buf)) → (Admitted s (length buf) → P step) → P (admittedStep s buf step)
+admitted-ind : (P : Step → Type 0) (s : Session) (buf : List ℕ) (x : CallEffect)
+    → ((n : ℕ) → n ≤ refusedRanges → P (refusedStep s n buf)) → (Admitted s (length buf) → P (stepOf s buf x)) → P (admittedStep s buf x)
 unfolding admittedStep
-admitted-ind P s buf step f g =
+admitted-ind P s buf x f g =
     if-ind P _ _ _ (λ e. f refusedBuffer (omega arith))
     (λ e. if-ind P _ _ _ (λ r. f refusedRanges (omega arith)) (λ r. g (record { room = ltb-false (length buf) leastBuffer e; ranges = not-false _ r })))
 
@@ -79,9 +96,10 @@ abbrev pub taken : Awaited → Session → List ℕ → Session
 taken a s card = withStore s (reading.readAnswer a (storeBytes s) card .store)
 
 -- the reading gives a reason, or none
-reading-ind : {A : Type 0} (P : A → Type 0) (o : reading.ReadingOutcome) (going failed : A)
-    → ((o .reason ≡ 0 → ⊥) → P failed) → (o .reason ≡ 0 → P going) → P (if (eqb (o .reason) 0) going failed)
-reading-ind P o going failed f g = if-ind P _ _ _ (λ e. g (eqb-true (o .reason) 0 e)) (λ e. f (eqb-false (o .reason) 0 e))
+reading-ind : (P : Next → Type 0) (a : Awaited) (m : ℕ) (b card : List ℕ) (next : List ℕ → Next) → let o = reading.readAnswer a b card in
+    ((o .reason ≡ 0 → ⊥) → P (end (endingBy (o .reason)) m b)) → (o .reason ≡ 0 → P (next (o .store))) → P (readThen a m b card next)
+unfolding readThen
+reading-ind P a m b card next f g = if-ind P _ _ _ (λ e. g (eqb-true _ 0 e)) (λ e. f (eqb-false _ 0 e))
 
 -- a reading's reason is 1 to 3, or none
 few-reasons : (a : Awaited) (b s : List ℕ) → reading.readAnswer a b s .reason ≤ 3
@@ -95,44 +113,35 @@ not-list a b s z = let f = few-reasons a b s in omega arith
 
 -- ---- after GPO
 
--- a store that has no reason is in one of the modes with an accepted AFL; else its reason is one that ends a session
-pub stored-none : (b : List ℕ) → gpoStoreReason b ≡ reasonNone → (emvOrMagStripeMode b ≡ true) × (acceptsAfl (storedAfl b) ≡ true)
-unfolding gpoStoreReason
+-- a store that gives no reason is in one of the modes with an accepted AFL
+pub stored-none : (b : List ℕ) → reasonOf (afterGpo b) ≡ reasonNone → (emvOrMagStripeMode b ≡ true) × (acceptsAfl (storedAfl b) ≡ true)
+unfolding afterGpo
 stored-none b =
     if-ind P _ _ _ (λ t e. absurd (omega arith))
     (λ t. if-ind P _ _ _ (λ m e. absurd (omega arith))
     (λ m. if-ind P _ _ _ (λ a e. absurd (omega arith)) (λ a e. (not-false _ m, not-false _ a))))
   where
-    P : ℕ → Type 0
-    P n = n ≡ reasonNone → (emvOrMagStripeMode b ≡ true) × (acceptsAfl (storedAfl b) ≡ true)
-
-stored-some : (b : List ℕ) → (gpoStoreReason b ≡ reasonNone → ⊥) → Reason (gpoStoreReason b)
-unfolding gpoStoreReason
-stored-some b =
-    if-ind P _ _ _ (λ t z. reason 4 (omega arith) (omega arith))
-    (λ t. if-ind P _ _ _ (λ m z. reason 11 (omega arith) (omega arith))
-    (λ m. if-ind P _ _ _ (λ a z. reason 5 (omega arith) (omega arith)) (λ a z. absurd (z refl))))
-  where
-    P : ℕ → Type 0
-    P n = (n ≡ reasonNone → ⊥) → Reason n
+    P : Next → Type 0
+    P x = reasonOf x ≡ reasonNone → (emvOrMagStripeMode b ≡ true) × (acceptsAfl (storedAfl b) ≡ true)
 
 pub data GpoWay (t : Session) (buf : List ℕ) : Step → Type 0 where
   failed : (n : ℕ) → Reason n → GpoWay t buf (failedStep cvmNotApplicable (t .count) (storeBytes t) n buf)
   first : (r : CardRecord) → emvOrMagStripeMode (storeBytes t) ≡ true → acceptsAfl (storedAfl (storeBytes t)) ≡ true → aflRecordAt (storedAfl (storeBytes t)) 1 ≡ RecordFound.At r
-      → GpoWay t buf (commandStep (t .count) (storeBytes t) (recordPhase (transactionLimit (storeBytes t)) 1) (readRecordCommand r) buf)
+      → GpoWay t buf (commandStep (t .count) (storeBytes t) (awaitedRecord (transactionLimit (storeBytes t)) 1) (readRecordCommand r) buf)
 
-pub gpo-way : (t : Session) (buf : List ℕ) → GpoWay t buf (afterGpoRead (t .count) (storeBytes t) buf)
-unfolding afterGpoRead
+pub gpo-way : (t : Session) (buf : List ℕ) → GpoWay t buf (stepOn (t .count) buf (afterGpo (storeBytes t)))
+unfolding afterGpo
 gpo-way t buf =
-    if-ind P _ _ _
-    (λ e. let w = stored-none (storeBytes t) (eqb-true (gpoStoreReason (storeBytes t)) 0 e) in go (w .0) (w .1) (aflRecordAt (storedAfl (storeBytes t)) 1) refl)
-    (λ e. failed (gpoStoreReason (storeBytes t)) (stored-some (storeBytes t) (eqb-false (gpoStoreReason (storeBytes t)) 0 e)))
+    if-ind P _ _ _ (λ e. failed reasonMissing (reason 4 (omega arith) (omega arith)))
+    (λ e. if-ind P _ _ _ (λ m. failed reasonMode (reason 11 (omega arith) (omega arith)))
+    (λ m. if-ind P _ _ _ (λ a. failed reasonAfl (reason 5 (omega arith) (omega arith)))
+    (λ a. go (not-false _ m) (not-false _ a) (aflRecordAt (storedAfl (storeBytes t)) 1) refl)))
   where
-    P : Step → Type 0
-    P = GpoWay t buf
+    P : Next → Type 0
+    P x = GpoWay t buf (stepOn (t .count) buf x)
 
     go : emvOrMagStripeMode (storeBytes t) ≡ true → acceptsAfl (storedAfl (storeBytes t)) ≡ true → (x : RecordFound) → aflRecordAt (storedAfl (storeBytes t)) 1 ≡ x
-        → P (askRecordFound (t .count) (storeBytes t) 1 buf x)
+        → P (askFound (transactionLimit (storeBytes t)) 1 (storeBytes t) (end (endingBy reasonAfl) cvmNotApplicable (storeBytes t)) x)
     go m a RecordFound.Nothing e = failed reasonAfl (reason 5 (omega arith) (omega arith))
     go m a (RecordFound.At r) e = first r m a e
 
@@ -149,20 +158,20 @@ pub data RecordsWay (l : ℕ) (t : Session) (buf : List ℕ) : Step → Type 0 w
   failed : (n : ℕ) → Reason n → (n ≡ reasonDol → ⊥) → RecordsWay l t buf (failedStep cvmNotApplicable (t .count) (storeBytes t) n buf)
   unlisted : RecordsWay l t buf (failedStep (cvmNumber (askedBy l t .cvm)) (t .count) (storeBytes (analysedSession t)) reasonDol buf)
   asked : (c : List ℕ) → cryptogramDataPresent (storeBytes t) ≡ true → generateAc (generateAcP1 (askedBy l t .choice)) (storeBytes (analysedSession t)) ≡ some c
-      → RecordsWay l t buf (commandStep (t .count) (storeBytes (analysedSession t)) (Phase.Cryptogram (askedBy l t)) c buf)
+      → RecordsWay l t buf (commandStep (t .count) (storeBytes (analysedSession t)) (AwaitedResponse.Cryptogram (askedBy l t)) c buf)
 
-pub records-way : (l : ℕ) (t : Session) (buf : List ℕ) → RecordsWay l t buf (afterRecordsEmv l (t .count) (storeBytes t) buf)
-unfolding afterRecordsEmv afterAnalysis askCryptogram
+pub records-way : (l : ℕ) (t : Session) (buf : List ℕ) → RecordsWay l t buf (stepOn (t .count) buf (afterRecordsEmv l (storeBytes t)))
+unfolding afterRecordsEmv askCryptogram
 records-way l t buf =
     if-ind P _ _ _ (λ e. failed reasonAboveLimit (reason 6 (omega arith) (omega arith)) (λ z. omega arith))
     (λ e. if-ind P _ _ _ (λ f. failed reasonMissing (reason 4 (omega arith) (omega arith)) (λ z. omega arith))
     (λ f. go (not-false _ f) (generateAc (generateAcP1 (askedBy l t .choice)) (storeBytes (analysedSession t))) refl))
   where
-    P : Step → Type 0
-    P = RecordsWay l t buf
+    P : Next → Type 0
+    P x = RecordsWay l t buf (stepOn (t .count) buf x)
 
     go : cryptogramDataPresent (storeBytes t) ≡ true → (x : Option (List ℕ)) → generateAc (generateAcP1 (askedBy l t .choice)) (storeBytes (analysedSession t)) ≡ x
-        → P (commandOrReason (cvmNumber (askedBy l t .cvm)) (t .count) (storeBytes (analysedSession t)) (Phase.Cryptogram (askedBy l t)) buf x)
+        → P (askWithDol (AwaitedResponse.Cryptogram (askedBy l t)) (storeBytes (analysedSession t)) x)
     go f none e = unlisted
     go f (some c) e = asked c f e
 
@@ -171,19 +180,19 @@ records-way l t buf =
 pub data MagStripeWay (l : ℕ) (t : Session) (buf : List ℕ) : Step → Type 0 where
   failed : (n : ℕ) → Reason n → MagStripeWay l t buf (failedStep cvmNotApplicable (t .count) (storeBytes t) n buf)
   asked : (c : List ℕ) → trackDataPresent (storeBytes t) ≡ true → computeCryptographicChecksum (storeBytes t) ≡ some c
-      → MagStripeWay l t buf (commandStep (t .count) (storeBytes t) (checksumPhase l) c buf)
+      → MagStripeWay l t buf (commandStep (t .count) (storeBytes t) (awaitedChecksum l) c buf)
 
-mag-stripe-way : (l : ℕ) (t : Session) (buf : List ℕ) → MagStripeWay l t buf (afterRecordsMagStripe l (t .count) (storeBytes t) buf)
+mag-stripe-way : (l : ℕ) (t : Session) (buf : List ℕ) → MagStripeWay l t buf (stepOn (t .count) buf (afterRecordsMagStripe l (storeBytes t)))
 unfolding afterRecordsMagStripe askChecksum
 mag-stripe-way l t buf =
     if-ind P _ _ _ (λ e. failed reasonAboveLimit (reason 6 (omega arith) (omega arith)))
     (λ e. if-ind P _ _ _ (λ f. failed reasonMissing (reason 4 (omega arith) (omega arith))) (λ f. go (not-false _ f) (computeCryptographicChecksum (storeBytes t)) refl))
   where
-    P : Step → Type 0
-    P = MagStripeWay l t buf
+    P : Next → Type 0
+    P x = MagStripeWay l t buf (stepOn (t .count) buf x)
 
     go : trackDataPresent (storeBytes t) ≡ true → (x : Option (List ℕ)) → computeCryptographicChecksum (storeBytes t) ≡ x
-        → P (commandOrReason cvmNotApplicable (t .count) (storeBytes t) (checksumPhase l) buf x)
+        → P (askWithDol (awaitedChecksum l) (storeBytes t) x)
     go f none e = failed reasonDol (reason 7 (omega arith) (omega arith))
     go f (some c) e = asked c f e
 
@@ -191,18 +200,18 @@ mag-stripe-way l t buf =
 
 pub data RecordWay (p : AwaitedRecord) (t : Session) (buf : List ℕ) : Step → Type 0 where
   next : (r : CardRecord) → aflRecordAt (storedAfl (storeBytes t)) (p .number + 1) ≡ RecordFound.At r
-      → RecordWay p t buf (commandStep (t .count) (storeBytes t) (recordPhase (p .limit) (p .number + 1)) (readRecordCommand r) buf)
+      → RecordWay p t buf (commandStep (t .count) (storeBytes t) (awaitedRecord (p .limit) (p .number + 1)) (readRecordCommand r) buf)
   last : {st : Step} → aflRecordAt (storedAfl (storeBytes t)) (p .number + 1) ≡ RecordFound.Nothing → emvMode (storeBytes t) ≡ true → RecordsWay (p .limit) t buf st
       → RecordWay p t buf st
   striped : {st : Step} → aflRecordAt (storedAfl (storeBytes t)) (p .number + 1) ≡ RecordFound.Nothing → emvMode (storeBytes t) ≡ false → MagStripeWay (p .limit) t buf st
       → RecordWay p t buf st
 
-pub record-way : (p : AwaitedRecord) (t : Session) (buf : List ℕ) → RecordWay p t buf (afterRecordRead p (t .count) (storeBytes t) buf)
-unfolding afterRecordRead afterLastRecord
+pub record-way : (p : AwaitedRecord) (t : Session) (buf : List ℕ) → RecordWay p t buf (stepOn (t .count) buf (afterRecord p (storeBytes t)))
+unfolding afterRecord afterLastRecord
 record-way p t buf = go (aflRecordAt (storedAfl (storeBytes t)) (p .number + 1)) refl
   where
-    go : (x : RecordFound) → aflRecordAt (storedAfl (storeBytes t)) (p .number + 1) ≡ x → RecordWay p t buf (askNextFound (p .limit) (t .count) (storeBytes t) (p .number + 1) buf x)
-    go RecordFound.Nothing e = if-ind (RecordWay p t buf) _ _ _ (λ m. last e m (records-way (p .limit) t buf)) (λ m. striped e m (mag-stripe-way (p .limit) t buf))
+    go : (x : RecordFound) → aflRecordAt (storedAfl (storeBytes t)) (p .number + 1) ≡ x → RecordWay p t buf (stepOn (t .count) buf (askFound (p .limit) (p .number + 1) (storeBytes t) (afterLastRecord (p .limit) (storeBytes t)) x))
+    go RecordFound.Nothing e = if-ind (λ (x : Next). RecordWay p t buf (stepOn (t .count) buf x)) _ _ _ (λ m. last e m (records-way (p .limit) t buf)) (λ m. striped e m (mag-stripe-way (p .limit) t buf))
     go (RecordFound.At r) e = next r e
 
 -- ---- after the cryptogram
@@ -252,19 +261,12 @@ pub data ChecksumWay (t : Session) : Reply → Type 0 where
   declined : ChecksumWay t (endedReply cvmNotApplicable (t .count) (storeBytes t) (endingOf Outcome.Declined reasonNone))
   online : ChecksumWay t (endedReply cvmNotApplicable (t .count) (storeWithDigits (storeBytes t)) (endingOf Outcome.OnlineRequest reasonNone))
 
-checksum-way : (t : Session) → ChecksumWay t (afterChecksumRead (t .count) (storeBytes t))
-unfolding afterChecksumRead
-checksum-way t = if-ind (ChecksumWay t) _ _ _ (λ e. failed) (λ e. if-ind (ChecksumWay t) _ _ _ (λ f. declined) (λ f. online))
-
 -- ---- the CVM that a session holds
 
 -- its number: not applicable but while the cryptogram is awaited
 abbrev pub heldNumber : Phase → ℕ
 heldNumber Phase.Fresh = cvmNotApplicable
-heldNumber Phase.Gpo = cvmNotApplicable
-heldNumber (Phase.Record p) = cvmNotApplicable
-heldNumber (Phase.Cryptogram a) = cvmNumber (a .cvm)
-heldNumber (Phase.Checksum c) = cvmNotApplicable
+heldNumber (Phase.Waiting w) = heldCvm w
 heldNumber (Phase.Ended e) = cvmNotApplicable
 
 -- ---- the call answer
@@ -272,60 +274,63 @@ heldNumber (Phase.Ended e) = cvmNotApplicable
 pub data AnswerWay (s : Session) (card buf : List ℕ) : Step → Type 0 where
   refused : (n : ℕ) → n ≤ refusedRanges → AnswerWay s card buf (refusedStep s n buf)
   unread : (m n : ℕ) → Admitted s (length buf) → Reason n → m ≡ heldNumber (s .phase) → (n ≡ reasonDol → ⊥) → AnswerWay s card buf (failedStep m (s .count) (storeBytes s) n buf)
-  gpo : {st : Step} → Admitted s (length buf) → s .phase ≡ Phase.Gpo → reading.readAnswer Awaited.Gpo (storeBytes s) card .reason ≡ 0
+  gpo : {st : Step} → Admitted s (length buf) → s .phase ≡ Phase.Waiting AwaitedResponse.Gpo → reading.readAnswer Awaited.Gpo (storeBytes s) card .reason ≡ 0
       → GpoWay (taken Awaited.Gpo s card) buf st → AnswerWay s card buf st
-  recorded : {st : Step} (p : AwaitedRecord) (r : CardRecord) → Admitted s (length buf) → s .phase ≡ Phase.Record p → aflRecordAt (storedAfl (storeBytes s)) (p .number) ≡ RecordFound.At r
+  recorded : {st : Step} (p : AwaitedRecord) (r : CardRecord) → Admitted s (length buf) → s .phase ≡ Phase.Waiting (AwaitedResponse.Record p) → aflRecordAt (storedAfl (storeBytes s)) (p .number) ≡ RecordFound.At r
       → RecordWay p (taken (Awaited.Record (record { number = r .sfi })) s card) buf st → AnswerWay s card buf st
-  cryptogram : {q : Reply} (a : RequestedCryptogram) → Admitted s (length buf) → s .phase ≡ Phase.Cryptogram a → CryptogramWay (cvmNumber (a .cvm)) (taken Awaited.Cryptogram s card) q
+  cryptogram : {q : Reply} (a : RequestedCryptogram) → Admitted s (length buf) → s .phase ≡ Phase.Waiting (AwaitedResponse.Cryptogram a) → CryptogramWay (cvmNumber (a .cvm)) (taken Awaited.Cryptogram s card) q
       → AnswerWay s card buf (withoutCommand q buf)
-  checksum : {q : Reply} (k : AwaitedChecksum) → Admitted s (length buf) → s .phase ≡ Phase.Checksum k → ChecksumWay (taken Awaited.Checksum s card) q
+  checksum : {q : Reply} (k : AwaitedChecksum) → Admitted s (length buf) → s .phase ≡ Phase.Waiting (AwaitedResponse.Checksum k) → ChecksumWay (taken Awaited.Checksum s card) q
       → AnswerWay s card buf (withoutCommand q buf)
 
 module _ (s : Session) (card buf : List ℕ) (i : Admitted s (length buf)) where
-  step-gpo : s .phase ≡ Phase.Gpo → AnswerWay s card buf (gpoStep (s .count) (storeBytes s) card buf)
-  unfolding gpoStep
-  step-gpo q =
-      reading-ind (AnswerWay s card buf) (reading.readAnswer Awaited.Gpo (storeBytes s) card) _ _
-      (λ z. unread _ _ i (unread-reason Awaited.Gpo (storeBytes s) card z) (sym (ap heldNumber q)) (not-list Awaited.Gpo (storeBytes s) card))
-      (λ z. gpo i q z (gpo-way (taken Awaited.Gpo s card) buf))
+  abbrev P : Next → Type 0
+  P x = AnswerWay s card buf (stepOn (s .count) buf x)
 
-  step-record : (p : AwaitedRecord) → s .phase ≡ Phase.Record p → AnswerWay s card buf (recordStep p (s .count) (storeBytes s) card buf)
-  unfolding recordStep
+  -- the reading's reason, or what follows it
+  step-read : (a : Awaited) (w : AwaitedResponse) (next : List ℕ → Next) → s .phase ≡ Phase.Waiting w
+      → (reading.readAnswer a (storeBytes s) card .reason ≡ 0 → P (next (reading.readAnswer a (storeBytes s) card .store))) → P (readThen a (heldCvm w) (storeBytes s) card next)
+  step-read a w next q g =
+      reading-ind P a (heldCvm w) (storeBytes s) card next
+      (λ z. unread _ _ i (unread-reason a (storeBytes s) card z) (sym (ap heldNumber q)) (not-list a (storeBytes s) card)) g
+
+  step-gpo : s .phase ≡ Phase.Waiting AwaitedResponse.Gpo → P (gpoNext (storeBytes s) card)
+  unfolding gpoNext
+  step-gpo q = step-read Awaited.Gpo AwaitedResponse.Gpo afterGpo q (λ z. gpo i q z (gpo-way (taken Awaited.Gpo s card) buf))
+
+  step-record : (p : AwaitedRecord) → s .phase ≡ Phase.Waiting (AwaitedResponse.Record p) → P (recordNext p (storeBytes s) card)
+  unfolding recordNext
   step-record p q = go (aflRecordAt (storedAfl (storeBytes s)) (p .number)) refl
     where
-      go : (x : RecordFound) → aflRecordAt (storedAfl (storeBytes s)) (p .number) ≡ x → AnswerWay s card buf (readRecordFound p (s .count) (storeBytes s) card buf x)
+      go : (x : RecordFound) → aflRecordAt (storedAfl (storeBytes s)) (p .number) ≡ x → P (readFound p (storeBytes s) card x)
       go RecordFound.Nothing e = unread _ reasonAfl i (reason 5 (omega arith) (omega arith)) (sym (ap heldNumber q)) (λ z. omega arith)
       go (RecordFound.At r) e =
-          reading-ind (AnswerWay s card buf) (reading.readAnswer (Awaited.Record (record { number = r .sfi })) (storeBytes s) card) _ _
-          (λ z. unread _ _ i (unread-reason (Awaited.Record (record { number = r .sfi })) (storeBytes s) card z) (sym (ap heldNumber q))
-          (not-list (Awaited.Record (record { number = r .sfi })) (storeBytes s) card))
+          step-read (Awaited.Record (record { number = r .sfi })) (AwaitedResponse.Record p) (afterRecord p) q
           (λ z. recorded p r i q e (record-way p (taken (Awaited.Record (record { number = r .sfi })) s card) buf))
 
-  step-cryptogram : (a : RequestedCryptogram) → s .phase ≡ Phase.Cryptogram a → AnswerWay s card buf (withoutCommand (cryptogramReply a (s .count) (storeBytes s) card) buf)
-  unfolding cryptogramReply
+  step-cryptogram : (a : RequestedCryptogram) → s .phase ≡ Phase.Waiting (AwaitedResponse.Cryptogram a) → P (cryptogramNext a (storeBytes s) card)
+  unfolding cryptogramNext
   step-cryptogram a q =
-      reading-ind (λ (r : Reply). AnswerWay s card buf (withoutCommand r buf)) (reading.readAnswer Awaited.Cryptogram (storeBytes s) card) _ _
-      (λ z. unread _ _ i (unread-reason Awaited.Cryptogram (storeBytes s) card z) (sym (ap heldNumber q)) (not-list Awaited.Cryptogram (storeBytes s) card))
-      (λ z. cryptogram a i q (cryptogram-way a (taken Awaited.Cryptogram s card)))
+      step-read Awaited.Cryptogram (AwaitedResponse.Cryptogram a) (afterCryptogram a) q (λ z. cryptogram a i q (cryptogram-way a (taken Awaited.Cryptogram s card)))
 
   -- a track that cannot take the digits leaves the store, as a reading that gives a reason does
-  step-checksum : (k : AwaitedChecksum) → s .phase ≡ Phase.Checksum k → AnswerWay s card buf (withoutCommand (checksumReply (s .count) (storeBytes s) card) buf)
-  unfolding checksumReply checksumOutcomeOf
+  step-checksum : (k : AwaitedChecksum) → s .phase ≡ Phase.Waiting (AwaitedResponse.Checksum k) → P (checksumNext (storeBytes s) card)
+  unfolding checksumNext checksumTaken afterChecksum
   step-checksum k q =
-      reading-ind P (reading.readAnswer Awaited.Checksum (storeBytes s) card) _ _
-      (λ z. unread _ _ i (unread-reason Awaited.Checksum (storeBytes s) card z) (sym (ap heldNumber q)) (not-list Awaited.Checksum (storeBytes s) card))
-      (λ z. if-ind P _ _ _ (λ e. checksum k i q (checksum-way (taken Awaited.Checksum s card)))
+      step-read Awaited.Checksum (AwaitedResponse.Checksum k) (checksumTaken (storeBytes s)) q
+      (λ z. if-ind P _ _ _
+      (λ e. if-ind P _ _ _ (λ f. checksum k i q ChecksumWay.failed) (λ f. if-ind P _ _ _ (λ g. checksum k i q ChecksumWay.declined) (λ g. checksum k i q ChecksumWay.online)))
       (λ e. unread _ reasonNotAllowed i (reason 3 (omega arith) (omega arith)) (sym (ap heldNumber q)) (λ y. omega arith)))
-    where
-      P : Reply → Type 0
-      P r = AnswerWay s card buf (withoutCommand r buf)
 
-  step-in : (p : Phase) → s .phase ≡ p → AnswerWay s card buf (answerIn p s card buf)
+  step-awaited : (w : AwaitedResponse) → s .phase ≡ Phase.Waiting w → P (responseNext (storeBytes s) card w)
+  step-awaited AwaitedResponse.Gpo q = step-gpo q
+  step-awaited (AwaitedResponse.Record p) q = step-record p q
+  step-awaited (AwaitedResponse.Cryptogram a) q = step-cryptogram a q
+  step-awaited (AwaitedResponse.Checksum k) q = step-checksum k q
+
+  step-in : (p : Phase) → s .phase ≡ p → AnswerWay s card buf (stepOf s buf (whileRunning p (responseNext (storeBytes s) card)))
   step-in Phase.Fresh q = refused refusedPhase (omega arith)
-  step-in Phase.Gpo q = step-gpo q
-  step-in (Phase.Record p) q = step-record p q
-  step-in (Phase.Cryptogram a) q = step-cryptogram a q
-  step-in (Phase.Checksum k) q = step-checksum k q
+  step-in (Phase.Waiting w) q = step-awaited w q
   step-in (Phase.Ended e) q = refused refusedPhase (omega arith)
 
 pub answer-way : (s : Session) (card buf : List ℕ) → AnswerWay s card buf (answerStep s card buf)
@@ -360,7 +365,7 @@ pub data StartWay (s : Session) (bytes buf : List ℕ) : Step → Type 0 where
   refused : (n : ℕ) → n ≤ refusedRanges → StartWay s bytes buf (refusedStep s n buf)
   unlisted : (b : List ℕ) → Admitted s (length buf) → s .phase ≡ Phase.Fresh → loadStart (storeBytes s) bytes ≡ loaded b → StartWay s bytes buf (failedStep cvmNotApplicable (s .count) (storeBytes (loadedSession s b)) reasonDol buf)
   asked : (b c : List ℕ) → Admitted s (length buf) → s .phase ≡ Phase.Fresh → loadStart (storeBytes s) bytes ≡ loaded b → getProcessingOptions (storeBytes (loadedSession s b)) ≡ some c
-      → StartWay s bytes buf (commandStep (s .count) (storeBytes (loadedSession s b)) Phase.Gpo c buf)
+      → StartWay s bytes buf (commandStep (s .count) (storeBytes (loadedSession s b)) AwaitedResponse.Gpo c buf)
 
 pub start-way : (s : Session) (bytes buf : List ℕ) → StartWay s bytes buf (startStep s bytes buf)
 unfolding askGpo
@@ -370,20 +375,17 @@ start-way s bytes buf = admitted-ind P s buf _ refused (λ i. go i (s .phase) re
     P = StartWay s bytes buf
 
     sent : (b : List ℕ) → Admitted s (length buf) → s .phase ≡ Phase.Fresh → loadStart (storeBytes s) bytes ≡ loaded b → (x : Option (List ℕ)) → getProcessingOptions (storeBytes (loadedSession s b)) ≡ x
-        → P (commandOrReason cvmNotApplicable (s .count) (storeBytes (loadedSession s b)) Phase.Gpo buf x)
+        → P (stepOn (s .count) buf (askWithDol AwaitedResponse.Gpo (storeBytes (loadedSession s b)) x))
     sent b i q e none f = unlisted b i q e
     sent b i q e (some c) f = asked b c i q e f
 
-    by : Admitted s (length buf) → s .phase ≡ Phase.Fresh → (x : LoadedStore) → loadStart (storeBytes s) bytes ≡ x → P (startLoaded s buf x)
+    by : Admitted s (length buf) → s .phase ≡ Phase.Fresh → (x : LoadedStore) → loadStart (storeBytes s) bytes ≡ x → P (stepOf s buf (startLoaded x))
     by i q (refusal n) e = refused n (omega (arith, load-most (storeBytes s) bytes n e))
     by i q (loaded b) e = sent b i q e (getProcessingOptions (storeBytes (loadedSession s b))) refl
 
-    go : Admitted s (length buf) → (p : Phase) → s .phase ≡ p → P (startIn p s bytes buf)
+    go : Admitted s (length buf) → (p : Phase) → s .phase ≡ p → P (stepOf s buf (startCall p (storeBytes s) bytes))
     go i Phase.Fresh q = by i q (loadStart (storeBytes s) bytes) refl
-    go i Phase.Gpo q = refused refusedPhase (omega arith)
-    go i (Phase.Record p) q = refused refusedPhase (omega arith)
-    go i (Phase.Cryptogram a) q = refused refusedPhase (omega arith)
-    go i (Phase.Checksum k) q = refused refusedPhase (omega arith)
+    go i (Phase.Waiting w) q = refused refusedPhase (omega arith)
     go i (Phase.Ended e) q = refused refusedPhase (omega arith)
 
 -- ---- link failed and stop
@@ -395,10 +397,7 @@ pub data BrokenWay (s : Session) (n : ℕ) (buf : List ℕ) : Step → Type 0 wh
 pub broken-way : (s : Session) (n : ℕ) (buf : List ℕ) → BrokenWay s n buf (abortStep s n buf)
 broken-way s n buf = admitted-ind (BrokenWay s n buf) s buf _ refused (λ i. go i (s .phase) refl)
   where
-    go : Admitted s (length buf) → (p : Phase) → s .phase ≡ p → BrokenWay s n buf (endsRunning p s n buf)
+    go : Admitted s (length buf) → (p : Phase) → s .phase ≡ p → BrokenWay s n buf (stepOf s buf (whileRunning p (λ (w : AwaitedResponse). end (endingBy n) (heldCvm w) (storeBytes s))))
     go i Phase.Fresh q = refused refusedPhase (omega arith)
-    go i Phase.Gpo q = broken _ i (sym (ap heldNumber q))
-    go i (Phase.Record p) q = broken _ i (sym (ap heldNumber q))
-    go i (Phase.Cryptogram a) q = broken _ i (sym (ap heldNumber q))
-    go i (Phase.Checksum k) q = broken _ i (sym (ap heldNumber q))
+    go i (Phase.Waiting w) q = broken _ i (sym (ap heldNumber q))
     go i (Phase.Ended e) q = refused refusedPhase (omega arith)

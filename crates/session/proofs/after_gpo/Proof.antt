@@ -12,8 +12,11 @@ use Rattle.command.specs.ReadRecord.{readRecordCommand}
 use Rattle.session_record.proofs.Tags.{located-no, located-yes}
 use Rattle.session_record.specs.Ranges.{emvOrMagStripeMode}
 use Rattle.session_record.specs.Session.{commandTransition}
-use Rattle.session.specs.Answer.{recordPhase, askRecordFound, aipAndAflPresent, afterGpoRead}
-use Rattle.session.proofs.Laws.{did-as, reply-as, did-without-command, is-passed, is-failed, found-as, found-there, gpo-missing, gpo-mode, gpo-afl, gpo-ask}
+use Rattle.basics.specs.Reason.{reasonAfl}
+use Rattle.analysis.specs.Action.{transactionLimit}
+use Rattle.session.specs.Steps.{fail}
+use Rattle.session.specs.Answer.{awaitedRecord, askFound, aipAndAflPresent, afterGpo}
+use Rattle.session.proofs.Laws.{reply-as, did-next, did-end, is-passed, is-failed, found-as, found-there, gpo-missing, gpo-mode, gpo-afl, gpo-ask}
 use Rattle.session.proofs.after_gpo.Statement.{statement}
 use Rattle.session.proofs.after_gpo.Tie as tie
 
@@ -26,28 +29,28 @@ carried c = is-passed _ (omega arith) (c .before .before .mode-in .ensures) (c .
 
 -- past all three, the first record decides
 asked : (c : tie.After-record-at) (x : RecordFound) → let a = c .before .before .before .before .before .before .before .before .before .before .before .before .before .args in c .record-at .result ≡ x
-    → afterGpoRead (a .count) (a .bytes .now) (a .command .now) ≡ askRecordFound (a .count) (a .bytes .now) 1 (a .command .now) x
+    → afterGpo (a .bytes .now) ≡ askFound (transactionLimit (a .bytes .now)) 1 (a .bytes .now) (fail reasonAfl (a .bytes .now)) x
 asked c x e =
     let v = c .before .before .before .before in
     let m = c .before .before .before .before .before in
-    gpo-ask _ _ _ x (there (m .before .before .before)) (carried m) (located-yes _ (v .value .ensures) (sym (c .before .before .before .check-afl .ensures .0) ∙ c .before .enum-told5 .given .1) .0)
+    gpo-ask _ x (there (m .before .before .before)) (carried m) (located-yes _ (v .value .ensures) (sym (c .before .before .before .check-afl .ensures .0) ∙ c .before .enum-told5 .given .1) .0)
     (found-as (c .record-at .ensures) e _ 1 (v .value .ensures) refl)
 
 returns : tie.Need-returns
-returns c = did-without-command _ (c .fail-session .ensures) (gpo-missing _ _ _ (is-failed _ (omega arith) (c .before .before .before .gpo-data-present .ensures) (c .before .enum-told2 .given .1)))
+returns c = did-end _ _ _ (c .fail-session .ensures) (gpo-missing _ (is-failed _ (omega arith) (c .before .before .before .gpo-data-present .ensures) (c .before .enum-told2 .given .1)))
 
 returns-2 : tie.Need-returns-2
 returns-2 c =
-    did-without-command _ (c .fail-session2 .ensures) (gpo-mode _ _ _ (there (c .before .before .before .before)) (is-failed _ (omega arith) (c .before .before .before .mode-in .ensures) (c .before .enum-told4 .given .1)))
+    did-end _ _ _ (c .fail-session2 .ensures) (gpo-mode _ (there (c .before .before .before .before)) (is-failed _ (omega arith) (c .before .before .before .mode-in .ensures) (c .before .enum-told4 .given .1)))
 
 returns-3 : tie.Need-returns-3
 returns-3 c =
     let m = c .before .before .before .before .before in
-    did-without-command _ (c .fail-session3 .ensures)
-    (gpo-afl _ _ _ (there (m .before .before .before)) (carried m) (located-no _ (c .before .before .before .before .value .ensures) (sym (c .before .before .before .check-afl .ensures .0) ∙ c .before .enum-told6 .given .1)))
+    did-end _ _ _ (c .fail-session3 .ensures)
+    (gpo-afl _ (there (m .before .before .before)) (carried m) (located-no _ (c .before .before .before .before .value .ensures) (sym (c .before .before .before .check-afl .ensures .0) ∙ c .before .enum-told6 .given .1)))
 
 returns-4 : tie.Need-returns-4
-returns-4 c = did-without-command _ (c .fail-session4 .ensures) (asked (c .before .before .before) RecordFound.Nothing (c .before .enum-told7 .given .1))
+returns-4 c = did-end _ _ _ (c .fail-session4 .ensures) (asked (c .before .before .before) RecordFound.Nothing (c .before .enum-told7 .given .1))
 
 ask-record-requires : tie.Need-ask-record-requires
 ask-record-requires c κs = (search needs, found-there _ _ (c .before .before .before .before .before .record-at .ensures) (c .before .before .before .wanted .given .1) .0)
@@ -59,9 +62,9 @@ returns-5 c =
     let w = limit .before .before in
     let r = w .wanted .given .0 .0 in
     let a = w .before .before .before .before .before .before .before .before .before .before .before .before .before .before .before .args in
-    did-as (asked (w .before .before) (RecordFound.At r) (w .wanted .given .1))
+    did-next _ _ (asked (w .before .before) (RecordFound.At r) (w .wanted .given .1))
     (record {
-      reply = reply-as _ (ask .ask-record .ensures .0 ∙ ap (λ (l : ℕ). commandTransition (recordPhase l 1) (a .count + 1) (length (readRecordCommand r))) (limit .transaction-limit .ensures));
+      reply = reply-as _ (ask .ask-record .ensures .0 ∙ ap (λ (l : ℕ). commandTransition (awaitedRecord l 1) (a .count + 1) (length (readRecordCommand r))) (limit .transaction-limit .ensures));
       buffer = ask .ask-record .ensures .1;
     })
 

@@ -2,19 +2,19 @@
 -- Assumes nothing.
 use borrow.Author.Needs.{needs}
 use mathlib.Core.Path.{sym, _∙_}
-use Rattle.session.proofs.Laws.{did-as, last-emv, last-mag-stripe}
+use Rattle.session.proofs.Laws.{did-next, last-emv, last-mag-stripe}
 use Rattle.session.proofs.after_last_record.Statement.{statement}
 use Rattle.session.proofs.after_last_record.Tie as tie
 
 returns : tie.Need-returns
 returns c =
     let t = c .before .before .before .before .before .before .before in
-    did-as (last-emv _ _ _ _ (sym (t .before .is-emv .ensures) ∙ t .if1 .taken)) (c .before .before .before .before .emv-mode-analysis .ensures)
+    did-next _ _ (last-emv _ _ (sym (t .before .is-emv .ensures) ∙ t .if1 .taken)) (c .before .before .before .before .emv-mode-analysis .ensures)
 
 returns-2 : tie.Need-returns-2
 returns-2 c =
     let t = c .before .before .before .before .before in
-    did-as (last-mag-stripe _ _ _ _ (sym (t .before .is-emv .ensures) ∙ t .if1 .left)) (c .before .before .mag-stripe-checks .ensures)
+    did-next _ _ (last-mag-stripe _ _ (sym (t .before .is-emv .ensures) ∙ t .if1 .left)) (c .before .before .mag-stripe-checks .ensures)
 
 pub after-last-record-spec : {M : Type 1} → statement M
 after-last-record-spec =

@@ -6,7 +6,7 @@ use native.Mathlib.Omega.{arith}
 use lib.ListN.{length}
 use Rattle.analysis.specs.declared.action.AnalysisFindings.{AnalysisFindings}
 use Rattle.analysis.proofs.Laws.{found-length, bits-length}
-use Rattle.session.proofs.Laws.{did-as, cvm-fits, results-fit, analysed-as}
+use Rattle.session.proofs.Laws.{did-next, cvm-fits, results-fit, analysed-as}
 use Rattle.session.proofs.analyse.Statement.{statement}
 use Rattle.session.proofs.analyse.Tie as tie
 
@@ -26,7 +26,7 @@ returns c =
     let put = put2 .before .before .before .before .before in
     let f = put .before .before .before .before .before .before .before in
     let a = f .before .before .before .before .args in
-    did-as (analysed-as (a .count) (a .store .now) _ (a .limit) (f .findings-of .ensures .0) (put .before .before .before .choice-for .ensures .0) (put .put .ensures .0) (put2 .put2 .ensures .0))
+    did-next _ _ (analysed-as (a .store .now) (a .limit) (f .findings-of .ensures .0) (put .before .before .before .choice-for .ensures .0) (put .put .ensures .0) (put2 .put2 .ensures .0))
     (c .before .before .ask-cryptogram .ensures)
 
 pub analyse-spec : {M : Type 1} → statement M

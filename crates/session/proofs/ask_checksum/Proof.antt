@@ -1,9 +1,8 @@
--- `session::ask_checksum` meets its contract: what was written determines which way `commandOrReason` goes.
+-- `session::ask_checksum` meets its contract: what was written determines which way `askWithDol` goes.
 -- Assumes nothing.
 use borrow.Author.Needs.{needs}
 use Rattle.command.specs.WithList.{computeCryptographicChecksum}
-use Rattle.analysis.specs.Cvm.{cvmNotApplicable}
-use Rattle.session.specs.MagStripe.{checksumPhase, askChecksum}
+use Rattle.session.specs.MagStripe.{awaitedChecksum, askChecksum}
 use Rattle.session.proofs.Laws.{handed-none, handed-some}
 use Rattle.session.proofs.ask_checksum.Statement.{statement}
 use Rattle.session.proofs.ask_checksum.Tie as tie
@@ -13,14 +12,14 @@ unfolding askChecksum
 returns c =
     let a = c .before .before .before .before .before .before .before .before .before .args in
     let g = c .before .before .before .before .before .compute-cryptographic-checksum .ensures in
-    handed-none cvmNotApplicable (a .count) (a .bytes .now) (checksumPhase (a .limit)) (a .command .now) (computeCryptographicChecksum (a .bytes .now)) (g .0) (g .1 .0) (c .before .enum-told .given .1) (c .fail-session .ensures)
+    handed-none (a .count) (a .bytes .now) (awaitedChecksum (a .limit)) (a .command .now) (computeCryptographicChecksum (a .bytes .now)) (g .0) (g .1 .0) (c .before .enum-told .given .1) (c .fail-session .ensures)
 
 returns-2 : tie.Need-returns-2
 unfolding askChecksum
 returns-2 c =
     let a = c .before .before .before .before .before .before .before .before .before .before .args in
     let g = c .before .before .before .before .before .before .compute-cryptographic-checksum .ensures in
-    handed-some cvmNotApplicable (a .count) (a .bytes .now) (checksumPhase (a .limit)) (a .command .now) (computeCryptographicChecksum (a .bytes .now)) (g .0) (g .1 .0) (c .before .before .c .given .1) (c .issue-command .ensures)
+    handed-some (a .count) (a .bytes .now) (awaitedChecksum (a .limit)) (a .command .now) (computeCryptographicChecksum (a .bytes .now)) (g .0) (g .1 .0) (c .before .before .c .given .1) (c .issue-command .ensures)
 
 pub ask-checksum-spec : {M : Type 1} → statement M
 ask-checksum-spec =

@@ -1,4 +1,4 @@
--- `session::ask_cryptogram` meets its contract: what was written determines which way `commandOrReason` goes.
+-- `session::ask_cryptogram` meets its contract: what was written determines which way `askWithDol` goes.
 -- Assumes nothing.
 use borrow.Author.Needs.{needs}
 use mathlib.Core.Path.{ap, _∙_}
@@ -6,8 +6,7 @@ use Prim.Native.Nat.{ℕ}
 use Rattle.basics.specs.Reason.{reasonDol}
 use Rattle.command.specs.WithList.{dolCommandOf, bufferWithCommand, generateAc}
 use Rattle.analysis.specs.Choice.{generateAcP1}
-use Rattle.analysis.specs.Cvm.{cvmNumber}
-use Rattle.session_record.specs.declared.Phase.{Phase}
+use Rattle.session_record.specs.declared.AwaitedResponse.{AwaitedResponse}
 use Rattle.session_record.specs.Session.{failingTransition}
 use Rattle.session.specs.Answer.{askCryptogram}
 use Rattle.session.proofs.Laws.{handed-none, handed-some}
@@ -20,11 +19,11 @@ returns c =
     let g = c .before .before .before .before .before .before in
     let a = c .before .before .before .before .before .before .before .before .before .before .before .args in
     let p = c .before .before .before .before .before .before .before .before .p1 .ensures in
-    handed-none (cvmNumber (a .asked .cvm)) (a .count) (a .bytes .now) (Phase.Cryptogram (a .asked)) (a .command .now) (generateAc (generateAcP1 (a .asked .choice)) (a .bytes .now))
+    handed-none (a .count) (a .bytes .now) (AwaitedResponse.Cryptogram (a .asked)) (a .command .now) (generateAc (generateAcP1 (a .asked .choice)) (a .bytes .now))
     (g .generate-ac .ensures .0 ∙ ap (λ (n : ℕ). dolCommandOf (generateAc n (a .bytes .now))) p)
     (g .generate-ac .ensures .1 .0 ∙ ap (λ (n : ℕ). bufferWithCommand (generateAc n (a .bytes .now)) (a .command .now)) p)
     (c .before .before .enum-told .given .1)
-    (c .fail-session .ensures ∙ ap (λ (m : ℕ). failingTransition m (a .count) reasonDol) (c .before .held-cvm .ensures))
+    (c .fail-session .ensures ∙ ap (λ (m : ℕ). failingTransition m (a .count) reasonDol) (c .before .requested-cvm .ensures))
 
 returns-2 : tie.Need-returns-2
 unfolding askCryptogram
@@ -32,7 +31,7 @@ returns-2 c =
     let g = c .before .before .before .before .before .before in
     let a = c .before .before .before .before .before .before .before .before .before .before .before .args in
     let p = c .before .before .before .before .before .before .before .before .p1 .ensures in
-    handed-some (cvmNumber (a .asked .cvm)) (a .count) (a .bytes .now) (Phase.Cryptogram (a .asked)) (a .command .now) (generateAc (generateAcP1 (a .asked .choice)) (a .bytes .now))
+    handed-some (a .count) (a .bytes .now) (AwaitedResponse.Cryptogram (a .asked)) (a .command .now) (generateAc (generateAcP1 (a .asked .choice)) (a .bytes .now))
     (g .generate-ac .ensures .0 ∙ ap (λ (n : ℕ). dolCommandOf (generateAc n (a .bytes .now))) p)
     (g .generate-ac .ensures .1 .0 ∙ ap (λ (n : ℕ). bufferWithCommand (generateAc n (a .bytes .now)) (a .command .now)) p)
     (c .before .before .c .given .1) (c .issue-command .ensures)

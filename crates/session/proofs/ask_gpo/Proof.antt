@@ -1,9 +1,8 @@
--- `session::ask_gpo` meets its contract: what was written determines which way `commandOrReason` goes.
+-- `session::ask_gpo` meets its contract: what was written determines which way `askWithDol` goes.
 -- Assumes nothing.
 use borrow.Author.Needs.{needs}
 use Rattle.command.specs.WithList.{getProcessingOptions}
-use Rattle.analysis.specs.Cvm.{cvmNotApplicable}
-use Rattle.session_record.specs.declared.Phase.{Phase}
+use Rattle.session_record.specs.declared.AwaitedResponse.{AwaitedResponse}
 use Rattle.session.specs.Start.{askGpo}
 use Rattle.session.proofs.Laws.{handed-none, handed-some}
 use Rattle.session.proofs.ask_gpo.Statement.{statement}
@@ -14,14 +13,14 @@ unfolding askGpo
 returns c =
     let a = c .before .before .before .before .before .before .before .before .before .args in
     let g = c .before .before .before .before .before .get-processing-options .ensures in
-    handed-none cvmNotApplicable (a .count) (a .bytes .now) Phase.Gpo (a .command .now) (getProcessingOptions (a .bytes .now)) (g .0) (g .1 .0) (c .before .enum-told .given .1) (c .fail-session .ensures)
+    handed-none (a .count) (a .bytes .now) AwaitedResponse.Gpo (a .command .now) (getProcessingOptions (a .bytes .now)) (g .0) (g .1 .0) (c .before .enum-told .given .1) (c .fail-session .ensures)
 
 returns-2 : tie.Need-returns-2
 unfolding askGpo
 returns-2 c =
     let a = c .before .before .before .before .before .before .before .before .before .before .args in
     let g = c .before .before .before .before .before .before .get-processing-options .ensures in
-    handed-some cvmNotApplicable (a .count) (a .bytes .now) Phase.Gpo (a .command .now) (getProcessingOptions (a .bytes .now)) (g .0) (g .1 .0) (c .before .before .c .given .1) (c .issue-command .ensures)
+    handed-some (a .count) (a .bytes .now) AwaitedResponse.Gpo (a .command .now) (getProcessingOptions (a .bytes .now)) (g .0) (g .1 .0) (c .before .before .c .given .1) (c .issue-command .ensures)
 
 pub ask-gpo-spec : {M : Type 1} → statement M
 ask-gpo-spec =

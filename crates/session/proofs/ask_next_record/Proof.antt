@@ -6,22 +6,22 @@ use mathlib.Core.Path.{_≡_, ap}
 use Prim.Native.Nat.{ℕ, _+_}
 use native.Mathlib.Omega.{arith}
 use Rattle.afl.specs.declared.RecordFound.{RecordFound}
-use Rattle.session.specs.Answer.{askNextFound, afterRecordRead}
-use Rattle.session.proofs.Laws.{did-as, reply-as, found-as, found-there}
+use Rattle.session.specs.Answer.{askFound, afterLastRecord, afterRecord}
+use Rattle.session.proofs.Laws.{did-next, reply-as, found-as, found-there}
 use Rattle.session.proofs.ask_next_record.Statement.{statement}
 use Rattle.session.proofs.ask_next_record.Tie as tie
 
 -- the record after this one decides
 next : (c : tie.After-record-at) (x : RecordFound) → let a = c .before .before .before .before .before .before .args in c .record-at .result ≡ x
-    → afterRecordRead (a .place) (a .count) (a .store .now) (a .command .now) ≡ askNextFound (a .place .limit) (a .count) (a .store .now) (a .place .number + 1) (a .command .now) x
-unfolding afterRecordRead
+    → afterRecord (a .place) (a .store .now) ≡ askFound (a .place .limit) (a .place .number + 1) (a .store .now) (afterLastRecord (a .place .limit) (a .store .now)) x
+unfolding afterRecord
 next c x e =
     let a = c .before .before .before .before .before .before .args in
-    ap (askNextFound (a .place .limit) (a .count) (a .store .now) (a .place .number + 1) (a .command .now))
+    ap (askFound (a .place .limit) (a .place .number + 1) (a .store .now) (afterLastRecord (a .place .limit) (a .store .now)))
     (found-as (c .record-at .ensures) e _ _ (c .before .value .ensures) (ap (λ (n : ℕ). n + 1) (c .before .before .before .widen .ensures .0)))
 
 returns : tie.Need-returns
-returns c = did-as (next (c .before .before .before .before .before .before .before .before .before) RecordFound.Nothing (c .before .before .before .before .before .before .before .enum-told .given .1)) (c .before .before .before .before .after-last-record .ensures)
+returns c = did-next _ _ (next (c .before .before .before .before .before .before .before .before .before) RecordFound.Nothing (c .before .before .before .before .before .before .before .enum-told .given .1)) (c .before .before .before .before .after-last-record .ensures)
 
 add-t18 : tie.Need-add-t18
 add-t18 c = omega (arith, found-there _ _ (c .before .before .before .record-at .ensures) (c .before .found .given .1) .1, c .before .before .before .before .before .before .widen .ensures .0)
@@ -32,7 +32,7 @@ ask-record-requires c κs = (search needs, found-there _ _ (c .before .before .b
 returns-2 : tie.Need-returns-2
 returns-2 c =
     let f = c .before .before .before .before .before in
-    did-as (next (f .before .before) (RecordFound.At (f .found .given .0 .0)) (f .found .given .1)) (record { reply = reply-as _ (c .before .before .ask-record .ensures .0); buffer = c .before .before .ask-record .ensures .1 })
+    did-next _ _ (next (f .before .before) (RecordFound.At (f .found .given .0 .0)) (f .found .given .1)) (record { reply = reply-as _ (c .before .before .ask-record .ensures .0); buffer = c .before .before .ask-record .ensures .1 })
 
 pub ask-next-record-spec : {M : Type 1} → statement M
 ask-next-record-spec =

@@ -1,26 +1,26 @@
 -- `session::refuse_track` meets its contract: the reading's reason, or that of the track; the store stays.
 -- Assumes nothing.
 use borrow.Author.Needs.{needs}
-use mathlib.Core.Path.{sym, ap, _∙_}
+use mathlib.Core.Path.{ap, _∙_}
 use Prim.Native.Nat.{ℕ}
 use Rattle.analysis.specs.Cvm.{cvmNotApplicable}
 use Rattle.session_record.specs.Session.{failingTransition}
-use Rattle.session.proofs.Laws.{reply-as, unsound-read, unsound-kept}
+use Rattle.session.proofs.Laws.{did-end, unsound-read, unsound-kept}
 use Rattle.session.proofs.refuse_track.Statement.{statement}
 use Rattle.session.proofs.refuse_track.Tie as tie
 
 returns : tie.Need-returns
-returns c =
+returns c buf =
     let j = c .before .before .before in
     let st = j .before .before .before in
-    reply-as _ (c .fail-session .ensures ∙ ap (failingTransition cvmNotApplicable (st .args .count)) (c .before .verdict-number .ensures))
-    ∙ sym (unsound-read (st .args .count) (st .args .bytes .now) (st .args .card .now) (j .judge-answer .result) (st .pre .1) (j .judge-answer .ensures) (c .before .before .match .keys2))
+    did-end _ _ _ (c .fail-session .ensures ∙ ap (failingTransition cvmNotApplicable (st .args .count)) (c .before .verdict-number .ensures))
+    (unsound-read (st .args .bytes .now) (st .args .card .now) (j .judge-answer .result) (st .pre .1) (j .judge-answer .ensures) (c .before .before .match .keys2))
 
 returns-2 : tie.Need-returns-2
-returns-2 c =
+returns-2 c buf =
     let j = c .before .before .before in
     let st = j .before .before .before in
-    reply-as _ (c .fail-session2 .ensures) ∙ sym (unsound-kept (st .args .count) (st .args .bytes .now) (st .args .card .now) (j .judge-answer .result) (st .pre .1) (j .judge-answer .ensures) (c .before .enum-told .given .1))
+    did-end _ _ _ (c .fail-session2 .ensures) (unsound-kept (st .args .bytes .now) (st .args .card .now) (j .judge-answer .result) (st .pre .1) (j .judge-answer .ensures) (c .before .enum-told .given .1))
 
 pub refuse-track-spec : {M : Type 1} → statement M
 refuse-track-spec =

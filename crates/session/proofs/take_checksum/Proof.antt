@@ -3,15 +3,13 @@
 -- Assumes nothing.
 use borrow.Author.Needs.{needs}
 use native.Mathlib.Omega.{arith}
-use mathlib.Core.Path.{_≡_, sym, ap, _∙_}
+use mathlib.Core.Path.{_≡_, ap, _∙_}
 use mathlib.Core.Bool.{true}
-use Prim.Native.Nat.{ℕ}
 use Rattle.reading.specs.declared.Awaited.{Awaited}
 use Rattle.analysis.specs.Cvm.{cvmNotApplicable}
 use Rattle.session_record.specs.Session.{failingTransition}
-use Rattle.session.specs.Steps.{endedReply, endingBy}
-use Rattle.session.specs.MagStripe.{trackCanTakeDigits, checksumOutcomeOf, checksumReply}
-use Rattle.session.proofs.Laws.{reply-as, read-yes, read-no, is-passed, is-failed, taken-sound}
+use Rattle.session.specs.MagStripe.{trackCanTakeDigits, checksumTaken, checksumNext}
+use Rattle.session.proofs.Laws.{did-next, did-end, read-goes, read-ends, is-passed, is-failed, taken-sound}
 use Rattle.session.proofs.take_checksum.Statement.{statement}
 use Rattle.session.proofs.take_checksum.Tie as tie
 
@@ -23,24 +21,24 @@ refuse-track-requires : tie.Need-refuse-track-requires
 refuse-track-requires c κs = (search needs, is-failed _ (omega arith) (c .before .before .before .track-in .ensures) (c .before .enum-told2 .given .1))
 
 returns : tie.Need-returns
-returns c = c .refuse-track .ensures
+returns c buf = c .refuse-track .ensures buf
 
 returns-2 : tie.Need-returns-2
-unfolding checksumReply
-returns-2 c =
+unfolding checksumNext
+returns-2 c buf =
     let a = c .before .before .before .before .before .before .before .before .before .before .before .before .before .args in
-    reply-as _ (c .fail-session .ensures ∙ ap (failingTransition cvmNotApplicable (a .count)) (c .before .verdict-number .ensures))
-    ∙ sym (read-no Awaited.Checksum (a .store .now) (a .card .now) (c .before .before .before .before .before .read-answer .ensures .0)
-    _ (λ b n. endedReply cvmNotApplicable (a .count) b (endingBy n)) (c .before .before .match2 .keys2))
+    did-end _ _ _ (c .fail-session .ensures ∙ ap (failingTransition cvmNotApplicable (a .count)) (c .before .verdict-number .ensures))
+    (read-ends Awaited.Checksum cvmNotApplicable (a .store .now) (a .card .now) (checksumTaken (a .store .now)) (c .before .before .before .before .before .read-answer .ensures .0) (c .before .before .match2 .keys2))
 
 returns-3 : tie.Need-returns-3
-unfolding checksumReply
-returns-3 c =
+unfolding checksumNext
+returns-3 c buf =
     let a = c .before .before .before .before .before .before .before .before .before .before .before .before .before .before .before .before .args in
-    c .before .before .checksum-outcome .ensures
-    ∙ sym (read-yes Awaited.Checksum (a .store .now) (a .card .now) (c .before .before .before .before .before .before .before .before .read-answer .ensures .0)
-    (λ d. checksumOutcomeOf (a .count) (a .store .now) d) _ (c .before .before .before .before .enum-told3 .given .1)
-    ∙ taken-sound (a .count) (a .store .now) _ (sound (c .before .before .before .before .before .before .before .before .before .before)))
+    did-next _ _
+    (read-goes Awaited.Checksum cvmNotApplicable (a .store .now) (a .card .now) (checksumTaken (a .store .now)) (c .before .before .before .before .before .before .before .before .read-answer .ensures .0)
+    (c .before .before .before .before .enum-told3 .given .1)
+    ∙ taken-sound (a .store .now) _ (sound (c .before .before .before .before .before .before .before .before .before .before)))
+    (c .before .before .checksum-outcome .ensures buf)
 
 pub take-checksum-spec : {M : Type 1} → statement M
 take-checksum-spec =

@@ -5,27 +5,24 @@ use mathlib.Core.Path.{ap, _∙_}
 use Rattle.reading.specs.declared.Awaited.{Awaited}
 use Rattle.analysis.specs.Cvm.{cvmNotApplicable}
 use Rattle.session_record.specs.Session.{failingTransition}
-use Rattle.session.specs.Steps.{failedStep}
-use Rattle.session.specs.Answer.{afterGpoRead, gpoStep}
-use Rattle.session.proofs.Laws.{did-as, did-without-command, read-yes, read-no}
+use Rattle.session.specs.Answer.{afterGpo, gpoNext}
+use Rattle.session.proofs.Laws.{did-next, did-end, read-goes, read-ends}
 use Rattle.session.proofs.take_gpo.Statement.{statement}
 use Rattle.session.proofs.take_gpo.Tie as tie
 
 returns : tie.Need-returns
-unfolding gpoStep
+unfolding gpoNext
 returns c =
     let a = c .before .before .before .before .before .before .before .before .before .before .args in
-    did-without-command _ (c .fail-session .ensures ∙ ap (failingTransition cvmNotApplicable (a .count)) (c .before .verdict-number .ensures))
-    (read-no Awaited.Gpo (a .store .now) (a .card .now) (c .before .before .before .before .before .read-answer .ensures .0)
-    _ (λ b n. failedStep cvmNotApplicable (a .count) b n (a .command .now)) (c .before .before .match .keys2))
+    did-end _ _ _ (c .fail-session .ensures ∙ ap (failingTransition cvmNotApplicable (a .count)) (c .before .verdict-number .ensures))
+    (read-ends Awaited.Gpo cvmNotApplicable (a .store .now) (a .card .now) afterGpo (c .before .before .before .before .before .read-answer .ensures .0) (c .before .before .match .keys2))
 
 returns-2 : tie.Need-returns-2
-unfolding gpoStep
+unfolding gpoNext
 returns-2 c =
     let a = c .before .before .before .before .before .before .before .before .before .before .before .before .before .before .args in
-    did-as
-    (read-yes Awaited.Gpo (a .store .now) (a .card .now) (c .before .before .before .before .before .before .before .before .before .read-answer .ensures .0)
-    (λ b. afterGpoRead (a .count) b (a .command .now)) _ (c .before .before .before .before .before .enum-told .given .1))
+    did-next _ _
+    (read-goes Awaited.Gpo cvmNotApplicable (a .store .now) (a .card .now) afterGpo (c .before .before .before .before .before .before .before .before .before .read-answer .ensures .0) (c .before .before .before .before .before .enum-told .given .1))
     (c .before .before .after-gpo .ensures)
 
 pub take-gpo-spec : {M : Type 1} → statement M

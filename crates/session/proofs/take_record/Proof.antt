@@ -6,42 +6,39 @@ use Rattle.afl.specs.declared.RecordFound.{RecordFound}
 use Rattle.reading.specs.declared.Awaited.{Awaited}
 use Rattle.analysis.specs.Cvm.{cvmNotApplicable}
 use Rattle.session_record.specs.Session.{failingTransition}
-use Rattle.session.specs.Steps.{failedStep}
-use Rattle.session.specs.Answer.{readRecordFound, afterRecordRead, recordStep}
-use Rattle.session.proofs.Laws.{did-as, did-without-command, found-as, read-yes, read-no}
+use Rattle.session.specs.Answer.{readFound, afterRecord, recordNext}
+use Rattle.session.proofs.Laws.{did-next, did-end, found-as, read-goes, read-ends}
 use Rattle.session.proofs.take_record.Statement.{statement}
 use Rattle.session.proofs.take_record.Tie as tie
 
 -- the record that was requested decides how its answer is read
 asked : (c : tie.After-record-at) (x : RecordFound) → let a = c .before .before .before .before .before .before .before .args in c .record-at .result ≡ x
-    → recordStep (a .place) (a .count) (a .store .now) (a .card .now) (a .command .now) ≡ readRecordFound (a .place) (a .count) (a .store .now) (a .card .now) (a .command .now) x
-unfolding recordStep
+    → recordNext (a .place) (a .store .now) (a .card .now) ≡ readFound (a .place) (a .store .now) (a .card .now) x
+unfolding recordNext
 asked c x e =
     let a = c .before .before .before .before .before .before .before .args in
-    ap (readRecordFound (a .place) (a .count) (a .store .now) (a .card .now) (a .command .now)) (found-as (c .record-at .ensures) e _ _ (c .before .value .ensures) (c .before .before .before .widen .ensures .0))
+    ap (readFound (a .place) (a .store .now) (a .card .now)) (found-as (c .record-at .ensures) e _ _ (c .before .value .ensures) (c .before .before .before .widen .ensures .0))
 
 returns : tie.Need-returns
-returns c = did-without-command _ (c .fail-session .ensures) (asked (c .before .before .before) RecordFound.Nothing (c .before .enum-told .given .1))
+returns c = did-end _ _ _ (c .fail-session .ensures) (asked (c .before .before .before) RecordFound.Nothing (c .before .enum-told .given .1))
 
 returns-2 : tie.Need-returns-2
 returns-2 c =
     let f = c .before .before .before .before .before .before .before .before in
     let w = f .found .given .0 .0 in
     let a = c .before .before .before .before .before .before .before .before .before .before .before .before .before .before .before .before .before .args in
-    did-without-command _ (c .fail-session2 .ensures ∙ ap (failingTransition cvmNotApplicable (a .count)) (c .before .verdict-number .ensures))
+    did-end _ _ _ (c .fail-session2 .ensures ∙ ap (failingTransition cvmNotApplicable (a .count)) (c .before .verdict-number .ensures))
     (asked (c .before .before .before .before .before .before .before .before .before .before) (RecordFound.At w) (f .found .given .1)
-    ∙ read-no (Awaited.Record (record { number = w .sfi })) (a .store .now) (a .card .now) (c .before .before .before .before .before .read-answer .ensures .0)
-    _ (λ b n. failedStep cvmNotApplicable (a .count) b n (a .command .now)) (c .before .before .match2 .keys2))
+    ∙ read-ends (Awaited.Record (record { number = w .sfi })) cvmNotApplicable (a .store .now) (a .card .now) (afterRecord (a .place)) (c .before .before .before .before .before .read-answer .ensures .0) (c .before .before .match2 .keys2))
 
 returns-3 : tie.Need-returns-3
 returns-3 c =
     let f = c .before .before .before .before .before .before .before .before .before .before .before .before .before .before in
     let w = f .found .given .0 .0 in
     let a = c .before .before .before .before .before .before .before .before .before .before .before .before .before .before .before .before .before .before .before .before .before .before .before .args in
-    did-as
+    did-next _ _
     (asked (c .before .before .before .before .before .before .before .before .before .before .before .before .before .before .before .before) (RecordFound.At w) (f .found .given .1)
-    ∙ read-yes (Awaited.Record (record { number = w .sfi })) (a .store .now) (a .card .now) (c .before .before .before .before .before .before .before .before .before .before .before .read-answer .ensures .0)
-    (λ b. afterRecordRead (a .place) (a .count) b (a .command .now)) _ (c .before .before .before .before .before .before .before .enum-told2 .given .1))
+    ∙ read-goes (Awaited.Record (record { number = w .sfi })) cvmNotApplicable (a .store .now) (a .card .now) (afterRecord (a .place)) (c .before .before .before .before .before .before .before .before .before .before .before .read-answer .ensures .0) (c .before .before .before .before .before .before .before .enum-told2 .given .1))
     (c .before .before .before .before .ask-next-record .ensures)
 
 pub take-record-spec : {M : Type 1} → statement M

@@ -10,43 +10,31 @@ use Rattle.basics.proofs.Laws.{both-true, both-no-left}
 use Rattle.session_record.specs.declared.Phase.{Phase}
 use Rattle.session_record.specs.Session.{sessionOf}
 use Rattle.session_record.specs.Ranges.{allObjectsFit, phaseRanges, inRanges}
-use Rattle.session_record.specs.Clauses.{TestsRanges}
-use Rattle.session_record.proofs.Laws.{tells}
 use Rattle.session_record.proofs.parts_in_ranges.Statement.{statement}
 use Rattle.session_record.proofs.parts_in_ranges.Tie as tie
 
--- where the size is right, the phase decides; what the test reports of the clauses follows (`tells`)
+-- where the size is right, the phase decides
 by-phase : (c : tie.Else1) (p : Phase) {r : Bool} → let a = c .before .before .args in a .phase ≡ p
-    → r ≡ both (allObjectsFit (a .bytes .now)) (phaseRanges p (sessionOf (a .phase) (a .count) (a .bytes .now)))
-    → TestsRanges (sessionOf (a .phase) (a .count) (a .bytes .now)) r
+    → r ≡ both (allObjectsFit (a .bytes .now)) (phaseRanges p (a .count) (a .bytes .now))
+    → r ≡ inRanges (sessionOf (a .phase) (a .count) (a .bytes .now))
 unfolding inRanges
 by-phase c p e h =
     let a = c .before .before .args in
-    tells (sessionOf (a .phase) (a .count) (a .bytes .now))
-    (h ∙ ap (λ (q : Phase). both (allObjectsFit (a .bytes .now)) (phaseRanges q (sessionOf (a .phase) (a .count) (a .bytes .now)))) (sym e)
-    ∙ sym (both-true _ (eq-eqb _ _ (c .if1 .left))))
+    h ∙ ap (λ (q : Phase). both (allObjectsFit (a .bytes .now)) (phaseRanges q (a .count) (a .bytes .now))) (sym e)
+    ∙ sym (both-true _ (eq-eqb _ _ (c .if1 .left)))
 
 returns : tie.Need-returns
 unfolding inRanges
-returns c = tells _ (sym (both-no-left _ _ (ne-eqb _ _ (c .if1 .taken))))
+returns c = sym (both-no-left _ _ (ne-eqb _ _ (c .if1 .taken)))
 
 returns-2 : tie.Need-returns-2
 returns-2 c = by-phase (c .before .before .before) _ (c .before .enum-told .given .1) (c .fresh-in-ranges .ensures)
 
 returns-3 : tie.Need-returns-3
-returns-3 c = by-phase (c .before .before .before) _ (c .before .enum-told2 .given .1) (c .gpo-in-ranges .ensures)
+returns-3 c = by-phase (c .before .before .before .before) _ (c .before .before .phase .given .1) (c .waiting-in-ranges .ensures)
 
 returns-4 : tie.Need-returns-4
-returns-4 c = by-phase (c .before .before .before .before) _ (c .before .before .phase .given .1) (c .record-in-ranges .ensures)
-
-returns-5 : tie.Need-returns-5
-returns-5 c = by-phase (c .before .before .before .before) _ (c .before .before .phase2 .given .1) (c .cryptogram-in-ranges .ensures)
-
-returns-6 : tie.Need-returns-6
-returns-6 c = by-phase (c .before .before .before .before) _ (c .before .before .phase3 .given .1) (c .checksum-in-ranges .ensures)
-
-returns-7 : tie.Need-returns-7
-returns-7 c = by-phase (c .before .before .before .before) _ (c .before .before .phase4 .given .1) (c .ended-in-ranges .ensures)
+returns-4 c = by-phase (c .before .before .before .before) _ (c .before .before .phase2 .given .1) (c .ended-in-ranges .ensures)
 
 pub parts-in-ranges-spec : {M : Type 1} → statement M
 parts-in-ranges-spec =
@@ -59,15 +47,6 @@ parts-in-ranges-spec =
     (λ c κs. search needs)
     (λ c. search needs)
     (λ c κs. search needs)
-    (λ c. search needs)
-    (λ c κs. search needs)
-    (λ c. search needs)
-    (λ c κs. search needs)
-    (λ c. search needs)
-    (λ c κs. search needs)
     returns-2
     returns-3
-    returns-4
-    returns-5
-    returns-6
-    returns-7)
+    returns-4)

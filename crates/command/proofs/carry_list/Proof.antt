@@ -1,4 +1,4 @@
--- `checksum_with`: a list that measures has a filling of that length, which goes in from place 5 on and is then closed.
+-- `carry_list`: a list that measures has a filling of that length, which goes in from place 5 on and is then closed.
 -- Assumes nothing.
 use mathlib.Core.Path.{_≡_, refl, sym, ap, _∙_}
 use mathlib.Core.List.{List}
@@ -9,12 +9,12 @@ use borrow.Author.Needs.{needs}
 use Rattle.dictionary.specs.Rows.{dictionaryRows}
 use Rattle.dol.specs.Entries.{dolEntries}
 use Rattle.dol.specs.Filling.{dolFilled}
-use Rattle.command.specs.WithList.{checksumCommandWith, checksumCommandOf, commandWith}
+use Rattle.command.specs.WithList.{commandWithDol, commandCarrying, commandWith}
 use Rattle.dol.specs.Measure.{writtenOver}
 use Rattle.dol.proofs.Buffer.{over-some}
-use Rattle.command.proofs.Parts.{Fills, fills, unfit, checksum-broken, checksum-empty, checksum-long, checksum-some, command-length, command-front, none-written, some-written}
-use Rattle.command.proofs.checksum_with.Statement.{statement}
-use Rattle.command.proofs.checksum_with.Tie as tie
+use Rattle.command.proofs.Parts.{Fills, fills, unfit, carried-broken, carried-empty, carried-long, carried-some, command-length, command-front, none-written, some-written}
+use Rattle.command.proofs.carry_list.Statement.{statement}
+use Rattle.command.proofs.carry_list.Tie as tie
 
 -- a measured list's filling
 filling : (c : tie.After-measured)
@@ -22,23 +22,19 @@ filling : (c : tie.After-measured)
     Fills dictionaryRows (a .store .now) (dolEntries (a .list .now)) (c .measured .given .0 .0)
 filling c = fills dictionaryRows _ _ _ (sym (c .before .before .measure .ensures) ∙ c .measured .given .1)
 
-with-is : (list store : List ℕ) → checksumCommandWith list store ≡ checksumCommandOf (dolFilled dictionaryRows store list)
-unfolding checksumCommandWith
-with-is list store = refl
-
 returns : tie.Need-returns
 returns c =
     let a = c .before .before .before .before .before .before .args in
     let p = sym (c .before .before .measure .ensures) ∙ c .enum-told .given .1 in
-    none-written (checksumCommandWith (a .list .now) (a .store .now)) (a .buffer .now)
-    (with-is (a .list .now) (a .store .now) ∙ unfit dictionaryRows (a .store .now) _ checksumCommandOf checksum-broken checksum-long p)
+    none-written (commandWithDol (a .ins) (a .p1) (a .p2) (a .list .now) (a .store .now)) (a .buffer .now)
+    (unfit dictionaryRows (a .store .now) _ (commandCarrying (a .ins) (a .p1) (a .p2)) (carried-broken (a .ins) (a .p1) (a .p2)) (carried-long (a .ins) (a .p1) (a .p2)) p)
 
 returns-2 : tie.Need-returns-2
 returns-2 c =
     let a = c .before .before .before .before .before .before .before .before .args in
     let f = filling (c .before .before) in
-    none-written (checksumCommandWith (a .list .now) (a .store .now)) (a .buffer .now)
-    (with-is (a .list .now) (a .store .now) ∙ ap checksumCommandOf (f .is) ∙ checksum-empty (f .bytes) (f .long ∙ c .if1 .taken))
+    none-written (commandWithDol (a .ins) (a .p1) (a .p2) (a .list .now) (a .store .now)) (a .buffer .now)
+    (ap (commandCarrying (a .ins) (a .p1) (a .p2)) (f .is) ∙ carried-empty (a .ins) (a .p1) (a .p2) (f .bytes) (f .long ∙ c .if1 .taken))
 
 fill-requires : tie.Need-fill-requires
 fill-requires c κs = filling (c .before .before .before) .room _ _ (let f = filling (c .before .before .before) in omega arith)
@@ -56,14 +52,14 @@ returns-3 c =
     let h : 5 + length (f .bytes) < length (a .buffer .now) = omega (arith, st .pre, f .long, f .few) in
     let e : 5 + n ≡ 5 + length (f .bytes) = omega (arith, f .long) in
     let y : c .before .before .before .before .before .before .fill .last .1 .1 .0 ≡ writtenOver (a .buffer .now) 5 (f .bytes) = c .before .before .before .before .before .before .fill .ensures ∙ over-some _ _ _ _ (f .is) in
-    some-written (checksumCommandWith (a .list .now) (a .store .now)) (commandWith 0x2A 0x8E 0x80 (f .bytes)) (a .buffer .now) _ (cl .result)
-    (with-is (a .list .now) (a .store .now) ∙ ap checksumCommandOf (f .is)
-    ∙ checksum-some (f .bytes) (omega (arith, c .before .before .before .before .before .before .before .before .if1 .left, f .long)) (omega (arith, f .long, f .few)))
-    (cl .ensures .0 ∙ command-length 0x2A 0x8E 0x80 (a .buffer .now) (f .bytes) (5 + n) h e)
-    (command-front 0x2A 0x8E 0x80 (a .buffer .now) (f .bytes) (5 + n) h e _ _ y (cl .ensures .1))
+    some-written (commandWithDol (a .ins) (a .p1) (a .p2) (a .list .now) (a .store .now)) (commandWith (a .ins) (a .p1) (a .p2) (f .bytes)) (a .buffer .now) _ (cl .result)
+    (ap (commandCarrying (a .ins) (a .p1) (a .p2)) (f .is)
+    ∙ carried-some (a .ins) (a .p1) (a .p2) (f .bytes) (omega (arith, c .before .before .before .before .before .before .before .before .if1 .left, f .long)) (omega (arith, f .long, f .few)))
+    (cl .ensures .0 ∙ command-length (a .ins) (a .p1) (a .p2) (a .buffer .now) (f .bytes) (5 + n) h e)
+    (command-front (a .ins) (a .p1) (a .p2) (a .buffer .now) (f .bytes) (5 + n) h e _ _ y (cl .ensures .1))
 
-pub checksum-with-spec : {M : Type 1} → statement M
-checksum-with-spec =
+pub carry-list-spec : {M : Type 1} → statement M
+carry-list-spec =
     tie.close
     (tie.spec
     (λ c κs. search needs)

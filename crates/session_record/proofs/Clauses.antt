@@ -1,9 +1,9 @@
--- Session ranges, clause by clause (document 01, "Calls and their numbers"): a record passes the test of
--- Ranges.antt exactly when these hold of it (`clauses` and `clauses-pass` in proofs/Laws).
+-- Session ranges, clause by clause, as facts: a record passes the test of specs/Ranges exactly when these hold of it
+-- (`clauses` and `clauses-pass` in Laws).
 -- Assumes nothing.
 use mathlib.Core.Path.{_≡_}
-use mathlib.Core.Bool.{Bool, true}
-use mathlib.Core.List.{List, [], _∷_}
+use mathlib.Core.Bool.{true}
+use mathlib.Core.List.{List}
 use Prim.Native.Nat.{ℕ, _+_, _≤_, _<_}
 use lib.ListN.{length, replicate}
 use Rattle.dictionary.specs.Rows.{Row, rowAt, rowCount, storeSize, required}
@@ -15,13 +15,14 @@ use Rattle.session_record.specs.declared.AwaitedRecord.{AwaitedRecord}
 use Rattle.session_record.specs.declared.RequestedCryptogram.{RequestedCryptogram}
 use Rattle.session_record.specs.declared.AwaitedChecksum.{AwaitedChecksum}
 use Rattle.session_record.specs.declared.Ending.{Ending}
+use Rattle.session_record.specs.declared.AwaitedResponse.{AwaitedResponse}
 use Rattle.session_record.specs.declared.Phase.{Phase}
 use Rattle.session_record.specs.declared.Session.{Session}
 use Rattle.session_record.specs.Numbers.{reasonMatchesOutcome}
 use Rattle.session_record.specs.Session.{storeBytes}
 use Rattle.store.specs.Held.{hasObject, storedBytes, storedByte, storedLength}
 use Rattle.session_record.specs.Ranges.{valueFits, emvMode, magStripeMode, emvOrMagStripeMode, storedAfl, storedRecordCount}
-use Rattle.session_record.specs.Ranges.{mostCommands, inRanges}
+use Rattle.session_record.specs.Ranges.{zeroTvr, mostCommands}
 
 -- the object of a row fits it: its length byte, and its value
 pub record RowObjectFits (b : List ℕ) (r : Row) : Type 0 where
@@ -31,10 +32,6 @@ pub record RowObjectFits (b : List ℕ) (r : Row) : Type 0 where
 -- what is stored fits its row
 abbrev pub AllObjectsFit : List ℕ → Type 0
 AllObjectsFit b = (k : ℕ) → k < rowCount → RowObjectFits b (rowAt k)
-
--- a TVR that is all zero
-abbrev pub zeroTvr : List ℕ
-zeroTvr = 0 ∷ 0 ∷ 0 ∷ 0 ∷ 0 ∷ []
 
 -- every running session: the TVR, the required start objects, a terminal type of the list, no object that only the
 -- answer to the last command brings
@@ -103,25 +100,21 @@ pub record EndedClauses (e : Ending) (n : ℕ) : Type 0 where
   pub count : n ≤ mostCommands
   pub reason : reasonMatchesOutcome (e .outcome) (e .reason) ≡ true
 
+-- the clauses of a running session, by the response that is awaited
+abbrev pub WaitingClauses : AwaitedResponse → ℕ → List ℕ → Type 0
+WaitingClauses AwaitedResponse.Gpo            n b = GpoClauses n b
+WaitingClauses (AwaitedResponse.Record p)     n b = RecordClauses p n b
+WaitingClauses (AwaitedResponse.Cryptogram a) n b = CryptogramClauses a n b
+WaitingClauses (AwaitedResponse.Checksum c)   n b = ChecksumClauses c n b
+
 -- the clauses of a phase
-abbrev pub PhaseClauses : Phase → Session → Type 0
-PhaseClauses Phase.Fresh          s = FreshClauses (s .count) (storeBytes s)
-PhaseClauses Phase.Gpo            s = GpoClauses (s .count) (storeBytes s)
-PhaseClauses (Phase.Record p)     s = RecordClauses p (s .count) (storeBytes s)
-PhaseClauses (Phase.Cryptogram a) s = CryptogramClauses a (s .count) (storeBytes s)
-PhaseClauses (Phase.Checksum c)   s = ChecksumClauses c (s .count) (storeBytes s)
-PhaseClauses (Phase.Ended e)      s = EndedClauses e (s .count)
+abbrev pub PhaseClauses : Phase → ℕ → List ℕ → Type 0
+PhaseClauses Phase.Fresh       n b = FreshClauses n b
+PhaseClauses (Phase.Waiting w) n b = WaitingClauses w n b
+PhaseClauses (Phase.Ended e)   n b = EndedClauses e n
 
 -- every clause; the store's size is that of its type
 pub record RangesClauses (s : Session) : Type 0 where
   pub size : length (storeBytes s) ≡ storeSize
   pub fits : AllObjectsFit (storeBytes s)
-  pub phase : PhaseClauses (s .phase) s
-
--- ---- returned
-
--- what a test of a record reports: the test's answer, which is yes where every clause holds, and only there
-pub record TestsRanges (s : Session) (r : Bool) : Type 0 where
-  pub test : r ≡ inRanges s
-  pub clauses : r ≡ true → RangesClauses s
-  pub passes : RangesClauses s → r ≡ true
+  pub phase : PhaseClauses (s .phase) (s .count) (storeBytes s)
