@@ -51,7 +51,7 @@ use Rattle.cabinet.specs.Calls.{CabinetResult, refusedRemaining, refusedCap, ca
 use Rattle.cabinet.specs.Inner.{cabinetFreshStart}
 use Rattle.cabinet.proofs.State.{state-read}
 use Rattle.cabinet.proofs.Laws.{start-running, start-idle}
-use Rattle.cabinet_claim.specs.Account.{CabinetCall, opening, start, answer, link-failed, stop, cabinetWordBy, cabinetStateBy, cabinetCallMade, playCabinetCalls, finalCabinetState, Account, account, accountOpened, startAmountIn, accountApproves, accountAccepts, accountEnters, accountAfter, isRefusedWord, isApprovedWord, notRefusedForRanges, Balanced}
+use Rattle.cabinet_claim.specs.Account.{CabinetCall, opening, start, answer, link-failed, stop, cabinetStep, cabinetCallMade, playCabinetCalls, finalCabinetState, Account, account, accountOpened, startAmountIn, accountApproves, accountAccepts, accountEnters, accountAfter, isRefusedWord, isApprovedWord, notRefusedForRanges, Balanced}
 use Rattle.cabinet_claim.proofs.Brought.{brought-amount}
 use Rattle.cabinet_claim.proofs.Held.{Ordered, held-ordered, in-order}
 use Rattle.cabinet_claim.proofs.Kernel.{Stays, stays-amount, answer-stays, link-stays, stop-stays}
@@ -298,7 +298,7 @@ open-next a l h cap = elim (bool-cases (ltb mostAmount cap)) [
 
 -- ---- every call, and every list of calls
 
-call-next : (a : Account) (l : List ℕ) → Holds a l → (k : CabinetCall) → Next a k (cabinetWordBy l k) (cabinetStateBy l k)
+call-next : (a : Account) (l : List ℕ) → Holds a l → (k : CabinetCall) → Next a k (cabinetStep l k .word) (cabinetStep l k .state)
 call-next a l h (opening cap) = open-next a l h cap
 call-next a l h (start bytes buf) = admitted-next a l h (start bytes buf) (startOnCabinet bytes l buf) buf (start-next a l h bytes buf)
 call-next a l h (answer card buf) =
@@ -326,7 +326,7 @@ unfolding playCabinetCalls finalCabinetState accountAfter every
 through [] a l h = record { not-25 = refl; holds = h }
 through (k ∷ cs) a l h =
     let n = call-next a l h k in
-    let t = through cs (accountEnters a (cabinetCallMade k (cabinetWordBy l k))) (cabinetStateBy l k) (n .holds) in
+    let t = through cs (accountEnters a (cabinetCallMade k (cabinetStep l k .word))) (cabinetStep l k .state) (n .holds) in
     record { not-25 = both-yes _ _ (n .not-25) (t .not-25); holds = t .holds }
 
 -- an opening that gives 0 was accepted
