@@ -23,18 +23,18 @@ use Rattle.analysis.specs.Digits.{amountOf}
 use Rattle.analysis.specs.Cvm.{cvmNotApplicable}
 use Rattle.session_record.specs.declared.Outcome.{Outcome}
 use Rattle.session_record.specs.declared.OutcomeParameters.{OutcomeParameters}
+use Rattle.session_record.specs.declared.AwaitedResponse.{AwaitedResponse}
 use Rattle.session_record.specs.declared.Phase.{Phase}
 use Rattle.session_record.specs.declared.Session.{Session}
 use Rattle.session_record.specs.Session.{storeBytes, sessionOf, freshSession, endingOf, outcomeParameters}
 use Rattle.session_record.specs.Numbers.{outcomeNumber, outcomeOfReason}
-use Rattle.session_record.specs.Clauses.{zeroTvr}
-use Rattle.session_record.specs.Ranges.{inRanges}
+use Rattle.session_record.specs.Ranges.{zeroTvr, inRanges}
 use Rattle.session_record.proofs.Phases.{store-size, on-ended, fresh-keeps}
 use Rattle.session_record.proofs.Reasons.{goes-most}
 use Rattle.start_data.specs.StartData.{LoadedStore, refusal, loaded, loadStart}
 use Rattle.start_data.proofs.Laws.{load-size}
 use Rattle.session.specs.Steps as steps
-use Rattle.session.specs.Steps.{Step, commandStep, failedStep, withTvr, leastBuffer, commandOrReason, linkFailedStep, stopStep}
+use Rattle.session.specs.Steps.{askWithDol, withTvr, Step, stepOn, stepOf, leastBuffer, linkFailedStep, stopStep}
 use Rattle.session.specs.Start.{askGpo, startLoaded, startStep}
 use Rattle.session.specs.Answer.{answerStep}
 use Rattle.session.proofs.Laws.{admitted-in}
@@ -45,13 +45,13 @@ use Rattle.step_laws.proofs.Kept.{bits-other}
 use Rattle.step_laws.proofs.EveryCall.{Came, answer-came, link-came, stop-came}
 use Rattle.step_laws.proofs.Ranges.{start-keeps, answer-keeps, link-keeps, stop-keeps}
 use Rattle.step_laws.proofs.Refusals.{answer-goes, answer-idle, broken-goes, broken-idle}
-use Rattle.step_laws.proofs.Ways.{load-most}
+use Rattle.step_laws.proofs.Ways.{commandStep, failedStep, load-most}
 use Rattle.cabinet.specs.State.{Cabinet, cabinet, mostAmount, cabinetStateSize, withCabinetState, storedAmount, amountToReserve, cabinetHeldIn}
 use Rattle.cabinet.specs.Calls.{CabinetResult, refusedRemaining, refusedCap, cabinetRefusal, onCabinetHeld, cabinetAdmitted, remainingAfter, settlesAmounts, cabinetStepOn, reservesAmount, startAccepted, startOnCabinet, cabinetOpenWord, cabinetOpenState}
 use Rattle.cabinet.specs.Inner.{cabinetFreshStart}
 use Rattle.cabinet.proofs.State.{state-read}
 use Rattle.cabinet.proofs.Laws.{start-running, start-idle}
-use Rattle.cabinet_claim.specs.Account.{CabinetCall, opening, start, answer, link-failed, stop, cabinetWordBy, cabinetStateBy, cabinetCallMade, playCabinetCalls, finalCabinetState, Account, account, accountOpened, startAmountIn, accountApproves, accountAccepts, accountEnters, accountAfter, isRefusedWord, isApprovedWord, notRefusedForRanges, Balanced}
+use Rattle.cabinet_claim.specs.Account.{CabinetCall, opening, start, answer, link-failed, stop, cabinetStep, cabinetCallMade, playCabinetCalls, finalCabinetState, Account, account, accountOpened, startAmountIn, accountApproves, accountAccepts, accountEnters, accountAfter, isRefusedWord, isApprovedWord, notRefusedForRanges, Balanced}
 use Rattle.cabinet_claim.proofs.Brought.{brought-amount}
 use Rattle.cabinet_claim.proofs.Held.{Ordered, held-ordered, in-order}
 use Rattle.cabinet_claim.proofs.Kernel.{Stays, stays-amount, answer-stays, link-stays, stop-stays}
@@ -136,7 +136,7 @@ module _ (a : Account) (l : List ℕ) (h : Holds a l) (k : CabinetCall) (adds : 
     ended-order x y = record { enough = order .enough; ranges = i; due = sym (if-no _ _ refl); sum = omega arith }
 
     abbrev told : OutcomeParameters
-    told = outcomeParameters o n m
+    told = outcomeParameters (endingOf o n) m
 
     spent-next : outcomeNumber o ≡ 0 → c .reserved ≡ a .amount → Next a k (outcomeWord told) (withCabinetState (cabinet (sessionOf (Phase.Ended (endingOf o n)) j b) (c .remaining) 0) l)
     spent-next q e =
@@ -151,7 +151,7 @@ module _ (a : Account) (l : List ℕ) (h : Holds a l) (k : CabinetCall) (adds : 
         (ended-order (c .remaining + c .reserved) (order .sum)) (omega (arith, h .balance)) (h .cap-fits) (λ x. not-running x)
 
   ended-next : (o : Outcome) (n m : ℕ) (b : List ℕ) (j : ℕ) → inRanges (sessionOf (Phase.Ended (endingOf o n)) j b) ≡ true → c .reserved ≡ a .amount
-      → Next a k (outcomeWord (outcomeParameters o n m)) (withCabinetState (cabinet (sessionOf (Phase.Ended (endingOf o n)) j b) (remainingAfter o (c .remaining) (c .reserved)) 0) l)
+      → Next a k (outcomeWord (outcomeParameters (endingOf o n) m)) (withCabinetState (cabinet (sessionOf (Phase.Ended (endingOf o n)) j b) (remainingAfter o (c .remaining) (c .reserved)) 0) l)
   ended-next Outcome.Approved n m b j i e = spent-next Outcome.Approved n m b j i refl e
   ended-next Outcome.OnlineRequest n m b j i e = back-next Outcome.OnlineRequest n m b j i (λ z. omega arith)
   ended-next Outcome.Declined n m b j i e = back-next Outcome.Declined n m b j i (λ z. omega arith)
@@ -165,7 +165,7 @@ module _ (a : Account) (l : List ℕ) (h : Holds a l) (k : CabinetCall) (adds : 
   came-next buf _ (Came.refused n) r g i w = not-running (sym g)
   came-next buf _ (Came.ended m b o n) r g i w = ended-next o n m b (c .session .count) i (h .amount r)
   came-next buf _ (Came.sent b p x f) r g i w =
-      sent-next b p (c .session .count + 1) (length x) i (w .waits (record { size = length x }) refl)
+      sent-next b (Phase.Waiting p) (c .session .count + 1) (length x) i (w .waits (record { size = length x }) refl)
       (stays-amount w ∙ sym (order .due ∙ if-yes _ _ r)) (h .amount r)
 
   -- and of any
@@ -207,11 +207,11 @@ module _ (a : Account) (l : List ℕ) (h : Holds a l) (bytes buf : List ℕ) whe
 
     -- its amount is reserved, or given back at once
     module _ (b : List ℕ) (q : storedAmount b ≡ startAmountIn bytes) where
-      sent-start : (x : List ℕ) → inRanges (sessionOf Phase.Gpo 1 b) ≡ true → (let st = commandStep 0 b Phase.Gpo x buf in NextOf a k (reservesAmount st (storedAmount b) (now .remaining) l buf))
+      sent-start : (x : List ℕ) → inRanges (sessionOf (Phase.Waiting AwaitedResponse.Gpo) 1 b) ≡ true → (let st = commandStep 0 b AwaitedResponse.Gpo x buf in NextOf a k (reservesAmount st (storedAmount b) (now .remaining) l buf))
       unfolding reservesAmount amountToReserve
       sent-start x i = if-ind (NextOf a k) (ltb (now .remaining) (storedAmount b)) _ _ (λ t. less) (λ t. moved (ltb-false _ _ t))
         where
-          moved : storedAmount b ≤ now .remaining → Next a k (commandWord (length x)) (withCabinetState (cabinet (sessionOf Phase.Gpo 1 b) (now .remaining - storedAmount b) (storedAmount b)) l)
+          moved : storedAmount b ≤ now .remaining → Next a k (commandWord (length x)) (withCabinetState (cabinet (sessionOf (Phase.Waiting AwaitedResponse.Gpo) 1 b) (now .remaining - storedAmount b) (storedAmount b)) l)
           moved m =
               taken-next a begun k (commandWord (length x)) _ l (command-other (length x)) (command-told (length x))
               (unapproved begun (commandWord (length x)) (command-unapproved (length x)))
@@ -219,7 +219,7 @@ module _ (a : Account) (l : List ℕ) (h : Holds a l) (bytes buf : List ℕ) whe
               (omega (arith, h .balance, nothing-aside)) (h .cap-fits) (λ e. q)
 
       abbrev broken : OutcomeParameters
-      broken = outcomeParameters Outcome.Ended reasonDol cvmNotApplicable
+      broken = outcomeParameters (endingOf Outcome.Ended reasonDol) cvmNotApplicable
 
       failed-start : inRanges (sessionOf (Phase.Ended (endingOf (outcomeOfReason reasonDol) reasonDol)) 0 b) ≡ true
           → (let st = failedStep cvmNotApplicable 0 b reasonDol buf in NextOf a k (reservesAmount st (storedAmount b) (now .remaining) l buf))
@@ -234,13 +234,13 @@ module _ (a : Account) (l : List ℕ) (h : Holds a l) (bytes buf : List ℕ) whe
               (record { enough = placed .enough; ranges = i; due = refl; sum = omega (arith, placed .sum) })
               (omega (arith, h .balance, nothing-aside)) (h .cap-fits) (λ e. not-running e)
 
-      handed-start : (x : Option (List ℕ)) → inRanges (commandOrReason cvmNotApplicable 0 b Phase.Gpo buf x .reply .session) ≡ true
-          → (let st = commandOrReason cvmNotApplicable 0 b Phase.Gpo buf x in NextOf a k (startAccepted (st .reply .answer) st (now .remaining) l buf))
+      handed-start : (x : Option (List ℕ)) → inRanges (stepOn 0 buf (askWithDol AwaitedResponse.Gpo b x) .reply .session) ≡ true
+          → (let st = stepOn 0 buf (askWithDol AwaitedResponse.Gpo b x) in NextOf a k (startAccepted (st .reply .answer) st (now .remaining) l buf))
       handed-start none i = failed-start i
       handed-start (some x) i = sent-start x i
 
-    loaded-start : (x : LoadedStore) → loadStart (storeBytes freshSession) bytes ≡ x → inRanges (startLoaded freshSession buf x .reply .session) ≡ true
-        → (let st = startLoaded freshSession buf x in NextOf a k (startAccepted (st .reply .answer) st (now .remaining) l buf))
+    loaded-start : (x : LoadedStore) → loadStart (storeBytes freshSession) bytes ≡ x → inRanges (stepOf freshSession buf (startLoaded x) .reply .session) ≡ true
+        → (let st = stepOf freshSession buf (startLoaded x) in NextOf a k (startAccepted (st .reply .answer) st (now .remaining) l buf))
     unfolding askGpo
     loaded-start (refusal n) e i = let m = load-most (storeBytes freshSession) bytes n e in refused-next a k n l h (omega arith) (λ z. omega arith)
     loaded-start (loaded b) e i = handed-start (withTvr b zeroTvr) brought (getProcessingOptions (withTvr b zeroTvr)) i
@@ -256,7 +256,7 @@ module _ (a : Account) (l : List ℕ) (h : Holds a l) (bytes buf : List ℕ) whe
         subst (λ (st : Step). NextOf a k (startAccepted (st .reply .answer) st (now .remaining) l buf)) (sym is)
         (loaded-start (loadStart (storeBytes freshSession) bytes) refl (subst (λ (st : Step). inRanges (st .reply .session) ≡ true) is (start-keeps freshSession bytes buf fresh-keeps)))
       where
-        is : startStep freshSession bytes buf ≡ startLoaded freshSession buf (loadStart (storeBytes freshSession) bytes)
+        is : startStep freshSession bytes buf ≡ stepOf freshSession buf (startLoaded (loadStart (storeBytes freshSession) bytes))
         is = admitted-in freshSession buf _ r fresh-keeps
 
   start-next : leastBuffer ≤ length buf → NextOf a k (startOnCabinet bytes l buf now)
@@ -298,7 +298,7 @@ open-next a l h cap = elim (bool-cases (ltb mostAmount cap)) [
 
 -- ---- every call, and every list of calls
 
-call-next : (a : Account) (l : List ℕ) → Holds a l → (k : CabinetCall) → Next a k (cabinetWordBy l k) (cabinetStateBy l k)
+call-next : (a : Account) (l : List ℕ) → Holds a l → (k : CabinetCall) → Next a k (cabinetStep l k .word) (cabinetStep l k .state)
 call-next a l h (opening cap) = open-next a l h cap
 call-next a l h (start bytes buf) = admitted-next a l h (start bytes buf) (startOnCabinet bytes l buf) buf (start-next a l h bytes buf)
 call-next a l h (answer card buf) =
@@ -326,7 +326,7 @@ unfolding playCabinetCalls finalCabinetState accountAfter every
 through [] a l h = record { not-25 = refl; holds = h }
 through (k ∷ cs) a l h =
     let n = call-next a l h k in
-    let t = through cs (accountEnters a (cabinetCallMade k (cabinetWordBy l k))) (cabinetStateBy l k) (n .holds) in
+    let t = through cs (accountEnters a (cabinetCallMade k (cabinetStep l k .word))) (cabinetStep l k .state) (n .holds) in
     record { not-25 = both-yes _ _ (n .not-25) (t .not-25); holds = t .holds }
 
 -- an opening that gives 0 was accepted

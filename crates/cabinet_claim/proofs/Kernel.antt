@@ -24,11 +24,11 @@ use Rattle.session_record.specs.declared.Reply.{Reply}
 use Rattle.session_record.specs.declared.Session.{Session}
 use Rattle.session_record.specs.Session.{storeBytes}
 use Rattle.session_record.proofs.Phases.{store-size, store-fits}
-use Rattle.session.specs.Steps.{Step, withoutCommand, withFindings, abortStep, linkFailedStep, stopStep}
+use Rattle.session.specs.Steps.{withFindings, Step, abortStep, linkFailedStep, stopStep}
 use Rattle.session.specs.Answer.{answerStep}
 use Rattle.session_record.specs.Session.{isRunning}
 use Rattle.step_laws.proofs.Kept.{read-size, read-fits, read-start, found-other, digits-other}
-use Rattle.step_laws.proofs.Ways.{Admitted, taken, GpoWay, RecordsWay, MagStripeWay, RecordWay, CryptogramWay, ChecksumWay, AnswerWay, answer-way, BrokenWay, broken-way}
+use Rattle.step_laws.proofs.Ways.{withoutCommand, Admitted, taken, GpoWay, RecordsWay, MagStripeWay, RecordWay, CryptogramWay, ChecksumWay, AnswerWay, answer-way, BrokenWay, broken-way}
 use Rattle.cabinet.specs.State.{storedAmount}
 
 -- ---- what a step leaves

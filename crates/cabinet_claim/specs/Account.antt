@@ -16,7 +16,7 @@ use Rattle.session_record.specs.Numbers.{outcomeNumber}
 use Rattle.layout.specs.Word.{wordKind, kindOutcome, kindRefusal, refusalWord}
 use Rattle.cabinet_lookup.specs.Value.{lookupValue}
 use Rattle.cabinet.specs.State.{Cabinet, mostAmount, cabinetHeldIn}
-use Rattle.cabinet.specs.Calls.{cabinetOpenWord, cabinetOpenState, cabinetStart, cabinetAnswer}
+use Rattle.cabinet.specs.Calls.{CabinetResult, cabinetOpenWord, cabinetOpenState, cabinetStart, cabinetAnswer}
 use Rattle.cabinet.specs.Calls.{cabinetLinkFailed, cabinetStop}
 
 -- ---- the calls
@@ -30,21 +30,14 @@ pub data CabinetCall : Type 0 where
   link-failed : Buffer → CabinetCall
   stop : Buffer → CabinetCall
 
--- the word that a call gives on the state's bytes
-abbrev pub cabinetWordBy : Bytes → CabinetCall → ResultWord
-cabinetWordBy l (opening cap)     = cabinetOpenWord cap l
-cabinetWordBy l (start bytes buf) = cabinetStart bytes l buf .word
-cabinetWordBy l (answer card buf) = cabinetAnswer card l buf .word
-cabinetWordBy l (link-failed buf) = cabinetLinkFailed l buf .word
-cabinetWordBy l (stop buf)        = cabinetStop l buf .word
-
--- the state's bytes after it
-abbrev pub cabinetStateBy : Bytes → CabinetCall → Bytes
-cabinetStateBy l (opening cap)     = cabinetOpenState cap l
-cabinetStateBy l (start bytes buf) = cabinetStart bytes l buf .state
-cabinetStateBy l (answer card buf) = cabinetAnswer card l buf .state
-cabinetStateBy l (link-failed buf) = cabinetLinkFailed l buf .state
-cabinetStateBy l (stop buf)        = cabinetStop l buf .state
+-- what a call gives on the state's bytes: its word, and the state and the command buffer after it; an opening has no
+-- command buffer
+abbrev pub cabinetStep : Bytes → CabinetCall → CabinetResult
+cabinetStep l (opening cap)     = record { word = cabinetOpenWord cap l; state = cabinetOpenState cap l; buffer = [] }
+cabinetStep l (start bytes buf) = cabinetStart bytes l buf
+cabinetStep l (answer card buf) = cabinetAnswer card l buf
+cabinetStep l (link-failed buf) = cabinetLinkFailed l buf
+cabinetStep l (stop buf)        = cabinetStop l buf
 
 -- a call that was made, and its word
 pub record CabinetCallMade : Type 0 where
@@ -58,12 +51,12 @@ cabinetCallMade c w = record { call = c; word = w }
 -- the calls of a list, each on the bytes that the call before it left
 unfoldable pub playCabinetCalls : Bytes → List CabinetCall → List CabinetCallMade
 playCabinetCalls l [] = []
-playCabinetCalls l (c ∷ cs) = cabinetCallMade c (cabinetWordBy l c) ∷ playCabinetCalls (cabinetStateBy l c) cs
+playCabinetCalls l (c ∷ cs) = cabinetCallMade c (cabinetStep l c .word) ∷ playCabinetCalls (cabinetStep l c .state) cs
 
 -- the bytes that the last call left
 unfoldable pub finalCabinetState : Bytes → List CabinetCall → Bytes
 finalCabinetState l [] = l
-finalCabinetState l (c ∷ cs) = finalCabinetState (cabinetStateBy l c) cs
+finalCabinetState l (c ∷ cs) = finalCabinetState (cabinetStep l c .state) cs
 
 -- ---- the account: by the calls and their words alone, not by the state
 

@@ -34,24 +34,25 @@ use Rattle.session_record.specs.declared.RequestedCryptogram.{RequestedCryptogr
 use Rattle.session_record.specs.declared.AwaitedChecksum.{AwaitedChecksum}
 use Rattle.session_record.specs.declared.Ending.{Ending}
 use Rattle.session_record.specs.declared.Outcome.{Outcome}
+use Rattle.session_record.specs.declared.AwaitedResponse.{AwaitedResponse}
 use Rattle.session_record.specs.declared.Phase.{Phase}
 use Rattle.session_record.specs.declared.AwaitedRecord.{AwaitedRecord}
 use Rattle.session_record.specs.declared.Reply.{Reply}
 use Rattle.session_record.specs.declared.Session.{Session}
-use Rattle.session_record.specs.Session.{storeBytes, sessionOf, endingOf}
+use Rattle.session_record.specs.Session.{storeBytes, sessionOf, endingOf, endingBy}
 use Rattle.session_record.specs.Ranges.{magStripeMode, emvOrMagStripeMode, inRanges}
 use Rattle.session_record.proofs.Phases.{store-size, store-fits, on-cryptogram, on-checksum}
-use Rattle.session.specs.Steps.{Step, withoutCommand, endedReply, endingBy, commandStep, withFindings, admittedStep, abortStep}
+use Rattle.session.specs.Steps.{Next, end, readThen, withFindings, Step, stepOn, stepOf, admittedStep, whileRunning, abortStep}
 use Rattle.session.specs.Start.{startStep}
-use Rattle.session.specs.MagStripe.{checksumPhase, storeWithDigits}
-use Rattle.session.specs.Answer.{recordPhase, requestedCryptogram, cryptogramOutcome, endingFor, cryptogramPresent, cryptogramEnding, cryptogramReply, answerIn, answerStep}
+use Rattle.session.specs.MagStripe.{awaitedChecksum, storeWithDigits}
+use Rattle.session.specs.Answer.{awaitedRecord, requestedCryptogram, cryptogramOutcome, endingFor, cryptogramPresent, cryptogramEnding, cryptogramNext, responseNext, answerStep}
 use Rattle.session_claim.specs.Calls.{callsAccepted, lastElement, commandsSent as commandsOf}
 use Rattle.session.specs.Calls.{Call, start, answer, link-failed, stop, callStep, CallMade, callMade, playCalls, finalSession, isRefusal}
 use Rattle.session_claim.specs.Order.{beginsWith}
 use Rattle.step_laws.proofs.Kept.{read-size, read-fits, read-mode, digits-other}
 use Rattle.session_claim.proofs.Trace.{by, by-front, call-keeps}
 use Rattle.step_laws.proofs.Ways as ways
-use Rattle.step_laws.proofs.Ways.{Reason, unread-reason, GpoWay, RecordsWay, MagStripeWay, RecordWay, ChecksumWay, AnswerWay, answer-way, StartWay, start-way, BrokenWay, broken-way}
+use Rattle.step_laws.proofs.Ways.{withoutCommand, endedReply, commandStep, Reason, unread-reason, GpoWay, RecordsWay, MagStripeWay, RecordWay, ChecksumWay, AnswerWay, answer-way, StartWay, start-way, BrokenWay, broken-way}
 use Rattle.explain.specs.declared.Explanation.{Explanation}
 use Rattle.explain.specs.Explain.{storedChoice, storedCryptogramType, cardAsksMagStripe, explainedInPhase, explanationOf}
 use Rattle.explain.specs.Promise.{DecisionIs}
@@ -69,7 +70,7 @@ no-refusal e = let z : _≡_ {A = ℕ} 0 1 = cc in absurd (omega arith)
 
 -- the choice that is held is the one of the store
 abbrev pub Held : Session → Type 0
-Held s = (a : RequestedCryptogram) → s .phase ≡ Phase.Cryptogram a → a .choice ≡ storedChoice (storeBytes s)
+Held s = (a : RequestedCryptogram) → s .phase ≡ Phase.Waiting (AwaitedResponse.Cryptogram a) → a .choice ≡ storedChoice (storeBytes s)
 
 -- the session is explained, unless the last call brought a code
 abbrev Answers : Bool → Session → Type 0
@@ -114,21 +115,21 @@ module _ (s : Session) (c : Call) (buf : List ℕ) where
       no e = absurd (omega (arith, r .least, eqb-true n reasonNone e))
 
   -- it waits, and no choice was made
-  early : (p : Phase) (b x : List ℕ) → awaitsCryptogram p ≡ false → isDecided p ≡ false → (isEarly p ≡ true → isEarly (s .phase) ≡ true)
-      → beginsWith 0x80 0xAE x ≡ false → (explainedInPhase p b ≡ Explanation.Refused → ⊥) → Leaves s c (commandStep (s .count) b p x buf)
-  early p b x n u w f e i =
+  early : (r : AwaitedResponse) (b x : List ℕ) → awaitsCryptogram (Phase.Waiting r) ≡ false → (isEarly (Phase.Waiting r) ≡ true → isEarly (s .phase) ≡ true)
+      → beginsWith 0x80 0xAE x ≡ false → (explainedInPhase (Phase.Waiting r) b ≡ Explanation.Refused → ⊥) → Leaves s c (commandStep (s .count) b r x buf)
+  early r b x n w f e i =
       inr (record {
         taken-on = refl;
         held = λ a q. apart (sym n ∙ ap awaitsCryptogram q);
-        answers = λ z. phase-answers _ p i refl e;
+        answers = λ z. phase-answers _ (Phase.Waiting r) i refl e;
         traces = λ ps qs d t. record {
           early = λ z. (
             ap₂ (λ (l : List ℕ) (xs : List (List ℕ)). l ++ map (λ (y : List ℕ). getD y 2 0) xs) (t .early (w z) .0) (not-asked x buf f),
             ap₂ (λ (l xs : List (List ℕ)). l ++ map (λ (y : List ℕ). b) xs) (t .early (w z) .1) (not-asked x buf f),
           );
           waiting = λ z. apart (sym n ∙ z);
-          decided = λ y z. apart (sym u ∙ z);
-          mode = λ z. apart (sym u ∙ z);
+          decided = λ y z. apart z;
+          mode = λ z. apart z;
         };
       })
 
@@ -141,7 +142,7 @@ start-leaves s bytes buf = go (start-way s bytes buf)
     go (StartWay.refused n l) = left s refl refl
     go (StartWay.unlisted b i q e) = failed s (start bytes buf) buf _ reasonDol _ (record { least = omega arith; most = omega arith })
     go (StartWay.asked b c i q e f) =
-        early s (start bytes buf) buf Phase.Gpo _ c refl refl (λ z. ap isEarly q)
+        early s (start bytes buf) buf AwaitedResponse.Gpo _ c refl (λ z. ap isEarly q)
         (other-instruction 0xA8 c (λ z. omega arith) (list.gpo-proper _ c f)) (λ z. no-refusal z)
 
 broken-leaves : (s : Session) (c : Call) (n : ℕ) (buf : List ℕ) → Reason n → Leaves s c (abortStep s n buf)
@@ -153,7 +154,7 @@ broken-leaves s c n buf r = go (broken-way s n buf)
 
 -- ---- the answer to GENERATE AC
 
-module _ (s : Session) (a : RequestedCryptogram) (card buf : List ℕ) (i : inRanges s ≡ true) (q : s .phase ≡ Phase.Cryptogram a) (h : a .choice ≡ storedChoice (storeBytes s)) where
+module _ (s : Session) (a : RequestedCryptogram) (card buf : List ℕ) (i : inRanges s ≡ true) (q : s .phase ≡ Phase.Waiting (AwaitedResponse.Cryptogram a)) (h : a .choice ≡ storedChoice (storeBytes s)) where
   abbrev o : reading.ReadingOutcome
   o = reading.readAnswer Awaited.Cryptogram (storeBytes s) card
 
@@ -207,23 +208,23 @@ module _ (s : Session) (a : RequestedCryptogram) (card buf : List ℕ) (i : inRa
   end-answers none t e = failed s (answer card buf) buf _ 8 _ (record { least = omega arith; most = omega arith })
   end-answers (some x) t e = decision-answers x t e
 
-  reply-leaves : Leaves s (answer card buf) (withoutCommand (cryptogramReply a (s .count) (storeBytes s) card) buf)
-  unfolding cryptogramReply cryptogramEnding
+  reply-leaves : Leaves s (answer card buf) (stepOn (s .count) buf (cryptogramNext a (storeBytes s) card))
+  unfolding cryptogramNext readThen cryptogramEnding
   reply-leaves =
       if-ind P _ _ _
-      (λ z. if-ind (λ (e : Ending). P (endedReply (cvmNumber (a .cvm)) (s .count) (o .store) e)) _ _ _
+      (λ z. if-ind (λ (e : Ending). P (end e (cvmNumber (a .cvm)) (o .store))) _ _ _
       (λ t. failed s (answer card buf) buf _ 4 _ (record { least = omega arith; most = omega arith }))
       (λ t. end-answers (cryptogramOutcome (a .choice) (storedCryptogramType (o .store))) (not-false _ t) refl))
       (λ z. failed s (answer card buf) buf _ (o .reason) _ (unread-reason Awaited.Cryptogram (storeBytes s) card (eqb-false _ _ z)))
     where
-      P : Reply → Type 0
-      P r = Leaves s (answer card buf) (withoutCommand r buf)
+      P : Next → Type 0
+      P x = Leaves s (answer card buf) (stepOn (s .count) buf x)
 
   cryptogram-leaves : Leaves s (answer card buf) (answerStep s card buf)
   unfolding admittedStep
   cryptogram-leaves =
       if-ind P _ _ _ (λ e. left s refl refl)
-      (λ e. if-ind P _ _ _ (λ r. left s refl refl) (λ r. subst (λ (p : Phase). P (answerIn p s card buf)) (sym q) reply-leaves))
+      (λ e. if-ind P _ _ _ (λ r. left s refl refl) (λ r. subst (λ (p : Phase). P (stepOf s buf (whileRunning p (responseNext (storeBytes s) card)))) (sym q) reply-leaves))
     where
       P : Step → Type 0
       P = Leaves s (answer card buf)
@@ -237,16 +238,16 @@ module _ (s : Session) (card buf : List ℕ) (i : inRanges s ≡ true) where
   gpo-leaves : {st : Step} (b : List ℕ) → isEarly (s .phase) ≡ true → GpoWay (ways.withStore s b) buf st → Leaves s c st
   gpo-leaves b y (GpoWay.failed n r) = failed s c buf _ n b r
   gpo-leaves b y (GpoWay.first r m a e) =
-      early s c buf (recordPhase (transactionLimit b) 1) b (readRecordCommand r) refl refl (λ z. y) (record-command r) (λ z. no-refusal z)
+      early s c buf (awaitedRecord (transactionLimit b) 1) b (readRecordCommand r) refl (λ z. y) (record-command r) (λ z. no-refusal z)
 
   -- the cryptogram is requested: the choice is the one of the store that the analysis leaves
   asked-leaves : (m : ℕ) (b x : List ℕ) → length b ≡ storeSize → isEarly (s .phase) ≡ true → generateAc (generateAcP1 (requestedCryptogram m b .choice)) (withFindings b (findingsOf b)) ≡ some x
-      → Leaves s c (commandStep (s .count) (withFindings b (findingsOf b)) (Phase.Cryptogram (requestedCryptogram m b)) x buf)
+      → Leaves s c (commandStep (s .count) (withFindings b (findingsOf b)) (AwaitedResponse.Cryptogram (requestedCryptogram m b)) x buf)
   asked-leaves m b x l y g k =
       inr (record {
         taken-on = refl;
         held = λ a q. (let z : requestedCryptogram m b ≡ a = cc in subst (λ (y : RequestedCryptogram). y .choice ≡ storedChoice (withFindings b (findingsOf b))) z (asked-choice b l m));
-        answers = λ n. phase-answers _ (Phase.Cryptogram (requestedCryptogram m b)) k refl
+        answers = λ n. phase-answers _ (Phase.Waiting (AwaitedResponse.Cryptogram (requestedCryptogram m b))) k refl
             (waiting-answers (withFindings b (findingsOf b)) (running-complete _ (on-cryptogram _ k (requestedCryptogram m b) refl .runs)) (requestedCryptogram m b) (asked-choice b l m));
         traces = λ ps qs d t. record {
           early = λ z. apart z;
@@ -271,16 +272,16 @@ module _ (s : Session) (card buf : List ℕ) (i : inRanges s ≡ true) where
   mag-stripe-leaves : {st : Step} (m : ℕ) (b : List ℕ) → MagStripeWay m (ways.withStore s b) buf st → Leaves s c st
   mag-stripe-leaves m b (MagStripeWay.failed n r) = failed s c buf _ n b r
   mag-stripe-leaves m b (MagStripeWay.asked x f g) =
-      early s c buf (checksumPhase m) b x refl refl (λ z. apart z) (other-instruction 0x2A x (λ z. omega arith) (list.checksum-proper b x g)) (λ z. no-refusal z)
+      early s c buf (awaitedChecksum m) b x refl (λ z. apart z) (other-instruction 0x2A x (λ z. omega arith) (list.checksum-proper b x g)) (λ z. no-refusal z)
 
   record-leaves : {st : Step} (p : AwaitedRecord) (b : List ℕ) → length b ≡ storeSize → isEarly (s .phase) ≡ true → RecordWay p (ways.withStore s b) buf st → Leaves s c st
   record-leaves p b l y (RecordWay.next r e) =
-      early s c buf (recordPhase (p .limit) (p .number + 1)) b (readRecordCommand r) refl refl (λ z. y) (record-command r) (λ z. no-refusal z)
+      early s c buf (awaitedRecord (p .limit) (p .number + 1)) b (readRecordCommand r) refl (λ z. y) (record-command r) (λ z. no-refusal z)
   record-leaves p b l y (RecordWay.last e m w) = records-leaves (p .limit) b l y w
   record-leaves p b l y (RecordWay.striped e m w) = mag-stripe-leaves (p .limit) b w
 
   -- the answer to the checksum: an end with reason 0 says that no choice was made
-  module _ (k : AwaitedChecksum) (q : s .phase ≡ Phase.Checksum k) where
+  module _ (k : AwaitedChecksum) (q : s .phase ≡ Phase.Waiting (AwaitedResponse.Checksum k)) where
     ends : (x : Outcome) (d : List ℕ) → objectValue d 0x82 ≡ objectValue (storeBytes s) 0x82 → objectValue d 0xDF811B ≡ objectValue (storeBytes s) 0xDF811B
         → Leaves s c (withoutCommand (endedReply cvmNotApplicable (s .count) d (endingOf x reasonNone)) buf)
     ends x d e g j =

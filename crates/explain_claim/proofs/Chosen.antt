@@ -22,7 +22,6 @@ use Rattle.afl.specs.declared.CardRecord.{CardRecord}
 use Rattle.command.specs.ReadRecord.{readRecordCommand}
 use Rattle.command.specs.WithList.{commandWith, carriedIn, generateAc}
 use Rattle.command.proofs.Commands as list
-use Rattle.analysis.specs.Bits.{numberedBit}
 use Rattle.analysis.specs.Value.{firstBytes}
 use Rattle.analysis.specs.Choice.{stageHoldsBit, lowestBit, denialStage, onlineStage, defaultStage, noActionCodes, stageHolds, onlineCapabilityOf, generateAcP1}
 use Rattle.analysis.specs.Action.{terminalType, actionCodesOf}
@@ -34,6 +33,7 @@ use Rattle.laws.specs.Rank.{choiceRank}
 use Rattle.session_record.specs.declared.CallResult.{CallResult}
 use Rattle.session_record.specs.declared.RequestedCryptogram.{RequestedCryptogram}
 use Rattle.session_record.specs.declared.Ending.{Ending}
+use Rattle.session_record.specs.declared.AwaitedResponse.{AwaitedResponse}
 use Rattle.session_record.specs.declared.Phase.{Phase}
 use Rattle.session_record.specs.declared.Session.{Session}
 use Rattle.session_record.specs.Session.{storeBytes}
@@ -47,14 +47,14 @@ use Rattle.explain.specs.declared.Deciding.{Deciding}
 use Rattle.explain.specs.declared.Explanation.{Explanation}
 use Rattle.explain.specs.declared.Holder.{Holder}
 use Rattle.explain.specs.declared.Stage.{Stage}
-use Rattle.explain.specs.Explain.{storedTvr, storedChoice, stageBy, stageIn, decidingIn, holderBy, bitHolder, actionCodesOfStage, explainedByBit}
+use Rattle.explain.specs.Explain.{storedTvr, storedChoice, stageBy, stageIn, decidingIn, bitHolder, actionCodesOfStage, explainedByBit}
 use Rattle.explain.specs.Explain.{explainedAt, explainedWaiting, cryptogramRank, storedCryptogramType, requestedType, explainedDecision, explainedEnd}
 use Rattle.explain.specs.Explain.{cardAsksMagStripe, explainedInPhase, explanationOf}
 use Rattle.explain.specs.Promise.{choiceForcedBy, choiceUnforcedAt, BitNamed, NoBitNamed, ExplanationHolds}
 use Rattle.explain.proofs.Laws.{deciding-stage, ended-reason, by-reason, by-mag-stripe, by-choice, same-p1, told}
 use Rattle.explain_claim.specs.Explained.{awaitsCryptogram, isDecided, hasChoice, endsWithCode, generateAcs, p1s}
-use Rattle.explain_claim.specs.Explained.{choiceStores, AtChoice, tvrIn, consulted, holdsAt, isDenied}
-use Rattle.explain_claim.specs.Explained.{capabilityIn, DecidedAt, LowestAt, NoneAt, isCard, isTerminal, HeldBy}
+use Rattle.explain_claim.specs.Explained.{choiceStores, AtChoice, holdsAt, isDenied}
+use Rattle.explain_claim.specs.Explained.{capabilityIn, DecidedAt, LowestAt, NoneAt, HeldBy}
 use Rattle.explain_claim.specs.Explained.{explainedChoice, explainedStage, OneRank}
 use Rattle.explain_claim.proofs.Kept.{SameTerminal, SameCard, same-choice}
 
@@ -188,12 +188,12 @@ kept-on {ps} {qs} {b} {d} k t c r =
 
 -- before the last command
 abbrev pub isEarly : Phase → Bool
-isEarly Phase.Fresh          = true
-isEarly Phase.Gpo            = true
-isEarly (Phase.Record p)     = true
-isEarly (Phase.Cryptogram a) = false
-isEarly (Phase.Checksum c)   = false
-isEarly (Phase.Ended e)      = false
+isEarly Phase.Fresh                                    = true
+isEarly (Phase.Waiting AwaitedResponse.Gpo)            = true
+isEarly (Phase.Waiting (AwaitedResponse.Record p))     = true
+isEarly (Phase.Waiting (AwaitedResponse.Cryptogram a)) = false
+isEarly (Phase.Waiting (AwaitedResponse.Checksum c))   = false
+isEarly (Phase.Ended e)                                = false
 
 -- what holds of a session after calls that handed out ps, with the stores qs; code is whether the last of them brought
 -- a code
@@ -268,21 +268,8 @@ module _ (ps : List ℕ) (qs : List (List ℕ)) where
 
 -- ---- what explain reports of the store, it says of the one at the time of the choice
 
--- of the holder
-card-of : (x y : Bool) → isCard (holderBy x y) ≡ x
-card-of true true = refl
-card-of true false = refl
-card-of false true = refl
-card-of false false = refl
-
-terminal-of : (x y : Bool) → isTerminal (holderBy x y) ≡ y
-terminal-of true true = refl
-terminal-of true false = refl
-terminal-of false true = refl
-terminal-of false false = refl
-
 module _ {ps : List ℕ} {qs : List (List ℕ)} (b : List ℕ) (k : KeptChoice ps qs b) where
-  tvr-same : storedTvr b ≡ tvrIn (k .store)
+  tvr-same : storedTvr b ≡ storedTvr (k .store)
   tvr-same = ap (λ (v : StoredValue). firstBytes 5 (bytesOfValue v)) (k .results)
 
   codes-same : actionCodesOf b ≡ actionCodesOf (k .store)
@@ -295,7 +282,7 @@ module _ {ps : List ℕ} {qs : List (List ℕ)} (b : List ℕ) (k : KeptChoice p
   type-same : terminalType b ≡ terminalType (k .store)
   type-same = ap (λ (v : StoredValue). getD (bytesOfValue v) 0 0) (k .terminal .type)
 
-  pair-same : (stage : Stage) → actionCodesOfStage b stage ≡ consulted (k .store) stage
+  pair-same : (stage : Stage) → actionCodesOfStage b stage ≡ actionCodesOfStage (k .store) stage
   unfolding actionCodesOfStage
   pair-same Stage.Denial = ap (λ (l : List ActionCodes). getD l denialStage noActionCodes) codes-same
   pair-same Stage.OnlineOnly = refl
@@ -340,22 +327,7 @@ module _ {ps : List ℕ} {qs : List (List ℕ)} (b : List ℕ) (k : KeptChoice p
   then-none stage n i h = sym (bit-same stage i) ∙ n .none i h
 
   then-held : (c : Cause) → BitNamed b c → HeldBy c (k .store)
-  unfolding bitHolder
-  then-held c n =
-      record {
-        card = ap (λ (p : ActionCodes). numberedBit (p .card) (c .bit)) pair ∙ sym (ap isCard (n .holder) ∙ card-of x y);
-        terminal =
-            ap (λ (p : ActionCodes). numberedBit (p .terminal) (c .bit)) pair ∙ sym (ap isTerminal (n .holder) ∙ terminal-of x y);
-      }
-    where
-      pair : consulted (k .store) (c .stage) ≡ actionCodesOfStage b (c .stage)
-      pair = sym (pair-same (c .stage))
-
-      x : Bool
-      x = numberedBit (actionCodesOfStage b (c .stage) .card) (c .bit)
-
-      y : Bool
-      y = numberedBit (actionCodesOfStage b (c .stage) .terminal) (c .bit)
+  then-held c n = n .holder ∙ ap (λ (p : ActionCodes). bitHolder p (c .bit)) (pair-same (c .stage))
 
 -- ---- every explanation, as explain comes to it
 
@@ -429,10 +401,10 @@ module _ (ms : List CallMade) (s : Session) (i : inRanges s ≡ true) (t : Trace
     where
       go : (p : Phase) → s .phase ≡ p → ofChoice (explainedInPhase p (storeBytes s)) ≡ true → KeptBy ms s
       go Phase.Fresh q e = apart e
-      go Phase.Gpo q e = apart e
-      go (Phase.Record p) q e = apart e
-      go (Phase.Cryptogram a) q e = t .waiting (ap awaitsCryptogram q)
-      go (Phase.Checksum k) q e = apart e
+      go (Phase.Waiting AwaitedResponse.Gpo) q e = apart e
+      go (Phase.Waiting (AwaitedResponse.Record p)) q e = apart e
+      go (Phase.Waiting (AwaitedResponse.Cryptogram a)) q e = t .waiting (ap awaitsCryptogram q)
+      go (Phase.Waiting (AwaitedResponse.Checksum k)) q e = apart e
       go (Phase.Ended x) q e =
           elim (bool-cases (eqb (x .reason) reasonNone)) [
             | inl z ↦
@@ -469,11 +441,11 @@ module _ (ms : List CallMade) (s : Session) (i : inRanges s ≡ true) (t : Trace
       go : (p : Phase) → s .phase ≡ p
           → either (awaitsCryptogram p) (both (isDecided p) (not (magStripeMode (storeBytes s)))) ≡ true → ⊥
       go Phase.Fresh q w = apart w
-      go Phase.Gpo q w = apart w
-      go (Phase.Record p) q w = apart w
-      go (Phase.Cryptogram a) q w =
-          by-explained (phase-says (Phase.Cryptogram a) q) (waiting-explains (storeBytes s) a (decidingIn (storeBytes s)))
-      go (Phase.Checksum k) q w = apart w
+      go (Phase.Waiting AwaitedResponse.Gpo) q w = apart w
+      go (Phase.Waiting (AwaitedResponse.Record p)) q w = apart w
+      go (Phase.Waiting (AwaitedResponse.Cryptogram a)) q w =
+          by-explained (phase-says (Phase.Waiting (AwaitedResponse.Cryptogram a)) q) (waiting-explains (storeBytes s) a (decidingIn (storeBytes s)))
+      go (Phase.Waiting (AwaitedResponse.Checksum k)) q w = apart w
       go (Phase.Ended x) q w =
           let z = both-left (eqb (x .reason) reasonNone) _ w in
           let m = t .mode (ap isDecided q ∙ z) ∙ not-true _ (both-right (eqb (x .reason) reasonNone) _ w) in
@@ -557,10 +529,7 @@ module _ (ms : List CallMade) (s : Session) (i : inRanges s ≡ true) (t : Trace
       go : (p : Phase) → s .phase ≡ p → isDecided p ≡ true
           → cryptogramRank (requestedType (storedChoice (storeBytes s))) ≤ cryptogramRank (storedCryptogramType (storeBytes s))
       go Phase.Fresh q w = apart w
-      go Phase.Gpo q w = apart w
-      go (Phase.Record p) q w = apart w
-      go (Phase.Cryptogram a) q w = apart w
-      go (Phase.Checksum k) q w = apart w
+      go (Phase.Waiting r) q w = apart w
       go (Phase.Ended x) q w =
           elim (bool-cases (cardAsksMagStripe (storeBytes s))) [
             | inl m ↦

@@ -47,9 +47,9 @@ use Rattle.session_record.specs.declared.Session.{Session}
 use Rattle.session_record.specs.Session.{freshSession, endingOf, storeBytes}
 use Rattle.session_record.proofs.Phases.{fresh-keeps}
 use Rattle.start_data.specs.StartData.{terminalTypeListed, settableByStart, setObject, setObjects, loadStart}
-use Rattle.session.specs.Steps.{withTvr, withFindings}
+use Rattle.session.specs.Steps.{readThen, withTvr, withFindings}
 use Rattle.session.specs.Start.{askGpo}
-use Rattle.session.specs.Answer.{gpoStoreReason, afterGpoRead, gpoStep, gpoReason, recordStep, afterRecordRead, afterLastRecord, afterRecordsEmv, afterAnalysis, requestedCryptogram, askCryptogram, cryptogramOutcome, cryptogramEnding, cryptogramReply}
+use Rattle.session.specs.Answer.{afterGpo, gpoNext, gpoReason, recordNext, afterRecord, afterLastRecord, afterRecordsEmv, requestedCryptogram, askCryptogram, cryptogramOutcome, cryptogramEnding, cryptogramNext}
 use Rattle.session_claim.specs.Calls.{commandsSent, callsAccepted, lastElement}
 use Rattle.session.specs.Calls.{Call, start, answer, CallMade, playCalls, finalSession}
 use Rattle.session_claim.proofs.Trace.{call-keeps}
@@ -115,16 +115,17 @@ unfolding explanationOf
 by-phase cs = if-yes _ _ (kept freshSession fresh-keeps cs) ∙ ap (λ (s : Session). explainedInPhase (s .phase) (storeBytes s)) (final-in freshSession fresh-keeps cs)
 
 pub worked : Worked
-unfolding playIn finalIn callsAccepted lastElement commandsSent generateAcs iacBrought bringsIac reasonMatchesOutcome outcomeOfReason
-    cryptogramDataPresent askGpo getProcessingOptions gpoCommandOf dolDataBy dolData dolEntries recurse recurseBy entriesNext lengthBytes entryWithLength dolEntryAt entryBefore truncated paddingByte padded
-    fittedTo dolEntryBytes carriedIn generateAc gpoStep gpoStoreReason afterGpoRead aflRecordAt kthRecord nthRecord acceptsAfl wholeEntries entriesOf validEntry sumOverEntries entriesRecords runOf readAnswer isResponseLength isStatus9000
-    isRead readBody responseBody primitiveParts gpoParts templateParts parseTree nextOf withLeaf withNode objectCount primitiveItems takeAll takeNext takeItem allowedNow allowedInResponse allowedInTemplate withTvr withFindings rowNumberOf
-    loadStart primitiveObjects objectBefore primitiveOf headerOf tagAt tagSize tagSecondByte tagThirdByte lengthAt tagFirstByte isTemplate isPrivate bigEndianFrom if both either every dictionaryRows rowPast findRow settableByStart setObject
-    setObjects fitsRow digitsFit numeric nibbles digitsThenFs compressed terminalTypeListed listedTerminalType rowOffset rowPlace placeValue rowValue putRow objectValueIn allRequiredPresent isPresentIfRequired recordStep afterRecordRead afterLastRecord afterRecordsEmv afterAnalysis
-    requestedCryptogram askCryptogram hasOnDeviceCvm onDeviceCvm transactionLimit aboveTransactionLimit aucViolatedIn restrictionsByte tvrOf sameCurrency cvmConditionsIn cvmResultIn tvrWithCvm findingsOf actionCodesOf choiceFor numberedBit firstBytes bcdFrom yearOf dateOf dateLater
-    amountOf amountAbove versionDiffers notYetEffective atAtm issuerCountryOf cashbackRequested aucViolated tvrWithBits stageHoldsBit lowestFrom lowestBit iacCode stageHolds onlineCapabilityAt choiceOf cvmRulesFrom cvmRecognised
-    cvmSupported cvmConditionMet takenBy cvmUnsuccessful byCvmRules cvmProcessing bytesEqual cryptogramOutcome cryptogramEnding cryptogramReply
-    stageIn decidingIn bitHolder actionCodesOfStage explainedAt cryptogramRank explainedEnd explainedEndBy lengthByte
+unfolding playIn finalIn callsAccepted lastElement commandsSent generateAcs iacBrought bringsIac reasonMatchesOutcome outcomeOfReason cryptogramDataPresent askGpo getProcessingOptions gpoCommandOf
+    dolDataBy dolData dolEntries recurse recurseBy entriesNext lengthBytes entryWithLength dolEntryAt entryBefore truncated paddingByte padded fittedTo dolEntryBytes carriedIn generateAc gpoNext
+    readThen afterGpo aflRecordAt kthRecord nthRecord acceptsAfl wholeEntries entriesOf validEntry sumOverEntries entriesRecords runOf readAnswer isResponseLength isStatus9000 isRead readBody
+    responseBody primitiveParts gpoParts templateParts parseTree nextOf withLeaf withNode objectCount primitiveItems takeAll takeNext takeItem allowedNow allowedInResponse allowedInTemplate withTvr
+    withFindings rowNumberOf loadStart primitiveObjects objectBefore primitiveOf headerOf tagAt tagSize tagSecondByte tagThirdByte lengthAt tagFirstByte isTemplate isPrivate bigEndianFrom if both
+    either every dictionaryRows rowPast findRow settableByStart setObject setObjects fitsRow digitsFit numeric nibbles digitsThenFs compressed terminalTypeListed listedTerminalType rowOffset rowPlace
+    placeValue rowValue putRow objectValueIn allRequiredPresent isPresentIfRequired recordNext afterRecord afterLastRecord afterRecordsEmv requestedCryptogram askCryptogram hasOnDeviceCvm onDeviceCvm
+    transactionLimit aboveTransactionLimit aucViolatedIn restrictionsByte tvrOf sameCurrency cvmConditionsIn cvmResultIn tvrWithCvm findingsOf actionCodesOf choiceFor numberedBit firstBytes bcdFrom
+    yearOf dateOf dateLater amountOf amountAbove versionDiffers notYetEffective atAtm issuerCountryOf cashbackRequested aucViolated tvrWithBits stageHoldsBit lowestFrom lowestBit iacCode stageHolds
+    onlineCapabilityAt choiceOf cvmRulesFrom cvmRecognised cvmSupported cvmConditionMet takenBy cvmUnsuccessful byCvmRules cvmProcessing bytesEqual cryptogramOutcome cryptogramEnding
+    cryptogramNext stageIn decidingIn bitHolder actionCodesOfStage explainedAt cryptogramRank explainedEnd explainedEndBy lengthByte
 worked =
     record {
       brought-end = ap (λ (s : Session). s .phase) (final-in freshSession fresh-keeps (purchase (cryptogramAnswer 0x1E denialCode)));

@@ -30,7 +30,7 @@ use Rattle.analysis.specs.Action.{actionCodesOf, choiceFor, findingsOf}
 use Rattle.analysis.specs.declared.action.AnalysisFindings.{AnalysisFindings}
 use Rattle.analysis.proofs.Value.{front-whole}
 use Rattle.analysis.proofs.Laws.{found-length, bits-length}
-use Rattle.session_record.specs.Clauses.{AllObjectsFit}
+use Rattle.session_record.proofs.Clauses.{AllObjectsFit}
 use Rattle.session_record.proofs.Values.{absent-of, held-length}
 use Rattle.session.specs.Steps.{withFindings}
 use Rattle.session.specs.Answer.{requestedCryptogram}

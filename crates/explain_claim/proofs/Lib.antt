@@ -1,3 +1,4 @@
+pub mod HolderParts
 pub mod Kept
 pub mod Chosen
 pub mod Calls

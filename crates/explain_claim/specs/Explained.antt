@@ -10,19 +10,16 @@ use mathlib.Core.List.{List, [], _∷_, _++_, map}
 use mathlib.Core.Option.{Option, some, none}
 use Prim.Native.Nat.{ℕ, _≤_, _<_}
 use lib.ListN.{getD}
-use Rattle.basics.specs.Types.{Bytes, StoreBytes, CommandBytes, TvrBytes, Byte, Tag}
+use Rattle.basics.specs.Types.{StoreBytes, CommandBytes, Byte, Tag}
 use Rattle.basics.specs.Choice.{if_then_else_, _and_, _or_, _=?_}
 use Rattle.basics.specs.Reason.{reasonNone}
-use Rattle.store.specs.Held.{hasObject, lacksObject, storedBytes}
-use Rattle.analysis.specs.Value.{firstBytes}
-use Rattle.analysis.specs.Bits.{numberedBit}
-use Rattle.analysis.specs.Choice.{stageHoldsBit, denialStage, onlineStage, defaultStage, zeroCode, noActionCodes}
-use Rattle.analysis.specs.Choice.{stageHolds, onlineCapabilityOf, generateAcP1}
+use Rattle.store.specs.Held.{hasObject, lacksObject}
+use Rattle.analysis.specs.Choice.{stageHoldsBit, denialStage, stageHolds, onlineCapabilityOf, generateAcP1}
 use Rattle.analysis.specs.Action.{terminalType, actionCodesOf}
 use Rattle.analysis.specs.declared.choice.OnlineCapability.{OnlineCapability}
 use Rattle.analysis.specs.declared.choice.Choice.{Choice}
-use Rattle.analysis.specs.declared.choice.ActionCodes.{ActionCodes}
 use Rattle.laws.specs.Rank.{choiceRank}
+use Rattle.session_record.specs.declared.AwaitedResponse.{AwaitedResponse}
 use Rattle.session_record.specs.declared.Phase.{Phase}
 use Rattle.session_record.specs.declared.Session.{Session}
 use Rattle.session_record.specs.Session.{storeBytes}
@@ -32,31 +29,27 @@ use Rattle.session.specs.Calls.{CallMade, callResult, commandSent}
 use Rattle.session_claim.specs.Order.{beginsWith}
 use Rattle.explain.specs.declared.Cause.{Cause}
 use Rattle.explain.specs.declared.Explanation.{Explanation}
-use Rattle.explain.specs.declared.Holder.{Holder}
 use Rattle.explain.specs.declared.Stage.{Stage}
-use Rattle.explain.specs.Explain.{storedChoice, cryptogramRank, storedCryptogramType, requestedType, cardAsksMagStripe}
-use Rattle.explain.specs.Explain.{explanationOf}
+use Rattle.explain.specs.Explain.{storedTvr, storedChoice, bitHolder, actionCodesOfStage, cryptogramRank}
+use Rattle.explain.specs.Explain.{storedCryptogramType, requestedType, cardAsksMagStripe, explanationOf}
 use Rattle.explain.specs.Promise.{choiceForcedBy, choiceUnforcedAt}
 
 -- ---- an answer that brought a code
 
 -- the cryptogram is awaited
 abbrev pub awaitsCryptogram : Phase → Bool
-awaitsCryptogram Phase.Fresh          = false
-awaitsCryptogram Phase.Gpo            = false
-awaitsCryptogram (Phase.Record p)     = false
-awaitsCryptogram (Phase.Cryptogram a) = true
-awaitsCryptogram (Phase.Checksum c)   = false
-awaitsCryptogram (Phase.Ended e)      = false
+awaitsCryptogram Phase.Fresh                                    = false
+awaitsCryptogram (Phase.Waiting AwaitedResponse.Gpo)            = false
+awaitsCryptogram (Phase.Waiting (AwaitedResponse.Record p))     = false
+awaitsCryptogram (Phase.Waiting (AwaitedResponse.Cryptogram a)) = true
+awaitsCryptogram (Phase.Waiting (AwaitedResponse.Checksum c))   = false
+awaitsCryptogram (Phase.Ended e)                                = false
 
 -- a decision was reached: ended with reason 0
 abbrev pub isDecided : Phase → Bool
-isDecided Phase.Fresh          = false
-isDecided Phase.Gpo            = false
-isDecided (Phase.Record p)     = false
-isDecided (Phase.Cryptogram a) = false
-isDecided (Phase.Checksum c)   = false
-isDecided (Phase.Ended e)      = e .reason =? reasonNone
+isDecided Phase.Fresh       = false
+isDecided (Phase.Waiting w) = false
+isDecided (Phase.Ended e)   = e .reason =? reasonNone
 
 -- an object that was absent is present
 abbrev pub bringsObject : StoreBytes → StoreBytes → Tag → Bool
@@ -111,24 +104,13 @@ pub record AtChoice (ms : List CallMade) (P : StoreBytes → Type 0) : Type 0 wh
 
 -- ---- what decided on a store (document 01, "Result bits and the choice"), by TVR, type and codes alone
 
--- the TVR
-abbrev pub tvrIn : StoreBytes → TvrBytes
-tvrIn b = firstBytes 5 (storedBytes b 0x95)
-
--- the codes that a stage consults, the card's and the terminal's; the online-only type has none: zeros
-abbrev pub consulted : StoreBytes → Stage → ActionCodes
-consulted b Stage.Denial     = getD (actionCodesOf b) denialStage noActionCodes
-consulted b Stage.OnlineOnly = record { card = zeroCode; terminal = zeroCode }
-consulted b Stage.Default    = getD (actionCodesOf b) defaultStage noActionCodes
-consulted b Stage.Online     = getD (actionCodesOf b) onlineStage noActionCodes
-
 -- bit i of TVR is set, and in a code of the stage
 abbrev pub holdsAt : StoreBytes → Stage → ℕ → Bool
-holdsAt b stage i = stageHoldsBit (tvrIn b) (consulted b stage) i
+holdsAt b stage i = stageHoldsBit (storedTvr b) (actionCodesOfStage b stage) i
 
 -- a bit of TVR is in a denial code, and what the terminal's type allows
 abbrev pub isDenied : StoreBytes → Bool
-isDenied b = stageHolds (tvrIn b) (actionCodesOf b) denialStage
+isDenied b = stageHolds (storedTvr b) (actionCodesOf b) denialStage
 
 abbrev pub capabilityIn : StoreBytes → OnlineCapability
 capabilityIn b = onlineCapabilityOf (terminalType b)
@@ -150,23 +132,9 @@ pub record LowestAt (stage : Stage) (i : ℕ) (b : StoreBytes) : Type 0 where
 abbrev pub NoneAt : Stage → StoreBytes → Type 0
 NoneAt stage b = (i : ℕ) → i < 40 → holdsAt b stage i ≡ false
 
--- whether a holder is the card's code, and whether it is the terminal's
-abbrev pub isCard : Holder → Bool
-isCard Holder.Nobody   = false
-isCard Holder.Card     = true
-isCard Holder.Terminal = false
-isCard Holder.Both     = true
-
-abbrev pub isTerminal : Holder → Bool
-isTerminal Holder.Nobody   = false
-isTerminal Holder.Card     = false
-isTerminal Holder.Terminal = true
-isTerminal Holder.Both     = true
-
--- the bit is in the card's code of its stage, and in the terminal's, exactly as the holder says
-pub record HeldBy (c : Cause) (b : StoreBytes) : Type 0 where
-  pub card : numberedBit (consulted b (c .stage) .card) (c .bit) ≡ isCard (c .holder)
-  pub terminal : numberedBit (consulted b (c .stage) .terminal) (c .bit) ≡ isTerminal (c .holder)
+-- the holder is the one whose code of the stage has the bit, the card's, the terminal's or both
+abbrev pub HeldBy : Cause → StoreBytes → Type 0
+HeldBy c b = c .holder ≡ bitHolder (actionCodesOfStage b (c .stage)) (c .bit)
 
 -- ---- what is explained
 

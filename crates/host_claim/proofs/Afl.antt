@@ -2,38 +2,40 @@
 -- exactly where the rules give no reason. So the word of that answer reports whether its AFL is accepted.
 -- Assumes nothing.
 use mathlib.Core.Path.{_≡_, refl, sym, ap, subst, _∙_}
-use mathlib.Core.Bool.{Bool, false}
+use mathlib.Core.Bool.{Bool, true, false}
 use mathlib.Core.List.{List, map}
 use mathlib.Core.Option.{Option, some, none}
 use Prim.Native.Nat.{ℕ}
 use lib.Dec.{eqb}
 use Rattle.basics.specs.Choice.{if}
 use Rattle.basics.proofs.Laws.{if-ind}
+use Rattle.session_record.specs.declared.AwaitedResponse.{AwaitedResponse}
 use Rattle.session_record.specs.declared.Phase.{Phase}
 use Rattle.session_record.specs.declared.Session.{Session}
 use Rattle.session_record.specs.Session.{storeBytes, freshSession}
-use Rattle.session.specs.Steps.{Step, admittedStep}
-use Rattle.session.specs.Answer.{gpoReason, answerIn, answerStep}
+use Rattle.session.specs.Steps.{Step, stepOf, admittedStep, whileRunning}
+use Rattle.session.specs.Answer.{gpoReason, responseNext, answerStep}
+use Rattle.session.proofs.Results.{isCommand}
 use Rattle.layout.specs.Word.{resultWord}
-use Rattle.session_claim.specs.Calls.{callsAccepted}
-use Rattle.session.specs.Calls.{Call, start, answer, link-failed, stop, callStep, CallMade, callMade, playCalls, isRefusal, isCommand, callRefused}
-use Rattle.session_claim.specs.Order.{responseAfl, firstAnswer, aflByCall, aflByFirstAnswer, acceptedAfl}
+use Rattle.session_claim.specs.Calls.{isAnswer, callsAccepted}
+use Rattle.session.specs.Calls.{Call, start, answer, link-failed, stop, callStep, CallMade, callMade, playCalls, isRefusal, callRefused}
+use Rattle.session_claim.specs.Order.{responseAfl, firstAnswer, acceptedAfl}
 use Rattle.session_claim.proofs.Rules.{hands-by-rules, first-on-gpo}
 use Rattle.basics.proofs.Laws.{no}
 use Rattle.host.proofs.Sizes.{Small}
-use Rattle.host_claim.specs.Words.{isCommandWord, aflRead, hostAfl}
+use Rattle.host_claim.specs.Words.{notRefused, firstAnswerCall, hostAfl}
 use Rattle.host_claim.specs.Claim.{asCompleted}
-use Rattle.host_claim.proofs.Read.{word-command, Known, play-known, taken-all, first-all, asRead, read-first-taken}
+use Rattle.host_claim.proofs.Read.{word-command, Known, play-known, taken-all, first-all, asRead, first-answers, read-first-taken}
 
 -- an answer that is taken while the answer to GPO is awaited
-module _ (s : Session) (card buf : List ℕ) (q : s .phase ≡ Phase.Gpo) where
+module _ (s : Session) (card buf : List ℕ) (q : s .phase ≡ Phase.Waiting AwaitedResponse.Gpo) where
   command-by-rules : isRefusal (answerStep s card buf .reply .answer) ≡ false
       → isCommand (answerStep s card buf .reply .answer) ≡ eqb (gpoReason (storeBytes s) card) 0
   unfolding admittedStep
   command-by-rules =
       if-ind P _ _ _ (λ e h. no (sym h))
       (λ e. if-ind P _ _ _ (λ r h. no (sym h))
-      (λ r. subst (λ (p : Phase). P (answerIn p s card buf)) (sym q)
+      (λ r. subst (λ (p : Phase). P (stepOf s buf (whileRunning p (responseNext (storeBytes s) card)))) (sym q)
       (λ h. hands-by-rules (s .count) (storeBytes s) card buf)))
     where
       P : Step → Type 0
@@ -41,34 +43,30 @@ module _ (s : Session) (card buf : List ℕ) (q : s .phase ≡ Phase.Gpo) where
           isRefusal (st .reply .answer) ≡ false
           → isCommand (st .reply .answer) ≡ eqb (gpoReason (storeBytes s) card) 0
 
--- a choice between none and none
-neither : (b : Bool) → _≡_ {A = Option (List ℕ)} (if b none none) none
-neither b = if-ind (λ (x : Option (List ℕ)). x ≡ none) b none none (λ e. refl) (λ e. refl)
-
-afl-of : (s : Session) (c : Call) (st : Step) → st ≡ callStep s c → Small (st .reply .answer)
-    → isRefusal (st .reply .answer) ≡ false → s .phase ≡ Phase.Gpo
-    → aflRead (some (asCompleted (callMade s c st))) ≡ aflByCall s c
-afl-of s (start bytes buf) st e h t q = neither (isCommandWord (resultWord (st .reply .answer)))
-afl-of s (answer card buf) st e h t q =
+-- an answer, and no other call
+afl-of : (s : Session) (c : Call) (st : Step) → isAnswer c ≡ true → st ≡ callStep s c → Small (st .reply .answer)
+    → isRefusal (st .reply .answer) ≡ false → s .phase ≡ Phase.Waiting AwaitedResponse.Gpo
+    → hostAfl (some (asCompleted (callMade s c st))) ≡ acceptedAfl (some (callMade s c st))
+afl-of s (start bytes buf) st a e h t q = no (sym a)
+afl-of s (answer card buf) st a e h t q =
     let r = sym (ap (λ (x : Step). isRefusal (x .reply .answer)) e) ∙ t in
     ap (λ (b : Bool). if b (responseAfl card) none)
     (word-command (st .reply .answer) h ∙ ap (λ (x : Step). isCommand (x .reply .answer)) e
     ∙ command-by-rules s card buf q r)
-afl-of s (link-failed buf) st e h t q = neither (isCommandWord (resultWord (st .reply .answer)))
-afl-of s (stop buf) st e h t q = neither (isCommandWord (resultWord (st .reply .answer)))
+afl-of s (link-failed buf) st a e h t q = no (sym a)
+afl-of s (stop buf) st a e h t q = no (sym a)
 
 pub read-afl : (cs : List Call)
-    → hostAfl (map asCompleted (playCalls freshSession cs)) ≡ acceptedAfl (playCalls freshSession cs)
-unfolding hostAfl acceptedAfl
-read-afl cs = ap aflRead (read-first-taken ms (play-known freshSession cs)) ∙ go (firstAnswer (callsAccepted ms)) refl
+    → hostAfl (firstAnswerCall (notRefused (map asCompleted (playCalls freshSession cs)))) ≡ acceptedAfl (firstAnswer (callsAccepted (playCalls freshSession cs)))
+read-afl cs = ap hostAfl (read-first-taken ms (play-known freshSession cs)) ∙ go (firstAnswer (callsAccepted ms)) refl
   where
     ms : List CallMade
     ms = playCalls freshSession cs
 
-    go : (x : Option CallMade) → firstAnswer (callsAccepted ms) ≡ x → aflRead (asRead x) ≡ aflByFirstAnswer x
+    go : (x : Option CallMade) → firstAnswer (callsAccepted ms) ≡ x → hostAfl (asRead x) ≡ acceptedAfl x
     go none e = refl
     go (some m) e =
         let known = taken-all Known ms (play-known freshSession cs) in
         let k = first-all (λ x. Known x × (callRefused x ≡ false)) (callsAccepted ms) m known e in
-        afl-of (m .before) (m .call) (m .step) (k .0 .is-step) (k .0 .small) (k .1)
+        afl-of (m .before) (m .call) (m .step) (first-answers (callsAccepted ms) m e) (k .0 .is-step) (k .0 .small) (k .1)
         (first-on-gpo freshSession cs m refl e)

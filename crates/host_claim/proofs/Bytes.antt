@@ -18,7 +18,7 @@ use Rattle.session_record.specs.declared.Session.{Session}
 use Rattle.session_record.specs.Ranges.{inRanges}
 use Rattle.session_record.proofs.Phases.{store-size}
 use Rattle.session.specs.Steps as steps
-use Rattle.session.specs.Steps.{Step, leastBuffer, admittedStep, linkFailedStep, stopStep}
+use Rattle.session.specs.Steps.{Step, CallEffect, leastBuffer, admittedStep, linkFailedStep, stopStep}
 use Rattle.session.specs.Start.{startStep}
 use Rattle.session.specs.Answer.{answerStep}
 use Rattle.layout.specs.Layout.{recordSize, encodedSession, withSessionRecord, decodedSession}
@@ -59,10 +59,10 @@ module _ (s : Session) (i : inRanges s ≡ true) (l : List ℕ) (h : recordSize 
 -- ---- a call
 
 -- a buffer that is too short is refused with 22 by both
-short : (s : Session) (buf : List ℕ) (st : Step) → ltb (length buf) leastBuffer ≡ true
-    → admittedStep s buf st ≡ steps.refusedStep s refusedBuffer buf
+short : (s : Session) (buf : List ℕ) (x : CallEffect) → ltb (length buf) leastBuffer ≡ true
+    → admittedStep s buf x ≡ steps.refusedStep s refusedBuffer buf
 unfolding admittedStep
-short s buf st t = if-yes _ _ t
+short s buf x t = if-yes _ _ t
 
 module _ (l : List ℕ) (s : Session) (e : decodedSession l ≡ some s) where
   call-is : (f : Session → List ℕ → Step) (buf : List ℕ)

@@ -29,7 +29,7 @@ use Rattle.step_laws.proofs.Refusals.{Other, never-ranges}
 use Rattle.host.specs.Hosted.{HostResult, HostOpened, hostOpenWord}
 use Rattle.host.proofs.Sizes.{Small}
 use Rattle.host_claim.specs.Calls.{HostCall, opening, on-session, CompletedCall, completedCall, completedCalls, bytesAfter}
-use Rattle.host_claim.specs.Words.{isNotRanges, beginsAnew, openingAmong, sinceOpening, hostCommands, notRefused, hostUnanswered, hostAfl, hostLastKind}
+use Rattle.host_claim.specs.Words.{isNotRanges, beginsAnew, openingAmong, sinceOpening, hostCommands, notRefused, hostUnanswered, firstAnswerCall, hostAfl, hostLastKind}
 use Rattle.host_claim.specs.Claim.{HostDemand3, sessionCalls, asCompleted, SameAsSession, HostClaim}
 use Rattle.host_claim.proofs.Bytes.{record-held, record-behind, record-enough, record-over, as-session}
 use Rattle.host_claim.proofs.Read.{step-small}
@@ -196,8 +196,8 @@ module _ (before : List ℕ) (enough : recordSize ≤ length before) where
           same-commands = ap hostCommands (h .words) ∙ commands-same cs;
           same-taken = ap notRefused (h .words) ∙ taken-same cs;
           same-unanswered = ap hostUnanswered (h .words) ∙ unanswered-same cs;
-          same-afl = ap hostAfl (h .words) ∙ afl-same cs;
-          same-last-kind = ap hostLastKind (h .words) ∙ last-kind-same cs;
+          same-afl = ap (λ (xs : List CompletedCall). hostAfl (firstAnswerCall (notRefused xs))) (h .words) ∙ afl-same cs;
+          same-last-kind = ap (λ (xs : List CompletedCall). hostLastKind (firstAnswerCall (notRefused xs))) (h .words) ∙ last-kind-same cs;
         }
 
     since-proper : HostDemand3 x l

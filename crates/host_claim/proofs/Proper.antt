@@ -1,4 +1,4 @@
--- Demand 3 of session's calls, read off their words and buffers: trace's claim, each part by the reading that is the
+-- Demand 3 of session's calls, read off their words and buffers: the claim of session_claim, each part by the reading that is the
 -- same.
 -- Assumes nothing.
 use mathlib.Core.Path.{_≡_, refl, sym, ap, _∙_}
@@ -13,14 +13,14 @@ use Rattle.session_record.proofs.Phases.{fresh-keeps}
 use Rattle.layout.specs.Layout.{decodedSession}
 use Rattle.session_claim.specs.Calls.{commandsSent, callsAccepted, unansweredCommands, lastElement}
 use Rattle.session.specs.Calls.{Call, CallMade, playCalls, finalSession}
-use Rattle.session_claim.specs.Order.{commandKind, publishedOrder, lastKind, acceptedAfl}
+use Rattle.session_claim.specs.Order.{commandKind, firstAnswer, publishedOrder, lastKind, acceptedAfl}
 use Rattle.session_claim.specs.Claim.{mostCommandsFor, SessionProper}
 use Rattle.session_claim.proofs.Trace.{always}
 use Rattle.host.specs.Hosted.{countWord}
 use Rattle.host_claim.specs.Calls.{CompletedCall}
-use Rattle.host_claim.specs.Words.{hostCommands, notRefused, hostUnanswered, hostAfl, hostLastKind}
+use Rattle.host_claim.specs.Words.{hostCommands, notRefused, hostUnanswered, firstAnswerCall, hostAfl, hostLastKind}
 use Rattle.host_claim.specs.Claim.{HostDemand3, asCompleted}
-use Rattle.host_claim.proofs.Read.{All, Known, play-known, read-commands, read-taken, read-unanswered, read-last-kind, read-none, read-last-command, read-last-outcome}
+use Rattle.host_claim.proofs.Read.{All, Known, play-known, read-commands, read-taken, read-unanswered, read-last-kind, read-stage}
 use Rattle.host_claim.proofs.Afl.{read-afl}
 
 module _ (cs : List Call) where
@@ -48,10 +48,10 @@ module _ (cs : List Call) where
   pub unanswered-same : hostUnanswered hs ≡ unansweredCommands ms
   unanswered-same = read-unanswered ms known
 
-  pub afl-same : hostAfl hs ≡ acceptedAfl ms
+  pub afl-same : hostAfl (firstAnswerCall (notRefused hs)) ≡ acceptedAfl (firstAnswer (callsAccepted ms))
   afl-same = read-afl cs
 
-  pub last-kind-same : hostLastKind hs ≡ lastKind ms
+  pub last-kind-same : hostLastKind (firstAnswerCall (notRefused hs)) ≡ lastKind (firstAnswer (callsAccepted ms))
   last-kind-same = read-last-kind ms known
 
   taken-number : length (notRefused hs) ≡ length (callsAccepted ms)
@@ -71,9 +71,7 @@ module _ (cs : List Call) where
         count = ap countWord e ∙ p .count ∙ sym number;
         bound = omega (arith, p .bound, number, ap mostCommandsFor afl-same);
         never-over = omega (arith, p .never-over, number);
-        fresh = p .fresh ∙ sym (read-none ms known);
-        running = p .running ∙ sym (read-last-command ms known);
-        ended = p .ended ∙ sym (read-last-outcome ms known);
+        stage = p .stage ∙ sym (read-stage ms known);
         one-unanswered = λ w. ap length unanswered-same ∙ p .one-unanswered w;
         last-unanswered = λ w. ap lastElement unanswered-same ∙ p .last-unanswered w ∙ sym (ap lastElement commands-same);
         calls = omega (arith, p .calls, number, taken-number);

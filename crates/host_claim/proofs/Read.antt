@@ -1,9 +1,9 @@
--- What is read off the words and the buffers of session's calls is what trace reads off their replies: a word tells
+-- What is read off the words and the buffers of session's calls is what session_claim reads off their replies: a word tells
 -- command, outcome and refusal apart, and a command's length, since no call hands out more than 261 bytes. Each reading
 -- by induction over the calls.
 -- Assumes nothing.
 use mathlib.Core.Path.{_≡_, refl, sym, ap, ap₂, _∙_}
-use mathlib.Core.Bool.{Bool, false}
+use mathlib.Core.Bool.{Bool, true, false}
 use mathlib.Core.List.{List, [], _∷_, _++_, map}
 use mathlib.Core.Option.{Option, some, none}
 use Prim.Native.Nat.{ℕ}
@@ -16,13 +16,14 @@ use Rattle.session_record.specs.declared.CallResult.{CallResult}
 use Rattle.session_record.specs.declared.Session.{Session}
 use Rattle.layout.specs.Word.{wordKind, kindCommand, kindOutcome, kindRefusal, resultWord}
 use Rattle.session_claim.specs.Calls.{commandsSent, callsAccepted, lastElement, isAnswer, hasAnswer, notAnswered, unansweredCommands}
-use Rattle.session.specs.Calls.{Call, start, answer, link-failed, stop, callStep, CallMade, playCalls, isRefusal, isCommand, isOutcome, callResult, callRefused, commandSent}
-use Rattle.session_claim.specs.Order.{firstAnswer, lastKindIn, lastKind}
-use Rattle.session_claim.specs.Claim.{noCallAccepted, lastCommand, lastOutcome}
+use Rattle.session.specs.Calls.{Call, start, answer, link-failed, stop, callStep, CallMade, playCalls, isRefusal, callResult, callRefused, commandSent}
+use Rattle.session.proofs.Results.{isCommand, isOutcome}
+use Rattle.session_claim.specs.Order.{firstAnswer, lastKind}
+use Rattle.session_claim.specs.Claim.{stageBy, stageAfter}
 use Rattle.host.proofs.Sizes.{Small, SmallStep, start-small, answer-small, link-small, stop-small}
 use Rattle.host.proofs.Laws.{tells}
 use Rattle.host_claim.specs.Calls.{CompletedCall}
-use Rattle.host_claim.specs.Words.{isCommandWord, isOutcomeWord, isRefusalWord, hostCommands, notRefused, answerAmong, withoutAnswer, hostUnanswered, firstAnswerCall, lastKindRead, hostLastKind, isNone, isLastCommand, isLastOutcome}
+use Rattle.host_claim.specs.Words.{isCommandWord, isOutcomeWord, isRefusalWord, hostCommands, notRefused, answerAmong, withoutAnswer, hostUnanswered, firstAnswerCall, hostLastKind, stageByWord, hostStage}
 use Rattle.host_claim.specs.Claim.{asCompleted}
 
 -- ---- a word
@@ -57,6 +58,12 @@ word-refusal : (a : CallResult) → Small a → isRefusalWord (resultWord a) ≡
 word-refusal (CallResult.Command c) h = kind-read (CallResult.Command c) h kindRefusal
 word-refusal (CallResult.Outcome e) h = kind-read (CallResult.Outcome e) h kindRefusal
 word-refusal (CallResult.Refused r) h = kind-read (CallResult.Refused r) h kindRefusal
+
+-- the stage that a word reports is the one of the answer
+word-stage : (a : CallResult) → Small a → stageByWord (resultWord a) ≡ stageBy a
+word-stage (CallResult.Command c) h = if-yes _ _ (word-command (CallResult.Command c) h)
+word-stage (CallResult.Outcome e) h = if-no _ _ (word-command (CallResult.Outcome e) h) ∙ if-yes _ _ (word-outcome (CallResult.Outcome e) h)
+word-stage (CallResult.Refused r) h = if-no _ _ (word-command (CallResult.Refused r) h) ∙ if-no _ _ (word-outcome (CallResult.Refused r) h)
 
 -- the command of a call, by its word
 command-read : (a : CallResult) (buf : List ℕ) → Small a
@@ -106,6 +113,15 @@ first-all P (x ∷ ms) m k e =
   where
     found : some x ≡ some m → P m
     found q = let r : x ≡ m = cc in rw r at (k .0)
+
+-- the first answer is an answer
+pub first-answers : (ms : List CallMade) (m : CallMade) → firstAnswer ms ≡ some m → isAnswer (m .call) ≡ true
+unfolding firstAnswer
+first-answers [] m e = let z : _≡_ {A = ℕ} 0 1 = cc in absurd (omega arith)
+first-answers (x ∷ ms) m e =
+    if-ind (λ (o : Option CallMade). o ≡ some m → isAnswer (m .call) ≡ true) (isAnswer (x .call)) _ _
+    (λ t q. let r : x ≡ m = cc in ap (λ (y : CallMade). isAnswer (y .call)) (sym r) ∙ t)
+    (λ t. first-answers ms m) e
 
 last-all : (P : CallMade → Type 0) (ms : List CallMade) (m : CallMade) → All P ms → lastElement ms ≡ some m → P m
 unfolding lastElement
@@ -174,40 +190,19 @@ read-last [] = refl
 read-last (x ∷ []) = refl
 read-last (x ∷ y ∷ ms) = read-last (y ∷ ms)
 
-by-kind : (x : Option CallMade) → lastKindRead (asRead x) ≡ lastKindIn x
+by-kind : (x : Option CallMade) → hostLastKind (asRead x) ≡ lastKind x
 by-kind none = refl
 by-kind (some m) = refl
 
-pub read-last-kind : (ms : List CallMade) → All Known ms → hostLastKind (map asCompleted ms) ≡ lastKind ms
-unfolding hostLastKind lastKind
-read-last-kind ms k = ap lastKindRead (read-first-taken ms k) ∙ by-kind (firstAnswer (callsAccepted ms))
+pub read-last-kind : (ms : List CallMade) → All Known ms
+    → hostLastKind (firstAnswerCall (notRefused (map asCompleted ms))) ≡ lastKind (firstAnswer (callsAccepted ms))
+read-last-kind ms k = ap hostLastKind (read-first-taken ms k) ∙ by-kind (firstAnswer (callsAccepted ms))
 
 -- ---- what the last call taken says
 
-module _ (ms : List CallMade) (k : All Known ms) where
-  last-read : lastElement (notRefused (map asCompleted ms)) ≡ asRead (lastElement (callsAccepted ms))
-  last-read = ap lastElement (read-taken ms k) ∙ read-last (callsAccepted ms)
-
-  last-small : (m : CallMade) → lastElement (callsAccepted ms) ≡ some m → Small (callResult m)
-  last-small m e = last-all Known (callsAccepted ms) m (known-of (callsAccepted ms) (taken-all Known ms k)) e .small
-
-  pub read-none : isNone (lastElement (notRefused (map asCompleted ms))) ≡ noCallAccepted (lastElement (callsAccepted ms))
-  read-none = ap isNone last-read ∙ go (lastElement (callsAccepted ms))
-    where
-      go : (x : Option CallMade) → isNone (asRead x) ≡ noCallAccepted x
-      go none = refl
-      go (some m) = refl
-
-  pub read-last-command : isLastCommand (lastElement (notRefused (map asCompleted ms))) ≡ lastCommand (lastElement (callsAccepted ms))
-  read-last-command = ap isLastCommand last-read ∙ go (lastElement (callsAccepted ms)) refl
-    where
-      go : (x : Option CallMade) → lastElement (callsAccepted ms) ≡ x → isLastCommand (asRead x) ≡ lastCommand x
-      go none e = refl
-      go (some m) e = word-command (callResult m) (last-small m e)
-
-  pub read-last-outcome : isLastOutcome (lastElement (notRefused (map asCompleted ms))) ≡ lastOutcome (lastElement (callsAccepted ms))
-  read-last-outcome = ap isLastOutcome last-read ∙ go (lastElement (callsAccepted ms)) refl
-    where
-      go : (x : Option CallMade) → lastElement (callsAccepted ms) ≡ x → isLastOutcome (asRead x) ≡ lastOutcome x
-      go none e = refl
-      go (some m) e = word-outcome (callResult m) (last-small m e)
+pub read-stage : (ms : List CallMade) → All Known ms → hostStage (lastElement (notRefused (map asCompleted ms))) ≡ stageAfter (lastElement (callsAccepted ms))
+read-stage ms k = ap hostStage (ap lastElement (read-taken ms k) ∙ read-last (callsAccepted ms)) ∙ go (lastElement (callsAccepted ms)) refl
+  where
+    go : (x : Option CallMade) → lastElement (callsAccepted ms) ≡ x → hostStage (asRead x) ≡ stageAfter x
+    go none e = refl
+    go (some m) e = word-stage (callResult m) (last-all Known (callsAccepted ms) m (known-of (callsAccepted ms) (taken-all Known ms k)) e .small)

@@ -11,18 +11,17 @@ use lib.ListN.{length, take, drop}
 use Rattle.basics.specs.Types.{Bytes}
 use Rattle.basics.specs.Choice.{every, oneIf}
 use Rattle.session_record.specs.declared.Session.{Session}
-use Rattle.session_record.specs.Session.{freshSession}
+use Rattle.session_record.specs.Session.{freshSession, stageOf, isRunning, isEnded}
 use Rattle.layout.specs.Layout.{recordSize, withSessionRecord, decodedSession}
 use Rattle.layout.specs.Word.{resultWord}
 use Rattle.session_claim.specs.Calls.{commandsSent, callsAccepted, unansweredCommands, lastElement}
 use Rattle.session.specs.Calls.{Call, CallMade, callResult, playCalls, finalSession}
-use Rattle.session_claim.specs.Order.{commandKind, publishedOrder, lastKind, acceptedAfl}
+use Rattle.session_claim.specs.Order.{commandKind, firstAnswer, publishedOrder, lastKind, acceptedAfl}
 use Rattle.session_claim.specs.Claim.{mostCommandsFor, SessionProper}
-use Rattle.session_record.specs.Session.{isFresh, isRunning, isEnded}
 use Rattle.host.specs.Hosted.{countWord}
 use Rattle.host_claim.specs.Calls.{HostCall, opening, on-session, CompletedCall, completedCall}
 use Rattle.host_claim.specs.Words.{isNotRanges, sinceOpening, hostCommands, notRefused, hostUnanswered}
-use Rattle.host_claim.specs.Words.{hostAfl, hostLastKind, isNone, isLastCommand, isLastOutcome}
+use Rattle.host_claim.specs.Words.{firstAnswerCall, hostAfl, hostLastKind, hostStage}
 
 -- ---- demand 3, read off words and buffers
 
@@ -32,19 +31,17 @@ pub record HostDemand3 (ms : List CompletedCall) (l : Bytes) : Type 0 where
   pub session : Session
   pub held : decodedSession l ≡ some session
   -- the N commands handed out are the first N of the published order
-  pub order : map commandKind (hostCommands ms)
-      ≡ take (length (hostCommands ms)) (publishedOrder (hostLastKind ms) (hostAfl ms))
+  pub order : let first = firstAnswerCall (notRefused ms) in
+      map commandKind (hostCommands ms)
+      ≡ take (length (hostCommands ms)) (publishedOrder (hostLastKind first) (hostAfl first))
   -- N is the word of `emv_count`
   pub count : countWord (decodedSession l) ≡ length (hostCommands ms)
   -- N is at most 1 while no AFL is accepted, and at most 2 + R from then on
-  pub bound : length (hostCommands ms) ≤ mostCommandsFor (hostAfl ms)
+  pub bound : length (hostCommands ms) ≤ mostCommandsFor (hostAfl (firstAnswerCall (notRefused ms)))
   -- N is never over 130
   pub never-over : length (hostCommands ms) ≤ 130
-  -- the session is fresh where every call was refused, runs where the last call not refused returned a command, and has
-  -- ended where it returned an outcome
-  pub fresh : isFresh (session .phase) ≡ isNone (lastElement (notRefused ms))
-  pub running : isRunning (session .phase) ≡ isLastCommand (lastElement (notRefused ms))
-  pub ended : isEnded (session .phase) ≡ isLastOutcome (lastElement (notRefused ms))
+  -- the session is fresh, runs or has ended by the last call not refused
+  pub stage : stageOf (session .phase) ≡ hostStage (lastElement (notRefused ms))
   -- while it runs exactly one command is unanswered, the last one handed out
   pub one-unanswered : isRunning (session .phase) ≡ true → length (hostUnanswered ms) ≡ 1
   pub last-unanswered : isRunning (session .phase) ≡ true
@@ -88,8 +85,9 @@ pub record SameAsSession (before : Bytes) (ms : List CompletedCall) (l : Bytes) 
   pub same-commands : hostCommands ms ≡ commandsSent (sessionPlay ms)
   pub same-taken : notRefused ms ≡ map asCompleted (callsAccepted (sessionPlay ms))
   pub same-unanswered : hostUnanswered ms ≡ unansweredCommands (sessionPlay ms)
-  pub same-afl : hostAfl ms ≡ acceptedAfl (sessionPlay ms)
-  pub same-last-kind : hostLastKind ms ≡ lastKind (sessionPlay ms)
+  pub same-afl : hostAfl (firstAnswerCall (notRefused ms)) ≡ acceptedAfl (firstAnswer (callsAccepted (sessionPlay ms)))
+  pub same-last-kind :
+      hostLastKind (firstAnswerCall (notRefused ms)) ≡ lastKind (firstAnswer (callsAccepted (sessionPlay ms)))
 
 -- ---- the claim
 

@@ -5,13 +5,13 @@ use mathlib.Core.Bool.{Bool, true, false, not}
 use mathlib.Core.List.{List, [], _∷_, _++_}
 use mathlib.Core.Option.{Option, some, none}
 use lib.ListN.{take}
-use Rattle.basics.specs.Types.{CommandBytes, AflBytes, ResultWord}
+use Rattle.basics.specs.Types.{Response, CommandBytes, AflBytes, ResultWord}
 use Rattle.basics.specs.Choice.{if_then_else_, _and_, _or_, _=?_}
 use Rattle.basics.specs.Reason.{refusedRanges}
 use Rattle.layout.specs.Word.{wordKind, kindCommand, kindOutcome, kindRefusal, refusalWord}
 use Rattle.session_claim.specs.Calls.{isAnswer}
-use Rattle.session.specs.Calls.{start, answer, link-failed, stop}
-use Rattle.session_claim.specs.Order.{responseAfl, CommandKind, cryptogram, lastKindBy}
+use Rattle.session_record.specs.Session.{Stage, fresh, running, ended}
+use Rattle.session_claim.specs.Order.{cardBytes, responseAfl, responseAip, CommandKind, cryptogram, lastKindFor}
 use Rattle.host_claim.specs.Calls.{HostCall, opening, on-session, CompletedCall}
 
 -- ---- a result word
@@ -105,51 +105,34 @@ firstAnswerCall (m ∷ ms) =
     if isAnswerCall (m .call) then some m
     else firstAnswerCall ms
 
--- the AFL that the card bytes of a call bring: only an answer has card bytes
-abbrev pub cardAfl : HostCall → Option AflBytes
-cardAfl opening = none
-cardAfl (on-session (start bytes buf)) = none
-cardAfl (on-session (answer card buf)) = responseAfl card
-cardAfl (on-session (link-failed buf)) = none
-cardAfl (on-session (stop buf)) = none
+-- the card's bytes that a call brings; only an answer brings any
+abbrev pub hostCardBytes : HostCall → Response
+hostCardBytes opening = []
+hostCardBytes (on-session c) = cardBytes c
 
--- the first answer has no reason exactly where its word is that of a command. That this is the accepted AFL by the
--- rules is `same-afl` of the claim
-abbrev pub aflRead : Option CompletedCall → Option AflBytes
-aflRead none = none
-aflRead (some m) =
-    if isCommandWord (m .word) then cardAfl (m .call)
+-- by the first answer not refused: the AFL that it brings, where its word is that of a command, as it is exactly where
+-- the rules give the answer no reason. That this is the accepted AFL by the rules is `same-afl` of the claim
+abbrev pub hostAfl : Option CompletedCall → Option AflBytes
+hostAfl none = none
+hostAfl (some m) =
+    if isCommandWord (m .word) then responseAfl (hostCardBytes (m .call))
     else none
 
--- refused calls are skipped
-unfoldable pub hostAfl : List CompletedCall → Option AflBytes
-hostAfl ms = aflRead (firstAnswerCall (notRefused ms))
+-- by the first answer not refused: the last command, by the AIP that it brings
+abbrev pub hostLastKind : Option CompletedCall → CommandKind
+hostLastKind none = cryptogram
+hostLastKind (some m) = lastKindFor (responseAip (hostCardBytes (m .call)))
 
--- the last command by the AIP that the first answer brings
-abbrev pub lastCommandByAip : HostCall → CommandKind
-lastCommandByAip opening = cryptogram
-lastCommandByAip (on-session c) = lastKindBy c
+-- ---- the stage of the session
 
-abbrev pub lastKindRead : Option CompletedCall → CommandKind
-lastKindRead none = cryptogram
-lastKindRead (some m) = lastCommandByAip (m .call)
+-- by the word of a call that was not refused: it runs after a command, and has ended after an outcome
+abbrev pub stageByWord : ResultWord → Stage
+stageByWord w =
+    if isCommandWord w then running
+    else if isOutcomeWord w then ended
+    else fresh
 
-unfoldable pub hostLastKind : List CompletedCall → CommandKind
-hostLastKind ms = lastKindRead (firstAnswerCall (notRefused ms))
-
--- ---- what the last call that was not refused reports
-
--- there is none
-abbrev pub isNone : Option CompletedCall → Bool
-isNone none = true
-isNone (some m) = false
-
--- it returned a command
-abbrev pub isLastCommand : Option CompletedCall → Bool
-isLastCommand none = false
-isLastCommand (some m) = isCommandWord (m .word)
-
--- it returned an outcome
-abbrev pub isLastOutcome : Option CompletedCall → Bool
-isLastOutcome none = false
-isLastOutcome (some m) = isOutcomeWord (m .word)
+-- by the last call not refused; it is fresh where there is none
+abbrev pub hostStage : Option CompletedCall → Stage
+hostStage none = fresh
+hostStage (some m) = stageByWord (m .word)

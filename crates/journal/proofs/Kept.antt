@@ -19,9 +19,11 @@ use Rattle.session_record.specs.declared.Phase.{Phase}
 use Rattle.session_record.specs.declared.Session.{Session}
 use Rattle.session_record.specs.Ranges.{inRanges}
 use Rattle.session_record.proofs.Phases.{fresh-keeps, count-most}
-use Rattle.session.specs.Steps.{Step, admittedStep, endsRunning}
-use Rattle.session.specs.Start as starts
-use Rattle.session.specs.Answer as answers
+use Rattle.session_record.specs.declared.AwaitedResponse.{AwaitedResponse}
+use Rattle.session_record.specs.Session.{storeBytes, endingBy}
+use Rattle.session.specs.Steps.{Step, CallEffect, end, heldCvm, stepOf, admittedStep, whileRunning}
+use Rattle.session.specs.Start.{startCall}
+use Rattle.session.specs.Answer.{responseNext}
 use Rattle.session.specs.Calls.{Call, start, answer, link-failed, stop, callStep, isRefusal}
 use Rattle.basics.specs.Choice.{oneIf}
 use Rattle.session_record.specs.Session.{isEnded}
@@ -68,19 +70,19 @@ call-keeps s (stop buf) i = stop-keeps s buf i
 
 -- ---- a session that has ended takes no call
 
-admitted-refuses : (s : Session) (buf : List ℕ) (st : Step) → isRefusal (st .reply .answer) ≡ true → isRefusal (admittedStep s buf st .reply .answer) ≡ true
+admitted-refuses : (s : Session) (buf : List ℕ) (x : CallEffect) → isRefusal (stepOf s buf x .reply .answer) ≡ true → isRefusal (admittedStep s buf x .reply .answer) ≡ true
 unfolding admittedStep
-admitted-refuses s buf st e = if-ind P _ _ _ (λ w. refl) (λ w. if-ind P _ _ _ (λ v. refl) (λ v. e))
+admitted-refuses s buf x e = if-ind P _ _ _ (λ w. refl) (λ w. if-ind P _ _ _ (λ v. refl) (λ v. e))
   where
     P : Step → Type 0
     P x = isRefusal (x .reply .answer) ≡ true
 
--- a call's own step, by the phase
-abbrev inside : Session → Phase → Call → Step
-inside s p (start bytes buf) = starts.startIn p s bytes buf
-inside s p (answer card buf) = answers.answerIn p s card buf
-inside s p (link-failed buf) = endsRunning p s reasonLink buf
-inside s p (stop buf) = endsRunning p s reasonStopped buf
+-- what a call does by its own rules, by the phase
+abbrev inside : Session → Phase → Call → CallEffect
+inside s p (start bytes buf) = startCall p (storeBytes s) bytes
+inside s p (answer card buf) = whileRunning p (responseNext (storeBytes s) card)
+inside s p (link-failed buf) = whileRunning p (λ (w : AwaitedResponse). end (endingBy reasonLink) (heldCvm w) (storeBytes s))
+inside s p (stop buf) = whileRunning p (λ (w : AwaitedResponse). end (endingBy reasonStopped) (heldCvm w) (storeBytes s))
 
 step-inside : (s : Session) (c : Call) → callStep s c ≡ admittedStep s (bufferOf c) (inside s (s .phase) c)
 step-inside s (start bytes buf) = refl
@@ -88,7 +90,7 @@ step-inside s (answer card buf) = refl
 step-inside s (link-failed buf) = refl
 step-inside s (stop buf) = refl
 
-inside-ended : (s : Session) (c : Call) (x : Ending) → isRefusal (inside s (Phase.Ended x) c .reply .answer) ≡ true
+inside-ended : (s : Session) (c : Call) (x : Ending) → isRefusal (stepOf s (bufferOf c) (inside s (Phase.Ended x) c) .reply .answer) ≡ true
 inside-ended s (start bytes buf) x = refl
 inside-ended s (answer card buf) x = refl
 inside-ended s (link-failed buf) x = refl
@@ -97,14 +99,11 @@ inside-ended s (stop buf) x = refl
 ended-refuses : (s : Session) (c : Call) (x : Ending) → s .phase ≡ Phase.Ended x → isRefusal (callStep s c .reply .answer) ≡ true
 ended-refuses s c x q =
     ap (λ (st : Step). isRefusal (st .reply .answer)) (step-inside s c)
-    ∙ admitted-refuses s (bufferOf c) _ (ap (λ (p : Phase). isRefusal (inside s p c .reply .answer)) q ∙ inside-ended s c x)
+    ∙ admitted-refuses s (bufferOf c) _ (ap (λ (p : Phase). isRefusal (stepOf s (bufferOf c) (inside s p c) .reply .answer)) q ∙ inside-ended s c x)
 
 not-ended : (s : Session) (c : Call) (p : Phase) → s .phase ≡ p → isRefusal (callStep s c .reply .answer) ≡ false → isEnded p ≡ false
 not-ended s c Phase.Fresh q r = refl
-not-ended s c Phase.Gpo q r = refl
-not-ended s c (Phase.Record k) q r = refl
-not-ended s c (Phase.Cryptogram a) q r = refl
-not-ended s c (Phase.Checksum k) q r = refl
+not-ended s c (Phase.Waiting w) q r = refl
 not-ended s c (Phase.Ended x) q r = no (sym r ∙ ended-refuses s c x q)
 
 -- ---- a record's call is made with the caller's buffer

@@ -21,8 +21,8 @@ use Rattle.session_record.specs.declared.Reply.{Reply}
 use Rattle.session_record.specs.Session.{storeBytes}
 use Rattle.start_data.specs.StartData.{LoadedStore}
 use Rattle.start_data.proofs.Ways.{load-long}
-use Rattle.session.specs.Steps.{Step, admittedStep}
-use Rattle.session.specs.Start.{startLoaded, startIn, startStep}
+use Rattle.session.specs.Steps.{Step, stepOf, admittedStep}
+use Rattle.session.specs.Start.{startLoaded, startCall, startStep}
 use Rattle.session.specs.Answer.{answerStep}
 use Rattle.session.specs.Calls.{Call, start, answer, link-failed, stop, callStep, isRefusal}
 use Rattle.basics.proofs.Laws.{no}
@@ -37,12 +37,9 @@ use Rattle.journal.proofs.WrittenBuffer.{room, buffer-same, same-reply,
 -- ---- a start with over 1,024 bytes is refused
 
 module _ (s : Session) (v buf : List ℕ) (h : 1024 < length v) where
-  over-in : (p : Phase) → isRefusal (startIn p s v buf .reply .answer) ≡ true
-  over-in Phase.Fresh = ap (λ (x : LoadedStore). isRefusal (startLoaded s buf x .reply .answer)) (load-long (storeBytes s) v h)
-  over-in Phase.Gpo = refl
-  over-in (Phase.Record p) = refl
-  over-in (Phase.Cryptogram a) = refl
-  over-in (Phase.Checksum k) = refl
+  over-in : (p : Phase) → isRefusal (stepOf s buf (startCall p (storeBytes s) v) .reply .answer) ≡ true
+  over-in Phase.Fresh = ap (λ (x : LoadedStore). isRefusal (stepOf s buf (startLoaded x) .reply .answer)) (load-long (storeBytes s) v h)
+  over-in (Phase.Waiting w) = refl
   over-in (Phase.Ended e) = refl
 
   start-over : isRefusal (startStep s v buf .reply .answer) ≡ true

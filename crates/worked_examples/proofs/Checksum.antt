@@ -19,19 +19,20 @@ use Rattle.mag_stripe.specs.Bitmap.{bitmapPlacesFrom, bitmapPlaces, bitmapWithi
 use Rattle.mag_stripe.specs.Digits.{trackDigits, lowestDigits, digitsWritten, trackWithDigits}
 use Rattle.session_record.specs.Numbers.{outcomeOfReason}
 use Rattle.session_record.specs.Ranges.{isPresentIfRequired, allRequiredPresent, cryptogramDataPresent, trackDataPresent}
-use Rattle.session.specs.Steps.{withTvr, withFindings}
-use Rattle.session.specs.MagStripe.{askChecksum, afterRecordsMagStripe, storeWithDigits, afterChecksumRead, checksumOutcomeOf, checksumReply}
-use Rattle.session.specs.Answer.{gpoStoreReason, afterGpoRead, gpoStep, recordStep, afterRecordRead, afterLastRecord, afterRecordsEmv, afterAnalysis, requestedCryptogram, askCryptogram, cryptogramOutcome, cryptogramEnding, cryptogramReply}
+use Rattle.session.specs.Steps.{readThen, withTvr, withFindings}
+use Rattle.session.specs.MagStripe.{askChecksum, afterRecordsMagStripe, storeWithDigits, afterChecksum, checksumTaken, checksumNext}
+use Rattle.session.specs.Answer.{afterGpo, gpoNext, recordNext, afterRecord, afterLastRecord, afterRecordsEmv, requestedCryptogram, askCryptogram, cryptogramOutcome, cryptogramEnding, cryptogramNext}
 use Rattle.worked_examples.specs.Checksum.{ChecksumExamples, waitsOnSound, waitsOnUnsound}
 use Rattle.worked_examples.proofs.Laws.{each-in, says-in, order-in, before-in, stored-in}
 use Rattle.worked_examples.proofs.Ranges.{kept}
 
 pub on-checksum : ChecksumExamples
-unfolding recurse recurseBy if both either every bigEndianFrom nibbles tagSize tagSecondByte tagThirdByte tagAt tagFirstByte isTemplate isPrivate lengthOneByte lengthTwoBytes lengthAt headerOf objectCount nextOf withLeaf
-    withNode parseTree tagBytes lengthBytes dictionaryRows rowPast findRow rowNumberOf numeric digitsThenFs compressed digitsFit fitsRow rowOffset rowPlace placeValue rowValue putRow objectValueIn allowedInTemplate allowedInResponse allowedNow takeItem
-    takeNext takeAll primitiveItems responseBody gpoParts iadPart cryptogramParts primitiveParts templateParts readBody isRead isStatus9000 isResponseLength readAnswer nibblesBefore discretionaryIn packedNibbles bitmapPlacesFrom
-    bitmapPlaces inside canTakeDigits trackDigits lowestDigits digitsWritten trackWithDigits outcomeOfReason isPresentIfRequired allRequiredPresent cryptogramDataPresent trackDataPresent withTvr withFindings askChecksum afterRecordsMagStripe storeWithDigits afterChecksumRead
-    checksumOutcomeOf checksumReply gpoStoreReason afterGpoRead gpoStep recordStep afterRecordRead afterLastRecord afterRecordsEmv afterAnalysis requestedCryptogram askCryptogram cryptogramOutcome cryptogramEnding cryptogramReply
+unfolding recurse recurseBy if both either every bigEndianFrom nibbles tagSize tagSecondByte tagThirdByte tagAt tagFirstByte isTemplate isPrivate lengthOneByte lengthTwoBytes lengthAt headerOf
+    objectCount nextOf withLeaf withNode parseTree tagBytes lengthBytes dictionaryRows rowPast findRow rowNumberOf numeric digitsThenFs compressed digitsFit fitsRow rowOffset rowPlace placeValue
+    rowValue putRow objectValueIn allowedInTemplate allowedInResponse allowedNow takeItem takeNext takeAll primitiveItems responseBody gpoParts iadPart cryptogramParts primitiveParts templateParts
+    readBody isRead isStatus9000 isResponseLength readAnswer nibblesBefore discretionaryIn packedNibbles bitmapPlacesFrom bitmapPlaces inside canTakeDigits trackDigits lowestDigits digitsWritten
+    trackWithDigits outcomeOfReason isPresentIfRequired allRequiredPresent cryptogramDataPresent trackDataPresent withTvr withFindings askChecksum afterRecordsMagStripe storeWithDigits afterChecksum
+    checksumTaken checksumNext afterGpo gpoNext readThen recordNext afterRecord afterLastRecord afterRecordsEmv requestedCryptogram askCryptogram cryptogramOutcome cryptogramEnding cryptogramNext
 on-checksum = record {
   reading = order-in waitsOnSound (kept .sound) _ _ _ refl refl refl refl refl refl refl refl;
   track = before-in waitsOnUnsound (kept .unsound) _ _ _ refl refl refl refl refl;

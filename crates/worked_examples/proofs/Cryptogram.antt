@@ -17,19 +17,19 @@ use Rattle.reading.specs.Taking.{allowedInTemplate, allowedInResponse, allowedN
 use Rattle.reading.specs.Answer.{responseBody, gpoParts, iadPart, cryptogramParts, primitiveParts, templateParts, readBody, isRead, isStatus9000, isResponseLength, readAnswer}
 use Rattle.session_record.specs.Numbers.{outcomeOfReason}
 use Rattle.session_record.specs.Ranges.{isPresentIfRequired, allRequiredPresent, cryptogramDataPresent, trackDataPresent}
-use Rattle.session.specs.Steps.{withTvr, withFindings}
-use Rattle.session.specs.Answer.{gpoStoreReason, afterGpoRead, gpoStep, recordStep, afterRecordRead, afterLastRecord, afterRecordsEmv, afterAnalysis, requestedCryptogram, askCryptogram, cryptogramOutcome, cryptogramEnding, cryptogramReply}
+use Rattle.session.specs.Steps.{readThen, withTvr, withFindings}
+use Rattle.session.specs.Answer.{afterGpo, gpoNext, recordNext, afterRecord, afterLastRecord, afterRecordsEmv, requestedCryptogram, askCryptogram, cryptogramOutcome, cryptogramEnding, cryptogramNext}
 use Rattle.worked_examples.specs.Sessions.{waitsOnCryptogram}
 use Rattle.worked_examples.specs.Cryptogram.{CryptogramExamples, waitsOnArqc}
 use Rattle.worked_examples.proofs.Laws.{each-in, says-in, order-in, before-in, stored-in}
 use Rattle.worked_examples.proofs.Ranges.{kept}
 
 pub on-cryptogram : CryptogramExamples
-unfolding recurse recurseBy if both either every bigEndianFrom nibbles tagSize tagSecondByte tagThirdByte tagAt tagFirstByte isTemplate isPrivate lengthOneByte lengthTwoBytes lengthAt headerOf objectCount nextOf withLeaf
-    withNode parseTree tagBytes lengthBytes dictionaryRows rowPast findRow rowNumberOf numeric digitsThenFs compressed digitsFit fitsRow rowOffset rowPlace placeValue rowValue putRow objectValueIn allowedInTemplate allowedInResponse allowedNow takeItem
-    takeNext takeAll primitiveItems responseBody gpoParts iadPart cryptogramParts primitiveParts templateParts readBody isRead isStatus9000 isResponseLength readAnswer outcomeOfReason isPresentIfRequired allRequiredPresent cryptogramDataPresent
-    trackDataPresent withTvr withFindings gpoStoreReason afterGpoRead gpoStep recordStep afterRecordRead afterLastRecord afterRecordsEmv afterAnalysis requestedCryptogram askCryptogram cryptogramOutcome cryptogramEnding
-    cryptogramReply
+unfolding recurse recurseBy if both either every bigEndianFrom nibbles tagSize tagSecondByte tagThirdByte tagAt tagFirstByte isTemplate isPrivate lengthOneByte lengthTwoBytes lengthAt headerOf
+    objectCount nextOf withLeaf withNode parseTree tagBytes lengthBytes dictionaryRows rowPast findRow rowNumberOf numeric digitsThenFs compressed digitsFit fitsRow rowOffset rowPlace placeValue
+    rowValue putRow objectValueIn allowedInTemplate allowedInResponse allowedNow takeItem takeNext takeAll primitiveItems responseBody gpoParts iadPart cryptogramParts primitiveParts templateParts
+    readBody isRead isStatus9000 isResponseLength readAnswer outcomeOfReason isPresentIfRequired allRequiredPresent cryptogramDataPresent trackDataPresent withTvr withFindings afterGpo gpoNext
+    readThen recordNext afterRecord afterLastRecord afterRecordsEmv requestedCryptogram askCryptogram cryptogramOutcome cryptogramEnding cryptogramNext
 on-cryptogram = record {
   decline-asked = each-in (waitsOnCryptogram Choice.Decline) (kept .cryptogram Choice.Decline) _ refl;
   online-asked = each-in waitsOnArqc (kept .cryptogram Choice.Online) _ refl;

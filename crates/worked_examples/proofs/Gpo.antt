@@ -22,20 +22,21 @@ use Rattle.analysis.specs.Cvm.{cvmProcessing, onDeviceCvm}
 use Rattle.analysis.specs.Action.{hasOnDeviceCvm, transactionLimit, aboveTransactionLimit, aucViolatedIn, restrictionsByte, tvrOf, sameCurrency, cvmConditionsIn, cvmResultIn, tvrWithCvm, findingsOf, actionCodesOf, choiceFor}
 use Rattle.session_record.specs.Numbers.{outcomeOfReason}
 use Rattle.session_record.specs.Ranges.{isPresentIfRequired, allRequiredPresent, cryptogramDataPresent, trackDataPresent}
-use Rattle.session.specs.Steps.{withTvr, withFindings}
-use Rattle.session.specs.Answer.{gpoStoreReason, afterGpoRead, gpoStep, recordStep, afterRecordRead, afterLastRecord, afterRecordsEmv, afterAnalysis, requestedCryptogram, askCryptogram, cryptogramOutcome, cryptogramEnding, cryptogramReply}
+use Rattle.session.specs.Steps.{readThen, withTvr, withFindings}
+use Rattle.session.specs.Answer.{afterGpo, gpoNext, recordNext, afterRecord, afterLastRecord, afterRecordsEmv, requestedCryptogram, askCryptogram, cryptogramOutcome, cryptogramEnding, cryptogramNext}
 use Rattle.worked_examples.specs.Sessions.{waitsOnGpo}
 use Rattle.worked_examples.specs.Gpo.{GpoExamples}
 use Rattle.worked_examples.proofs.Laws.{each-in, says-in, order-in, before-in}
 use Rattle.worked_examples.proofs.Ranges.{kept}
 
 pub on-gpo : GpoExamples
-unfolding recurse recurseBy if both either every bigEndianFrom nibbles tagSize tagSecondByte tagThirdByte tagAt tagFirstByte isTemplate isPrivate lengthOneByte lengthTwoBytes lengthAt headerOf objectCount nextOf withLeaf
-    withNode parseTree tagBytes lengthBytes dictionaryRows rowPast findRow rowNumberOf numeric digitsThenFs compressed digitsFit fitsRow rowOffset rowPlace placeValue rowValue putRow objectValueIn validEntry aflEntries wholeEntries
-    consecutiveRecords entriesRecords sumOverEntries acceptsAfl nthRecord kthRecord aflRecordAt allowedInTemplate allowedInResponse allowedNow takeItem takeNext takeAll primitiveItems responseBody gpoParts iadPart cryptogramParts primitiveParts templateParts
-    readBody isRead isStatus9000 isResponseLength readAnswer firstBytes bcdFrom yearOf dateOf dateLater amountOf amountAbove cvmProcessing onDeviceCvm hasOnDeviceCvm transactionLimit aboveTransactionLimit aucViolatedIn restrictionsByte
-    tvrOf sameCurrency cvmConditionsIn cvmResultIn tvrWithCvm findingsOf actionCodesOf choiceFor outcomeOfReason isPresentIfRequired allRequiredPresent cryptogramDataPresent trackDataPresent withTvr withFindings gpoStoreReason afterGpoRead
-    gpoStep recordStep afterRecordRead afterLastRecord afterRecordsEmv afterAnalysis requestedCryptogram askCryptogram cryptogramOutcome cryptogramEnding cryptogramReply
+unfolding recurse recurseBy if both either every bigEndianFrom nibbles tagSize tagSecondByte tagThirdByte tagAt tagFirstByte isTemplate isPrivate lengthOneByte lengthTwoBytes lengthAt headerOf
+    objectCount nextOf withLeaf withNode parseTree tagBytes lengthBytes dictionaryRows rowPast findRow rowNumberOf numeric digitsThenFs compressed digitsFit fitsRow rowOffset rowPlace placeValue
+    rowValue putRow objectValueIn validEntry aflEntries wholeEntries consecutiveRecords entriesRecords sumOverEntries acceptsAfl nthRecord kthRecord aflRecordAt allowedInTemplate allowedInResponse
+    allowedNow takeItem takeNext takeAll primitiveItems responseBody gpoParts iadPart cryptogramParts primitiveParts templateParts readBody isRead isStatus9000 isResponseLength readAnswer firstBytes
+    bcdFrom yearOf dateOf dateLater amountOf amountAbove cvmProcessing onDeviceCvm hasOnDeviceCvm transactionLimit aboveTransactionLimit aucViolatedIn restrictionsByte tvrOf sameCurrency
+    cvmConditionsIn cvmResultIn tvrWithCvm findingsOf actionCodesOf choiceFor outcomeOfReason isPresentIfRequired allRequiredPresent cryptogramDataPresent trackDataPresent withTvr withFindings
+    afterGpo gpoNext readThen recordNext afterRecord afterLastRecord afterRecordsEmv requestedCryptogram askCryptogram cryptogramOutcome cryptogramEnding cryptogramNext
 on-gpo = record {
   reading = order-in waitsOnGpo (kept .gpo) _ _ _ refl refl refl refl refl refl refl refl;
   missing = before-in waitsOnGpo (kept .gpo) _ _ _ refl refl refl refl refl;

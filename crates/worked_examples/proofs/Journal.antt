@@ -24,7 +24,7 @@ use Rattle.command.specs.WithList.{gpoCommandOf, getProcessingOptions, carriedI
 use Rattle.session_record.specs.Numbers.{outcomeOfReason}
 use Rattle.session_record.specs.Ranges.{isPresentIfRequired, allRequiredPresent, cryptogramDataPresent, trackDataPresent}
 use Rattle.start_data.specs.StartData.{terminalTypeListed, settableByStart, setObject, setObjects, loadStart}
-use Rattle.session.specs.Steps.{withTvr, withFindings}
+use Rattle.session.specs.Steps.{readThen, withTvr, withFindings}
 use Rattle.session.specs.Start.{askGpo}
 use Rattle.session_record.specs.Session.{freshSession}
 use Rattle.session_record.proofs.Phases.{fresh-keeps}
@@ -37,10 +37,11 @@ use Rattle.journal.proofs.Written.{written-accepted}
 use Rattle.worked_examples.specs.Journal.{journalCalls, writtenRecords, JournalExamples}
 
 played : journalOf (playCalls freshSession journalCalls) ≡ writtenRecords
-unfolding recurse recurseBy if both either every bigEndianFrom nibbles tagSize tagSecondByte tagThirdByte tagAt tagFirstByte isTemplate isPrivate lengthOneByte lengthTwoBytes lengthAt headerOf objectBefore
-    primitiveOf primitiveObjects tagBytes lengthBytes dictionaryRows rowPast findRow rowNumberOf numeric digitsThenFs compressed digitsFit fitsRow listedTerminalType rowOffset rowPlace placeValue rowValue putRow objectValueIn entryWithLength dolEntryAt
-    entryBefore entriesNext dolEntries truncated paddingByte padded fittedTo dolEntryBytes dolData dolDataBy gpoCommandOf getProcessingOptions carriedIn generateAc udolOrDefault
-    computeCryptographicChecksum outcomeOfReason isPresentIfRequired allRequiredPresent cryptogramDataPresent trackDataPresent terminalTypeListed settableByStart setObject setObjects loadStart withTvr withFindings askGpo journalOf playIn
+unfolding recurse recurseBy if both either every bigEndianFrom nibbles tagSize tagSecondByte tagThirdByte tagAt tagFirstByte isTemplate isPrivate lengthOneByte lengthTwoBytes lengthAt headerOf
+    objectBefore primitiveOf primitiveObjects tagBytes lengthBytes dictionaryRows rowPast findRow rowNumberOf numeric digitsThenFs compressed digitsFit fitsRow listedTerminalType rowOffset rowPlace
+    placeValue rowValue putRow objectValueIn entryWithLength dolEntryAt entryBefore entriesNext dolEntries truncated paddingByte padded fittedTo dolEntryBytes dolData dolDataBy gpoCommandOf
+    getProcessingOptions carriedIn generateAc udolOrDefault computeCryptographicChecksum outcomeOfReason isPresentIfRequired allRequiredPresent cryptogramDataPresent trackDataPresent
+    terminalTypeListed settableByStart setObject setObjects loadStart withTvr withFindings askGpo journalOf playIn
 played = ap journalOf (play-in freshSession fresh-keeps journalCalls)
 
 all-right : {r : List (List ℕ)} → journalOf (playCalls freshSession journalCalls) ≡ r → 4 ≤ length r → journalVerdictOf (concatenated (take 4 r)) ≡ JournalVerdict.Accepted 4

@@ -10,11 +10,12 @@ use Rattle.basics.specs.Reason.{reasonLink, reasonStopped}
 use Rattle.store.specs.Place.{StoredValue, objectValue}
 use Rattle.session_record.specs.declared.CallResult.{CallResult}
 use Rattle.session_record.specs.declared.Session.{Session}
-use Rattle.session_record.specs.Session.{storeBytes}
+use Rattle.session_record.specs.Session.{storeBytes, endingBy}
 use Rattle.session_record.specs.Ranges.{inRanges}
-use Rattle.session.specs.Steps.{Step, leastBuffer, endsRunning}
-use Rattle.session.specs.Start.{startIn}
-use Rattle.session.specs.Answer.{answerIn}
+use Rattle.session_record.specs.declared.AwaitedResponse.{AwaitedResponse}
+use Rattle.session.specs.Steps.{Step, end, heldCvm, stepOf, leastBuffer, whileRunning}
+use Rattle.session.specs.Start.{startCall}
+use Rattle.session.specs.Answer.{responseNext}
 use Rattle.session.proofs.Laws.{admitted-short, admitted-ranges, admitted-in}
 use Rattle.session.specs.Calls.{start, answer, link-failed, stop, commandSent}
 use Rattle.tlv.specs.Encoding.{objectBytes}
@@ -34,49 +35,56 @@ told st = st .reply .answer
 abbrev handed : Step → List (List ℕ)
 handed st = commandSent (st .reply .answer) (st .buffer)
 
+-- the own step of an answer, and of link failed and stop
+abbrev answered : Session → List ℕ → Step
+answered s card = stepOf s fullBuffer (whileRunning (s .phase) (responseNext (storeBytes s) card))
+
+abbrev aborted : Session → ℕ → Step
+aborted s reason = stepOf s fullBuffer (whileRunning (s .phase) (λ (w : AwaitedResponse). end (endingBy reason) (heldCvm w) (storeBytes s)))
+
 -- ---- in the ranges
 
 module _ (s : Session) (i : inRanges s ≡ true) where
-  pub start-in : (bytes : List ℕ) {a : CallResult} → told (startIn (s .phase) s bytes fullBuffer) ≡ a → resultOf s (start bytes fullBuffer) ≡ a
+  pub start-in : (bytes : List ℕ) {a : CallResult} → told (stepOf s fullBuffer (startCall (s .phase) (storeBytes s) bytes)) ≡ a → resultOf s (start bytes fullBuffer) ≡ a
   unfolding resultOf
   start-in bytes e = ap told (admitted-in s fullBuffer _ enough i) ∙ e
 
-  pub answer-in : (card : List ℕ) {a : CallResult} → told (answerIn (s .phase) s card fullBuffer) ≡ a → resultOf s (answer card fullBuffer) ≡ a
+  pub answer-in : (card : List ℕ) {a : CallResult} → told (answered s card) ≡ a → resultOf s (answer card fullBuffer) ≡ a
   unfolding resultOf
   answer-in card e = ap told (admitted-in s fullBuffer _ enough i) ∙ e
 
-  pub link-in : {a : CallResult} → told (endsRunning (s .phase) s reasonLink fullBuffer) ≡ a → resultOf s (link-failed fullBuffer) ≡ a
+  pub link-in : {a : CallResult} → told (aborted s reasonLink) ≡ a → resultOf s (link-failed fullBuffer) ≡ a
   unfolding resultOf
   link-in e = ap told (admitted-in s fullBuffer _ enough i) ∙ e
 
-  pub stop-in : {a : CallResult} → told (endsRunning (s .phase) s reasonStopped fullBuffer) ≡ a → resultOf s (stop fullBuffer) ≡ a
+  pub stop-in : {a : CallResult} → told (aborted s reasonStopped) ≡ a → resultOf s (stop fullBuffer) ≡ a
   unfolding resultOf
   stop-in e = ap told (admitted-in s fullBuffer _ enough i) ∙ e
 
-  pub says-in : (card : List ℕ) {a : CallResult} → told (answerIn (s .phase) s card fullBuffer) ≡ a → resultOn s card ≡ a
+  pub says-in : (card : List ℕ) {a : CallResult} → told (answered s card) ≡ a → resultOn s card ≡ a
   unfolding resultOn
   says-in card e = ap told (admitted-in s fullBuffer _ enough i) ∙ e
 
-  pub each-in : (cards : List (List ℕ)) {answers : List CallResult} → map (λ card. told (answerIn (s .phase) s card fullBuffer)) cards ≡ answers → resultsOn s cards ≡ answers
+  pub each-in : (cards : List (List ℕ)) {answers : List CallResult} → map (λ card. told (answered s card)) cards ≡ answers → resultsOn s cards ≡ answers
   unfolding resultsOn resultOn
-  each-in cards e = (λ k. map (λ card. told (admitted-in s fullBuffer (answerIn (s .phase) s card fullBuffer) enough i k)) cards) ∙ e
+  each-in cards e = (λ k. map (λ card. told (admitted-in s fullBuffer (whileRunning (s .phase) (responseNext (storeBytes s) card)) enough i k)) cards) ∙ e
 
-  pub start-sends-in : (bytes : List ℕ) {c : List (List ℕ)} → handed (startIn (s .phase) s bytes fullBuffer) ≡ c → commandOf s (start bytes fullBuffer) ≡ c
+  pub start-sends-in : (bytes : List ℕ) {c : List (List ℕ)} → handed (stepOf s fullBuffer (startCall (s .phase) (storeBytes s) bytes)) ≡ c → commandOf s (start bytes fullBuffer) ≡ c
   unfolding commandOf
   start-sends-in bytes e = ap handed (admitted-in s fullBuffer _ enough i) ∙ e
 
-  pub sends-in : (card : List ℕ) {c : List (List ℕ)} → handed (answerIn (s .phase) s card fullBuffer) ≡ c → commandOf s (answer card fullBuffer) ≡ c
+  pub sends-in : (card : List ℕ) {c : List (List ℕ)} → handed (answered s card) ≡ c → commandOf s (answer card fullBuffer) ≡ c
   unfolding commandOf
   sends-in card e = ap handed (admitted-in s fullBuffer _ enough i) ∙ e
 
-  pub stored-in : (card : List ℕ) (tag : ℕ) {v : StoredValue} → objectValue (storeBytes (answerIn (s .phase) s card fullBuffer .reply .session)) tag ≡ v
+  pub stored-in : (card : List ℕ) (tag : ℕ) {v : StoredValue} → objectValue (storeBytes (answered s card .reply .session)) tag ≡ v
       → valueAfter s card tag ≡ v
   unfolding valueAfter
   stored-in card tag e = ap (λ (x : Step). objectValue (storeBytes (x .reply .session)) tag) (admitted-in s fullBuffer _ enough i) ∙ e
 
   -- the order of a reading's reasons, each answer by its own step
   abbrev stepOn : List ℕ → CallResult
-  stepOn card = told (answerIn (s .phase) s card fullBuffer)
+  stepOn card = told (answered s card)
 
   pub order-in : (outer other : ℕ) (ended : ℕ → CallResult) → stepOn tooLongAnswer ≡ ended 2 → stepOn (answerOf259Bytes outer tvrFromCard) ≡ ended 2
       → stepOn (with6A82 (truncatedObject outer)) ≡ ended 1 → stepOn (with6A82 (objectBytes other [])) ≡ ended 1 → stepOn (with6A82 (objectBytes outer tvrFromCard)) ≡ ended 1

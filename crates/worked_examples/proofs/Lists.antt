@@ -33,10 +33,10 @@ use Rattle.analysis.specs.Action.{hasOnDeviceCvm, transactionLimit, aboveTransa
 use Rattle.session_record.specs.Numbers.{outcomeOfReason}
 use Rattle.session_record.specs.Ranges.{isPresentIfRequired, allRequiredPresent, cryptogramDataPresent, trackDataPresent}
 use Rattle.start_data.specs.StartData.{terminalTypeListed, settableByStart, setObject, setObjects, loadStart}
-use Rattle.session.specs.Steps.{withTvr, withFindings}
+use Rattle.session.specs.Steps.{readThen, withTvr, withFindings}
 use Rattle.session.specs.Start.{askGpo}
-use Rattle.session.specs.MagStripe.{askChecksum, afterRecordsMagStripe, storeWithDigits, afterChecksumRead, checksumOutcomeOf, checksumReply}
-use Rattle.session.specs.Answer.{gpoStoreReason, afterGpoRead, gpoStep, recordStep, afterRecordRead, afterLastRecord, afterRecordsEmv, afterAnalysis, requestedCryptogram, askCryptogram, cryptogramOutcome, cryptogramEnding, cryptogramReply}
+use Rattle.session.specs.MagStripe.{askChecksum, afterRecordsMagStripe, storeWithDigits, afterChecksum, checksumTaken, checksumNext}
+use Rattle.session.specs.Answer.{afterGpo, gpoNext, recordNext, afterRecord, afterLastRecord, afterRecordsEmv, requestedCryptogram, askCryptogram, cryptogramOutcome, cryptogramEnding, cryptogramNext}
 use Rattle.session_record.specs.Session.{freshSession}
 use Rattle.session_record.proofs.Phases.{fresh-keeps}
 use Rattle.worked_examples.specs.Sessions.{emvAip, magStripeAip, waitsOnLastWithPdol}
@@ -45,15 +45,17 @@ use Rattle.worked_examples.proofs.Laws.{sends-in, start-sends-in}
 use Rattle.worked_examples.proofs.Ranges.{kept}
 
 pub lists : ListExamples
-unfolding recurse recurseBy if both either every bigEndianFrom nibbles bytesEqual tagSize tagSecondByte tagThirdByte tagAt tagFirstByte isTemplate isPrivate lengthOneByte lengthTwoBytes lengthAt headerOf objectBefore
-    primitiveOf primitiveObjects objectCount nextOf withLeaf withNode parseTree tagBytes lengthBytes dictionaryRows rowPast findRow rowNumberOf numeric digitsThenFs compressed digitsFit fitsRow listedTerminalType rowOffset rowPlace placeValue
-    rowValue putRow objectValueIn validEntry aflEntries wholeEntries consecutiveRecords entriesRecords sumOverEntries acceptsAfl nthRecord kthRecord aflRecordAt allowedInTemplate allowedInResponse allowedNow takeItem takeNext takeAll primitiveItems responseBody gpoParts
-    iadPart cryptogramParts primitiveParts templateParts readBody isRead isStatus9000 isResponseLength readAnswer entryWithLength dolEntryAt entryBefore entriesNext dolEntries truncated paddingByte padded fittedTo
-    dolEntryBytes dolData dolDataBy gpoCommandOf getProcessingOptions carriedIn generateAc udolOrDefault computeCryptographicChecksum numberedBit firstBytes bcdFrom yearOf dateOf dateLater
-    amountOf amountAbove versionDiffers notYetEffective atAtm issuerCountryOf cashbackRequested aucViolated tvrWithBits stageHoldsBit lowestFrom lowestBit iacCode stageHolds onlineCapabilityAt choiceOf cvmProcessing onDeviceCvm
-    hasOnDeviceCvm transactionLimit aboveTransactionLimit aucViolatedIn restrictionsByte tvrOf sameCurrency cvmConditionsIn cvmResultIn tvrWithCvm findingsOf actionCodesOf choiceFor outcomeOfReason isPresentIfRequired allRequiredPresent cryptogramDataPresent trackDataPresent
-    terminalTypeListed settableByStart setObject setObjects loadStart withTvr withFindings askGpo askChecksum afterRecordsMagStripe storeWithDigits afterChecksumRead checksumOutcomeOf checksumReply gpoStoreReason afterGpoRead
-    gpoStep recordStep afterRecordRead afterLastRecord afterRecordsEmv afterAnalysis requestedCryptogram askCryptogram cryptogramOutcome cryptogramEnding cryptogramReply
+unfolding recurse recurseBy if both either every bigEndianFrom nibbles bytesEqual tagSize tagSecondByte tagThirdByte tagAt tagFirstByte isTemplate isPrivate lengthOneByte lengthTwoBytes lengthAt
+    headerOf objectBefore primitiveOf primitiveObjects objectCount nextOf withLeaf withNode parseTree tagBytes lengthBytes dictionaryRows rowPast findRow rowNumberOf numeric digitsThenFs compressed
+    digitsFit fitsRow listedTerminalType rowOffset rowPlace placeValue rowValue putRow objectValueIn validEntry aflEntries wholeEntries consecutiveRecords entriesRecords sumOverEntries acceptsAfl
+    nthRecord kthRecord aflRecordAt allowedInTemplate allowedInResponse allowedNow takeItem takeNext takeAll primitiveItems responseBody gpoParts iadPart cryptogramParts primitiveParts templateParts
+    readBody isRead isStatus9000 isResponseLength readAnswer entryWithLength dolEntryAt entryBefore entriesNext dolEntries truncated paddingByte padded fittedTo dolEntryBytes dolData dolDataBy
+    gpoCommandOf getProcessingOptions carriedIn generateAc udolOrDefault computeCryptographicChecksum numberedBit firstBytes bcdFrom yearOf dateOf dateLater amountOf amountAbove versionDiffers
+    notYetEffective atAtm issuerCountryOf cashbackRequested aucViolated tvrWithBits stageHoldsBit lowestFrom lowestBit iacCode stageHolds onlineCapabilityAt choiceOf cvmProcessing onDeviceCvm
+    hasOnDeviceCvm transactionLimit aboveTransactionLimit aucViolatedIn restrictionsByte tvrOf sameCurrency cvmConditionsIn cvmResultIn tvrWithCvm findingsOf actionCodesOf choiceFor outcomeOfReason
+    isPresentIfRequired allRequiredPresent cryptogramDataPresent trackDataPresent terminalTypeListed settableByStart setObject setObjects loadStart withTvr withFindings askGpo askChecksum
+    afterRecordsMagStripe storeWithDigits afterChecksum checksumTaken checksumNext afterGpo gpoNext readThen recordNext afterRecord afterLastRecord afterRecordsEmv requestedCryptogram askCryptogram
+    cryptogramOutcome cryptogramEnding cryptogramNext
 lists = record {
   gpo = start-sends-in freshSession fresh-keeps _ refl;
   cryptogram = sends-in (waitsOnLastWithPdol emvAip) (kept .emv-pdol) _ refl;

@@ -30,24 +30,25 @@ use Rattle.analysis.specs.Cvm.{cvmProcessing, onDeviceCvm}
 use Rattle.analysis.specs.Action.{hasOnDeviceCvm, transactionLimit, aboveTransactionLimit, aucViolatedIn, restrictionsByte, tvrOf, sameCurrency, cvmConditionsIn, cvmResultIn, tvrWithCvm, findingsOf, actionCodesOf, choiceFor}
 use Rattle.session_record.specs.Numbers.{outcomeOfReason}
 use Rattle.session_record.specs.Ranges.{isPresentIfRequired, allRequiredPresent, cryptogramDataPresent, trackDataPresent}
-use Rattle.session.specs.Steps.{withTvr, withFindings}
-use Rattle.session.specs.MagStripe.{askChecksum, afterRecordsMagStripe, storeWithDigits, afterChecksumRead, checksumOutcomeOf, checksumReply}
-use Rattle.session.specs.Answer.{gpoStoreReason, afterGpoRead, gpoStep, recordStep, afterRecordRead, afterLastRecord, afterRecordsEmv, afterAnalysis, requestedCryptogram, askCryptogram, cryptogramOutcome, cryptogramEnding, cryptogramReply}
+use Rattle.session.specs.Steps.{readThen, withTvr, withFindings}
+use Rattle.session.specs.MagStripe.{askChecksum, afterRecordsMagStripe, storeWithDigits, afterChecksum, checksumTaken, checksumNext}
+use Rattle.session.specs.Answer.{afterGpo, gpoNext, recordNext, afterRecord, afterLastRecord, afterRecordsEmv, requestedCryptogram, askCryptogram, cryptogramOutcome, cryptogramEnding, cryptogramNext}
 use Rattle.worked_examples.specs.Sessions.{amountBelow, amountOver, emvAip, magStripeAip, waitsOnLast}
 use Rattle.worked_examples.specs.Records.{RecordExamples, MagStripeExamples}
 use Rattle.worked_examples.proofs.Laws.{each-in, says-in, order-in, before-in}
 use Rattle.worked_examples.proofs.Ranges.{kept}
 
 pub on-last-record : RecordExamples
-unfolding recurse recurseBy if both either every bigEndianFrom nibbles bytesEqual tagSize tagSecondByte tagThirdByte tagAt tagFirstByte isTemplate isPrivate lengthOneByte lengthTwoBytes lengthAt headerOf objectCount nextOf
-    withLeaf withNode parseTree tagBytes lengthBytes dictionaryRows rowPast findRow rowNumberOf numeric digitsThenFs compressed digitsFit fitsRow rowOffset rowPlace placeValue rowValue putRow objectValueIn validEntry aflEntries
-    wholeEntries consecutiveRecords entriesRecords sumOverEntries acceptsAfl nthRecord kthRecord aflRecordAt allowedInTemplate allowedInResponse allowedNow takeItem takeNext takeAll primitiveItems responseBody gpoParts iadPart cryptogramParts primitiveParts
-    templateParts readBody isRead isStatus9000 isResponseLength readAnswer entryWithLength dolEntryAt entryBefore entriesNext dolEntries truncated paddingByte padded fittedTo dolEntryBytes dolData dolDataBy gpoCommandOf
-    getProcessingOptions carriedIn generateAc udolOrDefault computeCryptographicChecksum numberedBit firstBytes bcdFrom yearOf dateOf dateLater amountOf amountAbove versionDiffers
-    notYetEffective atAtm issuerCountryOf cashbackRequested aucViolated tvrWithBits stageHoldsBit lowestFrom lowestBit iacCode stageHolds onlineCapabilityAt choiceOf cvmProcessing onDeviceCvm hasOnDeviceCvm transactionLimit aboveTransactionLimit aucViolatedIn
-    restrictionsByte tvrOf sameCurrency cvmConditionsIn cvmResultIn tvrWithCvm findingsOf actionCodesOf choiceFor outcomeOfReason isPresentIfRequired allRequiredPresent cryptogramDataPresent trackDataPresent withTvr withFindings askChecksum
-    afterRecordsMagStripe storeWithDigits afterChecksumRead checksumOutcomeOf checksumReply gpoStoreReason afterGpoRead gpoStep recordStep afterRecordRead afterLastRecord afterRecordsEmv afterAnalysis requestedCryptogram askCryptogram cryptogramOutcome
-    cryptogramEnding cryptogramReply
+unfolding recurse recurseBy if both either every bigEndianFrom nibbles bytesEqual tagSize tagSecondByte tagThirdByte tagAt tagFirstByte isTemplate isPrivate lengthOneByte lengthTwoBytes lengthAt
+    headerOf objectCount nextOf withLeaf withNode parseTree tagBytes lengthBytes dictionaryRows rowPast findRow rowNumberOf numeric digitsThenFs compressed digitsFit fitsRow rowOffset rowPlace
+    placeValue rowValue putRow objectValueIn validEntry aflEntries wholeEntries consecutiveRecords entriesRecords sumOverEntries acceptsAfl nthRecord kthRecord aflRecordAt allowedInTemplate
+    allowedInResponse allowedNow takeItem takeNext takeAll primitiveItems responseBody gpoParts iadPart cryptogramParts primitiveParts templateParts readBody isRead isStatus9000 isResponseLength
+    readAnswer entryWithLength dolEntryAt entryBefore entriesNext dolEntries truncated paddingByte padded fittedTo dolEntryBytes dolData dolDataBy gpoCommandOf getProcessingOptions carriedIn
+    generateAc udolOrDefault computeCryptographicChecksum numberedBit firstBytes bcdFrom yearOf dateOf dateLater amountOf amountAbove versionDiffers notYetEffective atAtm issuerCountryOf
+    cashbackRequested aucViolated tvrWithBits stageHoldsBit lowestFrom lowestBit iacCode stageHolds onlineCapabilityAt choiceOf cvmProcessing onDeviceCvm hasOnDeviceCvm transactionLimit
+    aboveTransactionLimit aucViolatedIn restrictionsByte tvrOf sameCurrency cvmConditionsIn cvmResultIn tvrWithCvm findingsOf actionCodesOf choiceFor outcomeOfReason isPresentIfRequired
+    allRequiredPresent cryptogramDataPresent trackDataPresent withTvr withFindings askChecksum afterRecordsMagStripe storeWithDigits afterChecksum checksumTaken checksumNext afterGpo gpoNext readThen
+    recordNext afterRecord afterLastRecord afterRecordsEmv requestedCryptogram askCryptogram cryptogramOutcome cryptogramEnding cryptogramNext
 on-last-record = record {
   reading = order-in (waitsOnLast emvAip amountBelow) (kept .emv-within) _ _ _ refl refl refl refl refl refl refl refl;
   limit = before-in (waitsOnLast emvAip amountOver) (kept .emv-above) _ _ _ refl refl refl refl refl;
@@ -66,15 +67,16 @@ on-last-record = record {
 }
 
 pub on-last-mag-stripe : MagStripeExamples
-unfolding recurse recurseBy if both either every bigEndianFrom nibbles bytesEqual tagSize tagSecondByte tagThirdByte tagAt tagFirstByte isTemplate isPrivate lengthOneByte lengthTwoBytes lengthAt headerOf objectCount nextOf
-    withLeaf withNode parseTree tagBytes lengthBytes dictionaryRows rowPast findRow rowNumberOf numeric digitsThenFs compressed digitsFit fitsRow rowOffset rowPlace placeValue rowValue putRow objectValueIn validEntry aflEntries
-    wholeEntries consecutiveRecords entriesRecords sumOverEntries acceptsAfl nthRecord kthRecord aflRecordAt allowedInTemplate allowedInResponse allowedNow takeItem takeNext takeAll primitiveItems responseBody gpoParts iadPart cryptogramParts primitiveParts
-    templateParts readBody isRead isStatus9000 isResponseLength readAnswer entryWithLength dolEntryAt entryBefore entriesNext dolEntries truncated paddingByte padded fittedTo dolEntryBytes dolData dolDataBy gpoCommandOf
-    getProcessingOptions carriedIn generateAc udolOrDefault computeCryptographicChecksum numberedBit firstBytes bcdFrom yearOf dateOf dateLater amountOf amountAbove versionDiffers
-    notYetEffective atAtm issuerCountryOf cashbackRequested aucViolated tvrWithBits stageHoldsBit lowestFrom lowestBit iacCode stageHolds onlineCapabilityAt choiceOf cvmProcessing onDeviceCvm hasOnDeviceCvm transactionLimit aboveTransactionLimit aucViolatedIn
-    restrictionsByte tvrOf sameCurrency cvmConditionsIn cvmResultIn tvrWithCvm findingsOf actionCodesOf choiceFor outcomeOfReason isPresentIfRequired allRequiredPresent cryptogramDataPresent trackDataPresent withTvr withFindings askChecksum
-    afterRecordsMagStripe storeWithDigits afterChecksumRead checksumOutcomeOf checksumReply gpoStoreReason afterGpoRead gpoStep recordStep afterRecordRead afterLastRecord afterRecordsEmv afterAnalysis requestedCryptogram askCryptogram cryptogramOutcome
-    cryptogramEnding cryptogramReply
+unfolding recurse recurseBy if both either every bigEndianFrom nibbles bytesEqual tagSize tagSecondByte tagThirdByte tagAt tagFirstByte isTemplate isPrivate lengthOneByte lengthTwoBytes lengthAt
+    headerOf objectCount nextOf withLeaf withNode parseTree tagBytes lengthBytes dictionaryRows rowPast findRow rowNumberOf numeric digitsThenFs compressed digitsFit fitsRow rowOffset rowPlace
+    placeValue rowValue putRow objectValueIn validEntry aflEntries wholeEntries consecutiveRecords entriesRecords sumOverEntries acceptsAfl nthRecord kthRecord aflRecordAt allowedInTemplate
+    allowedInResponse allowedNow takeItem takeNext takeAll primitiveItems responseBody gpoParts iadPart cryptogramParts primitiveParts templateParts readBody isRead isStatus9000 isResponseLength
+    readAnswer entryWithLength dolEntryAt entryBefore entriesNext dolEntries truncated paddingByte padded fittedTo dolEntryBytes dolData dolDataBy gpoCommandOf getProcessingOptions carriedIn
+    generateAc udolOrDefault computeCryptographicChecksum numberedBit firstBytes bcdFrom yearOf dateOf dateLater amountOf amountAbove versionDiffers notYetEffective atAtm issuerCountryOf
+    cashbackRequested aucViolated tvrWithBits stageHoldsBit lowestFrom lowestBit iacCode stageHolds onlineCapabilityAt choiceOf cvmProcessing onDeviceCvm hasOnDeviceCvm transactionLimit
+    aboveTransactionLimit aucViolatedIn restrictionsByte tvrOf sameCurrency cvmConditionsIn cvmResultIn tvrWithCvm findingsOf actionCodesOf choiceFor outcomeOfReason isPresentIfRequired
+    allRequiredPresent cryptogramDataPresent trackDataPresent withTvr withFindings askChecksum afterRecordsMagStripe storeWithDigits afterChecksum checksumTaken checksumNext afterGpo gpoNext readThen
+    recordNext afterRecord afterLastRecord afterRecordsEmv requestedCryptogram askCryptogram cryptogramOutcome cryptogramEnding cryptogramNext
 on-last-mag-stripe = record {
   last = record {
     objects-limit = says-in (waitsOnLast magStripeAip amountOver) (kept .mag-stripe-above) _ refl;

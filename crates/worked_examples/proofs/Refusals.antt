@@ -19,7 +19,7 @@ use Rattle.command.specs.WithList.{gpoCommandOf, getProcessingOptions, carriedI
 use Rattle.session_record.specs.Numbers.{outcomeOfReason}
 use Rattle.session_record.specs.Ranges.{isPresentIfRequired, allRequiredPresent, cryptogramDataPresent, trackDataPresent}
 use Rattle.start_data.specs.StartData.{terminalTypeListed, settableByStart, setObject, setObjects, loadStart}
-use Rattle.session.specs.Steps.{withTvr, withFindings}
+use Rattle.session.specs.Steps.{readThen, withTvr, withFindings}
 use Rattle.session.specs.Start.{askGpo}
 use Rattle.session_record.specs.Session.{freshSession}
 use Rattle.session_record.proofs.Phases.{fresh-keeps}
@@ -29,10 +29,11 @@ use Rattle.worked_examples.proofs.Laws.{answer-in, answer-out, answer-s
 use Rattle.worked_examples.proofs.Ranges.{kept}
 
 pub refusals : RefusalExamples
-unfolding recurse recurseBy if both either every bigEndianFrom nibbles tagSize tagSecondByte tagThirdByte tagAt tagFirstByte isTemplate isPrivate lengthOneByte lengthTwoBytes lengthAt headerOf objectBefore
-    primitiveOf primitiveObjects tagBytes lengthBytes dictionaryRows rowPast findRow rowNumberOf numeric digitsThenFs compressed digitsFit fitsRow listedTerminalType rowOffset rowPlace placeValue rowValue putRow objectValueIn entryWithLength dolEntryAt
-    entryBefore entriesNext dolEntries truncated paddingByte padded fittedTo dolEntryBytes dolData dolDataBy gpoCommandOf getProcessingOptions carriedIn generateAc udolOrDefault
-    computeCryptographicChecksum outcomeOfReason isPresentIfRequired allRequiredPresent cryptogramDataPresent trackDataPresent terminalTypeListed settableByStart setObject setObjects loadStart withTvr withFindings askGpo
+unfolding recurse recurseBy if both either every bigEndianFrom nibbles tagSize tagSecondByte tagThirdByte tagAt tagFirstByte isTemplate isPrivate lengthOneByte lengthTwoBytes lengthAt headerOf
+    objectBefore primitiveOf primitiveObjects tagBytes lengthBytes dictionaryRows rowPast findRow rowNumberOf numeric digitsThenFs compressed digitsFit fitsRow listedTerminalType rowOffset rowPlace
+    placeValue rowValue putRow objectValueIn entryWithLength dolEntryAt entryBefore entriesNext dolEntries truncated paddingByte padded fittedTo dolEntryBytes dolData dolDataBy gpoCommandOf
+    getProcessingOptions carriedIn generateAc udolOrDefault computeCryptographicChecksum outcomeOfReason isPresentIfRequired allRequiredPresent cryptogramDataPresent trackDataPresent
+    terminalTypeListed settableByStart setObject setObjects loadStart withTvr withFindings askGpo
 refusals = record {
   buffer-ranges = start-short freshOutOfRanges _;
   buffer-phase = start-short waitsOnGpo _;

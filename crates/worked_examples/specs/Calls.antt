@@ -10,7 +10,7 @@ use Rattle.store.specs.Place.{StoredValue, objectValue}
 use Rattle.session_record.specs.declared.CallResult.{CallResult}
 use Rattle.session_record.specs.declared.Outcome.{Outcome}
 use Rattle.session_record.specs.declared.Session.{Session}
-use Rattle.session_record.specs.Session.{storeBytes, outcomeParameters}
+use Rattle.session_record.specs.Session.{storeBytes, endingOf, outcomeParameters}
 use Rattle.session.specs.Calls.{Call, answer, callStep, commandSent}
 
 -- ---- the calls
@@ -53,7 +53,7 @@ commandResult n = CallResult.Command (record { size = n })
 
 -- an outcome by its reason and the CVM's number: 15 where no CVM was chosen, 2 for an online PIN
 abbrev pub outcomeResult : Outcome → Reason → CvmNumber → CallResult
-outcomeResult o reason cvm = CallResult.Outcome (outcomeParameters o reason cvm)
+outcomeResult o reason cvm = CallResult.Outcome (outcomeParameters (endingOf o reason) cvm)
 
 abbrev pub endedWith : Reason → CallResult
 endedWith reason = outcomeResult Outcome.Ended reason 15

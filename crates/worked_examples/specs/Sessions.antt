@@ -3,11 +3,12 @@
 -- Assumes nothing.
 use mathlib.Core.List.{List, [], _∷_, _++_}
 use lib.ListN.{replicate}
-use Rattle.basics.specs.Types.{Bytes, StoreBytes, Value, AflBytes, Byte, Tag}
+use Rattle.basics.specs.Types.{Bytes, StoreBytes, Value, AflBytes, Byte, Tag, Count}
 use Rattle.tlv.specs.Encoding.{objectBytes}
 use Rattle.analysis.specs.declared.choice.Choice.{Choice}
 use Rattle.analysis.specs.declared.cvm.Cvm.{Cvm}
 use Rattle.session_record.specs.declared.Outcome.{Outcome}
+use Rattle.session_record.specs.declared.AwaitedResponse.{AwaitedResponse}
 use Rattle.session_record.specs.declared.Phase.{Phase}
 use Rattle.session_record.specs.declared.Session.{Session}
 use Rattle.session_record.specs.Session.{sessionOf, endingOf, freshSession, storeBytes}
@@ -100,16 +101,20 @@ unsoundTrack = 0x54 ∷ 0x13 ∷ []
 
 -- ---- sessions
 
+-- a session that awaits a response, with its count and its store
+abbrev pub waitsOn : AwaitedResponse → Count → StoreBytes → Session
+waitsOn w n b = sessionOf (Phase.Waiting w) n b
+
 -- the store after a start, with mag-stripe mode off, and the session that waits on GPO with it
 abbrev pub startedStore : StoreBytes
 startedStore = storing (startedObjects amountBelow magStripeOff)
 
 abbrev pub waitsOnGpo : Session
-waitsOnGpo = sessionOf Phase.Gpo 1 startedStore
+waitsOnGpo = waitsOn AwaitedResponse.Gpo 1 startedStore
 
 -- waiting on record 1; the transaction limit is 25.00
 abbrev pub waitsOnRecord : List TagValue → Session
-waitsOnRecord objects = sessionOf (Phase.Record (record { number = 1; limit = 2500 })) 2 (storing objects)
+waitsOnRecord objects = waitsOn (AwaitedResponse.Record (record { number = 1; limit = 2500 })) 2 (storing objects)
 
 -- the first of two; and the only one, by the mode and the amount
 abbrev pub waitsOnFirst : Session
@@ -125,13 +130,13 @@ waitsOnLastWithPdol aip = waitsOnRecord ((0x9F38, 0x9A ∷ 0x03 ∷ []) ∷ open
 -- waiting on the cryptogram that was requested by a choice; the CVM is an online PIN, number 2
 abbrev pub waitsOnCryptogram : Choice → Session
 waitsOnCryptogram choice =
-    sessionOf (Phase.Cryptogram (record { choice = choice; cvm = Cvm.OnlinePin; limit = 2500 })) 3
+    waitsOn (AwaitedResponse.Cryptogram (record { choice = choice; cvm = Cvm.OnlinePin; limit = 2500 })) 3
     (storing ((0x9F34, 0x42 ∷ 0x03 ∷ 0x00 ∷ []) ∷ accountObjects ++ openedObjects emvAip oneRecordAfl amountBelow))
 
 -- waiting on the checksum, with a track
 abbrev pub waitsOnChecksum : Value → Session
 waitsOnChecksum track =
-    sessionOf (Phase.Checksum (record { limit = 2500 })) 3
+    waitsOn (AwaitedResponse.Checksum (record { limit = 2500 })) 3
     (storing (trackObjects track ++ openedObjects magStripeAip oneRecordAfl amountBelow))
 
 -- ended by the terminal
@@ -146,7 +151,7 @@ freshOutOfRanges = sessionOf Phase.Fresh 1 (storeBytes freshSession)
 
 -- waiting on GPO, and ended, with two commands and 131 counted
 abbrev pub gpoOutOfRanges : Session
-gpoOutOfRanges = sessionOf Phase.Gpo 2 startedStore
+gpoOutOfRanges = waitsOn AwaitedResponse.Gpo 2 startedStore
 
 abbrev pub endedOutOfRanges : Session
 endedOutOfRanges = sessionOf (Phase.Ended (endingOf Outcome.Ended 10)) 131 startedStore

@@ -22,11 +22,11 @@ use Rattle.command.specs.WithList.{gpoCommandOf, getProcessingOptions, carriedI
 use Rattle.session_record.specs.Numbers.{outcomeOfReason}
 use Rattle.session_record.specs.Ranges.{isPresentIfRequired, allRequiredPresent, cryptogramDataPresent, trackDataPresent}
 use Rattle.start_data.specs.StartData.{terminalTypeListed, settableByStart, setObject, setObjects, loadStart}
-use Rattle.session.specs.Steps.{Step, withTvr, withFindings}
-use Rattle.session.specs.Start.{startFresh, askGpo}
+use Rattle.session.specs.Steps.{Step, stepOf, withTvr, withFindings}
+use Rattle.session.specs.Start.{askGpo, startCall}
 use Rattle.analysis.specs.Value.{firstBytes}
 use Rattle.analysis.specs.Digits.{bcdFrom, amountOf}
-use Rattle.session_record.specs.Session.{freshSession}
+use Rattle.session_record.specs.Session.{freshSession, storeBytes}
 use Rattle.session_record.proofs.Phases.{fresh-keeps}
 use Rattle.layout.specs.Word.{commandWord}
 use Rattle.session.proofs.Laws.{admitted-in}
@@ -39,16 +39,16 @@ use Rattle.worked_words.specs.Cabinet.{startWord, CabinetWords}
 abbrev wordBy : ℕ → Step → ℕ
 wordBy left st = startAccepted (st .reply .answer) st left [] fullBuffer .word
 
-word-of : (bytes : List ℕ) (left : ℕ) {w : ℕ} → wordBy left (startFresh freshSession bytes fullBuffer) ≡ w → startWord bytes left ≡ w
+word-of : (bytes : List ℕ) (left : ℕ) {w : ℕ} → wordBy left (stepOf freshSession fullBuffer (startCall (freshSession .phase) (storeBytes freshSession) bytes)) ≡ w → startWord bytes left ≡ w
 unfolding startWord sessionToStart if
 word-of bytes left e = ap (wordBy left) (admitted-in freshSession fullBuffer _ (lit≤ tt) fresh-keeps) ∙ e
 
 pub words : CabinetWords
-unfolding recurse recurseBy if both either every bigEndianFrom nibbles tagSize tagSecondByte tagThirdByte tagAt tagFirstByte isTemplate isPrivate lengthOneByte lengthTwoBytes lengthAt headerOf objectBefore
-    primitiveOf primitiveObjects tagBytes lengthBytes dictionaryRows rowPast findRow rowNumberOf numeric digitsThenFs compressed digitsFit fitsRow listedTerminalType rowOffset rowPlace placeValue rowValue putRow objectValueIn entryWithLength dolEntryAt
-    entryBefore entriesNext dolEntries truncated paddingByte padded fittedTo dolEntryBytes dolData dolDataBy gpoCommandOf getProcessingOptions carriedIn generateAc udolOrDefault
-    computeCryptographicChecksum outcomeOfReason isPresentIfRequired allRequiredPresent cryptogramDataPresent trackDataPresent terminalTypeListed settableByStart setObject setObjects loadStart withTvr withFindings askGpo firstBytes bcdFrom amountOf commandWord
-    cabinetHeldIn cabinetAdmitted reservesAmount cabinetOpenWord
+unfolding recurse recurseBy if both either every bigEndianFrom nibbles tagSize tagSecondByte tagThirdByte tagAt tagFirstByte isTemplate isPrivate lengthOneByte lengthTwoBytes lengthAt headerOf
+    objectBefore primitiveOf primitiveObjects tagBytes lengthBytes dictionaryRows rowPast findRow rowNumberOf numeric digitsThenFs compressed digitsFit fitsRow listedTerminalType rowOffset rowPlace
+    placeValue rowValue putRow objectValueIn entryWithLength dolEntryAt entryBefore entriesNext dolEntries truncated paddingByte padded fittedTo dolEntryBytes dolData dolDataBy gpoCommandOf
+    getProcessingOptions carriedIn generateAc udolOrDefault computeCryptographicChecksum outcomeOfReason isPresentIfRequired allRequiredPresent cryptogramDataPresent trackDataPresent
+    terminalTypeListed settableByStart setObject setObjects loadStart withTvr withFindings askGpo firstBytes bcdFrom amountOf commandWord cabinetHeldIn cabinetAdmitted reservesAmount cabinetOpenWord
 words = record {
   opened = refl;
   left-none = refl;

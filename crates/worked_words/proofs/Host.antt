@@ -28,8 +28,8 @@ use Rattle.analysis.specs.Cvm.{cvmProcessing, onDeviceCvm}
 use Rattle.analysis.specs.Action.{hasOnDeviceCvm, transactionLimit, aboveTransactionLimit, aucViolatedIn, restrictionsByte, tvrOf, sameCurrency, cvmConditionsIn, cvmResultIn, tvrWithCvm, findingsOf, actionCodesOf, choiceFor}
 use Rattle.session_record.specs.Numbers.{outcomeOfReason}
 use Rattle.session_record.specs.Ranges.{isPresentIfRequired, allRequiredPresent, cryptogramDataPresent, trackDataPresent}
-use Rattle.session.specs.Steps.{withTvr, withFindings}
-use Rattle.session.specs.Answer.{answerStep, gpoStoreReason, afterGpoRead, gpoStep, recordStep, afterRecordRead, afterLastRecord, afterRecordsEmv, afterAnalysis, requestedCryptogram, askCryptogram, cryptogramOutcome, cryptogramEnding, cryptogramReply}
+use Rattle.session.specs.Steps.{readThen, withTvr, withFindings}
+use Rattle.session.specs.Answer.{answerStep, afterGpo, gpoNext, recordNext, afterRecord, afterLastRecord, afterRecordsEmv, requestedCryptogram, askCryptogram, cryptogramOutcome, cryptogramEnding, cryptogramNext}
 use Rattle.session_record.specs.declared.CallResult.{CallResult}
 use Rattle.session_record.specs.declared.Session.{Session}
 use Rattle.session_record.specs.Session.{freshSession, storeBytes}
@@ -59,13 +59,14 @@ counts : (s : Session) → length (storeBytes s) ≡ storeSize → countWord (de
 counts s z = ap countWord (decode-encode s (0xEE ∷ []) z)
 
 pub words : HostWords
-unfolding recurse recurseBy if both either every bigEndianFrom nibbles tagSize tagSecondByte tagThirdByte tagAt tagFirstByte isTemplate isPrivate lengthOneByte lengthTwoBytes lengthAt headerOf objectCount nextOf withLeaf
-    withNode parseTree tagBytes lengthBytes dictionaryRows rowPast findRow rowNumberOf numeric digitsThenFs compressed digitsFit fitsRow rowOffset rowPlace placeValue rowValue putRow objectValueIn validEntry aflEntries wholeEntries
-    consecutiveRecords entriesRecords sumOverEntries acceptsAfl nthRecord kthRecord aflRecordAt allowedInTemplate allowedInResponse allowedNow takeItem takeNext takeAll primitiveItems responseBody gpoParts iadPart cryptogramParts primitiveParts templateParts
-    readBody isRead isStatus9000 isResponseLength readAnswer firstBytes bcdFrom yearOf dateOf dateLater amountOf amountAbove cvmProcessing onDeviceCvm hasOnDeviceCvm transactionLimit aboveTransactionLimit aucViolatedIn restrictionsByte
-    tvrOf sameCurrency cvmConditionsIn cvmResultIn tvrWithCvm findingsOf actionCodesOf choiceFor outcomeOfReason isPresentIfRequired allRequiredPresent cryptogramDataPresent trackDataPresent withTvr withFindings gpoStoreReason afterGpoRead
-    gpoStep recordStep afterRecordRead afterLastRecord afterRecordsEmv afterAnalysis requestedCryptogram askCryptogram cryptogramOutcome cryptogramEnding cryptogramReply commandWord firstFound foundShifted findTagIn findTag holdsRecord
-    decodedSession hostStepAdmitted objectCopiedFrom objectOfSession
+unfolding recurse recurseBy if both either every bigEndianFrom nibbles tagSize tagSecondByte tagThirdByte tagAt tagFirstByte isTemplate isPrivate lengthOneByte lengthTwoBytes lengthAt headerOf
+    objectCount nextOf withLeaf withNode parseTree tagBytes lengthBytes dictionaryRows rowPast findRow rowNumberOf numeric digitsThenFs compressed digitsFit fitsRow rowOffset rowPlace placeValue
+    rowValue putRow objectValueIn validEntry aflEntries wholeEntries consecutiveRecords entriesRecords sumOverEntries acceptsAfl nthRecord kthRecord aflRecordAt allowedInTemplate allowedInResponse
+    allowedNow takeItem takeNext takeAll primitiveItems responseBody gpoParts iadPart cryptogramParts primitiveParts templateParts readBody isRead isStatus9000 isResponseLength readAnswer firstBytes
+    bcdFrom yearOf dateOf dateLater amountOf amountAbove cvmProcessing onDeviceCvm hasOnDeviceCvm transactionLimit aboveTransactionLimit aucViolatedIn restrictionsByte tvrOf sameCurrency
+    cvmConditionsIn cvmResultIn tvrWithCvm findingsOf actionCodesOf choiceFor outcomeOfReason isPresentIfRequired allRequiredPresent cryptogramDataPresent trackDataPresent withTvr withFindings
+    afterGpo gpoNext readThen recordNext afterRecord afterLastRecord afterRecordsEmv requestedCryptogram askCryptogram cryptogramOutcome cryptogramEnding cryptogramNext commandWord firstFound
+    foundShifted findTagIn findTag holdsRecord decodedSession hostStepAdmitted objectCopiedFrom objectOfSession
 words = record {
   commands = refl;
   outcomes = refl;
