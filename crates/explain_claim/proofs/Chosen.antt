@@ -25,7 +25,6 @@ use Rattle.command.proofs.Commands as list
 use Rattle.analysis.specs.Value.{firstBytes}
 use Rattle.analysis.specs.Choice.{stageHoldsBit, lowestBit, denialStage, onlineStage, defaultStage, noActionCodes, stageHolds, onlineCapabilityOf, generateAcP1}
 use Rattle.analysis.specs.Action.{terminalType, actionCodesOf}
-use Rattle.analysis.specs.declared.choice.OnlineCapability.{OnlineCapability}
 use Rattle.analysis.specs.declared.choice.Choice.{Choice}
 use Rattle.analysis.specs.declared.choice.LowestBit.{LowestBit}
 use Rattle.analysis.specs.declared.choice.ActionCodes.{ActionCodes}
@@ -53,8 +52,7 @@ use Rattle.explain.specs.Explain.{cardAsksMagStripe, explainedInPhase, explanat
 use Rattle.explain.specs.Promise.{choiceForcedBy, choiceUnforcedAt, BitNamed, NoBitNamed, ExplanationHolds}
 use Rattle.explain.proofs.Laws.{deciding-stage, ended-reason, by-reason, by-mag-stripe, by-choice, same-p1, told}
 use Rattle.explain_claim.specs.Explained.{awaitsCryptogram, isDecided, hasChoice, endsWithCode, generateAcs, p1s}
-use Rattle.explain_claim.specs.Explained.{choiceStores, AtChoice, holdsAt, isDenied}
-use Rattle.explain_claim.specs.Explained.{capabilityIn, DecidedAt, LowestAt, NoneAt, HeldBy}
+use Rattle.explain_claim.specs.Explained.{choiceStores, AtChoice, holdsAt, DecidedAt, LowestAt, NoneAt, HeldBy}
 use Rattle.explain_claim.specs.Explained.{explainedChoice, explainedStage, OneRank}
 use Rattle.explain_claim.proofs.Kept.{SameTerminal, SameCard, same-choice}
 
@@ -295,24 +293,10 @@ module _ {ps : List ℕ} {qs : List (List ℕ)} (b : List ℕ) (k : KeptChoice p
   -- the stage that decided
   then-decided : (stage : Stage) → decidingIn b ≡ Deciding.At stage → DecidedAt stage (k .store)
   unfolding stageIn
-  then-decided stage e = go (capabilityIn (k .store)) (isDenied (k .store)) refl refl given
-    where
-      given : stageBy (capabilityIn (k .store)) (isDenied (k .store)) ≡ Deciding.At stage
-      given =
-          sym (ap₂ stageBy (ap onlineCapabilityOf type-same)
-          (ap₂ (λ (r : List ℕ) (l : List ActionCodes). stageHolds r l denialStage) tvr-same codes-same))
-          ∙ deciding-stage b stage e
-
-      is : (g : Stage) → g ≡ stage → DecidedAt g (k .store) → DecidedAt stage (k .store)
-      is g z d = subst (λ (x : Stage). DecidedAt x (k .store)) z d
-
-      go : (r : OnlineCapability) (h : Bool) → capabilityIn (k .store) ≡ r → isDenied (k .store) ≡ h
-          → stageBy r h ≡ Deciding.At stage → DecidedAt stage (k .store)
-      go r true c h f = let z : Stage.Denial ≡ stage = cc in is Stage.Denial z h
-      go OnlineCapability.OnlineOnly false c h f = let z : Stage.OnlineOnly ≡ stage = cc in is Stage.OnlineOnly z (h, c)
-      go OnlineCapability.OfflineOnly false c h f = let z : Stage.Default ≡ stage = cc in is Stage.Default z (h, c)
-      go OnlineCapability.OnlineCapable false c h f = let z : Stage.Online ≡ stage = cc in is Stage.Online z (h, c)
-      go OnlineCapability.Unlisted false c h f = let z : _≡_ {A = ℕ} 0 1 = cc in absurd (omega arith)
+  then-decided stage e =
+      sym (ap₂ stageBy (ap onlineCapabilityOf type-same)
+      (ap₂ (λ (r : List ℕ) (l : List ActionCodes). stageHolds r l denialStage) tvr-same codes-same))
+      ∙ deciding-stage b stage e
 
   then-lowest : (c : Cause) → BitNamed b c → LowestAt (c .stage) (c .bit) (k .store)
   unfolding stageHoldsBit

@@ -1,5 +1,5 @@
-pub mod HolderParts
 pub mod Kept
 pub mod Chosen
+pub mod FormerClaim
 pub mod Calls
 pub mod Examples

@@ -14,9 +14,7 @@ use Rattle.basics.specs.Types.{StoreBytes, CommandBytes, Byte, Tag}
 use Rattle.basics.specs.Choice.{if_then_else_, _and_, _or_, _=?_}
 use Rattle.basics.specs.Reason.{reasonNone}
 use Rattle.store.specs.Held.{hasObject, lacksObject}
-use Rattle.analysis.specs.Choice.{stageHoldsBit, denialStage, stageHolds, onlineCapabilityOf, generateAcP1}
-use Rattle.analysis.specs.Action.{terminalType, actionCodesOf}
-use Rattle.analysis.specs.declared.choice.OnlineCapability.{OnlineCapability}
+use Rattle.analysis.specs.Choice.{stageHoldsBit, generateAcP1}
 use Rattle.analysis.specs.declared.choice.Choice.{Choice}
 use Rattle.laws.specs.Rank.{choiceRank}
 use Rattle.session_record.specs.declared.AwaitedResponse.{AwaitedResponse}
@@ -29,8 +27,9 @@ use Rattle.session.specs.Calls.{CallMade, callResult, commandSent}
 use Rattle.session_claim.specs.Order.{beginsWith}
 use Rattle.explain.specs.declared.Cause.{Cause}
 use Rattle.explain.specs.declared.Explanation.{Explanation}
+use Rattle.explain.specs.declared.Deciding.{Deciding}
 use Rattle.explain.specs.declared.Stage.{Stage}
-use Rattle.explain.specs.Explain.{storedTvr, storedChoice, bitHolder, actionCodesOfStage, cryptogramRank}
+use Rattle.explain.specs.Explain.{storedTvr, storedChoice, stageIn, bitHolder, actionCodesOfStage, cryptogramRank}
 use Rattle.explain.specs.Explain.{storedCryptogramType, requestedType, cardAsksMagStripe, explanationOf}
 use Rattle.explain.specs.Promise.{choiceForcedBy, choiceUnforcedAt}
 
@@ -108,19 +107,9 @@ pub record AtChoice (ms : List CallMade) (P : StoreBytes → Type 0) : Type 0 wh
 abbrev pub holdsAt : StoreBytes → Stage → ℕ → Bool
 holdsAt b stage i = stageHoldsBit (storedTvr b) (actionCodesOfStage b stage) i
 
--- a bit of TVR is in a denial code, and what the terminal's type allows
-abbrev pub isDenied : StoreBytes → Bool
-isDenied b = stageHolds (storedTvr b) (actionCodesOf b) denialStage
-
-abbrev pub capabilityIn : StoreBytes → OnlineCapability
-capabilityIn b = onlineCapabilityOf (terminalType b)
-
 -- a stage decides: denial where one of its codes has a bit of TVR, else the one of the terminal's type
 abbrev pub DecidedAt : Stage → StoreBytes → Type 0
-DecidedAt Stage.Denial     b = isDenied b ≡ true
-DecidedAt Stage.OnlineOnly b = (isDenied b ≡ false) × (capabilityIn b ≡ OnlineCapability.OnlineOnly)
-DecidedAt Stage.Default    b = (isDenied b ≡ false) × (capabilityIn b ≡ OnlineCapability.OfflineOnly)
-DecidedAt Stage.Online     b = (isDenied b ≡ false) × (capabilityIn b ≡ OnlineCapability.OnlineCapable)
+DecidedAt stage b = stageIn b ≡ Deciding.At stage
 
 -- bit i, of the 40, is the lowest that the stage holds
 pub record LowestAt (stage : Stage) (i : ℕ) (b : StoreBytes) : Type 0 where

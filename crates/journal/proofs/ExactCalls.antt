@@ -2,7 +2,7 @@
 -- written as it (`ExactCall`), and the second is its reply.
 -- Assumes nothing.
 use mathlib.Core.Path.{_≡_, refl, sym, ap, ap₂, subst, _∙_}
-use mathlib.Core.Bool.{true, false, not}
+use mathlib.Core.Bool.{Bool, true, false, not}
 use mathlib.Core.List.{List, [], _∷_, _++_}
 use mathlib.Core.Option.{Option, some, none}
 use Prim.Native.Nat.{ℕ, suc, _<_}
@@ -14,11 +14,11 @@ use Rattle.basics.proofs.Laws.{if-no, if-ind, both-yes}
 use Rattle.basics.proofs.Alike.{alike-eq}
 use Rattle.session_record.specs.declared.Session.{Session}
 use Rattle.session.specs.Steps.{Step}
-use Rattle.session.specs.Calls.{Call, callStep, playCalls, isRefusal, callRefused}
+use Rattle.session.specs.Calls.{Call, CallMade, callStep, playCalls, isRefusal, callRefused}
 use Rattle.step_laws.proofs.EveryCall.{Came}
 use Rattle.journal.specs.Record.{journalCallRecord, callFrom, journalOf, concatenated}
 use Rattle.journal.specs.Verdict.{ExpectedNext, expectedNext, replyExpectedAfter, callJudged, recordJudged, recordJudgedBy}
-use Rattle.journal.specs.ConformingRecords.{AllBytes, CallOfBytes, noneRefused, KernelWritesBytes}
+use Rattle.journal.specs.ConformingRecords.{AllBytes, CallOfBytes, KernelWritesBytes}
 use Rattle.journal.proofs.Kept.{call-came}
 use Rattle.journal.proofs.WrittenBuffer.{dueBy}
 use Rattle.journal.proofs.Written.{Walks}
@@ -72,6 +72,9 @@ journal-cons : (s : Session) (c : Call) (cs : List Call) → isRefusal (callStep
     → journalOf (playCalls s (c ∷ cs)) ≡ journalCallRecord c ∷ dueBy (callStep s c) ∷ journalOf (playCalls (callStep s c .reply .session) cs)
 unfolding journalOf playCalls
 journal-cons s c cs r = if-no _ _ r
+
+abbrev noneRefused : List CallMade → Bool
+noneRefused ms = every (λ (m : CallMade). not (callRefused m)) ms
 
 taken-cons : (s : Session) (c : Call) (cs : List Call) → isRefusal (callStep s c .reply .answer) ≡ false
     → noneRefused (playCalls (callStep s c .reply .session) cs) ≡ true → noneRefused (playCalls s (c ∷ cs)) ≡ true

@@ -4,7 +4,7 @@
 -- command buffers.
 -- Assumes nothing.
 use mathlib.Core.Path.{_≡_}
-use mathlib.Core.Bool.{Bool, true, not}
+use mathlib.Core.Bool.{true, not}
 use mathlib.Core.Logic.{_↔_}
 use mathlib.Core.List.{List, [], _∷_, _++_}
 use Prim.Native.Nat.{ℕ, _+_, _-_, _%_, _≤_, _<_}
@@ -20,14 +20,10 @@ use Rattle.journal.specs.Verdict.{firstRecordSize, journalVerdictOf, exp
 
 -- ---- what a conforming kernel writes
 
--- none of the calls was refused
-abbrev pub noneRefused : List CallMade → Bool
-noneRefused ms = every (λ (m : CallMade). not (callRefused m)) ms
-
 -- calls on the session s, none of them refused, write these records first; they may write more
 pub record KernelWrites (s : Session) (records : List Bytes) : Type 0 where
   pub calls : List Call
-  pub taken : noneRefused (playCalls s calls) ≡ true
+  pub taken : every (λ (m : CallMade). not (callRefused m)) (playCalls s calls) ≡ true
   pub first : take (length records) (journalOf (playCalls s calls)) ≡ records
 
 -- a conforming kernel writes these records first: the session is fresh

@@ -7,7 +7,7 @@ use mathlib.Core.Bool.{Bool, true, false, not}
 use mathlib.Core.List.{List, [], _∷_, _++_}
 use mathlib.Core.Option.{Option, some, none}
 use Prim.Native.Nat.{_+_}
-use lib.ListN.{length, take, set, replicate}
+use lib.ListN.{length, take, drop, set, replicate}
 use Rattle.basics.specs.Types.{Bytes, JournalBytes, Buffer, Byte, Count}
 use Rattle.basics.specs.Choice.{if_then_else_, _and_, _or_, _≤?_, _<?_, _=?_}
 use Rattle.session_record.specs.declared.CallResult.{CallResult}
@@ -118,3 +118,9 @@ checkerExpected c =
     if c .standing .conforming or commandRecordSize <? c .standing .size
     then record { bytes = replicate commandRecordSize 0; size = 0 }
     else record { bytes = c .standing .due; size = c .standing .size }
+
+-- ---- the writer
+
+-- kind, length in two bytes and the bytes v at the front of the list l, whose bytes after stay
+abbrev pub recordFilledIn : Byte → Bytes → Bytes → Bytes
+recordFilledIn kind v l = kind ∷ (twoByteLength (length v) ++ (v ++ drop (length v + 3) l))

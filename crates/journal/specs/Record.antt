@@ -30,9 +30,6 @@ mostCommandInRecord = 261
 abbrev pub startRecordSize : Length
 startRecordSize = 1027
 
-abbrev pub answerRecordSize : Length
-answerRecordSize = 261
-
 abbrev pub commandRecordSize : Length
 commandRecordSize = 264
 
@@ -40,7 +37,7 @@ commandRecordSize = 264
 unfoldable pub journalRecordSize : Byte → Length
 journalRecordSize kind =
     if kind =? 1 then startRecordSize
-    else if kind =? 2 then answerRecordSize
+    else if kind =? 2 then mostAnswerInRecord + 3
     else if kind =? 3 then 1
     else if kind =? 4 then 1
     else if kind =? 5 then commandRecordSize
@@ -61,15 +58,11 @@ zeroPadded n v = v ++ replicate (n - length v) 0
 abbrev pub lengthAndPadded : Length → Bytes → Bytes
 lengthAndPadded n v = twoByteLength (length v) ++ zeroPadded n v
 
--- the length that stands for an answer of more bytes than a record has
-abbrev pub longAnswerLength : Length
-longAnswerLength = 0xFFFF
-
 -- a card answer of more than 258 bytes is written as length FF FF and a zero body
 abbrev pub answerBody : Response → Bytes
 answerBody card =
     if length card ≤? mostAnswerInRecord then lengthAndPadded mostAnswerInRecord card
-    else twoByteLength longAnswerLength ++ zeroPadded mostAnswerInRecord []
+    else twoByteLength 0xFFFF ++ zeroPadded mostAnswerInRecord []
 
 -- a call
 abbrev pub journalCallRecord : Call → Bytes
@@ -107,21 +100,17 @@ journalBuffer = replicate leastBuffer 0
 abbrev pub recordLength : Bytes → Length
 recordLength r = getD r 1 0 * 256 + getD r 2 0
 
--- the bytes after the length
-abbrev pub recordBodyIn : Bytes → Bytes
-recordBodyIn r = drop 3 r
-
--- as many of them as the length says
+-- as many bytes after the length as it says
 abbrev pub recordDataIn : Bytes → Bytes
-recordDataIn r = take (recordLength r) (recordBodyIn r)
+recordDataIn r = take (recordLength r) (drop 3 r)
 
 -- the length is at most n, and the bytes after those that it counts are zero
 unfoldable pub recordFits : Length → Bytes → Bool
-recordFits n r = recordLength r ≤? n and every isZeroByte (drop (recordLength r) (recordBodyIn r))
+recordFits n r = recordLength r ≤? n and every isZeroByte (drop (recordLength r) (drop 3 r))
 
 -- length FF FF and a zero body
 unfoldable pub isLongAnswer : Bytes → Bool
-isLongAnswer r = recordLength r =? longAnswerLength and every isZeroByte (recordBodyIn r)
+isLongAnswer r = recordLength r =? 0xFFFF and every isZeroByte (drop 3 r)
 
 -- every answer of more than 258 bytes gets the same reply; this one stands for them
 abbrev pub longAnswer : Response

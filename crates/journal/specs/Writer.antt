@@ -1,15 +1,14 @@
 -- The records that the writer of a journal gives (document 02, Item 1): those of `journal/specs/Record`, and zeros,
 -- which no record is, where there is none.
 -- Assumes nothing.
-use mathlib.Core.List.{List, [], _∷_, _++_}
-use Prim.Native.Nat.{_+_}
-use lib.ListN.{length, drop, replicate}
-use Rattle.basics.specs.Types.{Bytes, StartBytes, Buffer, Byte, Length}
+use mathlib.Core.List.{[]}
+use lib.ListN.{length, replicate}
+use Rattle.basics.specs.Types.{Bytes, StartBytes, Buffer, Length}
 use Rattle.basics.specs.Choice.{if_then_else_, _and_, _≤?_}
 use Rattle.session_record.specs.declared.CallResult.{CallResult}
 use Rattle.session.specs.Calls.{start}
 use Rattle.journal.specs.Record.{mostStartInRecord, mostCommandInRecord, startRecordSize, commandRecordSize}
-use Rattle.journal.specs.Record.{twoByteLength, journalCallRecord, journalReplyRecord}
+use Rattle.journal.specs.Record.{journalCallRecord, journalReplyRecord}
 
 -- a start of more than 1,024 bytes is refused and has no record
 unfoldable pub startRecordBytes : StartBytes → Bytes
@@ -23,7 +22,3 @@ commandRecordBytes n buf =
     if n ≤? mostCommandInRecord and n ≤? length buf
     then journalReplyRecord (CallResult.Command (record { size = n })) buf
     else replicate commandRecordSize 0
-
--- kind, length in two bytes and the bytes v at the front of the list l, whose bytes after stay
-abbrev pub recordFilledIn : Byte → Bytes → Bytes → Bytes
-recordFilledIn kind v l = kind ∷ (twoByteLength (length v) ++ (v ++ drop (length v + 3) l))

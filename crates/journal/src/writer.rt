@@ -12,7 +12,8 @@ ghost use lib.ListN.{length};
 ghost use Rattle.session_record.specs.declared.CallResult.{CallResult};
 ghost use Rattle.session.specs.Calls.{answer as anAnswer, link-failed as aFailure, stop as aStop};
 ghost use Rattle.journal.specs.Record.{journalCallRecord, journalReplyRecord};
-ghost use Rattle.journal.specs.Writer.{startRecordBytes, commandRecordBytes, recordFilledIn};
+ghost use Rattle.journal.specs.Writer.{startRecordBytes, commandRecordBytes};
+ghost use Rattle.journal.specs.Inner.{recordFilledIn};
 
 // A start. More than 1,024 bytes are refused and have no record: zeros.
 pub fn start_record(bytes: &[u8]) -> [u8; START_RECORD]
