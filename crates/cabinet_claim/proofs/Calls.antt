@@ -51,11 +51,11 @@ use Rattle.cabinet.specs.Calls.{CabinetResult, refusedRemaining, refusedCap, ca
 use Rattle.cabinet.specs.Inner.{cabinetFreshStart}
 use Rattle.cabinet.proofs.State.{state-read}
 use Rattle.cabinet.proofs.Laws.{start-running, start-idle}
-use Rattle.cabinet_claim.specs.Account.{CabinetCall, opening, start, answer, link-failed, stop, cabinetStep, cabinetCallMade, playCabinetCalls, finalCabinetState, Account, account, accountOpened, startAmountIn, accountApproves, accountAccepts, accountEnters, accountAfter, isRefusedWord, isApprovedWord, notRefusedForRanges, Balanced}
+use Rattle.cabinet_claim.specs.Account.{CabinetCall, opening, start, answer, link-failed, stop, cabinetStep, playCabinetCalls, finalCabinetState, Account, account, startAmountIn, accountApproves, accountAccepts, accountEnters, accountAfter, isRefusedWord, isApprovedWord, notRefusedForRanges, Balanced}
 use Rattle.cabinet_claim.proofs.Brought.{brought-amount}
 use Rattle.cabinet_claim.proofs.Held.{Ordered, held-ordered, in-order}
 use Rattle.cabinet_claim.proofs.Kernel.{Stays, stays-amount, answer-stays, link-stays, stop-stays}
-use Rattle.cabinet_claim.proofs.Words.{Other, refused-told, refused-other, command-told, command-unapproved, command-other, outcome-told, outcome-approved, outcome-unapproved, outcome-other}
+use Rattle.cabinet_claim.proofs.Words.{cabinetCallMade, accountOpened, Other, refused-told, refused-other, command-told, command-unapproved, command-other, outcome-told, outcome-approved, outcome-unapproved, outcome-other}
 
 -- ---- what goes through every call
 

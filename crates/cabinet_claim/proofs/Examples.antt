@@ -15,7 +15,8 @@ use Rattle.tlv.specs.Primitives.{primitiveOf}
 use Rattle.analysis.specs.Value.{firstBytes}
 use Rattle.analysis.specs.Digits.{bcdFrom, amountOf}
 use Rattle.cabinet_lookup.specs.Value.{heldObjects, firstValue, valueOrDefault}
-use Rattle.cabinet_claim.specs.Account.{opening, start, answer, link-failed, CabinetCallMade, cabinetCallMade, account, startAmountIn, isRefusedWord, isApprovedWord, accountEnters, accountAfter, accountOf}
+use Rattle.cabinet_claim.specs.Account.{opening, start, answer, link-failed, CabinetCallMade, account, startAmountIn, isRefusedWord, isApprovedWord, accountEnters, accountAfter, accountOf}
+use Rattle.cabinet_claim.proofs.Words.{cabinetCallMade}
 
 -- approved with no CVM, with a signature, with none reported; online request, declined, ended by a failed link, select
 -- next; a command, refusal 30

@@ -14,7 +14,14 @@ use Rattle.session_record.specs.declared.OutcomeParameters.{OutcomeParameters}
 use Rattle.session_record.specs.Numbers.{outcomeNumber}
 use Rattle.layout.specs.Word.{wordKind, kindRefusal, kindOutcome, refusalWord, commandWord, outcomeWord}
 use Rattle.layout.proofs.Laws.{command-below, command-kind, outcome-kind, refusal-kind}
-use Rattle.cabinet_claim.specs.Account.{isRefusedWord, isApprovedWord}
+use Rattle.cabinet_claim.specs.Account.{CabinetCall, CabinetCallMade, Account, account, isRefusedWord, isApprovedWord}
+
+-- a call that was made, of its parts, and the account of an opening
+abbrev pub cabinetCallMade : CabinetCall → ℕ → CabinetCallMade
+cabinetCallMade c w = record { call = c; word = w }
+
+abbrev pub accountOpened : ℕ → Account
+accountOpened cap = account cap 0 0
 
 -- a word that is not that of refusal 25
 abbrev pub Other : ℕ → Type 0

@@ -44,14 +44,11 @@ pub record CabinetCallMade : Type 0 where
   pub call : CabinetCall
   pub word : ResultWord
 
--- the same as a function of the two
-abbrev pub cabinetCallMade : CabinetCall → ResultWord → CabinetCallMade
-cabinetCallMade c w = record { call = c; word = w }
-
 -- the calls of a list, each on the bytes that the call before it left
 unfoldable pub playCabinetCalls : Bytes → List CabinetCall → List CabinetCallMade
 playCabinetCalls l [] = []
-playCabinetCalls l (c ∷ cs) = cabinetCallMade c (cabinetStep l c .word) ∷ playCabinetCalls (cabinetStep l c .state) cs
+playCabinetCalls l (c ∷ cs) =
+    let r = cabinetStep l c in record { call = c; word = r .word } ∷ playCabinetCalls (r .state) cs
 
 -- the bytes that the last call left
 unfoldable pub finalCabinetState : Bytes → List CabinetCall → Bytes
@@ -70,10 +67,6 @@ pub record Account : Type 0 where
 -- an account of these parts
 abbrev pub account : Amount → Amount → Amount → Account
 account c n a = record { cap = c; amount = n; approved = a }
-
--- an opening: nothing is approved
-abbrev pub accountOpened : Amount → Account
-accountOpened cap = account cap 0 0
 
 -- the number in the 9F02 of start bytes: the value of their first object of that tag, in digits
 abbrev pub startAmountIn : StartBytes → Amount
@@ -94,7 +87,7 @@ accountApproves w a =
 
 -- a call that was not refused
 abbrev pub accountAccepts : Account → CabinetCall → ResultWord → Account
-accountAccepts a (opening cap)     w = accountOpened cap
+accountAccepts a (opening cap)     w = account cap 0 0
 accountAccepts a (start bytes buf) w = accountApproves w (account (a .cap) (startAmountIn bytes) (a .approved))
 accountAccepts a (answer card buf) w = accountApproves w a
 accountAccepts a (link-failed buf) w = accountApproves w a
@@ -113,7 +106,7 @@ accountAfter a (m ∷ ms) = accountAfter (accountEnters a m) ms
 
 -- the account of calls after an opening with this cap
 abbrev pub accountOf : Amount → List CabinetCallMade → Account
-accountOf cap ms = accountAfter (accountOpened cap) ms
+accountOf cap ms = accountAfter (account cap 0 0) ms
 
 -- ---- the claim
 

@@ -58,9 +58,9 @@ use Rattle.explain.specs.Explain.{storedChoice, storedCryptogramType, cardAsksM
 use Rattle.explain.specs.Promise.{DecisionIs}
 use Rattle.explain.proofs.Laws.{mag-stripe-mode-is}
 use Rattle.explain.proofs.Complete.{Complete, running-complete, waiting-answers, ended-answers, reason-answers, mag-stripe-answers, phase-answers}
-use Rattle.explain_claim.specs.Explained.{awaitsCryptogram, isDecided, bringsIac, iacBrought, iacBroughtLast, endsWithCode, p1s, choiceStores, ExplainedSession}
+use Rattle.explain_claim.specs.Explained.{awaitsCryptogram, isDecided, bringsIac, iacBrought, iacBroughtLast, p1s, choiceStores, ExplainedSession}
 use Rattle.explain_claim.proofs.Kept.{SameTerminal, SameCard, same-choice, same-complete, read-results, read-terminal, read-configuration, read-card, asked-choice}
-use Rattle.explain_claim.proofs.Chosen.{apart, not-asked, is-asked, other-instruction, record-command, Asks, generate-sent, KeptChoice, kept-on, chosen-now, isEarly, Traced, TracedBy, fresh-traced, sentBy, storesBy, Traces, none-added, none-traced, refused-traced, joined, explains-clause, p1-clause, stage-clause, bit-clause, no-bit-clause, holder-clause, lower-clause, not-lower-clause}
+use Rattle.explain_claim.proofs.Chosen.{apart, not-asked, is-asked, other-instruction, record-command, Asks, generate-sent, KeptChoice, kept-on, chosen-now, isEarly, endsWithCode, Traced, TracedBy, fresh-traced, sentBy, storesBy, Traces, none-added, none-traced, refused-traced, joined, explains-clause, p1-clause, stage-clause, bit-clause, no-bit-clause, holder-clause, lower-clause, not-lower-clause}
 
 -- an explanation that is no refusal
 no-refusal : {P : Type 0} → Explanation.NoChoice ≡ Explanation.Refused → P

@@ -38,7 +38,7 @@ use Rattle.session_record.specs.declared.Session.{Session}
 use Rattle.session_record.specs.Session.{storeBytes}
 use Rattle.session_record.specs.Ranges.{magStripeMode, inRanges}
 use Rattle.session.specs.Steps.{Step}
-use Rattle.session_claim.specs.Calls.{commandsSent}
+use Rattle.session_claim.specs.Calls.{commandsSent, callsAccepted, lastElement}
 use Rattle.session.specs.Calls.{CallMade, isRefusal, commandSent}
 use Rattle.session_claim.specs.Order.{beginsWith}
 use Rattle.explain.specs.declared.Cause.{Cause}
@@ -51,7 +51,7 @@ use Rattle.explain.specs.Explain.{explainedAt, explainedWaiting, cryptogramRank
 use Rattle.explain.specs.Explain.{cardAsksMagStripe, explainedInPhase, explanationOf}
 use Rattle.explain.specs.Promise.{choiceForcedBy, choiceUnforcedAt, BitNamed, NoBitNamed, ExplanationHolds}
 use Rattle.explain.proofs.Laws.{deciding-stage, ended-reason, by-reason, by-mag-stripe, by-choice, same-p1, told}
-use Rattle.explain_claim.specs.Explained.{awaitsCryptogram, isDecided, hasChoice, endsWithCode, generateAcs, p1s}
+use Rattle.explain_claim.specs.Explained.{awaitsCryptogram, isDecided, hasChoice, iacBroughtLast, generateAcs, p1s}
 use Rattle.explain_claim.specs.Explained.{choiceStores, AtChoice, holdsAt, DecidedAt, LowestAt, NoneAt, HeldBy}
 use Rattle.explain_claim.specs.Explained.{explainedChoice, explainedStage, OneRank}
 use Rattle.explain_claim.proofs.Kept.{SameTerminal, SameCard, same-choice}
@@ -369,6 +369,10 @@ ofChoice Explanation.NoChoice         = false
 ofChoice Explanation.LowerCryptogram  = true
 ofChoice (Explanation.Forced c)       = true
 ofChoice (Explanation.Unforced stage) = true
+
+-- a list of calls ended with an answer that brought a code
+abbrev pub endsWithCode : List CallMade → Bool
+endsWithCode ms = iacBroughtLast (lastElement (callsAccepted ms))
 
 -- what is traced of a list of calls, and what is kept of its choice
 abbrev pub TracedBy : List CallMade → Session → Type 0

@@ -71,10 +71,6 @@ abbrev pub iacBroughtLast : Option CallMade → Bool
 iacBroughtLast none     = false
 iacBroughtLast (some m) = iacBrought m
 
--- so a list of calls ended
-abbrev pub endsWithCode : List CallMade → Bool
-endsWithCode ms = iacBroughtLast (lastElement (callsAccepted ms))
-
 -- ---- the choice that was handed out
 
 -- the GENERATE AC commands among commands: 80 AE at the front
@@ -181,7 +177,7 @@ pub record ExplainedAsChosen (ms : List CallMade) (s : Session) : Type 0 where
 -- ms are the calls of a list made one after the other from a fresh session in its ranges (`playCalls`), and s is the
 -- session after them (`finalSession`)
 pub record ExplainedSession (ms : List CallMade) (s : Session) : Type 0 where
-  pub explained : endsWithCode ms ≡ false → ExplainedAsChosen ms s
+  pub explained : iacBroughtLast (lastElement (callsAccepted ms)) ≡ false → ExplainedAsChosen ms s
   -- where a decision was reached, the card requests mag-stripe mode exactly where the session is in it
   pub mode : isDecided (s .phase) ≡ true → cardAsksMagStripe (storeBytes s) ≡ magStripeMode (storeBytes s)
 

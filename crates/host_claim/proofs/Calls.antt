@@ -28,11 +28,11 @@ use Rattle.basics.proofs.Laws.{no}
 use Rattle.step_laws.proofs.Refusals.{Other, never-ranges}
 use Rattle.host.specs.Hosted.{HostResult, HostOpened, hostOpenWord}
 use Rattle.host.proofs.Sizes.{Small}
-use Rattle.host_claim.specs.Calls.{HostCall, opening, on-session, CompletedCall, completedCall, completedCalls, bytesAfter}
+use Rattle.host_claim.specs.Calls.{HostCall, opening, on-session, CompletedCall, completedCalls, bytesAfter}
 use Rattle.host_claim.specs.Words.{isNotRanges, beginsAnew, openingAmong, sinceOpening, hostCommands, notRefused, hostUnanswered, firstAnswerCall, hostAfl, hostLastKind}
 use Rattle.host_claim.specs.Claim.{HostDemand3, sessionCalls, asCompleted, SameAsSession, HostClaim}
 use Rattle.host_claim.proofs.Bytes.{record-held, record-behind, record-enough, record-over, as-session}
-use Rattle.host_claim.proofs.Read.{step-small}
+use Rattle.host_claim.proofs.Read.{completedCall, step-small}
 use Rattle.host_claim.proofs.Proper.{session-proper, words-proper, commands-same, taken-same, unanswered-same, afl-same, last-kind-same}
 
 -- ---- the calls since the last accepted opening

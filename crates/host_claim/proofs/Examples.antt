@@ -7,7 +7,8 @@ use mathlib.Core.List.{List, [], _∷_, map}
 use Prim.Native.Nat.{ℕ}
 use Rattle.basics.specs.Choice.{if, both, either}
 use Rattle.session.specs.Calls.{start, answer, link-failed}
-use Rattle.host_claim.specs.Calls.{opening, on-session, CompletedCall, completedCall}
+use Rattle.host_claim.specs.Calls.{opening, on-session, CompletedCall}
+use Rattle.host_claim.proofs.Read.{completedCall}
 use Rattle.host_claim.specs.Words.{isCommandWord, isOutcomeWord, isRefusalWord, openingAmong, sinceOpening, hostCommands, notRefused, answerAmong, withoutAnswer, hostUnanswered}
 
 -- a command of 8 and of 261 bytes; approved with no CVM, with a signature; ended by a failed link; refusals 21 and 25

@@ -22,9 +22,13 @@ use Rattle.session_claim.specs.Order.{firstAnswer, lastKind}
 use Rattle.session_claim.specs.Claim.{stageBy, stageAfter}
 use Rattle.host.proofs.Sizes.{Small, SmallStep, start-small, answer-small, link-small, stop-small}
 use Rattle.host.proofs.Laws.{tells}
-use Rattle.host_claim.specs.Calls.{CompletedCall}
+use Rattle.host_claim.specs.Calls.{HostCall, CompletedCall}
 use Rattle.host_claim.specs.Words.{isCommandWord, isOutcomeWord, isRefusalWord, hostCommands, notRefused, answerAmong, withoutAnswer, hostUnanswered, firstAnswerCall, hostLastKind, stageByWord, hostStage}
 use Rattle.host_claim.specs.Claim.{asCompleted}
+
+-- a call that was made, of its parts
+abbrev pub completedCall : HostCall → ℕ → List ℕ → CompletedCall
+completedCall c w buf = record { call = c; word = w; buffer = buf }
 
 -- ---- a word
 

@@ -39,15 +39,11 @@ pub record CompletedCall : Type 0 where
   pub word : ResultWord
   pub buffer : Buffer
 
--- the same as a function of the three
-abbrev pub completedCall : HostCall → ResultWord → Buffer → CompletedCall
-completedCall c w buf = record { call = c; word = w; buffer = buf }
-
 -- the calls of a list, each on the bytes that the call before it left
 unfoldable pub completedCalls : Bytes → List HostCall → List CompletedCall
 completedCalls l [] = []
 completedCalls l (c ∷ cs) =
-    completedCall c (hostStep l c .word) (hostStep l c .buffer) ∷ completedCalls (hostStep l c .session) cs
+    let r = hostStep l c in record { call = c; word = r .word; buffer = r .buffer } ∷ completedCalls (r .session) cs
 
 -- the bytes that the last call left
 unfoldable pub bytesAfter : Bytes → List HostCall → Bytes

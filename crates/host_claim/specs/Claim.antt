@@ -19,7 +19,7 @@ use Rattle.session.specs.Calls.{Call, CallMade, callResult, playCalls, finalSes
 use Rattle.session_claim.specs.Order.{commandKind, firstAnswer, publishedOrder, lastKind, acceptedAfl}
 use Rattle.session_claim.specs.Claim.{mostCommandsFor, SessionProper}
 use Rattle.host.specs.Hosted.{countWord}
-use Rattle.host_claim.specs.Calls.{HostCall, opening, on-session, CompletedCall, completedCall}
+use Rattle.host_claim.specs.Calls.{HostCall, opening, on-session, CompletedCall}
 use Rattle.host_claim.specs.Words.{isNotRanges, sinceOpening, hostCommands, notRefused, hostUnanswered}
 use Rattle.host_claim.specs.Words.{firstAnswerCall, hostAfl, hostLastKind, hostStage}
 
@@ -71,7 +71,7 @@ sessionAfter ms = finalSession freshSession (sessionCalls ms)
 
 -- a session's call as the host sees it: the word of its reply, and its buffer
 abbrev pub asCompleted : CallMade → CompletedCall
-asCompleted m = completedCall (on-session (m .call)) (resultWord (callResult m)) (m .step .buffer)
+asCompleted m = record { call = on-session (m .call); word = resultWord (callResult m); buffer = m .step .buffer }
 
 -- ms are the calls since the last accepted opening, l are the bytes after them, and before are those that were opened
 pub record SameAsSession (before : Bytes) (ms : List CompletedCall) (l : Bytes) : Type 0 where

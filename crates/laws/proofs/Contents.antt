@@ -21,7 +21,7 @@ use Rattle.reading.specs.Taking.{PrimitiveItem, primitiveItem, primitiveItems, 
 use Rattle.reading.specs.Answer.{ReadingOutcome, readingOutcome, templateBody, storedIfAllowed, readParts, readTree}
 use Rattle.reading.proofs.Kept.{All}
 use Rattle.reading.proofs.Parts.{judged-yes, judged-no, template-right}
-use Rattle.laws.specs.Records.{treeBrings, recordTree, ShareNoTag, readContents, ReadingAccepted, storeAfterReading, ContentsAgree}
+use Rattle.laws.specs.Records.{treeBrings, recordTree, ShareNoTag, readContents, ReadingAccepted, ContentsAgree}
 use Rattle.laws.proofs.Taking.{Run, run-is, run-of, run-join, past-lists}
 
 -- ---- the objects of a tree, by their tags
@@ -74,13 +74,13 @@ read-is {b} {c} r = by-tree b c (r .tree) (r .parsed) ∙ judged-yes b _ (run-is
 read-accepted : {b c d : List ℕ} → Read b c d → ReadingAccepted (readContents c) b
 read-accepted r = ap (λ (o : ReadingOutcome). o .reason) (read-is r)
 
-read-store : {b c d : List ℕ} → Read b c d → storeAfterReading (readContents c) b ≡ d
+read-store : {b c d : List ℕ} → Read b c d → readContents c b .store ≡ d
 read-store r = ap (λ (o : ReadingOutcome). o .store) (read-is r)
 
-accepted-read : (b c : List ℕ) → length b ≡ storeSize → ReadingAccepted (readContents c) b → Read b c (storeAfterReading (readContents c) b)
+accepted-read : (b c : List ℕ) → length b ≡ storeSize → ReadingAccepted (readContents c) b → Read b c (readContents c b .store)
 accepted-read b c l a = go (recordTree c) refl
   where
-    go : (x : Option Forest) → recordTree c ≡ x → Read b c (storeAfterReading (readContents c) b)
+    go : (x : Option Forest) → recordTree c ≡ x → Read b c (readContents c b .store)
     go none p =
         let e : _≡_ {A = ℕ} 2 0 = sym (ap (λ (x : Option Forest). readTree aRecord b (templateBody 0x70 x) .reason) p) ∙ a in
         absurd (omega arith)
@@ -115,8 +115,8 @@ contents-agree b c d l share p q =
     let r = accepted-read b c l p in
     let s = accepted-read b d l q in
     let z = past-lists inRecordResponse (apart (r .tree) (s .tree) (tags r s)) (r .run) (s .run) in
-    let second : Read (storeAfterReading (readContents c) b) d (z .0) = record { tree = s .tree; parsed = s .parsed; run = z .1 } in
-    let first : Read (storeAfterReading (readContents d) b) c (z .0) = record { tree = r .tree; parsed = r .parsed; run = z .2 } in
+    let second : Read (readContents c b .store) d (z .0) = record { tree = s .tree; parsed = s .parsed; run = z .1 } in
+    let first : Read (readContents d b .store) c (z .0) = record { tree = r .tree; parsed = r .parsed; run = z .2 } in
     let joined = read-join r second in
     let swapped = read-join s first in
     record {

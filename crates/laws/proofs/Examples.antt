@@ -25,7 +25,7 @@ use Rattle.reading.specs.Taking.{primitiveItems, allowedInTemplate, allowedInRe
 use Rattle.reading.specs.Answer.{ReadingOutcome, responseBody, templateParts, readBody, isRead, isStatus9000, isResponseLength, readAnswer}
 use Rattle.dol.specs.Entries.{entryWithLength, dolEntryAt, entryBefore, entriesNext, dolEntries}
 use Rattle.dol.specs.Filling.{truncated, paddingByte, padded, fittedTo, dolEntryBytes, dolData, dolDataBy, dolFilled}
-use Rattle.laws.specs.Records.{treeBrings, bringsIn, recordTree, readContents, readRecordAnswer, storeAfterReading, recordContents, isRecordAnswer, shortestRecord}
+use Rattle.laws.specs.Records.{treeBrings, bringsIn, recordTree, readContents, readRecordAnswer, recordContents, isRecordAnswer, shortestRecord}
 
 -- ---- stores
 
@@ -71,8 +71,8 @@ first-broken = refl
 -- the reasons and the stores of two contents: c and then d, d and then c, and joined in both ways
 abbrev ways : List ℕ → List ℕ → List ℕ → List ReadingOutcome
 ways b c d =
-    readContents d (storeAfterReading (readContents c) b)
-    ∷ readContents c (storeAfterReading (readContents d) b)
+    readContents d (readContents c b .store)
+    ∷ readContents c (readContents d b .store)
     ∷ readContents (c ++ d) b
     ∷ readContents (d ++ c) b
     ∷ []
@@ -149,8 +149,8 @@ inOne = 0x70 ∷ 0x09 ∷ 0x5F ∷ 0x34 ∷ 0x01 ∷ 0x01 ∷ 0x8C ∷ 0x03 ∷ 
 
 abbrev answers : List ReadingOutcome
 answers =
-    readRecordAnswer (sfi 10) other (storeAfterReading (readRecordAnswer (sfi 1) one) empty)
-    ∷ readRecordAnswer (sfi 1) one (storeAfterReading (readRecordAnswer (sfi 10) other) empty)
+    readRecordAnswer (sfi 10) other (readRecordAnswer (sfi 1) one empty .store)
+    ∷ readRecordAnswer (sfi 1) one (readRecordAnswer (sfi 10) other empty .store)
     ∷ readRecordAnswer (sfi 2) inOne empty
     ∷ []
 

@@ -59,21 +59,16 @@ readRecordAnswer sfi s b = readAnswer (Record sfi) b s
 abbrev pub ReadingAccepted : StoreReading → StoreBytes → Type 0
 ReadingAccepted reading b = reading b .reason ≡ reasonNone
 
--- the store that a reading leaves of the store b
-abbrev pub storeAfterReading : StoreReading → StoreBytes → StoreBytes
-storeAfterReading reading b = reading b .store
-
 -- two readings, one after the other: both are accepted in both orders, and the store is the same, byte for byte
 pub record EitherOrder (first second : StoreReading) (b : StoreBytes) : Type 0 where
-  pub behind-first : ReadingAccepted second (storeAfterReading first b)
-  pub behind-second : ReadingAccepted first (storeAfterReading second b)
-  pub store :
-      storeAfterReading second (storeAfterReading first b) ≡ storeAfterReading first (storeAfterReading second b)
+  pub behind-first : ReadingAccepted second (first b .store)
+  pub behind-second : ReadingAccepted first (second b .store)
+  pub store : second (first b .store) .store ≡ first (second b .store) .store
 
 -- one reading in place of two: it is accepted, and leaves the store that the two leave
 pub record InOneReading (whole first second : StoreReading) (b : StoreBytes) : Type 0 where
   pub accepted : ReadingAccepted whole b
-  pub store : storeAfterReading whole b ≡ storeAfterReading second (storeAfterReading first b)
+  pub store : whole b .store ≡ second (first b .store) .store
 
 -- what holds of the contents c and d on the store b: read in either order, and joined in one content in either order
 pub record ContentsAgree (b : StoreBytes) (c d : Bytes) : Type 0 where

@@ -57,7 +57,8 @@ pub record HostWords : Type 0 where
   pub refusals : map (λ n. resultWord (refusalResult n)) (20 ∷ 21 ∷ 22 ∷ 23 ∷ 24 ∷ 25 ∷ [])
       ≡ 0x20014 ∷ 0x20015 ∷ 0x20016 ∷ 0x20017 ∷ 0x20018 ∷ 0x20019 ∷ []
   -- opening one byte less than a record, and as many as a record
-  pub opened : hostOpenWord (replicate (recordSize - 1) 0) ∷ hostOpenWord (replicate recordSize 0) ∷ [] ≡ 0x20019 ∷ 0 ∷ []
+  pub opened : hostOpenWord (replicate (recordSize - 1) 0) ∷ hostOpenWord (replicate recordSize 0) ∷ []
+      ≡ 0x20019 ∷ 0 ∷ []
   -- a call on bytes: too short a buffer before bytes that hold no record, for a start and an answer
   pub start-buffer-record : hostStart [] [] shortBuffer .word ≡ 0x20016
   pub start-record : hostStart [] [] fullBuffer .word ≡ 0x20019
