@@ -52,8 +52,14 @@ holder-same : (h : Holder) (p : ActionCodes) (i : ℕ)
     → (h ≡ bitHolder p i) ↔ ((numberedBit (p .card) i ≡ isCard h) × (numberedBit (p .terminal) i ≡ isTerminal h))
 unfolding bitHolder
 holder-same h p i =
-    (λ e. (sym (ap isCard e ∙ card-of _ _), sym (ap isTerminal e ∙ terminal-of _ _)),
+    (λ e. (sym (ap isCard e ∙ card-of x y), sym (ap isTerminal e ∙ terminal-of x y)),
     λ w. sym (back h) ∙ sym (ap₂ holderBy (w .0) (w .1)))
+  where
+    x : Bool
+    x = numberedBit (p .card) i
+
+    y : Bool
+    y = numberedBit (p .terminal) i
 
 -- ---- the stage
 

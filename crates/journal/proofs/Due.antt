@@ -17,8 +17,9 @@ use Rattle.session.specs.Steps.{Step, DidStep}
 use Rattle.step_laws.proofs.EveryCall.{Came}
 use Rattle.journal.specs.declared.CheckState.{CheckState}
 use Rattle.journal.specs.Record.{twoByteLength, zeroPadded, mostCommandInRecord, journalBuffer, journalReplyRecord}
-use Rattle.journal.specs.Verdict.{ExpectedNext, expectedNext, replyExpected, replyExpectedAfter, recordJudgedBy}
+use Rattle.journal.specs.Verdict.{ExpectedNext, expectedNext, replyExpected, recordJudgedBy}
 use Rattle.journal.specs.Inner.{replyRecordWithBuffer, checkStateOf, checkStateBy}
+use Rattle.journal.proofs.Walk.{replyExpectedAfter}
 
 -- ---- zeros
 

@@ -16,9 +16,9 @@ use Rattle.basics.proofs.Order.{equal-or-not}
 use Rattle.session_record.specs.Session.{freshSession}
 use Rattle.journal.specs.declared.JournalVerdict.{JournalVerdict}
 use Rattle.journal.specs.Record.{journalRecordSize, concatenated}
-use Rattle.journal.specs.Verdict.{ExpectedNext, expectedAtStart, recordJudged, verdictContinues, verdictFrom, journalVerdictOf, firstRecordSize}
+use Rattle.journal.specs.Verdict.{ExpectedNext, expectedAtStart, recordJudged, verdictFrom, journalVerdictOf, firstRecordSize}
 use Rattle.journal.specs.ConformingRecords.{AllBytes, Conforming, KernelWritesBytes, NoContinuation, BehindFront, VerdictOn}
-use Rattle.journal.proofs.Walk.{unroll, ends, unknown, cut, whole}
+use Rattle.journal.proofs.Walk.{verdictContinues, unroll, ends, unknown, cut, whole}
 use Rattle.journal.proofs.Byte.{size-none}
 use Rattle.journal.proofs.Written.{Walks, Walked, verdict-behind, all-walked}
 use Rattle.journal.proofs.ExactCall.{same-some, nothing, bytes-front}

@@ -17,8 +17,9 @@ use Rattle.session.specs.Steps.{Step}
 use Rattle.session.specs.Calls.{Call, CallMade, callStep, playCalls, isRefusal, callRefused}
 use Rattle.step_laws.proofs.EveryCall.{Came}
 use Rattle.journal.specs.Record.{journalCallRecord, callFrom, journalOf, concatenated}
-use Rattle.journal.specs.Verdict.{ExpectedNext, expectedNext, replyExpectedAfter, callJudged, recordJudged, recordJudgedBy}
+use Rattle.journal.specs.Verdict.{ExpectedNext, expectedNext, callJudged, recordJudged, recordJudgedBy}
 use Rattle.journal.specs.ConformingRecords.{AllBytes, CallOfBytes, KernelWritesBytes}
+use Rattle.journal.proofs.Walk.{replyExpectedAfter}
 use Rattle.journal.proofs.Kept.{call-came}
 use Rattle.journal.proofs.WrittenBuffer.{dueBy}
 use Rattle.journal.proofs.Written.{Walks}

@@ -12,8 +12,8 @@ use Rattle.basics.proofs.Laws.{if-ind}
 use Rattle.basics.proofs.Recursion.{shorter-first}
 use Rattle.journal.specs.declared.JournalVerdict.{JournalVerdict}
 use Rattle.journal.specs.Record.{journalRecordSize}
-use Rattle.journal.specs.Verdict.{ExpectedNext, expectedAtStart, recordJudged, verdictContinues, verdictFrom, journalVerdictOf}
-use Rattle.journal.proofs.Walk.{unroll}
+use Rattle.journal.specs.Verdict.{ExpectedNext, expectedAtStart, recordJudged, verdictFrom, journalVerdictOf}
+use Rattle.journal.proofs.Walk.{verdictContinues, unroll}
 use Rattle.journal.proofs.Kept.{Kept, first-kept, judged-kept, few-records}
 
 same-number : (n m : ℕ) → JournalVerdict.Accepted n ≡ JournalVerdict.Accepted m → n ≡ m

@@ -31,7 +31,8 @@ use Rattle.step_laws.proofs.Ranges.{start-keeps, answer-keeps, link-keeps, stop
 use Rattle.basics.proofs.Laws.{no}
 use Rattle.step_laws.proofs.EveryCall.{Came, start-came, answer-came, link-came, stop-came}
 use Rattle.journal.specs.Record.{journalRecordSize, twoByteLength, zeroPadded, mostCommandInRecord, journalBuffer, mostStartInRecord, mostAnswerInRecord, recordFits, isLongAnswer, callFrom}
-use Rattle.journal.specs.Verdict.{ExpectedNext, expectedNext, expectedAtStart, replyExpectedAfter, callJudged, recordJudgedBy, firstRecordSize}
+use Rattle.journal.specs.Verdict.{ExpectedNext, expectedNext, expectedAtStart, callJudged, recordJudgedBy, firstRecordSize}
+use Rattle.journal.proofs.Walk.{replyExpectedAfter}
 
 -- ---- what is kept from record to record
 

@@ -17,8 +17,8 @@ use Rattle.basics.proofs.Laws.{if-ind}
 use Rattle.basics.proofs.Order.{equal-or-not}
 use Rattle.basics.proofs.Laws.{no}
 use Rattle.journal.specs.declared.JournalVerdict.{JournalVerdict}
-use Rattle.journal.specs.Verdict.{ExpectedNext, recordJudged, verdictContinues, verdictFrom, journalVerdictOf, expectedAtStart, firstRecordSize, replyDueThen, replyDueAfter, expectedReplyBy, expectedReplyOf}
-use Rattle.journal.proofs.Walk.{ends, unknown, cut, whole, due-whole, nothing-judged}
+use Rattle.journal.specs.Verdict.{ExpectedNext, recordJudged, verdictFrom, journalVerdictOf, expectedAtStart, firstRecordSize, replyDueAfter, expectedReplyBy, expectedReplyOf}
+use Rattle.journal.proofs.Walk.{verdictContinues, replyDueThen, ends, unknown, cut, whole, due-whole, nothing-judged}
 use Rattle.journal.proofs.Kept.{nothing, Kept, first-kept, judged-kept, few-records}
 
 -- ---- a checker without what its arrays hold after their sizes

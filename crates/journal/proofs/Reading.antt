@@ -23,8 +23,9 @@ use Rattle.journal.specs.declared.CheckState.{CheckState}
 use Rattle.journal.specs.Record.{journalRecordSize, journalBuffer, recordLength, recordDataIn, recordFits, isLongAnswer, longAnswer, mostStartInRecord, mostAnswerInRecord}
 use Rattle.session.specs.Calls.{link-failed, stop}
 use Rattle.journal.specs.Record.{startCallFrom, answerCallFrom, callFrom}
-use Rattle.journal.specs.Verdict.{replyExpected, replyExpectedAfter, callJudged}
+use Rattle.journal.specs.Verdict.{replyExpected, callJudged}
 use Rattle.journal.specs.Inner.{replyRecordWithBuffer, checkStateBy}
+use Rattle.journal.proofs.Walk.{replyExpectedAfter}
 use Rattle.journal.proofs.Due.{stands-as, did-due}
 
 -- ---- the length and the bytes after

@@ -22,9 +22,9 @@ use Rattle.session_record.specs.declared.Session.{Session}
 use Rattle.session.specs.Calls.{Call, callStep}
 use Rattle.journal.specs.declared.JournalVerdict.{JournalVerdict}
 use Rattle.journal.specs.Record.{journalRecordSize, callFrom, journalReplyRecord}
-use Rattle.journal.specs.Verdict.{ExpectedNext, expectedNext, expectedAtStart, replyExpected, callJudged, recordJudgedBy, recordJudged, verdictContinues, verdictFrom, journalVerdictOf, firstRecordSize, replyDueThen, replyDueAfter, expectedReplyBy, expectedReplyOf}
+use Rattle.journal.specs.Verdict.{ExpectedNext, expectedNext, expectedAtStart, replyExpected, callJudged, recordJudgedBy, recordJudged, verdictFrom, journalVerdictOf, firstRecordSize, replyDueAfter, expectedReplyBy, expectedReplyOf}
 use Rattle.journal.specs.ConformingRecords.{OnlyConforming, ExpectedOnly, ExpectedAtEven}
-use Rattle.journal.proofs.Walk.{unroll, ends, whole, due-whole}
+use Rattle.journal.proofs.Walk.{verdictContinues, replyDueThen, unroll, ends, whole, due-whole}
 use Rattle.journal.proofs.Due.{reply-due}
 use Rattle.journal.proofs.Kept.{nothing, dueOne, Kept, first-kept, judged-kept}
 

@@ -17,9 +17,22 @@ use Rattle.basics.proofs.Laws.{if-yes, if-no}
 use Rattle.basics.proofs.Order.{equal-or-not}
 use Rattle.basics.proofs.Recursion.{AsksShorter, recurse-unroll}
 use Rattle.session_record.specs.declared.Session.{Session}
+use Rattle.session.specs.Steps.{Step}
 use Rattle.journal.specs.declared.JournalVerdict.{JournalVerdict}
-use Rattle.journal.specs.Record.{journalRecordSize, callFrom}
-use Rattle.journal.specs.Verdict.{ExpectedNext, recordJudgedBy, recordJudged, VerdictAfter, verdictContinues, verdictNextRecord, verdictFrom, firstRecordSize, replyDueThen, replyDueAfter}
+use Rattle.journal.specs.Record.{journalRecordSize, journalReplyRecord, callFrom}
+use Rattle.journal.specs.Verdict.{ExpectedNext, replyExpected, recordJudgedBy, recordJudged, VerdictAfter, ifConforming, verdictNextRecord, verdictFrom, firstRecordSize, replyDueAfter}
+
+-- ---- after a record, by what is expected then
+
+abbrev pub verdictContinues : (ExpectedNext → JournalVerdict) → ℕ → Option ExpectedNext → JournalVerdict
+verdictContinues k n o = ifConforming (JournalVerdict.Mismatch n) k o
+
+abbrev pub replyDueThen : (ExpectedNext → List ℕ) → Option ExpectedNext → List ℕ
+replyDueThen k o = ifConforming [] k o
+
+-- what is expected after a step
+abbrev pub replyExpectedAfter : Step → Option ExpectedNext
+replyExpectedAfter st = replyExpected (st .reply .session) (journalReplyRecord (st .reply .answer) (st .buffer))
 
 -- ---- the bound of the recursion does not matter
 

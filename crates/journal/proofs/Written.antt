@@ -18,8 +18,8 @@ use Rattle.basics.proofs.Laws.{no}
 use Rattle.step_laws.proofs.EveryCall.{Came}
 use Rattle.journal.specs.declared.JournalVerdict.{JournalVerdict}
 use Rattle.journal.specs.Record.{journalRecordSize, journalCallRecord, journalOf, concatenated}
-use Rattle.journal.specs.Verdict.{ExpectedNext, expectedNext, expectedAtStart, recordJudged, verdictContinues, verdictFrom, journalVerdictOf}
-use Rattle.journal.proofs.Walk.{ends, whole}
+use Rattle.journal.specs.Verdict.{ExpectedNext, expectedNext, expectedAtStart, recordJudged, verdictFrom, journalVerdictOf}
+use Rattle.journal.proofs.Walk.{verdictContinues, ends, whole}
 use Rattle.journal.proofs.Kept.{call-came}
 use Rattle.journal.proofs.Few.{accepted-few}
 use Rattle.journal.proofs.WrittenBuffer.{dueBy}

@@ -29,7 +29,8 @@ use Rattle.basics.proofs.Laws.{no}
 use Rattle.step_laws.proofs.Long.{answer-long}
 use Rattle.step_laws.proofs.EveryCall.{Came, buffer-length, start-came, answer-came, link-came, stop-came}
 use Rattle.journal.specs.Record.{journalRecordSize, lengthAndPadded, journalBuffer, longAnswer, journalCallRecord, callFrom}
-use Rattle.journal.specs.Verdict.{expectedNext, replyExpectedAfter, callJudged, recordJudged}
+use Rattle.journal.specs.Verdict.{expectedNext, callJudged, recordJudged}
+use Rattle.journal.proofs.Walk.{replyExpectedAfter}
 use Rattle.journal.proofs.Due.{whole-is, reply-due}
 use Rattle.journal.proofs.Back.{start-back, answer-back, long-back, link-back, stop-back}
 use Rattle.journal.proofs.WrittenBuffer.{room, buffer-same, same-reply, same-due, dueBy}

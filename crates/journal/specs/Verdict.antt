@@ -11,7 +11,6 @@ use Rattle.basics.specs.Alike.{bytesEqual}
 use Rattle.basics.specs.Recursion.{recurse}
 use Rattle.session_record.specs.declared.Session.{Session}
 use Rattle.session_record.specs.Session.{freshSession}
-use Rattle.session.specs.Steps.{Step}
 use Rattle.session.specs.Calls.{Call, callStep}
 use Rattle.journal.specs.declared.JournalVerdict.{JournalVerdict}
 use Rattle.journal.specs.Record.{journalRecordSize, callFrom, journalReplyRecord}
@@ -38,14 +37,11 @@ abbrev pub replyExpected : Session → Bytes → Option ExpectedNext
 replyExpected s [] = none
 replyExpected s (b ∷ d) = some (expectedNext s (b ∷ d))
 
--- by what the call does
-abbrev pub replyExpectedAfter : Step → Option ExpectedNext
-replyExpectedAfter st = replyExpected (st .reply .session) (journalReplyRecord (st .reply .answer) (st .buffer))
-
 -- a record that stands for no call is a mismatch
 abbrev pub callJudged : Session → Option Call → Option ExpectedNext
 callJudged s none = none
-callJudged s (some c) = replyExpectedAfter (callStep s c)
+callJudged s (some c) =
+    let st = callStep s c in replyExpected (st .reply .session) (journalReplyRecord (st .reply .answer) (st .buffer))
 
 -- where a call is expected, by the call; where a reply is expected, it must be that record byte for byte
 abbrev pub recordJudgedBy : Session → Bytes → Bytes → Option ExpectedNext
@@ -63,10 +59,10 @@ recordJudged e r = recordJudgedBy (e .session) (e .due) r
 abbrev pub VerdictAfter : Type 0
 VerdictAfter = ExpectedNext → Count → JournalVerdict
 
--- a mismatching record is named by its number n; after a conforming one the journal goes on
-abbrev pub verdictContinues : (ExpectedNext → JournalVerdict) → Count → Option ExpectedNext → JournalVerdict
-verdictContinues k n none = JournalVerdict.Mismatch n
-verdictContinues k n (some e) = k e
+-- what k says of what is expected after a conforming record; `wrong` where the record is a mismatch
+abbrev pub ifConforming : {A : Type 0} → A → (ExpectedNext → A) → Option ExpectedNext → A
+ifConforming wrong k none = wrong
+ifConforming wrong k (some e) = k e
 
 -- after n conforming records: the end is accepted; an unknown kind is a mismatch, even as the last byte; a record with
 -- fewer bytes than its kind has is truncated, whatever it holds; a whole one is judged, and k judges what follows it
@@ -76,7 +72,7 @@ verdictNextRecord k (b ∷ s) e n =
     if journalRecordSize b =? 0 then JournalVerdict.Mismatch (n + 1)
     else if length (b ∷ s) <? journalRecordSize b then JournalVerdict.Truncated (n + 1)
     else
-      verdictContinues (λ t. k (drop (journalRecordSize b) (b ∷ s)) t (n + 1)) (n + 1)
+      ifConforming (JournalVerdict.Mismatch (n + 1)) (λ t. k (drop (journalRecordSize b) (b ∷ s)) t (n + 1))
       (recordJudged e (take (journalRecordSize b) (b ∷ s)))
 
 -- record after record
@@ -93,17 +89,12 @@ journalVerdictOf s = verdictFrom expectedAtStart 0 s
 abbrev pub firstRecordSize : JournalBytes → Length
 firstRecordSize s = journalRecordSize (getD s 0 0)
 
--- what k says of what is expected after a record; nothing is expected after a mismatching one
-abbrev pub replyDueThen : (ExpectedNext → Bytes) → Option ExpectedNext → Bytes
-replyDueThen k none = []
-replyDueThen k (some e) = k e
-
 -- the reply's record that is expected after the first m records, where e is expected before them; no bytes
 -- where a call is
 unfoldable pub replyDueAfter : Count → ExpectedNext → JournalBytes → Bytes
 replyDueAfter zero e s = e .due
 replyDueAfter (suc m) e s =
-    replyDueThen (λ t. replyDueAfter m t (drop (firstRecordSize s) s)) (recordJudged e (take (firstRecordSize s) s))
+    ifConforming [] (λ t. replyDueAfter m t (drop (firstRecordSize s) s)) (recordJudged e (take (firstRecordSize s) s))
 
 -- where record n is a mismatch and a reply was expected, that reply's record; else no bytes: where a call was expected,
 -- either no record would be conforming or more than one
