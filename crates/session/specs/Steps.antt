@@ -1,6 +1,6 @@
--- What a call does (document 01, "Calls and their numbers"). What follows a call goes by the session's store and by what
--- the call brings; `stepOf` alone adds the count, the command buffer and the reply. `admittedStep` puts the refusals
--- first that every call checks.
+-- What a call does (document 01, "Calls and their numbers"). What follows a call goes by the session's store and by
+-- what the call brings; `stepOf` alone adds the count, the command buffer and the reply. `admittedStep` puts the
+-- refusals first that every call checks.
 -- Assumes nothing.
 use mathlib.Core.Path.{_≡_}
 use mathlib.Core.Bool.{not}

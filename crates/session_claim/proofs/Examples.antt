@@ -25,7 +25,8 @@ use Rattle.reading.specs.Taking.{allowedInTemplate, allowedInResponse, allowedN
 use Rattle.reading.specs.Answer.{responseBody, gpoParts, primitiveParts, readBody, isRead, isStatus9000, isResponseLength, readAnswer, templateParts}
 use Rattle.dol.specs.Entries.{entriesNext, dolEntries, entryWithLength, dolEntryAt, entryBefore}
 use Rattle.dol.specs.Filling.{dolData, dolDataBy, truncated, paddingByte, padded, fittedTo, dolEntryBytes}
-use Rattle.command.specs.WithList.{gpoCommandOf, getProcessingOptions, generateAcOf, generateAc, udolOrDefault, checksumCommandOf, checksumCommandWith, computeCryptographicChecksum}
+use Rattle.command.specs.WithList.{gpoCommandOf, getProcessingOptions, commandCarrying, generateAc, udolOrDefault, computeCryptographicChecksum}
+use Rattle.session_record.specs.declared.AwaitedResponse.{AwaitedResponse}
 use Rattle.session_record.specs.declared.Phase.{Phase}
 use Rattle.session_record.specs.declared.Session.{Session}
 use Rattle.session_record.specs.Numbers.{outcomeOfReason}
@@ -34,12 +35,12 @@ use Rattle.session_record.specs.Ranges.{isPresentIfRequired, allRequiredPresent
 use Rattle.session_record.specs.Session.{freshSession, endingOf, outcomeParameters}
 use Rattle.session_record.proofs.Phases.{fresh-keeps}
 use Rattle.start_data.specs.StartData.{terminalTypeListed, settableByStart, setObject, setObjects, loadStart}
-use Rattle.session.specs.Steps.{withTvr, withFindings}
+use Rattle.session.specs.Steps.{readThen, withTvr, withFindings}
 use Rattle.session.specs.Start.{askGpo}
-use Rattle.session.specs.MagStripe.{askChecksum, afterRecordsMagStripe, storeWithDigits, afterChecksumRead, checksumOutcomeOf, checksumReply}
+use Rattle.session.specs.MagStripe.{askChecksum, afterRecordsMagStripe, storeWithDigits, afterChecksum, checksumTaken, checksumNext}
 use Rattle.mag_stripe.specs.Track.{nibblesBefore, discretionaryIn}
 use Rattle.mag_stripe.specs.Bitmap.{bitmapPlacesFrom, bitmapPlaces, bitmapWithin, canTakeDigits}
-use Rattle.session.specs.Answer.{gpoStoreReason, afterGpoRead, gpoStep, gpoReason, recordStep, afterRecordRead, afterLastRecord, afterRecordsEmv, afterAnalysis, requestedCryptogram, askCryptogram}
+use Rattle.session.specs.Answer.{afterGpo, gpoNext, recordNext, afterRecord, afterLastRecord, afterRecordsEmv, requestedCryptogram, askCryptogram}
 use Rattle.session_claim.specs.Calls.{commandsSent, callsAccepted}
 use Rattle.session.specs.Calls.{Call, start, answer, link-failed, stop, CallMade, playCalls, finalSession, callResult}
 use Rattle.session_claim.specs.Order.{firstIn77, responseAfl, responseAip, firstAnswer, acceptedAfl, gpo, record-command, cryptogram, checksum, lastKindFor, lastKind, publishedOrder}
@@ -111,35 +112,39 @@ torn = start startBytes lent ∷ link-failed lent ∷ answer gpoAnswer lent ∷ 
 abbrev notEmv : List Call
 notEmv = start (startWith 0xA0) lent ∷ answer magStripeAnswer lent ∷ []
 
+-- the AFL that a list of calls accepts
+abbrev accepted : List CallMade → Option (List ℕ)
+accepted ms = acceptedAfl (firstAnswer (callsAccepted ms))
+
 pub record Worked : Type 0 where
   begun-sent : commandsSent (playCalls freshSession begun) ≡ gpoCommand ∷ recordCommand ∷ []
-  begun-accepted : acceptedAfl (playCalls freshSession begun) ≡ some afl
+  begun-accepted : accepted (playCalls freshSession begun) ≡ some afl
   interrupted-sent : commandsSent (playCalls freshSession interrupted) ≡ gpoCommand ∷ recordCommand ∷ []
   interrupted-taken : length (callsAccepted (playCalls freshSession interrupted)) ≡ 2
   torn-sent : commandsSent (playCalls freshSession torn) ≡ gpoCommand ∷ []
   torn-taken : length (callsAccepted (playCalls freshSession torn)) ≡ 2
   torn-end : finalSession freshSession torn .phase ≡ Phase.Ended (endingOf (outcomeOfReason reasonLink) reasonLink)
   not-emv-brought : responseAfl magStripeAnswer ≡ some afl
-  not-emv-accepted : acceptedAfl (playCalls freshSession notEmv) ≡ none
+  not-emv-accepted : accepted (playCalls freshSession notEmv) ≡ none
   not-emv-end : finalSession freshSession notEmv .phase ≡ Phase.Ended (endingOf (outcomeOfReason reasonMode) reasonMode)
 
 pub worked : Worked
-unfolding commandsSent playIn finalIn callsAccepted acceptedAfl firstAnswer responseAfl gpoReason outcomeOfReason askGpo getProcessingOptions gpoCommandOf dolDataBy dolData dolEntries recurse
-    recurseBy entriesNext lengthBytes gpoStep gpoStoreReason afterGpoRead aflRecordAt kthRecord nthRecord acceptsAfl wholeEntries entriesOf validEntry sumOverEntries entriesRecords runOf readAnswer isResponseLength isStatus9000 isRead
+unfolding commandsSent playIn finalIn callsAccepted firstAnswer responseAfl outcomeOfReason askGpo getProcessingOptions gpoCommandOf dolDataBy dolData dolEntries recurse
+    recurseBy entriesNext lengthBytes gpoNext readThen afterGpo aflRecordAt kthRecord nthRecord acceptsAfl wholeEntries entriesOf validEntry sumOverEntries entriesRecords runOf readAnswer isResponseLength isStatus9000 isRead
     readBody responseBody primitiveParts gpoParts takeAll takeNext takeItem allowedNow allowedInResponse allowedInTemplate withTvr rowNumberOf loadStart primitiveObjects objectBefore primitiveOf headerOf tagAt tagSize
     tagSecondByte tagThirdByte lengthAt tagFirstByte isTemplate isPrivate bigEndianFrom if both either every dictionaryRows rowPast findRow settableByStart setObject setObjects fitsRow digitsFit numeric nibbles terminalTypeListed listedTerminalType
     rowOffset rowPlace placeValue rowValue putRow objectValueIn allRequiredPresent isPresentIfRequired
 worked =
     record {
       begun-sent = ap commandsSent (play-in freshSession fresh-keeps begun);
-      begun-accepted = ap acceptedAfl (play-in freshSession fresh-keeps begun);
+      begun-accepted = ap accepted (play-in freshSession fresh-keeps begun);
       interrupted-sent = ap commandsSent (play-in freshSession fresh-keeps interrupted);
       interrupted-taken = ap (λ (ms : List CallMade). length (callsAccepted ms)) (play-in freshSession fresh-keeps interrupted);
       torn-sent = ap commandsSent (play-in freshSession fresh-keeps torn);
       torn-taken = ap (λ (ms : List CallMade). length (callsAccepted ms)) (play-in freshSession fresh-keeps torn);
       torn-end = ap (λ (s : Session). s .phase) (final-in freshSession fresh-keeps torn);
       not-emv-brought = refl;
-      not-emv-accepted = ap acceptedAfl (play-in freshSession fresh-keeps notEmv);
+      not-emv-accepted = ap accepted (play-in freshSession fresh-keeps notEmv);
       not-emv-end = ap (λ (s : Session). s .phase) (final-in freshSession fresh-keeps notEmv);
     }
 
@@ -172,13 +177,13 @@ failing aip = start startBytes lent ∷ answer aip lent ∷ answer ruleRecord le
 -- 8C is filled with the bit of an online PIN and with 9F34. The link fails, and the outcome reports the CVM
 verified : map callResult (playCalls freshSession (failing verifyingAnswer))
     ≡ CallResult.Command (record { size = 8 }) ∷ CallResult.Command (record { size = 5 }) ∷ CallResult.Command (record { size = 14 })
-    ∷ CallResult.Outcome (outcomeParameters Outcome.Ended 9 2) ∷ []
+    ∷ CallResult.Outcome (outcomeParameters (endingOf Outcome.Ended 9) 2) ∷ []
 unfolding commandsSent playIn finalIn callsAccepted outcomeOfReason cryptogramDataPresent askGpo getProcessingOptions gpoCommandOf dolDataBy dolData dolEntries recurse recurseBy entriesNext lengthBytes entryWithLength dolEntryAt
-    entryBefore truncated paddingByte padded fittedTo dolEntryBytes generateAcOf generateAc gpoStep gpoStoreReason afterGpoRead aflRecordAt kthRecord nthRecord acceptsAfl wholeEntries entriesOf validEntry sumOverEntries entriesRecords runOf
+    entryBefore truncated paddingByte padded fittedTo dolEntryBytes commandCarrying generateAc gpoNext readThen afterGpo aflRecordAt kthRecord nthRecord acceptsAfl wholeEntries entriesOf validEntry sumOverEntries entriesRecords runOf
     readAnswer isResponseLength isStatus9000 isRead readBody responseBody primitiveParts gpoParts templateParts parseTree nextOf withLeaf withNode objectCount primitiveItems takeAll takeNext takeItem allowedNow allowedInResponse
     allowedInTemplate withTvr withFindings rowNumberOf loadStart primitiveObjects objectBefore primitiveOf headerOf tagAt tagSize tagSecondByte tagThirdByte lengthAt tagFirstByte isTemplate isPrivate bigEndianFrom if both
     either every dictionaryRows rowPast findRow settableByStart setObject setObjects fitsRow digitsFit numeric nibbles digitsThenFs compressed terminalTypeListed listedTerminalType rowOffset rowPlace placeValue rowValue putRow objectValueIn allRequiredPresent
-    isPresentIfRequired recordStep afterRecordRead afterLastRecord afterRecordsEmv afterAnalysis requestedCryptogram askCryptogram hasOnDeviceCvm transactionLimit aboveTransactionLimit aucViolatedIn restrictionsByte tvrOf sameCurrency cvmConditionsIn cvmResultIn tvrWithCvm
+    isPresentIfRequired recordNext afterRecord afterLastRecord afterRecordsEmv requestedCryptogram askCryptogram hasOnDeviceCvm transactionLimit aboveTransactionLimit aucViolatedIn restrictionsByte tvrOf sameCurrency cvmConditionsIn cvmResultIn tvrWithCvm
     findingsOf actionCodesOf choiceFor numberedBit firstBytes bcdFrom yearOf dateOf dateLater amountOf amountAbove versionDiffers notYetEffective atAtm issuerCountryOf cashbackRequested aucViolated tvrWithBits stageHoldsBit
     lowestFrom lowestBit iacCode stageHolds onlineCapabilityAt choiceOf cvmRulesFrom cvmRecognised cvmSupported cvmAmountMet cvmConditionMet takenBy cvmUnsuccessful byCvmRules cvmProcessing onDeviceCvm bytesEqual
 verified = ap (map callResult) (play-in freshSession fresh-keeps (failing verifyingAnswer))
@@ -187,11 +192,11 @@ verified-sent : commandsSent (playCalls freshSession (asking verifyingAnswer))
     ≡ gpoCommand ∷ recordCommand
     ∷ (0x80 ∷ 0xAE ∷ 0x80 ∷ 0x00 ∷ 0x08 ∷ 0x80 ∷ 0x00 ∷ 0x04 ∷ 0x00 ∷ 0x00 ∷ 0x42 ∷ 0x03 ∷ 0x00 ∷ 0x00 ∷ []) ∷ []
 unfolding commandsSent playIn finalIn callsAccepted outcomeOfReason cryptogramDataPresent askGpo getProcessingOptions gpoCommandOf dolDataBy dolData dolEntries recurse recurseBy entriesNext lengthBytes entryWithLength dolEntryAt
-    entryBefore truncated paddingByte padded fittedTo dolEntryBytes generateAcOf generateAc gpoStep gpoStoreReason afterGpoRead aflRecordAt kthRecord nthRecord acceptsAfl wholeEntries entriesOf validEntry sumOverEntries entriesRecords runOf
+    entryBefore truncated paddingByte padded fittedTo dolEntryBytes commandCarrying generateAc gpoNext readThen afterGpo aflRecordAt kthRecord nthRecord acceptsAfl wholeEntries entriesOf validEntry sumOverEntries entriesRecords runOf
     readAnswer isResponseLength isStatus9000 isRead readBody responseBody primitiveParts gpoParts templateParts parseTree nextOf withLeaf withNode objectCount primitiveItems takeAll takeNext takeItem allowedNow allowedInResponse
     allowedInTemplate withTvr withFindings rowNumberOf loadStart primitiveObjects objectBefore primitiveOf headerOf tagAt tagSize tagSecondByte tagThirdByte lengthAt tagFirstByte isTemplate isPrivate bigEndianFrom if both
     either every dictionaryRows rowPast findRow settableByStart setObject setObjects fitsRow digitsFit numeric nibbles digitsThenFs compressed terminalTypeListed listedTerminalType rowOffset rowPlace placeValue rowValue putRow objectValueIn allRequiredPresent
-    isPresentIfRequired recordStep afterRecordRead afterLastRecord afterRecordsEmv afterAnalysis requestedCryptogram askCryptogram hasOnDeviceCvm transactionLimit aboveTransactionLimit aucViolatedIn restrictionsByte tvrOf sameCurrency cvmConditionsIn cvmResultIn tvrWithCvm
+    isPresentIfRequired recordNext afterRecord afterLastRecord afterRecordsEmv requestedCryptogram askCryptogram hasOnDeviceCvm transactionLimit aboveTransactionLimit aucViolatedIn restrictionsByte tvrOf sameCurrency cvmConditionsIn cvmResultIn tvrWithCvm
     findingsOf actionCodesOf choiceFor numberedBit firstBytes bcdFrom yearOf dateOf dateLater amountOf amountAbove versionDiffers notYetEffective atAtm issuerCountryOf cashbackRequested aucViolated tvrWithBits stageHoldsBit
     lowestFrom lowestBit iacCode stageHolds onlineCapabilityAt choiceOf cvmRulesFrom cvmRecognised cvmSupported cvmAmountMet cvmConditionMet takenBy cvmUnsuccessful byCvmRules cvmProcessing onDeviceCvm bytesEqual
 verified-sent = ap commandsSent (play-in freshSession fresh-keeps (asking verifyingAnswer))
@@ -205,25 +210,25 @@ onDeviceAnswer = 0x80 ∷ 0x06 ∷ 0x12 ∷ 0x80 ∷ 0x08 ∷ 0x01 ∷ 0x01 ∷ 
 
 onDevice : map callResult (playCalls freshSession (failing onDeviceAnswer))
     ≡ CallResult.Command (record { size = 8 }) ∷ CallResult.Command (record { size = 5 }) ∷ CallResult.Command (record { size = 14 })
-    ∷ CallResult.Outcome (outcomeParameters Outcome.Ended 9 3) ∷ []
+    ∷ CallResult.Outcome (outcomeParameters (endingOf Outcome.Ended 9) 3) ∷ []
 unfolding commandsSent playIn finalIn callsAccepted outcomeOfReason cryptogramDataPresent askGpo getProcessingOptions gpoCommandOf dolDataBy dolData dolEntries recurse recurseBy entriesNext lengthBytes entryWithLength dolEntryAt
-    entryBefore truncated paddingByte padded fittedTo dolEntryBytes generateAcOf generateAc gpoStep gpoStoreReason afterGpoRead aflRecordAt kthRecord nthRecord acceptsAfl wholeEntries entriesOf validEntry sumOverEntries entriesRecords runOf
+    entryBefore truncated paddingByte padded fittedTo dolEntryBytes commandCarrying generateAc gpoNext readThen afterGpo aflRecordAt kthRecord nthRecord acceptsAfl wholeEntries entriesOf validEntry sumOverEntries entriesRecords runOf
     readAnswer isResponseLength isStatus9000 isRead readBody responseBody primitiveParts gpoParts templateParts parseTree nextOf withLeaf withNode objectCount primitiveItems takeAll takeNext takeItem allowedNow allowedInResponse
     allowedInTemplate withTvr withFindings rowNumberOf loadStart primitiveObjects objectBefore primitiveOf headerOf tagAt tagSize tagSecondByte tagThirdByte lengthAt tagFirstByte isTemplate isPrivate bigEndianFrom if both
     either every dictionaryRows rowPast findRow settableByStart setObject setObjects fitsRow digitsFit numeric nibbles digitsThenFs compressed terminalTypeListed listedTerminalType rowOffset rowPlace placeValue rowValue putRow objectValueIn allRequiredPresent
-    isPresentIfRequired recordStep afterRecordRead afterLastRecord afterRecordsEmv afterAnalysis requestedCryptogram askCryptogram hasOnDeviceCvm transactionLimit aboveTransactionLimit aucViolatedIn restrictionsByte tvrOf sameCurrency cvmConditionsIn cvmResultIn tvrWithCvm
+    isPresentIfRequired recordNext afterRecord afterLastRecord afterRecordsEmv requestedCryptogram askCryptogram hasOnDeviceCvm transactionLimit aboveTransactionLimit aucViolatedIn restrictionsByte tvrOf sameCurrency cvmConditionsIn cvmResultIn tvrWithCvm
     findingsOf actionCodesOf choiceFor numberedBit firstBytes bcdFrom yearOf dateOf dateLater amountOf amountAbove versionDiffers notYetEffective atAtm issuerCountryOf cashbackRequested aucViolated tvrWithBits stageHoldsBit
     lowestFrom lowestBit iacCode stageHolds onlineCapabilityAt choiceOf cvmRulesFrom cvmRecognised cvmSupported cvmAmountMet cvmConditionMet takenBy cvmUnsuccessful byCvmRules cvmProcessing onDeviceCvm onDeviceResult bytesEqual
 onDevice = ap (map callResult) (play-in freshSession fresh-keeps (failing onDeviceAnswer))
 
 on-device-held : finalSession freshSession (asking onDeviceAnswer) .phase
-    ≡ Phase.Cryptogram (record { choice = Choice.Online; cvm = Cvm.ConfirmationCode; limit = 50000 })
+    ≡ Phase.Waiting (AwaitedResponse.Cryptogram (record { choice = Choice.Online; cvm = Cvm.ConfirmationCode; limit = 50000 }))
 unfolding commandsSent playIn finalIn callsAccepted outcomeOfReason cryptogramDataPresent askGpo getProcessingOptions gpoCommandOf dolDataBy dolData dolEntries recurse recurseBy entriesNext lengthBytes entryWithLength dolEntryAt
-    entryBefore truncated paddingByte padded fittedTo dolEntryBytes generateAcOf generateAc gpoStep gpoStoreReason afterGpoRead aflRecordAt kthRecord nthRecord acceptsAfl wholeEntries entriesOf validEntry sumOverEntries entriesRecords runOf
+    entryBefore truncated paddingByte padded fittedTo dolEntryBytes commandCarrying generateAc gpoNext readThen afterGpo aflRecordAt kthRecord nthRecord acceptsAfl wholeEntries entriesOf validEntry sumOverEntries entriesRecords runOf
     readAnswer isResponseLength isStatus9000 isRead readBody responseBody primitiveParts gpoParts templateParts parseTree nextOf withLeaf withNode objectCount primitiveItems takeAll takeNext takeItem allowedNow allowedInResponse
     allowedInTemplate withTvr withFindings rowNumberOf loadStart primitiveObjects objectBefore primitiveOf headerOf tagAt tagSize tagSecondByte tagThirdByte lengthAt tagFirstByte isTemplate isPrivate bigEndianFrom if both
     either every dictionaryRows rowPast findRow settableByStart setObject setObjects fitsRow digitsFit numeric nibbles digitsThenFs compressed terminalTypeListed listedTerminalType rowOffset rowPlace placeValue rowValue putRow objectValueIn allRequiredPresent
-    isPresentIfRequired recordStep afterRecordRead afterLastRecord afterRecordsEmv afterAnalysis requestedCryptogram askCryptogram hasOnDeviceCvm transactionLimit aboveTransactionLimit aucViolatedIn restrictionsByte tvrOf sameCurrency cvmConditionsIn cvmResultIn tvrWithCvm
+    isPresentIfRequired recordNext afterRecord afterLastRecord afterRecordsEmv requestedCryptogram askCryptogram hasOnDeviceCvm transactionLimit aboveTransactionLimit aucViolatedIn restrictionsByte tvrOf sameCurrency cvmConditionsIn cvmResultIn tvrWithCvm
     findingsOf actionCodesOf choiceFor numberedBit firstBytes bcdFrom yearOf dateOf dateLater amountOf amountAbove versionDiffers notYetEffective atAtm issuerCountryOf cashbackRequested aucViolated tvrWithBits stageHoldsBit
     lowestFrom lowestBit iacCode stageHolds onlineCapabilityAt choiceOf cvmRulesFrom cvmRecognised cvmSupported cvmAmountMet cvmConditionMet takenBy cvmUnsuccessful byCvmRules cvmProcessing onDeviceCvm onDeviceResult bytesEqual
 on-device-held = ap (λ (s : Session). s .phase) (final-in freshSession fresh-keeps (asking onDeviceAnswer))
@@ -232,11 +237,11 @@ on-device-sent : commandsSent (playCalls freshSession (asking onDeviceAnswer))
     ≡ gpoCommand ∷ recordCommand
     ∷ (0x80 ∷ 0xAE ∷ 0x80 ∷ 0x00 ∷ 0x08 ∷ 0x80 ∷ 0x00 ∷ 0x00 ∷ 0x00 ∷ 0x00 ∷ 0x01 ∷ 0x00 ∷ 0x02 ∷ 0x00 ∷ []) ∷ []
 unfolding commandsSent playIn finalIn callsAccepted outcomeOfReason cryptogramDataPresent askGpo getProcessingOptions gpoCommandOf dolDataBy dolData dolEntries recurse recurseBy entriesNext lengthBytes entryWithLength dolEntryAt
-    entryBefore truncated paddingByte padded fittedTo dolEntryBytes generateAcOf generateAc gpoStep gpoStoreReason afterGpoRead aflRecordAt kthRecord nthRecord acceptsAfl wholeEntries entriesOf validEntry sumOverEntries entriesRecords runOf
+    entryBefore truncated paddingByte padded fittedTo dolEntryBytes commandCarrying generateAc gpoNext readThen afterGpo aflRecordAt kthRecord nthRecord acceptsAfl wholeEntries entriesOf validEntry sumOverEntries entriesRecords runOf
     readAnswer isResponseLength isStatus9000 isRead readBody responseBody primitiveParts gpoParts templateParts parseTree nextOf withLeaf withNode objectCount primitiveItems takeAll takeNext takeItem allowedNow allowedInResponse
     allowedInTemplate withTvr withFindings rowNumberOf loadStart primitiveObjects objectBefore primitiveOf headerOf tagAt tagSize tagSecondByte tagThirdByte lengthAt tagFirstByte isTemplate isPrivate bigEndianFrom if both
     either every dictionaryRows rowPast findRow settableByStart setObject setObjects fitsRow digitsFit numeric nibbles digitsThenFs compressed terminalTypeListed listedTerminalType rowOffset rowPlace placeValue rowValue putRow objectValueIn allRequiredPresent
-    isPresentIfRequired recordStep afterRecordRead afterLastRecord afterRecordsEmv afterAnalysis requestedCryptogram askCryptogram hasOnDeviceCvm transactionLimit aboveTransactionLimit aucViolatedIn restrictionsByte tvrOf sameCurrency cvmConditionsIn cvmResultIn tvrWithCvm
+    isPresentIfRequired recordNext afterRecord afterLastRecord afterRecordsEmv requestedCryptogram askCryptogram hasOnDeviceCvm transactionLimit aboveTransactionLimit aucViolatedIn restrictionsByte tvrOf sameCurrency cvmConditionsIn cvmResultIn tvrWithCvm
     findingsOf actionCodesOf choiceFor numberedBit firstBytes bcdFrom yearOf dateOf dateLater amountOf amountAbove versionDiffers notYetEffective atAtm issuerCountryOf cashbackRequested aucViolated tvrWithBits stageHoldsBit
     lowestFrom lowestBit iacCode stageHolds onlineCapabilityAt choiceOf cvmRulesFrom cvmRecognised cvmSupported cvmAmountMet cvmConditionMet takenBy cvmUnsuccessful byCvmRules cvmProcessing onDeviceCvm onDeviceResult bytesEqual
 on-device-sent = ap commandsSent (play-in freshSession fresh-keeps (asking onDeviceAnswer))
@@ -261,30 +266,30 @@ striped = start startBytes lent ∷ answer magStripeAnswer lent ∷ answer track
 -- the outcome is an online request, and reports no CVM
 striped-said : map callResult (playCalls freshSession striped)
     ≡ CallResult.Command (record { size = 8 }) ∷ CallResult.Command (record { size = 5 }) ∷ CallResult.Command (record { size = 10 })
-    ∷ CallResult.Outcome (outcomeParameters Outcome.OnlineRequest 0 15) ∷ []
+    ∷ CallResult.Outcome (outcomeParameters (endingOf Outcome.OnlineRequest 0) 15) ∷ []
 unfolding commandsSent playIn finalIn callsAccepted outcomeOfReason cryptogramDataPresent askGpo getProcessingOptions gpoCommandOf dolDataBy dolData dolEntries recurse recurseBy entriesNext lengthBytes entryWithLength dolEntryAt
-    entryBefore truncated paddingByte padded fittedTo dolEntryBytes generateAcOf generateAc gpoStep gpoStoreReason afterGpoRead aflRecordAt kthRecord nthRecord acceptsAfl wholeEntries entriesOf validEntry sumOverEntries entriesRecords runOf
+    entryBefore truncated paddingByte padded fittedTo dolEntryBytes commandCarrying generateAc gpoNext readThen afterGpo aflRecordAt kthRecord nthRecord acceptsAfl wholeEntries entriesOf validEntry sumOverEntries entriesRecords runOf
     readAnswer isResponseLength isStatus9000 isRead readBody responseBody primitiveParts gpoParts templateParts parseTree nextOf withLeaf withNode objectCount primitiveItems takeAll takeNext takeItem allowedNow allowedInResponse
     allowedInTemplate withTvr withFindings rowNumberOf loadStart primitiveObjects objectBefore primitiveOf headerOf tagAt tagSize tagSecondByte tagThirdByte lengthAt tagFirstByte isTemplate isPrivate bigEndianFrom if both
     either every dictionaryRows rowPast findRow settableByStart setObject setObjects fitsRow digitsFit numeric nibbles digitsThenFs compressed terminalTypeListed listedTerminalType rowOffset rowPlace placeValue rowValue putRow objectValueIn allRequiredPresent
-    isPresentIfRequired recordStep afterRecordRead afterLastRecord afterRecordsEmv afterAnalysis requestedCryptogram askCryptogram hasOnDeviceCvm transactionLimit aboveTransactionLimit aucViolatedIn restrictionsByte tvrOf sameCurrency cvmConditionsIn cvmResultIn tvrWithCvm
+    isPresentIfRequired recordNext afterRecord afterLastRecord afterRecordsEmv requestedCryptogram askCryptogram hasOnDeviceCvm transactionLimit aboveTransactionLimit aucViolatedIn restrictionsByte tvrOf sameCurrency cvmConditionsIn cvmResultIn tvrWithCvm
     findingsOf actionCodesOf choiceFor numberedBit firstBytes bcdFrom yearOf dateOf dateLater amountOf amountAbove versionDiffers notYetEffective atAtm issuerCountryOf cashbackRequested aucViolated tvrWithBits stageHoldsBit
     lowestFrom lowestBit iacCode stageHolds onlineCapabilityAt choiceOf cvmRulesFrom cvmRecognised cvmSupported cvmAmountMet cvmConditionMet takenBy cvmUnsuccessful byCvmRules cvmProcessing onDeviceCvm bytesEqual trackDataPresent
-    udolOrDefault checksumCommandOf checksumCommandWith computeCryptographicChecksum askChecksum afterRecordsMagStripe afterChecksumRead checksumOutcomeOf checksumReply nibblesBefore discretionaryIn bitmapPlacesFrom bitmapPlaces bitmapWithin canTakeDigits
+    udolOrDefault computeCryptographicChecksum askChecksum afterRecordsMagStripe afterChecksum checksumTaken checksumNext nibblesBefore discretionaryIn bitmapPlacesFrom bitmapPlaces bitmapWithin canTakeDigits
 striped-said = ap (map callResult) (play-in freshSession fresh-keeps striped)
 
 -- the list is the default one: 9F6A in four bytes
 striped-sent : commandsSent (playCalls freshSession begunMagStripe)
     ≡ gpoCommand ∷ recordCommand ∷ (0x80 ∷ 0x2A ∷ 0x8E ∷ 0x80 ∷ 0x04 ∷ 0x00 ∷ 0x00 ∷ 0x34 ∷ 0x56 ∷ 0x00 ∷ []) ∷ []
 unfolding commandsSent playIn finalIn callsAccepted outcomeOfReason cryptogramDataPresent askGpo getProcessingOptions gpoCommandOf dolDataBy dolData dolEntries recurse recurseBy entriesNext lengthBytes entryWithLength dolEntryAt
-    entryBefore truncated paddingByte padded fittedTo dolEntryBytes generateAcOf generateAc gpoStep gpoStoreReason afterGpoRead aflRecordAt kthRecord nthRecord acceptsAfl wholeEntries entriesOf validEntry sumOverEntries entriesRecords runOf
+    entryBefore truncated paddingByte padded fittedTo dolEntryBytes commandCarrying generateAc gpoNext readThen afterGpo aflRecordAt kthRecord nthRecord acceptsAfl wholeEntries entriesOf validEntry sumOverEntries entriesRecords runOf
     readAnswer isResponseLength isStatus9000 isRead readBody responseBody primitiveParts gpoParts templateParts parseTree nextOf withLeaf withNode objectCount primitiveItems takeAll takeNext takeItem allowedNow allowedInResponse
     allowedInTemplate withTvr withFindings rowNumberOf loadStart primitiveObjects objectBefore primitiveOf headerOf tagAt tagSize tagSecondByte tagThirdByte lengthAt tagFirstByte isTemplate isPrivate bigEndianFrom if both
     either every dictionaryRows rowPast findRow settableByStart setObject setObjects fitsRow digitsFit numeric nibbles digitsThenFs compressed terminalTypeListed listedTerminalType rowOffset rowPlace placeValue rowValue putRow objectValueIn allRequiredPresent
-    isPresentIfRequired recordStep afterRecordRead afterLastRecord afterRecordsEmv afterAnalysis requestedCryptogram askCryptogram hasOnDeviceCvm transactionLimit aboveTransactionLimit aucViolatedIn restrictionsByte tvrOf sameCurrency cvmConditionsIn cvmResultIn tvrWithCvm
+    isPresentIfRequired recordNext afterRecord afterLastRecord afterRecordsEmv requestedCryptogram askCryptogram hasOnDeviceCvm transactionLimit aboveTransactionLimit aucViolatedIn restrictionsByte tvrOf sameCurrency cvmConditionsIn cvmResultIn tvrWithCvm
     findingsOf actionCodesOf choiceFor numberedBit firstBytes bcdFrom yearOf dateOf dateLater amountOf amountAbove versionDiffers notYetEffective atAtm issuerCountryOf cashbackRequested aucViolated tvrWithBits stageHoldsBit
     lowestFrom lowestBit iacCode stageHolds onlineCapabilityAt choiceOf cvmRulesFrom cvmRecognised cvmSupported cvmAmountMet cvmConditionMet takenBy cvmUnsuccessful byCvmRules cvmProcessing onDeviceCvm bytesEqual trackDataPresent
-    udolOrDefault checksumCommandOf checksumCommandWith computeCryptographicChecksum askChecksum afterRecordsMagStripe
+    udolOrDefault computeCryptographicChecksum askChecksum afterRecordsMagStripe
 striped-sent = ap commandsSent (play-in freshSession fresh-keeps begunMagStripe)
 
 -- the published order's last command by the bytes of the first answer, under 80 and in a 77

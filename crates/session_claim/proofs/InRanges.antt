@@ -11,21 +11,27 @@ use Rattle.basics.specs.Reason.{refusedBuffer, reasonLink, reasonStopped}
 use Rattle.basics.proofs.Laws.{if-no}
 use Rattle.session_record.specs.declared.Session.{Session}
 use Rattle.session_record.specs.Ranges.{inRanges}
-use Rattle.session.specs.Steps.{Step, refusedStep, leastBuffer, admittedStep, endsRunning}
-use Rattle.session.specs.Start.{startIn}
-use Rattle.session.specs.Answer.{answerIn}
+use Rattle.session_record.specs.declared.AwaitedResponse.{AwaitedResponse}
+use Rattle.session_record.specs.Session.{storeBytes, endingBy}
+use Rattle.session.specs.Steps.{end, heldCvm, Step, CallEffect, refusedStep, stepOf, leastBuffer, admittedStep, whileRunning}
+use Rattle.session.specs.Start.{startCall}
+use Rattle.session.specs.Answer.{responseNext}
 use Rattle.session.specs.Calls.{Call, start, answer, link-failed, stop, callStep, CallMade, callMade, playCalls, finalSession}
 use Rattle.session_claim.proofs.Trace.{call-keeps}
 
 -- the refusal for the buffer's size, then the step
-abbrev pub sized : Session → List ℕ → Step → Step
-sized s buf st = if (ltb (length buf) leastBuffer) (refusedStep s refusedBuffer buf) st
+abbrev pub sized : Session → List ℕ → CallEffect → Step
+sized s buf x = if (ltb (length buf) leastBuffer) (refusedStep s refusedBuffer buf) (stepOf s buf x)
+
+-- link failed and stop
+abbrev pub abortCall : Session → ℕ → CallEffect
+abortCall s reason = whileRunning (s .phase) (λ (w : AwaitedResponse). end (endingBy reason) (heldCvm w) (storeBytes s))
 
 abbrev pub stepIn : Session → Call → Step
-stepIn s (start bytes buf) = sized s buf (startIn (s .phase) s bytes buf)
-stepIn s (answer card buf) = sized s buf (answerIn (s .phase) s card buf)
-stepIn s (link-failed buf) = sized s buf (endsRunning (s .phase) s reasonLink buf)
-stepIn s (stop buf) = sized s buf (endsRunning (s .phase) s reasonStopped buf)
+stepIn s (start bytes buf) = sized s buf (startCall (s .phase) (storeBytes s) bytes)
+stepIn s (answer card buf) = sized s buf (whileRunning (s .phase) (responseNext (storeBytes s) card))
+stepIn s (link-failed buf) = sized s buf (abortCall s reasonLink)
+stepIn s (stop buf) = sized s buf (abortCall s reasonStopped)
 
 -- the calls of a list, and the session after them
 unfoldable pub playIn : Session → List Call → List CallMade
@@ -37,9 +43,9 @@ finalIn s [] = s
 finalIn s (c ∷ cs) = finalIn (stepIn s c .reply .session) cs
 
 module _ (s : Session) (e : inRanges s ≡ true) where
-  tested : (buf : List ℕ) (st : Step) → admittedStep s buf st ≡ sized s buf st
+  tested : (buf : List ℕ) (x : CallEffect) → admittedStep s buf x ≡ sized s buf x
   unfolding admittedStep
-  tested buf st = ap (if (ltb (length buf) leastBuffer) (refusedStep s refusedBuffer buf)) (if-no _ _ (ap not e))
+  tested buf x = ap (if (ltb (length buf) leastBuffer) (refusedStep s refusedBuffer buf)) (if-no _ _ (ap not e))
 
   step-in : (c : Call) → callStep s c ≡ stepIn s c
   step-in (start bytes buf) = tested buf _

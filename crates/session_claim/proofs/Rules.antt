@@ -10,27 +10,27 @@ use mathlib.Core.Option.{some}
 use Prim.Native.Nat.{ℕ}
 use native.Mathlib.Omega.{arith}
 use lib.Dec.{eqb}
-use borrow.Author.Tests.{eqb-true}
 use Rattle.basics.specs.Choice.{if}
 use Rattle.basics.proofs.Laws.{no, if-ind, if-yes, if-no, bool-cases}
 use Rattle.afl.specs.declared.RecordFound.{RecordFound}
-use Rattle.afl.specs.Records.{acceptsAfl, aflRecordAt}
-use Rattle.afl.proofs.Laws.{accepted-total, record-there}
+use Rattle.afl.specs.Records.{aflRecordAt}
 use Rattle.reading.specs.declared.Awaited.{Awaited}
 use Rattle.reading.specs.Answer as reading
+use Rattle.session_record.specs.declared.AwaitedResponse.{AwaitedResponse}
 use Rattle.session_record.specs.declared.Phase.{Phase}
 use Rattle.session_record.specs.declared.Session.{Session}
 use Rattle.session_record.specs.Session.{storeBytes}
 use Rattle.session_record.specs.Ranges.{storedAfl}
-use Rattle.analysis.specs.Cvm.{cvmNotApplicable}
-use Rattle.session.specs.Steps.{Step, failedStep, admittedStep, abortStep}
+use Rattle.analysis.specs.Action.{transactionLimit}
+use Rattle.session.specs.Steps.{Next, fail, reasonOf, readThen, Step, stepOn, stepOf, admittedStep, whileRunning, abortStep}
 use Rattle.session.specs.Start.{startStep}
-use Rattle.session.specs.Answer.{askRecordFound, gpoStoreReason, afterGpoRead, gpoStep, gpoReason, answerIn, answerStep}
-use Rattle.basics.specs.Reason.{reasonLink, reasonStopped}
+use Rattle.session.specs.Answer.{askFound, afterGpo, gpoNext, gpoReason, responseNext, answerStep}
+use Rattle.basics.specs.Reason.{reasonAfl, reasonLink, reasonStopped}
 use Rattle.step_laws.proofs.Ways as ways
-use Rattle.step_laws.proofs.Ways.{stored-none, GpoWay, AnswerWay, answer-way, StartWay, start-way, BrokenWay, broken-way}
+use Rattle.step_laws.proofs.Ways.{GpoWay, AnswerWay, answer-way, StartWay, start-way, BrokenWay, broken-way}
 use Rattle.session_claim.specs.Calls.{isAnswer, callsAccepted}
-use Rattle.session.specs.Calls.{Call, start, answer, link-failed, stop, callStep, CallMade, callMade, playCalls, isRefusal, isCommand}
+use Rattle.session.specs.Calls.{Call, start, answer, link-failed, stop, callStep, CallMade, callMade, playCalls, isRefusal}
+use Rattle.session.proofs.Results.{isCommand}
 use Rattle.session_claim.specs.Order.{firstAnswer}
 use Rattle.session_record.specs.Session.{isRunning}
 
@@ -39,45 +39,38 @@ use Rattle.session_record.specs.Session.{isRunning}
 abbrev hands : Step → Bool
 hands st = isCommand (st .reply .answer)
 
--- an AFL that is accepted has a first record
-there : (l : List ℕ) → acceptsAfl l ≡ true → aflRecordAt l 1 ≡ RecordFound.Nothing → ⊥
-there l a e =
-    let f = record-there l 1 (record { sfi = 0; number = 0 }) a (omega arith) (omega (arith, accepted-total l a)) in
-    let z : _≡_ {A = ℕ} 0 1 = cc in
-    omega arith
+-- a command, or a reason other than none
+abbrev Ruled : ℕ → List ℕ → Next → Type 0
+Ruled n buf x = hands (stepOn n buf x) ≡ eqb (reasonOf x) 0
 
-by-test : (n : ℕ) (b buf : List ℕ) (x : Bool) → eqb (gpoStoreReason b) 0 ≡ x → (f : RecordFound) → aflRecordAt (storedAfl b) 1 ≡ f
-    → hands (if x (askRecordFound n b 1 buf f) (failedStep cvmNotApplicable n b (gpoStoreReason b) buf)) ≡ x
-unfolding if
-by-test n b buf false e f g = refl
-by-test n b buf true e RecordFound.Nothing g = absurd (there (storedAfl b) (stored-none b (eqb-true (gpoStoreReason b) 0 e) .1) g)
-by-test n b buf true e (RecordFound.At r) g = refl
+found-ruled : (n : ℕ) (b buf : List ℕ) (f : RecordFound) → Ruled n buf (askFound (transactionLimit b) 1 b (fail reasonAfl b) f)
+found-ruled n b buf RecordFound.Nothing = refl
+found-ruled n b buf (RecordFound.At r) = refl
 
-read-hands : (n : ℕ) (b buf : List ℕ) → hands (afterGpoRead n b buf) ≡ eqb (gpoStoreReason b) 0
-unfolding afterGpoRead
-read-hands n b buf = by-test n b buf (eqb (gpoStoreReason b) 0) refl (aflRecordAt (storedAfl b) 1) refl
-
-by-reason : (n : ℕ) (b buf : List ℕ) (o : reading.ReadingOutcome) (x : Bool) → eqb (o .reason) 0 ≡ x
-    → hands (if x (afterGpoRead n (o .store) buf) (failedStep cvmNotApplicable n b (o .reason) buf)) ≡ eqb (if x (gpoStoreReason (o .store)) (o .reason)) 0
-unfolding if
-by-reason n b buf o true e = read-hands n (o .store) buf
-by-reason n b buf o false e = sym e
+read-ruled : (n : ℕ) (b buf : List ℕ) → Ruled n buf (afterGpo b)
+unfolding afterGpo
+read-ruled n b buf =
+    if-ind (Ruled n buf) _ _ _ (λ e. refl)
+    (λ e. if-ind (Ruled n buf) _ _ _ (λ m. refl)
+    (λ m. if-ind (Ruled n buf) _ _ _ (λ a. refl) (λ a. found-ruled n b buf (aflRecordAt (storedAfl b) 1))))
 
 -- a command comes exactly where the rules give no reason
-pub hands-by-rules : (n : ℕ) (b card buf : List ℕ) → hands (gpoStep n b card buf) ≡ eqb (gpoReason b card) 0
-unfolding gpoStep gpoReason
-hands-by-rules n b card buf = let o = reading.readAnswer Awaited.Gpo b card in by-reason n b buf o (eqb (o .reason) 0) refl
+pub hands-by-rules : (n : ℕ) (b card buf : List ℕ) → hands (stepOn n buf (gpoNext b card)) ≡ eqb (gpoReason b card) 0
+unfolding gpoNext readThen
+hands-by-rules n b card buf =
+    let o = reading.readAnswer Awaited.Gpo b card in
+    if-ind (Ruled n buf) _ _ _ (λ e. read-ruled n (o .store) buf) (λ e. sym e)
 
 -- ---- the call answer, by the session's phase
 
 module _ (s : Session) (card buf : List ℕ) where
   -- on a session that waits on GPO it returns a command only where the rules give no reason
-  pub sent-by-rules : s .phase ≡ Phase.Gpo → hands (answerStep s card buf) ≡ true → eqb (gpoReason (storeBytes s) card) 0 ≡ true
+  pub sent-by-rules : s .phase ≡ Phase.Waiting AwaitedResponse.Gpo → hands (answerStep s card buf) ≡ true → eqb (gpoReason (storeBytes s) card) 0 ≡ true
   unfolding admittedStep
   sent-by-rules q =
       if-ind P _ _ _ (λ e h. no h)
       (λ e. if-ind P _ _ _ (λ r h. no h)
-      (λ r. subst (λ (p : Phase). P (answerIn p s card buf)) (sym q) (λ h. sym (hands-by-rules (s .count) (storeBytes s) card buf) ∙ h)))
+      (λ r. subst (λ (p : Phase). P (stepOf s buf (whileRunning p (responseNext (storeBytes s) card)))) (sym q) (λ h. sym (hands-by-rules (s .count) (storeBytes s) card buf) ∙ h)))
     where
       P : Step → Type 0
       P st = hands st ≡ true → eqb (gpoReason (storeBytes s) card) 0 ≡ true
@@ -90,31 +83,34 @@ module _ (s : Session) (card buf : List ℕ) where
       P : Step → Type 0
       P st = isRefusal (st .reply .answer) ≡ true
 
-      go : (p : Phase) → isRunning p ≡ false → P (answerIn p s card buf)
+      go : (p : Phase) → isRunning p ≡ false → P (stepOf s buf (whileRunning p (responseNext (storeBytes s) card)))
       go Phase.Fresh e = refl
-      go Phase.Gpo e = no (sym e)
-      go (Phase.Record p) e = no (sym e)
-      go (Phase.Cryptogram a) e = no (sym e)
-      go (Phase.Checksum k) e = no (sym e)
+      go (Phase.Waiting w) e = no (sym e)
       go (Phase.Ended x) e = refl
 
 -- ---- the first answer that is taken
 
 -- no answer was taken yet, or the session has ended
+abbrev earlyOn : AwaitedResponse → Bool
+earlyOn AwaitedResponse.Gpo = true
+earlyOn (AwaitedResponse.Record p) = false
+earlyOn (AwaitedResponse.Cryptogram a) = false
+earlyOn (AwaitedResponse.Checksum k) = false
+
 abbrev early : Phase → Bool
 early Phase.Fresh = true
-early Phase.Gpo = true
-early (Phase.Record p) = false
-early (Phase.Cryptogram a) = false
-early (Phase.Checksum k) = false
+early (Phase.Waiting w) = earlyOn w
 early (Phase.Ended e) = true
 
-waits : (p : Phase) → early p ≡ true → isRunning p ≡ true → p ≡ Phase.Gpo
+on-gpo : (w : AwaitedResponse) → earlyOn w ≡ true → w ≡ AwaitedResponse.Gpo
+on-gpo AwaitedResponse.Gpo e = refl
+on-gpo (AwaitedResponse.Record p) e = no e
+on-gpo (AwaitedResponse.Cryptogram a) e = no e
+on-gpo (AwaitedResponse.Checksum k) e = no e
+
+waits : (p : Phase) → early p ≡ true → isRunning p ≡ true → p ≡ Phase.Waiting AwaitedResponse.Gpo
 waits Phase.Fresh e r = no r
-waits Phase.Gpo e r = refl
-waits (Phase.Record p) e r = no e
-waits (Phase.Cryptogram a) e r = no e
-waits (Phase.Checksum k) e r = no e
+waits (Phase.Waiting w) e r = ap Phase.Waiting (on-gpo w e)
 waits (Phase.Ended x) e r = no r
 
 -- that stays so with a call that is refused or is no answer
@@ -163,7 +159,7 @@ module _ (s : Session) (e : early (s .phase) ≡ true) where
   stays (stop buf) = broken-stays (stop buf) reasonStopped buf
 
   -- an answer is taken on GPO alone
-  taken-waits : (c : Call) → isAnswer c ≡ true → isRefusal (callStep s c .reply .answer) ≡ false → s .phase ≡ Phase.Gpo
+  taken-waits : (c : Call) → isAnswer c ≡ true → isRefusal (callStep s c .reply .answer) ≡ false → s .phase ≡ Phase.Waiting AwaitedResponse.Gpo
   taken-waits (start bytes buf) a r = no a
   taken-waits (answer card buf) a r = waits (s .phase) e (go (bool-cases (isRunning (s .phase))))
     where
@@ -175,24 +171,24 @@ module _ (s : Session) (e : early (s .phase) ≡ true) where
 
   -- one call: it is the first answer taken, or that comes later
   one-call : (c : Call) (tk : List CallMade) (m : CallMade) → let st = callStep s c in
-      (early (st .reply .session .phase) ≡ true → firstAnswer tk ≡ some m → m .before .phase ≡ Phase.Gpo)
-      → firstAnswer (if (isRefusal (st .reply .answer)) tk (callMade s c st ∷ tk)) ≡ some m → m .before .phase ≡ Phase.Gpo
+      (early (st .reply .session .phase) ≡ true → firstAnswer tk ≡ some m → m .before .phase ≡ Phase.Waiting AwaitedResponse.Gpo)
+      → firstAnswer (if (isRefusal (st .reply .answer)) tk (callMade s c st ∷ tk)) ≡ some m → m .before .phase ≡ Phase.Waiting AwaitedResponse.Gpo
   unfolding firstAnswer
   one-call c tk m later f = elim (bool-cases (isRefusal (callStep s c .reply .answer))) [
     | inl r ↦ later (stays c (inl r)) (sym (ap firstAnswer (if-yes _ _ r)) ∙ f)
     | inr n ↦ elim (bool-cases (isAnswer c)) [
       | inl a ↦ (let g : some (callMade s c (callStep s c)) ≡ some m = sym (ap firstAnswer (if-no _ _ n) ∙ if-yes _ _ a) ∙ f in
-          let h : callMade s c (callStep s c) ≡ m = cc in subst (λ (x : CallMade). x .before .phase ≡ Phase.Gpo) h (taken-waits c a n))
+          let h : callMade s c (callStep s c) ≡ m = cc in subst (λ (x : CallMade). x .before .phase ≡ Phase.Waiting AwaitedResponse.Gpo) h (taken-waits c a n))
       | inr a ↦ later (stays c (inr a)) (sym (ap firstAnswer (if-no _ _ n) ∙ if-no _ _ a) ∙ f)
     ]
   ]
 
-first-in : (s : Session) (cs : List Call) (m : CallMade) → early (s .phase) ≡ true → firstAnswer (callsAccepted (playCalls s cs)) ≡ some m → m .before .phase ≡ Phase.Gpo
+first-in : (s : Session) (cs : List Call) (m : CallMade) → early (s .phase) ≡ true → firstAnswer (callsAccepted (playCalls s cs)) ≡ some m → m .before .phase ≡ Phase.Waiting AwaitedResponse.Gpo
 unfolding playCalls callsAccepted firstAnswer
 first-in s [] m e f = let z : _≡_ {A = ℕ} 0 1 = cc in absurd (omega arith)
 first-in s (c ∷ cs) m e f = one-call s e c _ m (first-in (callStep s c .reply .session) cs m) f
 
 -- from a fresh session on, the first answer taken comes while the answer to GPO is awaited
 pub first-on-gpo : (s : Session) (cs : List Call) (m : CallMade) → s .phase ≡ Phase.Fresh → firstAnswer (callsAccepted (playCalls s cs)) ≡ some m
-    → m .before .phase ≡ Phase.Gpo
+    → m .before .phase ≡ Phase.Waiting AwaitedResponse.Gpo
 first-on-gpo s cs m q f = first-in s cs m (ap early q) f

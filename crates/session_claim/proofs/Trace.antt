@@ -29,29 +29,29 @@ use Rattle.analysis.specs.Action.{transactionLimit, findingsOf}
 use Rattle.analysis.specs.Choice.{generateAcP1}
 use Rattle.session_record.specs.declared.Outcome.{Outcome}
 use Rattle.session_record.specs.declared.AwaitedRecord.{AwaitedRecord}
+use Rattle.session_record.specs.declared.AwaitedResponse.{AwaitedResponse}
 use Rattle.session_record.specs.declared.Phase.{Phase}
 use Rattle.session_record.specs.declared.Session.{Session}
 use Rattle.session_record.specs.declared.Reply.{Reply}
 use Rattle.basics.specs.Reason.{reasonLink, reasonStopped}
-use Rattle.session_record.specs.Session.{storeBytes, endingOf}
-use Rattle.session_record.specs.Ranges.{emvMode, storedAfl, inRanges}
-use Rattle.session_record.specs.Clauses.{zeroTvr}
+use Rattle.session_record.specs.Session.{storeBytes, endingOf, endingBy}
+use Rattle.session_record.specs.Ranges.{emvMode, storedAfl, zeroTvr, inRanges}
 use Rattle.session_record.proofs.Phases.{store-size, store-fits, on-fresh, on-gpo, on-record, count-most}
-use Rattle.session.specs.Steps as steps
-use Rattle.session.specs.Steps.{Step, withoutCommand, refusedStep, withTvr, withFindings, admittedStep, endsRunning, abortStep}
+use Rattle.session.specs.Steps.{end, heldCvm, Step, refusedStep, stepOf, withTvr, withFindings, admittedStep, whileRunning, abortStep}
 use Rattle.session.specs.Start.{startStep}
-use Rattle.session.specs.Answer.{recordPhase, gpoReason, answerStep}
-use Rattle.session.specs.MagStripe.{checksumPhase, storeWithDigits}
+use Rattle.session.specs.Answer.{awaitedRecord, gpoReason, answerStep}
+use Rattle.session.specs.MagStripe.{awaitedChecksum, storeWithDigits}
 use Rattle.step_laws.proofs.Kept.{read-fits, read-mode, mode-bytes, read-afl}
 use Rattle.step_laws.proofs.Ways as ways
-use Rattle.step_laws.proofs.Ways.{GpoWay, RecordsWay, MagStripeWay, RecordWay, CryptogramWay, ChecksumWay, AnswerWay, answer-way, StartWay, start-way, analysedSession, askedBy, loadedSession}
+use Rattle.step_laws.proofs.Ways.{withoutCommand, endedReply, commandStep, GpoWay, RecordsWay, MagStripeWay, RecordWay, CryptogramWay, ChecksumWay, AnswerWay, answer-way, StartWay, start-way, analysedSession, askedBy, loadedSession}
 use Rattle.step_laws.proofs.Ranges.{start-keeps, answer-keeps, link-keeps, stop-keeps}
 use Rattle.session_claim.specs.Calls.{commandsSent, callsAccepted, lastElement, isAnswer, hasAnswer, notAnswered, unansweredCommands}
-use Rattle.session.specs.Calls.{Call, start, answer, link-failed, stop, callStep, CallMade, callMade, playCalls, finalSession, isRefusal, isCommand, isOutcome, callResult, commandSent}
-use Rattle.session_claim.specs.Order.{responseAfl, responseAip, firstAnswer, aflByFirstAnswer, acceptedAfl, CommandKind, gpo, record-command, cryptogram, checksum, commandKind, lastKindFor, lastKindIn, lastKind, publishedOrder}
-use Rattle.session_claim.specs.Claim.{SessionProper, noCallAccepted, lastCommand, lastOutcome, mostCommandsFor}
+use Rattle.session.specs.Calls.{Call, start, answer, link-failed, stop, callStep, CallMade, callMade, playCalls, finalSession, isRefusal, callResult, commandSent}
+use Rattle.session.proofs.Results.{isCommand}
+use Rattle.session_claim.specs.Order.{responseAfl, responseAip, firstAnswer, acceptedAfl, CommandKind, gpo, record-command, cryptogram, checksum, commandKind, lastKindFor, lastKind, publishedOrder}
+use Rattle.session_claim.specs.Claim.{SessionProper, stageBy, stageAfter, mostCommandsFor}
 use Rattle.basics.specs.Choice.{oneIf}
-use Rattle.session_record.specs.Session.{isFresh, isRunning, isEnded}
+use Rattle.session_record.specs.Session.{Stage, fresh, running, ended, stageOf, isRunning, isEnded}
 use Rattle.session_claim.proofs.Brought.{afl-brought, aip-brought}
 use Rattle.session_claim.proofs.Rules.{sent-by-rules, answer-off}
 use Rattle.basics.proofs.Laws.{no}
@@ -134,14 +134,17 @@ last-mag-stripe b e = if-no _ _ e
 
 -- the order that the first answer gives
 abbrev orderOf : Option CallMade → List CommandKind
-orderOf x = publishedOrder (lastKindIn x) (aflByFirstAnswer x)
+orderOf x = publishedOrder (lastKind x) (acceptedAfl x)
+
+abbrev restOn : AwaitedResponse → List ℕ → Option CallMade → List CommandKind
+restOn AwaitedResponse.Gpo b x = drop 1 (orderOf x)
+restOn (AwaitedResponse.Record p) b x = map reads (drop (p .number) (aflRecords (storedAfl b))) ++ (lastOn b ∷ [])
+restOn (AwaitedResponse.Cryptogram a) b x = []
+restOn (AwaitedResponse.Checksum k) b x = []
 
 abbrev rest : Phase → List ℕ → Option CallMade → List CommandKind
 rest Phase.Fresh b x = orderOf x
-rest Phase.Gpo b x = drop 1 (orderOf x)
-rest (Phase.Record p) b x = map reads (drop (p .number) (aflRecords (storedAfl b))) ++ (lastOn b ∷ [])
-rest (Phase.Cryptogram a) b x = []
-rest (Phase.Checksum k) b x = []
+rest (Phase.Waiting w) b x = restOn w b x
 rest (Phase.Ended e) b x = []
 
 published-front : (k : CommandKind) (a : Option (List ℕ)) → publishedOrder k a ≡ gpo ∷ drop 1 (publishedOrder k a)
@@ -187,26 +190,23 @@ module _ (m : CallMade) (tk : List CallMade) where
 
 -- ---- the last call taken, or what the session was before
 
-abbrev pub by : Bool → (CallMade → Bool) → Option CallMade → Bool
+abbrev pub by : {A : Type 0} → A → (CallMade → A) → Option CallMade → A
 by d g none = d
 by d g (some m) = g m
 
-by-last : (d e : Bool) (g : CallMade → Bool) (m : CallMade) (tk : List CallMade) → by d g (lastElement (m ∷ tk)) ≡ by e g (lastElement (m ∷ tk))
+by-last : {A : Type 0} (d e : A) (g : CallMade → A) (m : CallMade) (tk : List CallMade) → by d g (lastElement (m ∷ tk)) ≡ by e g (lastElement (m ∷ tk))
 unfolding lastElement
 by-last d e g m [] = refl
 by-last d e g m (x ∷ tk) = by-last d e g x tk
 
-pub by-front : (d e : Bool) (g : CallMade → Bool) (m : CallMade) (tk : List CallMade) → e ≡ g m → by e g (lastElement tk) ≡ by d g (lastElement (m ∷ tk))
+pub by-front : {A : Type 0} (d e : A) (g : CallMade → A) (m : CallMade) (tk : List CallMade) → e ≡ g m → by e g (lastElement tk) ≡ by d g (lastElement (m ∷ tk))
 unfolding lastElement
 by-front d e g m [] q = q
 by-front d e g m (x ∷ tk) q = by-last e d g x tk
 
-running-is : (p : Phase) → isRunning p ≡ true → (isFresh p ≡ false) × (isEnded p ≡ false)
+running-is : (p : Phase) → isRunning p ≡ true → isEnded p ≡ false
 running-is Phase.Fresh e = no e
-running-is Phase.Gpo e = (refl, refl)
-running-is (Phase.Record p) e = (refl, refl)
-running-is (Phase.Cryptogram a) e = (refl, refl)
-running-is (Phase.Checksum k) e = (refl, refl)
+running-is (Phase.Waiting w) e = refl
 running-is (Phase.Ended x) e = no e
 
 -- ---- unanswered: the command x that a running session waits on, and those that come after
@@ -236,13 +236,15 @@ module _ (m : CallMade) (x : List ℕ) (sent : List (List ℕ)) (tk : List CallM
   one-more true a = λ y. subst (OneOut (y ∷ x ∷ sent)) (sym (if-yes _ _ (either-left _ _ (a refl)))) out-now
   one-more false a = out-now
 
+-- the stage that a call leaves
+abbrev told : CallMade → Stage
+told m = stageBy (callResult m)
+
 -- ---- the claim from a session s on: the commands sent, the calls taken, the session at the end
 
 record Run (s : Session) (sent : List (List ℕ)) (tk : List CallMade) (f : Session) : Type 0 where
   count : f .count ≡ s .count + length sent
-  fresh : isFresh (f .phase) ≡ by (isFresh (s .phase)) (λ m. false) (lastElement tk)
-  running : isRunning (f .phase) ≡ by (isRunning (s .phase)) (λ m. isCommand (callResult m)) (lastElement tk)
-  ended : isEnded (f .phase) ≡ by (isEnded (s .phase)) (λ m. isOutcome (callResult m)) (lastElement tk)
+  stage : stageOf (f .phase) ≡ by (stageOf (s .phase)) told (lastElement tk)
   waiting : isRunning (f .phase) ≡ true → Waits (isRunning (s .phase)) sent tk
   calls : length tk + oneIf (isEnded (s .phase)) ≡ length sent + oneIf (isEnded (f .phase))
   order : Front (map commandKind sent) (rest (s .phase) (storeBytes s) (firstAnswer tk))
@@ -251,7 +253,7 @@ record Run (s : Session) (sent : List (List ℕ)) (tk : List CallMade) (f : Sess
 no-calls : (s : Session) → inRanges s ≡ true → Run s [] [] s
 unfolding lastElement
 no-calls s i =
-    record { count = omega arith; fresh = refl; running = refl; ended = refl; waiting = no-answer (isRunning (s .phase)); calls = omega arith; order = tt; ranges = i }
+    record { count = omega arith; stage = refl; waiting = no-answer (isRunning (s .phase)); calls = omega arith; order = tt; ranges = i }
 
 -- a step takes the claim from the session that it leaves to the one before
 abbrev Goes : Session → Call → Step → Type 0
@@ -262,50 +264,46 @@ Goes s c st =
 goes-refused : (s : Session) (c : Call) (n : ℕ) (buf : List ℕ) → Goes s c (refusedStep s n buf)
 goes-refused s c n buf sent tk f r = subst (λ (x : List CallMade). Run s sent x f) (sym (if-yes _ _ refl)) r
 
-goes-ended : (s : Session) (c : Call) (k : ℕ) (b : List ℕ) (o : Outcome) (n : ℕ) (buf : List ℕ) → isEnded (s .phase) ≡ false → Goes s c (withoutCommand (steps.endedReply k (s .count) b (endingOf o n)) buf)
+goes-ended : (s : Session) (c : Call) (k : ℕ) (b : List ℕ) (o : Outcome) (n : ℕ) (buf : List ℕ) → isEnded (s .phase) ≡ false → Goes s c (withoutCommand (endedReply k (s .count) b (endingOf o n)) buf)
 goes-ended s c k b o n buf e sent tk f r =
     subst (λ (x : List CallMade). Run s sent x f) (sym (if-no _ _ refl))
     (record {
       count = r .count;
-      fresh = r .fresh ∙ by-front (isFresh (s .phase)) false (λ x. false) m tk refl;
-      running = r .running ∙ by-front (isRunning (s .phase)) false (λ x. isCommand (callResult x)) m tk refl;
-      ended = r .ended ∙ by-front (isEnded (s .phase)) true (λ x. isOutcome (callResult x)) m tk refl;
-      waiting = λ q. absurd (omega (arith, r .calls, left .1, ap oneIf (running-is (f .phase) q .1)));
+      stage = r .stage ∙ by-front (stageOf (s .phase)) ended told m tk refl;
+      waiting = λ q. absurd (omega (arith, r .calls, left .1, ap oneIf (running-is (f .phase) q)));
       calls = omega (arith, r .calls, ap oneIf e);
       order = left .0;
       ranges = r .ranges;
     })
   where
     m : CallMade
-    m = callMade s c (withoutCommand (steps.endedReply k (s .count) b (endingOf o n)) buf)
+    m = callMade s c (withoutCommand (endedReply k (s .count) b (endingOf o n)) buf)
 
     left : Front (map commandKind sent) (rest (s .phase) (storeBytes s) (firstAnswer (m ∷ tk))) × (length sent ≡ 0)
     left = none-left sent _ (r .order)
 
 -- with a command: what is left begins with it
-abbrev Next : Session → Call → List ℕ → Phase → List ℕ → List ℕ → Type 0
-Next s c b p x buf =
-    (sent : List (List ℕ)) (tk : List CallMade) → Front (map commandKind sent) (rest p b (firstAnswer tk))
-    → Front (commandKind x ∷ map commandKind sent) (rest (s .phase) (storeBytes s) (firstAnswer (callMade s c (steps.commandStep (s .count) b p x buf) ∷ tk)))
+abbrev Leads : Session → Call → List ℕ → AwaitedResponse → List ℕ → List ℕ → Type 0
+Leads s c b w x buf =
+    (sent : List (List ℕ)) (tk : List CallMade) → Front (map commandKind sent) (restOn w b (firstAnswer tk))
+    → Front (commandKind x ∷ map commandKind sent) (rest (s .phase) (storeBytes s) (firstAnswer (callMade s c (commandStep (s .count) b w x buf) ∷ tk)))
 
-goes-sent : (s : Session) (c : Call) (b : List ℕ) (p : Phase) (x buf : List ℕ) → isEnded (s .phase) ≡ false → isRunning p ≡ true
-    → (isRunning (s .phase) ≡ true → isAnswer c ≡ true) → Next s c b p x buf → Goes s c (steps.commandStep (s .count) b p x buf)
-goes-sent s c b p x buf e q z next sent tk f r =
+goes-sent : (s : Session) (c : Call) (b : List ℕ) (w : AwaitedResponse) (x buf : List ℕ) → isEnded (s .phase) ≡ false
+    → (isRunning (s .phase) ≡ true → isAnswer c ≡ true) → Leads s c b w x buf → Goes s c (commandStep (s .count) b w x buf)
+goes-sent s c b w x buf e z next sent tk f r =
     subst (λ (y : List CallMade). Run s (take (length x) (x ++ drop (length x) buf) ∷ sent) y f) (sym (if-no _ _ refl))
     (subst (λ (y : List ℕ). Run s (y ∷ sent) (m ∷ tk) f) (sym sent-bytes)
     (record {
       count = omega (arith, r .count);
-      fresh = r .fresh ∙ by-front (isFresh (s .phase)) (isFresh p) (λ y. false) m tk (running-is p q .0);
-      running = r .running ∙ by-front (isRunning (s .phase)) (isRunning p) (λ y. isCommand (callResult y)) m tk q;
-      ended = r .ended ∙ by-front (isEnded (s .phase)) (isEnded p) (λ y. isOutcome (callResult y)) m tk (running-is p q .1);
-      waiting = λ w. one-more m x sent tk (ap (λ (y : List ℕ). y ∷ []) sent-bytes) (subst (λ (y : Bool). Waits y sent tk) q (r .waiting w)) (isRunning (s .phase)) z;
-      calls = omega (arith, r .calls, ap oneIf e, ap oneIf (running-is p q .1));
+      stage = r .stage ∙ by-front (stageOf (s .phase)) running told m tk refl;
+      waiting = λ q. one-more m x sent tk (ap (λ (y : List ℕ). y ∷ []) sent-bytes) (r .waiting q) (isRunning (s .phase)) z;
+      calls = omega (arith, r .calls, ap oneIf e);
       order = next sent tk (r .order);
       ranges = r .ranges;
     }))
   where
     m : CallMade
-    m = callMade s c (steps.commandStep (s .count) b p x buf)
+    m = callMade s c (commandStep (s .count) b w x buf)
 
     sent-bytes : take (length x) (x ++ drop (length x) buf) ≡ x
     sent-bytes = take-at x (drop (length x) buf) (length x) refl
@@ -319,12 +317,12 @@ start-goes s bytes buf = go (start-way s bytes buf)
     go (StartWay.refused n l) = goes-refused s (start bytes buf) n buf
     go (StartWay.unlisted b i q e) = goes-ended s (start bytes buf) _ (withTvr b zeroTvr) _ _ buf (ap isEnded q)
     go (StartWay.asked b c i q e f) =
-        goes-sent s (start bytes buf) (withTvr b zeroTvr) Phase.Gpo c buf (ap isEnded q) refl (λ w. no (sym (ap isRunning q) ∙ w))
-        (λ sent tk h. let m = callMade s (start bytes buf) (steps.commandStep (s .count) (storeBytes (loadedSession s b)) Phase.Gpo c buf) in
+        goes-sent s (start bytes buf) (withTvr b zeroTvr) AwaitedResponse.Gpo c buf (ap isEnded q) (λ w. no (sym (ap isRunning q) ∙ w))
+        (λ sent tk h. let m = callMade s (start bytes buf) (commandStep (s .count) (storeBytes (loadedSession s b)) AwaitedResponse.Gpo c buf) in
         subst (λ (p : Phase). Front (commandKind c ∷ map commandKind sent) (rest p (storeBytes s) (firstAnswer (m ∷ tk)))) (sym q)
         (subst (λ (x : Option CallMade). Front (commandKind c ∷ map commandKind sent) (orderOf x)) (sym (passed-over m tk refl))
         (front-cons (commandKind c) gpo (map commandKind sent) (orderOf (firstAnswer tk)) (drop 1 (orderOf (firstAnswer tk)))
-        (published-front _ (aflByFirstAnswer (firstAnswer tk))) (kind-gpo c (list.gpo-proper (storeBytes (loadedSession s b)) c f)) h)))
+        (published-front _ (acceptedAfl (firstAnswer tk))) (kind-gpo c (list.gpo-proper (storeBytes (loadedSession s b)) c f)) h)))
 
 -- ---- answer
 
@@ -332,13 +330,13 @@ module _ (s : Session) (card buf : List ℕ) where
   abbrev call : Call
   call = answer card buf
 
-  gpo-goes : inRanges s ≡ true → s .phase ≡ Phase.Gpo → reading.readAnswer Awaited.Gpo (storeBytes s) card .reason ≡ 0
+  gpo-goes : inRanges s ≡ true → s .phase ≡ Phase.Waiting AwaitedResponse.Gpo → reading.readAnswer Awaited.Gpo (storeBytes s) card .reason ≡ 0
       → {st : Step} → GpoWay (ways.taken Awaited.Gpo s card) buf st
       → (isCommand (st .reply .answer) ≡ true → eqb (gpoReason (storeBytes s) card) 0 ≡ true) → Goes s call st
   unfolding publishedOrder
   gpo-goes i q z (GpoWay.failed n r) k = goes-ended s call _ _ _ n buf (ap isEnded q)
   gpo-goes i q z (GpoWay.first r v a e) k =
-      goes-sent s call b (recordPhase (transactionLimit b) 1) (readRecordCommand r) buf (ap isEnded q) refl (λ w. refl)
+      goes-sent s call b (awaitedRecord (transactionLimit b) 1) (readRecordCommand r) buf (ap isEnded q) (λ w. refl)
       (λ sent tk h. subst (λ (p : Phase). Front (commandKind (readRecordCommand r) ∷ map commandKind sent) (rest p (storeBytes s) (firstAnswer (m ∷ tk)))) (sym q)
       (subst (λ (x : Option CallMade). Front (commandKind (readRecordCommand r) ∷ map commandKind sent) (drop 1 (orderOf x))) (sym (answer-first m tk refl))
       (subst (λ (x : Option (List ℕ)). Front (commandKind (readRecordCommand r) ∷ map commandKind sent) (drop 1 (publishedOrder (lastKindFor (responseAip card)) x))) (sym (if-yes _ _ (k refl) ∙ here))
@@ -353,7 +351,7 @@ module _ (s : Session) (card buf : List ℕ) where
       l = storedAfl b
 
       m : CallMade
-      m = callMade s call (steps.commandStep (s .count) b (recordPhase (transactionLimit b) 1) (readRecordCommand r) buf)
+      m = callMade s call (commandStep (s .count) b (awaitedRecord (transactionLimit b) 1) (readRecordCommand r) buf)
 
       here : responseAfl card ≡ some l
       here = afl-brought (storeBytes s) card (store-size s i) z (ap bytesOfValue (on-gpo s i q .no-94)) (omega (arith, accepted-length l a .1))
@@ -363,7 +361,7 @@ module _ (s : Session) (card buf : List ℕ) where
           aip-brought (storeBytes s) card (store-size s i) z (ap bytesOfValue (on-gpo s i q .no-82))
           (mode-bytes b (read-fits Awaited.Gpo (storeBytes s) card (store-size s i) (store-fits s i) .1) v)
 
-  module _ (i : inRanges s ≡ true) (p : AwaitedRecord) (q : s .phase ≡ Phase.Record p) (w : Awaited) where
+  module _ (i : inRanges s ≡ true) (p : AwaitedRecord) (q : s .phase ≡ Phase.Waiting (AwaitedResponse.Record p)) (w : Awaited) where
     abbrev b : List ℕ
     b = reading.readAnswer w (storeBytes s) card .store
 
@@ -374,18 +372,18 @@ module _ (s : Session) (card buf : List ℕ) where
     same-mode = ap bytesOfValue (read-mode w (storeBytes s) card (store-size s i) (store-fits s i) (on-record s i p q .mode))
 
     -- a claim on what is left of the read store's records is one on what is left
-    left : (xs : List CommandKind) (x : Option CallMade) → Front xs (rest (Phase.Record p) b x) → Front xs (rest (s .phase) (storeBytes s) x)
+    left : (xs : List CommandKind) (x : Option CallMade) → Front xs (restOn (AwaitedResponse.Record p) b x) → Front xs (rest (s .phase) (storeBytes s) x)
     left xs x h =
         subst (λ (y : Phase). Front xs (rest y (storeBytes s) x)) (sym q)
         (subst (λ (l : List ℕ). Front xs (map reads (drop (p .number) (aflRecords l)) ++ (lastOn (storeBytes s) ∷ []))) same
         (subst (λ (v : List ℕ). Front xs (map reads (drop (p .number) (aflRecords (storedAfl b))) ++ (lastKindFor (some v) ∷ []))) same-mode h))
 
     -- the last command y, where no record is left
-    last-goes : (d : List ℕ) (f : Phase) (c : List ℕ) (y : CommandKind) → isRunning f ≡ true → ((t : Option CallMade) → rest f d t ≡ [])
-        → aflRecordAt (storedAfl b) (p .number + 1) ≡ RecordFound.Nothing → lastOn b ≡ y → commandKind c ≡ y → Goes s call (steps.commandStep (s .count) d f c buf)
-    last-goes d f c y o n e m k =
-        goes-sent s call d f c buf (ap isEnded q) o (λ w. refl)
-        (λ sent tk h. left (commandKind c ∷ map commandKind sent) (firstAnswer (callMade s call (steps.commandStep (s .count) d f c buf) ∷ tk))
+    last-goes : (d : List ℕ) (f : AwaitedResponse) (c : List ℕ) (y : CommandKind) → ((t : Option CallMade) → restOn f d t ≡ [])
+        → aflRecordAt (storedAfl b) (p .number + 1) ≡ RecordFound.Nothing → lastOn b ≡ y → commandKind c ≡ y → Goes s call (commandStep (s .count) d f c buf)
+    last-goes d f c y n e m k =
+        goes-sent s call d f c buf (ap isEnded q) (λ w. refl)
+        (λ sent tk h. left (commandKind c ∷ map commandKind sent) (firstAnswer (callMade s call (commandStep (s .count) d f c buf) ∷ tk))
         (front-cons (commandKind c) y (map commandKind sent) (map reads (drop (p .number) (aflRecords (storedAfl b))) ++ (lastOn b ∷ [])) []
         (ap (λ (x : List CardRecord). map reads x ++ (lastOn b ∷ [])) (no-record (storedAfl b) (p .number) (ap acceptsAfl same ∙ on-record s i p q .afl) e)
         ∙ ap (λ (x : CommandKind). x ∷ []) m)
@@ -395,18 +393,18 @@ module _ (s : Session) (card buf : List ℕ) where
     records-goes e m (RecordsWay.failed n r x) = goes-ended s call _ b _ n buf (ap isEnded q)
     records-goes e m RecordsWay.unlisted = goes-ended s call _ _ _ _ buf (ap isEnded q)
     records-goes e m (RecordsWay.asked c f g) =
-        last-goes (withFindings b (findingsOf b)) (Phase.Cryptogram (askedBy (p .limit) (ways.taken w s card))) c cryptogram refl (λ t. refl) e (last-emv b m)
+        last-goes (withFindings b (findingsOf b)) (AwaitedResponse.Cryptogram (askedBy (p .limit) (ways.taken w s card))) c cryptogram (λ t. refl) e (last-emv b m)
         (kind-cryptogram c (list.cryptogram-proper (storeBytes (analysedSession (ways.taken w s card))) c (generateAcP1 (askedBy (p .limit) (ways.taken w s card) .choice)) g))
 
     mag-stripe-goes : aflRecordAt (storedAfl b) (p .number + 1) ≡ RecordFound.Nothing → emvMode b ≡ false → {st : Step} → MagStripeWay (p .limit) (ways.taken w s card) buf st → Goes s call st
     mag-stripe-goes e m (MagStripeWay.failed n r) = goes-ended s call _ b _ n buf (ap isEnded q)
     mag-stripe-goes e m (MagStripeWay.asked c f g) =
-        last-goes b (checksumPhase (p .limit)) c checksum refl (λ t. refl) e (last-mag-stripe b m) (kind-checksum c (list.checksum-proper b c g))
+        last-goes b (awaitedChecksum (p .limit)) c checksum (λ t. refl) e (last-mag-stripe b m) (kind-checksum c (list.checksum-proper b c g))
 
     record-goes : {st : Step} → RecordWay p (ways.taken w s card) buf st → Goes s call st
     record-goes (RecordWay.next r e) =
-        goes-sent s call b (recordPhase (p .limit) (p .number + 1)) (readRecordCommand r) buf (ap isEnded q) refl (λ w. refl)
-        (λ sent tk h. left (commandKind (readRecordCommand r) ∷ map commandKind sent) (firstAnswer (callMade s call (steps.commandStep (s .count) (storeBytes (ways.taken w s card)) (recordPhase (p .limit) (p .number + 1)) (readRecordCommand r) buf) ∷ tk))
+        goes-sent s call b (awaitedRecord (p .limit) (p .number + 1)) (readRecordCommand r) buf (ap isEnded q) (λ w. refl)
+        (λ sent tk h. left (commandKind (readRecordCommand r) ∷ map commandKind sent) (firstAnswer (callMade s call (commandStep (s .count) (storeBytes (ways.taken w s card)) (awaitedRecord (p .limit) (p .number + 1)) (readRecordCommand r) buf) ∷ tk))
         (front-cons (commandKind (readRecordCommand r)) (reads r) (map commandKind sent) (map reads (drop (p .number) (aflRecords (storedAfl b))) ++ (lastOn b ∷ []))
         (map reads (drop (p .number + 1) (aflRecords (storedAfl b))) ++ (lastOn b ∷ []))
         (ap (λ (x : List CardRecord). map reads x ++ (lastOn b ∷ [])) (next-record (storedAfl b) (p .number) r e)) (kind-record r) h))
@@ -426,11 +424,11 @@ module _ (s : Session) (card buf : List ℕ) where
   answer-goes = go (answer-way s card buf) (answer-off s card buf) (sent-by-rules s card buf)
     where
       runs : (isRunning (s .phase) ≡ false → false ≡ true) → (isRunning (s .phase) ≡ true) ⊎ (isRunning (s .phase) ≡ false) → isEnded (s .phase) ≡ false
-      runs o (inl y) = running-is (s .phase) y .1
+      runs o (inl y) = running-is (s .phase) y
       runs o (inr n) = no (o n)
 
       go : {st : Step} → AnswerWay s card buf st → (isRunning (s .phase) ≡ false → isRefusal (st .reply .answer) ≡ true)
-          → (s .phase ≡ Phase.Gpo → isCommand (st .reply .answer) ≡ true → eqb (gpoReason (storeBytes s) card) 0 ≡ true) → Goes s call st
+          → (s .phase ≡ Phase.Waiting AwaitedResponse.Gpo → isCommand (st .reply .answer) ≡ true → eqb (gpoReason (storeBytes s) card) 0 ≡ true) → Goes s call st
       go (AnswerWay.refused n l) o k = goes-refused s call n buf
       go (AnswerWay.unread m n i r h x) o k = goes-ended s call _ (storeBytes s) _ n buf (runs o (bool-cases (isRunning (s .phase))))
       go (AnswerWay.gpo i q z w) o k = gpo-goes (i .ranges) q z w (k q)
@@ -448,12 +446,9 @@ broken-goes s c n buf =
     P : Step → Type 0
     P = Goes s c
 
-    go : (p : Phase) → s .phase ≡ p → P (endsRunning p s n buf)
+    go : (p : Phase) → s .phase ≡ p → P (stepOf s buf (whileRunning p (λ (w : AwaitedResponse). end (endingBy n) (heldCvm w) (storeBytes s))))
     go Phase.Fresh q = goes-refused s c _ buf
-    go Phase.Gpo q = goes-ended s c _ (storeBytes s) _ n buf (ap isEnded q)
-    go (Phase.Record p) q = goes-ended s c _ (storeBytes s) _ n buf (ap isEnded q)
-    go (Phase.Cryptogram a) q = goes-ended s c _ (storeBytes s) _ n buf (ap isEnded q)
-    go (Phase.Checksum k) q = goes-ended s c _ (storeBytes s) _ n buf (ap isEnded q)
+    go (Phase.Waiting w) q = goes-ended s c _ (storeBytes s) _ n buf (ap isEnded q)
     go (Phase.Ended x) q = goes-refused s c _ buf
 
 -- ---- every call, and every list of calls
@@ -477,33 +472,23 @@ runs-on s (c ∷ cs) i = call-goes s c _ _ _ (runs-on (callStep s c .reply .sess
 
 -- ---- the claim, from a fresh session
 
-none-fresh : (o : Option CallMade) → by true (λ m. false) o ≡ noCallAccepted o
-none-fresh none = refl
-none-fresh (some m) = refl
-
-none-running : (o : Option CallMade) → by false (λ m. isCommand (callResult m)) o ≡ lastCommand o
-none-running none = refl
-none-running (some m) = refl
-
-none-ended : (o : Option CallMade) → by false (λ m. isOutcome (callResult m)) o ≡ lastOutcome o
-none-ended none = refl
-none-ended (some m) = refl
+none-yet : (o : Option CallMade) → by fresh told o ≡ stageAfter o
+none-yet none = refl
+none-yet (some m) = refl
 
 most-one : (x : Bool) → oneIf x ≤ 1
 most-one true = omega arith
 most-one false = omega arith
 
 pub always : (s : Session) (cs : List Call) → s .phase ≡ Phase.Fresh → inRanges s ≡ true → SessionProper (playCalls s cs) (finalSession s cs)
-unfolding acceptedAfl lastKind unansweredCommands
+unfolding unansweredCommands
 always s cs q i =
     record {
       order = front-take (map commandKind (commandsSent ms)) (orderOf (firstAnswer (callsAccepted ms))) front ∙ ap (λ (n : ℕ). take n (orderOf (firstAnswer (callsAccepted ms)))) number;
       count = omega (arith, r .count, on-fresh s i q .count);
-      bound = omega (arith, front-length (map commandKind (commandsSent ms)) (orderOf (firstAnswer (callsAccepted ms))) front, number, published-length (lastKindIn (firstAnswer (callsAccepted ms))) (aflByFirstAnswer (firstAnswer (callsAccepted ms))));
+      bound = omega (arith, front-length (map commandKind (commandsSent ms)) (orderOf (firstAnswer (callsAccepted ms))) front, number, published-length (lastKind (firstAnswer (callsAccepted ms))) (acceptedAfl (firstAnswer (callsAccepted ms))));
       never-over = few;
-      fresh = r .fresh ∙ ap (λ (p : Phase). by (isFresh p) (λ m. false) (lastElement (callsAccepted ms))) q ∙ none-fresh (lastElement (callsAccepted ms));
-      running = r .running ∙ ap (λ (p : Phase). by (isRunning p) (λ m. isCommand (callResult m)) (lastElement (callsAccepted ms))) q ∙ none-running (lastElement (callsAccepted ms));
-      ended = r .ended ∙ ap (λ (p : Phase). by (isEnded p) (λ m. isOutcome (callResult m)) (lastElement (callsAccepted ms))) q ∙ none-ended (lastElement (callsAccepted ms));
+      stage = r .stage ∙ ap (λ (p : Phase). by (stageOf p) told (lastElement (callsAccepted ms))) q ∙ none-yet (lastElement (callsAccepted ms));
       one-unanswered = λ w. out w .0;
       last-unanswered = λ w. out w .1;
       calls = all;

@@ -3,14 +3,14 @@
 use mathlib.Core.Bool.{Bool, true, false}
 use mathlib.Core.List.{List, [], _∷_, _++_}
 use mathlib.Core.Option.{Option, some, none}
-use Prim.Native.Nat.{ℕ}
+use Rattle.basics.specs.Types.{CommandBytes}
 use Rattle.basics.specs.Choice.{if_then_else_, _or_}
 use Rattle.session.specs.Calls.{Call, start, answer, link-failed, stop, CallMade, callResult, callRefused, commandSent}
 
 -- ---- what a list of calls returned
 
 -- the commands handed out, in order
-unfoldable pub commandsSent : List CallMade → List (List ℕ)
+unfoldable pub commandsSent : List CallMade → List CommandBytes
 commandsSent [] = []
 commandsSent (m ∷ ms) = commandSent (callResult m) (m .step .buffer) ++ commandsSent ms
 
@@ -34,7 +34,7 @@ abbrev pub isAnswer : Call → Bool
 isAnswer (start bytes buf) = false
 isAnswer (answer card buf) = true
 isAnswer (link-failed buf) = false
-isAnswer (stop buf) = false
+isAnswer (stop buf)        = false
 
 -- an answer is among these calls
 unfoldable pub hasAnswer : List CallMade → Bool
@@ -42,12 +42,12 @@ hasAnswer [] = false
 hasAnswer (m ∷ ms) = isAnswer (m .call) or hasAnswer ms
 
 -- of calls that were not refused, the commands that no answer comes after
-unfoldable pub notAnswered : List CallMade → List (List ℕ)
+unfoldable pub notAnswered : List CallMade → List CommandBytes
 notAnswered [] = []
 notAnswered (m ∷ ms) =
     if hasAnswer ms then notAnswered ms
     else commandSent (callResult m) (m .step .buffer) ++ notAnswered ms
 
 -- refused calls answer nothing
-unfoldable pub unansweredCommands : List CallMade → List (List ℕ)
+unfoldable pub unansweredCommands : List CallMade → List CommandBytes
 unansweredCommands ms = notAnswered (callsAccepted ms)

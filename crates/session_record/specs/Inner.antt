@@ -10,8 +10,11 @@ use Prim.Native.Nat.{ℕ, suc, _+_, _≤_, _<_}
 use lib.ListN.{getD}
 use Rattle.basics.specs.Choice.{if, if_then_else_, _and_, _or_, _≤?_, _=?_}
 use Rattle.dictionary.specs.Rows.{Row, dictionaryRows, rowCount, optional}
-use Rattle.dictionary.specs.Named.{rowTransactionDate, rowTransactionType, rowAmount, rowReaderVersion, rowTerminalCountry, rowTerminalCapabilities, rowTerminalType, rowUn, rowUnNumeric, rowKernelConfiguration}
-use Rattle.dictionary.specs.Named.{rowTacDefault, rowTacDenial, rowTacOnline, rowFloorLimit, rowLimitNoOnDeviceCvm, rowLimitOnDeviceCvm, rowCvmRequiredLimit}
+use Rattle.dictionary.specs.Named.{rowTransactionDate, rowTransactionType, rowAmount, rowReaderVersion}
+use Rattle.dictionary.specs.Named.{rowTerminalCountry, rowTerminalCapabilities, rowTerminalType}
+use Rattle.dictionary.specs.Named.{rowUn, rowUnNumeric, rowKernelConfiguration}
+use Rattle.dictionary.specs.Named.{rowTacDefault, rowTacDenial, rowTacOnline, rowFloorLimit}
+use Rattle.dictionary.specs.Named.{rowLimitNoOnDeviceCvm, rowLimitOnDeviceCvm, rowCvmRequiredLimit}
 use Rattle.store.specs.Place.{placeValue, rowRoom, rowOffset}
 use Rattle.session_record.specs.declared.RowSpot.{RowSpot}
 use Rattle.session_record.specs.Ranges.{valueFits, allObjectsFit, allRequiredPresent}
@@ -64,9 +67,10 @@ requiredFrom n (r ∷ rs) =
 -- and of all rows
 unfoldable pub requiredRows : List ℕ
 requiredRows =
-    rowTransactionDate ∷ rowTransactionType ∷ rowAmount ∷ rowReaderVersion ∷ rowTerminalCountry ∷ rowTerminalCapabilities ∷ rowTerminalType ∷ rowUn ∷ rowUnNumeric ∷ rowKernelConfiguration ∷
-    rowTacDefault ∷ rowTacDenial ∷ rowTacOnline ∷ rowFloorLimit ∷ rowLimitNoOnDeviceCvm ∷ rowLimitOnDeviceCvm ∷ rowCvmRequiredLimit ∷
-    []
+    rowTransactionDate ∷ rowTransactionType ∷ rowAmount ∷ rowReaderVersion ∷ rowTerminalCountry ∷
+    rowTerminalCapabilities ∷ rowTerminalType ∷ rowUn ∷ rowUnNumeric ∷ rowKernelConfiguration ∷
+    rowTacDefault ∷ rowTacDenial ∷ rowTacOnline ∷ rowFloorLimit ∷
+    rowLimitNoOnDeviceCvm ∷ rowLimitOnDeviceCvm ∷ rowCvmRequiredLimit ∷ []
 
 pub required-numbers : requiredFrom 0 dictionaryRows ≡ requiredRows
 unfolding requiredFrom requiredRows dictionaryRows if

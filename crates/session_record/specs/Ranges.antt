@@ -1,5 +1,5 @@
--- Session ranges (document 01, "Calls and their numbers"): the test that a session record passed in must pass. It passes
--- exactly when each of its clauses holds as a fact (`clauses` and `clauses-pass` in proofs/Laws).
+-- Session ranges (document 01, "Calls and their numbers"): the test that a session record passed in must pass. It
+-- passes exactly when each of its clauses holds as a fact (`clauses` and `clauses-pass` in proofs/Laws).
 -- Assumes nothing.
 use mathlib.Core.Bool.{Bool, true, not}
 use mathlib.Core.List.{[], _∷_}
@@ -12,7 +12,8 @@ use Rattle.dictionary.specs.Rows.{Row, dictionaryRows, optional, storeSize}
 use Rattle.dictionary.specs.Form.{fitsRow}
 use Rattle.dictionary.specs.TerminalType.{listedTerminalType}
 use Rattle.store.specs.Place.{StoredValue, absent, present, objectValue, rowRoom}
-use Rattle.store.specs.Held.{hasObject, lacksObject, storedBytes, hasNonEmpty, storedByte, isZeroByte, isZeroed, storedLength}
+use Rattle.store.specs.Held.{hasObject, lacksObject, hasNonEmpty, isZeroByte, isZeroed}
+use Rattle.store.specs.Held.{storedBytes, storedByte, storedLength}
 use Rattle.afl.specs.Records.{acceptsAfl, aflRecordCount}
 use Rattle.analysis.specs.Bits.{valueHasBit}
 use Rattle.analysis.specs.Action.{transactionLimit}

@@ -94,7 +94,8 @@ refusedTransition p k n = record { phase = p; count = k; answer = CallResult.Ref
 
 -- the session ends, and reports the CVM by its number m; the record keeps no CVM
 abbrev pub endingTransition : CvmNumber → Count → Ending → Transition
-endingTransition m k e = record { phase = Phase.Ended e; count = k; answer = CallResult.Outcome (outcomeParameters e m) }
+endingTransition m k e =
+    record { phase = Phase.Ended e; count = k; answer = CallResult.Outcome (outcomeParameters e m) }
 
 -- the session ends for a reason other than 0
 abbrev pub failingTransition : CvmNumber → Count → Reason → Transition
@@ -102,4 +103,5 @@ failingTransition m k n = endingTransition m k (endingBy n)
 
 -- a command of n bytes is handed out, and the session waits for the response to it
 abbrev pub commandTransition : AwaitedResponse → Count → Length → Transition
-commandTransition w k n = record { phase = Phase.Waiting w; count = k; answer = CallResult.Command (record { size = n }) }
+commandTransition w k n =
+    record { phase = Phase.Waiting w; count = k; answer = CallResult.Command (record { size = n }) }

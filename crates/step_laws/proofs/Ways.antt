@@ -288,10 +288,10 @@ module _ (s : Session) (card buf : List ℕ) (i : Admitted s (length buf)) where
   P x = AnswerWay s card buf (stepOn (s .count) buf x)
 
   -- the reading's reason, or what follows it
-  step-read : (a : Awaited) (w : AwaitedResponse) (next : List ℕ → Next) → s .phase ≡ Phase.Waiting w
-      → (reading.readAnswer a (storeBytes s) card .reason ≡ 0 → P (next (reading.readAnswer a (storeBytes s) card .store))) → P (readThen a (heldCvm w) (storeBytes s) card next)
-  step-read a w next q g =
-      reading-ind P a (heldCvm w) (storeBytes s) card next
+  step-read : (a : Awaited) (w : AwaitedResponse) (f : List ℕ → Next) → s .phase ≡ Phase.Waiting w
+      → (reading.readAnswer a (storeBytes s) card .reason ≡ 0 → P (f (reading.readAnswer a (storeBytes s) card .store))) → P (readThen a (heldCvm w) (storeBytes s) card f)
+  step-read a w f q g =
+      reading-ind P a (heldCvm w) (storeBytes s) card f
       (λ z. unread _ _ i (unread-reason a (storeBytes s) card z) (sym (ap heldNumber q)) (not-list a (storeBytes s) card)) g
 
   step-gpo : s .phase ≡ Phase.Waiting AwaitedResponse.Gpo → P (gpoNext (storeBytes s) card)
