@@ -109,9 +109,7 @@ explainedByBit stage pair LowestBit.NoBit = Explanation.Unforced stage
 
 -- what a stage reports of the choice
 unfoldable pub explainedAt : StoreBytes → Stage → Explanation
-explainedAt b stage =
-    let pair = actionCodesOfStage b stage in
-    explainedByBit stage pair (lowestBit (storedTvr b) pair)
+explainedAt b stage = let pair = actionCodesOfStage b stage in explainedByBit stage pair (lowestBit (storedTvr b) pair)
 
 -- ---- waiting on the cryptogram
 
