@@ -14,21 +14,24 @@ use Rattle.analysis.specs.Value.{firstBytes}
 use Rattle.analysis.specs.Digits.{bcdFrom, amountOf}
 use Rattle.session_record.specs.declared.CallResult.{CallResult}
 use Rattle.session_record.specs.declared.Outcome.{Outcome}
+use Rattle.session_record.specs.declared.AwaitedResponse.{AwaitedResponse}
 use Rattle.session_record.specs.declared.Phase.{Phase}
 use Rattle.session_record.specs.declared.Session.{Session}
 use Rattle.session_record.specs.Session.{sessionOf, freshSession, endingOf, outcomeParameters}
 use Rattle.session.specs.Steps.{Step}
+use Rattle.layout.specs.Layout.{bigEndianBytes}
 use Rattle.layout.specs.Word.{refusalWord}
-use Rattle.cabinet.specs.State.{cabinet, cabinetStateSize, amountBytes, amountToReserve, amountsFit}
+use Rattle.cabinet.specs.State.{cabinet, cabinetStateSize, amountToReserve, amountsFit}
 use Rattle.cabinet.specs.Calls.{refusedRemaining, refusedCap, cabinetRefusal, remainingAfter, cabinetStepDone, settlesAmounts, sessionToStart, reservesAmount, cabinetOpenWord}
 
 -- none, the greatest, and all ones in eight bytes
-bytes : map amountBytes (0 ∷ 1000 ∷ 999999999999 ∷ 0xFFFFFFFFFFFFFFFF ∷ [])
+bytes : map (bigEndianBytes 8) (0 ∷ 1000 ∷ 999999999999 ∷ 0xFFFFFFFFFFFFFFFF ∷ [])
     ≡ (0 ∷ 0 ∷ 0 ∷ 0 ∷ 0 ∷ 0 ∷ 0 ∷ 0 ∷ [])
     ∷ (0 ∷ 0 ∷ 0 ∷ 0 ∷ 0 ∷ 0 ∷ 0x03 ∷ 0xE8 ∷ [])
     ∷ (0 ∷ 0 ∷ 0 ∷ 0xE8 ∷ 0xD4 ∷ 0xA5 ∷ 0x0F ∷ 0xFF ∷ [])
     ∷ (255 ∷ 255 ∷ 255 ∷ 255 ∷ 255 ∷ 255 ∷ 255 ∷ 255 ∷ [])
     ∷ []
+unfolding bigEndianBytes
 bytes = refl
 
 -- approved, online request, declined, ended, select next, with 600 left and 400 reserved
@@ -38,7 +41,7 @@ ends = refl
 
 -- an approval spends whatever its CVM: no CVM, signature, none reported
 module _ (st : Step) (l buf : List ℕ) where
-  approvals : map (λ m. settlesAmounts (CallResult.Outcome (outcomeParameters Outcome.Approved 0 m)) st 600 400 l buf) (0 ∷ 1 ∷ 15 ∷ [])
+  approvals : map (λ m. settlesAmounts (CallResult.Outcome (outcomeParameters (endingOf Outcome.Approved 0) m)) st 600 400 l buf) (0 ∷ 1 ∷ 15 ∷ [])
       ≡ cabinetStepDone st 600 0 l ∷ cabinetStepDone st 600 0 l ∷ cabinetStepDone st 600 0 l ∷ []
   approvals = refl
 
@@ -65,10 +68,10 @@ one : List ℕ
 one = putRow dictionaryRows (replicate storeSize 0) rowAmount (0 ∷ 0 ∷ 0 ∷ 0 ∷ 0 ∷ 1 ∷ [])
 
 running : Session
-running = sessionOf Phase.Gpo 1 one
+running = sessionOf (Phase.Waiting AwaitedResponse.Gpo) 1 one
 
 -- 1 is expected while it runs, nothing once it has ended
-dues : amountToReserve Phase.Gpo one ∷ amountToReserve (Phase.Ended (endingOf Outcome.Approved 0)) one ∷ [] ≡ 1 ∷ 0 ∷ []
+dues : amountToReserve (Phase.Waiting AwaitedResponse.Gpo) one ∷ amountToReserve (Phase.Ended (endingOf Outcome.Approved 0)) one ∷ [] ≡ 1 ∷ 0 ∷ []
 unfolding one amountToReserve if dictionaryRows findRow rowPast putRow objectValueIn rowValue rowPlace placeValue rowOffset amountOf firstBytes nibbles bcdFrom
 dues = refl
 
@@ -85,7 +88,7 @@ unfolding amountsFit amountToReserve if both
 fresh = refl
 
 -- a start after an end is on a fresh session, on a running one it is on that
-begins : (n : ℕ) (b : List ℕ) → sessionToStart (sessionOf (Phase.Ended (endingOf Outcome.Ended 10)) n b) ∷ sessionToStart (sessionOf Phase.Gpo n b) ∷ []
-    ≡ freshSession ∷ sessionOf Phase.Gpo n b ∷ []
+begins : (n : ℕ) (b : List ℕ) → sessionToStart (sessionOf (Phase.Ended (endingOf Outcome.Ended 10)) n b) ∷ sessionToStart (sessionOf (Phase.Waiting AwaitedResponse.Gpo) n b) ∷ []
+    ≡ freshSession ∷ sessionOf (Phase.Waiting AwaitedResponse.Gpo) n b ∷ []
 unfolding sessionToStart if
 begins n b = refl

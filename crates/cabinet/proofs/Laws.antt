@@ -31,11 +31,9 @@ use Rattle.session_record.specs.Session.{storeBytes, sessionOf, freshSession, r
 use Rattle.session_record.specs.Ranges.{inRanges}
 use Rattle.session_record.proofs.CallResult.{the-type as answer-type}
 use Rattle.session_record.proofs.Phases.{store-size, fresh-keeps, is-fresh}
-use Rattle.start_data.specs.StartData.{LoadedStore, refusal, loaded, loadStart}
-use Rattle.command.specs.WithList.{getProcessingOptions}
 use Rattle.session.specs.Steps as steps
-use Rattle.session.specs.Steps.{Step, leastBuffer, commandOrReason}
-use Rattle.session.specs.Start.{askGpo, startLoaded, startIn, startStep}
+use Rattle.session.specs.Steps.{Next, ask, end, CallEffect, refuse, follow, Step, stepOn, stepOf, leastBuffer}
+use Rattle.session.specs.Start.{startCall, startStep}
 use Rattle.session.proofs.Laws.{admitted-in}
 use Rattle.layout.specs.declared.RecordHead.{RecordHead}
 use Rattle.layout.specs.declared.RecordHeld.{RecordHeld}
@@ -343,22 +341,16 @@ module _ (step : Session → List ℕ → Step) (came : (s : Session) (b : List 
 
 running-not-ended : (p : Phase) → isRunning p ≡ true → isEnded p ≡ false
 running-not-ended Phase.Fresh e = refl
-running-not-ended Phase.Gpo e = refl
-running-not-ended (Phase.Record p) e = refl
-running-not-ended (Phase.Cryptogram a) e = refl
-running-not-ended (Phase.Checksum c) e = refl
+running-not-ended (Phase.Waiting w) e = refl
 running-not-ended (Phase.Ended x) e = sym e
 
 module _ (s : Session) (bytes l buf : List ℕ) (r : leastBuffer ≤ length buf) (i : inRanges s ≡ true) where
   running-step : (p : Phase) → s .phase ≡ p → isRunning p ≡ true → startStep s bytes buf ≡ steps.refusedStep s refusedPhase buf
-  running-step p q e = admitted-in s buf _ r i ∙ ap (λ (x : Phase). startIn x s bytes buf) q ∙ go p e
+  running-step p q e = admitted-in s buf _ r i ∙ ap (λ (x : Phase). stepOf s buf (startCall x (storeBytes s) bytes)) q ∙ go p e
     where
-      go : (p : Phase) → isRunning p ≡ true → startIn p s bytes buf ≡ steps.refusedStep s refusedPhase buf
+      go : (p : Phase) → isRunning p ≡ true → stepOf s buf (startCall p (storeBytes s) bytes) ≡ steps.refusedStep s refusedPhase buf
       go Phase.Fresh e = let z : _≡_ {A = ℕ} 0 1 = cc in absurd (omega arith)
-      go Phase.Gpo e = refl
-      go (Phase.Record p) e = refl
-      go (Phase.Cryptogram a) e = refl
-      go (Phase.Checksum c) e = refl
+      go (Phase.Waiting w) e = refl
       go (Phase.Ended x) e = refl
 
   pub start-running : (n a : ℕ) → isRunning (s .phase) ≡ true → startOnCabinet bytes l buf (cabinet s n a) ≡ cabinetRefusal refusedPhase l buf
@@ -370,10 +362,7 @@ module _ (s : Session) (bytes l buf : List ℕ) (r : leastBuffer ≤ length buf)
   -- on one that does not run: a fresh one
   made-fresh : (p : Phase) → s .phase ≡ p → isRunning p ≡ false → if (isEnded p) freshSession s ≡ freshSession
   made-fresh Phase.Fresh q e = if-no _ _ refl ∙ is-fresh s i q
-  made-fresh Phase.Gpo q e = let z : _≡_ {A = ℕ} 0 1 = cc in absurd (omega arith)
-  made-fresh (Phase.Record p) q e = let z : _≡_ {A = ℕ} 0 1 = cc in absurd (omega arith)
-  made-fresh (Phase.Cryptogram a) q e = let z : _≡_ {A = ℕ} 0 1 = cc in absurd (omega arith)
-  made-fresh (Phase.Checksum c) q e = let z : _≡_ {A = ℕ} 0 1 = cc in absurd (omega arith)
+  made-fresh (Phase.Waiting w) q e = let z : _≡_ {A = ℕ} 0 1 = cc in absurd (omega arith)
   made-fresh (Phase.Ended x) q e = if-yes _ _ refl
 
   pub start-idle : (n a : ℕ) → isRunning (s .phase) ≡ false → startOnCabinet bytes l buf (cabinet s n a) ≡ cabinetFreshStart bytes n l buf
@@ -389,21 +378,20 @@ pub record Alike (x y : Step) (buf : List ℕ) : Type 0 where
   pub buffer : y .buffer ≡ commandHandedOver (x .reply .answer) (x .buffer) buf
 
 module _ (bytes first buf : List ℕ) where
-  alike-handed : (m n : ℕ) (b : List ℕ) (p : Phase) (x : Option (List ℕ)) → Alike (commandOrReason m n b p first x) (commandOrReason m n b p buf x) buf
-  alike-handed m n b p none = record { reply = refl; buffer = refl }
-  alike-handed m n b p (some c) =
+  alike-next : (n : ℕ) (x : Next) → Alike (stepOn n first x) (stepOn n buf x) buf
+  alike-next n (ask c w b) =
       record { reply = refl; buffer = ap (λ (x : List ℕ). x ++ drop (length c) buf) (sym (take-append-seam c (drop (length c) first))) }
+  alike-next n (end e m b) = record { reply = refl; buffer = refl }
 
-  alike-loaded : (s : Session) (x : LoadedStore) → Alike (startLoaded s first x) (startLoaded s buf x) buf
-  unfolding askGpo
-  alike-loaded s (refusal n) = record { reply = refl; buffer = refl }
-  alike-loaded s (loaded b) = alike-handed _ _ _ _ (getProcessingOptions _)
+  alike-effect : (s : Session) (x : CallEffect) → Alike (stepOf s first x) (stepOf s buf x) buf
+  alike-effect s (refuse n) = record { reply = refl; buffer = refl }
+  alike-effect s (follow x) = alike-next (s .count) x
 
   pub start-alike : leastBuffer ≤ length first → leastBuffer ≤ length buf → Alike (startStep freshSession bytes first) (startStep freshSession bytes buf) buf
   start-alike f r =
       subst (λ (x : Step). Alike x (startStep freshSession bytes buf) buf) (sym (admitted-in freshSession first _ f fresh-keeps))
-      (subst (λ (y : Step). Alike (startLoaded freshSession first (loadStart (storeBytes freshSession) bytes)) y buf) (sym (admitted-in freshSession buf _ r fresh-keeps))
-      (alike-loaded freshSession (loadStart (storeBytes freshSession) bytes)))
+      (subst (λ (y : Step). Alike (stepOf freshSession first (startCall Phase.Fresh (storeBytes freshSession) bytes)) y buf) (sym (admitted-in freshSession buf _ r fresh-keeps))
+      (alike-effect freshSession (startCall Phase.Fresh (storeBytes freshSession) bytes)))
 
 taken-amount : (x : CallResult) (st : Step) (n : ℕ) (l buf : List ℕ) → isRefusal x ≡ false → startAccepted x st n l buf ≡ reservesAmount st (startAmount st) n l buf
 taken-amount (CallResult.Command x) st n l buf e = refl

@@ -2,12 +2,12 @@
 -- session's ranges to the kernel's step, and the state as the code writes it after the store. This file states no rule:
 -- a reader of the rules can skip it. proofs/Laws ties it to specs/State and specs/Calls.
 -- Assumes nothing.
-use mathlib.Core.List.{List, _++_}
+use mathlib.Core.List.{_++_}
 use mathlib.Core.Option.{Option, some, none}
-use Prim.Native.Nat.{ℕ}
 use lib.ListN.{length, take, drop}
 use Rattle.basics.specs.Choice.{if_then_else_, _≤?_, _<?_}
 use Rattle.basics.specs.Reason.{refusedBuffer, refusedRanges}
+use Rattle.basics.specs.Types.{Bytes, Buffer, StartBytes, Length, Amount, RefusalNumber}
 use Rattle.dictionary.specs.Rows.{storeSize}
 use Rattle.session_record.specs.declared.CallResult.{CallResult}
 use Rattle.session_record.specs.declared.Session.{Session}
@@ -16,12 +16,12 @@ use Rattle.session_record.specs.Session.{sessionOf, freshSession}
 use Rattle.session_record.specs.Ranges.{inRanges}
 use Rattle.session.specs.Steps.{leastBuffer}
 use Rattle.session.specs.Start.{startStep}
-use Rattle.layout.specs.Layout.{headSize, recordSize, decodedSession, withRecordHead}
+use Rattle.layout.specs.Layout.{headSize, recordSize, bigEndianBytes, decodedSession, withRecordHead}
 use Rattle.layout.specs.Word.{refusalWord}
 use Rattle.cabinet.specs.declared.Amounts.{Amounts}
 use Rattle.cabinet.specs.declared.CabinetParts.{CabinetParts}
 use Rattle.cabinet.specs.declared.CabinetAdmission.{CabinetAdmission}
-use Rattle.cabinet.specs.State.{Cabinet, cabinet, cabinetStateSize, amountBytes, remainingIn, reservedIn, amountsFit}
+use Rattle.cabinet.specs.State.{Cabinet, cabinet, cabinetStateSize, remainingIn, reservedIn, amountsFit}
 use Rattle.cabinet.specs.Calls.{CabinetResult, cabinetRefusal, remainingAfter, startAccepted}
 
 -- ---- the first tests
@@ -35,7 +35,7 @@ cabinetParts c =
       amounts = record { remaining = c .remaining; reserved = c .reserved };
     }
 
-abbrev pub cabinetRefusedBy : ℕ → CabinetAdmission
+abbrev pub cabinetRefusedBy : RefusalNumber → CabinetAdmission
 cabinetRefusedBy n = CabinetAdmission.Refused (refusalWord n)
 
 -- a cabinet whose amounts fit, whatever its session's ranges
@@ -44,47 +44,48 @@ fittingCabinet c =
     if amountsFit c then CabinetAdmission.Admitted (cabinetParts c)
     else cabinetRefusedBy refusedRanges
 
-abbrev pub cabinetHeldAdmission : List ℕ → Option Session → CabinetAdmission
+abbrev pub cabinetHeldAdmission : Bytes → Option Session → CabinetAdmission
 cabinetHeldAdmission l none = cabinetRefusedBy refusedRanges
 cabinetHeldAdmission l (some s) = fittingCabinet (cabinet s (remainingIn l) (reservedIn l))
 
 -- what a state reports, or refusal 25
-unfoldable pub cabinetPartsIn : List ℕ → CabinetAdmission
+unfoldable pub cabinetPartsIn : Bytes → CabinetAdmission
 cabinetPartsIn l =
     if cabinetStateSize ≤? length l then cabinetHeldAdmission l (decodedSession l)
     else cabinetRefusedBy refusedRanges
 
 -- the buffer's size comes first
-unfoldable pub cabinetAdmission : List ℕ → ℕ → CabinetAdmission
+unfoldable pub cabinetAdmission : Bytes → Length → CabinetAdmission
 cabinetAdmission l size =
     if size <? leastBuffer then cabinetRefusedBy refusedBuffer
     else cabinetPartsIn l
 
 -- the cabinet of what a state reports, with the store that lies in the bytes
-abbrev pub cabinetOf : CabinetParts → List ℕ → Cabinet
+abbrev pub cabinetOf : CabinetParts → Bytes → Cabinet
 cabinetOf h l =
-    cabinet (sessionOf (h .phase) (h .count) (take storeSize (drop headSize l))) (h .amounts .remaining) (h .amounts .reserved)
+    let s = sessionOf (h .phase) (h .count) (take storeSize (drop headSize l)) in
+    cabinet s (h .amounts .remaining) (h .amounts .reserved)
 
 -- what a call does on a cabinet whose amounts fit: 25 where its session is out of its ranges
-unfoldable pub ifInRanges : (Cabinet → CabinetResult) → List ℕ → List ℕ → Cabinet → CabinetResult
+unfoldable pub ifInRanges : (Cabinet → CabinetResult) → Bytes → Buffer → Cabinet → CabinetResult
 ifInRanges does l buf c =
     if inRanges (c .session) then does c
     else cabinetRefusal refusedRanges l buf
 
 -- a start on a fresh session of its own
-abbrev pub cabinetFreshStart : List ℕ → ℕ → List ℕ → List ℕ → CabinetResult
+abbrev pub cabinetFreshStart : StartBytes → Amount → Bytes → Buffer → CabinetResult
 cabinetFreshStart bytes remaining l buf =
     let st = startStep freshSession bytes buf in
     startAccepted (st .reply .answer) st remaining l buf
 
 -- how many bytes of a buffer an answer's command takes
-abbrev pub commandSizeIn : CallResult → ℕ
+abbrev pub commandSizeIn : CallResult → Length
 commandSizeIn (CallResult.Command x) = x .size
 commandSizeIn (CallResult.Outcome e) = 0
 commandSizeIn (CallResult.Refused r) = 0
 
 -- the command at the front of one buffer, copied to the front of another
-abbrev pub commandHandedOver : CallResult → List ℕ → List ℕ → List ℕ
+abbrev pub commandHandedOver : CallResult → Buffer → Buffer → Buffer
 commandHandedOver (CallResult.Command x) first buf = take (x .size) first ++ drop (x .size) buf
 commandHandedOver (CallResult.Outcome e) first buf = buf
 commandHandedOver (CallResult.Refused r) first buf = buf
@@ -92,21 +93,25 @@ commandHandedOver (CallResult.Refused r) first buf = buf
 -- ---- the state as it is written
 
 -- the amounts after the record, whatever that is
-abbrev pub withAmounts : Amounts → List ℕ → List ℕ
+abbrev pub withAmounts : Amounts → Bytes → Bytes
 withAmounts a l =
-    take recordSize l ++ (amountBytes (a .remaining) ++ (amountBytes (a .reserved) ++ drop cabinetStateSize l))
+    take recordSize l
+    ++ (bigEndianBytes 8 (a .remaining) ++ (bigEndianBytes 8 (a .reserved) ++ drop cabinetStateSize l))
 
 -- the amounts after an answer
 abbrev pub amountsSettled : CallResult → Amounts → Amounts
 amountsSettled (CallResult.Command x) a = a
-amountsSettled (CallResult.Outcome e) a = record { remaining = remainingAfter (e .outcome) (a .remaining) (a .reserved); reserved = 0 }
+amountsSettled (CallResult.Outcome e) a =
+    record { remaining = remainingAfter (e .outcome) (a .remaining) (a .reserved); reserved = 0 }
 amountsSettled (CallResult.Refused r) a = a
 
 -- the head and the amounts of a transition around the store that lies in its place; a refusal writes nothing
-abbrev pub finishedBy : CallResult → Transition → Amounts → List ℕ → List ℕ
-finishedBy (CallResult.Command x) t a l = withAmounts (amountsSettled (CallResult.Command x) a) (withRecordHead (t .phase) (t .count) l)
-finishedBy (CallResult.Outcome e) t a l = withAmounts (amountsSettled (CallResult.Outcome e) a) (withRecordHead (t .phase) (t .count) l)
+abbrev pub finishedBy : CallResult → Transition → Amounts → Bytes → Bytes
+finishedBy (CallResult.Command x) t a l =
+    withAmounts (amountsSettled (CallResult.Command x) a) (withRecordHead (t .phase) (t .count) l)
+finishedBy (CallResult.Outcome e) t a l =
+    withAmounts (amountsSettled (CallResult.Outcome e) a) (withRecordHead (t .phase) (t .count) l)
 finishedBy (CallResult.Refused r) t a l = l
 
-abbrev pub cabinetFinished : Transition → Amounts → List ℕ → List ℕ
+abbrev pub cabinetFinished : Transition → Amounts → Bytes → Bytes
 cabinetFinished t a l = finishedBy (t .answer) t a l

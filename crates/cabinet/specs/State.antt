@@ -2,71 +2,63 @@
 -- left), the amount reserved (document 02: set aside); each of the two eight bytes, high byte first.
 -- Assumes nothing.
 use mathlib.Core.Bool.{Bool}
-use mathlib.Core.List.{List, _++_}
+use mathlib.Core.List.{_++_}
 use mathlib.Core.Option.{Option, some, none}
-use Prim.Native.Nat.{ℕ, _+_}
+use Prim.Native.Nat.{_+_}
 use lib.ListN.{length, take, drop}
 use Rattle.basics.specs.Choice.{if_then_else_, _and_, _≤?_, _=?_}
 use Rattle.basics.specs.Number.{bigEndian}
+use Rattle.basics.specs.Types.{Bytes, StoreBytes, Length, Amount}
 use Rattle.store.specs.Held.{storedBytes}
 use Rattle.analysis.specs.Digits.{amountOf}
 use Rattle.session_record.specs.declared.Phase.{Phase}
 use Rattle.session_record.specs.declared.Session.{Session}
 use Rattle.session_record.specs.Session.{storeBytes}
 use Rattle.session_record.specs.Ranges.{inRanges}
-use Rattle.layout.specs.Layout.{recordSize, encodedSession, decodedSession, limitBytes}
+use Rattle.layout.specs.Layout.{recordSize, bigEndianBytes, encodedSession, decodedSession}
 use Rattle.session_record.specs.Session.{isRunning}
 
 -- one session, what remains of the cap, and what is reserved
 pub record Cabinet : Type 0 where
   pub session : Session
-  pub remaining : ℕ
-  pub reserved : ℕ
+  pub remaining : Amount
+  pub reserved : Amount
 
 -- a cabinet of these parts
-abbrev pub cabinet : Session → ℕ → ℕ → Cabinet
+abbrev pub cabinet : Session → Amount → Amount → Cabinet
 cabinet s n a = record { session = s; remaining = n; reserved = a }
 
 -- the greatest amount of twelve digits
-abbrev pub mostAmount : ℕ
+abbrev pub mostAmount : Amount
 mostAmount = 999999999999
 
 -- ---- in bytes
 
--- where the two amounts are after the record, and how many bytes a state takes
-abbrev pub remainingAt : ℕ
-remainingAt = recordSize
-
-abbrev pub reservedAt : ℕ
-reservedAt = recordSize + 8
-
-abbrev pub cabinetStateSize : ℕ
+-- how many bytes a state takes: the record, and the two amounts after it in eight bytes each
+abbrev pub cabinetStateSize : Length
 cabinetStateSize = recordSize + 16
 
--- an amount as eight bytes, high byte first
-abbrev pub amountBytes : ℕ → List ℕ
-amountBytes n = limitBytes n
-
 -- a cabinet at the front of bytes that are enough, those after the state stay; every call checks this first
-unfoldable pub withCabinetState : Cabinet → List ℕ → List ℕ
+unfoldable pub withCabinetState : Cabinet → Bytes → Bytes
 withCabinetState c l =
-    encodedSession (c .session) ++ (amountBytes (c .remaining) ++ (amountBytes (c .reserved) ++ drop cabinetStateSize l))
+    encodedSession (c .session)
+    ++ (bigEndianBytes 8 (c .remaining) ++ (bigEndianBytes 8 (c .reserved) ++ drop cabinetStateSize l))
 
 -- what the bytes have for the two amounts
-abbrev pub remainingIn : List ℕ → ℕ
-remainingIn l = bigEndian (take 8 (drop remainingAt l))
+abbrev pub remainingIn : Bytes → Amount
+remainingIn l = bigEndian (take 8 (drop recordSize l))
 
-abbrev pub reservedIn : List ℕ → ℕ
-reservedIn l = bigEndian (take 8 (drop reservedAt l))
+abbrev pub reservedIn : Bytes → Amount
+reservedIn l = bigEndian (take 8 (drop (recordSize + 8) l))
 
 -- ---- which bytes are refused with 25
 
 -- the Amount, Authorized (Numeric) of a store, 9F02; 0 where it is absent, as in no running session in its ranges
-abbrev pub storedAmount : List ℕ → ℕ
+abbrev pub storedAmount : StoreBytes → Amount
 storedAmount b = amountOf (storedBytes b 0x9F02)
 
 -- what has to be reserved in a phase, by the store: the running session's amount, 0 where none runs
-unfoldable pub amountToReserve : Phase → List ℕ → ℕ
+unfoldable pub amountToReserve : Phase → StoreBytes → Amount
 amountToReserve p b =
     if isRunning p then storedAmount b
     else 0
@@ -79,23 +71,17 @@ amountsFit c =
 
 -- the session is in its ranges, and the amounts fit
 abbrev pub cabinetInOrder : Cabinet → Bool
-cabinetInOrder c =
-    inRanges (c .session)
-    and amountsFit c
+cabinetInOrder c = inRanges (c .session) and amountsFit c
 
--- a cabinet that is in order
-abbrev pub cabinetIfInOrder : Cabinet → Option Cabinet
-cabinetIfInOrder c =
-    if cabinetInOrder c then some c
-    else none
-
--- the session that the record holds, with the bytes' amounts
-abbrev pub cabinetHeldBy : List ℕ → Option Session → Option Cabinet
+-- the session that the record holds, with the bytes' amounts, where they are in order
+abbrev pub cabinetHeldBy : Bytes → Option Session → Option Cabinet
 cabinetHeldBy l none = none
-cabinetHeldBy l (some s) = cabinetIfInOrder (cabinet s (remainingIn l) (reservedIn l))
+cabinetHeldBy l (some s) =
+    let c = cabinet s (remainingIn l) (reservedIn l) in
+    if cabinetInOrder c then some c else none
 
 -- the cabinet that bytes hold; none where they are too few, hold no record, or hold one that is not in order: 25
-unfoldable pub cabinetHeldIn : List ℕ → Option Cabinet
+unfoldable pub cabinetHeldIn : Bytes → Option Cabinet
 cabinetHeldIn l =
     if cabinetStateSize ≤? length l then cabinetHeldBy l (decodedSession l)
     else none

@@ -14,12 +14,15 @@ ghost use lib.Dec.{leb};
 ghost use lib.ListN.{length};
 ghost use Rattle.basics.specs.Number.{bigEndian as numberOf};
 ghost use Rattle.session.specs.Steps.{leastBuffer};
+ghost use Rattle.layout.specs.Layout.{bigEndianBytes};
 ghost use Rattle.layout.specs.Word.{resultWord};
 ghost use Rattle.session_record.specs.Session.{isRunning};
 ghost use Rattle.cabinet_lookup.specs.Word.{placeWord};
-ghost use Rattle.cabinet.specs.State.{mostAmount, cabinetStateSize, amountBytes, storedAmount, amountToReserve, cabinetHeldIn};
-ghost use Rattle.cabinet.specs.Calls.{DidCabinetCall, CabinetOpened, remainingAfter, remainingWord, startOnCabinet, cabinetStart, cabinetAnswer, cabinetLinkFailed, cabinetStop};
-ghost use Rattle.cabinet.specs.Inner.{cabinetPartsIn, cabinetAdmission, cabinetOf, ifInRanges, cabinetFreshStart, commandSizeIn, commandHandedOver, withAmounts, amountsSettled, cabinetFinished};
+ghost use Rattle.cabinet.specs.State.{mostAmount, cabinetStateSize, storedAmount, amountToReserve, cabinetHeldIn};
+ghost use Rattle.cabinet.specs.Calls.{DidCabinetCall, CabinetOpened, remainingAfter, remainingWord, startOnCabinet};
+ghost use Rattle.cabinet.specs.Calls.{cabinetStart, cabinetAnswer, cabinetLinkFailed, cabinetStop};
+ghost use Rattle.cabinet.specs.Inner.{cabinetPartsIn, cabinetAdmission, cabinetOf, ifInRanges, cabinetFreshStart};
+ghost use Rattle.cabinet.specs.Inner.{commandSizeIn, commandHandedOver, withAmounts, amountsSettled, cabinetFinished};
 
 // Refusals besides the kernel's: less remains than the amount of a start; a cap over the greatest amount.
 pub const REFUSED_LEFT: u8 = 30;
@@ -232,10 +235,7 @@ fn is_running(phase: Phase) -> bool
 {
     match phase {
         Phase::Fresh => false,
-        Phase::Gpo => true,
-        Phase::Record(_) => true,
-        Phase::Cryptogram(_) => true,
-        Phase::Checksum(_) => true,
+        Phase::Waiting(_) => true,
         Phase::Ended(_) => false,
     }
 }
@@ -363,7 +363,7 @@ fn put_amounts(amounts: Amounts, state: &mut [u8])
 
 // An amount as eight bytes, high byte first.
 fn amount_bytes(amount: u64) -> [u8; 8]
-    ensures { λ r. ⌜ r ≡ amountBytes amount ⌝ }
+    ensures { λ r. ⌜ r ≡ bigEndianBytes 8 amount ⌝ }
 {
     [
         (amount / 0x100000000000000) as u8,

@@ -1,11 +1,11 @@
--- Every list of calls whose lengths eight bytes hold is read back from its bytes: the header gives the lengths, and
--- they cut out the call's own bytes and buffer.
+-- Every list of calls is read back from its bytes: the header gives the lengths, and they cut out the call's own bytes
+-- and buffer.
 -- Assumes nothing.
 use mathlib.Core.Path.{_≡_, refl, sym, ap, _∙_}
 use mathlib.Core.Bool.{true}
 use mathlib.Core.List.{List, [], _∷_, _++_, append-assoc}
 use mathlib.Core.Option.{some}
-use Prim.Native.Nat.{ℕ, _+_, _<_, _^_}
+use Prim.Native.Nat.{ℕ, _+_}
 use native.Mathlib.Omega.{arith}
 use lib.ListN.{length, take, drop, length-append}
 use lib.Seq.{take-at, drop-at, drop-drop}
@@ -14,12 +14,13 @@ use Rattle.basics.specs.Choice.{if, both, either}
 use Rattle.basics.specs.Number.{bigEndian}
 use Rattle.session.specs.Calls.{Call, start, answer, link-failed, stop}
 use Rattle.call_list.specs.declared.CallHeader.{CallHeader}
-use Rattle.call_list.specs.Encoding.{bigEndianBytes, encodedAs, encodedCalls, SizedCalls, callHeaderSize, callBufferAt, callEnd, callHeaderIn, isCallKind, callBy, callIn, withCall, callsOf}
+use Rattle.call_list.specs.Encoding.{bigEndianBytes, encodedAs, encodedCalls, callHeaderSize, callBufferAt, callEnd}
+use Rattle.call_list.specs.Encoding.{callHeaderIn, isCallKind, callBy, callIn, withCall, callsOf}
 use Rattle.call_list.proofs.Read.{front-call, calls-end, calls-call}
 use Rattle.call_list.proofs.Number.{high-length, high-number}
 
 -- one call before a rest
-module _ (kind : ℕ) (bytes buf rest : List ℕ) (a : length bytes < 256 ^ 8) (b : length buf < 256 ^ 8) where
+module _ (kind : ℕ) (bytes buf rest : List ℕ) where
   abbrev s : List ℕ
   s = encodedAs kind bytes buf ++ rest
 
@@ -48,9 +49,9 @@ module _ (kind : ℕ) (bytes buf rest : List ℕ) (a : length bytes < 256 ^ 8) (
   header : h ≡ callHeaderIn s
   header =
       let x : bigEndian (take 8 (drop 1 s)) ≡ length bytes =
-        ap (λ (l : List ℕ). bigEndian (take 8 l)) behind-kind ∙ ap bigEndian (take-at (bigEndianBytes 8 (length bytes)) _ 8 (high-length 8 (length bytes))) ∙ high-number 8 (length bytes) a in
+        ap (λ (l : List ℕ). bigEndian (take 8 l)) behind-kind ∙ ap bigEndian (take-at (bigEndianBytes 8 (length bytes)) _ 8 (high-length 8 (length bytes))) ∙ high-number 7 (length bytes) in
       let y : bigEndian (take 8 (drop 9 s)) ≡ length buf =
-        ap (λ (l : List ℕ). bigEndian (take 8 l)) behind-first ∙ ap bigEndian (take-at (bigEndianBytes 8 (length buf)) _ 8 (high-length 8 (length buf))) ∙ high-number 8 (length buf) b in
+        ap (λ (l : List ℕ). bigEndian (take 8 l)) behind-first ∙ ap bigEndian (take-at (bigEndianBytes 8 (length buf)) _ 8 (high-length 8 (length buf))) ∙ high-number 7 (length buf) in
       cc
 
   call : callIn s h ≡ callBy kind bytes buf
@@ -63,10 +64,10 @@ module _ (kind : ℕ) (bytes buf rest : List ℕ) (a : length bytes < 256 ^ 8) (
       calls-call s (λ z. omega (arith, size)) h (front-call s h header (omega (arith, size)) k (le-leb (callEnd h) (length s) (omega (arith, size))))
       ∙ ap (λ (c : Call). withCall c (callsOf (drop (callEnd h) s))) call ∙ ap (λ (l : List ℕ). withCall (callBy kind bytes buf) (callsOf l)) behind-call
 
-pub read-back : (cs : List Call) → SizedCalls cs → callsOf (encodedCalls cs) ≡ some cs
+pub read-back : (cs : List Call) → callsOf (encodedCalls cs) ≡ some cs
 unfolding encodedCalls isCallKind either both callBy if
-read-back [] z = calls-end [] refl
-read-back (start bytes buf ∷ cs) z = one-back 1 bytes buf (encodedCalls cs) (z .0 .0) (z .0 .1) refl ∙ ap (withCall (start bytes buf)) (read-back cs (z .1))
-read-back (answer card buf ∷ cs) z = one-back 2 card buf (encodedCalls cs) (z .0 .0) (z .0 .1) refl ∙ ap (withCall (answer card buf)) (read-back cs (z .1))
-read-back (link-failed buf ∷ cs) z = one-back 3 [] buf (encodedCalls cs) (omega arith) (z .0) refl ∙ ap (withCall (link-failed buf)) (read-back cs (z .1))
-read-back (stop buf ∷ cs) z = one-back 4 [] buf (encodedCalls cs) (omega arith) (z .0) refl ∙ ap (withCall (stop buf)) (read-back cs (z .1))
+read-back [] = calls-end [] refl
+read-back (start bytes buf ∷ cs) = one-back 1 bytes buf (encodedCalls cs) refl ∙ ap (withCall (start bytes buf)) (read-back cs)
+read-back (answer card buf ∷ cs) = one-back 2 card buf (encodedCalls cs) refl ∙ ap (withCall (answer card buf)) (read-back cs)
+read-back (link-failed buf ∷ cs) = one-back 3 [] buf (encodedCalls cs) refl ∙ ap (withCall (link-failed buf)) (read-back cs)
+read-back (stop buf ∷ cs) = one-back 4 [] buf (encodedCalls cs) refl ∙ ap (withCall (stop buf)) (read-back cs)

@@ -22,7 +22,8 @@ use Rattle.session.specs.Calls.{Call, callStep, playCalls, finalSession}
 use Rattle.call_list.specs.declared.CallHeader.{CallHeader}
 use Rattle.call_list.specs.declared.CallFront.{CallFront}
 use Rattle.call_list.specs.declared.CallPlayed.{CallPlayed}
-use Rattle.call_list.specs.Encoding.{callHeaderSize, callBufferAt, callEnd, callHeaderIn, isWholeCall, callFrontIn, callBy, callIn, withCall, callsOf, bigEndianBytes}
+use Rattle.call_list.specs.Encoding.{callHeaderSize, callBufferAt, callEnd, callHeaderIn, isWholeCall, callBy, callIn, withCall, callsOf}
+use Rattle.call_list.specs.Inner.{callFrontIn}
 use Rattle.call_list.specs.Playing.{resultBytes, replyBytes, repliesOf, replySize, callsAfterPlay, PlaysCalls}
 use Rattle.call_list.specs.Inner.{overBuffer, PlaysOneCall}
 use Rattle.step_laws.proofs.Long.{start-long, answer-long}
@@ -81,7 +82,6 @@ placed {r} {b} s h v x n i m e d =
         ∙ ap (λ (k : ℕ). callStep s (callBy (h .kind) (take (h .incoming) (drop callHeaderSize v)) (take k (drop (callBufferAt h) v)))) is-lent
 
 reply-length : (r : Reply) → length (replyBytes r) ≡ replySize
-unfolding bigEndianBytes
 reply-length r = go (r .answer)
   where
     go : (a : CallResult) → length (resultBytes a ++ (r .session .count ∷ [])) ≡ replySize

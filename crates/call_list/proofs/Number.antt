@@ -34,11 +34,29 @@ eight-number s h =
 pub high-length : (w n : ℕ) → length (bigEndianBytes w n) ≡ w
 unfolding bigEndianBytes
 high-length zero n = refl
-high-length (suc w) n = length-append (bigEndianBytes w (n / 256)) (n % 256 ∷ []) ∙ omega (arith, high-length w (n / 256))
+high-length (suc zero) n = refl
+high-length (suc (suc w)) n =
+    length-append (bigEndianBytes (suc w) (n / 256)) (n % 256 ∷ []) ∙ omega (arith, high-length (suc w) (n / 256))
 
-pub high-number : (w n : ℕ) → n < 256 ^ w → bigEndian (bigEndianBytes w n) ≡ n
+pub high-number : (w n : ℕ) → bigEndian (bigEndianBytes (suc w) n) ≡ n
 unfolding bigEndianBytes bigEndianFrom
-high-number zero n h = let k : n < 1 = subst (λ (x : ℕ). n < x) (pow-zero 256) h in omega arith
-high-number (suc w) n h =
-    let k : n < 256 ^ w * 256 = subst (λ (x : ℕ). n < x) (pow-suc 256 w) h in
-    number-append 0 (bigEndianBytes w (n / 256)) (n % 256 ∷ []) ∙ omega (arith, high-number w (n / 256) (omega arith))
+high-number zero n = omega arith
+high-number (suc w) n =
+    number-append 0 (bigEndianBytes (suc w) (n / 256)) (n % 256 ∷ []) ∙ omega (arith, high-number w (n / 256))
+
+-- the bytes as they were written before, each of them a byte: the same where the number fits
+bytesWithin : ℕ → ℕ → List ℕ
+bytesWithin zero n = []
+bytesWithin (suc w) n = bytesWithin w (n / 256) ++ (n % 256 ∷ [])
+
+bytes-within : (w n : ℕ) → n < 256 ^ w → bytesWithin w n ≡ bigEndianBytes w n
+unfolding bytesWithin bigEndianBytes
+bytes-within zero n h = refl
+bytes-within (suc zero) n h =
+    let k : n < 256 ^ 0 * 256 = subst (λ (x : ℕ). n < x) (pow-suc 256 0) h in
+    let m : 256 ^ 0 ≡ 1 = pow-zero 256 in
+    let e : n % 256 ≡ n = omega arith in
+    ap (λ (x : ℕ). x ∷ []) e
+bytes-within (suc (suc w)) n h =
+    let k : n < 256 ^ suc w * 256 = subst (λ (x : ℕ). n < x) (pow-suc 256 (suc w)) h in
+    ap (λ (l : List ℕ). l ++ (n % 256 ∷ [])) (bytes-within (suc w) (n / 256) (omega arith))

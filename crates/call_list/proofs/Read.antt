@@ -11,14 +11,16 @@ use native.Mathlib.Omega.{arith}
 use lib.ListN.{length, drop, length-drop}
 use lib.Dec.{leb}
 use borrow.Author.Tests.{leb-true, le-leb, lt-leb}
-use Rattle.basics.proofs.Laws.{if-ind, if-yes, if-no, both-yes, both-no-left, both-no-right, both-left, both-right}
+use Rattle.basics.proofs.Laws.{if-ind, if-ap, if-yes, if-no, both-yes, both-no-left, both-no-right, both-left, both-right}
 use Rattle.basics.proofs.Order.{le-or-gt}
 use Rattle.basics.proofs.Recursion.{AsksShorter, recurse-unroll}
 use Rattle.session.specs.Calls.{Call}
 use Rattle.call_list.specs.declared.CallHeader.{CallHeader}
 use Rattle.call_list.specs.declared.CallFront.{CallFront}
 use Rattle.call_list.specs.declared.CallsCounted.{CallsCounted}
-use Rattle.call_list.specs.Encoding.{callHeaderSize, callEnd, callHeaderIn, isCallKind, isWholeCall, callFrontIn, callIn, withCall, callThenRest, nextCall, callsOf, callsCountedOf}
+use Rattle.call_list.specs.Encoding.{callHeaderSize, callEnd, callHeaderIn, isCallKind, isWholeCall, callIn, withCall}
+use Rattle.call_list.specs.Encoding.{nextCall, callsOf}
+use Rattle.call_list.specs.Inner.{callFrontIn, callThenRest, callsCountedOf}
 
 -- two tests that hold together are the same
 pub same-test : (a b c d : ℕ) → (a ≤ b → c ≤ d) → (c ≤ d → a ≤ b) → leb a b ≡ leb c d
@@ -81,9 +83,15 @@ more-same k k′ s same CallFront.Malformed e = refl
 more-same k k′ s same (CallFront.Call h) e =
     ap (withCall (callIn s h)) (same (drop (callEnd h) s) (omega (arith, length-drop (callEnd h) s, front-end s h e)))
 
+-- a step by the front that the code finds
+next-front : (k : Reader) (b : ℕ) (s : List ℕ) → nextCall k (b ∷ s) ≡ callThenRest k (b ∷ s) (callFrontIn (b ∷ s))
+unfolding callFrontIn
+next-front k b s = sym (if-ap (callThenRest k (b ∷ s)) (isWholeCall (b ∷ s)) (CallFront.Call (callHeaderIn (b ∷ s))) CallFront.Malformed)
+
 next-same : AsksShorter nextCall
 next-same k k′ [] same = refl
-next-same k k′ (b ∷ s) same = more-same k k′ (b ∷ s) same (callFrontIn (b ∷ s)) refl
+next-same k k′ (b ∷ s) same =
+    next-front k b s ∙ more-same k k′ (b ∷ s) same (callFrontIn (b ∷ s)) refl ∙ sym (next-front k′ b s)
 
 pub unroll : (s : List ℕ) → callsOf s ≡ nextCall callsOf s
 unfolding callsOf
@@ -97,7 +105,7 @@ calls-end (b ∷ s) z = absurd (omega arith)
 
 at : (s : List ℕ) → (length s ≡ 0 → ⊥) → (x : CallFront) → callFrontIn s ≡ x → callsOf s ≡ callThenRest callsOf s x
 at [] n x e = absurd (n refl)
-at (b ∷ s) n x e = unroll (b ∷ s) ∙ ap (callThenRest callsOf (b ∷ s)) e
+at (b ∷ s) n x e = unroll (b ∷ s) ∙ next-front callsOf b s ∙ ap (callThenRest callsOf (b ∷ s)) e
 
 pub calls-malformed : (s : List ℕ) → (length s ≡ 0 → ⊥) → callFrontIn s ≡ CallFront.Malformed → callsOf s ≡ none
 calls-malformed s n e = at s n CallFront.Malformed e

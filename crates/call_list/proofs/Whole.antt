@@ -17,7 +17,8 @@ use Rattle.session_claim.proofs.Trace.{always}
 use Rattle.call_list.specs.declared.CallsCounted.{CallsCounted}
 use Rattle.call_list.specs.declared.PlayResult.{PlayResult}
 use Rattle.call_list.specs.declared.ListPlayed.{ListPlayed}
-use Rattle.call_list.specs.Encoding.{callsOf, callsCountedOf}
+use Rattle.call_list.specs.Encoding.{callsOf}
+use Rattle.call_list.specs.Inner.{callsCountedOf}
 use Rattle.call_list.specs.Playing.{replySize, repliesOf, callsAfterPlay, callsPlayed, playResultOf, PlaysCalls, PlaysList}
 use Rattle.call_list.specs.Inner.{ReadyToPlay, callsRead}
 

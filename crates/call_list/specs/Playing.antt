@@ -3,9 +3,10 @@
 use mathlib.Core.Path.{_≡_}
 use mathlib.Core.List.{List, [], _∷_, _++_}
 use mathlib.Core.Option.{Option, some, none}
-use Prim.Native.Nat.{ℕ, _*_}
+use Prim.Native.Nat.{ℕ, _*_, _/_, _%_}
 use lib.ListN.{length, take, drop}
 use Rattle.basics.specs.Choice.{if_then_else_, _≤?_}
+use Rattle.basics.specs.Types.{Bytes, Buffer, Length}
 use Rattle.session_record.specs.declared.Session.{Session}
 use Rattle.session_record.specs.declared.CallResult.{CallResult}
 use Rattle.session_record.specs.declared.Reply.{Reply}
@@ -16,44 +17,46 @@ use Rattle.session_claim.specs.Claim.{SessionProper}
 use Rattle.call_list.specs.declared.CallHeader.{CallHeader}
 use Rattle.call_list.specs.declared.PlayResult.{PlayResult}
 use Rattle.call_list.specs.declared.ListPlayed.{ListPlayed}
-use Rattle.call_list.specs.Encoding.{callHeaderIn, callBufferAt, callEnd, callsOf, bigEndianBytes}
+use Rattle.call_list.specs.Encoding.{callHeaderIn, callBufferAt, callEnd, callsOf}
 
 -- ---- the replies
 
 -- 0 and a command's length, 1 with the outcome and the reason, or 2, 0 and the refusal's number
-abbrev pub resultBytes : CallResult → List ℕ
-resultBytes (CallResult.Command x) = 0 ∷ bigEndianBytes 2 (x .size)
+abbrev pub resultBytes : CallResult → Bytes
+resultBytes (CallResult.Command x) = 0 ∷ x .size / 256 % 256 ∷ x .size % 256 ∷ []
 resultBytes (CallResult.Outcome e) = 1 ∷ outcomeNumber (e .outcome) ∷ e .reason ∷ []
 resultBytes (CallResult.Refused r) = 2 ∷ 0 ∷ r .number ∷ []
 
 -- four bytes: what the call returned, and the session's count
-abbrev pub replyBytes : Reply → List ℕ
+abbrev pub replyBytes : Reply → Bytes
 replyBytes r = resultBytes (r .answer) ++ (r .session .count ∷ [])
 
 -- the replies of all calls, in order
-unfoldable pub repliesOf : List CallMade → List ℕ
+unfoldable pub repliesOf : List CallMade → Bytes
 repliesOf [] = []
 repliesOf (m ∷ ms) = replyBytes (m .step .reply) ++ repliesOf ms
 
 -- the length of a reply
-abbrev pub replySize : ℕ
+abbrev pub replySize : Length
 replySize = 4
 
 -- ---- the slice of calls afterwards
 
 -- a call's header and the bytes that came in as they were, its buffer as its step left it, and then the rest
-abbrev pub behindBuffer : List ℕ → CallHeader → List ℕ → List ℕ → List ℕ
+abbrev pub behindBuffer : Bytes → CallHeader → Buffer → Bytes → Bytes
 behindBuffer s h buf rest = take (callBufferAt h) s ++ (buf ++ rest)
 
 -- the same of every call in turn
-unfoldable pub callsAfterPlay : List ℕ → List CallMade → List ℕ
+unfoldable pub callsAfterPlay : Bytes → List CallMade → Bytes
 callsAfterPlay s [] = s
-callsAfterPlay s (m ∷ ms) = behindBuffer s (callHeaderIn s) (m .step .buffer) (callsAfterPlay (drop (callEnd (callHeaderIn s)) s) ms)
+callsAfterPlay s (m ∷ ms) =
+    let h = callHeaderIn s in
+    behindBuffer s h (m .step .buffer) (callsAfterPlay (drop (callEnd h) s) ms)
 
 -- ---- a run
 
 -- the calls that are played: those that the bytes are read as, where there is room for their replies; else none
-abbrev pub callsPlayed : Option (List Call) → List ℕ → List Call
+abbrev pub callsPlayed : Option (List Call) → Bytes → List Call
 callsPlayed none replies = []
 callsPlayed (some cs) replies =
     if replySize * length cs ≤? length replies then cs
@@ -66,24 +69,25 @@ playResultNumber PlayResult.Malformed = 1
 playResultNumber PlayResult.TooShort = 2
 
 -- what is reported of the calls that the bytes are read as
-abbrev pub playResultOf : Option (List Call) → List ℕ → PlayResult
+abbrev pub playResultOf : Option (List Call) → Bytes → PlayResult
 playResultOf none replies = PlayResult.Malformed
 playResultOf (some cs) replies =
     if replySize * length cs ≤? length replies then PlayResult.Played
     else PlayResult.TooShort
 
 -- the calls cs are played on a fresh session: the session s at the end, and both slices
-pub record PlaysCalls (s : Session) (calls′ replies′ calls replies : List ℕ) (cs : List Call) : Type 0 where
+pub record PlaysCalls (s : Session) (calls′ replies′ calls replies : Bytes) (cs : List Call) : Type 0 where
   pub session : s ≡ finalSession freshSession cs
   pub calls-after : calls′ ≡ callsAfterPlay calls (playCalls freshSession cs)
   pub replies-after : replies′ ≡ repliesOf (playCalls freshSession cs) ++ drop (replySize * length cs) replies
 
 -- what a run returns and leaves, where cs are the calls that are played, and the claim over them
-pub record PlaysList (r : ListPlayed) (calls′ replies′ calls replies : List ℕ) (cs : List Call) : Type 0 where
+pub record PlaysList (r : ListPlayed) (calls′ replies′ calls replies : Bytes) (cs : List Call) : Type 0 where
   pub said : r .said ≡ playResultOf (callsOf calls) replies
   pub played : PlaysCalls (r .session) calls′ replies′ calls replies cs
   pub claim : SessionProper (playCalls freshSession cs) (r .session)
 
 -- the same where the calls and the room for replies are given: those that are there are played
-abbrev pub PlaysListOn : ListPlayed → List ℕ → List ℕ → List ℕ → List ℕ → Type 0
-PlaysListOn r calls′ replies′ calls replies = PlaysList r calls′ replies′ calls replies (callsPlayed (callsOf calls) replies)
+abbrev pub PlaysListOn : ListPlayed → Bytes → Bytes → Bytes → Bytes → Type 0
+PlaysListOn r calls′ replies′ calls replies =
+    PlaysList r calls′ replies′ calls replies (callsPlayed (callsOf calls) replies)

@@ -22,9 +22,10 @@ ghost use Rattle.basics.specs.Number.{bigEndian};
 ghost use Rattle.session_record.specs.Session.{freshSession};
 ghost use Rattle.session.specs.Steps.{DidStep};
 ghost use Rattle.session.specs.Calls.{Call, callStep as stepOf};
-ghost use Rattle.call_list.specs.Encoding.{callHeaderSize, callEnd, isCallKind, callHeaderIn, isWholeCall, callFrontIn, callBy, callIn, callsOf, callsCountedOf, SizedCalls, encodedCalls};
+ghost use Rattle.call_list.specs.Encoding.{callHeaderSize, callEnd, isCallKind, callHeaderIn, isWholeCall};
+ghost use Rattle.call_list.specs.Encoding.{callBy, callIn, callsOf, encodedCalls};
 ghost use Rattle.call_list.specs.Playing.{replyBytes, PlaysCalls, PlaysListOn, playResultNumber};
-ghost use Rattle.call_list.specs.Inner.{overBuffer, PlaysOneCall, ReadyToPlay, callsRead};
+ghost use Rattle.call_list.specs.Inner.{callFrontIn, callsCountedOf, overBuffer, PlaysOneCall, ReadyToPlay, callsRead};
 
 // What a run reports: all calls were played, the bytes are no list of calls, or `replies` is too short for the replies.
 // In the last two cases nothing is played and nothing is written.
@@ -81,7 +82,7 @@ pub fn play_result_number(said: PlayResult) -> u8
 // Plays the calls that are in `calls`.
 pub fn play_list(calls: &mut [u8], replies: &mut [u8]) -> ListPlayed
     ensures { λ r. ⌜ PlaysListOn r (now (calls .exit)) (now (replies .exit)) (now (calls .entry)) (now (replies .entry)) ⌝ }
-    ensures every_list { λ _. ⌜ ((cs : List Call) → SizedCalls cs → callsOf (encodedCalls cs) ≡ some cs) ⌝ }
+    ensures every_list { λ _. ⌜ ((cs : List Call) → callsOf (encodedCalls cs) ≡ some cs) ⌝ }
 {
     let CallsCounted::Calls(n) = count_calls(calls) else {
         return unplayed(PlayResult::Malformed);

@@ -31,7 +31,7 @@ use Rattle.session_record.specs.declared.Session.{Session}
 use Rattle.session_record.specs.Numbers.{outcomeNumber}
 use Rattle.session_record.specs.Session.{storeBytes}
 use Rattle.session_record.specs.Ranges.{inRanges}
-use Rattle.session_record.specs.Clauses.{RunningClauses}
+use Rattle.session_record.proofs.Clauses.{RunningClauses}
 use Rattle.session_record.proofs.Values.{brought-there}
 use Rattle.session.specs.Answer.{cryptogramOutcome}
 use Rattle.explain.specs.declared.Stage.{Stage}

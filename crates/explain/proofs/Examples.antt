@@ -24,6 +24,7 @@ use Rattle.analysis.specs.Action.{hasOnDeviceCvm, transactionLimit, actionCodes
 use Rattle.analysis.specs.declared.choice.Choice.{Choice}
 use Rattle.analysis.specs.declared.cvm.Cvm.{Cvm}
 use Rattle.session_record.specs.declared.Outcome.{Outcome}
+use Rattle.session_record.specs.declared.AwaitedResponse.{AwaitedResponse}
 use Rattle.session_record.specs.declared.Phase.{Phase}
 use Rattle.session_record.specs.declared.Session.{Session}
 use Rattle.session_record.specs.Inner.{rowPlaceFits}
@@ -92,7 +93,7 @@ zero5 = five 0 0 0 0 0
 -- a record that waits on the cryptogram with a choice
 abbrev waiting : Choice → ℕ → List ℕ → List Object → Session
 waiting c type results more =
-    sessionOf (Phase.Cryptogram (record { choice = c; cvm = Cvm.NoCvm; limit = 10000 })) 4 (without 0 (more ++ complete type results))
+    sessionOf (Phase.Waiting (AwaitedResponse.Cryptogram (record { choice = c; cvm = Cvm.NoCvm; limit = 10000 }))) 4 (without 0 (more ++ complete type results))
 
 -- one that ended with an outcome and reason 0, without an object
 abbrev ended : ℕ → Outcome → ℕ → List Object → Session
@@ -175,8 +176,8 @@ ended-needs = told-along _ _ refl
 abbrev inPhase : Phase → ℕ → List Object → Session
 inPhase p n objects = sessionOf p n (without 0 objects)
 
-before-choice : told (inPhase Phase.Fresh 0 [] ∷ inPhase Phase.Gpo 1 (started 0x22 zero5)
-    ∷ inPhase (Phase.Record (record { number = 1; limit = 10000 })) 2 (opened 0x22 zero5) ∷ []) ≡ replicate 3 noChoice
+before-choice : told (inPhase Phase.Fresh 0 [] ∷ inPhase (Phase.Waiting AwaitedResponse.Gpo) 1 (started 0x22 zero5)
+    ∷ inPhase (Phase.Waiting (AwaitedResponse.Record (record { number = 1; limit = 10000 }))) 2 (opened 0x22 zero5) ∷ []) ≡ replicate 3 noChoice
 unfolding fitAlong rowPlaceFits fitsRow digitsFit numeric nibbles putRow rowNumberOf objectValueIn rowValue rowPlace placeValue rowOffset findRow rowPast dictionaryRows
     freshRanges gpoRanges recordRanges transactionLimit hasOnDeviceCvm onDeviceCvm amountOf bcdFrom firstBytes numberedBit runningRanges allRequiredPresent isPresentIfRequired lastResponseAbsent listedTerminalType acceptsAfl wholeEntries aflEntries validEntry sumOverEntries every both either if
 before-choice = told-along _ _ refl

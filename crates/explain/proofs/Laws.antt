@@ -29,6 +29,7 @@ use Rattle.analysis.proofs.Stages.{lowest-held, none-held, all-clear}
 use Rattle.session_record.specs.declared.RequestedCryptogram.{RequestedCryptogram}
 use Rattle.session_record.specs.declared.Ending.{Ending}
 use Rattle.session_record.specs.declared.Outcome.{Outcome}
+use Rattle.session_record.specs.declared.AwaitedResponse.{AwaitedResponse}
 use Rattle.session_record.specs.declared.Phase.{Phase}
 use Rattle.session_record.specs.declared.Session.{Session}
 use Rattle.session_record.specs.Numbers.{outcomeNumber}
@@ -39,7 +40,7 @@ use Rattle.explain.specs.declared.Stage.{Stage}
 use Rattle.explain.specs.declared.Deciding.{Deciding}
 use Rattle.explain.specs.declared.Cause.{Cause}
 use Rattle.explain.specs.declared.Explanation.{Explanation}
-use Rattle.explain.specs.Explain.{storedTvr, storedChoice, stageBy, stageIn, stageNeeds, stageIfComplete, decidingIn, bitHolder, actionCodesOfStage, explainedByBit, explainedAt, explainedWaiting, cryptogramRank, storedCryptogramType, requestedType, decidesOutcome, explainedDecision, explainedEnd, cardAsksMagStripe, explainedEndBy, explainedInPhase, explanationOf}
+use Rattle.explain.specs.Explain.{storedTvr, storedChoice, stageBy, stageIn, stageNeeds, stageIfComplete, decidingIn, bitHolder, actionCodesOfStage, explainedByBit, explainedAt, explainedWaiting, cryptogramRank, storedCryptogramType, requestedType, decidesOutcome, explainedDecision, explainedEnd, cardAsksMagStripe, explainedEndBy, explainedAwaiting, explainedInPhase, explanationOf}
 use Rattle.explain.specs.Promise.{choiceForcedBy, choiceUnforcedAt, BitNamed, NoBitNamed, LowerType, DecisionIs, ExplanationHolds}
 
 -- ---- the stage that decided
@@ -239,13 +240,16 @@ module _ (b : List ℕ) where
       (λ t. if-ind (Right b) _ _ _ (λ u. plain b _ tt)
       (λ u. if-ind (Right b) _ _ _ (λ v. lower-right (ltb-true _ _ v)) (λ v. reason-right b g e)))
 
+  awaiting-right : (w : AwaitedResponse) → Right b (explainedAwaiting w b)
+  awaiting-right AwaitedResponse.Gpo = plain b _ tt
+  awaiting-right (AwaitedResponse.Record p) = plain b _ tt
+  awaiting-right (AwaitedResponse.Cryptogram a) = waiting-right a (decidingIn b) refl
+  awaiting-right (AwaitedResponse.Checksum k) = plain b _ tt
+
   phase-right : (p : Phase) → Right b (explainedInPhase p b)
   unfolding explainedEnd explainedEndBy
   phase-right Phase.Fresh = plain b _ tt
-  phase-right Phase.Gpo = plain b _ tt
-  phase-right (Phase.Record p) = plain b _ tt
-  phase-right (Phase.Cryptogram a) = waiting-right a (decidingIn b) refl
-  phase-right (Phase.Checksum k) = plain b _ tt
+  phase-right (Phase.Waiting w) = awaiting-right w
   phase-right (Phase.Ended x) =
       if-ind (Right b) _ _ _ (λ u. plain b _ tt) (λ u. if-ind (Right b) _ _ _ (λ t. decided-right x (decidingIn b) refl) (λ t. plain b _ tt))
 
@@ -412,7 +416,7 @@ module _ (s : Session) where
         named = explained-right .named;
         unnamed = explained-right .unnamed;
         lower = explained-right .lower;
-        held = λ a q n. waiting-held (storeBytes s) a (decidingIn (storeBytes s)) (by-phase n (Phase.Cryptogram a) q);
+        held = λ a q n. waiting-held (storeBytes s) a (decidingIn (storeBytes s)) (by-phase n (Phase.Waiting (AwaitedResponse.Cryptogram a)) q);
         decided = λ x q z n m. chosen-given (storeBytes s) x z (by-phase n (Phase.Ended x) q) m;
         without = λ x q z e. no-choice-mag-stripe (storeBytes s) x (without-by-phase (Phase.Ended x) q e);
       }

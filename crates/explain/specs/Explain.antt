@@ -4,21 +4,24 @@
 -- 95 came about is not examined.
 -- Assumes nothing.
 use mathlib.Core.Bool.{Bool, true, false, not}
-use mathlib.Core.List.{List, [], _∷_}
+use mathlib.Core.List.{[], _∷_}
 use mathlib.Core.Option.{Option, some, none}
 use Prim.Native.Nat.{ℕ, _/_}
 use lib.ListN.{getD}
 use Rattle.basics.specs.Choice.{if_then_else_, every, _and_, _<?_, _=?_}
 use Rattle.basics.specs.Reason.{reasonNone}
+use Rattle.basics.specs.Types.{Byte, StoreBytes, TvrBytes, TagList}
 use Rattle.store.specs.Held.{hasObject, lacksObject, storedBytes, storedByte}
 use Rattle.analysis.specs.Value.{firstBytes}
 use Rattle.analysis.specs.Bits.{numberedBit}
-use Rattle.analysis.specs.Choice.{lowestBit, denialStage, onlineStage, defaultStage, zeroCode, noActionCodes, stageHolds, onlineCapabilityOf, generateAcP1}
+use Rattle.analysis.specs.Choice.{lowestBit, denialStage, onlineStage, defaultStage, zeroCode, noActionCodes}
+use Rattle.analysis.specs.Choice.{stageHolds, onlineCapabilityOf, generateAcP1}
 use Rattle.analysis.specs.Action.{terminalType, actionCodesOf, choiceFor}
 use Rattle.analysis.specs.declared.choice.OnlineCapability.{OnlineCapability}
 use Rattle.analysis.specs.declared.choice.Choice.{Choice}
 use Rattle.analysis.specs.declared.choice.LowestBit.{LowestBit}
 use Rattle.analysis.specs.declared.choice.ActionCodes.{ActionCodes}
+use Rattle.session_record.specs.declared.AwaitedResponse.{AwaitedResponse}
 use Rattle.session_record.specs.declared.RequestedCryptogram.{RequestedCryptogram}
 use Rattle.session_record.specs.declared.Ending.{Ending}
 use Rattle.session_record.specs.declared.Outcome.{Outcome}
@@ -36,11 +39,11 @@ use Rattle.explain.specs.declared.Explanation.{Explanation}
 -- ---- the choice, recomputed
 
 -- the stored TVR
-abbrev pub storedTvr : List ℕ → List ℕ
+abbrev pub storedTvr : StoreBytes → TvrBytes
 storedTvr b = firstBytes 5 (storedBytes b 0x95)
 
 -- the choice that they give, with the stored type and codes
-abbrev pub storedChoice : List ℕ → Choice
+abbrev pub storedChoice : StoreBytes → Choice
 storedChoice b = choiceFor b (storedTvr b)
 
 -- ---- the stage that decided
@@ -54,11 +57,11 @@ stageBy OnlineCapability.OnlineCapable false = Deciding.At Stage.Online
 stageBy OnlineCapability.Unlisted      false = Deciding.Nothing
 
 -- of a store; an absent type reads as one with another ending
-unfoldable pub stageIn : List ℕ → Deciding
+unfoldable pub stageIn : StoreBytes → Deciding
 stageIn b = stageBy (onlineCapabilityOf (terminalType b)) (stageHolds (storedTvr b) (actionCodesOf b) denialStage)
 
 -- the terminal's code of a stage after denial
-abbrev pub tacOfStage : Stage → List ℕ
+abbrev pub tacOfStage : Stage → TagList
 tacOfStage Stage.Denial     = []
 tacOfStage Stage.OnlineOnly = []
 tacOfStage Stage.Default    = 0xDF8120 ∷ []
@@ -66,17 +69,17 @@ tacOfStage Stage.Online     = 0xDF8122 ∷ []
 
 -- what is needed where a stage decided: 95, and the terminal's codes of the stages that were consulted, denial before
 -- every other; a card's code may be absent
-abbrev pub stageNeeds : Stage → List ℕ
+abbrev pub stageNeeds : Stage → TagList
 stageNeeds stage = 0x95 ∷ 0xDF8121 ∷ tacOfStage stage
 
 -- the stage, if all of it is present
-abbrev pub stageIfComplete : List ℕ → Deciding → Deciding
+abbrev pub stageIfComplete : StoreBytes → Deciding → Deciding
 stageIfComplete b Deciding.Nothing = Deciding.Nothing
 stageIfComplete b (Deciding.At stage) =
     if every (hasObject b) (stageNeeds stage) then Deciding.At stage
     else Deciding.Nothing
 
-unfoldable pub decidingIn : List ℕ → Deciding
+unfoldable pub decidingIn : StoreBytes → Deciding
 decidingIn b = stageIfComplete b (stageIn b)
 
 -- ---- the bit that forced it
@@ -92,7 +95,7 @@ unfoldable pub bitHolder : ActionCodes → ℕ → Holder
 bitHolder pair i = holderBy (numberedBit (pair .card) i) (numberedBit (pair .terminal) i)
 
 -- the codes of a stage, the card's and the terminal's; the online-only type has none: zeros hold no bit
-unfoldable pub actionCodesOfStage : List ℕ → Stage → ActionCodes
+unfoldable pub actionCodesOfStage : StoreBytes → Stage → ActionCodes
 actionCodesOfStage b Stage.Denial     = getD (actionCodesOf b) denialStage noActionCodes
 actionCodesOfStage b Stage.OnlineOnly = record { card = zeroCode; terminal = zeroCode }
 actionCodesOfStage b Stage.Default    = getD (actionCodesOf b) defaultStage noActionCodes
@@ -100,17 +103,18 @@ actionCodesOfStage b Stage.Online     = getD (actionCodesOf b) onlineStage noAct
 
 -- the lowest bit that they hold, with its holder; where there is none, no bit forced the choice
 abbrev pub explainedByBit : Stage → ActionCodes → LowestBit → Explanation
-explainedByBit stage pair (LowestBit.Bit i) = Explanation.Forced (record { stage = stage; bit = i; holder = bitHolder pair i })
+explainedByBit stage pair (LowestBit.Bit i) =
+    Explanation.Forced (record { stage = stage; bit = i; holder = bitHolder pair i })
 explainedByBit stage pair LowestBit.NoBit = Explanation.Unforced stage
 
 -- what a stage reports of the choice
-unfoldable pub explainedAt : List ℕ → Stage → Explanation
-explainedAt b stage = explainedByBit stage (actionCodesOfStage b stage) (lowestBit (storedTvr b) (actionCodesOfStage b stage))
+unfoldable pub explainedAt : StoreBytes → Stage → Explanation
+explainedAt b stage = let pair = actionCodesOfStage b stage in explainedByBit stage pair (lowestBit (storedTvr b) pair)
 
 -- ---- waiting on the cryptogram
 
 -- the choice that is held must be the one that the rest gives
-abbrev pub explainedWaiting : RequestedCryptogram → List ℕ → Deciding → Explanation
+abbrev pub explainedWaiting : RequestedCryptogram → StoreBytes → Deciding → Explanation
 explainedWaiting a b Deciding.Nothing = Explanation.Refused
 explainedWaiting a b (Deciding.At stage) =
     if generateAcP1 (a .choice) =? generateAcP1 (storedChoice b) then explainedAt b stage
@@ -128,7 +132,7 @@ cryptogramRank kind =
     else 0
 
 -- the type of the stored cryptogram, and of the one that a choice requests
-abbrev pub storedCryptogramType : List ℕ → ℕ
+abbrev pub storedCryptogramType : StoreBytes → ℕ
 storedCryptogramType b = storedByte b 0x9F27 1 / 64
 
 abbrev pub requestedType : Choice → ℕ
@@ -141,16 +145,18 @@ decidesOutcome (some d) outcome = outcomeNumber d =? outcomeNumber outcome
 
 -- a decision was reached: 9F27 must be present and give the stored outcome on the choice; a cryptogram lower than the
 -- one requested is the reason then
-abbrev pub explainedDecision : Ending → List ℕ → Deciding → Explanation
+abbrev pub explainedDecision : Ending → StoreBytes → Deciding → Explanation
 explainedDecision e b Deciding.Nothing = Explanation.Refused
 explainedDecision e b (Deciding.At stage) =
+    let kind = storedCryptogramType b in
+    let choice = storedChoice b in
     if lacksObject b 0x9F27 then Explanation.Refused
-    else if not (decidesOutcome (cryptogramOutcome (storedChoice b) (storedCryptogramType b)) (e .outcome)) then Explanation.Refused
-    else if cryptogramRank (storedCryptogramType b) <? cryptogramRank (requestedType (storedChoice b)) then Explanation.LowerCryptogram
+    else if not (decidesOutcome (cryptogramOutcome choice kind) (e .outcome)) then Explanation.Refused
+    else if cryptogramRank kind <? cryptogramRank (requestedType choice) then Explanation.LowerCryptogram
     else explainedAt b stage
 
 -- a reason other than 0 is the answer itself
-unfoldable pub explainedEnd : Ending → List ℕ → Explanation
+unfoldable pub explainedEnd : Ending → StoreBytes → Explanation
 explainedEnd e b =
     if e .reason =? reasonNone then explainedDecision e b (decidingIn b)
     else Explanation.Reason (e .reason)
@@ -158,25 +164,29 @@ explainedEnd e b =
 -- in mag-stripe mode no choice is made (document 02, Item 9). Here the card's side alone: 82 is present with byte 2 b8
 -- clear. `magStripeMode` of record is this and that the terminal's DF811B does not indicate by b8 that the mode is off
 -- (`mag-stripe-mode-is` in proofs/Laws); where calls reached a decision the two are the same (`mode` in explain_calls)
-abbrev pub cardAsksMagStripe : List ℕ → Bool
+abbrev pub cardAsksMagStripe : StoreBytes → Bool
 cardAsksMagStripe b = hasObject b 0x82 and not (emvMode b)
 
 -- ended so with reason 0, nothing else of the record is examined
-unfoldable pub explainedEndBy : Ending → List ℕ → Explanation
+unfoldable pub explainedEndBy : Ending → StoreBytes → Explanation
 explainedEndBy e b =
     if e .reason =? reasonNone and cardAsksMagStripe b then Explanation.NoChoice
     else explainedEnd e b
 
 -- ---- the answer
 
--- by the phase: there is no choice before the cryptogram is requested, and none on the checksum
-abbrev pub explainedInPhase : Phase → List ℕ → Explanation
-explainedInPhase Phase.Fresh          b = Explanation.NoChoice
-explainedInPhase Phase.Gpo            b = Explanation.NoChoice
-explainedInPhase (Phase.Record p)     b = Explanation.NoChoice
-explainedInPhase (Phase.Cryptogram a) b = explainedWaiting a b (decidingIn b)
-explainedInPhase (Phase.Checksum c)   b = Explanation.NoChoice
-explainedInPhase (Phase.Ended e)      b = explainedEndBy e b
+-- while a response is awaited: there is no choice before the cryptogram is requested, and none on the checksum
+abbrev pub explainedAwaiting : AwaitedResponse → StoreBytes → Explanation
+explainedAwaiting AwaitedResponse.Gpo            b = Explanation.NoChoice
+explainedAwaiting (AwaitedResponse.Record p)     b = Explanation.NoChoice
+explainedAwaiting (AwaitedResponse.Cryptogram a) b = explainedWaiting a b (decidingIn b)
+explainedAwaiting (AwaitedResponse.Checksum c)   b = Explanation.NoChoice
+
+-- by the phase
+abbrev pub explainedInPhase : Phase → StoreBytes → Explanation
+explainedInPhase Phase.Fresh       b = Explanation.NoChoice
+explainedInPhase (Phase.Waiting w) b = explainedAwaiting w b
+explainedInPhase (Phase.Ended e)   b = explainedEndBy e b
 
 -- a record that is out of its ranges is refused, and so is one that lacks what the answer needs, or whose choice or
 -- outcome the rest of it does not give (25)

@@ -3,6 +3,7 @@
 -- Assumes nothing.
 use Prim.Native.Nat.{ℕ, _+_, _*_}
 use Rattle.basics.specs.Reason.{refusedRanges}
+use Rattle.basics.specs.Types.{ResultWord}
 use Rattle.explain.specs.declared.Stage.{Stage}
 use Rattle.explain.specs.declared.Holder.{Holder}
 use Rattle.explain.specs.declared.Explanation.{Explanation}
@@ -26,11 +27,11 @@ abbrev pub noBitNumber : ℕ
 noBitNumber = 255
 
 -- a choice by its stage, its holder and its bit
-abbrev pub choiceWord : Stage → Holder → ℕ → ℕ
+abbrev pub choiceWord : Stage → Holder → ℕ → ResultWord
 choiceWord stage holder bit = 0x60000 + stageNumber stage * 4096 + holderNumber holder * 256 + bit
 
 -- an explanation
-abbrev pub explanationWord : Explanation → ℕ
+abbrev pub explanationWord : Explanation → ResultWord
 explanationWord Explanation.Refused          = 0x20000 + refusedRanges
 explanationWord (Explanation.Reason n)       = 0x30000 + n
 explanationWord Explanation.NoChoice         = 0x40000

@@ -6,7 +6,7 @@
 // an explanation.
 use analysis::choice::{OnlineCapability, Choice, LowestBit, ActionCodes, DEFAULT, DENIAL, ONLINE};
 use dictionary::{ROW_AIP, ROW_TVR, ROW_CID, ROW_TAC_DEFAULT, ROW_TAC_DENIAL, ROW_TAC_ONLINE};
-use session_record::{RequestedCryptogram, Ending, Outcome, Phase, Session};
+use session_record::{AwaitedResponse, RequestedCryptogram, Ending, Outcome, Phase, Session};
 use session::CryptogramOutcome;
 ghost use mathlib.Core.Path.{_≡_};
 ghost use Prim.Native.Nat.{_<_};
@@ -15,8 +15,10 @@ ghost use Rattle.store.specs.Held.{hasObject};
 ghost use Rattle.analysis.specs.Bits.{numberedBit as bitOf};
 ghost use Rattle.session_record.specs.Session.{sessionOf};
 ghost use Rattle.session.specs.Answer.{cryptogramOutcome};
-ghost use Rattle.explain.specs.Explain.{storedTvr, storedChoice, stageBy, stageIn, stageNeeds, decidingIn, holderBy, bitHolder, actionCodesOfStage, explainedAt};
-ghost use Rattle.explain.specs.Explain.{explainedWaiting, cryptogramRank, decidesOutcome, explainedEnd, cardAsksMagStripe, explainedEndBy};
+ghost use Rattle.explain.specs.Explain.{storedTvr, storedChoice, stageIn, stageNeeds, decidingIn};
+ghost use Rattle.explain.specs.Explain.{holderBy, bitHolder, actionCodesOfStage, explainedAt, explainedWaiting};
+ghost use Rattle.explain.specs.Explain.{cryptogramRank, decidesOutcome, explainedEnd, cardAsksMagStripe};
+ghost use Rattle.explain.specs.Explain.{explainedEndBy, explainedAwaiting};
 ghost use Rattle.explain.specs.Promise.{ExplanationHolds};
 ghost use Rattle.explain.specs.Word.{stageNumber, holderNumber, choiceWord, explanationWord};
 
@@ -86,11 +88,20 @@ pub fn explain_in(phase: Phase, count: u8, bytes: &[u8]) -> Explanation
     }
     match phase {
         Phase::Fresh => Explanation::NoChoice,
-        Phase::Gpo => Explanation::NoChoice,
-        Phase::Record(_) => Explanation::NoChoice,
-        Phase::Cryptogram(asked) => waiting(asked, bytes),
-        Phase::Checksum(_) => Explanation::NoChoice,
+        Phase::Waiting(awaited) => explain_awaited(awaited, bytes),
         Phase::Ended(end) => ended_by(end, bytes),
+    }
+}
+
+// While a response is awaited: a choice is made once the cryptogram is requested, and none for the checksum.
+fn explain_awaited(awaited: AwaitedResponse, bytes: &[u8]) -> Explanation
+    ensures { λ r. ⌜ r ≡ explainedAwaiting awaited (now (bytes .entry)) ⌝ }
+{
+    match awaited {
+        AwaitedResponse::Gpo => Explanation::NoChoice,
+        AwaitedResponse::Record(_) => Explanation::NoChoice,
+        AwaitedResponse::Cryptogram(asked) => waiting(asked, bytes),
+        AwaitedResponse::Checksum(_) => Explanation::NoChoice,
     }
 }
 

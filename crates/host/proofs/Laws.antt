@@ -18,7 +18,7 @@ use Rattle.session_record.specs.declared.Session.{Session}
 use Rattle.session_record.specs.declared.Transition.{Transition}
 use Rattle.dictionary.specs.Rows.{storeSize}
 use Rattle.basics.specs.Reason.{refusedBuffer, refusedRanges}
-use Rattle.session_record.specs.Session.{outcomeParameters, sessionOf, replyOf}
+use Rattle.session_record.specs.Session.{endingOf, outcomeParameters, sessionOf, replyOf}
 use Rattle.session.specs.Steps.{Step, DidStep, leastBuffer, linkFailedStep, stopStep}
 use Rattle.session.specs.Start.{startStep}
 use Rattle.session.specs.Answer.{answerStep}
@@ -124,7 +124,7 @@ pub record Kept (l buf : List ℕ) (h : HostResult) : Type 0 where
 -- a step whose word is that of a refusal is one
 came-kept : {s : Session} {l buf : List ℕ} {st : Step} → decodedSession l ≡ some s → SmallStep st → Came s buf st → wordKind (resultWord (st .reply .answer)) ≡ kindRefusal → Kept l buf (hostStepDone l st)
 came-kept {s} {l} e z (Came.refused n) h = record { session = written-back l s e; buffer = refl }
-came-kept e z (Came.ended m b o n) h = absurd (omega (arith, h, outcome-kind (outcomeParameters o n m) (omega arith)))
+came-kept e z (Came.ended m b o n) h = absurd (omega (arith, h, outcome-kind (outcomeParameters (endingOf o n) m) (omega arith)))
 came-kept e z (Came.sent b p c k) h = absurd (omega (arith, h, command-kind (length c)))
 
 module _ (step : Session → List ℕ → Step) (came : (s : Session) (b : List ℕ) → Came s b (step s b)) (small : (s : Session) (b : List ℕ) → SmallStep (step s b)) where

@@ -1,14 +1,14 @@
 -- Why a session is where it is, over the bytes that hold it (document 02, Item 7; docs/HOST.md).
 -- Assumes nothing.
 use mathlib.Core.Option.{Option, some, none}
-use Prim.Native.Nat.{ℕ}
 use Rattle.basics.specs.Reason.{refusedRanges}
+use Rattle.basics.specs.Types.{ResultWord}
 use Rattle.session_record.specs.declared.Session.{Session}
 use Rattle.layout.specs.Word.{refusalWord}
 use Rattle.explain.specs.Explain.{explanationOf}
 use Rattle.explain.specs.Word.{explanationWord}
 
 -- the word of an explanation; bytes that hold no record are refused as a record that is out of its ranges
-abbrev pub explainWord : Option Session → ℕ
+abbrev pub explainWord : Option Session → ResultWord
 explainWord none     = refusalWord refusedRanges
 explainWord (some s) = explanationWord (explanationOf s)

@@ -2,13 +2,12 @@
 -- answer as one word.
 -- Assumes nothing.
 use mathlib.Core.Path.{_≡_}
-use mathlib.Core.List.{List}
 use mathlib.Core.Option.{Option, some, none}
-use Prim.Native.Nat.{ℕ}
 use lib.ListN.{length}
 use Rattle.basics.specs.Choice.{if_then_else_, _≤?_, _<?_}
 use Rattle.session_record.specs.declared.Session.{Session}
 use Rattle.basics.specs.Reason.{refusedBuffer, refusedRanges}
+use Rattle.basics.specs.Types.{Bytes, Buffer, StartBytes, Response, Count, RefusalNumber, ResultWord}
 use Rattle.session_record.specs.Session.{freshSession}
 use Rattle.session.specs.Steps.{Step, leastBuffer}
 use Rattle.session.specs.Start.{startStep}
@@ -20,22 +19,22 @@ use Rattle.layout.specs.Word.{refusalWord, resultWord}
 
 -- the word that is returned, and the contents of the caller's two slices afterwards
 pub record HostResult : Type 0 where
-  pub word : ℕ
-  pub session : List ℕ
-  pub buffer : List ℕ
+  pub word : ResultWord
+  pub session : Bytes
+  pub buffer : Buffer
 
 -- the returned word w, the session's bytes l and the buffer b are those of h
-pub record DidHostCall (w : ℕ) (l b : List ℕ) (h : HostResult) : Type 0 where
+pub record DidHostCall (w : ResultWord) (l : Bytes) (b : Buffer) (h : HostResult) : Type 0 where
   pub word : w ≡ h .word
   pub session : l ≡ h .session
   pub buffer : b ≡ h .buffer
 
 -- a refusal leaves all of the caller's bytes as they were
-abbrev pub hostRefusal : ℕ → List ℕ → List ℕ → HostResult
+abbrev pub hostRefusal : RefusalNumber → Bytes → Buffer → HostResult
 hostRefusal n l buf = record { word = refusalWord n; session = l; buffer = buf }
 
 -- a step: its answer's word, its session at the front of the caller's bytes, its buffer
-abbrev pub hostStepDone : List ℕ → Step → HostResult
+abbrev pub hostStepDone : Bytes → Step → HostResult
 hostStepDone l st =
     record {
       word = resultWord (st .reply .answer);
@@ -46,37 +45,37 @@ hostStepDone l st =
 -- ---- the four calls, by the step that each takes on a session and a buffer
 
 -- no record is refused as one that is out of its ranges
-abbrev pub hostStepOn : (Session → List ℕ → Step) → List ℕ → List ℕ → Option Session → HostResult
+abbrev pub hostStepOn : (Session → Buffer → Step) → Bytes → Buffer → Option Session → HostResult
 hostStepOn step l buf none = hostRefusal refusedRanges l buf
 hostStepOn step l buf (some s) = hostStepDone l (step s buf)
 
 -- the buffer's size (22), then the record (25), then the step
-unfoldable pub hostStepAdmitted : (Session → List ℕ → Step) → List ℕ → List ℕ → HostResult
+unfoldable pub hostStepAdmitted : (Session → Buffer → Step) → Bytes → Buffer → HostResult
 hostStepAdmitted step l buf =
     if length buf <? leastBuffer then hostRefusal refusedBuffer l buf
     else hostStepOn step l buf (decodedSession l)
 
 -- the call start with the terminal's bytes, and the call answer with the card's
-abbrev pub hostStart : List ℕ → List ℕ → List ℕ → HostResult
+abbrev pub hostStart : StartBytes → Bytes → Buffer → HostResult
 hostStart terminal l buf = hostStepAdmitted (λ (s : Session) b. startStep s terminal b) l buf
 
-abbrev pub hostAnswer : List ℕ → List ℕ → List ℕ → HostResult
+abbrev pub hostAnswer : Response → Bytes → Buffer → HostResult
 hostAnswer card l buf = hostStepAdmitted (λ (s : Session) b. answerStep s card b) l buf
 
 -- ---- opening and counting
 
 -- a fresh record is written: 0, or 25 where the bytes are too few
-abbrev pub hostOpenWord : List ℕ → ℕ
+abbrev pub hostOpenWord : Bytes → ResultWord
 hostOpenWord l =
     if recordSize ≤? length l then 0
     else refusalWord refusedRanges
 
 -- the word, and the bytes before and after
-pub record HostOpened (w : ℕ) (before after : List ℕ) : Type 0 where
+pub record HostOpened (w : ResultWord) (before after : Bytes) : Type 0 where
   pub word : w ≡ hostOpenWord before
   pub session : after ≡ withSessionRecord freshSession before
 
 -- the count of commands handed out; all 32 bits set where the bytes hold no record
-abbrev pub countWord : Option Session → ℕ
+abbrev pub countWord : Option Session → Count
 countWord none = 0xFFFFFFFF
 countWord (some s) = s .count

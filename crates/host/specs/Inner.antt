@@ -1,11 +1,10 @@
 -- What `admit` promises for its callers' proofs: the first two tests of a call over the caller's bytes, as the code has
 -- them. A reader of the rules can skip this: `over-refused` and `over-step` (proofs/Laws) tie it to `hostStepAdmitted`.
 -- Assumes nothing.
-use mathlib.Core.List.{List}
 use mathlib.Core.Option.{Option, some, none}
-use Prim.Native.Nat.{ℕ}
 use Rattle.basics.specs.Choice.{if_then_else_, _<?_}
 use Rattle.basics.specs.Reason.{refusedBuffer, refusedRanges}
+use Rattle.basics.specs.Types.{Bytes, Length}
 use Rattle.session_record.specs.declared.Session.{Session}
 use Rattle.session.specs.Steps.{leastBuffer}
 use Rattle.layout.specs.Layout.{decodedSession}
@@ -18,7 +17,7 @@ admissionOfSession none = HostAdmission.Refused (refusalWord refusedRanges)
 admissionOfSession (some s) = HostAdmission.Admitted (record { phase = s .phase; count = s .count })
 
 -- a call is taken on the head of a record, or its refusal's word is given
-abbrev pub hostAdmission : List ℕ → ℕ → HostAdmission
+abbrev pub hostAdmission : Bytes → Length → HostAdmission
 hostAdmission l size =
     if size <? leastBuffer then HostAdmission.Refused (refusalWord refusedBuffer)
     else admissionOfSession (decodedSession l)

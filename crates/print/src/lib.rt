@@ -9,7 +9,7 @@ pub mod tree;
 
 
 use crate::table::decimal_words;
-use session_record::{CallResult, Outcome, OutcomeParameters, Phase, Reply};
+use session_record::{AwaitedResponse, CallResult, Outcome, OutcomeParameters, Phase, Reply};
 
 // Text, as it is.
 pub fn text(s: &[u8]) {
@@ -121,11 +121,17 @@ pub fn reply_in_words(reply: Reply, buffer: &[u8]) {
 
 // The transaction limit after a comma, where a phase holds one: an amount's twelve digits as a number.
 pub fn held_limit(phase: Phase) {
-    match phase {
-        Phase::Record(place) => limit(place.limit),
-        Phase::Cryptogram(asked) => limit(asked.limit),
-        Phase::Checksum(checksum) => limit(checksum.limit),
-        _ => text(b""),
+    if let Phase::Waiting(awaited) = phase {
+        awaited_limit(awaited);
+    }
+}
+
+fn awaited_limit(awaited: AwaitedResponse) {
+    match awaited {
+        AwaitedResponse::Gpo => text(b""),
+        AwaitedResponse::Record(place) => limit(place.limit),
+        AwaitedResponse::Cryptogram(asked) => limit(asked.limit),
+        AwaitedResponse::Checksum(checksum) => limit(checksum.limit),
     }
 }
 

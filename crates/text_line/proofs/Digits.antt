@@ -19,7 +19,9 @@ use Rattle.text_line.specs.declared.HexPair.{HexPair}
 use Rattle.text_line.specs.declared.HexByte.{HexByte}
 use Rattle.text_line.specs.declared.CharacterKind.the-variants.{Blank}
 use Rattle.text_line.specs.Text.{isBlank, isOfKind, pastFront}
-use Rattle.text_line.specs.Digits.{hexDigit, isHexPair, hexPairOf, HexText, hexStopped, bytesBeforeHex, hexSpelled, hexWithin, DecodesHex, hexProblem, roomProblem, numberProblem, decimalTextFrom, isDecimalDigit, bufferLine}
+use Rattle.text_line.specs.Digits.{hexDigit, isHexPair, HexText, hexStopped, bytesBeforeHex, hexSpelled, hexWithin}
+use Rattle.text_line.specs.Digits.{DecodesHex, decimalTextFrom, isDecimalDigit, bufferLine}
+use Rattle.text_line.specs.Inner.{hexPairOf}
 use Rattle.text_line.proofs.Text.{past-first}
 
 -- ---- the first two characters
@@ -66,7 +68,7 @@ none-of : (s : List ℕ) → length s ≡ 0 → s ≡ []
 none-of [] e = refl
 none-of (a ∷ s) e = absurd (omega arith)
 
-spelled-broken : (s : List ℕ) → 0 < length s → Trimmed s → hexPairOf s ≡ HexPair.Broken → hexSpelled s ≡ hexStopped hexProblem
+spelled-broken : (s : List ℕ) → 0 < length s → Trimmed s → hexPairOf s ≡ HexPair.Broken → hexSpelled s ≡ hexStopped 3
 unfolding hexSpelled hexPairOf
 spelled-broken [] h d e = absurd (omega arith)
 spelled-broken (a ∷ []) h d e = if-no _ _ (d h)
@@ -130,20 +132,20 @@ module _ (s entry : List ℕ) (n : ℕ) (rest out : List ℕ) (g : Decoding s en
   unfolding hexSpelled
   decoding-ends e = closed 0 (rw (none-of rest e))
 
-  pub decoding-breaks : 0 < length rest → hexPairOf rest ≡ HexPair.Broken → DecodesHex (record { size = n; problem = hexProblem }) out (hexWithin (length entry) (hexSpelled s)) entry
-  decoding-breaks h e = closed hexProblem (spelled-broken rest h (g .trimmed) e)
+  pub decoding-breaks : 0 < length rest → hexPairOf rest ≡ HexPair.Broken → DecodesHex (record { size = n; problem = 3 }) out (hexWithin (length entry) (hexSpelled s)) entry
+  decoding-breaks h e = closed 3 (spelled-broken rest h (g .trimmed) e)
 
   module _ (v : HexByte) (e : hexPairOf rest ≡ HexPair.Byte v) where
     next : hexSpelled s ≡ bytesBeforeHex (take n out) (bytesBeforeHex (v .byte ∷ []) (hexSpelled (drop 2 rest)))
     next = g .carried ∙ ap (bytesBeforeHex (take n out)) (spelled-byte rest v (g .trimmed) e)
 
-    pub decoding-full : length out ≤ n → DecodesHex (record { size = n; problem = roomProblem }) out (hexWithin (length entry) (hexSpelled s)) entry
+    pub decoding-full : length out ≤ n → DecodesHex (record { size = n; problem = 4 }) out (hexWithin (length entry) (hexSpelled s)) entry
     unfolding hexWithin front-of
     decoding-full h =
         let l = length-take-le n out (g .room) in
         let over : length entry < length (take n out ++ (v .byte ∷ hexSpelled (drop 2 rest) .bytes)) = simp length-append (omega arith) in
         let cut : take (length entry) (take n out ++ (v .byte ∷ hexSpelled (drop 2 rest) .bytes)) ≡ take n out = take-at (take n out) _ (length entry) (omega arith) in
-        reported entry out n roomProblem (g .room) (g .behind) _ (rw next (if-no _ _ (lt-leb _ _ over) ∙ ap (λ (b : List ℕ). record { bytes = b; problem = roomProblem }) cut))
+        reported entry out n 4 (g .room) (g .behind) _ (rw next (if-no _ _ (lt-leb _ _ over) ∙ ap (λ (b : List ℕ). record { bytes = b; problem = 4 }) cut))
 
     pub decoding-on : n < length out → Decoding s entry (n + 1) (pastFront (isOfKind Blank) (drop 2 rest)) (set out n (v .byte))
     decoding-on h = record {
@@ -168,11 +170,11 @@ pub record Reading (w : List ℕ) (n i : ℕ) : Type 0 where
   pub digits : every isDecimalDigit w ≡ every isDecimalDigit (drop i w)
   pub number : decimalTextFrom 0 w ≡ decimalTextFrom n (drop i w)
 
-not-sized : (w : List ℕ) → both (every isDecimalDigit w) (leb (decimalTextFrom 0 w) 4096) ≡ false → bufferLine w ≡ Line.Wrong (record { number = numberProblem })
+not-sized : (w : List ℕ) → both (every isDecimalDigit w) (leb (decimalTextFrom 0 w) 4096) ≡ false → bufferLine w ≡ Line.Wrong (record { number = 6 })
 unfolding bufferLine
 not-sized w e = if-no _ _ (both-no-right _ _ e)
 
-pub sized-none : (w : List ℕ) → length w ≡ 0 → bufferLine w ≡ Line.Wrong (record { number = numberProblem })
+pub sized-none : (w : List ℕ) → length w ≡ 0 → bufferLine w ≡ Line.Wrong (record { number = 6 })
 unfolding bufferLine
 sized-none w e = if-no _ _ (both-no-left _ _ (le-ltb 0 (length w) (omega arith)))
 
@@ -181,7 +183,7 @@ reading-start w = record { within = omega arith; small = omega arith; digits = r
 
 module _ (w : List ℕ) (n i : ℕ) (r : Reading w n i) where
   module _ (h : i < length w) (d : ℕ) (e : d ≡ hexDigit (getD w i 0)) where
-    pub not-digit : 10 ≤ d → bufferLine w ≡ Line.Wrong (record { number = numberProblem })
+    pub not-digit : 10 ≤ d → bufferLine w ≡ Line.Wrong (record { number = 6 })
     unfolding every
     not-digit k = not-sized w (both-no-left _ _ (r .digits ∙ rw (drop-cons w i 0) (both-no-left _ _ (le-ltb (hexDigit (getD w i 0)) 10 (omega arith)))))
 
@@ -189,7 +191,7 @@ module _ (w : List ℕ) (n i : ℕ) (r : Reading w n i) where
     unfolding decimalTextFrom
     on = r .number ∙ rw (add-one, drop-cons w i 0, e)
 
-    pub too-large : 4096 < n * 10 + d → bufferLine w ≡ Line.Wrong (record { number = numberProblem })
+    pub too-large : 4096 < n * 10 + d → bufferLine w ≡ Line.Wrong (record { number = 6 })
     too-large k =
         let l = from-least (n * 10 + d) (drop (i + 1) w) in
         not-sized w (both-no-right _ _ (lt-leb (decimalTextFrom 0 w) 4096 (rw on (omega arith))))

@@ -7,7 +7,7 @@ use Rattle.text_line.specs.declared.Line.{Line}
 use Rattle.text_line.specs.Text.{isBlank, longestFront, pastFront}
 use Rattle.basics.specs.Alike.{bytesEqual}
 use Rattle.text_line.specs.Digits.{hexDigit, hexSpelled, hexWithin, decimalTextFrom, bufferLine}
-use Rattle.text_line.specs.Line.{lineWordOf, wrongLine, lineAlone, answerLine, meaningByWord, lineMeaning, lineWithoutBytes}
+use Rattle.text_line.specs.Line.{lineWordOf, wrongLine, lineAlone, lineOfBytes, meaningByWord, lineMeaning, lineWithoutBytes}
 
 -- three bytes of the caller's
 buffer : List ℕ
@@ -16,12 +16,12 @@ buffer = 1 ∷ 2 ∷ 3 ∷ []
 -- "answer 9f0A#x": two bytes, small letters or capital, up to the comment
 answers : lineMeaning (97 ∷ 110 ∷ 115 ∷ 119 ∷ 101 ∷ 114 ∷ 32 ∷ 57 ∷ 102 ∷ 48 ∷ 65 ∷ 35 ∷ 120 ∷ []) buffer
     ≡ record { line = Line.Answer (record { size = 2 }); buffer = 0x9F ∷ 0x0A ∷ 3 ∷ [] }
-unfolding lineMeaning buffer isBlank longestFront pastFront bytesEqual hexDigit hexSpelled hexWithin lineWordOf meaningByWord answerLine if both either
+unfolding lineMeaning buffer isBlank longestFront pastFront bytesEqual hexDigit hexSpelled hexWithin lineWordOf meaningByWord lineOfBytes if both either
 answers = refl
 
 -- "answer 9 f": a byte is two digits side by side
 apart : lineMeaning (97 ∷ 110 ∷ 115 ∷ 119 ∷ 101 ∷ 114 ∷ 32 ∷ 57 ∷ 32 ∷ 102 ∷ []) buffer ≡ lineWithoutBytes (wrongLine 3) buffer
-unfolding lineMeaning buffer isBlank longestFront pastFront bytesEqual hexDigit hexSpelled hexWithin lineWordOf meaningByWord answerLine if both either
+unfolding lineMeaning buffer isBlank longestFront pastFront bytesEqual hexDigit hexSpelled hexWithin lineWordOf meaningByWord lineOfBytes if both either
 apart = refl
 
 -- "stop 9": nothing may be after it

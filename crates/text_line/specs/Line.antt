@@ -5,6 +5,9 @@ use mathlib.Core.List.{List, [], _∷_}
 use Prim.Native.Nat.{ℕ}
 use lib.ListN.{length}
 use Rattle.basics.specs.Choice.{if_then_else_, _<?_, _=?_}
+use Rattle.basics.specs.Front.{withPrefix}
+use Rattle.basics.specs.Types.{Bytes}
+use Rattle.text_line.specs.declared.Bytes.{Bytes as BytesCount}
 use Rattle.text_line.specs.declared.Decoded.{Decoded}
 use Rattle.text_line.specs.declared.CharacterKind.the-variants.{Blank}
 use Rattle.text_line.specs.declared.Line.{Line}
@@ -13,11 +16,11 @@ use Rattle.text_line.specs.declared.LineWord.the-variants.{Absent, Start
 use Rattle.text_line.specs.declared.LineWord.the-variants.{Session, Unknown}
 use Rattle.text_line.specs.Text.{isOfKind, pastFront, uncommented, firstWord, behindFirstWord}
 use Rattle.basics.specs.Alike.{bytesEqual}
-use Rattle.text_line.specs.Digits.{HexText, hexSpelled, hexWithin, hexDecoded, hexPlaced, bufferLine}
+use Rattle.text_line.specs.Digits.{hexSpelled, hexWithin, hexDecoded, bufferLine}
 
 -- a word and its characters
 pub record WordText : Type 0 where
-  pub text : List ℕ
+  pub text : Bytes
   pub word : LineWord
 
 -- the words: none, "start", "answer", "link-failed", "stop", "buffer" and "session"
@@ -33,14 +36,14 @@ lineWords =
     ∷ []
 
 -- the word of a table with these characters
-abbrev pub wordInTable : List WordText → List ℕ → LineWord
+abbrev pub wordInTable : List WordText → Bytes → LineWord
 wordInTable [] w = Unknown
 wordInTable (e ∷ es) w =
     if bytesEqual w (e .text) then e .word
     else wordInTable es w
 
 -- which word it is
-unfoldable pub lineWordOf : List ℕ → LineWord
+unfoldable pub lineWordOf : Bytes → LineWord
 lineWordOf w = wordInTable lineWords w
 
 -- a problem by its number: 1 the line is too long, 2 unknown word, 3 not a pair of hexadecimal digits, 4 no room for
@@ -49,57 +52,51 @@ abbrev pub wrongLine : ℕ → Line
 wrongLine p = Line.Wrong (record { number = p })
 
 -- a line with only blanks after its words
-unfoldable pub lineAlone : List ℕ → Line → Line
+unfoldable pub lineAlone : Bytes → Line → Line
 lineAlone rest line =
     if length (pastFront (isOfKind Blank) rest) =? 0 then line
     else wrongLine 5
 
 -- a start or an answer with the bytes that were decoded
-unfoldable pub startLine : Decoded → Line
-startLine d =
-    if d .problem =? 0 then Line.Start (record { size = d .size })
-    else wrongLine (d .problem)
-
-unfoldable pub answerLine : Decoded → Line
-answerLine d =
-    if d .problem =? 0 then Line.Answer (record { size = d .size })
+unfoldable pub lineOfBytes : (BytesCount → Line) → Decoded → Line
+lineOfBytes line d =
+    if d .problem =? 0 then line (record { size = d .size })
     else wrongLine (d .problem)
 
 -- what a line means, and the caller's bytes then
 pub record LineMeaning : Type 0 where
   pub line : Line
-  pub buffer : List ℕ
+  pub buffer : Bytes
 
 -- a line that brings no bytes leaves the caller's bytes
-abbrev pub lineWithoutBytes : Line → List ℕ → LineMeaning
+abbrev pub lineWithoutBytes : Line → Bytes → LineMeaning
 lineWithoutBytes line out = record { line = line; buffer = out }
 
--- a line that brings the bytes of a spelling, as many as there is room for
-abbrev pub lineWithBytes : (Decoded → Line) → HexText → List ℕ → LineMeaning
-lineWithBytes line r out = record { line = line (hexDecoded r); buffer = hexPlaced r out }
+-- a line that brings the bytes that a text spells, as many as there is room for
+abbrev pub lineWithBytes : (BytesCount → Line) → Bytes → Bytes → LineMeaning
+lineWithBytes line text out =
+    let r = hexWithin (length out) (hexSpelled text) in
+    record { line = lineOfBytes line (hexDecoded r); buffer = withPrefix (r .bytes) out }
 
 -- by the first word, from what follows it
-unfoldable pub meaningByWord : LineWord → List ℕ → List ℕ → LineMeaning
+unfoldable pub meaningByWord : LineWord → Bytes → Bytes → LineMeaning
 meaningByWord Absent rest out = lineWithoutBytes Line.Blank out
-meaningByWord Start rest out = lineWithBytes startLine (hexWithin (length out) (hexSpelled rest)) out
-meaningByWord Answer rest out = lineWithBytes answerLine (hexWithin (length out) (hexSpelled rest)) out
+meaningByWord Start rest out = lineWithBytes Line.Start rest out
+meaningByWord Answer rest out = lineWithBytes Line.Answer rest out
 meaningByWord LinkFailed rest out = lineWithoutBytes (lineAlone rest Line.LinkFailed) out
 meaningByWord Stop rest out = lineWithoutBytes (lineAlone rest Line.Stop) out
 meaningByWord Buffer rest out = lineWithoutBytes (lineAlone (behindFirstWord rest) (bufferLine (firstWord rest))) out
 meaningByWord Session rest out = lineWithoutBytes (lineAlone rest Line.Session) out
 meaningByWord Unknown rest out = lineWithoutBytes (wrongLine 2) out
 
--- a text without a comment
-abbrev pub meaningOfText : List ℕ → List ℕ → LineMeaning
-meaningOfText text out = meaningByWord (lineWordOf (firstWord text)) (behindFirstWord text) out
-
 -- a line of at most 8,192 characters: what it means without its comment
-unfoldable pub lineMeaning : List ℕ → List ℕ → LineMeaning
+unfoldable pub lineMeaning : Bytes → Bytes → LineMeaning
 lineMeaning line out =
+    let text = uncommented line in
     if 8192 <? length line then lineWithoutBytes (wrongLine 1) out
-    else meaningOfText (uncommented line) out
+    else meaningByWord (lineWordOf (firstWord text)) (behindFirstWord text) out
 
 -- the line r and the caller's bytes at exit are those of a meaning
-pub record LineSays (r : Line) (exit : List ℕ) (m : LineMeaning) : Type 0 where
+pub record LineSays (r : Line) (exit : Bytes) (m : LineMeaning) : Type 0 where
   pub line : r ≡ m .line
   pub buffer : exit ≡ m .buffer

@@ -1,44 +1,44 @@
 -- The text of a line as characters: its comment, its blanks and its words.
 -- Assumes nothing.
 use mathlib.Core.Bool.{Bool, not}
-use mathlib.Core.List.{List, [], _∷_}
-use Prim.Native.Nat.{ℕ}
+use mathlib.Core.List.{[], _∷_}
 use Rattle.basics.specs.Choice.{if_then_else_, _or_, _=?_}
+use Rattle.basics.specs.Types.{Byte, Bytes}
 use Rattle.text_line.specs.declared.CharacterKind.{CharacterKind}
 use Rattle.text_line.specs.declared.CharacterKind.the-variants.{Blank, NotBlank, NotHash}
 
 -- a blank is a space, a tab or a carriage return
-unfoldable pub isBlank : ℕ → Bool
+unfoldable pub isBlank : Byte → Bool
 isBlank c = c =? 32 or c =? 9 or c =? 13
 
 -- kinds of characters: a blank, no blank, and no '#'
-abbrev pub isOfKind : CharacterKind → ℕ → Bool
+abbrev pub isOfKind : CharacterKind → Byte → Bool
 isOfKind Blank c = isBlank c
 isOfKind NotBlank c = not (isBlank c)
 isOfKind NotHash c = not (c =? 35)
 
 -- the longest part at the front whose characters all pass a test
-unfoldable pub longestFront : (ℕ → Bool) → List ℕ → List ℕ
+unfoldable pub longestFront : (Byte → Bool) → Bytes → Bytes
 longestFront f [] = []
 longestFront f (c ∷ s) =
     if f c then c ∷ longestFront f s
     else []
 
 -- what follows that part
-unfoldable pub pastFront : (ℕ → Bool) → List ℕ → List ℕ
+unfoldable pub pastFront : (Byte → Bool) → Bytes → Bytes
 pastFront f [] = []
 pastFront f (c ∷ s) =
     if f c then pastFront f s
     else (c ∷ s)
 
 -- a line without its comment: what is before the first '#'
-abbrev pub uncommented : List ℕ → List ℕ
+abbrev pub uncommented : Bytes → Bytes
 uncommented s = longestFront (isOfKind NotHash) s
 
 -- the first word: the characters from the first that is no blank up to the next blank
-abbrev pub firstWord : List ℕ → List ℕ
+abbrev pub firstWord : Bytes → Bytes
 firstWord s = longestFront (isOfKind NotBlank) (pastFront (isOfKind Blank) s)
 
 -- what follows the first word
-abbrev pub behindFirstWord : List ℕ → List ℕ
+abbrev pub behindFirstWord : Bytes → Bytes
 behindFirstWord s = pastFront (isOfKind NotBlank) (pastFront (isOfKind Blank) s)

@@ -11,9 +11,11 @@
 ghost use mathlib.Core.Path.{_≡_};
 ghost use Prim.Native.Nat.{_≤_};
 ghost use lib.ListN.{length};
-ghost use Rattle.text_line.specs.Text.{isOfKind, longestFront, pastFront, uncommented as uncommentedOf, firstWord, behindFirstWord};
-ghost use Rattle.text_line.specs.Digits.{hexDigit, hexPairOf, hexSpelled, hexWithin, DecodesHex, bufferLine};
-ghost use Rattle.text_line.specs.Line.{lineWordOf, lineAlone as aloneAs, startLine, answerLine, lineMeaning, LineSays};
+ghost use Rattle.text_line.specs.Text.{isOfKind, longestFront, pastFront, uncommented as uncommentedOf};
+ghost use Rattle.text_line.specs.Text.{firstWord, behindFirstWord};
+ghost use Rattle.text_line.specs.Digits.{hexDigit, hexSpelled, hexWithin, DecodesHex, bufferLine};
+ghost use Rattle.text_line.specs.Line.{lineWordOf, lineAlone as aloneAs, lineOfBytes, lineMeaning, LineSays};
+ghost use Rattle.text_line.specs.Inner.{hexPairOf};
 
 // How many bytes a call brings: the front of the caller's slice.
 pub struct Bytes {
@@ -233,7 +235,7 @@ fn alone(rest: &[u8], line: Line) -> Line
 
 // A start with the bytes that were decoded.
 fn start_line(d: Decoded) -> Line
-    ensures { λ r. ⌜ r ≡ startLine d ⌝ }
+    ensures { λ r. ⌜ r ≡ lineOfBytes Line.Start d ⌝ }
 {
     if d.problem == 0 {
         return Line::Start(Bytes { size: d.size });
@@ -243,7 +245,7 @@ fn start_line(d: Decoded) -> Line
 
 // An answer with the bytes that were decoded.
 fn answer_line(d: Decoded) -> Line
-    ensures { λ r. ⌜ r ≡ answerLine d ⌝ }
+    ensures { λ r. ⌜ r ≡ lineOfBytes Line.Answer d ⌝ }
 {
     if d.problem == 0 {
         return Line::Answer(Bytes { size: d.size });

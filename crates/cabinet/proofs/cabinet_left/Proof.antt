@@ -21,10 +21,10 @@ part-keeps-end : tie.Need-part-parts-in-ranges-end
 part-keeps-end c = let k = told c in omega (arith, k .enough)
 
 returns-2 : tie.Need-returns-2
-returns-2 c = sym (ap remainingWord (told (c .before .before .before) .held ∙ if-no _ _ (sym (c .before .parts-in-ranges .ensures .test) ∙ not-true _ (c .if1 .taken))))
+returns-2 c = sym (ap remainingWord (told (c .before .before .before) .held ∙ if-no _ _ (sym (c .before .parts-in-ranges .ensures) ∙ not-true _ (c .if1 .taken))))
 
 returns-3 : tie.Need-returns-3
-returns-3 c = sym (ap remainingWord (told (c .before .before .before) .held ∙ if-yes _ _ (sym (c .before .parts-in-ranges .ensures .test) ∙ not-false _ (c .if1 .left))))
+returns-3 c = sym (ap remainingWord (told (c .before .before .before) .held ∙ if-yes _ _ (sym (c .before .parts-in-ranges .ensures) ∙ not-false _ (c .if1 .left))))
 
 pub cabinet-left-spec : {M : Type 1} → statement M
 cabinet-left-spec =

@@ -3,12 +3,13 @@
 use borrow.Author.Needs.{needs}
 use mathlib.Core.Path.{_≡_, ap, ap₂, _∙_}
 use mathlib.Core.List.{List}
-use Prim.Native.Nat.{ℕ}
+use Prim.Native.Nat.{ℕ, _+_}
 use native.Mathlib.Omega.{arith}
 use lib.ListN.{length, length-take, length-drop}
 use borrow.Rule.Slice.PartMut.{putMid, same-len-mid}
 use Rattle.store.proofs.Laws.{copied}
-use Rattle.cabinet.specs.State.{remainingAt, reservedAt, amountBytes}
+use Rattle.layout.specs.Layout.{recordSize, bigEndianBytes}
+use Rattle.layout.proofs.Number.{bytes-length}
 use Rattle.cabinet.proofs.State.{put-both, amounts-length}
 use Rattle.cabinet.proofs.put_amounts.Statement.{statement}
 use Rattle.cabinet.proofs.put_amounts.Tie as tie
@@ -22,10 +23,10 @@ returns c =
     let y = c .before .before .copy2 .last .1 .0 in
     let e = c .before .before .before .before .before .before .before .before .before .before .before .amount-bytes .ensures in
     let f = c .before .before .before .before .before .amount-bytes2 .ensures in
-    let g : x ≡ amountBytes (st .args .amounts .remaining) = copied _ _ x (ap length e ∙ simp (length-take, length-drop) (omega arith)) (c .before .before .before .before .before .before .before .before .copy .ensures .1) ∙ e in
-    let m : length (putMid remainingAt 8 l x) ≡ length l = same-len-mid remainingAt 8 l x (ap length g ∙ simp (length-take, length-drop) (omega arith)) in
-    let h : y ≡ amountBytes (st .args .amounts .reserved) = copied _ _ y (ap length f ∙ simp (length-take, length-drop) (omega arith)) (c .before .before .copy2 .ensures .1) ∙ f in
-    ap₂ (λ (a b : List ℕ). putMid reservedAt 8 (putMid remainingAt 8 l a) b) g h ∙ put-both l (amountBytes (st .args .amounts .remaining)) (amountBytes (st .args .amounts .reserved)) p (omega arith)
+    let g : x ≡ bigEndianBytes 8 (st .args .amounts .remaining) = copied _ _ x (ap length e ∙ simp (length-take, length-drop, bytes-length) (omega arith)) (c .before .before .before .before .before .before .before .before .copy .ensures .1) ∙ e in
+    let m : length (putMid recordSize 8 l x) ≡ length l = same-len-mid recordSize 8 l x (ap length g ∙ simp (length-take, length-drop, bytes-length) (omega arith)) in
+    let h : y ≡ bigEndianBytes 8 (st .args .amounts .reserved) = copied _ _ y (ap length f ∙ simp (length-take, length-drop, bytes-length) (omega arith)) (c .before .before .copy2 .ensures .1) ∙ f in
+    ap₂ (λ (a b : List ℕ). putMid (recordSize + 8) 8 (putMid recordSize 8 l a) b) g h ∙ put-both l (bigEndianBytes 8 (st .args .amounts .remaining)) (bigEndianBytes 8 (st .args .amounts .reserved)) p (bytes-length 8 _)
 
 same-length : tie.Need-same-length
 same-length c =

@@ -15,13 +15,13 @@ use Rattle.cabinet.proofs.start_held.Tie as tie
 
 -- past its test the session is in its ranges
 kept : (c : tie.Else1) → let a = c .before .before .before .before .before .before .before .args in inRanges (sessionOf (a .holding .phase) (a .holding .count) (storeIn (a .state .now))) ≡ true
-kept c = sym (c .before .parts-in-ranges .ensures .test) ∙ not-false _ (c .if1 .left)
+kept c = sym (c .before .parts-in-ranges .ensures) ∙ not-false _ (c .if1 .left)
 
 returns : tie.Need-returns
 returns c =
     let a = c .before .before .before .before .before .before .before .before .args in
     did-refuse refusedRanges (c .refusal-word .ensures)
-    (ranged-out (startOnCabinet (a .terminal .now) (a .state .now) (a .command .now)) _ _ (cabinetOf (a .holding) (a .state .now)) (sym (c .before .before .parts-in-ranges .ensures .test) ∙ not-true _ (c .before .if1 .taken)))
+    (ranged-out (startOnCabinet (a .terminal .now) (a .state .now) (a .command .now)) _ _ (cabinetOf (a .holding) (a .state .now)) (sym (c .before .before .parts-in-ranges .ensures) ∙ not-true _ (c .before .if1 .taken)))
 
 returns-2 : tie.Need-returns-2
 returns-2 c =

@@ -11,7 +11,8 @@ use Rattle.tlv.proofs.Laws.{tail-is}
 use Rattle.session.specs.Calls.{Call}
 use Rattle.call_list.specs.declared.CallFront.{CallFront}
 use Rattle.call_list.specs.declared.CallsCounted.{CallsCounted}
-use Rattle.call_list.specs.Encoding.{callEnd, callFrontIn, callsOf, callsCountedOf}
+use Rattle.call_list.specs.Encoding.{callEnd, callsOf}
+use Rattle.call_list.specs.Inner.{callFrontIn, callsCountedOf}
 use Rattle.call_list.proofs.Read.{front-end, calls-malformed, calls-end, more, more-none, counted-call}
 use Rattle.call_list.proofs.count_calls.Statement.{statement}
 use Rattle.call_list.proofs.count_calls.Tie as tie

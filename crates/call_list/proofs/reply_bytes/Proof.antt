@@ -1,12 +1,10 @@
 -- `reply_bytes`: by what the call returned.
 -- Assumes nothing.
 use borrow.Author.Needs.{needs}
-use Rattle.call_list.specs.Encoding.{bigEndianBytes}
 use Rattle.call_list.proofs.reply_bytes.Statement.{statement}
 use Rattle.call_list.proofs.reply_bytes.Tie as tie
 
 returns : tie.Need-returns
-unfolding bigEndianBytes
 returns c = simp (c .before .answer .given .1, c .before .before .before .count .ensures)
 
 returns-2 : tie.Need-returns-2

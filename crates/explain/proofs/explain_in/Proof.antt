@@ -18,29 +18,20 @@ by-phase : (c : tie.Else1) (p : Phase) → let a = c .before .before .before .ar
 unfolding explanationOf
 by-phase c p e =
     let a = c .before .before .before .args in
-    sym (if-yes _ _ (sym (c .before .parts-in-ranges .ensures .test) ∙ not-false _ (c .if1 .left)) ∙ ap (λ (q : Phase). explainedInPhase q (a .bytes .now)) e)
+    sym (if-yes _ _ (sym (c .before .parts-in-ranges .ensures) ∙ not-false _ (c .if1 .left)) ∙ ap (λ (q : Phase). explainedInPhase q (a .bytes .now)) e)
 
 returns : tie.Need-returns
 unfolding explanationOf
-returns c = told _ (sym (if-no _ _ (sym (c .before .parts-in-ranges .ensures .test) ∙ not-true _ (c .if1 .taken))))
+returns c = told _ (sym (if-no _ _ (sym (c .before .parts-in-ranges .ensures) ∙ not-true _ (c .if1 .taken))))
 
 returns-2 : tie.Need-returns-2
 returns-2 c = told _ (by-phase (c .before .before) _ (c .enum-told .given .1))
 
 returns-3 : tie.Need-returns-3
-returns-3 c = told _ (by-phase (c .before .before) _ (c .enum-told2 .given .1))
+returns-3 c = told _ (c .explain-awaited .ensures ∙ by-phase (c .before .before .before .before) _ (c .before .before .phase .given .1))
 
 returns-4 : tie.Need-returns-4
-returns-4 c = told _ (by-phase (c .before .before) _ (c .enum-told3 .given .1))
-
-returns-5 : tie.Need-returns-5
-returns-5 c = told _ (c .waiting .ensures ∙ by-phase (c .before .before .before .before) _ (c .before .before .phase .given .1))
-
-returns-6 : tie.Need-returns-6
-returns-6 c = told _ (by-phase (c .before .before) _ (c .enum-told4 .given .1))
-
-returns-7 : tie.Need-returns-7
-returns-7 c = told _ (c .ended-by .ensures ∙ by-phase (c .before .before .before .before) _ (c .before .before .phase2 .given .1))
+returns-4 c = told _ (c .ended-by .ensures ∙ by-phase (c .before .before .before .before) _ (c .before .before .phase2 .given .1))
 
 pub explain-in-spec : {M : Type 1} → statement M
 explain-in-spec =
@@ -50,15 +41,9 @@ explain-in-spec =
     returns
     (λ c. search needs)
     (λ c. search needs)
-    (λ c. search needs)
-    (λ c. search needs)
     (λ c κs. search needs)
-    (λ c. search needs)
     (λ c. search needs)
     (λ c κs. search needs)
     returns-2
     returns-3
-    returns-4
-    returns-5
-    returns-6
-    returns-7)
+    returns-4)

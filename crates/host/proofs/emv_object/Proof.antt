@@ -27,7 +27,7 @@ part-keeps-end c = held-some _ _ (head-is c) .0
 returns-2 : tie.Need-returns-2
 returns-2 c =
     let k = c .before .before in
-    object-ranges _ _ _ _ (head-is (k .before .before)) (sym (k .parts-in-ranges .ensures .test) ∙ not-true _ (c .before .if1 .taken)) _ (c .refusal-word2 .ensures)
+    object-ranges _ _ _ _ (head-is (k .before .before)) (sym (k .parts-in-ranges .ensures) ∙ not-true _ (c .before .if1 .taken)) _ (c .refusal-word2 .ensures)
 
 part-object-in-end : tie.Need-part-object-in-end
 part-object-in-end c = held-some _ _ (head-is (c .before .before .before)) .0
@@ -37,7 +37,7 @@ returns-3 c =
     let o = c .before .before in
     let e = o .before .before .before in
     let k = e .before in
-    object-session _ _ _ _ (head-is (k .before .before)) (sym (k .parts-in-ranges .ensures .test) ∙ not-false _ (e .if1 .left)) _ _ (o .object-in .ensures)
+    object-session _ _ _ _ (head-is (k .before .before)) (sym (k .parts-in-ranges .ensures) ∙ not-false _ (e .if1 .left)) _ _ (o .object-in .ensures)
 
 pub emv-object-spec : {M : Type 1} → statement M
 emv-object-spec =

@@ -9,7 +9,7 @@ use lib.ListN.{length, drop, length-drop}
 use Rattle.text_line.specs.declared.CharacterKind.{CharacterKind}
 use Rattle.text_line.specs.declared.HexPair.{HexPair}
 use Rattle.text_line.specs.Text.{isOfKind, pastFront}
-use Rattle.text_line.specs.Digits.{hexPairOf}
+use Rattle.text_line.specs.Inner.{hexPairOf}
 use Rattle.text_line.proofs.Digits.{Decoding, decoding-start, decoding-on, decoding-full, decoding-breaks, decoding-ends, pair-length}
 use Rattle.text_line.proofs.Text.{tail-is, past-length}
 use Rattle.text_line.proofs.decode_hex.Statement.{statement}

@@ -5,7 +5,8 @@ use mathlib.Core.Path.{_≡_, refl, ap, _∙_}
 use borrow.Author.Tests.{lt-ltb}
 use Rattle.basics.proofs.Laws.{if-yes}
 use Rattle.text_line.specs.declared.LineWord.{LineWord}
-use Rattle.text_line.specs.Line.{startLine, answerLine, meaningByWord, lineMeaning}
+use Rattle.text_line.specs.declared.Line.{Line}
+use Rattle.text_line.specs.Line.{lineOfBytes, meaningByWord, lineMeaning}
 use Rattle.text_line.proofs.Meaning.{meaning-by, says-as}
 use Rattle.text_line.proofs.parse_line.Statement.{statement}
 use Rattle.text_line.proofs.parse_line.Tie as tie
@@ -26,12 +27,12 @@ returns-2 c = says-as (by-word (c .before .before) _ (c .enum-told .given .1)) (
 returns-3 : tie.Need-returns-3
 unfolding meaningByWord
 returns-3 c = says-as (by-word (c .before .before .before .before .before .before .before) _ (c .before .before .before .before .before .enum-told2 .given .1))
-    (record { line = c .start-line .ensures ∙ ap startLine (c .before .before .before .decode-hex .ensures .report); buffer = c .before .before .before .decode-hex .ensures .buffer })
+    (record { line = c .start-line .ensures ∙ ap (lineOfBytes Line.Start) (c .before .before .before .decode-hex .ensures .report); buffer = c .before .before .before .decode-hex .ensures .buffer })
 
 returns-4 : tie.Need-returns-4
 unfolding meaningByWord
 returns-4 c = says-as (by-word (c .before .before .before .before .before .before .before) _ (c .before .before .before .before .before .enum-told3 .given .1))
-    (record { line = c .answer-line .ensures ∙ ap answerLine (c .before .before .before .decode-hex2 .ensures .report); buffer = c .before .before .before .decode-hex2 .ensures .buffer })
+    (record { line = c .answer-line .ensures ∙ ap (lineOfBytes Line.Answer) (c .before .before .before .decode-hex2 .ensures .report); buffer = c .before .before .before .decode-hex2 .ensures .buffer })
 
 returns-5 : tie.Need-returns-5
 unfolding meaningByWord
