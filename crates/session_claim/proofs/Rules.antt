@@ -59,7 +59,7 @@ pub hands-by-rules : (n : ℕ) (b card buf : List ℕ) → hands (stepOn n buf (
 unfolding gpoNext readThen
 hands-by-rules n b card buf =
     let o = reading.readAnswer Awaited.Gpo b card in
-    if-ind (Ruled n buf) _ _ _ (λ e. read-ruled n (o .store) buf) (λ e. sym e)
+    if-ind (Ruled n buf) (eqb (o .reason) 0) (afterGpo (o .store)) (fail (o .reason) b) (λ e. read-ruled n (o .store) buf) (λ e. sym e)
 
 -- ---- the call answer, by the session's phase
 
