@@ -105,9 +105,7 @@ cabinetStop l buf = cabinetAdmitted (cabinetStepOn stopStep l buf) l buf
 
 -- the session that a start is made on: a fresh one after an end; a running one stays, and the kernel refuses it (21)
 unfoldable pub sessionToStart : Session → Session
-sessionToStart s =
-    if isEnded (s .phase) then freshSession
-    else s
+sessionToStart s = if isEnded (s .phase) then freshSession else s
 
 -- the amount a of a start is reserved where what remains is no smaller, else 30; a start that ends its session
 -- (reason 7) gives it back at once

@@ -59,9 +59,7 @@ storedAmount b = amountOf (storedBytes b 0x9F02)
 
 -- what has to be reserved in a phase, by the store: the running session's amount, 0 where none runs
 unfoldable pub amountToReserve : Phase → StoreBytes → Amount
-amountToReserve p b =
-    if isRunning p then storedAmount b
-    else 0
+amountToReserve p b = if isRunning p then storedAmount b else 0
 
 -- what is reserved is what the phase requires, and with what remains it is at most the greatest amount
 unfoldable pub amountsFit : Cabinet → Bool
@@ -82,9 +80,7 @@ cabinetHeldBy l (some s) =
 
 -- the cabinet that bytes hold; none where they are too few, hold no record, or hold one that is not in order: 25
 unfoldable pub cabinetHeldIn : Bytes → Option Cabinet
-cabinetHeldIn l =
-    if cabinetStateSize ≤? length l then cabinetHeldBy l (decodedSession l)
-    else none
+cabinetHeldIn l = if cabinetStateSize ≤? length l then cabinetHeldBy l (decodedSession l) else none
 
 -- ---- what holds of it, proved in proofs/State
 --   state-read    a cabinet in order that was written is read back

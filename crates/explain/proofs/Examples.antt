@@ -37,7 +37,7 @@ use Rattle.explain.specs.declared.Stage.{Stage}
 use Rattle.explain.specs.declared.Holder.{Holder}
 use Rattle.explain.specs.declared.Explanation.{Explanation}
 use Rattle.explain.specs.Explain.{stageIn, decidingIn, bitHolder, actionCodesOfStage, explainedAt, cryptogramRank, explainedEnd, explainedEndBy}
-use Rattle.explain.specs.Word.{noBitNumber, choiceWord, explanationWord}
+use Rattle.explain.specs.Word.{choiceWord, explanationWord}
 use Rattle.explain.proofs.Along.{told, told-along}
 
 -- ---- numbers
@@ -115,7 +115,7 @@ lower = explanationWord Explanation.LowerCryptogram
 -- that does not fit is refused
 waiting-online : told (waiting Choice.Online 0x22 usual [] ∷ waiting Choice.Offline 0x22 usual ((0x9F0F, zero5) ∷ []) ∷ waiting Choice.Offline 0x22 usual []
     ∷ waiting Choice.Online 0x22 (five 0x80 0x40 0 0 0) ((0x9F0F, zero5) ∷ (0xDF8122, five 0 0x40 0 0 0) ∷ []) ∷ [])
-    ≡ choiceWord Stage.Online Holder.Card 0 ∷ choiceWord Stage.Online Holder.Nobody noBitNumber ∷ refused ∷ choiceWord Stage.Online Holder.Terminal 9 ∷ []
+    ≡ choiceWord Stage.Online Holder.Card 0 ∷ choiceWord Stage.Online Holder.Nobody 255 ∷ refused ∷ choiceWord Stage.Online Holder.Terminal 9 ∷ []
 unfolding stageIn decidingIn bitHolder actionCodesOfStage explainedAt numberedBit firstBytes stageHoldsBit lowestFrom lowestBit iacCode stageHolds onlineCapabilityAt choiceOf actionCodesOf choiceFor
     fitAlong rowPlaceFits fitsRow digitsFit numeric compressed digitsThenFs nibbles putRow rowNumberOf objectValueIn rowValue rowPlace placeValue rowOffset findRow rowPast dictionaryRows
     cryptogramRanges transactionLimit hasOnDeviceCvm onDeviceCvm amountOf bcdFrom runningRanges allRequiredPresent isPresentIfRequired lastResponseAbsent cryptogramDataPresent listedTerminalType acceptsAfl wholeEntries aflEntries validEntry sumOverEntries every both either if
@@ -135,8 +135,8 @@ waiting-denial = told-along _ _ refl
 waiting-types : told (waiting Choice.Online 0x21 usual [] ∷ waiting Choice.Decline 0x23 usual []
     ∷ waiting Choice.Decline 0x26 (five 0x80 0 0 0 1) ((0x9F0D, five 0 0 0 0 1) ∷ (0xDF8120, five 0 0 0 0 1) ∷ [])
     ∷ waiting Choice.Offline 0x36 usual ((0x9F0D, five 0x7F 0xFF 0xFF 0xFF 0xFF) ∷ []) ∷ [])
-    ≡ choiceWord Stage.OnlineOnly Holder.Nobody noBitNumber ∷ choiceWord Stage.Default Holder.Card 0 ∷ choiceWord Stage.Default Holder.Both 39
-    ∷ choiceWord Stage.Default Holder.Nobody noBitNumber ∷ []
+    ≡ choiceWord Stage.OnlineOnly Holder.Nobody 255 ∷ choiceWord Stage.Default Holder.Card 0 ∷ choiceWord Stage.Default Holder.Both 39
+    ∷ choiceWord Stage.Default Holder.Nobody 255 ∷ []
 unfolding stageIn decidingIn bitHolder actionCodesOfStage explainedAt numberedBit firstBytes stageHoldsBit lowestFrom lowestBit iacCode stageHolds onlineCapabilityAt choiceOf actionCodesOf choiceFor
     fitAlong rowPlaceFits fitsRow digitsFit numeric compressed digitsThenFs nibbles putRow rowNumberOf objectValueIn rowValue rowPlace placeValue rowOffset findRow rowPast dictionaryRows
     cryptogramRanges transactionLimit hasOnDeviceCvm onDeviceCvm amountOf bcdFrom runningRanges allRequiredPresent isPresentIfRequired lastResponseAbsent cryptogramDataPresent listedTerminalType acceptsAfl wholeEntries aflEntries validEntry sumOverEntries every both either if
@@ -147,7 +147,7 @@ waiting-types = told-along _ _ refl
 -- the cryptogram that was requested, and a lower one
 ended-given : told (ended 0 Outcome.OnlineRequest 0x80 [] ∷ ended 0 Outcome.Declined 0x00 [] ∷ ended 0 Outcome.OnlineRequest 0x80 ((0x9F0F, zero5) ∷ [])
     ∷ ended 0 Outcome.Approved 0x40 ((0x9F0F, zero5) ∷ []) ∷ [])
-    ≡ choiceWord Stage.Online Holder.Card 0 ∷ lower ∷ lower ∷ choiceWord Stage.Online Holder.Nobody noBitNumber ∷ []
+    ≡ choiceWord Stage.Online Holder.Card 0 ∷ lower ∷ lower ∷ choiceWord Stage.Online Holder.Nobody 255 ∷ []
 unfolding explainedEndBy explainedEnd cryptogramRank cryptogramOutcome stageIn decidingIn bitHolder actionCodesOfStage explainedAt numberedBit firstBytes stageHoldsBit lowestFrom lowestBit iacCode stageHolds onlineCapabilityAt choiceOf actionCodesOf choiceFor
     fitAlong rowPlaceFits fitsRow digitsFit numeric compressed digitsThenFs nibbles putRow rowNumberOf objectValueIn rowValue rowPlace placeValue rowOffset findRow rowPast dictionaryRows
     endedRanges reasonMatchesOutcome every both either if

@@ -191,6 +191,4 @@ explainedInPhase (Phase.Ended e)   b = explainedEndBy e b
 -- a record that is out of its ranges is refused, and so is one that lacks what the answer needs, or whose choice or
 -- outcome the rest of it does not give (25)
 unfoldable pub explanationOf : Session → Explanation
-explanationOf s =
-    if inRanges s then explainedInPhase (s .phase) (storeBytes s)
-    else Explanation.Refused
+explanationOf s = if inRanges s then explainedInPhase (s .phase) (storeBytes s) else Explanation.Refused

@@ -22,11 +22,7 @@ holderNumber Holder.Card     = 1
 holderNumber Holder.Terminal = 2
 holderNumber Holder.Both     = 3
 
--- the bit where none forced the choice
-abbrev pub noBitNumber : ℕ
-noBitNumber = 255
-
--- a choice by its stage, its holder and its bit
+-- a choice by its stage, its holder and its bit, 255 where none forced it
 abbrev pub choiceWord : Stage → Holder → ℕ → ResultWord
 choiceWord stage holder bit = 0x60000 + stageNumber stage * 4096 + holderNumber holder * 256 + bit
 
@@ -37,4 +33,4 @@ explanationWord (Explanation.Reason n)       = 0x30000 + n
 explanationWord Explanation.NoChoice         = 0x40000
 explanationWord Explanation.LowerCryptogram  = 0x50000
 explanationWord (Explanation.Forced c)       = choiceWord (c .stage) (c .holder) (c .bit)
-explanationWord (Explanation.Unforced stage) = choiceWord stage Holder.Nobody noBitNumber
+explanationWord (Explanation.Unforced stage) = choiceWord stage Holder.Nobody 255

@@ -66,9 +66,7 @@ hostAnswer card l buf = hostStepAdmitted (λ (s : Session) b. answerStep s card 
 
 -- a fresh record is written: 0, or 25 where the bytes are too few
 abbrev pub hostOpenWord : Bytes → ResultWord
-hostOpenWord l =
-    if recordSize ≤? length l then 0
-    else refusalWord refusedRanges
+hostOpenWord l = if recordSize ≤? length l then 0 else refusalWord refusedRanges
 
 -- the word, and the bytes before and after
 pub record HostOpened (w : ResultWord) (before after : Bytes) : Type 0 where

@@ -23,7 +23,7 @@ use Rattle.session_record.specs.Session.{endingOf}
 use Rattle.layout.specs.declared.PhaseCode.{PhaseCode}
 use Rattle.layout.specs.Layout.{layoutVersion, headSize, recordSize, phaseCode, awaitedCode, phaseCodeOf, bigEndianBytes, recordHead}
 use Rattle.layout.specs.Layout.{withNumber, choiceFrom, cvmFrom, outcomeFrom, awaitedOfCode, phaseOfCode}
-use Rattle.layout.specs.Layout.{limitBytesIn, phaseCodeIn, phaseIn, countIn, holdsRecord}
+use Rattle.layout.specs.Layout.{phaseCodeIn, phaseIn, countIn, holdsRecord}
 use Rattle.layout.proofs.Number.{eight-bytes}
 
 -- the transaction limit that a phase holds, 0 where it holds none
@@ -107,7 +107,7 @@ heldRecord l =
     recordSize ≤? length l
     and getD l 0 0 =? layoutVersion
     and samePhaseCode (phaseCodeOf (phaseIn l)) (phaseCodeIn l)
-    and bytesEqual (bigEndianBytes 8 (phaseCodeOf (phaseIn l) .limit)) (limitBytesIn l)
+    and bytesEqual (bigEndianBytes 8 (phaseCodeOf (phaseIn l) .limit)) (take 8 (drop 6 l))
 
 eqb-sym : (m n : ℕ) → eqb m n ≡ eqb n m
 eqb-sym m n = elim (bool-cases (eqb n m)) [
@@ -144,7 +144,7 @@ holds-record l = elim (bool-cases (recordSize ≤? length l)) [
       → bytesEqual (recordHead (phaseCodeOf (phaseIn l)) (countIn l)) (take headSize l)
       ≡ (getD l 0 0 =? layoutVersion
          and samePhaseCode (phaseCodeOf (phaseIn l)) (phaseCodeIn l)
-         and bytesEqual (bigEndianBytes 8 (phaseCodeOf (phaseIn l) .limit)) (limitBytesIn l))
+         and bytesEqual (bigEndianBytes 8 (phaseCodeOf (phaseIn l) .limit)) (take 8 (drop 6 l)))
   long [] h = absurd (omega arith)
   long (v ∷ []) h = absurd (omega arith)
   long (v ∷ n ∷ []) h = absurd (omega arith)

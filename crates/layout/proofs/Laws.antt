@@ -16,7 +16,7 @@ use Rattle.basics.specs.Alike.{bytesEqual}
 use Rattle.basics.specs.Choice.{if}
 use Rattle.basics.specs.Types.{Bytes}
 use Rattle.basics.proofs.Alike.{alike-refl, alike-eq}
-use Rattle.basics.proofs.Laws.{if-yes, if-no, if-ind, both-yes, both-left, both-right, both-no-left, both-no-right, bool-cases}
+use Rattle.basics.proofs.Laws.{if-yes, if-no, if-ind, both-yes, both-left, both-right, both-no-left, both-no-right, bool-cases, no}
 use Rattle.dictionary.specs.Rows.{storeSize}
 use Rattle.analysis.specs.declared.choice.Choice.{Choice}
 use Rattle.analysis.specs.Choice.{generateAcP1}
@@ -32,7 +32,7 @@ use Rattle.session_record.specs.Session.{storeBytes, sessionOf, endingOf}
 use Rattle.layout.specs.declared.PhaseCode.{PhaseCode}
 use Rattle.layout.specs.declared.RecordHead.{RecordHead}
 use Rattle.layout.specs.declared.RecordHeld.{RecordHeld}
-use Rattle.layout.specs.Layout.{headSize, recordSize, phaseCode, awaitedCode, phaseCodeOf, bigEndianBytes, recordHead, encodedSession}
+use Rattle.layout.specs.Layout.{layoutVersion, headSize, recordSize, phaseCode, awaitedCode, phaseCodeOf, bigEndianBytes, recordHead, encodedSession}
 use Rattle.layout.specs.Layout.{withNumber, choiceFrom, cvmFrom, outcomeFrom, awaitedOfCode, phaseOfCode, phaseCodeIn, phaseIn, countIn}
 use Rattle.layout.specs.Layout.{withSessionRecord, holdsRecord, decodedSession, recordHeld, storeOfSession}
 use Rattle.layout.proofs.Number.{bytes-length, bytes-number}
@@ -107,6 +107,19 @@ module _ (l : List ℕ) where
   pub decoded-some : recordSize ≤ length l → bytesEqual (ownHead l) (take headSize l) ≡ true → decodedSession l ≡ some (sessionIn l)
   unfolding decodedSession holdsRecord
   decoded-some h e = if-yes _ _ (both-yes _ _ (le-leb recordSize (length l) h) e)
+
+-- bytes of another version are no record
+other-version : (l : List ℕ) → eqb (getD l 0 0) layoutVersion ≡ false → bytesEqual (ownHead l) (take headSize l) ≡ false
+unfolding bytesEqual
+other-version [] e = refl
+other-version (v ∷ t) e =
+    both-no-left _ _ (elim (bool-cases (eqb layoutVersion v)) [
+      | inl y ↦ no (sym e ∙ eq-eqb v layoutVersion (sym (eqb-true layoutVersion v y)))
+      | inr n ↦ n
+    ])
+
+pub decoded-version : (l : List ℕ) → eqb (getD l 0 0) layoutVersion ≡ false → decodedSession l ≡ none
+decoded-version l e = decoded-head l (other-version l e)
 
 -- ---- the two laws
 

@@ -72,9 +72,7 @@ recordHead c n = layoutVersion ∷ c .number ∷ c .datum ∷ c .reason ∷ n �
 -- the first of some values with this number, else a last one
 unfoldable pub withNumber : {A : Type 0} → (A → ℕ) → List A → A → ℕ → A
 withNumber number [] last n = last
-withNumber number (x ∷ xs) last n =
-    if n =? number x then x
-    else withNumber number xs last n
+withNumber number (x ∷ xs) last n = if n =? number x then x else withNumber number xs last n
 
 -- the choice that a P1 requests, the CVM and the outcome of a number
 abbrev pub choiceFrom : Byte → Choice
@@ -119,12 +117,9 @@ withRecordHead p n l =
     if recordSize ≤? length l then withPrefix (recordHead (phaseCodeOf p) n) l
     else l
 
--- the eight bytes of the limit, the code, the phase and the count that a head has
-abbrev pub limitBytesIn : Bytes → Bytes
-limitBytesIn l = take 8 (drop 6 l)
-
+-- the code, the phase and the count that a head has
 abbrev pub phaseCodeIn : Bytes → PhaseCode
-phaseCodeIn l = phaseCode (getD l 1 0) (getD l 2 0) (getD l 3 0) (getD l 5 0) (bigEndian (limitBytesIn l))
+phaseCodeIn l = phaseCode (getD l 1 0) (getD l 2 0) (getD l 3 0) (getD l 5 0) (bigEndian (take 8 (drop 6 l)))
 
 abbrev pub phaseIn : Bytes → Phase
 phaseIn l = phaseOfCode (phaseCodeIn l)

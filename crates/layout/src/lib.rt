@@ -12,12 +12,12 @@ use session_record::{AwaitedChecksum, AwaitedRecord, AwaitedResponse, CallResult
 use session_record::{OutcomeParameters, Phase, RequestedCryptogram};
 ghost use mathlib.Core.Path.{_≡_};
 ghost use Prim.Native.Nat.{_+_, _*_, _≤_, _<_};
-ghost use lib.ListN.{length};
+ghost use lib.ListN.{length, take, drop};
 ghost use Rattle.basics.specs.Number.{bigEndian as numberOf};
 ghost use Rattle.dictionary.specs.Rows.{storeSize};
 ghost use Rattle.session_record.specs.Session.{sessionOf};
 ghost use Rattle.layout.specs.Layout.{layoutVersion, recordSize, awaitedCode, phaseCodeOf, recordHead, withRecordHead};
-ghost use Rattle.layout.specs.Layout.{choiceFrom, cvmFrom, outcomeFrom, awaitedOfCode, phaseOfCode, phaseCodeIn, limitBytesIn};
+ghost use Rattle.layout.specs.Layout.{choiceFrom, cvmFrom, outcomeFrom, awaitedOfCode, phaseOfCode, phaseCodeIn};
 ghost use Rattle.layout.specs.Layout.{decodedSession, recordHeld, WroteRecord, DecodesRecord};
 ghost use Rattle.layout.specs.Word.{commandWord, outcomeWord, refusalWord, resultWord};
 
@@ -285,7 +285,7 @@ fn head_of(code: PhaseCode, count: u8) -> [u8; HEAD]
 // The eight bytes that enough bytes have for the limit.
 fn limit_in(bytes: &[u8]) -> [u8; 8]
     requires { ⌜ recordSize ≤ length (now bytes) ⌝ }
-    ensures { λ r. ⌜ r ≡ limitBytesIn (now (bytes .entry)) ⌝ }
+    ensures { λ r. ⌜ r ≡ take 8 (drop 6 (now (bytes .entry))) ⌝ }
 {
     let mut limit = [0u8; 8];
     bytes::copy(&bytes[LIMIT..HEAD], &mut limit);

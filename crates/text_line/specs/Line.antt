@@ -38,9 +38,7 @@ lineWords =
 -- the word of a table with these characters
 abbrev pub wordInTable : List WordText → Bytes → LineWord
 wordInTable [] w = Unknown
-wordInTable (e ∷ es) w =
-    if bytesEqual w (e .text) then e .word
-    else wordInTable es w
+wordInTable (e ∷ es) w = if bytesEqual w (e .text) then e .word else wordInTable es w
 
 -- which word it is
 unfoldable pub lineWordOf : Bytes → LineWord
@@ -53,9 +51,7 @@ wrongLine p = Line.Wrong (record { number = p })
 
 -- a line with only blanks after its words
 unfoldable pub lineAlone : Bytes → Line → Line
-lineAlone rest line =
-    if length (pastFront (isOfKind Blank) rest) =? 0 then line
-    else wrongLine 5
+lineAlone rest line = if length (pastFront (isOfKind Blank) rest) =? 0 then line else wrongLine 5
 
 -- a start or an answer with the bytes that were decoded
 unfoldable pub lineOfBytes : (BytesCount → Line) → Decoded → Line

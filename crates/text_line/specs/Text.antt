@@ -20,16 +20,12 @@ isOfKind NotHash c = not (c =? 35)
 -- the longest part at the front whose characters all pass a test
 unfoldable pub longestFront : (Byte → Bool) → Bytes → Bytes
 longestFront f [] = []
-longestFront f (c ∷ s) =
-    if f c then c ∷ longestFront f s
-    else []
+longestFront f (c ∷ s) = if f c then c ∷ longestFront f s else []
 
 -- what follows that part
 unfoldable pub pastFront : (Byte → Bool) → Bytes → Bytes
 pastFront f [] = []
-pastFront f (c ∷ s) =
-    if f c then pastFront f s
-    else (c ∷ s)
+pastFront f (c ∷ s) = if f c then pastFront f s else (c ∷ s)
 
 -- a line without its comment: what is before the first '#'
 abbrev pub uncommented : Bytes → Bytes
