@@ -3,25 +3,23 @@
 -- all contents report and leave.
 -- Assumes nothing.
 use mathlib.Core.Path.{_≡_, refl, sym, ap, ap₂, subst, _∙_}
-use mathlib.Core.Bool.{true, false}
+use mathlib.Core.Bool.{true}
 use mathlib.Core.Logic.{inl, inr}
 use mathlib.Core.List.{List, [], _∷_}
 use Prim.Native.Nat.{ℕ, zero, suc, _+_, _-_, _*_, _≤_, _<_}
 use native.Mathlib.Numerals.{add-one}
 use native.Mathlib.Omega.{arith}
-use lib.ListN.{length, take, drop, getD, set, replicate, length-set}
+use lib.ListN.{length, getD, set, replicate, length-set}
 use lib.Seq.{getD-set-same, getD-set-other}
 use Rattle.basics.proofs.Order.{equal-or-not}
 use Rattle.tlv.specs.declared.TlvHeader.{TlvHeader}
-use Rattle.tlv.specs.declared.ObjectFront.the-variants as front
-use Rattle.tlv.specs.Object.{headerOf}
 use Rattle.tlv.specs.Tree.{parseTree}
 use Rattle.reading.specs.declared.Walked.{Walked}
 use Rattle.reading.specs.declared.Walked.the-variants.{Whole, Broken}
 use Rattle.reading.specs.Taking.{PrimitiveItem}
 use Rattle.reading.specs.Items.{tally, itemsIn, WalkFits, HasListed, ThenLists, Walks}
 use Rattle.reading.proofs.Items.{part}
-use Rattle.reading.proofs.Runs.{Run, has-listed, ended, bounds, deep, entered, node-same}
+use Rattle.reading.proofs.Runs.{Run, Next, has-listed, ended, bounds, small, deep, entered, node-same}
 
 -- ---- what the open templates still hold
 
@@ -146,9 +144,9 @@ module _ {s : List ℕ} {e : ℕ} {All : Walked → List ℕ → Type 0} {ends a
   run = record { fits = w .fits; before = w .before; inside = inside; tag = w .tags depth; same = w .same }
 
   -- one step on within it
-  pub on : {at′ n′ k′ : ℕ} {l′ : List ℕ} → Run s e stop (3 - length outside) inmost K All at′ n′ k′ l′ → Reached s e All ends around depth at′ n′ k′ l′
+  pub step : {at′ n′ k′ : ℕ} {l′ : List ℕ} → Run s e stop (3 - length outside) inmost K All at′ n′ k′ l′ → Reached s e All ends around depth at′ n′ k′ l′
   unfolding Left
-  on r = record {
+  step r = record {
     ends-four = w .ends-four;
     around-four = w .around-four;
     few = w .few;
@@ -191,9 +189,13 @@ module _ {s : List ℕ} {e : ℕ} {All : Walked → List ℕ → Type 0} {ends a
         same = λ r l′ h. ended run (omega arith) r l′ (subst (λ (fs : List Frame). Left s r l′ fs n (itemsIn s k l)) (sym opened-out) h);
       }
 
-  module _ (m : at < stop) (h : TlvHeader) (x : headerOf (part s at stop) ≡ front.Object h) where
+  pub more : (at ≡ stop → ⊥) → at < stop
+  more z = omega (arith, w .before)
+
+  -- an object that is next in it
+  module _ {h : TlvHeader} (x : Next s e stop (3 - length outside) inmost K All at n k l run h) where
     pub too-deep : h .template ≡ true → depth + 1 ≡ 4 → (l′ : List ℕ) → All Broken l′
-    too-deep p q l′ = let z = levels in deep run m h x p (omega arith) l′
+    too-deep p q l′ = let z = levels in deep x p (omega arith) l′
 
     -- where its value starts and ends
     abbrev from : ℕ
@@ -216,37 +218,37 @@ module _ {s : List ℕ} {e : ℕ} {All : Walked → List ℕ → Type 0} {ends a
       tag-is : getD around′ (depth + 1) 0 ≡ h .tag
       tag-is = getD-set-same around (depth + 1) (h .tag) 0 (omega (arith, w .few, w .around-four))
 
-      tags-in : h .tag < 0x1000000 → (i : ℕ) → getD around′ i 0 < 0x1000000
-      tags-in t i = elim (equal-or-not i (depth + 1)) [
-        | inl z ↦ rw (ap (λ (j : ℕ). getD around′ j 0) z ∙ tag-is) t
+      tags-in : (i : ℕ) → getD around′ i 0 < 0x1000000
+      tags-in i = elim (equal-or-not i (depth + 1)) [
+        | inl z ↦ rw (ap (λ (j : ℕ). getD around′ j 0) z ∙ tag-is) (small x)
         | inr z ↦ rw (getD-set-other around (depth + 1) i (h .tag) 0 z) (w .tags i)
       ]
 
       -- after it the template around it is left
-      nested-in : beyond ≤ stop → Nested ends′ e (depth + 1) beyond
+      nested-in : Nested ends′ e (depth + 1) beyond
       unfolding Nested
-      nested-in m = nested-set ends around (depth + 1) beyond (h .tag) e (depth + 1) beyond (omega arith) (rw (add-one depth) (m, w .nested))
+      nested-in =
+          nested-set ends around (depth + 1) beyond (h .tag) e (depth + 1) beyond (omega arith) (rw (add-one depth) (bounds x .1 .0, w .nested))
 
       opened-in : opened s ends′ around′ (depth + 1) beyond ≡ frame (part s beyond stop) inmost ∷ outside
       unfolding opened
       opened-in = opened-set ends around (depth + 1) beyond (h .tag) s (depth + 1) beyond (omega arith) ∙ rw (add-one depth)
 
-      pub push : h .template ≡ true → h .tag < 0x1000000 → Reached s e All ends′ around′ (depth + 1) from (n + 1) k l
+      pub push : h .template ≡ true → Reached s e All ends′ around′ (depth + 1) from (n + 1) k l
       unfolding Left
-      push p t =
-          let b = bounds run m h x in
+      push p =
           let z = levels in
           let d : 3 - suc (length outside) ≡ 3 - length outside - 1 = omega (arith, w .few) in
           record {
             ends-four = length-set ends (depth + 1) beyond ∙ w .ends-four;
             around-four = length-set around (depth + 1) (h .tag) ∙ w .around-four;
             few = omega (arith, w .few);
-            nested = rw end-is (nested-in (b .1 .0));
-            tags = tags-in t;
-            fits = entered run m h x;
+            nested = rw end-is nested-in;
+            tags = tags-in;
+            fits = entered x;
             before = rw end-is (omega arith);
             same = λ r l′ g.
-                node-same run m h x p (λ y. omega (arith, w .few)) r l′
+                node-same x p (λ y. omega (arith, w .few)) r l′
                 (subst (λ (j : ℕ). ThenLists (h .tag) (parseTree j (part s from beyond)) r (ThenLists inmost (parseTree (3 - length outside) (part s beyond stop)) r (K r l′)) (n + 1) (itemsIn s k l)) d
                 (subst (λ (fs : List Frame). Left s r l′ (frame (part s from beyond) (h .tag) ∷ fs) (n + 1) (itemsIn s k l)) opened-in
                 (rw (tag-is, end-is) at g)));

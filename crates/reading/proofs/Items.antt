@@ -3,12 +3,11 @@
 -- Assumes nothing.
 use mathlib.Core.Path.{_≡_, refl, sym, ap, ap₂, _∙_}
 use mathlib.Core.List.{List, [], _∷_, _++_}
-use Prim.Native.Nat.{ℕ, zero, suc, _+_, _-_, _*_, _/_, _%_, _≤_, _<_}
+use Prim.Native.Nat.{ℕ, zero, suc, _+_, _-_, _≤_, _<_}
 use native.Mathlib.Numerals.{add-one}
 use native.Mathlib.Omega.{arith}
 use lib.ListN.{length, getD, set, take, drop, length-take, length-drop, length-set}
-use lib.Seq.{take-nil, take-take, take-suc-set, drop-drop, drop-cons, getD-take, getD-drop, length-take-le}
-use borrow.Author.Tests.{leb-true}
+use lib.Seq.{take-nil, take-take, take-suc-set, drop-drop, drop-cons, getD-drop, length-take-le}
 use Rattle.basics.specs.Number.{bigEndian}
 use Rattle.basics.proofs.Laws.{if-ind}
 use Rattle.tlv.specs.declared.Tag.{Tag}
@@ -22,7 +21,7 @@ use Rattle.tlv.specs.declared.ObjectFront.the-variants.{Object, Broken}
 use Rattle.tlv.specs.Tag.{tagAt}
 use Rattle.tlv.specs.Length.{lengthAt}
 use Rattle.tlv.specs.Object.{headerOf, headerWithLength, headerWithTag, headerValue, behindObject}
-use Rattle.tlv.proofs.Laws.{Bytes, number-one, number-two, number-three, tag-fits, HeaderFits}
+use Rattle.tlv.proofs.Laws.{Bytes, contents-is, number-one, number-two, number-three, tag-fits, HeaderFits}
 use Rattle.reading.specs.Taking.{PrimitiveItem, primitiveItem}
 use Rattle.reading.specs.Items.{packedItem, itemTag, itemAround, valueStart, valueLength, valueIn, itemOf, mostItems, itemsOf, ValueInside, AllInside, itemsIn, WalkFits}
 
@@ -40,6 +39,10 @@ module _ (t a p n : ℕ) (around : a < 0x1000000) (some : 1 ≤ p) (place : p �
 
   pub inside-packed : (s : List ℕ) → p + n ≤ length s → ValueInside s packed
   inside-packed s h = rw (unpacked .1 .1 .0, unpacked .1 .1 .1) h
+
+-- the bytes that the code takes for a value
+pub code-value : (s : List ℕ) (x a n : ℕ) → a ≡ valueStart x → n ≡ valueLength x → take (a + n - a) (drop a s) ≡ valueIn s x
+code-value s x a n p q = contents-is s a n ∙ ap₂ (λ (i j : ℕ). take i (drop j s)) q p
 
 -- ---- lists
 

@@ -1,7 +1,7 @@
 -- The laws of taking objects: one for each way an object goes, and objects one after the other. Assumes nothing.
 use mathlib.Core.Path.{_≡_, refl, sym, ap, _∙_}
 use mathlib.Core.Bool.{Bool, true, false, not}
-use mathlib.Core.List.{List, [], _∷_, _++_}
+use mathlib.Core.List.{List, [], _∷_}
 use Prim.Native.Nat.{ℕ, _+_}
 use Rattle.basics.specs.Choice.{both}
 use Rattle.basics.proofs.Laws.{if-yes, if-no, both-true, both-right, both-no-left}
@@ -70,11 +70,6 @@ next-good answer b i e = if-yes _ _ e
 pub next-bad : (answer : ℕ) {g : Bool} (b : List ℕ) (i : PrimitiveItem) → g ≡ false → takeNext answer (takeState g b) i ≡ takeState g b
 unfolding takeNext
 next-bad answer b i e = if-no _ _ e
-
-pub take-join : (answer : ℕ) (w : TakeState) (is js : List PrimitiveItem) → takeAll answer w (is ++ js) ≡ takeAll answer (takeAll answer w is) js
-unfolding takeAll
-take-join answer w [] js = refl
-take-join answer w (i ∷ is) js = take-join answer (takeNext answer w i) is js
 
 -- the objects after one that was taken
 pub took : (answer : ℕ) (w : TakeState) {v : TakeState} (i : PrimitiveItem) (is : List PrimitiveItem) → v ≡ takeNext answer w i → takeAll answer w (i ∷ is) ≡ takeAll answer v is

@@ -5,15 +5,15 @@ use mathlib.Core.Path.{_≡_, refl, sym, ap, ap₂, subst, _∙_}
 use mathlib.Core.Bool.{Bool, true, false, not}
 use mathlib.Core.Logic.{_⊎_, inl, inr}
 use mathlib.Core.List.{List, [], _∷_, _++_}
-use Prim.Native.Nat.{ℕ, zero, suc, _+_, _-_, _*_, _/_, _%_, _≤_, _<_}
+use Prim.Native.Nat.{ℕ, zero, suc, _+_, _-_, _≤_, _<_}
 use native.Mathlib.Numerals.{add-one}
 use native.Mathlib.Omega.{arith}
 use lib.Dec.{eqb, leb}
-use lib.ListN.{length, getD, set, take, drop, replicate, length-take, length-drop, length-set, getD-replicate}
+use lib.ListN.{length, getD, set, take, drop, replicate, length-drop, length-set, getD-replicate}
 use lib.Seq.{take-suc, take-suc-set, drop-cons, getD-set-same, getD-set-other, getD-take, length-take-le}
 use borrow.Author.Tests.{eq-eqb, ne-eqb, eqb-true, le-leb, lt-leb}
 use Rattle.basics.specs.Choice.{if, both}
-use Rattle.basics.proofs.Laws.{if-yes, if-no, if-ind, bool-cases, both-left, both-right, both-yes, both-true, both-no-left, both-no-right}
+use Rattle.basics.proofs.Laws.{if-yes, if-no, if-ind, both-left, both-right, both-yes, both-true, both-no-left, both-no-right}
 use Rattle.basics.proofs.Order.{equal-or-not, le-or-gt}
 use Rattle.tlv.specs.Tag.{isPrivate}
 use Rattle.dictionary.specs.declared.Attributes.{Attributes}
@@ -25,7 +25,7 @@ use Rattle.dictionary.proofs.Fit.{fits-length}
 use Rattle.dictionary.proofs.Lent.{row-found}
 use Rattle.store.specs.Place.{StoredValue, bytesOfValue, rowOffset, lengthByte, isFree, putRow}
 use Rattle.store.proofs.Laws.{Fits, put-length, put-get, put-other, length-byte-at}
-use Rattle.store.proofs.Rows.{row-inside, fits-row, free-yes, free-no}
+use Rattle.store.proofs.Rows.{fits-row, free-yes, free-no}
 use Rattle.reading.specs.declared.ItemVerdict.{ItemVerdict}
 use Rattle.reading.specs.declared.ItemVerdict.the-variants.{Skipped, NotAllowed, ForRow}
 use Rattle.reading.specs.Taking.{PrimitiveItem, cardMaySet, allowedInResponse, allowedNow, TakeState, takeState, takeKnown, takeFound, takeItem, takeNext, takeAll}
@@ -73,6 +73,11 @@ row-fits answer i e = subst (ForFits i) e (go (findRow dictionaryRows (i .tag)) 
 
 -- ---- an object's number, as the code judges it: its tag, its row's attributes, the template around it and its value
 
+-- what is said where c is whether it may come into row k
+pub record Said (answer : ℕ) (s : List ℕ) (n k : ℕ) (c : Bool) : Type 0 where
+  pub barred : c ≡ false → NotAllowed ≡ judgeItem answer (itemOf s n)
+  pub row : c ≡ true → ForRow k ≡ judgeItem answer (itemOf s n)
+
 module _ (answer : ℕ) (s : List ℕ) (n : ℕ) {tag : ℕ} (t : tag ≡ itemTag n) {x : RowFound} (p : x ≡ findRow dictionaryRows tag) where
   abbrev object : PrimitiveItem
   object = itemOf s n
@@ -100,13 +105,12 @@ module _ (answer : ℕ) (s : List ℕ) (n : ℕ) {tag : ℕ} (t : tag ≡ itemTa
       allows : c ≡ allowedInResponse answer (rowAt k) (itemAround n) (valueIn s n)
       allows = row-comes answer (rowAt k) around v m u ∙ ap₂ (allowedInResponse answer (rowAt k)) d w
 
-      pub said-barred : c ≡ false → NotAllowed ≡ judgeItem answer object
+      pub said : Said answer s n k c
       unfolding judgeKnown
-      said-barred y = sym (known ∙ if-no _ _ (sym skips ∙ left) ∙ if-no _ _ (sym allows ∙ y))
-
-      pub said-row : c ≡ true → ForRow k ≡ judgeItem answer object
-      unfolding judgeKnown
-      said-row y = sym (known ∙ if-no _ _ (sym skips ∙ left) ∙ if-yes _ _ (sym allows ∙ y))
+      said = record {
+        barred = λ y. sym (known ∙ if-no _ _ (sym skips ∙ left) ∙ if-no _ _ (sym allows ∙ y));
+        row = λ y. sym (known ∙ if-no _ _ (sym skips ∙ left) ∙ if-yes _ _ (sym allows ∙ y));
+      }
 
 -- ---- a pending value
 
@@ -124,11 +128,14 @@ fitting-more s [] x h f = (f, tt)
 fitting-more s (y ∷ xs) x h f = (h .0, fitting-more s xs x (h .1) f)
 
 -- a value's bytes are as many as its length
-value-length : (s : List ℕ) (x : ℕ) → ValueInside s x → length (valueIn s x) ≡ valueLength x
-value-length s x h = length-take-le (valueLength x) (drop (valueStart x) s) (simp length-drop (omega arith))
+value-long : (s : List ℕ) (x : ℕ) → ValueInside s x → length (valueIn s x) ≡ valueLength x
+value-long s x h = length-take-le (valueLength x) (drop (valueStart x) s) (simp length-drop (omega arith))
+
+pub value-most : (s : List ℕ) (x : ℕ) → PendingFits s x → length (valueIn s x) ≤ rowAt (pendingRow x) .greatest
+value-most s x f = rw (value-long s x (f .inside)) (f .most)
 
 put-fits : (s b : List ℕ) (x : ℕ) → length b ≡ storeSize → PendingFits s x → Fits dictionaryRows b (pendingRow x) (valueIn s x)
-put-fits s b x l f = fits-row b (pendingRow x) (valueIn s x) l (f .row) (rw (value-length s x (f .inside)) (f .most))
+put-fits s b x l f = fits-row b (pendingRow x) (valueIn s x) l (f .row) (value-most s x f)
 
 -- the store keeps its size
 pub pending-sized : (s b xs : List ℕ) → length b ≡ storeSize → AllPendingFit s xs → length (withPending s b xs) ≡ storeSize
@@ -158,7 +165,7 @@ module _ (s b xs f : List ℕ) (h : PendingValues s b xs f) (k x : ℕ) (row : k
   more-put = laid-more s b xs number ∙ ap₂ (putRow dictionaryRows (withPending s b xs)) (parts .0) (rw (parts .1 .0, parts .1 .1))
 
   fits-here : Fits dictionaryRows (withPending s b xs) k (valueIn s x)
-  fits-here = fits-row (withPending s b xs) k (valueIn s x) (pending-sized s b xs (h .sized) (h .fitting)) row (rw (value-length s x inside) most)
+  fits-here = fits-row (withPending s b xs) k (valueIn s x) (pending-sized s b xs (h .sized) (h .fitting)) row (rw (value-long s x inside) most)
 
   -- what is free before: the store's place, and no mark
   was-free : (isFree dictionaryRows b k ≡ true) × (getD f k 0 ≡ 0)
@@ -172,7 +179,7 @@ module _ (s b xs f : List ℕ) (h : PendingValues s b xs f) (k x : ℕ) (row : k
     free-put j i (inl e) =
         subst (λ (y : ℕ). isFree dictionaryRows (putRow dictionaryRows (withPending s b xs) k (valueIn s x)) y ≡ both (isFree dictionaryRows b y) (eqb (getD f′ y 0) 0)) (sym e)
         (ap (λ (y : StoredValue). eqb (length (bytesOfValue y)) 0) (put-get dictionaryRows (withPending s b xs) k (valueIn s x) fits-here)
-        ∙ ap (λ (n : ℕ). eqb n 0) (value-length s x inside) ∙ sym mark ∙ sym (both-true _ (was-free .0)))
+        ∙ ap (λ (n : ℕ). eqb n 0) (value-long s x inside) ∙ sym mark ∙ sym (both-true _ (was-free .0)))
     free-put j i (inr n) =
         ap (λ (y : StoredValue). eqb (length (bytesOfValue y)) 0) (put-other dictionaryRows (withPending s b xs) k (valueIn s x) fits-here j n) ∙ h .free j i
         ∙ ap (λ (y : ℕ). both (isFree dictionaryRows b j) (eqb y 0)) (sym (others j n))
@@ -297,50 +304,81 @@ module _ {answer : ℕ} {s b l₀ : List ℕ} {n : ℕ} {l filled : List ℕ} {p
         ∙ took answer (takeState true (withPending s b (take p l))) (itemOf s x) left
         (sym (next-good answer (withPending s b (take p l)) (itemOf s x) refl ∙ item-judged answer (withPending s b (take p l)) (itemOf s x) ∙ ap (takeJudged (withPending s b (take p l)) (itemOf s x)) (sym e)))
 
-    module _ {v : ItemVerdict} (e : v ≡ judgeItem answer (itemOf s x)) where
-      pub judged-skipped : v ≡ Skipped → Judging answer s b l₀ n l filled p (i + 1)
-      judged-skipped q = record {
-        room = w .room;
-        few = omega (arith, w .few);
-        more = omega arith;
-        rest = λ j m. w .rest j (omega arith);
-        values = w .values;
-        same = next-taken Skipped (sym q ∙ e);
-      }
+-- an object that is next, and what is said of it
+pub record NextItem (answer : ℕ) (s b l₀ : List ℕ) (n : ℕ) (l filled : List ℕ) (p i : ℕ)
+    (w : Judging answer s b l₀ n l filled p i) (v : ItemVerdict) : Type 0 where
+  pub list : ItemList s n l₀
+  pub more : i < n
+  pub says : v ≡ judgeItem answer (itemOf s (getD l i 0))
 
-      pub judged-barred : v ≡ NotAllowed → takeAll answer (takeState true b) (itemsIn s n l₀) .good ≡ false
-      judged-barred q = ap (λ (t : TakeState). t .good) (next-taken NotAllowed (sym q ∙ e)) ∙ all-bad answer (withPending s b (take p l)) left refl
+module _ {answer : ℕ} {s b l₀ : List ℕ} {n : ℕ} {l filled : List ℕ} {p i : ℕ} {w : Judging answer s b l₀ n l filled p i} {v : ItemVerdict}
+    (z : NextItem answer s b l₀ n l filled p i w v) where
+  abbrev item : ℕ
+  item = getD l i 0
 
-      module _ (k : ℕ) (q : v ≡ ForRow k) where
-        pub row-is : (k < rowCount) × (valueLength x ≤ rowAt k .greatest)
-        row-is = let f = row-fits answer (itemOf s x) (sym e ∙ q) in (f .0, rw (value-length s x next-inside) at (f .1))
+  -- the store with what is pending in it
+  abbrev laid : List ℕ
+  laid = withPending s b (take p l)
 
-        module _ {r : Bool} (o : r ≡ both (isFree dictionaryRows b k) (eqb (getD filled k 0) 0)) where
-          free-is : r ≡ isFree dictionaryRows (withPending s b (take p l)) k
-          free-is = o ∙ sym (w .values .free k (row-is .0))
+  abbrev behind : List PrimitiveItem
+  behind = left (z .list) w (z .more)
 
-          pub judged-again : r ≡ false → takeAll answer (takeState true b) (itemsIn s n l₀) .good ≡ false
-          judged-again z =
-              ap (λ (t : TakeState). t .good) (next-taken (ForRow k) (sym q ∙ e))
-              ∙ all-bad answer (withPending s b (take p l)) left (if-no _ _ (sym free-is ∙ z))
+  abbrev All : TakeState
+  All = takeAll answer (takeState true b) (itemsIn s n l₀)
 
-          pub judged-put : r ≡ true → Judging answer s b l₀ n (set l p (packedPending k x)) (markRow filled k (valueLength x)) (p + 1) (i + 1)
-          judged-put z =
-              let y = packedPending k x in
-              let f = sym free-is ∙ z in
-              let t : take (p + 1) (set l p y) ≡ take p l ++ (y ∷ []) = rw (add-one p) (take-suc-set l p y (omega (arith, w .room, w .few, g .few))) in
-              let m = row-is in
-              record {
-                room = length-set l p y ∙ w .room;
-                few = omega (arith, w .few);
-                more = omega arith;
-                rest = λ j a. getD-set-other l p j y 0 (λ c. omega (arith, w .few)) ∙ w .rest j (omega arith);
-                values = rw t (values-more s b (take p l) filled (w .values) k x (m .0) next-inside (m .1) f);
-                same =
-                  next-taken (ForRow k) (sym q ∙ e)
-                  ∙ ap (λ (u : TakeState). takeAll answer u left)
-                  (if-yes _ _ f ∙ ap (takeState true) (sym (ap (withPending s b) t ∙ more-put s b (take p l) filled (w .values) k x (m .0) next-inside (m .1) f)));
-              }
+  taken : {u : ItemVerdict} → v ≡ u → All ≡ takeAll answer (takeJudged laid (itemOf s item) u) behind
+  taken {u} q = next-taken (z .list) w (z .more) u (sym q ∙ z .says)
+
+  pub judged-skipped : v ≡ Skipped → Judging answer s b l₀ n l filled p (i + 1)
+  judged-skipped q = record {
+    room = w .room;
+    few = omega (arith, w .few);
+    more = omega (arith, z .more);
+    rest = λ j m. w .rest j (omega arith);
+    values = w .values;
+    same = taken q;
+  }
+
+  pub judged-barred : v ≡ NotAllowed → All .good ≡ false
+  judged-barred q = ap (λ (t : TakeState). t .good) (taken q) ∙ all-bad answer laid behind refl
+
+  pub list-length : length l ≡ mostItems
+  list-length = w .room
+
+  pub pending-room : p < mostItems
+  pending-room = omega (arith, w .few, z .more, z .list .few)
+
+  module _ {k : ℕ} (q : v ≡ ForRow k) where
+    pub row-is : (k < rowCount) × (valueLength item ≤ rowAt k .greatest)
+    row-is =
+        let f = row-fits answer (itemOf s item) (sym (z .says) ∙ q) in
+        (f .0, rw (value-long s item (next-inside (z .list) w (z .more))) at (f .1))
+
+    module _ {r : Bool} (o : r ≡ both (isFree dictionaryRows b k) (eqb (getD filled k 0) 0)) where
+      free-is : r ≡ isFree dictionaryRows laid k
+      free-is = o ∙ sym (w .values .free k (row-is .0))
+
+      pub judged-again : r ≡ false → All .good ≡ false
+      judged-again d = ap (λ (t : TakeState). t .good) (taken q) ∙ all-bad answer laid behind (if-no _ _ (sym free-is ∙ d))
+
+      pub judged-put : r ≡ true → Judging answer s b l₀ n (set l p (packedPending k item)) (markRow filled k (valueLength item)) (p + 1) (i + 1)
+      judged-put d =
+          let y = packedPending k item in
+          let f = sym free-is ∙ d in
+          let m = row-is in
+          let v = next-inside (z .list) w (z .more) in
+          let t : take (p + 1) (set l p y) ≡ take p l ++ (y ∷ []) = rw (add-one p) (take-suc-set l p y (omega (arith, w .room, pending-room))) in
+          record {
+            room = length-set l p y ∙ w .room;
+            few = omega (arith, w .few);
+            more = omega (arith, z .more);
+            rest = λ j a. getD-set-other l p j y 0 (λ c. omega (arith, w .few)) ∙ w .rest j (omega arith);
+            values = rw t (values-more s b (take p l) filled (w .values) k item (m .0) v (m .1) f);
+            same =
+              taken q
+              ∙ ap (λ (u : TakeState). takeAll answer u behind)
+              (if-yes _ _ f ∙ ap (takeState true) (sym (ap (withPending s b) t ∙ more-put s b (take p l) filled (w .values) k item (m .0) v (m .1) f)));
+          }
 
 -- ---- putting the pending values one after the other
 
@@ -353,16 +391,13 @@ pub after-none : (s b l : List ℕ) → b ≡ withPending s b (take 0 l)
 unfolding withPending
 after-none s b l = refl
 
-module _ (s b l : List ℕ) (n : ℕ) (h : PendingList s n l) (i : ℕ) (lt : i < n) where
-  pub value-fits : PendingFits s (getD l i 0)
-  value-fits =
-      subst (PendingFits s) (getD-take n l i 0 lt)
-      (fitting-at s (take n l) i (h .fitting) (omega (arith, length-take-le n l (omega (arith, h .room, h .few)))))
+pub value-fits : (s l : List ℕ) (n : ℕ) → PendingList s n l → (i : ℕ) → i < n → PendingFits s (getD l i 0)
+value-fits s l n h i lt =
+    subst (PendingFits s) (getD-take n l i 0 lt)
+    (fitting-at s (take n l) i (h .fitting) (omega (arith, length-take-le n l (omega (arith, h .room, h .few)))))
 
-  pub value-long : length (valueIn s (getD l i 0)) ≡ valueLength (getD l i 0)
-  value-long = value-length s (getD l i 0) (value-fits .inside)
-
-  pub after-one : putRow dictionaryRows (withPending s b (take i l)) (pendingRow (getD l i 0)) (valueIn s (getD l i 0)) ≡ withPending s b (take (i + 1) l)
-  after-one =
-      let e : take (i + 1) l ≡ take i l ++ (getD l i 0 ∷ []) = rw (add-one i) (take-suc l i 0 (omega (arith, h .room, h .few))) in
-      sym (ap (withPending s b) e ∙ laid-more s b (take i l) (getD l i 0))
+pub after-one : (s b l : List ℕ) (n : ℕ) → PendingList s n l → (i : ℕ) → i < n
+    → putRow dictionaryRows (withPending s b (take i l)) (pendingRow (getD l i 0)) (valueIn s (getD l i 0)) ≡ withPending s b (take (i + 1) l)
+after-one s b l n h i lt =
+    let e : take (i + 1) l ≡ take i l ++ (getD l i 0 ∷ []) = rw (add-one i) (take-suc l i 0 (omega (arith, h .room, h .few))) in
+    sym (ap (withPending s b) e ∙ laid-more s b (take i l) (getD l i 0))

@@ -1,11 +1,11 @@
 -- A run of objects, one at a time, and whatever follows it: what is left of the run after an object lists what the
 -- whole run lists. From the parse's laws; both walks cite these.
 -- Assumes nothing.
-use mathlib.Core.Path.{_≡_, refl, sym, ap, ap₂, subst, _∙_}
+use mathlib.Core.Path.{_≡_, refl, sym, ap, subst, _∙_}
 use mathlib.Core.Bool.{true, false}
 use mathlib.Core.List.{List, [], _∷_, _++_, append-assoc, append-nil}
 use mathlib.Core.Option.{Option, some, none}
-use Prim.Native.Nat.{ℕ, _+_, _-_, _*_, _≤_, _<_}
+use Prim.Native.Nat.{ℕ, _+_, _-_, _≤_, _<_}
 use native.Mathlib.Omega.{arith}
 use lib.ListN.{length, getD, set, length-append}
 use borrow.Author.Tests.{ne-eqb}
@@ -15,16 +15,16 @@ use Rattle.tlv.specs.declared.ObjectFront.the-variants as front
 use Rattle.tlv.specs.declared.Following.the-variants.{End, Inner, Malformed}
 use Rattle.tlv.specs.Object.{headerOf, headerValue, behindObject}
 use Rattle.tlv.specs.Tree.{Forest, end, leaf, node, objectCount, frontNext, nextOf, withLeaf, withNode, parseTree}
-use Rattle.tlv.proofs.Laws.{Bytes, header-fits}
+use Rattle.tlv.proofs.Laws.{Bytes, HeaderFits, header-fits}
 use Rattle.tlv.proofs.NextObject.{next-empty, next-object}
 use Rattle.tlv.proofs.Tree.{parse-end, parse-malformed, parse-deep, parse-node, parse-leaf, parse-count, zeros-in-front}
 use Rattle.reading.specs.declared.Tally.{Tally}
 use Rattle.reading.specs.declared.Walked.{Walked}
 use Rattle.reading.specs.declared.Walked.the-variants.{Whole, Broken}
 use Rattle.reading.specs.Taking.{PrimitiveItem, primitiveItem, primitiveItems}
-use Rattle.reading.specs.Items.{packedItem, itemOf, tally, mostItems, itemsIn, ItemList, WalkFits, HasListed, ThenLists, Walks}
+use Rattle.reading.specs.Items.{packedItem, tally, mostItems, itemsIn, WalkFits, HasListed, ThenLists, Walks}
 use Rattle.reading.proofs.Items.{part, part-empty, part-bytes, part-length, part-cons, object-inside, value-in, value-part, behind-part, tag-small}
-use Rattle.reading.proofs.Items.{item-packed, inside-packed, items-more, items-listed, pass, enter, has-room, list}
+use Rattle.reading.proofs.Items.{item-packed, inside-packed, items-more, items-listed, pass, enter, has-room, list, within}
 
 pub whole-broken : (t : Tally) → Whole t ≡ Broken → ⊥
 whole-broken t e = let z : _≡_ {A = ℕ} 0 1 = cc in omega arith
@@ -133,134 +133,135 @@ has-listed {s} {a} {e} {n} {k} {l} w =
 
 module _ {s : List ℕ} {e stop levels around : ℕ} {K : Walked → List ℕ → ℕ → List PrimitiveItem → Type 0} {All : Walked → List ℕ → Type 0}
     {at n k : ℕ} {l : List ℕ} (w : Run s e stop levels around K All at n k l) where
-  -- what is left of the contents
-  abbrev rest : List ℕ
-  rest = part s at stop
-
   pub stops : stop ≤ length s
   stops = omega (arith, w .inside, w .fits .ends)
 
   pub ended : stop ≤ at → (r : Walked) (l′ : List ℕ) → K r l′ n (itemsIn s k l) → All r l′
   ended z r l′ h =
       w .same r l′
-      (then-end around r (K r l′) n (itemsIn s k l) levels rest (next-empty rest (ap length (part-empty s at stop z))) h)
+      (then-end around r (K r l′) n _ levels _ (next-empty _ (ap length (part-empty s at stop z))) h)
+
+  -- a walk that stands elsewhere in the same contents
+  on : {at′ n′ k′ : ℕ} {l₁ : List ℕ} → WalkFits s at′ e n′ k′ l₁ → at′ ≤ stop
+      → ((r : Walked) (l′ : List ℕ) → ThenLists around (parseTree levels (part s at′ stop)) r (K r l′) n′ (itemsIn s k′ l₁) → All r l′)
+      → Run s e stop levels around K All at′ n′ k′ l₁
+  on f b h = record { fits = f; before = b; inside = w .inside; tag = w .tag; same = h }
 
   module _ (m : at < stop) where
-    rest-cons : rest ≡ getD s at 0 ∷ part s (at + 1) stop
+    rest-cons : part s at stop ≡ getD s at 0 ∷ part s (at + 1) stop
     rest-cons = part-cons s at stop stops m
 
     pub padding : getD s at 0 ≡ 0 → Run s e stop levels around K All (at + 1) n k l
-    padding q = record {
-      fits = pass (w .fits) (at + 1) (omega (arith, w .inside)) (omega arith);
-      before = omega arith;
-      inside = w .inside;
-      tag = w .tag;
-      same = λ r l′ h.
-          w .same r l′
-          (then-padding around r (K r l′) n (itemsIn s k l) levels (part s (at + 1) stop) rest (rest-cons ∙ ap (λ (b : ℕ). b ∷ part s (at + 1) stop) q) h);
-    }
+    padding q =
+        on (pass (w .fits) (at + 1) (omega (arith, w .inside)) (omega arith)) (omega arith)
+        (λ r l′ h. w .same r l′ (then-padding around r (K r l′) n _ levels _ _ (rest-cons ∙ ap (λ (b : ℕ). b ∷ part s (at + 1) stop) q) h))
 
-    pub failed : (getD s at 0 ≡ 0 → ⊥) → headerOf rest ≡ front.Broken → (l′ : List ℕ) → All Broken l′
+    pub failed : (getD s at 0 ≡ 0 → ⊥) → headerOf (part s at stop) ≡ front.Broken → (l′ : List ℕ) → All Broken l′
     failed q x l′ =
         w .same Broken l′
-        (then-malformed around Broken (K Broken l′) n (itemsIn s k l) levels rest
-        (ap nextOf rest-cons ∙ next-broken _ _ q (ap headerOf (sym rest-cons) ∙ x)) refl)
+        (then-malformed around Broken (K Broken l′) n _ levels _ (ap nextOf rest-cons ∙ next-broken _ _ q (ap headerOf (sym rest-cons) ∙ x)) refl)
 
-    module _ (h : TlvHeader) (x : headerOf rest ≡ front.Object h) where
-      -- where its value starts and ends
-      abbrev from : ℕ
-      from = at + h .start
+-- the object that is next there, in bytes
+pub record Next (s : List ℕ) (e stop levels around : ℕ) (K : Walked → List ℕ → ℕ → List PrimitiveItem → Type 0) (All : Walked → List ℕ → Type 0)
+    (at n k : ℕ) (l : List ℕ) (w : Run s e stop levels around K All at n k l) (h : TlvHeader) : Type 0 where
+  pub bytes : Bytes s
+  pub more : at < stop
+  pub is : headerOf (part s at stop) ≡ front.Object h
 
-      abbrev beyond : ℕ
-      beyond = from + h .len
+module _ {s : List ℕ} {e stop levels around : ℕ} {K : Walked → List ℕ → ℕ → List PrimitiveItem → Type 0} {All : Walked → List ℕ → Type 0}
+    {at n k : ℕ} {l : List ℕ} {w : Run s e stop levels around K All at n k l} {h : TlvHeader} (x : Next s e stop levels around K All at n k l w h) where
+  -- what is left of the contents, and where the object's value starts and ends
+  abbrev rest : List ℕ
+  rest = part s at stop
 
-      pub bounds : (2 ≤ h .start) × ((beyond ≤ stop) × (beyond ≤ e))
-      bounds = let o = object-inside s at stop stops h (header-fits rest h x) in (o .0, (o .1, omega (arith, w .inside)))
+  abbrev from : ℕ
+  from = at + h .start
 
-      pub small : Bytes s → h .tag < 0x1000000
-      small b = tag-small rest h (part-bytes s at stop b) x
+  abbrev beyond : ℕ
+  beyond = from + h .len
 
-      pub deep : h .template ≡ true → levels ≡ 0 → (l′ : List ℕ) → All Broken l′
-      deep p q l′ =
-          w .same Broken l′ (then-deep around Broken (K Broken l′) n (itemsIn s k l) levels rest h (next-object rest h x) p q refl)
+  fits : HeaderFits rest h
+  fits = header-fits rest h (x .is)
 
-      -- a primitive object is listed
-      abbrev number : ℕ
-      number = packedItem (h .tag) around from (h .len)
+  next : nextOf rest ≡ Inner h
+  next = next-object rest h (x .is)
 
-      pub number-fits : (1 ≤ from) × ((from ≤ 256) × (h .len < 256))
-      number-fits = let b = bounds in (omega arith, (omega (arith, w .fits .short), omega (arith, w .fits .short)))
+  pub bounds : (2 ≤ h .start) × ((beyond ≤ stop) × (beyond ≤ e))
+  bounds = let o = object-inside s at stop (stops w) h fits in (o .0, (o .1, omega (arith, w .inside)))
 
-      pub room : k < mostItems
-      room = let b = bounds in has-room (w .fits) beyond (b .1 .1) (omega arith)
+  pub small : h .tag < 0x1000000
+  small = tag-small rest h (part-bytes s at stop (x .bytes)) (x .is)
 
-      pub listed : h .template ≡ false → Run s e stop levels around K All beyond (n + 1) (k + 1) (set l k number)
-      listed p =
-          let b = bounds in
-          let f = number-fits in
-          let v : itemOf s number ≡ primitiveItem around (h .tag) (headerValue rest h) =
-            item-packed (h .tag) around from (h .len) (w .tag) (f .0) (f .1 .0) (f .1 .1) s
-            ∙ ap (primitiveItem around (h .tag)) (sym (value-in s at stop stops h (header-fits rest h x))) in
-          let m = items-more s l k number (omega (arith, room, w .fits .room)) ∙ ap (λ (i : PrimitiveItem). itemsIn s k l ++ (i ∷ [])) v in
+  pub list-length : length l ≡ mostItems
+  list-length = w .fits .room
+
+  pub deep : h .template ≡ true → levels ≡ 0 → (l′ : List ℕ) → All Broken l′
+  deep p q l′ = w .same Broken l′ (then-deep around Broken (K Broken l′) n _ levels rest h next p q refl)
+
+  -- a primitive object is listed
+  abbrev number : ℕ
+  number = packedItem (h .tag) around from (h .len)
+
+  pub number-fits : (h .tag < 0x1000000) × (around < 0x1000000) × (1 ≤ from) × (from ≤ 256) × (h .len < 256)
+  number-fits = let b = bounds in (small, w .tag, omega arith, omega (arith, w .fits .short), omega (arith, w .fits .short))
+
+  pub room : k < mostItems
+  room = let b = bounds in has-room (w .fits) beyond (b .1 .1) (omega arith)
+
+  pub listed : h .template ≡ false → Run s e stop levels around K All beyond (n + 1) (k + 1) (set l k number)
+  listed p =
+      let b = bounds in
+      let f = number-fits in
+      let v = item-packed (h .tag) around from (h .len) (f .1) (f .2) (f .3) (f .4) s ∙ ap (primitiveItem around (h .tag)) (sym (value-in s at stop (stops w) h fits)) in
+      let m = items-more s l k number (omega (arith, room, list-length)) ∙ ap (λ (i : PrimitiveItem). itemsIn s k l ++ (i ∷ [])) v in
+      on w
+      (list (w .fits) beyond (b .1 .1) (omega arith) number (inside-packed (h .tag) around from (h .len) (f .1) (f .2) (f .3) (f .4) s (omega (arith, stops w))))
+      (b .1 .0)
+      (λ r l′ g. w .same r l′ (then-leaf around r (K r l′) n _ levels rest h next p (rw (m, behind-part s at stop (stops w) h fits) at g)))
+
+  -- a template, what it holds, and what follows it
+  pub entered : WalkFits s from e (n + 1) k l
+  entered = let b = bounds in enter (w .fits) from (omega arith) (omega arith)
+
+  pub entered-alone : WalkFits s from beyond (n + 1) k l
+  entered-alone = within entered beyond (omega arith) (bounds .1 .1)
+
+  module _ (p : h .template ≡ true) (q : levels ≡ 0 → ⊥) where
+    abbrev tree : Option Forest
+    tree = parseTree (levels - 1) (part s from beyond)
+
+    pub node-same : (r : Walked) (l′ : List ℕ) → ThenLists (h .tag) tree r (ThenLists around (parseTree levels (part s beyond stop)) r (K r l′)) (n + 1) (itemsIn s k l) → All r l′
+    node-same r l′ g =
+        w .same r l′
+        (then-node around r (K r l′) n _ levels rest h next p q (rw (value-part s at stop (stops w) h fits, behind-part s at stop (stops w) h fits) at g))
+
+    -- whose contents a walk has reported
+    module _ (l₁ : List ℕ) where
+      pub inner-broken : Walks s (h .tag) tree (n + 1) k l Broken l₁ → (l′ : List ℕ) → All Broken l′
+      inner-broken g l′ = node-same Broken l′ (broken-run s (h .tag) (n + 1) _ l₁ tree _ g)
+
+      inner-fits : (u : Tally) (f : Option Forest) → tree ≡ f → Walks s (h .tag) f (n + 1) k l (Whole u) l₁ → WalkFits s beyond e (u .objects) (u .items) l₁
+      inner-fits u none z g = absurd (whole-broken u g)
+      inner-fits u (some f) z g =
+          let is = primitiveItems (h .tag) f in
+          let i : u ≡ tally (n + 1 + objectCount f) (length (itemsIn s k l ++ is)) = cc in
+          let o : u .objects ≡ n + 1 + objectCount f = ap (λ (t : Tally). t .objects) i in
+          let y : u .items ≡ length (itemsIn s k l ++ is) = ap (λ (t : Tally). t .items) i in
+          let j = length-append (itemsIn s k l) is in
+          let d = items-listed (w .fits) in
+          let a = few-items (h .tag) f in
+          let c = parse-count (levels - 1) (part s from beyond) f z in
+          let m = part-length s from beyond (omega (arith, stops w, bounds .1 .0)) in
           record {
-            fits = list (w .fits) beyond (b .1 .1) (omega arith) number (inside-packed (h .tag) around from (h .len) (w .tag) (f .0) (f .1 .0) (f .1 .1) s (omega (arith, stops)));
-            before = b .1 .0;
-            inside = w .inside;
-            tag = w .tag;
-            same = λ r l′ g.
-                w .same r l′
-                (then-leaf around r (K r l′) n (itemsIn s k l) levels rest h (next-object rest h x) p
-                (subst (λ (is : List PrimitiveItem). ThenLists around (parseTree levels (behindObject rest h)) r (K r l′) (n + 1) is) m
-                (subst (λ (v : List ℕ). ThenLists around (parseTree levels v) r (K r l′) (n + 1) (itemsIn s (k + 1) (set l k number))) (behind-part s at stop stops h (header-fits rest h x)) g)));
+            begins = bounds .1 .1;
+            ends = w .fits .ends;
+            short = w .fits .short;
+            fewer = omega (arith, w .fits .fewer);
+            half = omega (arith, w .fits .half, bounds);
+            room = g .items .room;
+            inside = rw y (g .items .inside);
           }
 
-      -- a template, what it holds, and what follows it
-      pub entered : WalkFits s from e (n + 1) k l
-      entered = let b = bounds in enter (w .fits) from (omega arith) (omega arith)
-
-      pub node-same : h .template ≡ true → (levels ≡ 0 → ⊥) → (r : Walked) (l′ : List ℕ)
-          → ThenLists (h .tag) (parseTree (levels - 1) (part s from beyond)) r (ThenLists around (parseTree levels (part s beyond stop)) r (K r l′)) (n + 1) (itemsIn s k l)
-          → All r l′
-      node-same p q r l′ g =
-          w .same r l′
-          (then-node around r (K r l′) n (itemsIn s k l) levels rest h (next-object rest h x) p q
-          (subst (λ (v : List ℕ). ThenLists (h .tag) (parseTree (levels - 1) v) r (ThenLists around (parseTree levels (behindObject rest h)) r (K r l′)) (n + 1) (itemsIn s k l)) (value-part s at stop stops h (header-fits rest h x))
-          (subst (λ (v : List ℕ). ThenLists (h .tag) (parseTree (levels - 1) (part s from beyond)) r (ThenLists around (parseTree levels v) r (K r l′)) (n + 1) (itemsIn s k l)) (behind-part s at stop stops h (header-fits rest h x)) g)))
-
-      -- a template whose contents a walk has reported
-      module _ (p : h .template ≡ true) (q : levels ≡ 0 → ⊥) (l₁ : List ℕ) where
-        abbrev tree : Option Forest
-        tree = parseTree (levels - 1) (part s from beyond)
-
-        pub inner-broken : Walks s (h .tag) tree (n + 1) k l Broken l₁ → (l′ : List ℕ) → All Broken l′
-        inner-broken g l′ = node-same p q Broken l′ (broken-run s (h .tag) (n + 1) (itemsIn s k l) l₁ tree _ g)
-
-        inner-fits : (u : Tally) (f : Option Forest) → tree ≡ f → Walks s (h .tag) f (n + 1) k l (Whole u) l₁ → WalkFits s beyond e (u .objects) (u .items) l₁
-        inner-fits u none z g = absurd (whole-broken u g)
-        inner-fits u (some f) z g =
-            let b = bounds in
-            let i : u ≡ tally (n + 1 + objectCount f) (length (itemsIn s k l ++ primitiveItems (h .tag) f)) = cc in
-            let o : u .objects ≡ n + 1 + objectCount f = ap (λ (t : Tally). t .objects) i in
-            let y : u .items ≡ length (itemsIn s k l ++ primitiveItems (h .tag) f) = ap (λ (t : Tally). t .items) i in
-            let j : u .items ≡ k + length (primitiveItems (h .tag) f) = y ∙ length-append (itemsIn s k l) (primitiveItems (h .tag) f) ∙ ap (λ (m : ℕ). m + length (primitiveItems (h .tag) f)) (items-listed (w .fits)) in
-            let c = parse-count (levels - 1) (part s from beyond) f z in
-            let d = part-length s from beyond (omega (arith, stops)) in
-            let v = few-items (h .tag) f in
-            record {
-              begins = b .1 .1;
-              ends = w .fits .ends;
-              short = w .fits .short;
-              fewer = omega (arith, w .fits .fewer);
-              half = omega (arith, w .fits .half);
-              room = g .items .room;
-              inside = rw y (g .items .inside);
-            }
-
-        pub inner-whole : (u : Tally) → Walks s (h .tag) tree (n + 1) k l (Whole u) l₁ → Run s e stop levels around K All beyond (u .objects) (u .items) l₁
-        inner-whole u g = record {
-          fits = inner-fits u tree refl g;
-          before = bounds .1 .0;
-          inside = w .inside;
-          tag = w .tag;
-          same = λ r l′ y. node-same p q r l′ (whole-run s (h .tag) (n + 1) (itemsIn s k l) l₁ u tree r (ThenLists around (parseTree levels (part s beyond stop)) r (K r l′)) g y);
-        }
+      pub inner-whole : (u : Tally) → Walks s (h .tag) tree (n + 1) k l (Whole u) l₁ → Run s e stop levels around K All beyond (u .objects) (u .items) l₁
+      inner-whole u g =
+          on w (inner-fits u tree refl g) (bounds .1 .0) (λ r l′ y. node-same r l′ (whole-run s (h .tag) (n + 1) _ l₁ u tree r _ g y))

@@ -254,9 +254,9 @@ pub no-parts : (s l : List ℕ) → length l ≡ mostItems → PartList s 0 l []
 unfolding itemsOf
 no-parts s l e = record { list = record { room = e; few = omega arith; inside = tt }; are = refl }
 
-pub add-part : {s : List ℕ} {k : ℕ} {l : List ℕ} {is : List PrimitiveItem} → PartList s k l is → k < mostItems → (t p n : ℕ) → 1 ≤ p → p + n ≤ length s → p + n ≤ 256
-    → n < 256 → PartList s (k + 1) (set l k (packedItem t 0x77 p n)) (is ++ (primitiveItem 0x77 t (take n (drop p s)) ∷ []))
-add-part {s} {k} {l} {is} w h t p n i j m c =
+add-part : {s : List ℕ} {k : ℕ} {l : List ℕ} {is : List PrimitiveItem} → PartList s k l is → k < mostItems → (t p n : ℕ) → 1 ≤ p → p + n ≤ length s → p + n ≤ 256
+    → n < 256 → (v : List ℕ) → take n (drop p s) ≡ v → PartList s (k + 1) (set l k (packedItem t 0x77 p n)) (is ++ (primitiveItem 0x77 t v ∷ []))
+add-part {s} {k} {l} {is} w h t p n i j m c v e =
     let x = packedItem t 0x77 p n in
     let q : p ≤ 256 = omega arith in
     let d : k < length l = omega (arith, w .list .room) in
@@ -268,25 +268,35 @@ add-part {s} {k} {l} {is} w h t p n i j m c =
       };
       are =
         items-more s l k x d
-        ∙ ap₂ (λ (js : List PrimitiveItem) (y : PrimitiveItem). js ++ (y ∷ [])) (w .are) (item-packed t 0x77 p n (omega arith) i q c s);
+        ∙ ap₂ (λ (js : List PrimitiveItem) (y : PrimitiveItem). js ++ (y ∷ [])) (w .are)
+        (item-packed t 0x77 p n (omega arith) i q c s ∙ ap (primitiveItem 0x77 t) e);
     }
 
--- parts of a value of n bytes that starts at a place
+-- parts of a value of n bytes that starts at a place: at its front, within it, and the rest of it
 module _ (s : List ℕ) (start n : ℕ) where
   abbrev pub value : List ℕ
   value = take n (drop start s)
 
-  pub value-middle : (m j : ℕ) → m + j ≤ n → take j (drop (start + m) s) ≡ take j (drop m value)
-  value-middle m j h =
-      let i : j ≤ n - m = omega arith in
-      sym
-      (ap (take j) (drop-take m n (drop start s)) ∙ take-take j (n - m) (drop m (drop start s)) i ∙ ap (take j) (drop-drop m start s))
-
-  pub value-behind : (m : ℕ) → take (n - m) (drop (start + m) s) ≡ drop m value
-  value-behind m = sym (drop-take m n (drop start s) ∙ ap (take (n - m)) (drop-drop m start s))
-
   value-size : start + n ≤ length s → length value ≡ n
   value-size h = simp (length-take, length-drop) (omega arith)
+
+  module _ (a : 2 ≤ start) (b : start + n ≤ 256) (i : start + n ≤ length s) where
+    pub front-part : (l : List ℕ) → length l ≡ mostItems → (t j : ℕ) → j ≤ n → PartList s 1 (set l 0 (packedItem t 0x77 start j)) (primitiveItem 0x77 t (take j value) ∷ [])
+    front-part l e t j h =
+        add-part (no-parts s l e) (omega arith) t start j (omega arith) (omega arith) (omega arith) (omega arith) (take j value)
+        (sym (take-take j n (drop start s) h))
+
+    module _ {k : ℕ} {l : List ℕ} {is : List PrimitiveItem} (w : PartList s k l is) (t m : ℕ) (few : k < mostItems) where
+      behind : drop m value ≡ take (n - m) (drop (start + m) s)
+      behind = drop-take m n (drop start s) ∙ ap (take (n - m)) (drop-drop m start s)
+
+      pub next-part : (j : ℕ) → m + j ≤ n → PartList s (k + 1) (set l k (packedItem t 0x77 (start + m) j)) (is ++ (primitiveItem 0x77 t (take j (drop m value)) ∷ []))
+      next-part j h =
+          add-part w few t (start + m) j (omega arith) (omega arith) (omega arith) (omega arith) (take j (drop m value))
+          (sym (ap (take j) behind ∙ take-take j (n - m) (drop (start + m) s) (omega arith)))
+
+      pub last-part : m ≤ n → PartList s (k + 1) (set l k (packedItem t 0x77 (start + m) (n - m))) (is ++ (primitiveItem 0x77 t (drop m value) ∷ []))
+      last-part h = add-part w few t (start + m) (n - m) (omega arith) (omega arith) (omega arith) (omega arith) (drop m value) (sym behind)
 
 module _ (a : Awaited) (f : List ℕ → Option (List PrimitiveItem)) (start n : ℕ) (l : List ℕ) where
   pub parts-none : {y : Listing} → ((v : List ℕ) → length v ≡ n → f v ≡ none) → y ≡ Decided (readingOf Malformed 1) → ListsParts a f start n y l

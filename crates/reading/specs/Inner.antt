@@ -13,11 +13,11 @@ use Rattle.basics.specs.Types.{Bytes, StoreBytes, Response, Value, Tag, Length,
 use Rattle.tlv.specs.declared.TlvHeader.{TlvHeader}
 use Rattle.tlv.specs.declared.ObjectFront.{ObjectFront}
 use Rattle.tlv.specs.declared.ObjectFront.the-variants as front
-use Rattle.tlv.specs.Object.{headerOf, headerValue}
+use Rattle.tlv.specs.Object.{headerOf}
 use Rattle.tlv.specs.Tree.{parseTree}
 use Rattle.reading.specs.declared.Awaited.{Awaited}
 use Rattle.reading.specs.declared.ResponseVerdict.{ResponseVerdict}
-use Rattle.reading.specs.declared.ResponseVerdict.the-variants.{Accepted, BadStatus, Malformed, NotAllowed}
+use Rattle.reading.specs.declared.ResponseVerdict.the-variants.{Accepted, BadStatus, Malformed}
 use Rattle.reading.specs.declared.Reading.{Reading}
 use Rattle.reading.specs.declared.Beginning.{Beginning}
 use Rattle.reading.specs.declared.OuterObject.{OuterObject}

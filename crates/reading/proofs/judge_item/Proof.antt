@@ -2,51 +2,36 @@
 -- (proofs/Pending).
 -- Assumes nothing.
 use borrow.Author.Needs.{needs}
-use mathlib.Core.Path.{_≡_, sym, ap, ap₂, _∙_}
-use mathlib.Core.List.{List}
-use Prim.Native.Nat.{ℕ, _+_, _-_, _<_}
+use mathlib.Core.Path.{_≡_, sym, _∙_}
+use Prim.Native.Nat.{_<_}
 use native.Mathlib.Omega.{arith}
-use lib.ListN.{length, take, drop}
 use borrow.Author.Tests.{not-true, not-false}
-use Rattle.dictionary.specs.Rows.{rowCount}
+use Rattle.dictionary.specs.Rows.{rowAt, rowCount}
+use Rattle.dictionary.specs.Packing.{attributesOf}
 use Rattle.dictionary.proofs.Lent.{row-found, lent-row}
-use Rattle.tlv.proofs.Laws.{contents-is}
-use Rattle.reading.specs.Items.{valueStart, valueLength, valueIn}
-use Rattle.reading.proofs.Pending.{said-unknown, said-skipped, said-barred, said-row}
+use Rattle.reading.proofs.Items.{code-value}
+use Rattle.reading.proofs.Pending.{said-unknown, said-skipped, Said, said}
 use Rattle.reading.proofs.judge_item.Statement.{statement}
 use Rattle.reading.proofs.judge_item.Tie as tie
-use Rattle.reading.proofs.judge_item.Reads as reads
-use Rattle.reading.proofs.judge_item.Lts as lts
-
--- the bytes that the code takes are the value's
-value-is : (s : List ℕ) (x a n : ℕ) → a ≡ valueStart x → n ≡ valueLength x → take (a + n - a) (drop a s) ≡ valueIn s x
-value-is s x a n p q = contents-is s a n ∙ ap₂ (λ (i j : ℕ). take i (drop j s)) q p
 
 returns : tie.Need-returns
 returns c = said-unknown _ _ _ (c .before .before .before .before .tag-in .ensures) (c .before .before .find-row .ensures .0) (c .enum-told .given .1)
 
+-- where its row is known
+row-at : (o : tie.After-known-told) → o .before .found .given .0 .0 < rowCount
+row-at o = row-found _ (sym (o .before .before .before .find-row .ensures .0) ∙ o .before .found .given .1)
+
+attributes-at : (o : tie.After-unpacked) → o .unpacked .result ≡ attributesOf (rowAt (o .before .before .before .found .given .0 .0))
+attributes-at o = o .unpacked .ensures ∙ lent-row (o .before .before .before .before .before .before .before .before .before .pre .1 .1 .codes) (row-at (o .before .before))
+
 returns-2 : tie.Need-returns-2
-returns-2 c =
-    let st = c .before .before .before .before .before .before .before .before .before .before .before in
-    let f = c .before .before .before .before .before .before .before .find-row .ensures .0 in
-    let k = row-found _ (sym f ∙ c .before .before .before .before .before .found .given .1) in
-    said-skipped _ _ _ (c .before .before .before .before .before .before .before .before .before .tag-in .ensures) f _ (c .before .before .before .before .before .found .given .1) (c .before .before .unpacked .ensures ∙ lent-row (st .pre .1 .1 .codes) k) (c .before .is-skipped .ensures) (c .if1 .taken)
+returns-2 c = said-skipped _ _ _ (c .before .before .before .before .before .before .before .before .before .tag-in .ensures) (c .before .before .before .before .before .before .before .find-row .ensures .0) _ (c .before .before .before .before .before .found .given .1) (attributes-at (c .before .before)) (c .before .is-skipped .ensures) (c .if1 .taken)
 
-returns-3 : tie.Need-returns-3
-returns-3 c =
-    let st = c .before .before .before .before .before .before .before .before .before .before .before .before .before .before .before .before .before in
-    let f = c .before .before .before .before .before .before .before .before .before .before .before .before .before .find-row .ensures .0 in
-    let k = row-found _ (sym f ∙ c .before .before .before .before .before .before .before .before .before .before .before .found .given .1) in
-    said-barred _ _ _ (c .before .before .before .before .before .before .before .before .before .before .before .before .before .before .before .tag-in .ensures) f _ (c .before .before .before .before .before .before .before .before .before .before .before .found .given .1) (c .before .before .before .before .before .before .before .before .unpacked .ensures ∙ lent-row (st .pre .1 .1 .codes) k) (c .before .before .before .before .before .before .before .is-skipped .ensures) (c .before .before .before .before .before .before .if1 .left)
-    (c .before .before .before .around-in .ensures) (value-is _ _ _ _ (c .before .before .before .before .before .start-in .ensures .0) (c .before .before .before .before .len-in .ensures .0)) (c .before .may-come .ensures) (not-true _ (c .if2 .taken))
-
-returns-4 : tie.Need-returns-4
-returns-4 c =
-    let st = c .before .before .before .before .before .before .before .before .before .before .before .before .before .before .before .before .before in
-    let f = c .before .before .before .before .before .before .before .before .before .before .before .before .before .find-row .ensures .0 in
-    let k = row-found _ (sym f ∙ c .before .before .before .before .before .before .before .before .before .before .before .found .given .1) in
-    said-row _ _ _ (c .before .before .before .before .before .before .before .before .before .before .before .before .before .before .before .tag-in .ensures) f _ (c .before .before .before .before .before .before .before .before .before .before .before .found .given .1) (c .before .before .before .before .before .before .before .before .unpacked .ensures ∙ lent-row (st .pre .1 .1 .codes) k) (c .before .before .before .before .before .before .before .is-skipped .ensures) (c .before .before .before .before .before .before .if1 .left)
-    (c .before .before .before .around-in .ensures) (value-is _ _ _ _ (c .before .before .before .before .before .start-in .ensures .0) (c .before .before .before .before .len-in .ensures .0)) (c .before .may-come .ensures) (not-false _ (c .if2 .left))
+-- where it is known whether it may come
+said-at : (o : tie.After-may-come) → Said (o .before .before .before .before .before .before .before .before .before .before .before .before .before .before .before .before .args .answer) (o .before .before .before .before .before .before .before .before .before .before .before .before .before .before .before .before .args .bytes .now) (o .before .before .before .before .before .before .before .before .before .before .before .before .before .before .before .before .args .item) (o .before .before .before .before .before .before .before .before .before .before .found .given .0 .0) (o .may-come .result)
+said-at o =
+    said _ _ _ (o .before .before .before .before .before .before .before .before .before .before .before .before .before .before .tag-in .ensures) (o .before .before .before .before .before .before .before .before .before .before .before .before .find-row .ensures .0) _ (o .before .before .before .before .before .before .before .before .before .before .found .given .1) (attributes-at (o .before .before .before .before .before .before .before)) (o .before .before .before .before .before .before .is-skipped .ensures) (o .before .before .before .before .before .if1 .left)
+    (o .before .before .around-in .ensures) (code-value _ _ _ _ (o .before .before .before .before .start-in .ensures .0) (o .before .before .before .len-in .ensures .0)) (o .may-come .ensures)
 
 pub judge-item-spec : {M : Type 1} → statement M
 judge-item-spec =
@@ -57,8 +42,8 @@ judge-item-spec =
     (λ c. search needs)
     (λ c. search needs)
     returns
-    (λ c. let k = row-found _ (sym (c .before .before .before .find-row .ensures .0) ∙ c .before .found .given .1) in omega arith)
-    (λ c. row-found _ (sym (c .before .before .before .find-row .ensures .0) ∙ c .before .found .given .1))
+    (λ c. omega (arith, row-at c))
+    row-at
     (λ c κs. search needs)
     (λ c κs. search needs)
     returns-2
@@ -70,5 +55,5 @@ judge-item-spec =
     (λ c. search needs)
     (λ c. search needs)
     (λ c κs. search needs)
-    returns-3
-    returns-4)
+    (λ c. said-at (c .before) .barred (not-true _ (c .if2 .taken)))
+    (λ c. said-at (c .before) .row (not-false _ (c .if2 .left))))

@@ -1,12 +1,7 @@
 -- `reading::judge_listed` meets its contract: decided without the objects, or by what is said of them (proofs/Stages).
 -- Assumes nothing.
 use borrow.Author.Needs.{needs}
-use mathlib.Core.Path.{_≡_, refl, sym, ap, _∙_}
-use Prim.Native.Nat.{ℕ}
 use native.Mathlib.Omega.{arith}
-use Rattle.reading.specs.declared.Listing.{Listing}
-use Rattle.reading.specs.Inner.{ListingFits}
-use Rattle.reading.specs.Pending.{PendingList}
 use Rattle.reading.proofs.Stages.{decided-given, refused-given, accepted-given}
 use Rattle.reading.proofs.judge_listed.Statement.{statement}
 use Rattle.reading.proofs.judge_listed.Tie as tie

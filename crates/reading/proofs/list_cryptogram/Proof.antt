@@ -2,7 +2,7 @@
 -- places (proofs/Stages).
 -- Assumes nothing.
 use borrow.Author.Needs.{needs}
-use mathlib.Core.Path.{_≡_, refl, sym, ap, ap₂, subst, _∙_}
+use mathlib.Core.Path.{_≡_, ap, _∙_}
 use mathlib.Core.List.{List, [], _∷_, _++_}
 use mathlib.Core.Option.{some}
 use Prim.Native.Nat.{ℕ, _+_, _-_, _≤_}
@@ -14,7 +14,7 @@ use Rattle.reading.specs.Items.{packedItem, mostItems, tally}
 use Rattle.reading.specs.Inner.{ListsParts}
 use Rattle.reading.specs.Answer.{iadPart, cryptogramParts}
 use Rattle.reading.proofs.Parts.{cryptogram-short, cryptogram-long, cryptogram-whole, iad-none, iad-some}
-use Rattle.reading.proofs.Stages.{set-room, PartList, no-parts, add-part, value, value-middle, value-behind, parts-none, parts-some}
+use Rattle.reading.proofs.Stages.{set-room, PartList, value, front-part, next-part, last-part, parts-none, parts-some}
 use Rattle.reading.specs.declared.Awaited.the-variants.{Cryptogram}
 use Rattle.reading.proofs.list_cryptogram.Statement.{statement}
 use Rattle.reading.proofs.list_cryptogram.Tie as tie
@@ -22,27 +22,6 @@ use Rattle.reading.proofs.list_cryptogram.Tie as tie
 -- its three parts that must be there
 abbrev three : List ℕ → List PrimitiveItem
 three v = primitiveItem 0x77 0x9F27 (take 1 v) ∷ primitiveItem 0x77 0x9F36 (take 2 (drop 1 v)) ∷ primitiveItem 0x77 0x9F26 (take 8 (drop 3 v)) ∷ []
-
-abbrev threeListed : List ℕ → ℕ → List ℕ
-threeListed l start = set (set (set l 0 (packedItem 0x9F27 0x77 start 1)) 1 (packedItem 0x9F36 0x77 (start + 1) 2)) 2 (packedItem 0x9F26 0x77 (start + 3) 8)
-
-module _ (l : List ℕ) (start n : ℕ) (e : length l ≡ mostItems) (a : 2 ≤ start) (b : start + n ≤ 256) (c : 11 ≤ n) (s : List ℕ) (i : start + n ≤ length s) where
-  by-places : PartList s 3 (threeListed l start) (three (value s start n))
-  by-places =
-      let z : start + 0 ≡ start = omega arith in
-      let cid = ap (λ (k : ℕ). take 1 (drop k s)) (sym z) ∙ value-middle s start n 0 1 (omega arith) in
-      let atc = value-middle s start n 1 2 (omega arith) in
-      let ac = value-middle s start n 3 8 (omega arith) in
-      let one = add-part (no-parts s l e) (omega arith) 0x9F27 start 1 (omega arith) (omega arith) (omega arith) (omega arith) in
-      let two = add-part one (omega arith) 0x9F36 (start + 1) 2 (omega arith) (omega arith) (omega arith) (omega arith) in
-      let all = add-part two (omega arith) 0x9F26 (start + 3) 8 (omega arith) (omega arith) (omega arith) (omega arith) in
-      subst (λ (x : List ℕ). PartList s 3 (threeListed l start) (primitiveItem 0x77 0x9F27 x ∷ primitiveItem 0x77 0x9F36 (take 2 (drop 1 (value s start n))) ∷ primitiveItem 0x77 0x9F26 (take 8 (drop 3 (value s start n))) ∷ [])) cid
-      (subst (PartList s 3 (threeListed l start)) (ap₂ (λ (x y : List ℕ). primitiveItem 0x77 0x9F27 (take 1 (drop start s)) ∷ primitiveItem 0x77 0x9F36 x ∷ primitiveItem 0x77 0x9F26 y ∷ []) atc ac) all)
-
-  with-rest : n ≤ 43 → PartList s 4 (set (threeListed l start) 3 (packedItem 0x9F10 0x77 (start + 11) (n - 11))) (three (value s start n) ++ (primitiveItem 0x77 0x9F10 (drop 11 (value s start n)) ∷ []))
-  with-rest d =
-      subst (λ (x : List ℕ). PartList s 4 (set (threeListed l start) 3 (packedItem 0x9F10 0x77 (start + 11) (n - 11))) (three (value s start n) ++ (primitiveItem 0x77 0x9F10 x ∷ []))) (value-behind s start n 11)
-      (add-part by-places (omega arith) 0x9F10 (start + 11) (n - 11) (omega arith) (omega arith) (omega arith) (omega arith))
 
 three-room : (l : List ℕ) (x y z : ℕ) → length l ≡ mostItems → length (set (set (set l 0 x) 1 y) 2 z) ≡ mostItems
 three-room l x y z e = set-room (set (set l 0 x) 1 y) 2 z (set-room (set l 0 x) 1 y (set-room l 0 x e))
@@ -59,43 +38,44 @@ some-parts v is a b e =
 
 module _ (l : List ℕ) (start n : ℕ) (e : length l ≡ mostItems) (a : 2 ≤ start) (b : start + n ≤ 256) {x y z : ℕ}
     (p : x ≡ packedItem 0x9F27 0x77 start 1) (q : y ≡ packedItem 0x9F36 0x77 (start + 1) 2) (r : z ≡ packedItem 0x9F26 0x77 (start + 3) 8) where
+  by-places : 11 ≤ n → (s : List ℕ) → start + n ≤ length s → PartList s 3 (set (set (set l 0 x) 1 y) 2 z) (three (value s start n))
+  by-places m s i =
+      let cid = front-part s start n a b i l e 0x9F27 1 (omega arith) in
+      let atc = next-part s start n a b i cid 0x9F36 1 (omega arith) 2 (omega arith) in
+      rw (p, q, r) (next-part s start n a b i atc 0x9F26 3 (omega arith) 8 (omega arith))
+
   all-three : n ≡ 11 → ListsParts Cryptogram cryptogramParts start n (Objects (tally 1 3)) (set (set (set l 0 x) 1 y) 2 z) × (length (set (set (set l 0 x) 1 y) 2 z) ≡ mostItems)
   all-three m =
-      (rw (p, q, r)
       (parts-some Cryptogram cryptogramParts start n _ 3 three (λ v u. some-parts v [] (omega arith) (omega arith) (iad-none (drop 11 v) (left v n u ∙ omega arith)))
-      (by-places l start n e a b (omega arith))),
+      (by-places (omega arith)),
       three-room l x y z e)
 
   and-rest : {w : ℕ} → w ≡ packedItem 0x9F10 0x77 (start + 11) (n - 11) → 11 ≤ n → n ≤ 43 → (n ≡ 11 → ⊥)
       → ListsParts Cryptogram cryptogramParts start n (Objects (tally 1 4)) (set (set (set (set l 0 x) 1 y) 2 z) 3 w) × (length (set (set (set (set l 0 x) 1 y) 2 z) 3 w) ≡ mostItems)
   and-rest {w} o m k d =
-      (rw (p, q, r, o)
+      (rw o
       (parts-some Cryptogram cryptogramParts start n _ 4 (λ (v : List ℕ). three v ++ (primitiveItem 0x77 0x9F10 (drop 11 v) ∷ []))
       (λ v u. some-parts v _ (omega arith) (omega arith) (iad-some (drop 11 v) (λ i. d (omega (arith, left v n u)))))
-      (λ s i. with-rest l start n e a b m s i k)),
+      (λ s i. last-part s start n a b i (by-places m s i) 0x9F10 11 (omega arith) m)),
       set-room (set (set (set l 0 x) 1 y) 2 z) 3 w (three-room l x y z e))
 
 returns : tie.Need-returns
-returns c =
-    let p = c .before .before .pre in
-    (parts-none Cryptogram cryptogramParts _ _ _ (λ v e. cryptogram-short v (omega (arith, c .before .if1 .taken))) (c .decided .ensures), p .0)
+returns c = (parts-none Cryptogram cryptogramParts _ _ _ (λ v e. cryptogram-short v (omega (arith, c .before .if1 .taken))) (c .decided .ensures), c .before .before .pre .0)
 
 returns-2 : tie.Need-returns-2
-returns-2 c =
-    let p = c .before .before .before .pre in
-    (parts-none Cryptogram cryptogramParts _ _ _ (λ v e. cryptogram-long v (omega (arith, c .before .if2 .taken))) (c .decided2 .ensures), p .0)
+returns-2 c = (parts-none Cryptogram cryptogramParts _ _ _ (λ v e. cryptogram-long v (omega (arith, c .before .if2 .taken))) (c .decided2 .ensures), c .before .before .before .pre .0)
 
 returns-3 : tie.Need-returns-3
 returns-3 c =
-    let st = c .before .before .before .before .before .before in
-    let p = st .pre in
-    all-three (st .args .items .now) (st .args .start) (st .args .n) (p .0) (p .1) (p .2) (c .before .before .before .packed-item .ensures) (c .before .before .packed-item2 .ensures) (c .before .packed-item3 .ensures) (c .if3 .taken)
+    let a = c .before .before .before .before .before .before .args in
+    let p = c .before .before .before .before .before .before .pre in
+    all-three (a .items .now) (a .start) (a .n) (p .0) (p .1) (p .2) (c .before .before .before .packed-item .ensures) (c .before .before .packed-item2 .ensures) (c .before .packed-item3 .ensures) (c .if3 .taken)
 
 returns-4 : tie.Need-returns-4
 returns-4 c =
-    let st = c .before .before .before .before .before .before .before in
-    let p = st .pre in
-    and-rest (st .args .items .now) (st .args .start) (st .args .n) (p .0) (p .1) (p .2) (c .before .before .before .before .packed-item .ensures) (c .before .before .before .packed-item2 .ensures) (c .before .before .packed-item3 .ensures)
+    let a = c .before .before .before .before .before .before .before .args in
+    let p = c .before .before .before .before .before .before .before .pre in
+    and-rest (a .items .now) (a .start) (a .n) (p .0) (p .1) (p .2) (c .before .before .before .before .packed-item .ensures) (c .before .before .before .packed-item2 .ensures) (c .before .before .packed-item3 .ensures)
     (c .packed-item4 .ensures) (c .before .before .before .before .before .before .if1 .left) (c .before .before .before .before .before .if2 .left) (c .before .if3 .left)
 
 pub list-cryptogram-spec : {M : Type 1} → statement M

@@ -4,7 +4,7 @@ use borrow.Author.Needs.{needs}
 use mathlib.Core.Path.{sym, _∙_}
 use native.Mathlib.Omega.{arith}
 use lib.ListN.{length-take}
-use Rattle.reading.proofs.Stages.{begin-size, body-length, outer-fits, object-places, decided-opened, broken-opened, template-opened, primitive-opened}
+use Rattle.reading.proofs.Stages.{begin-size, outer-fits, object-places, decided-opened, broken-opened, template-opened, primitive-opened}
 use Rattle.reading.proofs.open.Statement.{statement}
 use Rattle.reading.proofs.open.Tie as tie
 

@@ -3,15 +3,15 @@
 use borrow.Author.Needs.{needs}
 use mathlib.Core.Path.{_≡_, sym, ap, ap₂, _∙_}
 use mathlib.Core.List.{List}
-use Prim.Native.Nat.{ℕ, _+_, _-_, _≤_, _<_}
+use Prim.Native.Nat.{ℕ, _+_, _-_, _≤_}
 use native.Mathlib.Omega.{arith}
 use lib.ListN.{length, getD, take, drop}
 use Rattle.dictionary.specs.Rows.{dictionaryRows, storeSize}
 use Rattle.store.specs.Place.{putRow}
-use Rattle.tlv.proofs.Laws.{contents-is}
-use Rattle.reading.specs.Items.{valueStart, valueLength, valueIn}
+use Rattle.reading.specs.Items.{valueIn}
 use Rattle.reading.specs.Pending.{pendingRow, withPending, PendingFits}
-use Rattle.reading.proofs.Pending.{after-none, value-fits, value-long, after-one}
+use Rattle.reading.proofs.Items.{code-value}
+use Rattle.reading.proofs.Pending.{after-none, value-fits, value-most, after-one}
 use Rattle.reading.proofs.store_pending.Statement.{statement}
 use Rattle.reading.proofs.store_pending.Tie as tie
 
@@ -21,43 +21,41 @@ Inv-loop store₀ bytes pending n i₀ store i = (i ≤ n) × ((length store ≡
 abbrev μ-loop : tie.MeasureT-loop
 μ-loop store₀ bytes pending n i₀ store i = n - i
 
--- the bytes that the code takes are the value's
-value-is : (s : List ℕ) (x a n : ℕ) → a ≡ valueStart x → n ≡ valueLength x → take (a + n - a) (drop a s) ≡ valueIn s x
-value-is s x a n p q = contents-is s a n ∙ ap₂ (λ (i j : ℕ). take i (drop j s)) q p
+-- the next value fits its row and lies in the bytes
+fits-at : (o : tie.After-row-in Inv-loop μ-loop) → PendingFits (o .before .before .before .before .before .before .before .before .before .args .bytes .now) (getD (o .before .before .before .before .before .before .before .before .before .args .pending .now) (o .before .before .before .before .before .before .loop .i) 0)
+fits-at o = value-fits _ _ _ (o .before .before .before .before .before .before .before .before .before .pre .1) (o .before .before .before .before .before .before .loop .i) (o .before .before .before .before .before .loop-test .taken)
 
-loop-holds : tie.Need-loop-holds Inv-loop μ-loop
-loop-holds c = let st = c .before .before in (omega arith, (st .pre .0, after-none (st .args .bytes .now) _ (st .args .pending .now)))
+ends-at : (o : tie.After-row-in Inv-loop μ-loop) → o .before .before .before .start-in .result + o .before .before .len-in .result ≤ length (o .before .before .before .before .before .before .before .before .before .args .bytes .now)
+ends-at o = let f = fits-at o .inside in omega (arith, o .before .before .before .start-in .ensures .0, o .before .before .len-in .ensures .0)
+
+-- the bytes that are taken are the value's
+value-at : (o : tie.After-row-in Inv-loop μ-loop) → let a = o .before .before .before .start-in .result in
+    take (a + o .before .before .len-in .result - a) (drop a (o .before .before .before .before .before .before .before .before .before .args .bytes .now)) ≡ valueIn (o .before .before .before .before .before .before .before .before .before .args .bytes .now) (getD (o .before .before .before .before .before .before .before .before .before .args .pending .now) (o .before .before .before .before .before .before .loop .i) 0)
+value-at o = code-value _ _ _ _ (o .before .before .before .start-in .ensures .0) (o .before .before .len-in .ensures .0)
 
 put-requires : tie.Need-put-requires Inv-loop μ-loop
 put-requires c κs =
-    let st = c .before .before .before .before .before .before .before .before .before .before in
-    let lp = c .before .before .before .before .before .before .before .loop in
-    let lt = c .before .before .before .before .before .before .loop-test .taken in
-    let s = st .args .bytes .now in
-    let f = value-fits s (st .args .store .now) _ _ (st .pre .1) (lp .i) lt in
-    let l = value-long s (st .args .store .now) _ _ (st .pre .1) (lp .i) lt in
-    let v = value-is s _ _ _ (c .before .before .before .before .start-in .ensures .0) (c .before .before .before .len-in .ensures .0) in
-    let r = c .before .row-in .ensures in
-    (lp .inv .1 .0, (rw r (f .row), rw (r, v, l) (f .most)))
+    let o = c .before in
+    let f = fits-at o in
+    (o .before .before .before .before .before .before .loop .inv .1 .0, (rw (o .row-in .ensures) (f .row), rw (o .row-in .ensures, value-at o) (value-most _ _ f)))
 
 loop-again : tie.Need-loop-again Inv-loop μ-loop
 loop-again c =
-    let st = c .before .before .before .before .before .before .before .before .before .before .before .before .before in
-    let lp = c .before .before .before .before .before .before .before .before .before .before .loop in
-    let s = st .args .bytes .now in
+    let o = c .before .before .before .before in
+    let a = o .before .before .before .before .before .before .before .before .before .args in
+    let x = getD (a .pending .now) (o .before .before .before .before .before .before .loop .i) 0 in
     let p = c .before .before .put .ensures in
-    let v = value-is s _ _ _ (c .before .before .before .before .before .before .before .start-in .ensures .0) (c .before .before .before .before .before .before .len-in .ensures .0) in
-    let x = getD (st .args .pending .now) (lp .i) 0 in
-    (omega (arith, c .before .before .before .before .before .before .before .before .before .loop-test .taken), (p .1,
-      p .0 ∙ ap₂ (putRow dictionaryRows _) (c .before .before .before .before .row-in .ensures) v
-      ∙ ap (λ (b : List ℕ). putRow dictionaryRows b (pendingRow x) (valueIn s x)) (lp .inv .1 .1) ∙ after-one s (st .args .store .now) _ _ (st .pre .1) (lp .i) (c .before .before .before .before .before .before .before .before .before .loop-test .taken)))
+    (omega (arith, o .before .before .before .before .before .loop-test .taken), (p .1,
+    p .0 ∙ ap₂ (putRow dictionaryRows _) (o .row-in .ensures) (value-at o) 
+    ∙ ap (λ (b : List ℕ). putRow dictionaryRows b (pendingRow x) (valueIn (a .bytes .now) x)) (o .before .before .before .before .before .before .loop .inv .1 .1)
+    ∙ after-one _ (a .store .now) _ _ (o .before .before .before .before .before .before .before .before .before .pre .1) (o .before .before .before .before .before .before .loop .i) (o .before .before .before .before .before .loop-test .taken)))
 
 returns : tie.Need-returns Inv-loop μ-loop
 returns c =
-    let st = c .before .before .before .before in
+    let a = c .before .before .before .before .args in
     let lp = c .before .loop in
-    let e : lp .i ≡ st .args .n = omega (arith, c .loop-test .left) in
-    (lp .inv .1 .1 ∙ ap (λ (i : ℕ). withPending (st .args .bytes .now) (st .args .store .now) (take i (st .args .pending .now))) e, lp .inv .1 .0)
+    let e : lp .i ≡ a .n = omega (arith, c .loop-test .left) in
+    (lp .inv .1 .1 ∙ ap (λ (i : ℕ). withPending (a .bytes .now) (a .store .now) (take i (a .pending .now))) e, lp .inv .1 .0)
 
 pub store-pending-spec : {M : Type 1} → statement M
 store-pending-spec =
@@ -65,7 +63,7 @@ store-pending-spec =
     (tie.spec
     Inv-loop
     μ-loop
-    loop-holds
+    (λ c. let a = c .before .before .args in (omega arith, (c .before .before .pre .0, after-none (a .bytes .now) _ (a .pending .now))))
     (λ c. omega (arith, c .loop-test .taken, c .before .before .before .before .pre .1 .few))
     (λ c. omega (arith, c .loop-test .taken, c .before .before .before .before .pre .1 .few, c .before .before .before .before .pre .1 .room))
     (λ c κs. search needs)
@@ -73,8 +71,8 @@ store-pending-spec =
     (λ c. omega arith)
     (λ c κs. search needs)
     (λ c. omega arith)
-    (λ c. let st = c .before .before .before .before .before .before .before .before .before in let f = value-fits (st .args .bytes .now) (st .args .store .now) _ _ (st .pre .1) (c .before .before .before .before .before .before .loop .i) (c .before .before .before .before .before .loop-test .taken) in omega (arith, f .inside, c .before .before .before .start-in .ensures .0, c .before .before .len-in .ensures .0))
-    (λ c. let st = c .before .before .before .before .before .before .before .before .before in let f = value-fits (st .args .bytes .now) (st .args .store .now) _ _ (st .pre .1) (c .before .before .before .before .before .before .loop .i) (c .before .before .before .before .before .loop-test .taken) in omega (arith, f .inside, c .before .before .before .start-in .ensures .0, c .before .before .len-in .ensures .0))
+    (λ c. omega (arith, ends-at c))
+    (λ c. omega (arith, ends-at c))
     put-requires
     (λ c. omega (arith, c .before .before .before .before .before .before .before .before .before .loop-test .taken, c .before .before .before .before .before .before .before .before .before .before .before .before .before .pre .1 .few))
     (λ c. omega (arith, c .before .before .before .before .before .before .before .before .before .loop-test .taken))
