@@ -21,7 +21,8 @@ use Rattle.tlv.proofs.Tree.{parse-end, parse-leaf, parse-node, parse-count}
 use Rattle.reading.specs.declared.Awaited.{Awaited}
 use Rattle.reading.specs.declared.Reading.{Reading}
 use Rattle.reading.specs.Taking.{PrimitiveItem}
-use Rattle.reading.specs.Answer.{ReadingOutcome, GivesReading, ResponseBody, template, templateBody, responseBody, bodyCount, bodyParts, readParts, readTree, readBody, readAnswer}
+use Rattle.reading.specs.Answer.{ReadingOutcome, GivesReading, ResponseBody, template, templateBody, responseBody}
+use Rattle.reading.specs.Answer.{bodyCount, bodyParts, readParts, readTree, readBody, readAnswer}
 use Rattle.reading.specs.Count.{isOneObject, treeCount, bodyObjects, answerObjects}
 use Rattle.reading.proofs.Parts.{body-broken, body-behind, body-template, body-primitive}
 
@@ -57,12 +58,14 @@ module _ (s : List ℕ) where
       of-tree x p = if-yes _ _ (ap (isOneObject s) e ∙ eq-eqb _ _ z) ∙ ap treeCount p
 
       none-behind : parseTree 4 (behindObject s h) ≡ some end
-      none-behind = let l : length s ≤ h .start + h .len = omega arith in rw (drop-of-length-le s l) (parse-end 4 [] (next-empty [] refl))
+      none-behind = let l : length s ≤ h .start + h .len = omega arith in
+          rw (drop-of-length-le s l) (parse-end 4 [] (next-empty [] refl))
 
       alone : bodyObjects s ≡ stepCount (responseBody s)
       alone = elim (bool-cases (h .template)) [
         | inl t ↦
-            of-tree _ (parse-node 4 s h (next-object s h e) t (λ z. omega arith) ∙ ap (withNode (h .tag) (parseTree 3 (headerValue s h))) none-behind)
+            of-tree _ (parse-node 4 s h (next-object s h e) t (λ z. omega arith)
+                ∙ ap (withNode (h .tag) (parseTree 3 (headerValue s h))) none-behind)
             ∙ node-alone (h .tag) (parseTree 3 (headerValue s h)) ∙ sym (ap stepCount (body-template s h e z t))
         | inr t ↦
             of-tree _ (parse-leaf 4 s h (next-object s h e) t ∙ ap (withLeaf (h .tag) (headerValue s h)) none-behind)

@@ -17,8 +17,10 @@ use Rattle.dictionary.specs.Form.{numeric, digitsFit, fitsRow}
 use Rattle.store.specs.Place.{rowOffset, rowPlace, placeValue, rowValue, putRow, objectValueIn}
 use Rattle.reading.specs.declared.Awaited.{Awaited}
 use Rattle.reading.specs.declared.Awaited.the-variants.{Gpo, Record, Cryptogram}
-use Rattle.reading.specs.Taking.{primitiveItems, allowedInTemplate, allowedInResponse, allowedNow, takeItem, takeNext, takeAll}
-use Rattle.reading.specs.Answer.{ReadingOutcome, responseBody, gpoParts, iadPart, cryptogramParts, primitiveParts, templateParts, readBody, isRead, isStatus9000, isResponseLength, readAnswer}
+use Rattle.reading.specs.Taking.{primitiveItems, allowedInTemplate, allowedInResponse, allowedNow, takeItem}
+use Rattle.reading.specs.Taking.{takeNext, takeAll}
+use Rattle.reading.specs.Answer.{ReadingOutcome, responseBody, gpoParts, iadPart, cryptogramParts, primitiveParts}
+use Rattle.reading.specs.Answer.{templateParts, readBody, isRead, isStatus9000, isResponseLength, readAnswer}
 
 -- the reason's number and the object count
 abbrev said : ReadingOutcome → List ℕ
@@ -40,36 +42,46 @@ abbrev under80 : ℕ → List ℕ
 under80 n = 0x80 ∷ 0x81 ∷ n ∷ replicate n 0
 
 -- 1, 2, 258 and 259 bytes, none of them 90 00 at the end
-lengths : map (λ n. answer Gpo (replicate n 0)) (1 ∷ 2 ∷ 258 ∷ 259 ∷ []) ≡ (2 ∷ 0 ∷ []) ∷ (1 ∷ 0 ∷ []) ∷ (1 ∷ 0 ∷ []) ∷ (2 ∷ 0 ∷ []) ∷ []
+lengths : map (λ n. answer Gpo (replicate n 0)) (1 ∷ 2 ∷ 258 ∷ 259 ∷ []) ≡ (2 ∷ 0 ∷ []) ∷ (1 ∷ 0 ∷ []) ∷ (1 ∷ 0 ∷ []) ∷
+    (2 ∷ 0 ∷ []) ∷ []
 unfolding readAnswer isResponseLength isStatus9000 if both
 lengths = refl
 
 -- 90 00, 90 01 and 91 00 after no body, for the last file that is read and the first that is not
-statuses : map (answer (sfi 10)) ((0x90 ∷ 0x00 ∷ []) ∷ (0x90 ∷ 0x01 ∷ []) ∷ (0x91 ∷ 0x00 ∷ []) ∷ []) ≡ (2 ∷ 0 ∷ []) ∷ (1 ∷ 0 ∷ []) ∷ (1 ∷ 0 ∷ []) ∷ []
+statuses : map (answer (sfi 10)) ((0x90 ∷ 0x00 ∷ []) ∷ (0x90 ∷ 0x01 ∷ []) ∷ (0x91 ∷ 0x00 ∷ []) ∷ []) ≡ (2 ∷ 0 ∷ []) ∷
+    (1 ∷ 0 ∷ []) ∷ (1 ∷ 0 ∷ []) ∷ []
 unfolding readAnswer isResponseLength isStatus9000 isRead readBody responseBody headerOf tagAt tagSize if both
 statuses = refl
 
-unread : map (answer (sfi 11)) ((0x90 ∷ 0x00 ∷ []) ∷ (0x90 ∷ 0x01 ∷ []) ∷ (0x70 ∷ 0x00 ∷ 0x90 ∷ 0x00 ∷ []) ∷ []) ≡ (0 ∷ 0 ∷ []) ∷ (1 ∷ 0 ∷ []) ∷ (0 ∷ 0 ∷ []) ∷ []
+unread : map (answer (sfi 11)) ((0x90 ∷ 0x00 ∷ []) ∷ (0x90 ∷ 0x01 ∷ []) ∷ (0x70 ∷ 0x00 ∷ 0x90 ∷ 0x00 ∷ []) ∷ []) ≡
+    (0 ∷ 0 ∷ []) ∷ (1 ∷ 0 ∷ []) ∷ (0 ∷ 0 ∷ []) ∷ []
 unfolding readAnswer isResponseLength isStatus9000 isRead if both
 unread = refl
 
 -- GPO under 80: 6 to 250 bytes, two and a multiple of four
 gpo : map (λ n. body Gpo (under80 n)) (5 ∷ 6 ∷ 7 ∷ 250 ∷ 251 ∷ 254 ∷ [])
     ≡ (2 ∷ 1 ∷ []) ∷ (0 ∷ 1 ∷ []) ∷ (2 ∷ 1 ∷ []) ∷ (0 ∷ 1 ∷ []) ∷ (2 ∷ 1 ∷ []) ∷ (2 ∷ 1 ∷ []) ∷ []
-unfolding readBody responseBody headerOf tagAt tagSize lengthAt lengthOneByte tagFirstByte isTemplate isPrivate bigEndianFrom if both primitiveParts gpoParts takeAll takeNext takeItem dictionaryRows rowPast findRow allowedNow allowedInResponse allowedInTemplate fitsRow digitsFit rowOffset rowPlace placeValue rowValue putRow objectValueIn
+unfolding readBody responseBody headerOf tagAt tagSize lengthAt lengthOneByte tagFirstByte isTemplate isPrivate
+    bigEndianFrom if both primitiveParts gpoParts takeAll takeNext takeItem dictionaryRows rowPast findRow allowedNow
+    allowedInResponse allowedInTemplate fitsRow digitsFit rowOffset rowPlace placeValue rowValue putRow objectValueIn
 gpo = refl
 
 -- a cryptogram under 80: 11 to 43 bytes
 cryptograms : map (λ n. body Cryptogram (under80 n)) (10 ∷ 11 ∷ 12 ∷ 43 ∷ 44 ∷ [])
     ≡ (2 ∷ 1 ∷ []) ∷ (0 ∷ 1 ∷ []) ∷ (0 ∷ 1 ∷ []) ∷ (0 ∷ 1 ∷ []) ∷ (2 ∷ 1 ∷ []) ∷ []
-unfolding readBody responseBody headerOf tagAt tagSize tagSecondByte lengthAt lengthOneByte tagFirstByte isTemplate isPrivate bigEndianFrom if both primitiveParts cryptogramParts iadPart takeAll takeNext takeItem dictionaryRows rowPast findRow allowedNow allowedInResponse allowedInTemplate fitsRow digitsFit rowOffset rowPlace placeValue rowValue putRow objectValueIn
+unfolding readBody responseBody headerOf tagAt tagSize tagSecondByte lengthAt lengthOneByte tagFirstByte isTemplate
+    isPrivate bigEndianFrom if both primitiveParts cryptogramParts iadPart takeAll takeNext takeItem dictionaryRows
+    rowPast findRow allowedNow allowedInResponse allowedInTemplate fitsRow digitsFit rowOffset rowPlace placeValue
+    rowValue putRow objectValueIn
 cryptograms = refl
 
 -- four levels of templates, and five
 levels : map (body (sfi 1))
-    ((0x70 ∷ 0x06 ∷ 0xE1 ∷ 0x04 ∷ 0xE1 ∷ 0x02 ∷ 0xE1 ∷ 0x00 ∷ []) ∷ (0x70 ∷ 0x08 ∷ 0xE1 ∷ 0x06 ∷ 0xE1 ∷ 0x04 ∷ 0xE1 ∷ 0x02 ∷ 0xE1 ∷ 0x00 ∷ []) ∷ [])
+    ((0x70 ∷ 0x06 ∷ 0xE1 ∷ 0x04 ∷ 0xE1 ∷ 0x02 ∷ 0xE1 ∷ 0x00 ∷ []) ∷
+        (0x70 ∷ 0x08 ∷ 0xE1 ∷ 0x06 ∷ 0xE1 ∷ 0x04 ∷ 0xE1 ∷ 0x02 ∷ 0xE1 ∷ 0x00 ∷ []) ∷ [])
     ≡ (0 ∷ 4 ∷ []) ∷ (2 ∷ 0 ∷ []) ∷ []
-unfolding readBody responseBody headerOf tagAt tagSize lengthAt tagFirstByte isTemplate isPrivate bigEndianFrom if both parseTree recurse recurseBy nextOf withNode objectCount templateParts primitiveItems takeAll
+unfolding readBody responseBody headerOf tagAt tagSize lengthAt tagFirstByte isTemplate isPrivate bigEndianFrom if both
+    parseTree recurse recurseBy nextOf withNode objectCount templateParts primitiveItems takeAll
 levels = refl
 
 -- a wrong outer tag keeps the count, and so does an object that is not allowed; a second object, or a byte after,
@@ -85,13 +97,17 @@ counts : map (body (sfi 1))
     ∷ (0x70 ∷ 0x04 ∷ 0x82 ∷ 0x02 ∷ 0x19 ∷ 0x80 ∷ [])
     ∷ [])
     ≡ (2 ∷ 1 ∷ []) ∷ (2 ∷ 2 ∷ []) ∷ (2 ∷ 1 ∷ []) ∷ (2 ∷ 1 ∷ []) ∷ (2 ∷ 0 ∷ []) ∷ (2 ∷ 0 ∷ []) ∷ (3 ∷ 2 ∷ []) ∷ []
-unfolding readBody responseBody headerOf tagAt tagSize lengthAt tagFirstByte isTemplate isPrivate bigEndianFrom if both parseTree recurse recurseBy nextOf withLeaf withNode objectCount primitiveParts templateParts primitiveItems takeAll takeNext takeItem dictionaryRows rowPast findRow allowedNow allowedInResponse allowedInTemplate
+unfolding readBody responseBody headerOf tagAt tagSize lengthAt tagFirstByte isTemplate isPrivate bigEndianFrom if both
+    parseTree recurse recurseBy nextOf withLeaf withNode objectCount primitiveParts templateParts primitiveItems
+    takeAll takeNext takeItem dictionaryRows rowPast findRow allowedNow allowedInResponse allowedInTemplate
 counts = refl
 
 -- 70 for the other two answers, and 57 in place of 80
-others : map (body Gpo) ((0x70 ∷ 0x00 ∷ []) ∷ (0x57 ∷ 0x00 ∷ []) ∷ (0x77 ∷ 0x00 ∷ []) ∷ []) ++ map (body Cryptogram) ((0x70 ∷ 0x00 ∷ []) ∷ (0x57 ∷ 0x00 ∷ []) ∷ (0x77 ∷ 0x00 ∷ []) ∷ [])
+others : map (body Gpo) ((0x70 ∷ 0x00 ∷ []) ∷ (0x57 ∷ 0x00 ∷ []) ∷ (0x77 ∷ 0x00 ∷ []) ∷ []) ++ map (body Cryptogram)
+    ((0x70 ∷ 0x00 ∷ []) ∷ (0x57 ∷ 0x00 ∷ []) ∷ (0x77 ∷ 0x00 ∷ []) ∷ [])
     ≡ (2 ∷ 1 ∷ []) ∷ (2 ∷ 1 ∷ []) ∷ (0 ∷ 1 ∷ []) ∷ (2 ∷ 1 ∷ []) ∷ (2 ∷ 1 ∷ []) ∷ (0 ∷ 1 ∷ []) ∷ []
-unfolding readBody responseBody headerOf tagAt tagSize lengthAt tagFirstByte isTemplate isPrivate bigEndianFrom if both parseTree recurse recurseBy nextOf objectCount primitiveParts templateParts primitiveItems takeAll
+unfolding readBody responseBody headerOf tagAt tagSize lengthAt tagFirstByte isTemplate isPrivate bigEndianFrom if both
+    parseTree recurse recurseBy nextOf objectCount primitiveParts templateParts primitiveItems takeAll
 others = refl
 
 -- ---- padding (document 02, Item 6)
@@ -108,14 +124,21 @@ padded : map (body (sfi 1))
     ∷ (0x70 ∷ 0x0A ∷ 0x00 ∷ 0xE1 ∷ 0x07 ∷ 0x00 ∷ 0xE1 ∷ 0x04 ∷ 0x00 ∷ 0xE1 ∷ 0x01 ∷ 0x00 ∷ [])
     ∷ [])
     ≡ (0 ∷ 1 ∷ []) ∷ (0 ∷ 2 ∷ []) ∷ (0 ∷ 2 ∷ []) ∷ (0 ∷ 3 ∷ []) ∷ (0 ∷ 3 ∷ []) ∷ (0 ∷ 4 ∷ []) ∷ (0 ∷ 4 ∷ []) ∷ []
-unfolding readBody responseBody headerOf tagAt tagSize tagSecondByte lengthAt tagFirstByte isTemplate isPrivate bigEndianFrom if both parseTree recurse recurseBy nextOf withLeaf withNode objectCount templateParts primitiveItems takeAll takeNext takeItem dictionaryRows rowPast findRow allowedNow allowedInResponse allowedInTemplate fitsRow digitsFit numeric nibbles every rowOffset rowPlace placeValue rowValue putRow objectValueIn
+unfolding readBody responseBody headerOf tagAt tagSize tagSecondByte lengthAt tagFirstByte isTemplate isPrivate
+    bigEndianFrom if both parseTree recurse recurseBy nextOf withLeaf withNode objectCount templateParts primitiveItems
+    takeAll takeNext takeItem dictionaryRows rowPast findRow allowedNow allowedInResponse allowedInTemplate fitsRow
+    digitsFit numeric nibbles every rowOffset rowPlace placeValue rowValue putRow objectValueIn
 padded = refl
 
 -- what is stored is what is stored without the padding
 same-store : readBody (sfi 1) (replicate storeSize 0)
     (0x70 ∷ 0x0D ∷ 0x00 ∷ 0x9F ∷ 0x08 ∷ 0x02 ∷ 0x00 ∷ 0x02 ∷ 0x00 ∷ 0x5F ∷ 0x25 ∷ 0x03 ∷ 0x24 ∷ 0x01 ∷ 0x01 ∷ [])
-    ≡ readBody (sfi 1) (replicate storeSize 0) (0x70 ∷ 0x0B ∷ 0x9F ∷ 0x08 ∷ 0x02 ∷ 0x00 ∷ 0x02 ∷ 0x5F ∷ 0x25 ∷ 0x03 ∷ 0x24 ∷ 0x01 ∷ 0x01 ∷ [])
-unfolding readBody responseBody headerOf tagAt tagSize tagSecondByte lengthAt tagFirstByte isTemplate isPrivate bigEndianFrom if both parseTree recurse recurseBy nextOf withLeaf withNode objectCount templateParts primitiveItems takeAll takeNext takeItem dictionaryRows rowPast findRow allowedNow allowedInResponse allowedInTemplate fitsRow digitsFit numeric nibbles every rowOffset rowPlace placeValue rowValue putRow objectValueIn
+    ≡ readBody (sfi 1) (replicate storeSize 0)
+        (0x70 ∷ 0x0B ∷ 0x9F ∷ 0x08 ∷ 0x02 ∷ 0x00 ∷ 0x02 ∷ 0x5F ∷ 0x25 ∷ 0x03 ∷ 0x24 ∷ 0x01 ∷ 0x01 ∷ [])
+unfolding readBody responseBody headerOf tagAt tagSize tagSecondByte lengthAt tagFirstByte isTemplate isPrivate
+    bigEndianFrom if both parseTree recurse recurseBy nextOf withLeaf withNode objectCount templateParts primitiveItems
+    takeAll takeNext takeItem dictionaryRows rowPast findRow allowedNow allowedInResponse allowedInTemplate fitsRow
+    digitsFit numeric nibbles every rowOffset rowPlace placeValue rowValue putRow objectValueIn
 same-store = refl
 
 -- malformed: a fifth level over padding; 00 before 70 and after it, after a full 70, as the second byte of a tag, after
@@ -132,23 +155,34 @@ unpadded : map (body (sfi 1))
     ∷ (0x70 ∷ 0x03 ∷ 0x00 ∷ 0x95 ∷ 0x01 ∷ [])
     ∷ [])
     ≡ replicate 9 (2 ∷ 0 ∷ [])
-unfolding readBody responseBody headerOf tagAt tagSize tagSecondByte lengthAt tagFirstByte isTemplate isPrivate bigEndianFrom if both parseTree recurse recurseBy nextOf withLeaf withNode
+unfolding readBody responseBody headerOf tagAt tagSize tagSecondByte lengthAt tagFirstByte isTemplate isPrivate
+    bigEndianFrom if both parseTree recurse recurseBy nextOf withLeaf withNode
 unpadded = refl
 
 -- a wrong outer tag over padding, and an object that is not allowed after it, keep the count
-padded-counts : map (body (sfi 1)) ((0x61 ∷ 0x02 ∷ 0x00 ∷ 0x00 ∷ []) ∷ (0x70 ∷ 0x04 ∷ 0x00 ∷ 0x95 ∷ 0x01 ∷ 0x00 ∷ []) ∷ [])
+padded-counts : map (body (sfi 1)) ((0x61 ∷ 0x02 ∷ 0x00 ∷ 0x00 ∷ []) ∷ (0x70 ∷ 0x04 ∷ 0x00 ∷ 0x95 ∷ 0x01 ∷ 0x00 ∷ []) ∷
+    [])
     ≡ (2 ∷ 1 ∷ []) ∷ (3 ∷ 2 ∷ []) ∷ []
-unfolding readBody responseBody headerOf tagAt tagSize lengthAt tagFirstByte isTemplate isPrivate bigEndianFrom if both parseTree recurse recurseBy nextOf withLeaf withNode objectCount templateParts primitiveItems takeAll takeNext takeItem dictionaryRows rowPast findRow allowedNow allowedInResponse
+unfolding readBody responseBody headerOf tagAt tagSize lengthAt tagFirstByte isTemplate isPrivate bigEndianFrom if both
+    parseTree recurse recurseBy nextOf withLeaf withNode objectCount templateParts primitiveItems takeAll takeNext
+    takeItem dictionaryRows rowPast findRow allowedNow allowedInResponse
 padded-counts = refl
 
 -- 77 with padding for both other answers; none in the value of an 80, whose leading and trailing 00 are its own
-padded-others : body Gpo (0x77 ∷ 0x0F ∷ 0x00 ∷ 0x82 ∷ 0x02 ∷ 0x00 ∷ 0x80 ∷ 0x00 ∷ 0x00 ∷ 0x94 ∷ 0x04 ∷ 0x08 ∷ 0x01 ∷ 0x01 ∷ 0x00 ∷ 0x00 ∷ 0x00 ∷ [])
+padded-others : body Gpo
+    (0x77 ∷ 0x0F ∷ 0x00 ∷ 0x82 ∷ 0x02 ∷ 0x00 ∷ 0x80 ∷ 0x00 ∷ 0x00 ∷ 0x94 ∷ 0x04 ∷ 0x08 ∷ 0x01 ∷ 0x01 ∷ 0x00 ∷ 0x00 ∷
+    0x00 ∷ [])
     ∷ body Gpo (0x80 ∷ 0x07 ∷ 0x00 ∷ 0x80 ∷ 0x08 ∷ 0x01 ∷ 0x01 ∷ 0x00 ∷ 0x00 ∷ [])
     ∷ body Gpo (0x80 ∷ 0x06 ∷ 0x00 ∷ 0x80 ∷ 0x08 ∷ 0x01 ∷ 0x01 ∷ 0x00 ∷ [])
-    ∷ body Cryptogram (0x77 ∷ 0x18 ∷ 0x00 ∷ 0x9F ∷ 0x27 ∷ 0x01 ∷ 0x40 ∷ 0x00 ∷ 0x9F ∷ 0x36 ∷ 0x02 ∷ 0x00 ∷ 0x01 ∷ 0x00 ∷ 0x9F ∷ 0x26 ∷ 0x08 ∷ 0x01 ∷ 0x02 ∷ 0x03 ∷ 0x04 ∷ 0x05 ∷ 0x06 ∷ 0x07 ∷ 0x08 ∷ 0x00 ∷ [])
+    ∷ body Cryptogram
+        (0x77 ∷ 0x18 ∷ 0x00 ∷ 0x9F ∷ 0x27 ∷ 0x01 ∷ 0x40 ∷ 0x00 ∷ 0x9F ∷ 0x36 ∷ 0x02 ∷ 0x00 ∷ 0x01 ∷ 0x00 ∷ 0x9F ∷ 0x26
+        ∷ 0x08 ∷ 0x01 ∷ 0x02 ∷ 0x03 ∷ 0x04 ∷ 0x05 ∷ 0x06 ∷ 0x07 ∷ 0x08 ∷ 0x00 ∷ [])
     ∷ []
     ≡ (0 ∷ 3 ∷ []) ∷ (2 ∷ 1 ∷ []) ∷ (0 ∷ 1 ∷ []) ∷ (0 ∷ 4 ∷ []) ∷ []
-unfolding readBody responseBody headerOf tagAt tagSize tagSecondByte lengthAt tagFirstByte isTemplate isPrivate bigEndianFrom if both parseTree recurse recurseBy nextOf withLeaf withNode objectCount primitiveParts gpoParts templateParts primitiveItems takeAll takeNext takeItem dictionaryRows rowPast findRow allowedNow allowedInResponse allowedInTemplate fitsRow digitsFit rowOffset rowPlace placeValue rowValue putRow objectValueIn
+unfolding readBody responseBody headerOf tagAt tagSize tagSecondByte lengthAt tagFirstByte isTemplate isPrivate
+    bigEndianFrom if both parseTree recurse recurseBy nextOf withLeaf withNode objectCount primitiveParts gpoParts
+    templateParts primitiveItems takeAll takeNext takeItem dictionaryRows rowPast findRow allowedNow allowedInResponse
+    allowedInTemplate fitsRow digitsFit rowOffset rowPlace placeValue rowValue putRow objectValueIn
 padded-others = refl
 
 -- ---- templates inside templates (document 02, Item 10, walks the same bytes without recursion)
@@ -169,8 +203,12 @@ nested : map (body (sfi 1))
     ∷ (0x70 ∷ 0x07 ∷ 0x57 ∷ 0x00 ∷ 0x57 ∷ 0x01 ∷ 0xAA ∷ 0x57 ∷ 0x00 ∷ [])
     ∷ (0x70 ∷ 0x06 ∷ 0xE1 ∷ 0x04 ∷ 0x00 ∷ 0xE1 ∷ 0x00 ∷ 0x00 ∷ [])
     ∷ [])
-    ≡ (0 ∷ 3 ∷ []) ∷ (0 ∷ 7 ∷ []) ∷ (2 ∷ 0 ∷ []) ∷ (0 ∷ 5 ∷ []) ∷ (0 ∷ 4 ∷ []) ∷ (3 ∷ 3 ∷ []) ∷ (2 ∷ 0 ∷ []) ∷ (0 ∷ 5 ∷ []) ∷ (2 ∷ 0 ∷ []) ∷ (3 ∷ 4 ∷ []) ∷ (0 ∷ 3 ∷ []) ∷ []
-unfolding readBody responseBody headerOf tagAt tagSize tagSecondByte lengthAt tagFirstByte isTemplate isPrivate bigEndianFrom if both parseTree recurse recurseBy nextOf withLeaf withNode objectCount templateParts primitiveItems takeAll takeNext takeItem dictionaryRows rowPast findRow allowedNow allowedInResponse allowedInTemplate fitsRow digitsFit numeric nibbles every rowOffset rowPlace placeValue rowValue putRow objectValueIn
+    ≡ (0 ∷ 3 ∷ []) ∷ (0 ∷ 7 ∷ []) ∷ (2 ∷ 0 ∷ []) ∷ (0 ∷ 5 ∷ []) ∷ (0 ∷ 4 ∷ []) ∷ (3 ∷ 3 ∷ []) ∷ (2 ∷ 0 ∷ []) ∷
+        (0 ∷ 5 ∷ []) ∷ (2 ∷ 0 ∷ []) ∷ (3 ∷ 4 ∷ []) ∷ (0 ∷ 3 ∷ []) ∷ []
+unfolding readBody responseBody headerOf tagAt tagSize tagSecondByte lengthAt tagFirstByte isTemplate isPrivate
+    bigEndianFrom if both parseTree recurse recurseBy nextOf withLeaf withNode objectCount templateParts primitiveItems
+    takeAll takeNext takeItem dictionaryRows rowPast findRow allowedNow allowedInResponse allowedInTemplate fitsRow
+    digitsFit numeric nibbles every rowOffset rowPlace placeValue rowValue putRow objectValueIn
 nested = refl
 
 -- the store that a body leaves of one that holds nothing
@@ -185,7 +223,10 @@ nested-stores : map (left (sfi 1))
     ∷ (0x70 ∷ 0x0B ∷ 0x70 ∷ 0x09 ∷ 0x70 ∷ 0x07 ∷ 0x70 ∷ 0x05 ∷ 0x9F ∷ 0x08 ∷ 0x02 ∷ 0x00 ∷ 0x02 ∷ [])
     ∷ [])
     ≡ replicate 4 (left (sfi 1) (0x70 ∷ 0x05 ∷ 0x9F ∷ 0x08 ∷ 0x02 ∷ 0x00 ∷ 0x02 ∷ []))
-unfolding readBody responseBody headerOf tagAt tagSize tagSecondByte lengthAt tagFirstByte isTemplate isPrivate bigEndianFrom if both parseTree recurse recurseBy nextOf withLeaf withNode objectCount templateParts primitiveItems takeAll takeNext takeItem dictionaryRows rowPast findRow allowedNow allowedInResponse allowedInTemplate fitsRow digitsFit numeric nibbles every rowOffset rowPlace placeValue rowValue putRow objectValueIn
+unfolding readBody responseBody headerOf tagAt tagSize tagSecondByte lengthAt tagFirstByte isTemplate isPrivate
+    bigEndianFrom if both parseTree recurse recurseBy nextOf withLeaf withNode objectCount templateParts primitiveItems
+    takeAll takeNext takeItem dictionaryRows rowPast findRow allowedNow allowedInResponse allowedInTemplate fitsRow
+    digitsFit numeric nibbles every rowOffset rowPlace placeValue rowValue putRow objectValueIn
 nested-stores = refl
 
 nested-kept : map (left (sfi 1))
@@ -194,15 +235,27 @@ nested-kept : map (left (sfi 1))
     ∷ (0x70 ∷ 0x07 ∷ 0x57 ∷ 0x00 ∷ 0x57 ∷ 0x01 ∷ 0xAA ∷ 0x57 ∷ 0x00 ∷ [])
     ∷ [])
     ≡ replicate 3 (replicate storeSize 0)
-unfolding readBody responseBody headerOf tagAt tagSize tagSecondByte lengthAt tagFirstByte isTemplate isPrivate bigEndianFrom if both parseTree recurse recurseBy nextOf withLeaf withNode objectCount templateParts primitiveItems takeAll takeNext takeItem dictionaryRows rowPast findRow allowedNow allowedInResponse allowedInTemplate fitsRow digitsFit numeric nibbles every rowOffset rowPlace placeValue rowValue putRow objectValueIn
+unfolding readBody responseBody headerOf tagAt tagSize tagSecondByte lengthAt tagFirstByte isTemplate isPrivate
+    bigEndianFrom if both parseTree recurse recurseBy nextOf withLeaf withNode objectCount templateParts primitiveItems
+    takeAll takeNext takeItem dictionaryRows rowPast findRow allowedNow allowedInResponse allowedInTemplate fitsRow
+    digitsFit numeric nibbles every rowOffset rowPlace placeValue rowValue putRow objectValueIn
 nested-kept = refl
 
 -- GPO: 5F28 in a 70 that is in the 77, and 82 directly in the 77
-nested-gpo : body Gpo (0x77 ∷ 0x0B ∷ 0x70 ∷ 0x05 ∷ 0x5F ∷ 0x28 ∷ 0x02 ∷ 0x00 ∷ 0x56 ∷ 0x82 ∷ 0x02 ∷ 0x00 ∷ 0x80 ∷ []) ≡ 0 ∷ 4 ∷ []
-unfolding readBody responseBody headerOf tagAt tagSize tagSecondByte lengthAt tagFirstByte isTemplate isPrivate bigEndianFrom if both parseTree recurse recurseBy nextOf withLeaf withNode objectCount templateParts primitiveItems takeAll takeNext takeItem dictionaryRows rowPast findRow allowedNow allowedInResponse allowedInTemplate fitsRow digitsFit numeric nibbles every rowOffset rowPlace placeValue rowValue putRow objectValueIn
+nested-gpo : body Gpo (0x77 ∷ 0x0B ∷ 0x70 ∷ 0x05 ∷ 0x5F ∷ 0x28 ∷ 0x02 ∷ 0x00 ∷ 0x56 ∷ 0x82 ∷ 0x02 ∷ 0x00 ∷ 0x80 ∷ []) ≡
+    0 ∷ 4 ∷ []
+unfolding readBody responseBody headerOf tagAt tagSize tagSecondByte lengthAt tagFirstByte isTemplate isPrivate
+    bigEndianFrom if both parseTree recurse recurseBy nextOf withLeaf withNode objectCount templateParts primitiveItems
+    takeAll takeNext takeItem dictionaryRows rowPast findRow allowedNow allowedInResponse allowedInTemplate fitsRow
+    digitsFit numeric nibbles every rowOffset rowPlace placeValue rowValue putRow objectValueIn
 nested-gpo = refl
 
-nested-gpo-store : left Gpo (0x77 ∷ 0x0B ∷ 0x70 ∷ 0x05 ∷ 0x5F ∷ 0x28 ∷ 0x02 ∷ 0x00 ∷ 0x56 ∷ 0x82 ∷ 0x02 ∷ 0x00 ∷ 0x80 ∷ [])
-    ≡ readBody Gpo (left (sfi 1) (0x70 ∷ 0x05 ∷ 0x5F ∷ 0x28 ∷ 0x02 ∷ 0x00 ∷ 0x56 ∷ [])) (0x77 ∷ 0x04 ∷ 0x82 ∷ 0x02 ∷ 0x00 ∷ 0x80 ∷ []) .store
-unfolding readBody responseBody headerOf tagAt tagSize tagSecondByte lengthAt tagFirstByte isTemplate isPrivate bigEndianFrom if both parseTree recurse recurseBy nextOf withLeaf withNode objectCount templateParts primitiveItems takeAll takeNext takeItem dictionaryRows rowPast findRow allowedNow allowedInResponse allowedInTemplate fitsRow digitsFit numeric nibbles every rowOffset rowPlace placeValue rowValue putRow objectValueIn
+nested-gpo-store : left Gpo (0x77 ∷ 0x0B ∷ 0x70 ∷ 0x05 ∷ 0x5F ∷ 0x28 ∷ 0x02 ∷ 0x00 ∷ 0x56 ∷ 0x82 ∷ 0x02 ∷ 0x00 ∷ 0x80 ∷
+    [])
+    ≡ readBody Gpo (left (sfi 1) (0x70 ∷ 0x05 ∷ 0x5F ∷ 0x28 ∷ 0x02 ∷ 0x00 ∷ 0x56 ∷ []))
+        (0x77 ∷ 0x04 ∷ 0x82 ∷ 0x02 ∷ 0x00 ∷ 0x80 ∷ []) .store
+unfolding readBody responseBody headerOf tagAt tagSize tagSecondByte lengthAt tagFirstByte isTemplate isPrivate
+    bigEndianFrom if both parseTree recurse recurseBy nextOf withLeaf withNode objectCount templateParts primitiveItems
+    takeAll takeNext takeItem dictionaryRows rowPast findRow allowedNow allowedInResponse allowedInTemplate fitsRow
+    digitsFit numeric nibbles every rowOffset rowPlace placeValue rowValue putRow objectValueIn
 nested-gpo-store = refl

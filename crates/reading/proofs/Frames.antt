@@ -65,7 +65,8 @@ module _ (ends tags : List ℕ) (i e t : ℕ) where
   opened-set s (suc k) a l =
       let p = getD-set-other ends i k e 0 (λ q. omega arith) in
       let q = getD-set-other tags i k t 0 (λ q. omega arith) in
-      rw (p, q) (ap (λ (fs : List Frame). frame (part s a (getD ends k 0)) (getD tags k 0) ∷ fs) (opened-set s k (getD ends k 0) (omega arith)))
+      rw (p, q) (ap (λ (fs : List Frame). frame (part s a (getD ends k 0)) (getD tags k 0) ∷ fs)
+          (opened-set s k (getD ends k 0) (omega arith)))
 
   nested-set : (n k a : ℕ) → k ≤ i → Nested ends n k a → Nested (set ends i e) n k a
   unfolding Nested
@@ -77,7 +78,8 @@ module _ (ends tags : List ℕ) (i e t : ℕ) where
 -- ---- the invariant, and each iteration of the walk
 
 -- after n objects, k of them listed in l, at a place of the innermost template; All is what the whole walk promises
-pub record Reached (s : List ℕ) (e : ℕ) (All : Walked → List ℕ → Type 0) (ends around : List ℕ) (depth at n k : ℕ) (l : List ℕ) : Type 0 where
+pub record Reached (s : List ℕ) (e : ℕ) (All : Walked → List ℕ → Type 0) (ends around : List ℕ) (depth at n k : ℕ)
+    (l : List ℕ) : Type 0 where
   pub ends-four : length ends ≡ 4
   pub around-four : length around ≡ 4
   pub few : depth < 4
@@ -86,7 +88,8 @@ pub record Reached (s : List ℕ) (e : ℕ) (All : Walked → List ℕ → Type 
   pub fits : WalkFits s at e n k l
   pub before : at ≤ getD ends depth 0
   pub same : (r : Walked) (l′ : List ℕ)
-    → Left s r l′ (frame (part s at (getD ends depth 0)) (getD around depth 0) ∷ opened s ends around depth (getD ends depth 0)) n (itemsIn s k l)
+    → Left s r l′ (frame (part s at (getD ends depth 0)) (getD around depth 0) ∷ opened s ends around depth
+        (getD ends depth 0)) n (itemsIn s k l)
     → All r l′
 
 -- the measure of the walk: what is left of the bytes, twice, and the open levels
@@ -144,7 +147,8 @@ module _ {s : List ℕ} {e : ℕ} {All : Walked → List ℕ → Type 0} {ends a
   run = record { fits = w .fits; before = w .before; inside = inside; tag = w .tags depth; same = w .same }
 
   -- one step on within it
-  pub step : {at′ n′ k′ : ℕ} {l′ : List ℕ} → Run s e stop (3 - length outside) inmost K All at′ n′ k′ l′ → Reached s e All ends around depth at′ n′ k′ l′
+  pub step : {at′ n′ k′ : ℕ} {l′ : List ℕ} → Run s e stop (3 - length outside) inmost K All at′ n′ k′ l′
+      → Reached s e All ends around depth at′ n′ k′ l′
   unfolding Left
   step r = record {
     ends-four = w .ends-four;
@@ -162,7 +166,8 @@ module _ {s : List ℕ} {e : ℕ} {All : Walked → List ℕ → Type 0} {ends a
     unfolding opened Left
     done q =
         ended run (omega arith) (Whole (tally n k)) l
-        (subst (λ (d : ℕ). Left s (Whole (tally n k)) l (opened s ends around d stop) n (itemsIn s k l)) (sym q) (has-listed (w .fits)))
+        (subst (λ (d : ℕ). Left s (Whole (tally n k)) l (opened s ends around d stop) n (itemsIn s k l)) (sym q)
+            (has-listed (w .fits)))
 
     module _ (q : depth ≡ 0 → ⊥) where
       abbrev next : ℕ
@@ -171,7 +176,8 @@ module _ {s : List ℕ} {e : ℕ} {All : Walked → List ℕ → Type 0} {ends a
       -- the template around it ends after it
       nested-out : (stop ≤ next) × Nested ends e (depth - 1) next
       unfolding Nested
-      nested-out = let m : depth ≡ suc (depth - 1) = omega arith in subst (λ (d : ℕ). Nested ends e d stop) m (w .nested)
+      nested-out = let m : depth ≡ suc (depth - 1) = omega arith in
+          subst (λ (d : ℕ). Nested ends e d stop) m (w .nested)
 
       opened-out : outside ≡ frame (part s at next) (getD around (depth - 1) 0) ∷ opened s ends around (depth - 1) next
       unfolding opened
@@ -186,7 +192,8 @@ module _ {s : List ℕ} {e : ℕ} {All : Walked → List ℕ → Type 0} {ends a
         tags = w .tags;
         fits = w .fits;
         before = omega arith;
-        same = λ r l′ h. ended run (omega arith) r l′ (subst (λ (fs : List Frame). Left s r l′ fs n (itemsIn s k l)) (sym opened-out) h);
+        same = λ r l′ h. ended run (omega arith) r l′ (subst (λ (fs : List Frame). Left s r l′ fs n (itemsIn s k l))
+            (sym opened-out) h);
       }
 
   pub more : (at ≡ stop → ⊥) → at < stop
@@ -228,11 +235,13 @@ module _ {s : List ℕ} {e : ℕ} {All : Walked → List ℕ → Type 0} {ends a
       nested-in : Nested ends′ e (depth + 1) beyond
       unfolding Nested
       nested-in =
-          nested-set ends around (depth + 1) beyond (h .tag) e (depth + 1) beyond (omega arith) (rw (add-one depth) (bounds x .1 .0, w .nested))
+          nested-set ends around (depth + 1) beyond (h .tag) e (depth + 1) beyond (omega arith)
+              (rw (add-one depth) (bounds x .1 .0, w .nested))
 
       opened-in : opened s ends′ around′ (depth + 1) beyond ≡ frame (part s beyond stop) inmost ∷ outside
       unfolding opened
-      opened-in = opened-set ends around (depth + 1) beyond (h .tag) s (depth + 1) beyond (omega arith) ∙ rw (add-one depth)
+      opened-in = opened-set ends around (depth + 1) beyond (h .tag) s (depth + 1) beyond (omega arith)
+          ∙ rw (add-one depth)
 
       pub push : h .template ≡ true → Reached s e All ends′ around′ (depth + 1) from (n + 1) k l
       unfolding Left
@@ -249,7 +258,10 @@ module _ {s : List ℕ} {e : ℕ} {All : Walked → List ℕ → Type 0} {ends a
             before = rw end-is (omega arith);
             same = λ r l′ g.
                 node-same x p (λ y. omega (arith, w .few)) r l′
-                (subst (λ (j : ℕ). ThenLists (h .tag) (parseTree j (part s from beyond)) r (ThenLists inmost (parseTree (3 - length outside) (part s beyond stop)) r (K r l′)) (n + 1) (itemsIn s k l)) d
-                (subst (λ (fs : List Frame). Left s r l′ (frame (part s from beyond) (h .tag) ∷ fs) (n + 1) (itemsIn s k l)) opened-in
+                (subst (λ (j : ℕ). ThenLists (h .tag) (parseTree j (part s from beyond)) r
+                    (ThenLists inmost (parseTree (3 - length outside) (part s beyond stop)) r (K r l′)) (n + 1)
+                    (itemsIn s k l)) d
+                (subst (λ (fs : List Frame). Left s r l′ (frame (part s from beyond) (h .tag) ∷ fs) (n + 1)
+                    (itemsIn s k l)) opened-in
                 (rw (tag-is, end-is) at g)));
           }

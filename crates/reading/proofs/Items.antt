@@ -23,7 +23,8 @@ use Rattle.tlv.specs.Length.{lengthAt}
 use Rattle.tlv.specs.Object.{headerOf, headerWithLength, headerWithTag, headerValue, behindObject}
 use Rattle.tlv.proofs.Laws.{Bytes, contents-is, number-one, number-two, number-three, tag-fits, HeaderFits}
 use Rattle.reading.specs.Taking.{PrimitiveItem, primitiveItem}
-use Rattle.reading.specs.Items.{packedItem, itemTag, itemAround, valueStart, valueLength, valueIn, itemOf, mostItems, itemsOf, ValueInside, AllInside, itemsIn, WalkFits}
+use Rattle.reading.specs.Items.{packedItem, itemTag, itemAround, valueStart, valueLength, valueIn, itemOf}
+use Rattle.reading.specs.Items.{mostItems, itemsOf, ValueInside, AllInside, itemsIn, WalkFits}
 
 -- ---- packing
 
@@ -41,7 +42,8 @@ module _ (t a p n : ℕ) (around : a < 0x1000000) (some : 1 ≤ p) (place : p �
   inside-packed s h = rw (unpacked .1 .1 .0, unpacked .1 .1 .1) h
 
 -- the bytes that the code takes for a value
-pub code-value : (s : List ℕ) (x a n : ℕ) → a ≡ valueStart x → n ≡ valueLength x → take (a + n - a) (drop a s) ≡ valueIn s x
+pub code-value : (s : List ℕ) (x a n : ℕ) → a ≡ valueStart x → n ≡ valueLength x
+    → take (a + n - a) (drop a s) ≡ valueIn s x
 code-value s x a n p q = contents-is s a n ∙ ap₂ (λ (i j : ℕ). take i (drop j s)) q p
 
 -- ---- lists
@@ -86,7 +88,8 @@ pub drop-take : (m n : ℕ) (l : List ℕ) → drop m (take n l) ≡ take (n - m
 drop-take zero n l = let e : n ≡ n - 0 = omega arith in ap (λ (k : ℕ). take k l) e
 drop-take (suc m) zero l = let e : 0 ≡ 0 - suc m = omega arith in ap (λ (k : ℕ). take k (drop (suc m) l)) e
 drop-take (suc m) (suc n) [] = sym (take-nil (suc n - suc m))
-drop-take (suc m) (suc n) (x ∷ l) = let e : n - m ≡ suc n - suc m = omega arith in drop-take m n l ∙ ap (λ (k : ℕ). take k (drop m l)) e
+drop-take (suc m) (suc n) (x ∷ l) = let e : n - m ≡ suc n - suc m = omega arith in
+    drop-take m n l ∙ ap (λ (k : ℕ). take k (drop m l)) e
 
 abbrev pub part : List ℕ → ℕ → ℕ → List ℕ
 part s a e = take (e - a) (drop a s)
@@ -160,7 +163,8 @@ small-tag : (s : List ℕ) (x : TagFront) → Bytes s → tagAt s ≡ x → Smal
 small-tag s Untagged b e = tt
 small-tag s (Tagged t) b e =
     let f = tag-fits s t e in
-    small-length s t (lengthAt (drop (t .size) s)) (rw (f .reads) (small-number s (t .size) b (f .few) (f .inside) (λ z. omega (arith, f .some))))
+    small-length s t (lengthAt (drop (t .size) s))
+        (rw (f .reads) (small-number s (t .size) b (f .few) (f .inside) (λ z. omega (arith, f .some))))
 
 pub tag-small : (s : List ℕ) (h : TlvHeader) → Bytes s → headerOf s ≡ Object h → h .tag < 0x1000000
 unfolding headerOf

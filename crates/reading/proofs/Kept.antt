@@ -23,8 +23,10 @@ use Rattle.store.specs.Place.{StoredValue, bytesOfValue, rowValue, isFree, putR
 use Rattle.store.proofs.Laws.{Fits, put-length, put-other}
 use Rattle.store.proofs.Rows.{rows-length, fits-row}
 use Rattle.reading.specs.declared.Awaited.{Awaited}
-use Rattle.reading.specs.Taking.{PrimitiveItem, cardMaySet, allowedInResponse, allowedNow, TakeState, takeState, takeKnown, takeFound, takeItem, takeNext, takeAll}
-use Rattle.reading.specs.Answer.{ReadingOutcome, ResponseBody, responseBit, responseBody, bodyCount, bodyParts, readParts, readTree, readBody, readAnswer}
+use Rattle.reading.specs.Taking.{PrimitiveItem, cardMaySet, allowedInResponse, allowedNow, TakeState, takeState}
+use Rattle.reading.specs.Taking.{takeKnown, takeFound, takeItem, takeNext, takeAll}
+use Rattle.reading.specs.Answer.{ReadingOutcome, ResponseBody, responseBit, responseBody, bodyCount, bodyParts}
+use Rattle.reading.specs.Answer.{readParts, readTree, readBody, readAnswer}
 
 -- an object that is put into row k of the store b, in an answer
 pub record Put (answer : ℕ) (b : List ℕ) (k : ℕ) (i : PrimitiveItem) : Type 0 where
@@ -35,18 +37,23 @@ pub record Put (answer : ℕ) (b : List ℕ) (k : ℕ) (i : PrimitiveItem) : Typ
   pub brought : hasBit (rowAt k .answers) answer ≡ true
   pub free : isFree dictionaryRows b k ≡ true
 
-put-of : (answer : ℕ) (b : List ℕ) (i : PrimitiveItem) (k : ℕ) → findRow dictionaryRows (i .tag) ≡ At k → allowedNow answer b k (i .around) (i .value) ≡ true → Put answer b k i
+put-of : (answer : ℕ) (b : List ℕ) (i : PrimitiveItem) (k : ℕ) → findRow dictionaryRows (i .tag) ≡ At k
+    → allowedNow answer b k (i .around) (i .value) ≡ true → Put answer b k i
 unfolding allowedNow allowedInResponse
 put-of answer b i k e a =
     let f = found dictionaryRows (i .tag) k e in
     let m = both-left _ _ a in
     let a₁ = both-right _ _ m in
     let a₂ = both-right _ _ a₁ in
-    record { row = omega (arith, rows-length); tag = f .1; fits = both-right _ _ a₂; card = both-left _ _ m; brought = both-left _ _ a₁; free = both-right _ _ a }
+    record { row = omega (arith, rows-length); tag = f .1; fits = both-right _ _ a₂; card = both-left _ _ m;
+        brought = both-left _ _ a₁; free = both-right _ _ a }
 
 -- the store keeps its size
-sized : (answer : ℕ) (b : List ℕ) (k : ℕ) (i : PrimitiveItem) → length b ≡ storeSize → Put answer b k i → length (putRow dictionaryRows b k (i .value)) ≡ storeSize
-sized answer b k i l p = put-length dictionaryRows b k (i .value) (fits-row b k (i .value) l (p .row) (fits-length (rowAt k) (i .value) (p .fits) .1)) ∙ l
+sized : (answer : ℕ) (b : List ℕ) (k : ℕ) (i : PrimitiveItem) → length b ≡ storeSize → Put answer b k i
+    → length (putRow dictionaryRows b k (i .value)) ≡ storeSize
+sized answer b k i l p =
+    put-length dictionaryRows b k (i .value)
+    (fits-row b k (i .value) l (p .row) (fits-length (rowAt k) (i .value) (p .fits) .1)) ∙ l
 
 abbrev pub All : (PrimitiveItem → Type 0) → List PrimitiveItem → Type 0
 All Q [] = Unit {0}
@@ -55,11 +62,13 @@ All Q (i ∷ is) = Q i × All Q is
 -- what holds of a store, and is kept by each put, holds of the store that a reading leaves; Q states which objects
 -- the bytes bring
 module _ (P : List ℕ → Type 0) (Q : PrimitiveItem → Type 0) (answer : ℕ)
-    (step : (b : List ℕ) (k : ℕ) (i : PrimitiveItem) → length b ≡ storeSize → Q i → Put answer b k i → P b → P (putRow dictionaryRows b k (i .value))) where
+    (step : (b : List ℕ) (k : ℕ) (i : PrimitiveItem) → length b ≡ storeSize → Q i → Put answer b k i → P b → P
+        (putRow dictionaryRows b k (i .value))) where
   abbrev Holds : List ℕ → Type 0
   Holds b = (length b ≡ storeSize) × P b
 
-  known-holds : (b : List ℕ) (i : PrimitiveItem) (k : ℕ) → findRow dictionaryRows (i .tag) ≡ At k → Q i → Holds b → Holds (takeKnown answer b i k .store)
+  known-holds : (b : List ℕ) (i : PrimitiveItem) (k : ℕ) → findRow dictionaryRows (i .tag) ≡ At k → Q i → Holds b
+      → Holds (takeKnown answer b i k .store)
   known-holds b i k e q h =
       if-ind (λ (w : TakeState). Holds (w .store)) _ _ _ (λ s. h)
       (λ s. if-ind (λ (w : TakeState). Holds (w .store)) _ _ _
@@ -77,7 +86,8 @@ module _ (P : List ℕ → Type 0) (Q : PrimitiveItem → Type 0) (answer : ℕ)
   unfolding takeNext
   next-holds w i q h = if-ind (λ (v : TakeState). Holds (v .store)) _ _ _ (λ g. item-holds (w .store) i q h) (λ g. h)
 
-  pub all-holds : (w : TakeState) (is : List PrimitiveItem) → All Q is → Holds (w .store) → Holds (takeAll answer w is .store)
+  pub all-holds : (w : TakeState) (is : List PrimitiveItem) → All Q is → Holds (w .store)
+      → Holds (takeAll answer w is .store)
   unfolding takeAll
   all-holds w [] q h = h
   all-holds w (i ∷ is) q h = all-holds (takeNext answer w i) is (q .1) (next-holds w i (q .0) h)
@@ -93,14 +103,16 @@ all-any [] = tt
 all-any (i ∷ is) = (tt, all-any is)
 
 module _ (P : List ℕ → Type 0) (a : Awaited)
-    (step : (b : List ℕ) (k : ℕ) (i : PrimitiveItem) → length b ≡ storeSize → any i → Put (responseBit a) b k i → P b → P (putRow dictionaryRows b k (i .value))) where
+    (step : (b : List ℕ) (k : ℕ) (i : PrimitiveItem) → length b ≡ storeSize → any i → Put
+        (responseBit a) b k i → P b → P (putRow dictionaryRows b k (i .value))) where
   abbrev Good : List ℕ → Type 0
   Good b = (length b ≡ storeSize) × P b
 
   parts-hold : (b : List ℕ) (n : ℕ) (x : Option (List PrimitiveItem)) → Good b → Good (readParts a b n x .store)
   parts-hold b n none h = h
   parts-hold b n (some is) h =
-      if-ind (λ (o : ReadingOutcome). Good (o .store)) _ _ _ (λ g. all-holds P any (responseBit a) step (takeState true b) is (all-any is) h) (λ g. h)
+      if-ind (λ (o : ReadingOutcome). Good (o .store)) _ _ _
+          (λ g. all-holds P any (responseBit a) step (takeState true b) is (all-any is) h) (λ g. h)
 
   tree-holds : (b : List ℕ) (x : Option ResponseBody) → Good b → Good (readTree a b x .store)
   tree-holds b none h = h
@@ -110,32 +122,40 @@ module _ (P : List ℕ → Type 0) (a : Awaited)
   unfolding readAnswer readBody
   read-holds b s h =
       let Q : ReadingOutcome → Type 0 = λ o. Good (o .store) in
-      if-ind Q _ _ _ (λ l. if-ind Q _ _ _ (λ t. if-ind Q _ _ _ (λ r. tree-holds b (responseBody (take (length s - 2) s)) h) (λ r. h)) (λ t. h)) (λ l. h)
+      if-ind Q _ _ _
+          (λ l. if-ind Q _ _ _ (λ t. if-ind Q _ _ _ (λ r. tree-holds b (responseBody (take (length s - 2) s)) h)
+          (λ r. h)) (λ t. h)) (λ l. h)
 
 -- ---- rows only ever gain a value
 
 -- a row of b that holds bytes holds the same in c
 pub record Grows (b c : List ℕ) : Type 0 where
   pub size : length c ≡ length b
-  pub kept : (k : ℕ) → (length (bytesOfValue (rowValue dictionaryRows b k)) ≡ 0 → ⊥) → rowValue dictionaryRows c k ≡ rowValue dictionaryRows b k
+  pub kept : (k : ℕ) → (length (bytesOfValue (rowValue dictionaryRows b k)) ≡ 0 → ⊥)
+      → rowValue dictionaryRows c k ≡ rowValue dictionaryRows b k
 
 -- from the store b₀ on
-grows-on : (answer : ℕ) (b₀ b : List ℕ) (k : ℕ) (i : PrimitiveItem) → length b ≡ storeSize → Put answer b k i → Grows b₀ b → Grows b₀ (putRow dictionaryRows b k (i .value))
+grows-on : (answer : ℕ) (b₀ b : List ℕ) (k : ℕ) (i : PrimitiveItem) → length b ≡ storeSize → Put answer b k i
+    → Grows b₀ b → Grows b₀ (putRow dictionaryRows b k (i .value))
 grows-on answer b₀ b k i l p g =
-    record { size = put-length dictionaryRows b k (i .value) fit ∙ g .size; kept = λ j n. untouched j n (equal-or-not j k) }
+    record { size = put-length dictionaryRows b k (i .value) fit ∙ g .size;
+        kept = λ j n. untouched j n (equal-or-not j k) }
   where
     fit : Fits dictionaryRows b k (i .value)
     fit = fits-row b k (i .value) l (p .row) (fits-length (rowAt k) (i .value) (p .fits) .1)
 
-    untouched : (j : ℕ) → (length (bytesOfValue (rowValue dictionaryRows b₀ j)) ≡ 0 → ⊥) → (j ≡ k) ⊎ (j ≡ k → ⊥) → rowValue dictionaryRows (putRow dictionaryRows b k (i .value)) j ≡ rowValue dictionaryRows b₀ j
+    untouched : (j : ℕ) → (length (bytesOfValue (rowValue dictionaryRows b₀ j)) ≡ 0 → ⊥) → (j ≡ k) ⊎ (j ≡ k → ⊥)
+        → rowValue dictionaryRows (putRow dictionaryRows b k (i .value)) j ≡ rowValue dictionaryRows b₀ j
     untouched j n (inl e) =
-        absurd (n (ap (λ (v : StoredValue). length (bytesOfValue v)) (sym (g .kept j n) ∙ ap (rowValue dictionaryRows b) e) ∙ eqb-true _ 0 (p .free)))
+        absurd (n (ap (λ (v : StoredValue). length (bytesOfValue v))
+            (sym (g .kept j n) ∙ ap (rowValue dictionaryRows b) e) ∙ eqb-true _ 0 (p .free)))
     untouched j n (inr e) = put-other dictionaryRows b k (i .value) fit j e ∙ g .kept j n
 
 -- an answer leaves every row that held bytes as it was
 pub read-grows : (a : Awaited) (b s : List ℕ) → length b ≡ storeSize → Grows b (readAnswer a b s .store)
 read-grows a b s l =
-    read-holds (Grows b) a (λ c k i m q p g. grows-on (responseBit a) b c k i m p g) b s (l, record { size = refl; kept = λ k n. refl }) .1
+    read-holds (Grows b) a (λ c k i m q p g. grows-on (responseBit a) b c k i m p g) b s (l,
+        record { size = refl; kept = λ k n. refl }) .1
 
 -- ---- rows that are not named
 
@@ -144,9 +164,11 @@ abbrev Other : ℕ → PrimitiveItem → Type 0
 Other k i = rowAt k .tag ≡ i .tag → ⊥
 
 -- objects of other tags leave row k as it was
-pub untouched : (answer k : ℕ) (w : TakeState) (is : List PrimitiveItem) → length (w .store) ≡ storeSize → All (Other k) is
+pub untouched : (answer k : ℕ) (w : TakeState) (is : List PrimitiveItem) → length (w .store) ≡ storeSize
+    → All (Other k) is
     → rowValue dictionaryRows (takeAll answer w is .store) k ≡ rowValue dictionaryRows (w .store) k
 untouched answer k w is l q =
     all-holds (λ b. rowValue dictionaryRows b k ≡ rowValue dictionaryRows (w .store) k) (Other k) answer
-    (λ b j i m o p e. put-other dictionaryRows b j (i .value) (fits-row b j (i .value) m (p .row) (fits-length (rowAt j) (i .value) (p .fits) .1)) k
+    (λ b j i m o p e. put-other dictionaryRows b j (i .value)
+        (fits-row b j (i .value) m (p .row) (fits-length (rowAt j) (i .value) (p .fits) .1)) k
     (λ z. o (ap (λ (n : ℕ). rowAt n .tag) z ∙ p .tag)) ∙ e) w is q (l, refl) .1

@@ -1,5 +1,5 @@
--- What a reading gives, from its parts: a primitive body, a template, and a body by its one object; one law for each way
--- out. Assumes nothing.
+-- What a reading gives, from its parts: a primitive body, a template, and a body by its one object; one law for each
+-- way out. Assumes nothing.
 use mathlib.Core.Path.{_≡_, refl, ap, _∙_}
 use mathlib.Core.Bool.{Bool, true, false}
 use mathlib.Core.List.{List, [], _∷_}
@@ -17,23 +17,29 @@ use Rattle.reading.specs.declared.Awaited.{Awaited}
 use Rattle.reading.specs.declared.Awaited.the-variants.{Gpo, Record, Cryptogram, Checksum}
 use Rattle.reading.specs.declared.Reading.{Reading}
 use Rattle.reading.specs.Taking.{primitiveItem, primitiveItems, TakeState, takeState}
-use Rattle.reading.specs.Answer.{ReadingOutcome, readingOutcome, GivesReading, ResponseBody, primitive, templateBody, frontBody, responseBody, templateTag}
-use Rattle.reading.specs.Answer.{gpoParts, iadPart, cryptogramParts, primitiveParts, templateParts, storedIfAllowed, readTree, readBody}
+use Rattle.reading.specs.Answer.{ReadingOutcome, readingOutcome, GivesReading, ResponseBody, primitive}
+use Rattle.reading.specs.Answer.{templateBody, frontBody, responseBody, templateTag}
+use Rattle.reading.specs.Answer.{gpoParts, iadPart, cryptogramParts, primitiveParts, templateParts}
+use Rattle.reading.specs.Answer.{storedIfAllowed, readTree, readBody}
 
 -- ---- a reading and its outcome
 
 pub regive : {r : Reading} {b : List ℕ} {o p : ReadingOutcome} → o ≡ p → GivesReading r b o → GivesReading r b p
-regive e g = record { reason = g .reason ∙ ap (λ (x : ReadingOutcome). x .reason) e; objects = g .objects ∙ ap (λ (x : ReadingOutcome). x .objects) e; store = g .store ∙ ap (λ (x : ReadingOutcome). x .store) e }
+regive e g = record { reason = g .reason ∙ ap (λ (x : ReadingOutcome). x .reason) e;
+    objects = g .objects ∙ ap (λ (x : ReadingOutcome). x .objects) e;
+    store = g .store ∙ ap (λ (x : ReadingOutcome). x .store) e }
 
 pub restore : {r : Reading} {b c : List ℕ} {o : ReadingOutcome} → b ≡ c → GivesReading r c o → GivesReading r b o
 restore e g = record { reason = g .reason; objects = g .objects; store = e ∙ g .store }
 
 -- ---- objects that were taken
 
-pub judged-yes : (b : List ℕ) (n : ℕ) {w : TakeState} {g : Bool} {c : List ℕ} → w ≡ takeState g c → g ≡ true → storedIfAllowed b n w ≡ readingOutcome 0 n c
+pub judged-yes : (b : List ℕ) (n : ℕ) {w : TakeState} {g : Bool} {c : List ℕ} → w ≡ takeState g c → g ≡ true
+    → storedIfAllowed b n w ≡ readingOutcome 0 n c
 judged-yes b n e f = ap (storedIfAllowed b n) e ∙ if-yes _ _ f
 
-pub judged-no : (b : List ℕ) (n : ℕ) {w : TakeState} {g : Bool} {c : List ℕ} → w ≡ takeState g c → g ≡ false → storedIfAllowed b n w ≡ readingOutcome 3 n b
+pub judged-no : (b : List ℕ) (n : ℕ) {w : TakeState} {g : Bool} {c : List ℕ} → w ≡ takeState g c → g ≡ false
+    → storedIfAllowed b n w ≡ readingOutcome 3 n b
 judged-no b n e f = ap (storedIfAllowed b n) e ∙ if-no _ _ f
 
 -- ---- the parts of a primitive body
@@ -51,7 +57,8 @@ module _ (v : List ℕ) where
   unfolding gpoParts
   gpo-uneven h = if-no _ _ (both-no-right _ _ (ne-eqb _ _ h))
 
-  pub gpo-whole : 6 ≤ length v → length v ≤ 250 → (length v - 2) % 4 ≡ 0 → gpoParts v ≡ some (primitiveItem 0x77 0x82 (take 2 v) ∷ primitiveItem 0x77 0x94 (drop 2 v) ∷ [])
+  pub gpo-whole : 6 ≤ length v → length v ≤ 250 → (length v - 2) % 4 ≡ 0
+      → gpoParts v ≡ some (primitiveItem 0x77 0x82 (take 2 v) ∷ primitiveItem 0x77 0x94 (drop 2 v) ∷ [])
   unfolding gpoParts
   gpo-whole a b c = if-yes _ _ (both-yes _ _ (both-yes _ _ (le-leb _ _ a) (le-leb _ _ b)) (eq-eqb _ _ c))
 
@@ -64,7 +71,8 @@ module _ (v : List ℕ) where
   cryptogram-long h = if-no _ _ (both-no-right _ _ (lt-leb _ _ h))
 
   pub cryptogram-whole : 11 ≤ length v → length v ≤ 43
-      → cryptogramParts v ≡ some (primitiveItem 0x77 0x9F27 (take 1 v) ∷ primitiveItem 0x77 0x9F36 (take 2 (drop 1 v)) ∷ primitiveItem 0x77 0x9F26 (take 8 (drop 3 v)) ∷ iadPart (drop 11 v))
+      → cryptogramParts v ≡ some (primitiveItem 0x77 0x9F27 (take 1 v) ∷ primitiveItem 0x77 0x9F36
+          (take 2 (drop 1 v)) ∷ primitiveItem 0x77 0x9F26 (take 8 (drop 3 v)) ∷ iadPart (drop 11 v))
   unfolding cryptogramParts
   cryptogram-whole a b = if-yes _ _ (both-yes _ _ (le-leb _ _ a) (le-leb _ _ b))
 
@@ -108,7 +116,8 @@ pub template-wrong : (a : Awaited) (t : ℕ) (f : Forest) → (t ≡ templateTag
 unfolding templateParts
 template-wrong a t f h = if-no _ _ (ne-eqb _ _ h)
 
-pub template-right : (a : Awaited) (t : ℕ) (f : Forest) → t ≡ templateTag a → templateParts a t f ≡ some (primitiveItems t f)
+pub template-right : (a : Awaited) (t : ℕ) (f : Forest) → t ≡ templateTag a
+    → templateParts a t f ≡ some (primitiveItems t f)
 unfolding templateParts
 template-right a t f h = if-yes _ _ (eq-eqb _ _ h)
 
@@ -124,14 +133,17 @@ module _ (s : List ℕ) where
     unfolding responseBody
     body-behind z = ap (frontBody s) e ∙ if-no _ _ (ne-eqb _ _ z)
 
-    pub body-template : h .start + h .len ≡ length s → h .template ≡ true → responseBody s ≡ templateBody (h .tag) (parseTree 3 (headerValue s h))
+    pub body-template : h .start + h .len ≡ length s → h .template ≡ true
+        → responseBody s ≡ templateBody (h .tag) (parseTree 3 (headerValue s h))
     unfolding responseBody
     body-template z p = ap (frontBody s) e ∙ if-yes _ _ (eq-eqb _ _ z) ∙ if-yes _ _ p
 
-    pub body-primitive : h .start + h .len ≡ length s → h .template ≡ false → responseBody s ≡ some (primitive (h .tag) (headerValue s h))
+    pub body-primitive : h .start + h .len ≡ length s → h .template ≡ false
+        → responseBody s ≡ some (primitive (h .tag) (headerValue s h))
     unfolding responseBody
     body-primitive z p = ap (frontBody s) e ∙ if-yes _ _ (eq-eqb _ _ z) ∙ if-no _ _ p
 
-pub body-read : (a : Awaited) (b s : List ℕ) {x : Option ResponseBody} → responseBody s ≡ x → readBody a b s ≡ readTree a b x
+pub body-read : (a : Awaited) (b s : List ℕ) {x : Option ResponseBody} → responseBody s ≡ x
+    → readBody a b s ≡ readTree a b x
 unfolding readBody
 body-read a b s e = ap (readTree a b) e

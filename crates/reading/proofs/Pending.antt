@@ -13,7 +13,8 @@ use lib.ListN.{length, getD, set, take, drop, replicate, length-drop, length-set
 use lib.Seq.{take-suc, take-suc-set, drop-cons, getD-set-same, getD-set-other, getD-take, length-take-le}
 use borrow.Author.Tests.{eq-eqb, ne-eqb, eqb-true, le-leb, lt-leb}
 use Rattle.basics.specs.Choice.{if, both}
-use Rattle.basics.proofs.Laws.{if-yes, if-no, if-ind, both-left, both-right, both-yes, both-true, both-no-left, both-no-right}
+use Rattle.basics.proofs.Laws.{if-yes, if-no, if-ind, both-left, both-right, both-yes, both-true, both-no-left}
+use Rattle.basics.proofs.Laws.{both-no-right}
 use Rattle.basics.proofs.Order.{equal-or-not, le-or-gt}
 use Rattle.tlv.specs.Tag.{isPrivate}
 use Rattle.dictionary.specs.declared.Attributes.{Attributes}
@@ -28,26 +29,34 @@ use Rattle.store.proofs.Laws.{Fits, put-length, put-get, put-other, length-byte
 use Rattle.store.proofs.Rows.{fits-row, free-yes, free-no}
 use Rattle.reading.specs.declared.ItemVerdict.{ItemVerdict}
 use Rattle.reading.specs.declared.ItemVerdict.the-variants.{Skipped, NotAllowed, ForRow}
-use Rattle.reading.specs.Taking.{PrimitiveItem, cardMaySet, allowedInResponse, allowedNow, TakeState, takeState, takeKnown, takeFound, takeItem, takeNext, takeAll}
-use Rattle.reading.specs.Items.{itemTag, itemAround, itemOf, valueIn, valueStart, valueLength, ValueInside, mostItems, itemsOf, ItemList, itemsIn}
-use Rattle.reading.specs.Pending.{judgeKnown, judgeFound, judgeItem, takeJudged, packedPending, pendingRow, withPending, markRow, PendingFits, AllPendingFit, PendingList, PendingValues}
+use Rattle.reading.specs.Taking.{PrimitiveItem, cardMaySet, allowedInResponse, allowedNow, TakeState, takeState}
+use Rattle.reading.specs.Taking.{takeKnown, takeFound, takeItem, takeNext, takeAll}
+use Rattle.reading.specs.Items.{itemTag, itemAround, itemOf, valueIn, valueStart, valueLength, ValueInside}
+use Rattle.reading.specs.Items.{mostItems, itemsOf, ItemList, itemsIn}
+use Rattle.reading.specs.Pending.{judgeKnown, judgeFound, judgeItem, takeJudged, packedPending, pendingRow}
+use Rattle.reading.specs.Pending.{withPending, markRow, PendingFits, AllPendingFit, PendingList, PendingValues}
 use Rattle.reading.proofs.Laws.{row-skipped, row-comes, may-come-fits, next-good, next-bad, took, took-all}
 use Rattle.reading.proofs.Items.{inside-at}
 
 -- ---- one object
 
-judged-known : (answer : ℕ) (b : List ℕ) (i : PrimitiveItem) (k : ℕ) → takeKnown answer b i k ≡ takeJudged b i (judgeKnown answer i k)
+judged-known : (answer : ℕ) (b : List ℕ) (i : PrimitiveItem) (k : ℕ)
+    → takeKnown answer b i k ≡ takeJudged b i (judgeKnown answer i k)
 unfolding judgeKnown allowedNow if both
-judged-known answer b i k = by-tests (both (isPrivate (i .tag)) (not (cardMaySet (rowAt k)))) (allowedInResponse answer (rowAt k) (i .around) (i .value))
+judged-known answer b i k = by-tests (both (isPrivate (i .tag)) (not (cardMaySet (rowAt k))))
+    (allowedInResponse answer (rowAt k) (i .around) (i .value))
   where
     by-tests : (p a : Bool)
-        → if p (takeState true b) (if (both a (isFree dictionaryRows b k)) (takeState true (putRow dictionaryRows b k (i .value))) (takeState false b))
+        → if p (takeState true b)
+            (if (both a (isFree dictionaryRows b k)) (takeState true (putRow dictionaryRows b k (i .value)))
+            (takeState false b))
         ≡ takeJudged b i (if p Skipped (if a (ForRow k) NotAllowed))
     by-tests true a = refl
     by-tests false true = refl
     by-tests false false = refl
 
-pub item-judged : (answer : ℕ) (b : List ℕ) (i : PrimitiveItem) → takeItem answer b i ≡ takeJudged b i (judgeItem answer i)
+pub item-judged : (answer : ℕ) (b : List ℕ) (i : PrimitiveItem)
+    → takeItem answer b i ≡ takeJudged b i (judgeItem answer i)
 unfolding takeItem
 item-judged answer b i = go (findRow dictionaryRows (i .tag))
   where
@@ -61,7 +70,8 @@ ForFits i Skipped = Unit {0}
 ForFits i NotAllowed = Unit {0}
 ForFits i (ForRow k) = (k < rowCount) × (length (i .value) ≤ rowAt k .greatest)
 
-pub row-fits : (answer : ℕ) (i : PrimitiveItem) {k : ℕ} → judgeItem answer i ≡ ForRow k → (k < rowCount) × (length (i .value) ≤ rowAt k .greatest)
+pub row-fits : (answer : ℕ) (i : PrimitiveItem) {k : ℕ} → judgeItem answer i ≡ ForRow k → (k < rowCount)
+    × (length (i .value) ≤ rowAt k .greatest)
 unfolding judgeKnown
 row-fits answer i e = subst (ForFits i) e (go (findRow dictionaryRows (i .tag)) refl)
   where
@@ -69,7 +79,9 @@ row-fits answer i e = subst (ForFits i) e (go (findRow dictionaryRows (i .tag)) 
     go Unknown q = tt
     go (At k) q =
         if-ind (ForFits i) _ _ _ (λ _. tt)
-        (λ _. if-ind (ForFits i) _ _ _ (λ a. (row-found (i .tag) q, fits-length (rowAt k) (i .value) (may-come-fits answer (rowAt k) (i .around) (i .value) a) .1)) (λ _. tt))
+        (λ _. if-ind (ForFits i) _ _ _
+            (λ a. (row-found (i .tag) q,
+            fits-length (rowAt k) (i .value) (may-come-fits answer (rowAt k) (i .around) (i .value) a) .1)) (λ _. tt))
 
 -- ---- an object's number, as the code judges it: its tag, its row's attributes, the template around it and its value
 
@@ -78,7 +90,8 @@ pub record Said (answer : ℕ) (s : List ℕ) (n k : ℕ) (c : Bool) : Type 0 wh
   pub barred : c ≡ false → NotAllowed ≡ judgeItem answer (itemOf s n)
   pub row : c ≡ true → ForRow k ≡ judgeItem answer (itemOf s n)
 
-module _ (answer : ℕ) (s : List ℕ) (n : ℕ) {tag : ℕ} (t : tag ≡ itemTag n) {x : RowFound} (p : x ≡ findRow dictionaryRows tag) where
+module _ (answer : ℕ) (s : List ℕ) (n : ℕ) {tag : ℕ} (t : tag ≡ itemTag n) {x : RowFound}
+    (p : x ≡ findRow dictionaryRows tag) where
   abbrev object : PrimitiveItem
   object = itemOf s n
 
@@ -115,10 +128,12 @@ module _ (answer : ℕ) (s : List ℕ) (n : ℕ) {tag : ℕ} (t : tag ≡ itemTa
 -- ---- a pending value
 
 -- its number taken apart: its own row, and the object's place and length
-pub unpacked-pending : (k x : ℕ) → let y = packedPending k x in (pendingRow y ≡ k) × ((valueStart y ≡ valueStart x) × (valueLength y ≡ valueLength x))
+pub unpacked-pending : (k x : ℕ) → let y = packedPending k x in
+    (pendingRow y ≡ k) × ((valueStart y ≡ valueStart x) × (valueLength y ≡ valueLength x))
 unpacked-pending k x = (omega arith, (omega arith, omega arith))
 
-pub laid-more : (s b xs : List ℕ) (x : ℕ) → withPending s b (xs ++ (x ∷ [])) ≡ putRow dictionaryRows (withPending s b xs) (pendingRow x) (valueIn s x)
+pub laid-more : (s b xs : List ℕ) (x : ℕ)
+    → withPending s b (xs ++ (x ∷ [])) ≡ putRow dictionaryRows (withPending s b xs) (pendingRow x) (valueIn s x)
 unfolding withPending
 laid-more s b [] x = refl
 laid-more s b (y ∷ xs) x = laid-more s (putRow dictionaryRows b (pendingRow y) (valueIn s y)) xs x
@@ -134,15 +149,18 @@ value-long s x h = length-take-le (valueLength x) (drop (valueStart x) s) (simp 
 pub value-most : (s : List ℕ) (x : ℕ) → PendingFits s x → length (valueIn s x) ≤ rowAt (pendingRow x) .greatest
 value-most s x f = rw (value-long s x (f .inside)) (f .most)
 
-put-fits : (s b : List ℕ) (x : ℕ) → length b ≡ storeSize → PendingFits s x → Fits dictionaryRows b (pendingRow x) (valueIn s x)
+put-fits : (s b : List ℕ) (x : ℕ) → length b ≡ storeSize → PendingFits s x
+    → Fits dictionaryRows b (pendingRow x) (valueIn s x)
 put-fits s b x l f = fits-row b (pendingRow x) (valueIn s x) l (f .row) (value-most s x f)
 
 -- the store keeps its size
-pub pending-sized : (s b xs : List ℕ) → length b ≡ storeSize → AllPendingFit s xs → length (withPending s b xs) ≡ storeSize
+pub pending-sized : (s b xs : List ℕ) → length b ≡ storeSize → AllPendingFit s xs
+    → length (withPending s b xs) ≡ storeSize
 unfolding withPending
 pending-sized s b [] l h = l
 pending-sized s b (x ∷ xs) l h =
-    pending-sized s (putRow dictionaryRows b (pendingRow x) (valueIn s x)) xs (put-length dictionaryRows b (pendingRow x) (valueIn s x) (put-fits s b x l (h .0)) ∙ l) (h .1)
+    pending-sized s (putRow dictionaryRows b (pendingRow x) (valueIn s x)) xs
+        (put-length dictionaryRows b (pendingRow x) (valueIn s x) (put-fits s b x l (h .0)) ∙ l) (h .1)
 
 -- ---- a value more, for a row k that is free: the object x
 
@@ -162,10 +180,12 @@ module _ (s b xs f : List ℕ) (h : PendingValues s b xs f) (k x : ℕ) (row : k
   }
 
   pub more-put : withPending s b (xs ++ (number ∷ [])) ≡ putRow dictionaryRows (withPending s b xs) k (valueIn s x)
-  more-put = laid-more s b xs number ∙ ap₂ (putRow dictionaryRows (withPending s b xs)) (parts .0) (rw (parts .1 .0, parts .1 .1))
+  more-put = laid-more s b xs number
+      ∙ ap₂ (putRow dictionaryRows (withPending s b xs)) (parts .0) (rw (parts .1 .0, parts .1 .1))
 
   fits-here : Fits dictionaryRows (withPending s b xs) k (valueIn s x)
-  fits-here = fits-row (withPending s b xs) k (valueIn s x) (pending-sized s b xs (h .sized) (h .fitting)) row (rw (value-long s x inside) most)
+  fits-here = fits-row (withPending s b xs) k (valueIn s x) (pending-sized s b xs (h .sized) (h .fitting)) row
+      (rw (value-long s x inside) most)
 
   -- what is free before: the store's place, and no mark
   was-free : (isFree dictionaryRows b k ≡ true) × (getD f k 0 ≡ 0)
@@ -175,13 +195,17 @@ module _ (s b xs f : List ℕ) (h : PendingValues s b xs f) (k x : ℕ) (row : k
   module _ (f′ : List ℕ) (marks : length f′ ≡ rowCount) (mark : eqb (getD f′ k 0) 0 ≡ eqb (valueLength x) 0)
       (others : (j : ℕ) → (j ≡ k → ⊥) → getD f′ j 0 ≡ getD f j 0) where
     free-put : (j : ℕ) → j < rowCount → (j ≡ k) ⊎ (j ≡ k → ⊥)
-        → isFree dictionaryRows (putRow dictionaryRows (withPending s b xs) k (valueIn s x)) j ≡ both (isFree dictionaryRows b j) (eqb (getD f′ j 0) 0)
+        → isFree dictionaryRows (putRow dictionaryRows (withPending s b xs) k (valueIn s x)) j ≡ both
+            (isFree dictionaryRows b j) (eqb (getD f′ j 0) 0)
     free-put j i (inl e) =
-        subst (λ (y : ℕ). isFree dictionaryRows (putRow dictionaryRows (withPending s b xs) k (valueIn s x)) y ≡ both (isFree dictionaryRows b y) (eqb (getD f′ y 0) 0)) (sym e)
-        (ap (λ (y : StoredValue). eqb (length (bytesOfValue y)) 0) (put-get dictionaryRows (withPending s b xs) k (valueIn s x) fits-here)
+        subst (λ (y : ℕ). isFree dictionaryRows (putRow dictionaryRows (withPending s b xs) k (valueIn s x)) y ≡ both
+            (isFree dictionaryRows b y) (eqb (getD f′ y 0) 0)) (sym e)
+        (ap (λ (y : StoredValue). eqb (length (bytesOfValue y)) 0)
+            (put-get dictionaryRows (withPending s b xs) k (valueIn s x) fits-here)
         ∙ ap (λ (n : ℕ). eqb n 0) (value-long s x inside) ∙ sym mark ∙ sym (both-true _ (was-free .0)))
     free-put j i (inr n) =
-        ap (λ (y : StoredValue). eqb (length (bytesOfValue y)) 0) (put-other dictionaryRows (withPending s b xs) k (valueIn s x) fits-here j n) ∙ h .free j i
+        ap (λ (y : StoredValue). eqb (length (bytesOfValue y)) 0)
+            (put-other dictionaryRows (withPending s b xs) k (valueIn s x) fits-here j n) ∙ h .free j i
         ∙ ap (λ (y : ℕ). both (isFree dictionaryRows b j) (eqb y 0)) (sym (others j n))
 
     values-put : PendingValues s b (xs ++ (number ∷ [])) f′
@@ -210,7 +234,8 @@ module _ (b f : List ℕ) (k : ℕ) (row : k < rowCount) (sized : length b ≡ s
   pub marked : (getD f k 0 ≡ 0 → ⊥) → false ≡ both (isFree dictionaryRows b k) (eqb (getD f k 0) 0)
   marked n = sym (both-no-right _ _ (ne-eqb _ _ n))
 
-  pub unmarked : getD f k 0 ≡ 0 → leb (lengthByte dictionaryRows b k) 1 ≡ both (isFree dictionaryRows b k) (eqb (getD f k 0) 0)
+  pub unmarked : getD f k 0 ≡ 0
+      → leb (lengthByte dictionaryRows b k) 1 ≡ both (isFree dictionaryRows b k) (eqb (getD f k 0) 0)
   unmarked z =
       let e = length-byte-at dictionaryRows b k in
       ap (λ (x : ℕ). leb x 1) e
@@ -222,26 +247,31 @@ module _ (b f : List ℕ) (k : ℕ) (row : k < rowCount) (sized : length b ≡ s
 -- ---- the objects one after the other
 
 -- one that is not allowed decides for all
-pub all-bad : (answer : ℕ) {w : TakeState} (b : List ℕ) (is : List PrimitiveItem) → w ≡ takeState false b → takeAll answer w is .good ≡ false
+pub all-bad : (answer : ℕ) {w : TakeState} (b : List ℕ) (is : List PrimitiveItem) → w ≡ takeState false b
+    → takeAll answer w is .good ≡ false
 unfolding takeAll
 all-bad answer b [] e = ap (λ (w : TakeState). w .good) e
-all-bad answer b (i ∷ is) e = all-bad answer b is (ap (λ (w : TakeState). takeNext answer w i) e ∙ next-bad answer b i refl)
+all-bad answer b (i ∷ is) e =
+    all-bad answer b is (ap (λ (w : TakeState). takeNext answer w i) e ∙ next-bad answer b i refl)
 
 and-true : (x : Bool) → both x true ≡ x
 unfolding both
 and-true true = refl
 and-true false = refl
 
--- i of n objects of l₀ are judged: the first p numbers of l are pending for the store b, and the others are as they were
+-- i of n objects of l₀ are judged: the first p numbers of l are pending for the store b, and those from i on are as
+-- they were
 pub record Judging (answer : ℕ) (s b l₀ : List ℕ) (n : ℕ) (l filled : List ℕ) (p i : ℕ) : Type 0 where
   pub room : length l ≡ mostItems
   pub few : p ≤ i
   pub more : i ≤ n
   pub rest : (j : ℕ) → i ≤ j → getD l j 0 ≡ getD l₀ j 0
   pub values : PendingValues s b (take p l) filled
-  pub same : takeAll answer (takeState true b) (itemsIn s n l₀) ≡ takeAll answer (takeState true (withPending s b (take p l))) (itemsOf s (drop i (take n l₀)))
+  pub same : takeAll answer (takeState true b) (itemsIn s n l₀) ≡ takeAll answer
+      (takeState true (withPending s b (take p l))) (itemsOf s (drop i (take n l₀)))
 
-pub judging-none : (answer : ℕ) (s b l : List ℕ) (n : ℕ) → length b ≡ storeSize → length l ≡ mostItems → Judging answer s b l n l (replicate rowCount 0) 0 0
+pub judging-none : (answer : ℕ) (s b l : List ℕ) (n : ℕ) → length b ≡ storeSize → length l ≡ mostItems
+    → Judging answer s b l n l (replicate rowCount 0) 0 0
 unfolding withPending
 judging-none answer s b l n e m = record {
   room = m;
@@ -252,21 +282,26 @@ judging-none answer s b l n e m = record {
     fitting = tt;
     sized = e;
     marks = refl;
-    free = λ k r. sym (ap (λ (x : ℕ). both (isFree dictionaryRows b k) (eqb x 0)) (getD-replicate rowCount k 0 0 r) ∙ and-true (isFree dictionaryRows b k));
+    free = λ k r. sym (ap (λ (x : ℕ). both (isFree dictionaryRows b k) (eqb x 0)) (getD-replicate rowCount k 0 0 r)
+        ∙ and-true (isFree dictionaryRows b k));
   };
   same = refl;
 }
 
-module _ {answer : ℕ} {s b l₀ : List ℕ} {n : ℕ} {l filled : List ℕ} {p i : ℕ} (g : ItemList s n l₀) (w : Judging answer s b l₀ n l filled p i) where
+module _ {answer : ℕ} {s b l₀ : List ℕ} {n : ℕ} {l filled : List ℕ} {p i : ℕ} (g : ItemList s n l₀)
+    (w : Judging answer s b l₀ n l filled p i) where
   taken-length : length (take n l₀) ≡ n
   taken-length = length-take-le n l₀ (omega (arith, g .room, g .few))
 
   -- at the end all are judged
-  pub judged-all : n ≤ i → (takeAll answer (takeState true b) (itemsIn s n l₀) ≡ takeState true (withPending s b (take p l))) × PendingList s p l
+  pub judged-all : n ≤ i
+      → (takeAll answer (takeState true b) (itemsIn s n l₀) ≡ takeState true (withPending s b (take p l)))
+      × PendingList s p l
   unfolding itemsOf
   judged-all h =
       let z : drop i (take n l₀) ≡ [] = drop-past (take n l₀) i (omega (arith, taken-length)) in
-      (w .same ∙ ap (λ (xs : List ℕ). takeAll answer (takeState true (withPending s b (take p l))) (itemsOf s xs)) z ∙ took-all answer _,
+      (w .same ∙ ap (λ (xs : List ℕ). takeAll answer (takeState true (withPending s b (take p l))) (itemsOf s xs)) z
+          ∙ took-all answer _,
       record { room = w .room; few = omega (arith, w .few, w .more, g .few); fitting = w .values .fitting })
     where
       drop-past : (xs : List ℕ) (j : ℕ) → length xs ≤ j → drop j xs ≡ []
@@ -292,17 +327,21 @@ module _ {answer : ℕ} {s b l₀ : List ℕ} {n : ℕ} {l filled : List ℕ} {p
     next-items : itemsOf s (drop i (take n l₀)) ≡ itemOf s x ∷ left
     unfolding itemsOf
     next-items =
-        let d : drop i (take n l₀) ≡ getD (take n l₀) i 0 ∷ drop (i + 1) (take n l₀) = rw (add-one i) (drop-cons (take n l₀) i 0 (omega (arith, taken-length))) in
+        let d : drop i (take n l₀) ≡ getD (take n l₀) i 0 ∷ drop (i + 1) (take n l₀) = rw (add-one i)
+            (drop-cons (take n l₀) i 0 (omega (arith, taken-length))) in
         ap (itemsOf s) d
         ∙ ap (λ (y : ℕ). itemOf s y ∷ left) (sym x-is)
 
     -- by what is said of it
     next-taken : (v : ItemVerdict) → v ≡ judgeItem answer (itemOf s x)
-        → takeAll answer (takeState true b) (itemsIn s n l₀) ≡ takeAll answer (takeJudged (withPending s b (take p l)) (itemOf s x) v) left
+        → takeAll answer (takeState true b) (itemsIn s n l₀) ≡ takeAll answer
+            (takeJudged (withPending s b (take p l)) (itemOf s x) v) left
     next-taken v e =
         w .same ∙ ap (takeAll answer (takeState true (withPending s b (take p l)))) next-items
         ∙ took answer (takeState true (withPending s b (take p l))) (itemOf s x) left
-        (sym (next-good answer (withPending s b (take p l)) (itemOf s x) refl ∙ item-judged answer (withPending s b (take p l)) (itemOf s x) ∙ ap (takeJudged (withPending s b (take p l)) (itemOf s x)) (sym e)))
+        (sym (next-good answer (withPending s b (take p l)) (itemOf s x) refl
+            ∙ item-judged answer (withPending s b (take p l)) (itemOf s x)
+            ∙ ap (takeJudged (withPending s b (take p l)) (itemOf s x)) (sym e)))
 
 -- an object that is next, and what is said of it
 pub record NextItem (answer : ℕ) (s b l₀ : List ℕ) (n : ℕ) (l filled : List ℕ) (p i : ℕ)
@@ -311,7 +350,8 @@ pub record NextItem (answer : ℕ) (s b l₀ : List ℕ) (n : ℕ) (l filled : L
   pub more : i < n
   pub says : v ≡ judgeItem answer (itemOf s (getD l i 0))
 
-module _ {answer : ℕ} {s b l₀ : List ℕ} {n : ℕ} {l filled : List ℕ} {p i : ℕ} {w : Judging answer s b l₀ n l filled p i} {v : ItemVerdict}
+module _ {answer : ℕ} {s b l₀ : List ℕ} {n : ℕ} {l filled : List ℕ} {p i : ℕ}
+    {w : Judging answer s b l₀ n l filled p i} {v : ItemVerdict}
     (z : NextItem answer s b l₀ n l filled p i w v) where
   abbrev item : ℕ
   item = getD l i 0
@@ -359,15 +399,19 @@ module _ {answer : ℕ} {s b l₀ : List ℕ} {n : ℕ} {l filled : List ℕ} {p
       free-is = o ∙ sym (w .values .free k (row-is .0))
 
       pub judged-again : r ≡ false → All .good ≡ false
-      judged-again d = ap (λ (t : TakeState). t .good) (taken q) ∙ all-bad answer laid behind (if-no _ _ (sym free-is ∙ d))
+      judged-again d = ap (λ (t : TakeState). t .good) (taken q)
+          ∙ all-bad answer laid behind (if-no _ _ (sym free-is ∙ d))
 
-      pub judged-put : r ≡ true → Judging answer s b l₀ n (set l p (packedPending k item)) (markRow filled k (valueLength item)) (p + 1) (i + 1)
+      pub judged-put : r ≡ true
+          → Judging answer s b l₀ n (set l p (packedPending k item)) (markRow filled k (valueLength item)) (p + 1)
+          (i + 1)
       judged-put d =
           let y = packedPending k item in
           let f = sym free-is ∙ d in
           let m = row-is in
           let v = next-inside (z .list) w (z .more) in
-          let t : take (p + 1) (set l p y) ≡ take p l ++ (y ∷ []) = rw (add-one p) (take-suc-set l p y (omega (arith, w .room, pending-room))) in
+          let t : take (p + 1) (set l p y) ≡ take p l ++ (y ∷ []) = rw (add-one p)
+              (take-suc-set l p y (omega (arith, w .room, pending-room))) in
           record {
             room = length-set l p y ∙ w .room;
             few = omega (arith, w .few);
@@ -377,7 +421,9 @@ module _ {answer : ℕ} {s b l₀ : List ℕ} {n : ℕ} {l filled : List ℕ} {p
             same =
               taken q
               ∙ ap (λ (u : TakeState). takeAll answer u behind)
-              (if-yes _ _ f ∙ ap (takeState true) (sym (ap (withPending s b) t ∙ more-put s b (take p l) filled (w .values) k item (m .0) v (m .1) f)));
+              (if-yes _ _ f
+                  ∙ ap (takeState true)
+                  (sym (ap (withPending s b) t ∙ more-put s b (take p l) filled (w .values) k item (m .0) v (m .1) f)));
           }
 
 -- ---- putting the pending values one after the other
@@ -397,7 +443,9 @@ value-fits s l n h i lt =
     (fitting-at s (take n l) i (h .fitting) (omega (arith, length-take-le n l (omega (arith, h .room, h .few)))))
 
 pub after-one : (s b l : List ℕ) (n : ℕ) → PendingList s n l → (i : ℕ) → i < n
-    → putRow dictionaryRows (withPending s b (take i l)) (pendingRow (getD l i 0)) (valueIn s (getD l i 0)) ≡ withPending s b (take (i + 1) l)
+    → putRow dictionaryRows (withPending s b (take i l)) (pendingRow (getD l i 0))
+        (valueIn s (getD l i 0)) ≡ withPending s b (take (i + 1) l)
 after-one s b l n h i lt =
-    let e : take (i + 1) l ≡ take i l ++ (getD l i 0 ∷ []) = rw (add-one i) (take-suc l i 0 (omega (arith, h .room, h .few))) in
+    let e : take (i + 1) l ≡ take i l ++ (getD l i 0 ∷ []) = rw (add-one i)
+        (take-suc l i 0 (omega (arith, h .room, h .few))) in
     sym (ap (withPending s b) e ∙ laid-more s b (take i l) (getD l i 0))

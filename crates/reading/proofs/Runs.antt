@@ -23,8 +23,10 @@ use Rattle.reading.specs.declared.Walked.{Walked}
 use Rattle.reading.specs.declared.Walked.the-variants.{Whole, Broken}
 use Rattle.reading.specs.Taking.{PrimitiveItem, primitiveItem, primitiveItems}
 use Rattle.reading.specs.Items.{packedItem, tally, mostItems, itemsIn, WalkFits, HasListed, ThenLists, Walks}
-use Rattle.reading.proofs.Items.{part, part-empty, part-bytes, part-length, part-cons, object-inside, value-in, value-part, behind-part, tag-small}
-use Rattle.reading.proofs.Items.{item-packed, inside-packed, items-more, items-listed, pass, enter, has-room, list, within}
+use Rattle.reading.proofs.Items.{part, part-empty, part-bytes, part-length, part-cons, object-inside, value-in}
+use Rattle.reading.proofs.Items.{value-part, behind-part, tag-small}
+use Rattle.reading.proofs.Items.{item-packed, inside-packed, items-more, items-listed, pass, enter, has-room}
+use Rattle.reading.proofs.Items.{list, within}
 
 pub whole-broken : (t : Tally) → Whole t ≡ Broken → ⊥
 whole-broken t e = let z : _≡_ {A = ℕ} 0 1 = cc in omega arith
@@ -37,7 +39,8 @@ next-broken b v n e = if-no _ _ (ne-eqb b 0 n) ∙ ap frontNext e
 -- ---- the ways that a run goes on, after n objects of which `is` are listed, with k after it
 
 module _ (around : ℕ) (r : Walked) (k : ℕ → List PrimitiveItem → Type 0) (n : ℕ) (is : List PrimitiveItem) where
-  on-leaf : (t : ℕ) (v : List ℕ) (x : Option Forest) → ThenLists around x r k (n + 1) (is ++ (primitiveItem around t v ∷ []))
+  on-leaf : (t : ℕ) (v : List ℕ) (x : Option Forest)
+      → ThenLists around x r k (n + 1) (is ++ (primitiveItem around t v ∷ []))
       → ThenLists around (withLeaf t v x) r k n is
   unfolding withLeaf objectCount primitiveItems
   on-leaf t v none h = h
@@ -46,14 +49,16 @@ module _ (around : ℕ) (r : Walked) (k : ℕ → List PrimitiveItem → Type 0)
       subst (λ (m : ℕ). k m (is ++ (primitiveItem around t v ∷ primitiveItems around f))) e
       (subst (k (n + 1 + objectCount f)) (append-assoc is (primitiveItem around t v ∷ []) (primitiveItems around f)) h)
 
-  on-node : (t : ℕ) (x y : Option Forest) → ThenLists t x r (ThenLists around y r k) (n + 1) is → ThenLists around (withNode t x y) r k n is
+  on-node : (t : ℕ) (x y : Option Forest) → ThenLists t x r (ThenLists around y r k) (n + 1) is
+      → ThenLists around (withNode t x y) r k n is
   unfolding withNode objectCount primitiveItems
   on-node t none y h = h
   on-node t (some f) none h = h
   on-node t (some f) (some g) h =
       let e : n + 1 + objectCount f + objectCount g ≡ n + (1 + objectCount f + objectCount g) = omega arith in
       subst (λ (m : ℕ). k m (is ++ (primitiveItems t f ++ primitiveItems around g))) e
-      (subst (k (n + 1 + objectCount f + objectCount g)) (append-assoc is (primitiveItems t f) (primitiveItems around g)) h)
+      (subst (k (n + 1 + objectCount f + objectCount g))
+          (append-assoc is (primitiveItems t f) (primitiveItems around g)) h)
 
   module _ (l : ℕ) (v : List ℕ) where
     abbrev Here : Type 0
@@ -64,42 +69,52 @@ module _ (around : ℕ) (r : Walked) (k : ℕ → List PrimitiveItem → Type 0)
 
     pub then-end : nextOf v ≡ End → k n is → Here
     unfolding objectCount primitiveItems
-    then-end e h = let z : n ≡ n + 0 = omega arith in by-parse (some end) (parse-end l v e) (subst (λ (m : ℕ). k m (is ++ [])) z (subst (k n) (sym (append-nil is)) h))
+    then-end e h = let z : n ≡ n + 0 = omega arith in
+        by-parse (some end) (parse-end l v e)
+        (subst (λ (m : ℕ). k m (is ++ [])) z (subst (k n) (sym (append-nil is)) h))
 
     pub then-malformed : nextOf v ≡ Malformed → r ≡ Broken → Here
     then-malformed e h = by-parse none (parse-malformed l v e) h
 
     pub then-padding : (w : List ℕ) → w ≡ 0 ∷ v → Here → ThenLists around (parseTree l w) r k n is
-    then-padding w e h = subst (λ (z : Option Forest). ThenLists around z r k n is) (sym (ap (parseTree l) e ∙ zeros-in-front 1 l v)) h
+    then-padding w e h =
+        subst (λ (z : Option Forest). ThenLists around z r k n is) (sym (ap (parseTree l) e ∙ zeros-in-front 1 l v)) h
 
     module _ (h : TlvHeader) (e : nextOf v ≡ Inner h) where
       pub then-deep : h .template ≡ true → l ≡ 0 → r ≡ Broken → Here
       then-deep p z q = by-parse none (parse-deep l v h e p z) q
 
-      pub then-leaf : h .template ≡ false → ThenLists around (parseTree l (behindObject v h)) r k (n + 1) (is ++ (primitiveItem around (h .tag) (headerValue v h) ∷ [])) → Here
+      pub then-leaf : h .template ≡ false
+          → ThenLists around (parseTree l (behindObject v h)) r k (n + 1)
+          (is ++ (primitiveItem around (h .tag) (headerValue v h) ∷ [])) → Here
       then-leaf p g = by-parse _ (parse-leaf l v h e p) (on-leaf (h .tag) _ _ g)
 
       pub then-node : h .template ≡ true → (l ≡ 0 → ⊥)
-          → ThenLists (h .tag) (parseTree (l - 1) (headerValue v h)) r (ThenLists around (parseTree l (behindObject v h)) r k) (n + 1) is → Here
+          → ThenLists (h .tag) (parseTree (l - 1) (headerValue v h)) r
+              (ThenLists around (parseTree l (behindObject v h)) r k) (n + 1) is → Here
       then-node p z g = by-parse _ (parse-node l v h e p z) (on-node (h .tag) _ _ g)
 
 -- ---- a run that was walked to its end, and what follows it
 
 module _ (s : List ℕ) (around : ℕ) (n : ℕ) (is : List PrimitiveItem) (l : List ℕ) where
   -- where it was broken, so is all
-  pub broken-run : (x : Option Forest) (k : ℕ → List PrimitiveItem → Type 0) → ThenLists around x Broken (HasListed s l Broken) n is → ThenLists around x Broken k n is
+  pub broken-run : (x : Option Forest) (k : ℕ → List PrimitiveItem → Type 0)
+      → ThenLists around x Broken (HasListed s l Broken) n is → ThenLists around x Broken k n is
   broken-run none k h = refl
   broken-run (some f) k h = absurd (whole-broken _ (sym (h .reports)))
 
   module _ (u : Tally) where
     -- where it was whole, what is after it goes on with its tally and list
-    pub whole-run : (x : Option Forest) (r : Walked) (k : ℕ → List PrimitiveItem → Type 0) → ThenLists around x (Whole u) (HasListed s l (Whole u)) n is
+    pub whole-run : (x : Option Forest) (r : Walked) (k : ℕ → List PrimitiveItem → Type 0)
+        → ThenLists around x (Whole u) (HasListed s l (Whole u)) n is
         → k (u .objects) (itemsIn s (u .items) l) → ThenLists around x r k n is
     whole-run none r k h g = absurd (whole-broken u h)
     whole-run (some f) r k h g =
         let e : u ≡ tally (n + objectCount f) (length (is ++ primitiveItems around f)) = cc in
-        let i : itemsIn s (u .items) l ≡ is ++ primitiveItems around f = ap (λ (z : Tally). itemsIn s (z .items) l) e ∙ h .are in
-        subst (λ (m : ℕ). k m (is ++ primitiveItems around f)) (ap (λ (z : Tally). z .objects) e) (subst (k (u .objects)) i g)
+        let i : itemsIn s (u .items) l ≡ is ++ primitiveItems around f = ap (λ (z : Tally). itemsIn s (z .items) l) e
+            ∙ h .are in
+        subst (λ (m : ℕ). k m (is ++ primitiveItems around f)) (ap (λ (z : Tally). z .objects) e)
+            (subst (k (u .objects)) i g)
 
 few-items : (around : ℕ) (f : Forest) → length (primitiveItems around f) ≤ objectCount f
 unfolding primitiveItems objectCount
@@ -110,19 +125,22 @@ few-items around (node t f r) =
     let j = few-items around r in
     simp length-append (omega arith)
 
--- ---- where a walk stands: at a place of a template's contents, which end at `stop`, after n objects of which l lists k
+-- ---- where a walk stands: at a place of a template's contents, which end at `stop`, after n objects, k listed in l
 
 -- K is what follows the template, All what the whole walk promises
-pub record Run (s : List ℕ) (e stop levels around : ℕ) (K : Walked → List ℕ → ℕ → List PrimitiveItem → Type 0) (All : Walked → List ℕ → Type 0)
+pub record Run (s : List ℕ) (e stop levels around : ℕ) (K : Walked → List ℕ → ℕ → List PrimitiveItem → Type 0)
+    (All : Walked → List ℕ → Type 0)
     (at n k : ℕ) (l : List ℕ) : Type 0 where
   pub fits : WalkFits s at e n k l
   pub before : at ≤ stop
   pub inside : stop ≤ e
   pub tag : around < 0x1000000
-  pub same : (r : Walked) (l′ : List ℕ) → ThenLists around (parseTree levels (part s at stop)) r (K r l′) n (itemsIn s k l) → All r l′
+  pub same : (r : Walked) (l′ : List ℕ)
+      → ThenLists around (parseTree levels (part s at stop)) r (K r l′) n (itemsIn s k l) → All r l′
 
 -- what was found at the end of all contents is reported
-pub has-listed : {s : List ℕ} {a e n k : ℕ} {l : List ℕ} → WalkFits s a e n k l → HasListed s l (Whole (tally n k)) n (itemsIn s k l)
+pub has-listed : {s : List ℕ} {a e n k : ℕ} {l : List ℕ} → WalkFits s a e n k l
+    → HasListed s l (Whole (tally n k)) n (itemsIn s k l)
 has-listed {s} {a} {e} {n} {k} {l} w =
     let c = items-listed w in
     record {
@@ -131,7 +149,8 @@ has-listed {s} {a} {e} {n} {k} {l} w =
       are = rw c;
     }
 
-module _ {s : List ℕ} {e stop levels around : ℕ} {K : Walked → List ℕ → ℕ → List PrimitiveItem → Type 0} {All : Walked → List ℕ → Type 0}
+module _ {s : List ℕ} {e stop levels around : ℕ} {K : Walked → List ℕ → ℕ → List PrimitiveItem → Type 0}
+    {All : Walked → List ℕ → Type 0}
     {at n k : ℕ} {l : List ℕ} (w : Run s e stop levels around K All at n k l) where
   pub stops : stop ≤ length s
   stops = omega (arith, w .inside, w .fits .ends)
@@ -143,7 +162,8 @@ module _ {s : List ℕ} {e stop levels around : ℕ} {K : Walked → List ℕ �
 
   -- a walk that stands elsewhere in the same contents
   on : {at′ n′ k′ : ℕ} {l₁ : List ℕ} → WalkFits s at′ e n′ k′ l₁ → at′ ≤ stop
-      → ((r : Walked) (l′ : List ℕ) → ThenLists around (parseTree levels (part s at′ stop)) r (K r l′) n′ (itemsIn s k′ l₁) → All r l′)
+      → ((r : Walked) (l′ : List ℕ) → ThenLists around (parseTree levels (part s at′ stop)) r (K r l′) n′
+          (itemsIn s k′ l₁) → All r l′)
       → Run s e stop levels around K All at′ n′ k′ l₁
   on f b h = record { fits = f; before = b; inside = w .inside; tag = w .tag; same = h }
 
@@ -154,22 +174,27 @@ module _ {s : List ℕ} {e stop levels around : ℕ} {K : Walked → List ℕ �
     pub padding : getD s at 0 ≡ 0 → Run s e stop levels around K All (at + 1) n k l
     padding q =
         on (pass (w .fits) (at + 1) (omega (arith, w .inside)) (omega arith)) (omega arith)
-        (λ r l′ h. w .same r l′ (then-padding around r (K r l′) n _ levels _ _ (rest-cons ∙ ap (λ (b : ℕ). b ∷ part s (at + 1) stop) q) h))
+        (λ r l′ h. w .same r l′
+            (then-padding around r (K r l′) n _ levels _ _ (rest-cons ∙ ap (λ (b : ℕ). b ∷ part s (at + 1) stop) q) h))
 
     pub failed : (getD s at 0 ≡ 0 → ⊥) → headerOf (part s at stop) ≡ front.Broken → (l′ : List ℕ) → All Broken l′
     failed q x l′ =
         w .same Broken l′
-        (then-malformed around Broken (K Broken l′) n _ levels _ (ap nextOf rest-cons ∙ next-broken _ _ q (ap headerOf (sym rest-cons) ∙ x)) refl)
+        (then-malformed around Broken (K Broken l′) n _ levels _
+            (ap nextOf rest-cons ∙ next-broken _ _ q (ap headerOf (sym rest-cons) ∙ x)) refl)
 
 -- the object that is next there, in bytes
-pub record Next (s : List ℕ) (e stop levels around : ℕ) (K : Walked → List ℕ → ℕ → List PrimitiveItem → Type 0) (All : Walked → List ℕ → Type 0)
+pub record Next (s : List ℕ) (e stop levels around : ℕ) (K : Walked → List ℕ → ℕ → List PrimitiveItem → Type 0)
+    (All : Walked → List ℕ → Type 0)
     (at n k : ℕ) (l : List ℕ) (w : Run s e stop levels around K All at n k l) (h : TlvHeader) : Type 0 where
   pub bytes : Bytes s
   pub more : at < stop
   pub is : headerOf (part s at stop) ≡ front.Object h
 
-module _ {s : List ℕ} {e stop levels around : ℕ} {K : Walked → List ℕ → ℕ → List PrimitiveItem → Type 0} {All : Walked → List ℕ → Type 0}
-    {at n k : ℕ} {l : List ℕ} {w : Run s e stop levels around K All at n k l} {h : TlvHeader} (x : Next s e stop levels around K All at n k l w h) where
+module _ {s : List ℕ} {e stop levels around : ℕ} {K : Walked → List ℕ → ℕ → List PrimitiveItem → Type 0}
+    {All : Walked → List ℕ → Type 0}
+    {at n k : ℕ} {l : List ℕ} {w : Run s e stop levels around K All at n k l} {h : TlvHeader}
+        (x : Next s e stop levels around K All at n k l w h) where
   -- what is left of the contents, and where the object's value starts and ends
   abbrev rest : List ℕ
   rest = part s at stop
@@ -203,7 +228,8 @@ module _ {s : List ℕ} {e stop levels around : ℕ} {K : Walked → List ℕ �
   number = packedItem (h .tag) around from (h .len)
 
   pub number-fits : (h .tag < 0x1000000) × (around < 0x1000000) × (1 ≤ from) × (from ≤ 256) × (h .len < 256)
-  number-fits = let b = bounds in (small, w .tag, omega arith, omega (arith, w .fits .short), omega (arith, w .fits .short))
+  number-fits = let b = bounds in
+      (small, w .tag, omega arith, omega (arith, w .fits .short), omega (arith, w .fits .short))
 
   pub room : k < mostItems
   room = let b = bounds in has-room (w .fits) beyond (b .1 .1) (omega arith)
@@ -212,12 +238,16 @@ module _ {s : List ℕ} {e stop levels around : ℕ} {K : Walked → List ℕ �
   listed p =
       let b = bounds in
       let f = number-fits in
-      let v = item-packed (h .tag) around from (h .len) (f .1) (f .2) (f .3) (f .4) s ∙ ap (primitiveItem around (h .tag)) (sym (value-in s at stop (stops w) h fits)) in
-      let m = items-more s l k number (omega (arith, room, list-length)) ∙ ap (λ (i : PrimitiveItem). itemsIn s k l ++ (i ∷ [])) v in
+      let v = item-packed (h .tag) around from (h .len) (f .1) (f .2) (f .3) (f .4) s
+          ∙ ap (primitiveItem around (h .tag)) (sym (value-in s at stop (stops w) h fits)) in
+      let m = items-more s l k number (omega (arith, room, list-length))
+          ∙ ap (λ (i : PrimitiveItem). itemsIn s k l ++ (i ∷ [])) v in
       on w
-      (list (w .fits) beyond (b .1 .1) (omega arith) number (inside-packed (h .tag) around from (h .len) (f .1) (f .2) (f .3) (f .4) s (omega (arith, stops w))))
+      (list (w .fits) beyond (b .1 .1) (omega arith) number
+          (inside-packed (h .tag) around from (h .len) (f .1) (f .2) (f .3) (f .4) s (omega (arith, stops w))))
       (b .1 .0)
-      (λ r l′ g. w .same r l′ (then-leaf around r (K r l′) n _ levels rest h next p (rw (m, behind-part s at stop (stops w) h fits) at g)))
+      (λ r l′ g. w .same r l′
+          (then-leaf around r (K r l′) n _ levels rest h next p (rw (m, behind-part s at stop (stops w) h fits) at g)))
 
   -- a template, what it holds, and what follows it
   pub entered : WalkFits s from e (n + 1) k l
@@ -230,17 +260,21 @@ module _ {s : List ℕ} {e stop levels around : ℕ} {K : Walked → List ℕ �
     abbrev tree : Option Forest
     tree = parseTree (levels - 1) (part s from beyond)
 
-    pub node-same : (r : Walked) (l′ : List ℕ) → ThenLists (h .tag) tree r (ThenLists around (parseTree levels (part s beyond stop)) r (K r l′)) (n + 1) (itemsIn s k l) → All r l′
+    pub node-same : (r : Walked) (l′ : List ℕ)
+        → ThenLists (h .tag) tree r (ThenLists around (parseTree levels (part s beyond stop)) r (K r l′)) (n + 1)
+        (itemsIn s k l) → All r l′
     node-same r l′ g =
         w .same r l′
-        (then-node around r (K r l′) n _ levels rest h next p q (rw (value-part s at stop (stops w) h fits, behind-part s at stop (stops w) h fits) at g))
+        (then-node around r (K r l′) n _ levels rest h next p q
+            (rw (value-part s at stop (stops w) h fits, behind-part s at stop (stops w) h fits) at g))
 
     -- whose contents a walk has reported
     module _ (l₁ : List ℕ) where
       pub inner-broken : Walks s (h .tag) tree (n + 1) k l Broken l₁ → (l′ : List ℕ) → All Broken l′
       inner-broken g l′ = node-same Broken l′ (broken-run s (h .tag) (n + 1) _ l₁ tree _ g)
 
-      inner-fits : (u : Tally) (f : Option Forest) → tree ≡ f → Walks s (h .tag) f (n + 1) k l (Whole u) l₁ → WalkFits s beyond e (u .objects) (u .items) l₁
+      inner-fits : (u : Tally) (f : Option Forest) → tree ≡ f → Walks s (h .tag) f (n + 1) k l (Whole u) l₁
+          → WalkFits s beyond e (u .objects) (u .items) l₁
       inner-fits u none z g = absurd (whole-broken u g)
       inner-fits u (some f) z g =
           let is = primitiveItems (h .tag) f in
@@ -262,6 +296,8 @@ module _ {s : List ℕ} {e stop levels around : ℕ} {K : Walked → List ℕ �
             inside = rw y (g .items .inside);
           }
 
-      pub inner-whole : (u : Tally) → Walks s (h .tag) tree (n + 1) k l (Whole u) l₁ → Run s e stop levels around K All beyond (u .objects) (u .items) l₁
+      pub inner-whole : (u : Tally) → Walks s (h .tag) tree (n + 1) k l (Whole u) l₁
+          → Run s e stop levels around K All beyond (u .objects) (u .items) l₁
       inner-whole u g =
-          on w (inner-fits u tree refl g) (bounds .1 .0) (λ r l′ y. node-same r l′ (whole-run s (h .tag) (n + 1) _ l₁ u tree r _ g y))
+          on w (inner-fits u tree refl g) (bounds .1 .0)
+              (λ r l′ y. node-same r l′ (whole-run s (h .tag) (n + 1) _ l₁ u tree r _ g y))

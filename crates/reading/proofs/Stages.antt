@@ -37,13 +37,17 @@ use Rattle.reading.specs.declared.Listing.the-variants.{Objects, Decided
 use Rattle.reading.specs.Taking.{PrimitiveItem, primitiveItem, TakeState, takeState, takeAll}
 use Rattle.reading.specs.Items.{packedItem, itemsOf, itemsIn, mostItems, ItemList, tally, HasListed, ThenLists}
 use Rattle.reading.specs.Pending.{withPending}
-use Rattle.reading.specs.Answer.{verdictNumber, ReadingOutcome, readingOutcome, GivesReading, primitive, template, templateBody, frontBody, responseBody}
-use Rattle.reading.specs.Answer.{responseBit, primitiveParts, storedIfAllowed, readParts, readTree, readBody, isRead, isStatus9000, isResponseLength, readAnswer}
+use Rattle.reading.specs.Answer.{verdictNumber, ReadingOutcome, readingOutcome, GivesReading, primitive, template}
+use Rattle.reading.specs.Answer.{templateBody, frontBody, responseBody}
+use Rattle.reading.specs.Answer.{responseBit, primitiveParts, storedIfAllowed, readParts, readTree, readBody}
+use Rattle.reading.specs.Answer.{isRead, isStatus9000, isResponseLength, readAnswer}
 use Rattle.reading.specs.Count.{answerObjects}
-use Rattle.reading.specs.Inner.{readingOf, readingBeginning, outerFront, outerObject, listingOutcome, ListsFor, ListsParts, readTemplate, valueOf, TemplateIn, closedListing}
+use Rattle.reading.specs.Inner.{readingOf, readingBeginning, outerFront, outerObject, listingOutcome, ListsFor}
+use Rattle.reading.specs.Inner.{ListsParts, readTemplate, valueOf, TemplateIn, closedListing}
 use Rattle.reading.proofs.Parts.{regive, judged-yes, template-right, template-wrong}
 use Rattle.reading.proofs.Count.{answer-tree, answer-half}
-use Rattle.reading.proofs.Items.{drop-take, front-bytes, item-packed, inside-packed, items-more, inside-more, tag-small}
+use Rattle.reading.proofs.Items.{drop-take, front-bytes, item-packed, inside-packed, items-more, inside-more}
+use Rattle.reading.proofs.Items.{tag-small}
 
 -- ---- the beginning: one law for each way out, and what is read from there
 
@@ -79,7 +83,10 @@ module _ (a : Awaited) (s : List ℕ) where
   begin-size n =
       let P : Beginning → Type 0 = λ x. x ≡ begins.Body n → (n ≡ length s - 2) × (n ≤ 256) in
       if-ind P _ _ _
-      (λ t. if-ind P _ _ _ (λ u. if-ind P _ _ _ (λ v e. let z : length s - 2 ≡ n = cc in let m : length s ≤ 258 = leb-true _ _ (both-right _ _ t) in (omega arith, omega arith)) (λ v e. none-here Accepted e)) (λ u e. none-here BadStatus e))
+      (λ t. if-ind P _ _ _
+          (λ u. if-ind P _ _ _ (λ v e. let z : length s - 2 ≡ n = cc in let m : length s ≤ 258 = leb-true _ _
+          (both-right _ _ t) in (omega arith, omega arith)) (λ v e. none-here Accepted e))
+          (λ u e. none-here BadStatus e))
       (λ t e. none-here Malformed e)
     where
       none-here : (v : ResponseVerdict) → begins.Decided v ≡ begins.Body n → (n ≡ length s - 2) × (n ≤ 256)
@@ -96,8 +103,10 @@ module _ (a : Awaited) (s : List ℕ) where
     answer-begun = by-tests (isResponseLength s) (isStatus9000 s) (isRead a)
       where
         by-tests : (l t r : Bool)
-            → if l (if t (if r (readBody a b (take (length s - 2) s)) (readingOutcome 0 0 b)) (readingOutcome 1 0 b)) (readingOutcome 2 0 b)
-            ≡ begun (if l (if t (if r (begins.Body (length s - 2)) (begins.Decided Accepted)) (begins.Decided BadStatus)) (begins.Decided Malformed))
+            → if l (if t (if r (readBody a b (take (length s - 2) s)) (readingOutcome 0 0 b)) (readingOutcome 1 0 b))
+                (readingOutcome 2 0 b)
+            ≡ begun (if l (if t (if r (begins.Body (length s - 2)) (begins.Decided Accepted))
+                (begins.Decided BadStatus)) (begins.Decided Malformed))
         by-tests true true true = refl
         by-tests true true false = refl
         by-tests true false r = refl
@@ -108,7 +117,8 @@ module _ (a : Awaited) (s : List ℕ) where
 
 -- what a whole reading promises: the reading r, and the store c that it leaves of b
 abbrev pub Whole : Awaited → List ℕ → List ℕ → Reading → List ℕ → Type 0
-Whole a s b r c = GivesReading r c (readAnswer a b s) × ((length c ≡ storeSize) × ((2 * r .objects ≤ length s - 2) × (r .objects ≡ answerObjects a s)))
+Whole a s b r c = GivesReading r c (readAnswer a b s)
+    × ((length c ≡ storeSize) × ((2 * r .objects ≤ length s - 2) × (r .objects ≡ answerObjects a s)))
 
 -- ---- the body's one object
 
@@ -126,7 +136,8 @@ module _ (s : List ℕ) where
       go : (x : ObjectFront) → headerOf s ≡ x → Fits (outerFront s x)
       go Broken e = tt
       go (Object h) e =
-          if-ind Fits _ _ _ (λ t. let f : (headerOf s ≡ Object h) × (h .start + h .len ≡ length s) = (e, eqb-true _ _ t) in if-ind Fits _ _ _ (λ u. f) (λ u. f)) (λ t. tt)
+          if-ind Fits _ _ _ (λ t. let f : (headerOf s ≡ Object h) × (h .start + h .len ≡ length s) = (e,
+              eqb-true _ _ t) in if-ind Fits _ _ _ (λ u. f) (λ u. f)) (λ t. tt)
 
   pub outer-fits : {x y : OuterObject} → x ≡ outerObject s → x ≡ y → Fits y
   outer-fits p q = subst Fits (sym p ∙ q) fits-outer
@@ -143,7 +154,9 @@ module _ (s : List ℕ) where
     outer-object = go (headerOf s)
       where
         by-tests : (h : TlvHeader) (t u : Bool)
-            → readTree a b (if t (if u (templateBody (h .tag) (parseTree 3 (headerValue s h))) (some (primitive (h .tag) (headerValue s h)))) none)
+            → readTree a b
+                (if t (if u (templateBody (h .tag) (parseTree 3 (headerValue s h)))
+                (some (primitive (h .tag) (headerValue s h)))) none)
             ≡ objectRead (if t (if u (outer.Template h) (outer.Primitive h)) outer.Broken)
         by-tests h true true = refl
         by-tests h true false = refl
@@ -161,8 +174,10 @@ module _ (a : Awaited) (s : List ℕ) (n : ℕ) (q : readingBeginning a s ≡ be
   pub body-length : length body ≡ n
   body-length = let z = begin-size a s n q .0 in simp length-take (omega arith)
 
-  answer-object : {x : OuterObject} (y : OuterObject) → x ≡ outerObject body → x ≡ y → (b : List ℕ) → readAnswer a b s ≡ objectRead body a b y
-  answer-object y p e b = answer-begun a s b ∙ ap (begun a s b) q ∙ outer-object body a b ∙ ap (objectRead body a b) (sym p ∙ e)
+  answer-object : {x : OuterObject} (y : OuterObject) → x ≡ outerObject body → x ≡ y → (b : List ℕ)
+      → readAnswer a b s ≡ objectRead body a b y
+  answer-object y p e b = answer-begun a s b ∙ ap (begun a s b) q ∙ outer-object body a b
+      ∙ ap (objectRead body a b) (sym p ∙ e)
 
   module _ (h : TlvHeader) (e : headerOf body ≡ Object h) where
     -- an object's places
@@ -181,7 +196,8 @@ module _ (a : Awaited) (s : List ℕ) (n : ℕ) (q : readingBeginning a s ≡ be
         ap (take (h .len)) (drop-take (h .start) n s) ∙ take-take (h .len) (n - h .start) (drop (h .start) s) m
 
   module _ {x : OuterObject} (p : x ≡ outerObject body) where
-    pub broken-opened : x ≡ outer.Broken → {y : Listing} (l : List ℕ) → y ≡ Decided (readingOf Malformed 0) → ListsFor a s (λ b. readAnswer a b s) y l
+    pub broken-opened : x ≡ outer.Broken → {y : Listing} (l : List ℕ) → y ≡ Decided (readingOf Malformed 0)
+        → ListsFor a s (λ b. readAnswer a b s) y l
     broken-opened e l d = rw d (record { gives = λ b. answer-object outer.Broken p e b; fits = tt })
 
     pub template-opened : (h : TlvHeader) → x ≡ outer.Template h → Bytes s → TemplateIn a s h
@@ -189,7 +205,8 @@ module _ (a : Awaited) (s : List ℕ) (n : ℕ) (q : readingBeginning a s ≡ be
         let f = outer-fits body p e in
         let o = object-places h (f .0) in
         record {
-          gives = λ b. answer-object (outer.Template h) p e b ∙ ap (λ (v : List ℕ). readTemplate a (h .tag) v b) (value-here h (f .0));
+          gives = λ b. answer-object (outer.Template h) p e b
+              ∙ ap (λ (v : List ℕ). readTemplate a (h .tag) v b) (value-here h (f .0));
           two = o .0;
           ends = o .1 .0;
           short = o .1 .1;
@@ -202,22 +219,26 @@ module _ (a : Awaited) (s : List ℕ) (n : ℕ) (q : readingBeginning a s ≡ be
         let f = outer-fits body p e in
         let w = g s (object-places h (f .0) .1 .0) in
         record {
-          gives = λ b. answer-object (outer.Primitive h) p e b ∙ ap (λ (v : List ℕ). readTree a b (some (primitive (h .tag) v))) (value-here h (f .0)) ∙ w .gives b;
+          gives = λ b. answer-object (outer.Primitive h) p e b
+              ∙ ap (λ (v : List ℕ). readTree a b (some (primitive (h .tag) v))) (value-here h (f .0)) ∙ w .gives b;
           fits = w .fits;
         }
 
 -- ---- the objects as they are listed
 
 -- an answer that is decided by how it begins
-pub decided-opened : (a : Awaited) (s : List ℕ) (v : ResponseVerdict) → readingBeginning a s ≡ begins.Decided v → {y : Listing} (l : List ℕ)
+pub decided-opened : (a : Awaited) (s : List ℕ) (v : ResponseVerdict) → readingBeginning a s ≡ begins.Decided v
+    → {y : Listing} (l : List ℕ)
     → y ≡ Decided (readingOf v 0) → ListsFor a s (λ b. readAnswer a b s) y l
 decided-opened a s v q l d = rw d (record { gives = λ b. answer-begun a s b ∙ ap (begun a s b) q; fits = tt })
 
 -- a template by what the walk over its contents reports
 module _ (a : Awaited) (t : ℕ) (s v l : List ℕ) where
-  by-tree : (x : Option Forest) (w : Walked) → ThenLists t x w (HasListed s l w) 1 [] → ListsFor a s (λ b. readTree a b (templateBody t x)) (closedListing a t w) l
+  by-tree : (x : Option Forest) (w : Walked) → ThenLists t x w (HasListed s l w) 1 []
+      → ListsFor a s (λ b. readTree a b (templateBody t x)) (closedListing a t w) l
   unfolding closedListing
-  by-tree none w g = subst (λ (z : Walked). ListsFor a s (λ b. readTree a b none) (closedListing a t z) l) (sym g) (record { gives = λ b. refl; fits = tt })
+  by-tree none w g = subst (λ (z : Walked). ListsFor a s (λ b. readTree a b none) (closedListing a t z) l) (sym g)
+      (record { gives = λ b. refl; fits = tt })
   by-tree (some f) w g =
       let Q : Listing → Type 0 = λ y. ListsFor a s (λ b. readTree a b (some (template t f))) y l in
       subst (λ (z : Walked). Q (closedListing a t z)) (sym (g .reports))
@@ -225,20 +246,26 @@ module _ (a : Awaited) (t : ℕ) (s v l : List ℕ) where
       (λ e. record {
         gives = λ b.
             ap (readParts a b (1 + objectCount f)) (template-right a t f (eqb-true _ _ e))
-            ∙ ap (λ (is : List PrimitiveItem). storedIfAllowed b (1 + objectCount f) (takeAll (responseBit a) (takeState true b) is)) (sym (g .are));
+            ∙ ap (λ (is : List PrimitiveItem). storedIfAllowed b (1 + objectCount f)
+                (takeAll (responseBit a) (takeState true b) is)) (sym (g .are));
         fits = g .items;
       })
-      (λ e. record { gives = λ b. ap (readParts a b (1 + objectCount f)) (template-wrong a t f (eqb-false _ _ e)); fits = tt }))
+      (λ e. record { gives = λ b. ap (readParts a b (1 + objectCount f)) (template-wrong a t f (eqb-false _ _ e));
+          fits = tt }))
 
-  pub closed-listed : (w : Walked) {y : Listing} → ThenLists t (parseTree 3 v) w (HasListed s l w) 1 [] → y ≡ closedListing a t w → ListsFor a s (readTemplate a t v) y l
+  pub closed-listed : (w : Walked) {y : Listing} → ThenLists t (parseTree 3 v) w (HasListed s l w) 1 []
+      → y ≡ closedListing a t w → ListsFor a s (readTemplate a t v) y l
   closed-listed w g d = rw d (by-tree (parseTree 3 v) w g)
 
 -- the outer template of an answer
-pub template-listed : (a : Awaited) (s : List ℕ) (h : TlvHeader) (l : List ℕ) → TemplateIn a s h → (w : Walked) {y : Listing}
-    → ThenLists (h .tag) (parseTree 3 (contents s (h .start) (h .len))) w (HasListed s l w) 1 [] → y ≡ closedListing a (h .tag) w → ListsFor a s (λ b. readAnswer a b s) y l
+pub template-listed : (a : Awaited) (s : List ℕ) (h : TlvHeader) (l : List ℕ) → TemplateIn a s h
+    → (w : Walked) {y : Listing}
+    → ThenLists (h .tag) (parseTree 3 (contents s (h .start) (h .len))) w (HasListed s l w) 1 []
+        → y ≡ closedListing a (h .tag) w → ListsFor a s (λ b. readAnswer a b s) y l
 template-listed a s h l i w g d =
     let c = closed-listed a (h .tag) s (contents s (h .start) (h .len)) l w g d in
-    record { gives = λ b. i .gives b ∙ ap (λ (v : List ℕ). readTemplate a (h .tag) v b) (sym (contents-is s (h .start) (h .len))) ∙ c .gives b; fits = c .fits }
+    record { gives = λ b. i .gives b ∙ ap (λ (v : List ℕ). readTemplate a (h .tag) v b)
+        (sym (contents-is s (h .start) (h .len))) ∙ c .gives b; fits = c .fits }
 
 -- ---- the parts of a body under 80
 
@@ -254,8 +281,10 @@ pub no-parts : (s l : List ℕ) → length l ≡ mostItems → PartList s 0 l []
 unfolding itemsOf
 no-parts s l e = record { list = record { room = e; few = omega arith; inside = tt }; are = refl }
 
-add-part : {s : List ℕ} {k : ℕ} {l : List ℕ} {is : List PrimitiveItem} → PartList s k l is → k < mostItems → (t p n : ℕ) → 1 ≤ p → p + n ≤ length s → p + n ≤ 256
-    → n < 256 → (v : List ℕ) → take n (drop p s) ≡ v → PartList s (k + 1) (set l k (packedItem t 0x77 p n)) (is ++ (primitiveItem 0x77 t v ∷ []))
+add-part : {s : List ℕ} {k : ℕ} {l : List ℕ} {is : List PrimitiveItem} → PartList s k l is → k < mostItems
+    → (t p n : ℕ) → 1 ≤ p → p + n ≤ length s → p + n ≤ 256
+    → n < 256 → (v : List ℕ) → take n (drop p s) ≡ v
+        → PartList s (k + 1) (set l k (packedItem t 0x77 p n)) (is ++ (primitiveItem 0x77 t v ∷ []))
 add-part {s} {k} {l} {is} w h t p n i j m c v e =
     let x = packedItem t 0x77 p n in
     let q : p ≤ 256 = omega arith in
@@ -281,42 +310,57 @@ module _ (s : List ℕ) (start n : ℕ) where
   value-size h = simp (length-take, length-drop) (omega arith)
 
   module _ (a : 2 ≤ start) (b : start + n ≤ 256) (i : start + n ≤ length s) where
-    pub front-part : (l : List ℕ) → length l ≡ mostItems → (t j : ℕ) → j ≤ n → PartList s 1 (set l 0 (packedItem t 0x77 start j)) (primitiveItem 0x77 t (take j value) ∷ [])
+    pub front-part : (l : List ℕ) → length l ≡ mostItems → (t j : ℕ) → j ≤ n
+        → PartList s 1 (set l 0 (packedItem t 0x77 start j)) (primitiveItem 0x77 t (take j value) ∷ [])
     front-part l e t j h =
-        add-part (no-parts s l e) (omega arith) t start j (omega arith) (omega arith) (omega arith) (omega arith) (take j value)
+        add-part (no-parts s l e) (omega arith) t start j (omega arith) (omega arith) (omega arith) (omega arith)
+            (take j value)
         (sym (take-take j n (drop start s) h))
 
-    module _ {k : ℕ} {l : List ℕ} {is : List PrimitiveItem} (w : PartList s k l is) (t m : ℕ) (few : k < mostItems) where
+    module _ {k : ℕ} {l : List ℕ} {is : List PrimitiveItem} (w : PartList s k l is) (t m : ℕ)
+        (few : k < mostItems) where
       behind : drop m value ≡ take (n - m) (drop (start + m) s)
       behind = drop-take m n (drop start s) ∙ ap (take (n - m)) (drop-drop m start s)
 
-      pub next-part : (j : ℕ) → m + j ≤ n → PartList s (k + 1) (set l k (packedItem t 0x77 (start + m) j)) (is ++ (primitiveItem 0x77 t (take j (drop m value)) ∷ []))
+      pub next-part : (j : ℕ) → m + j ≤ n
+          → PartList s (k + 1) (set l k (packedItem t 0x77 (start + m) j))
+          (is ++ (primitiveItem 0x77 t (take j (drop m value)) ∷ []))
       next-part j h =
           add-part w few t (start + m) j (omega arith) (omega arith) (omega arith) (omega arith) (take j (drop m value))
           (sym (ap (take j) behind ∙ take-take j (n - m) (drop (start + m) s) (omega arith)))
 
-      pub last-part : m ≤ n → PartList s (k + 1) (set l k (packedItem t 0x77 (start + m) (n - m))) (is ++ (primitiveItem 0x77 t (drop m value) ∷ []))
-      last-part h = add-part w few t (start + m) (n - m) (omega arith) (omega arith) (omega arith) (omega arith) (drop m value) (sym behind)
+      pub last-part : m ≤ n
+          → PartList s (k + 1) (set l k (packedItem t 0x77 (start + m) (n - m)))
+          (is ++ (primitiveItem 0x77 t (drop m value) ∷ []))
+      last-part h = add-part w few t (start + m) (n - m) (omega arith) (omega arith) (omega arith) (omega arith)
+          (drop m value) (sym behind)
 
 module _ (a : Awaited) (f : List ℕ → Option (List PrimitiveItem)) (start n : ℕ) (l : List ℕ) where
-  pub parts-none : {y : Listing} → ((v : List ℕ) → length v ≡ n → f v ≡ none) → y ≡ Decided (readingOf Malformed 1) → ListsParts a f start n y l
-  parts-none h d s i = rw d (record { gives = λ b. ap (readParts a b 1) (h (value s start n) (value-size s start n i)); fits = tt })
+  pub parts-none : {y : Listing} → ((v : List ℕ) → length v ≡ n → f v ≡ none) → y ≡ Decided (readingOf Malformed 1)
+      → ListsParts a f start n y l
+  parts-none h d s i =
+      rw d (record { gives = λ b. ap (readParts a b 1) (h (value s start n) (value-size s start n i)); fits = tt })
 
   pub parts-some : (k : ℕ) (is : List ℕ → List PrimitiveItem) → ((v : List ℕ) → length v ≡ n → f v ≡ some (is v))
-      → ((s : List ℕ) → start + n ≤ length s → PartList s k l (is (value s start n))) → ListsParts a f start n (Objects (tally 1 k)) l
+      → ((s : List ℕ) → start + n ≤ length s → PartList s k l (is (value s start n)))
+          → ListsParts a f start n (Objects (tally 1 k)) l
   parts-some k is h g s i =
       let w = g s i in
       record {
         gives = λ b.
             ap (readParts a b 1) (h (value s start n) (value-size s start n i))
-            ∙ ap (λ (js : List PrimitiveItem). storedIfAllowed b 1 (takeAll (responseBit a) (takeState true b) js)) (sym (w .are));
+            ∙ ap (λ (js : List PrimitiveItem). storedIfAllowed b 1 (takeAll (responseBit a) (takeState true b) js))
+                (sym (w .are));
         fits = w .list;
       }
 
 -- the parts of the answer c, where c is awaited
-pub parts-for : {a c : Awaited} {f : List ℕ → Option (List PrimitiveItem)} (t start n : ℕ) {y : Listing} {l : List ℕ} → a ≡ c
-    → ((v : List ℕ) → primitiveParts c t v ≡ f v) → ListsParts c f start n y l → ListsParts a (primitiveParts a t) start n y l
-parts-for {a} {c} {f} t start n {y} {l} e h g = subst (λ (z : Awaited). ListsParts z (primitiveParts z t) start n y l) (sym e) here
+pub parts-for : {a c : Awaited} {f : List ℕ → Option (List PrimitiveItem)} (t start n : ℕ) {y : Listing} {l : List ℕ}
+    → a ≡ c
+    → ((v : List ℕ) → primitiveParts c t v ≡ f v) → ListsParts c f start n y l
+        → ListsParts a (primitiveParts a t) start n y l
+parts-for {a} {c} {f} t start n {y} {l} e h g = subst (λ (z : Awaited). ListsParts z (primitiveParts z t) start n y l)
+    (sym e) here
   where
     here : ListsParts c (primitiveParts c t) start n y l
     here s i =
@@ -325,7 +369,8 @@ parts-for {a} {c} {f} t start n {y} {l} e h g = subst (λ (z : Awaited). ListsPa
 
 -- ---- what is said of the objects
 
-gives : (v : ResponseVerdict) (n : ℕ) (c : List ℕ) {r : Reading} {o : ReadingOutcome} → r ≡ readingOf v n → o ≡ readingOutcome (verdictNumber v) n c → GivesReading r c o
+gives : (v : ResponseVerdict) (n : ℕ) (c : List ℕ) {r : Reading} {o : ReadingOutcome} → r ≡ readingOf v n
+    → o ≡ readingOutcome (verdictNumber v) n c → GivesReading r c o
 gives v n c e f = record {
   reason = ap (λ (x : Reading). verdictNumber (x .verdict)) e ∙ ap (λ (x : ReadingOutcome). x .reason) (sym f);
   objects = ap (λ (x : Reading). x .objects) e ∙ ap (λ (x : ReadingOutcome). x .objects) (sym f);
@@ -337,22 +382,27 @@ abbrev taken : Awaited → List ℕ → List ℕ → List ℕ → Tally → Take
 taken a s b l t = takeAll (responseBit a) (takeState true b) (itemsIn s (t .items) l)
 
 module _ (a : Awaited) (s b l l′ : List ℕ) {x : Listing} where
-  pub decided-given : (r : Reading) → x ≡ Decided r → GivesReading r (withPending s b (take 0 l′)) (listingOutcome a s b x l)
+  pub decided-given : (r : Reading) → x ≡ Decided r
+      → GivesReading r (withPending s b (take 0 l′)) (listingOutcome a s b x l)
   unfolding withPending
   decided-given r e = rw e (record { reason = refl; objects = refl; store = refl })
 
   module _ (t : Tally) (e : x ≡ Objects t) {r : Reading} {p : ℕ} where
-    pub refused-given : taken a s b l t .good ≡ false → r ≡ readingOf NotAllowed (t .objects) → p ≡ 0 → GivesReading r (withPending s b (take p l′)) (listingOutcome a s b x l)
+    pub refused-given : taken a s b l t .good ≡ false → r ≡ readingOf NotAllowed (t .objects) → p ≡ 0
+        → GivesReading r (withPending s b (take p l′)) (listingOutcome a s b x l)
     unfolding withPending
     refused-given g d z = rw (z, e) (gives NotAllowed (t .objects) b d (if-no _ _ g))
 
-    pub accepted-given : (k : ℕ) → taken a s b l t ≡ takeState true (withPending s b (take k l′)) → r ≡ readingOf Accepted (t .objects) → p ≡ k
+    pub accepted-given : (k : ℕ) → taken a s b l t ≡ takeState true (withPending s b (take k l′))
+        → r ≡ readingOf Accepted (t .objects) → p ≡ k
         → GivesReading r (withPending s b (take p l′)) (listingOutcome a s b x l)
-    accepted-given k g d z = rw (z, e) (gives Accepted (t .objects) (withPending s b (take k l′)) d (judged-yes b (t .objects) g refl))
+    accepted-given k g d z =
+        rw (z, e) (gives Accepted (t .objects) (withPending s b (take k l′)) d (judged-yes b (t .objects) g refl))
 
 -- ---- the whole reading
 
-module _ (a : Awaited) (s b : List ℕ) {x : Listing} {l : List ℕ} (w : ListsFor a s (λ b. readAnswer a b s) x l) {r : Reading} {c : List ℕ}
+module _ (a : Awaited) (s b : List ℕ) {x : Listing} {l : List ℕ} (w : ListsFor a s (λ b. readAnswer a b s) x l)
+    {r : Reading} {c : List ℕ}
     (g : GivesReading r c (listingOutcome a s b x l)) where
   pub answer-given : GivesReading r c (readAnswer a b s)
   answer-given = regive (sym (w .gives b)) g

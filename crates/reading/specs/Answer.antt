@@ -9,6 +9,7 @@ use Prim.Native.Nat.{ℕ, _+_, _-_, _%_}
 use lib.ListN.{length, getD, take, drop}
 use Rattle.basics.specs.Choice.{if_then_else_, _and_, _≤?_, _=?_}
 use Rattle.basics.specs.Number.{between}
+use Rattle.basics.specs.Types.{Bytes, StoreBytes, Value, Response, Tag, Length, Count, Reason}
 use Rattle.basics.specs.Reason.{reasonNone, reasonStatus, reasonMalformed, reasonNotAllowed}
 use Rattle.tlv.specs.declared.ObjectFront.{ObjectFront}
 use Rattle.tlv.specs.declared.ObjectFront.the-variants.{Object, Broken}
@@ -25,7 +26,7 @@ use Rattle.reading.specs.Taking.{PrimitiveItem, primitiveItem, primitive
 -- ---- the numbers of a reading
 
 -- document 01's number of each verdict; 0 where the answer gives no reason
-abbrev pub verdictNumber : ResponseVerdict → ℕ
+abbrev pub verdictNumber : ResponseVerdict → Reason
 verdictNumber Accepted = reasonNone
 verdictNumber BadStatus = reasonStatus
 verdictNumber Malformed = reasonMalformed
@@ -33,16 +34,16 @@ verdictNumber NotAllowed = reasonNotAllowed
 
 -- what one reading gives, which is no outcome of a session: the reason's number, how many objects it visited, the store
 pub record ReadingOutcome : Type 0 where
-  pub reason : ℕ
-  pub objects : ℕ
-  pub store : List ℕ
+  pub reason : Reason
+  pub objects : Count
+  pub store : StoreBytes
 
 -- a reading of these parts
-abbrev pub readingOutcome : ℕ → ℕ → List ℕ → ReadingOutcome
+abbrev pub readingOutcome : Reason → Count → StoreBytes → ReadingOutcome
 readingOutcome r n b = record { reason = r; objects = n; store = b }
 
 -- the value r and the store b are what the reading o gives
-pub record GivesReading (r : Reading) (b : List ℕ) (o : ReadingOutcome) : Type 0 where
+pub record GivesReading (r : Reading) (b : StoreBytes) (o : ReadingOutcome) : Type 0 where
   pub reason : verdictNumber (r .verdict) ≡ o .reason
   pub objects : r .objects ≡ o .objects
   pub store : b ≡ o .store
@@ -51,16 +52,16 @@ pub record GivesReading (r : Reading) (b : List ℕ) (o : ReadingOutcome) : Type
 
 -- a primitive object with its value, or a template with the tree that it holds
 pub data ResponseBody : Type 0 where
-  primitive : ℕ → List ℕ → ResponseBody
-  template : ℕ → Forest → ResponseBody
+  primitive : Tag → Value → ResponseBody
+  template : Tag → Forest → ResponseBody
 
 -- a template whose contents are a tree
-abbrev pub templateBody : ℕ → Option Forest → Option ResponseBody
+abbrev pub templateBody : Tag → Option Forest → Option ResponseBody
 templateBody t none = none
 templateBody t (some f) = some (template t f)
 
 -- an object that is the whole body; three levels of templates are left inside the outer one
-abbrev pub frontBody : List ℕ → ObjectFront → Option ResponseBody
+abbrev pub frontBody : Bytes → ObjectFront → Option ResponseBody
 frontBody s Broken = none
 frontBody s (Object h) =
     if h .start + h .len =? length s then
@@ -69,11 +70,11 @@ frontBody s (Object h) =
     else none
 
 -- the body's tree, or none where the encoding is malformed
-unfoldable pub responseBody : List ℕ → Option ResponseBody
+unfoldable pub responseBody : Bytes → Option ResponseBody
 responseBody s = frontBody s (headerOf s)
 
 -- how many objects a body has, the outer one included
-abbrev pub bodyCount : ResponseBody → ℕ
+abbrev pub bodyCount : ResponseBody → Count
 bodyCount (primitive t v) = 1
 bodyCount (template t f) = 1 + objectCount f
 
@@ -87,7 +88,7 @@ responseBit Cryptogram = inGenerateAcResponse
 responseBit Checksum = inChecksumResponse
 
 -- a template: 70 for a record, 77 for the others
-abbrev pub templateTag : Awaited → ℕ
+abbrev pub templateTag : Awaited → Tag
 templateTag Gpo = 0x77
 templateTag (Record f) = 0x70
 templateTag Cryptogram = 0x77
@@ -95,33 +96,33 @@ templateTag Checksum = 0x77
 
 -- the lengths of a body under 80: of GPO two bytes of AIP and an AFL of 4 to 248; of GENERATE AC one byte of CID, two
 -- of ATC and eight of AC, and at most 32 of IAD
-abbrev pub leastGpoBody : ℕ
+abbrev pub leastGpoBody : Length
 leastGpoBody = 6
 
-abbrev pub mostGpoBody : ℕ
+abbrev pub mostGpoBody : Length
 mostGpoBody = 250
 
-abbrev pub leastAcBody : ℕ
+abbrev pub leastAcBody : Length
 leastAcBody = 11
 
-abbrev pub mostAcBody : ℕ
+abbrev pub mostAcBody : Length
 mostAcBody = 43
 
 -- under 80, GPO: two bytes for 82 and the rest, a multiple of 4, for 94; both are taken as if a 77 were
 -- directly around them
-unfoldable pub gpoParts : List ℕ → Option (List PrimitiveItem)
+unfoldable pub gpoParts : Value → Option (List PrimitiveItem)
 gpoParts v =
     if between leastGpoBody (length v) mostGpoBody and (length v - 2) % 4 =? 0 then
       some (primitiveItem 0x77 0x82 (take 2 v) ∷ primitiveItem 0x77 0x94 (drop 2 v) ∷ [])
     else none
 
 -- what is left of a cryptogram's body is 9F10, if anything is
-unfoldable pub iadPart : List ℕ → List PrimitiveItem
+unfoldable pub iadPart : Value → List PrimitiveItem
 iadPart [] = []
 iadPart (a ∷ v) = primitiveItem 0x77 0x9F10 (a ∷ v) ∷ []
 
 -- under 80, cryptogram: 9F27, 9F36, 9F26, and 9F10 if any bytes are left; 11 to 43 in all; taken the same way
-unfoldable pub cryptogramParts : List ℕ → Option (List PrimitiveItem)
+unfoldable pub cryptogramParts : Value → Option (List PrimitiveItem)
 cryptogramParts v =
     if between leastAcBody (length v) mostAcBody then
       some
@@ -133,7 +134,7 @@ cryptogramParts v =
 
 -- what a primitive body brings, or none where the outer tag or body is wrong; a record and the checksum (Book C-2,
 -- 5.2.3) have no form under 80
-unfoldable pub primitiveParts : Awaited → ℕ → List ℕ → Option (List PrimitiveItem)
+unfoldable pub primitiveParts : Awaited → Tag → Value → Option (List PrimitiveItem)
 primitiveParts Gpo t v =
     if t =? 0x80 then gpoParts v
     else none
@@ -144,7 +145,7 @@ primitiveParts Cryptogram t v =
 primitiveParts Checksum t v = none
 
 -- what a template brings: its primitive objects at every level, or none where the outer tag is wrong
-unfoldable pub templateParts : Awaited → ℕ → Forest → Option (List PrimitiveItem)
+unfoldable pub templateParts : Awaited → Tag → Forest → Option (List PrimitiveItem)
 templateParts a t f =
     if t =? templateTag a then some (primitiveItems t f)
     else none
@@ -157,23 +158,23 @@ bodyParts a (template t f) = templateParts a t f
 -- ---- the reading
 
 -- after the objects: the store as they left it if all were allowed, else as it was
-abbrev pub storedIfAllowed : List ℕ → ℕ → TakeState → ReadingOutcome
+abbrev pub storedIfAllowed : StoreBytes → Count → TakeState → ReadingOutcome
 storedIfAllowed b n w =
     if w .good then readingOutcome reasonNone n (w .store)
     else readingOutcome reasonNotAllowed n b
 
 -- a wrong outer tag or body is reason 2, its count the tree's; else the objects are taken in order
-abbrev pub readParts : Awaited → List ℕ → ℕ → Option (List PrimitiveItem) → ReadingOutcome
+abbrev pub readParts : Awaited → StoreBytes → Count → Option (List PrimitiveItem) → ReadingOutcome
 readParts a b n none = readingOutcome reasonMalformed n b
 readParts a b n (some is) = storedIfAllowed b n (takeAll (responseBit a) (takeState true b) is)
 
 -- a malformed encoding is reason 2 with count 0
-abbrev pub readTree : Awaited → List ℕ → Option ResponseBody → ReadingOutcome
+abbrev pub readTree : Awaited → StoreBytes → Option ResponseBody → ReadingOutcome
 readTree a b none = readingOutcome reasonMalformed 0 b
 readTree a b (some body) = readParts a b (bodyCount body) (bodyParts a body)
 
 -- the body of an answer, into the store b
-unfoldable pub readBody : Awaited → List ℕ → List ℕ → ReadingOutcome
+unfoldable pub readBody : Awaited → StoreBytes → Bytes → ReadingOutcome
 readBody a b s = readTree a b (responseBody s)
 
 -- a record of a file up to 10 is read (no accepted AFL names file 0); of a higher one only length and status count
@@ -184,19 +185,19 @@ isRead Cryptogram = true
 isRead Checksum = true
 
 -- the two status bytes at the end are 90 00
-unfoldable pub isStatus9000 : List ℕ → Bool
+unfoldable pub isStatus9000 : Response → Bool
 isStatus9000 s = getD s (length s - 2) 0 =? 0x90 and getD s (length s - 1) 0 =? 0
 
 -- the most bytes of an answer: 256 and the two status bytes
-abbrev pub longestAnswer : ℕ
+abbrev pub longestAnswer : Length
 longestAnswer = 258
 
 -- an answer has 2 to 258 bytes
-unfoldable pub isResponseLength : List ℕ → Bool
+unfoldable pub isResponseLength : Response → Bool
 isResponseLength s = between 2 (length s) longestAnswer
 
 -- a whole answer, status bytes included, into the store b
-unfoldable pub readAnswer : Awaited → List ℕ → List ℕ → ReadingOutcome
+unfoldable pub readAnswer : Awaited → StoreBytes → Response → ReadingOutcome
 readAnswer a b s =
     if isResponseLength s then
       if isStatus9000 s then

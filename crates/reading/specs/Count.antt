@@ -2,11 +2,11 @@
 -- tree, whatever its outer tag and whether its objects are allowed; 0 where the bytes are no such tree or are not read.
 -- Assumes nothing.
 use mathlib.Core.Bool.{Bool, false}
-use mathlib.Core.List.{List}
 use mathlib.Core.Option.{Option, some, none}
-use Prim.Native.Nat.{ℕ, _+_, _-_}
+use Prim.Native.Nat.{_+_, _-_}
 use lib.ListN.{length, take}
 use Rattle.basics.specs.Choice.{if_then_else_, _and_, _=?_}
+use Rattle.basics.specs.Types.{Bytes, Response, Count}
 use Rattle.tlv.specs.declared.ObjectFront.{ObjectFront}
 use Rattle.tlv.specs.declared.ObjectFront.the-variants.{Object, Broken}
 use Rattle.tlv.specs.Object.{headerOf}
@@ -15,23 +15,23 @@ use Rattle.reading.specs.declared.Awaited.{Awaited}
 use Rattle.reading.specs.Answer.{isResponseLength, isStatus9000, isRead}
 
 -- one object at the front is all there is: no byte before it, none after it
-abbrev pub isOneObject : List ℕ → ObjectFront → Bool
+abbrev pub isOneObject : Bytes → ObjectFront → Bool
 isOneObject s Broken = false
 isOneObject s (Object h) = h .start + h .len =? length s
 
 -- the objects of a tree; 0 where there is none
-abbrev pub treeCount : Option Forest → ℕ
+abbrev pub treeCount : Option Forest → Count
 treeCount none = 0
 treeCount (some f) = objectCount f
 
 -- the objects of a body that is one object, this one included; at most four levels of templates
-unfoldable pub bodyObjects : List ℕ → ℕ
+unfoldable pub bodyObjects : Bytes → Count
 bodyObjects s =
     if isOneObject s (headerOf s) then treeCount (parseTree 4 s)
     else 0
 
 -- the objects of an answer: those of its body, where length and status are good and more than the status is read
-unfoldable pub answerObjects : Awaited → List ℕ → ℕ
+unfoldable pub answerObjects : Awaited → Response → Count
 answerObjects a s =
     if isResponseLength s and isStatus9000 s and isRead a then bodyObjects (take (length s - 2) s)
     else 0

@@ -30,7 +30,8 @@ use Rattle.reading.specs.declared.Opened.the-variants.{Template, Listed}
 use Rattle.reading.specs.Taking.{PrimitiveItem, takeState, takeAll}
 use Rattle.reading.specs.Items.{ItemList, itemsIn}
 use Rattle.reading.specs.Answer.{ReadingOutcome, readingOutcome, verdictNumber, templateBody, templateTag}
-use Rattle.reading.specs.Answer.{responseBit, storedIfAllowed, readParts, readTree, isResponseLength, isStatus9000, isRead, readAnswer}
+use Rattle.reading.specs.Answer.{responseBit, storedIfAllowed, readParts, readTree, isResponseLength}
+use Rattle.reading.specs.Answer.{isStatus9000, isRead, readAnswer}
 
 -- a reading of these parts
 abbrev pub readingOf : ResponseVerdict → Count → Reading
@@ -74,7 +75,8 @@ ListingFits s (Decided r) l = Unit {0}
 ListingFits s (Objects t) l = ItemList s (t .items) l
 
 -- a listing of the object whose outcome f gives by the store
-pub record ListsFor (a : Awaited) (s : Response) (f : StoreBytes → ReadingOutcome) (x : Listing) (l : List ℕ) : Type 0 where
+pub record ListsFor (a : Awaited) (s : Response) (f : StoreBytes → ReadingOutcome) (x : Listing)
+    (l : List ℕ) : Type 0 where
   pub gives : (b : StoreBytes) → f b ≡ listingOutcome a s b x l
   pub fits : ListingFits s x l
 

@@ -15,8 +15,8 @@ use Rattle.reading.specs.declared.Walked.{Walked}
 use Rattle.reading.specs.declared.Walked.the-variants.{Whole, Broken}
 use Rattle.reading.specs.Taking.{PrimitiveItem, primitiveItem, primitiveItems}
 
--- ---- an object in one number: 2^40 times its tag, 2^16 times the tag around it, 256 times the place of the byte before
--- its value, its length
+-- ---- an object in one number: 2^40 times its tag, 2^16 times the tag around it, 256 times the place of the byte
+-- before its value, its length
 
 abbrev pub packedItem : Tag → Tag → Offset → Length → ℕ
 packedItem t around start n = t * 0x10000000000 + around * 0x10000 + (start - 1) * 256 + n

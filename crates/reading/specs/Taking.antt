@@ -4,6 +4,7 @@
 use mathlib.Core.Bool.{Bool, true, false, not}
 use mathlib.Core.List.{List, [], _∷_, _++_}
 use Prim.Native.Nat.{ℕ}
+use Rattle.basics.specs.Types.{StoreBytes, Value, Tag, RowNumber}
 use Rattle.basics.specs.Choice.{if_then_else_, _and_, _=?_}
 use Rattle.basics.specs.Number.{hasBit}
 use Rattle.tlv.specs.Tag.{isPrivate}
@@ -16,22 +17,22 @@ use Rattle.store.specs.Place.{isFree, putRow}
 
 -- a primitive object as it is in an answer: the tag of the template directly around it, its own tag, its value
 pub record PrimitiveItem : Type 0 where
-  pub around : ℕ
-  pub tag : ℕ
-  pub value : List ℕ
+  pub around : Tag
+  pub tag : Tag
+  pub value : Value
 
 -- an object of these parts
-abbrev pub primitiveItem : ℕ → ℕ → List ℕ → PrimitiveItem
+abbrev pub primitiveItem : Tag → Tag → Value → PrimitiveItem
 primitiveItem a t v = record { around = a; tag = t; value = v }
 
 -- the primitive objects of a tree, in the order of the bytes
-unfoldable pub primitiveItems : ℕ → Forest → List PrimitiveItem
+unfoldable pub primitiveItems : Tag → Forest → List PrimitiveItem
 primitiveItems a end = []
 primitiveItems a (leaf t v r) = primitiveItem a t v ∷ primitiveItems a r
 primitiveItems a (node t f r) = primitiveItems t f ++ primitiveItems a r
 
 -- a template is one of a set of templates; one other than these five is in none
-abbrev pub isTemplateIn : ℕ → ℕ → Bool
+abbrev pub isTemplateIn : ℕ → Tag → Bool
 isTemplateIn templates around =
     if around =? 0x70 then hasBit templates in70
     else if around =? 0x77 then hasBit templates in77
@@ -41,7 +42,7 @@ isTemplateIn templates around =
     else false
 
 -- a row's object may be directly inside this template
-unfoldable pub allowedInTemplate : Row → ℕ → Bool
+unfoldable pub allowedInTemplate : Row → Tag → Bool
 allowedInTemplate r around = isTemplateIn (r .templates) around
 
 -- a row's object may be set by the card
@@ -49,7 +50,7 @@ abbrev pub cardMaySet : Row → Bool
 cardMaySet r = hasBit (r .setters) setByCard
 
 -- the card may bring a row's object in this answer, directly inside this template, with this value: it fits the row
-unfoldable pub allowedInResponse : ℕ → Row → ℕ → List ℕ → Bool
+unfoldable pub allowedInResponse : ℕ → Row → Tag → Value → Bool
 allowedInResponse answer r around v =
     cardMaySet r
     and hasBit (r .answers) answer
@@ -57,32 +58,32 @@ allowedInResponse answer r around v =
     and fitsRow r v
 
 -- the card may set row k's object so, and no non-empty one is present
-unfoldable pub allowedNow : ℕ → List ℕ → ℕ → ℕ → List ℕ → Bool
+unfoldable pub allowedNow : ℕ → StoreBytes → RowNumber → Tag → Value → Bool
 allowedNow answer b k around v = allowedInResponse answer (rowAt k) around v and isFree dictionaryRows b k
 
 -- the store while objects are taken, and whether every one so far was allowed
 pub record TakeState : Type 0 where
   pub good : Bool
-  pub store : List ℕ
+  pub store : StoreBytes
 
 -- a store of these parts
-abbrev pub takeState : Bool → List ℕ → TakeState
+abbrev pub takeState : Bool → StoreBytes → TakeState
 takeState g b = record { good = g; store = b }
 
 -- a known object is skipped if it is private and not for the card to set, stored if it is allowed, else not allowed
-abbrev pub takeKnown : ℕ → List ℕ → PrimitiveItem → ℕ → TakeState
+abbrev pub takeKnown : ℕ → StoreBytes → PrimitiveItem → RowNumber → TakeState
 takeKnown answer b i k =
     if isPrivate (i .tag) and not (cardMaySet (rowAt k)) then takeState true b
     else if allowedNow answer b k (i .around) (i .value) then takeState true (putRow dictionaryRows b k (i .value))
     else takeState false b
 
 -- by its row in the table; an unknown one is skipped
-abbrev pub takeFound : ℕ → List ℕ → PrimitiveItem → RowFound → TakeState
+abbrev pub takeFound : ℕ → StoreBytes → PrimitiveItem → RowFound → TakeState
 takeFound answer b i Unknown = takeState true b
 takeFound answer b i (At k) = takeKnown answer b i k
 
 -- one object
-unfoldable pub takeItem : ℕ → List ℕ → PrimitiveItem → TakeState
+unfoldable pub takeItem : ℕ → StoreBytes → PrimitiveItem → TakeState
 takeItem answer b i = takeFound answer b i (findRow dictionaryRows (i .tag))
 
 -- nothing is taken after an object that is not allowed

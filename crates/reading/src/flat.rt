@@ -47,7 +47,8 @@ pub fn judge_answer(store: &[u8], awaited: Awaited, answer: &[u8]) -> ResponseVe
 // The objects of an answer, a template's by the walk that has the open templates in an array.
 fn list_objects(awaited: Awaited, answer: &[u8], items: &mut [u64; ITEMS]) -> Listing
     requires { ⌜ length (now items) ≡ mostItems ⌝ }
-    ensures lists { λ r. ⌜ ListsFor awaited (now (answer .entry)) (λ b. readAnswer awaited b (now (answer .entry))) r (now (items .exit)) ⌝ }
+    ensures lists { λ r. ⌜ ListsFor awaited (now (answer .entry)) (λ b. readAnswer awaited b (now (answer .entry)))
+      r (now (items .exit)) ⌝ }
     ensures room { λ _. ⌜ length (now (items .exit)) ≡ mostItems ⌝ }
 {
     let opened = crate::open(awaited, answer, items);

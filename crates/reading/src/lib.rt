@@ -14,7 +14,7 @@ use dictionary::ROWS;
 use tlv::{ObjectFront, TlvHeader};
 ghost use mathlib.Core.Path.{_≡_};
 ghost use mathlib.Core.Bool.{true, not};
-ghost use Prim.Native.Nat.{_+_, _-_, _*_, _/_, _%_, _^_, _≤_, _<_};
+ghost use Prim.Native.Nat.{_+_, _-_, _*_, _/_, _%_, _≤_, _<_};
 ghost use lib.Dec.{eqb};
 ghost use lib.ListN.{length, getD, set, take, drop};
 ghost use Rattle.basics.specs.Choice.{both};
@@ -30,14 +30,17 @@ ghost use Rattle.reading.specs.declared.Listing.{Listing};
 ghost use Rattle.reading.specs.Taking.{allowedInResponse, cardMaySet, isTemplateIn};
 ghost use Rattle.reading.specs.Count.{answerObjects};
 ghost use Rattle.reading.specs.Both.{AnswerRead, ReadersAgree};
-ghost use Rattle.reading.specs.Items.{packedItem, itemTag, itemAround, valueStart, valueLength, ValueInside, itemOf};
+ghost use Rattle.reading.specs.Items.{packedItem, itemTag, itemAround, valueStart, valueLength, ValueInside};
+ghost use Rattle.reading.specs.Items.{itemOf};
 ghost use Rattle.reading.specs.Items.{mostItems, ItemList, itemsIn, WalkFits, Walks};
-ghost use Rattle.reading.specs.Pending.{judgeItem, packedPending, pendingRow, markRow, PendingList, withPending, JudgesItems};
-ghost use Rattle.reading.specs.Inner.{readingOf, readingBeginning, outerObject, listingOutcome, ListingFits, ListsFor};
+ghost use Rattle.reading.specs.Pending.{judgeItem, packedPending, pendingRow, markRow, PendingList, withPending};
+ghost use Rattle.reading.specs.Pending.{JudgesItems};
+ghost use Rattle.reading.specs.Inner.{readingOf, readingBeginning, outerObject, listingOutcome, ListingFits};
+ghost use Rattle.reading.specs.Inner.{ListsFor};
 ghost use Rattle.reading.specs.Inner.{ListsParts, Opens, closedListing};
-ghost use Rattle.reading.specs.Answer.{GivesReading, verdictNumber, responseBit, templateTag, gpoParts, cryptogramParts};
+ghost use Rattle.reading.specs.Answer.{GivesReading, verdictNumber, responseBit, templateTag, gpoParts};
+ghost use Rattle.reading.specs.Answer.{cryptogramParts};
 ghost use Rattle.reading.specs.Answer.{primitiveParts, isRead, isStatus9000, readAnswer};
-
 
 // An answer has at most 256 bytes and the two status bytes.
 const MOST_ANSWER: usize = 258;
@@ -49,7 +52,7 @@ const MOST_GPO_BODY: usize = 250;
 const LEAST_AC_BODY: usize = 11;
 const MOST_AC_BODY: usize = 43;
 
-// The primitive objects that are listed: more than 256 bytes can have.
+// How many primitive objects can be listed: as many as 256 bytes can have, two bytes an object.
 const ITEMS: usize = 128;
 
 // An object in one number: its tag, the tag of the template directly around it, the place of the byte before its value,
@@ -136,14 +139,14 @@ pub enum Opened {
     Listed(Listing),
 }
 
-// What is said of an object before the store is asked: skipped, not allowed, or a value for a row.
+// The verdict on an object before the store is asked: skipped, not allowed, or a value for a row.
 pub enum ItemVerdict {
     Skipped,
     NotAllowed,
     ForRow(usize),
 }
 
-// What is said of all objects: so many values are pending, or one object is not allowed.
+// The verdict on all objects: so many values are pending, or one object is not allowed.
 pub enum ItemsVerdict {
     Pending(usize),
     NotAllowed,
@@ -212,7 +215,8 @@ pub fn verdict_number(verdict: ResponseVerdict) -> u8
 // The objects of an answer, a template's by the walk that calls itself.
 fn list_objects(awaited: Awaited, answer: &[u8], items: &mut [u64; ITEMS]) -> Listing
     requires { ⌜ length (now items) ≡ mostItems ⌝ }
-    ensures lists { λ r. ⌜ ListsFor awaited (now (answer .entry)) (λ b. readAnswer awaited b (now (answer .entry))) r (now (items .exit)) ⌝ }
+    ensures lists { λ r. ⌜ ListsFor awaited (now (answer .entry)) (λ b. readAnswer awaited b (now (answer .entry)))
+      r (now (items .exit)) ⌝ }
     ensures room { λ _. ⌜ length (now (items .exit)) ≡ mostItems ⌝ }
 {
     let opened = open(awaited, answer, items);
@@ -227,8 +231,9 @@ fn list_objects(awaited: Awaited, answer: &[u8], items: &mut [u64; ITEMS]) -> Li
     }
 }
 
-// The objects of a template's contents, behind those of the tally, with so many levels of templates still allowed. Bytes
-// of 00 between them are padding.
+// The objects of a template's contents, listed behind those of the tally, with so many levels of templates still
+// allowed: an object that is a template is walked by a call of this function on its contents. Bytes of 00 before, between
+// and after the objects are padding, passed one at a time.
 fn walk(bytes: &[u8], contents: Contents, around: u32, levels: usize, tally: Tally, items: &mut [u64; ITEMS]) -> Walked
     requires { ⌜ WalkFits (now bytes) (contents .start) (contents .end) (tally .objects) (tally .items) (now items) ⌝ }
     requires { ⌜ around < 0x1000000 ⌝ }
@@ -256,7 +261,9 @@ fn walk(bytes: &[u8], contents: Contents, around: u32, levels: usize, tally: Tal
                 if levels == 0 {
                     return Walked::Broken;
                 }
-                let inside = walk(bytes, Contents { start: from, end: e }, h.tag, levels - 1, Tally { objects: n, items: k }, items);
+                let within = Contents { start: from, end: e };
+                let so_far = Tally { objects: n, items: k };
+                let inside = walk(bytes, within, h.tag, levels - 1, so_far, items);
                 let Walked::Whole(t) = inside else {
                     return Walked::Broken;
                 };
@@ -285,8 +292,14 @@ fn take_listed(store: &mut [u8], awaited: Awaited, answer: &[u8], listing: Listi
     judged.reading
 }
 
-// What is said of an answer, and how many values are pending.
-fn judge_listed(store: &[u8], awaited: Awaited, answer: &[u8], listing: Listing, items: &mut [u64; ITEMS]) -> PendingReading
+// The reading of an answer, and how many values are pending.
+fn judge_listed(
+    store: &[u8],
+    awaited: Awaited,
+    answer: &[u8],
+    listing: Listing,
+    items: &mut [u64; ITEMS],
+) -> PendingReading
     requires { ⌜ (length (now store) ≡ storeSize) × (length (now items) ≡ mostItems) ⌝ }
     requires { ⌜ ListingFits (now answer) listing (now items) ⌝ }
     ensures given { λ r. ⌜ GivesReading (r .reading)
@@ -317,7 +330,8 @@ fn pending_reading(verdict: ResponseVerdict, objects: usize, pending: usize) -> 
 // Puts the pending values into the store, one after the other.
 fn store_pending(store: &mut [u8], bytes: &[u8], pending: &[u64; ITEMS], n: usize)
     requires { ⌜ (length (now store) ≡ storeSize) × PendingList (now bytes) n (now pending) ⌝ }
-    ensures { λ _. ⌜ now (store .exit) ≡ withPending (now (bytes .entry)) (now (store .entry)) (take n (now (pending .entry))) ⌝ }
+    ensures put { λ _. ⌜ now (store .exit) ≡ withPending (now (bytes .entry)) (now (store .entry))
+      (take n (now (pending .entry))) ⌝ }
     ensures sized { λ _. ⌜ length (now (store .exit)) ≡ storeSize ⌝ }
 {
     let mut i = 0;
@@ -459,7 +473,8 @@ fn close(awaited: Awaited, tag: u32, walked: Walked) -> Listing
 // The parts of a primitive body, which must be under 80.
 fn list_parts(awaited: Awaited, h: TlvHeader, items: &mut [u64; ITEMS]) -> Listing
     requires { ⌜ (length (now items) ≡ mostItems) × (2 ≤ h .start) × (h .start + h .len ≤ 256) ⌝ }
-    ensures lists { λ r. ⌜ ListsParts awaited (primitiveParts awaited (h .tag)) (h .start) (h .len) r (now (items .exit)) ⌝ }
+    ensures lists { λ r. ⌜ ListsParts awaited (primitiveParts awaited (h .tag)) (h .start) (h .len)
+      r (now (items .exit)) ⌝ }
     ensures room { λ _. ⌜ length (now (items .exit)) ≡ mostItems ⌝ }
 {
     if h.tag != 0x80 {
@@ -547,7 +562,7 @@ fn judge_items(items: &mut [u64; ITEMS], n: usize, answer: u8, bytes: &[u8], sto
     ItemsVerdict::Pending(pending)
 }
 
-// One object, before the store is asked.
+// The verdict on one object, before the store is asked.
 fn judge_item(item: u64, answer: u8, bytes: &[u8], tags: &[u32; ROWS], codes: &[u32; ROWS]) -> ItemVerdict
     requires { ⌜ ValueInside (now bytes) item ⌝ }
     requires { ⌜ 0 < answer ⌝ }
@@ -574,7 +589,8 @@ fn judge_item(item: u64, answer: u8, bytes: &[u8], tags: &[u32; ROWS], codes: &[
 // Whether no bytes are in a row's place of the store and none are pending for it.
 fn is_free(row: usize, store: &[u8], filled: &[u8; ROWS]) -> bool
     requires { ⌜ (row < rowCount) × (length (now store) ≡ storeSize) × (length (now filled) ≡ rowCount) ⌝ }
-    ensures { λ r. ⌜ r ≡ both (isFree dictionaryRows (now (store .entry)) row) (eqb (getD (now (filled .entry)) row 0) 0) ⌝ }
+    ensures { λ r. ⌜ r ≡ both (isFree dictionaryRows (now (store .entry)) row)
+      (eqb (getD (now (filled .entry)) row 0) 0) ⌝ }
 {
     if filled[row] != 0 {
         return false;

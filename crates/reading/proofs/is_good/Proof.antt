@@ -17,4 +17,6 @@ unfolding isStatus9000
 returns-2 c = sym (both-no-left _ _ (ne-eqb _ _ (c .if1 .left)))
 
 pub is-good-spec : {M : Type 1} → statement M
-is-good-spec = tie.close (tie.spec (λ c. search needs) (λ c. search needs) (λ c. search needs) (λ c. search needs) returns returns-2)
+is-good-spec =
+    tie.close (tie.spec (λ c. search needs) (λ c. search needs) (λ c. search needs)
+    (λ c. search needs) returns returns-2)

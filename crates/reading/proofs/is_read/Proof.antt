@@ -23,4 +23,6 @@ unfolding isRead
 returns-4 c = sym (ap isRead (c .enum-told3 .given .1))
 
 pub is-read-spec : {M : Type 1} → statement M
-is-read-spec = tie.close (tie.spec (λ c. search needs) (λ c. search needs) (λ c. search needs) (λ c. search needs) returns returns-2 returns-3 returns-4)
+is-read-spec =
+    tie.close (tie.spec (λ c. search needs) (λ c. search needs) (λ c. search needs)
+    (λ c. search needs) returns returns-2 returns-3 returns-4)

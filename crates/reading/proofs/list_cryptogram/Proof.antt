@@ -14,14 +14,16 @@ use Rattle.reading.specs.Items.{packedItem, mostItems, tally}
 use Rattle.reading.specs.Inner.{ListsParts}
 use Rattle.reading.specs.Answer.{iadPart, cryptogramParts}
 use Rattle.reading.proofs.Parts.{cryptogram-short, cryptogram-long, cryptogram-whole, iad-none, iad-some}
-use Rattle.reading.proofs.Stages.{set-room, PartList, value, front-part, next-part, last-part, parts-none, parts-some}
+use Rattle.reading.proofs.Stages.{set-room, PartList, value, front-part, next-part, last-part, parts-none}
+use Rattle.reading.proofs.Stages.{parts-some}
 use Rattle.reading.specs.declared.Awaited.the-variants.{Cryptogram}
 use Rattle.reading.proofs.list_cryptogram.Statement.{statement}
 use Rattle.reading.proofs.list_cryptogram.Tie as tie
 
 -- its three parts that must be there
 abbrev three : List ℕ → List PrimitiveItem
-three v = primitiveItem 0x77 0x9F27 (take 1 v) ∷ primitiveItem 0x77 0x9F36 (take 2 (drop 1 v)) ∷ primitiveItem 0x77 0x9F26 (take 8 (drop 3 v)) ∷ []
+three v = primitiveItem 0x77 0x9F27 (take 1 v) ∷ primitiveItem 0x77 0x9F36
+    (take 2 (drop 1 v)) ∷ primitiveItem 0x77 0x9F26 (take 8 (drop 3 v)) ∷ []
 
 three-room : (l : List ℕ) (x y z : ℕ) → length l ≡ mostItems → length (set (set (set l 0 x) 1 y) 2 z) ≡ mostItems
 three-room l x y z e = set-room (set (set l 0 x) 1 y) 2 z (set-room (set l 0 x) 1 y (set-room l 0 x e))
@@ -31,52 +33,68 @@ left : (v : List ℕ) (n : ℕ) → length v ≡ n → length (drop 11 v) ≡ n 
 left v n e = length-drop 11 v ∙ ap (λ (k : ℕ). k - 11) e
 
 -- the parts of a value, with what is left of it
-some-parts : (v : List ℕ) (is : List PrimitiveItem) → 11 ≤ length v → length v ≤ 43 → iadPart (drop 11 v) ≡ is → cryptogramParts v ≡ some (three v ++ is)
+some-parts : (v : List ℕ) (is : List PrimitiveItem) → 11 ≤ length v → length v ≤ 43 → iadPart (drop 11 v) ≡ is
+    → cryptogramParts v ≡ some (three v ++ is)
 some-parts v is a b e =
     cryptogram-whole v a b
     ∙ ap (λ (js : List PrimitiveItem). some (three v ++ js)) e
 
 module _ (l : List ℕ) (start n : ℕ) (e : length l ≡ mostItems) (a : 2 ≤ start) (b : start + n ≤ 256) {x y z : ℕ}
-    (p : x ≡ packedItem 0x9F27 0x77 start 1) (q : y ≡ packedItem 0x9F36 0x77 (start + 1) 2) (r : z ≡ packedItem 0x9F26 0x77 (start + 3) 8) where
-  by-places : 11 ≤ n → (s : List ℕ) → start + n ≤ length s → PartList s 3 (set (set (set l 0 x) 1 y) 2 z) (three (value s start n))
+    (p : x ≡ packedItem 0x9F27 0x77 start 1) (q : y ≡ packedItem 0x9F36 0x77 (start + 1) 2)
+        (r : z ≡ packedItem 0x9F26 0x77 (start + 3) 8) where
+  by-places : 11 ≤ n → (s : List ℕ) → start + n ≤ length s
+      → PartList s 3 (set (set (set l 0 x) 1 y) 2 z) (three (value s start n))
   by-places m s i =
       let cid = front-part s start n a b i l e 0x9F27 1 (omega arith) in
       let atc = next-part s start n a b i cid 0x9F36 1 (omega arith) 2 (omega arith) in
       rw (p, q, r) (next-part s start n a b i atc 0x9F26 3 (omega arith) 8 (omega arith))
 
-  all-three : n ≡ 11 → ListsParts Cryptogram cryptogramParts start n (Objects (tally 1 3)) (set (set (set l 0 x) 1 y) 2 z) × (length (set (set (set l 0 x) 1 y) 2 z) ≡ mostItems)
+  all-three : n ≡ 11
+      → ListsParts Cryptogram cryptogramParts start n (Objects (tally 1 3)) (set (set (set l 0 x) 1 y) 2 z)
+      × (length (set (set (set l 0 x) 1 y) 2 z) ≡ mostItems)
   all-three m =
-      (parts-some Cryptogram cryptogramParts start n _ 3 three (λ v u. some-parts v [] (omega arith) (omega arith) (iad-none (drop 11 v) (left v n u ∙ omega arith)))
+      (parts-some Cryptogram cryptogramParts start n _ 3 three
+          (λ v u. some-parts v [] (omega arith) (omega arith) (iad-none (drop 11 v) (left v n u ∙ omega arith)))
       (by-places (omega arith)),
       three-room l x y z e)
 
   and-rest : {w : ℕ} → w ≡ packedItem 0x9F10 0x77 (start + 11) (n - 11) → 11 ≤ n → n ≤ 43 → (n ≡ 11 → ⊥)
-      → ListsParts Cryptogram cryptogramParts start n (Objects (tally 1 4)) (set (set (set (set l 0 x) 1 y) 2 z) 3 w) × (length (set (set (set (set l 0 x) 1 y) 2 z) 3 w) ≡ mostItems)
+      → ListsParts Cryptogram cryptogramParts start n (Objects (tally 1 4)) (set (set (set (set l 0 x) 1 y) 2 z) 3 w)
+          × (length (set (set (set (set l 0 x) 1 y) 2 z) 3 w) ≡ mostItems)
   and-rest {w} o m k d =
       (rw o
-      (parts-some Cryptogram cryptogramParts start n _ 4 (λ (v : List ℕ). three v ++ (primitiveItem 0x77 0x9F10 (drop 11 v) ∷ []))
+      (parts-some Cryptogram cryptogramParts start n _ 4
+          (λ (v : List ℕ). three v ++ (primitiveItem 0x77 0x9F10 (drop 11 v) ∷ []))
       (λ v u. some-parts v _ (omega arith) (omega arith) (iad-some (drop 11 v) (λ i. d (omega (arith, left v n u)))))
       (λ s i. last-part s start n a b i (by-places m s i) 0x9F10 11 (omega arith) m)),
       set-room (set (set (set l 0 x) 1 y) 2 z) 3 w (three-room l x y z e))
 
 returns : tie.Need-returns
-returns c = (parts-none Cryptogram cryptogramParts _ _ _ (λ v e. cryptogram-short v (omega (arith, c .before .if1 .taken))) (c .decided .ensures), c .before .before .pre .0)
+returns c =
+    (parts-none Cryptogram cryptogramParts _ _ _ (λ v e. cryptogram-short v (omega (arith, c .before .if1 .taken)))
+    (c .decided .ensures), c .before .before .pre .0)
 
 returns-2 : tie.Need-returns-2
-returns-2 c = (parts-none Cryptogram cryptogramParts _ _ _ (λ v e. cryptogram-long v (omega (arith, c .before .if2 .taken))) (c .decided2 .ensures), c .before .before .before .pre .0)
+returns-2 c =
+    (parts-none Cryptogram cryptogramParts _ _ _ (λ v e. cryptogram-long v (omega (arith, c .before .if2 .taken)))
+    (c .decided2 .ensures), c .before .before .before .pre .0)
 
 returns-3 : tie.Need-returns-3
 returns-3 c =
     let a = c .before .before .before .before .before .before .args in
     let p = c .before .before .before .before .before .before .pre in
-    all-three (a .items .now) (a .start) (a .n) (p .0) (p .1) (p .2) (c .before .before .before .packed-item .ensures) (c .before .before .packed-item2 .ensures) (c .before .packed-item3 .ensures) (c .if3 .taken)
+    all-three (a .items .now) (a .start) (a .n) (p .0) (p .1) (p .2) (c .before .before .before .packed-item .ensures)
+        (c .before .before .packed-item2 .ensures) (c .before .packed-item3 .ensures) (c .if3 .taken)
 
 returns-4 : tie.Need-returns-4
 returns-4 c =
     let a = c .before .before .before .before .before .before .before .args in
     let p = c .before .before .before .before .before .before .before .pre in
-    and-rest (a .items .now) (a .start) (a .n) (p .0) (p .1) (p .2) (c .before .before .before .before .packed-item .ensures) (c .before .before .before .packed-item2 .ensures) (c .before .before .packed-item3 .ensures)
-    (c .packed-item4 .ensures) (c .before .before .before .before .before .before .if1 .left) (c .before .before .before .before .before .if2 .left) (c .before .if3 .left)
+    and-rest (a .items .now) (a .start) (a .n) (p .0) (p .1) (p .2)
+        (c .before .before .before .before .packed-item .ensures) (c .before .before .before .packed-item2 .ensures)
+        (c .before .before .packed-item3 .ensures)
+    (c .packed-item4 .ensures) (c .before .before .before .before .before .before .if1 .left)
+        (c .before .before .before .before .before .if2 .left) (c .before .if3 .left)
 
 pub list-cryptogram-spec : {M : Type 1} → statement M
 list-cryptogram-spec =

@@ -30,8 +30,11 @@ unfolding allowedInResponse allowedInTemplate
 returns-4 c =
     c .fits2 .ensures
     ∙ sym (both-true _ (eq-eqb _ _ (c .before .before .before .before .before .if1 .left))
-    ∙ both-true _ (sym (c .before .before .before .before .is-brought-by .ensures) ∙ not-false _ (c .before .before .before .if2 .left))
+    ∙ both-true _ (sym (c .before .before .before .before .is-brought-by .ensures)
+        ∙ not-false _ (c .before .before .before .if2 .left))
     ∙ both-true _ (sym (c .before .before .may-stand .ensures) ∙ not-false _ (c .before .if3 .left)))
 
 pub may-come-spec : {M : Type 1} → statement M
-may-come-spec = tie.close (tie.spec returns (λ c κs. search needs) returns-2 (λ c κs. search needs) returns-3 (λ c κs. search needs) returns-4)
+may-come-spec =
+    tie.close (tie.spec returns (λ c κs. search needs) returns-2 (λ c κs. search needs) returns-3
+    (λ c κs. search needs) returns-4)

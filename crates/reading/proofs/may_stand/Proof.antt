@@ -26,13 +26,21 @@ returns-3 : tie.Need-returns-3
 returns-3 c = past _ _ (c .before .before .if1 .left) (past _ _ (c .before .if2 .left) (here _ _ (c .if3 .taken)))
 
 returns-4 : tie.Need-returns-4
-returns-4 c = past _ _ (c .before .before .before .if1 .left) (past _ _ (c .before .before .if2 .left) (past _ _ (c .before .if3 .left) (here _ _ (c .if4 .taken))))
+returns-4 c =
+    past _ _ (c .before .before .before .if1 .left)
+    (past _ _ (c .before .before .if2 .left) (past _ _ (c .before .if3 .left) (here _ _ (c .if4 .taken))))
 
 returns-5 : tie.Need-returns-5
-returns-5 c = past _ _ (c .before .before .before .before .if1 .left) (past _ _ (c .before .before .before .if2 .left) (past _ _ (c .before .before .if3 .left) (past _ _ (c .before .if4 .left) (here _ _ (c .if5 .taken)))))
+returns-5 c =
+    past _ _ (c .before .before .before .before .if1 .left)
+    (past _ _ (c .before .before .before .if2 .left)
+    (past _ _ (c .before .before .if3 .left) (past _ _ (c .before .if4 .left) (here _ _ (c .if5 .taken)))))
 
 returns-6 : tie.Need-returns-6
-returns-6 c = past _ _ (c .before .before .before .before .if1 .left) (past _ _ (c .before .before .before .if2 .left) (past _ _ (c .before .before .if3 .left) (past _ _ (c .before .if4 .left) (past _ _ (c .if5 .left) refl))))
+returns-6 c =
+    past _ _ (c .before .before .before .before .if1 .left)
+    (past _ _ (c .before .before .before .if2 .left)
+    (past _ _ (c .before .before .if3 .left) (past _ _ (c .before .if4 .left) (past _ _ (c .if5 .left) refl))))
 
 pub may-stand-spec : {M : Type 1} → statement M
 may-stand-spec = tie.close (tie.spec returns returns-2 returns-3 returns-4 returns-5 returns-6)

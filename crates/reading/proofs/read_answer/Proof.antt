@@ -16,6 +16,7 @@ read-answer-spec =
     tie.close
     (tie.spec
     (λ c κs. search needs)
-    (λ c κs. let l = c .before .before .list-objects .ensures in ((c .before .before .before .before .before .before .pre, l .1), l .0 .fits))
+    (λ c κs. let l = c .before .before .list-objects .ensures in
+        ((c .before .before .before .before .before .before .pre, l .1), l .0 .fits))
     (λ c. search needs)
     returns)

@@ -13,4 +13,5 @@ returns c =
     (answered _ _ _ _ _ r, (answered _ _ _ _ _ f, agree _ _ _ _ _ r _ _ _ f))
 
 pub read-both-spec : {M : Type 1} → statement M
-read-both-spec = tie.close (tie.spec (λ c κs. search needs) (λ c κs. search needs) (λ c. search needs) (λ c. search needs) returns)
+read-both-spec =
+    tie.close (tie.spec (λ c κs. search needs) (λ c κs. search needs) (λ c. search needs) (λ c. search needs) returns)

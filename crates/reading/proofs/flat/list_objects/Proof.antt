@@ -28,7 +28,8 @@ returns c = let o = c .before .before .before .open .ensures in (rw (c .before .
 returns-2 : tie.Need-returns-2
 unfolding itemsOf
 returns-2 c =
-    let i = rw (c .before .before .before .before .before .opened2 .given .1) at (c .before .before .before .before .before .before .before .open .ensures .0) in
+    let i = rw (c .before .before .before .before .before .opened2 .given .1) at
+        (c .before .before .before .before .before .before .before .open .ensures .0) in
     let w = c .before .walk .ensures in
     (template-listed _ _ _ _ i _ (w .0) (c .close .ensures), w .1)
 
@@ -39,7 +40,8 @@ list-objects-spec =
     (λ c κs. search needs)
     (λ c. search needs)
     (λ c. search needs)
-    (λ c. let i = rw (c .before .before .opened2 .given .1) at (c .before .before .before .before .open .ensures .0) in omega (arith, i .short))
+    (λ c. let i = rw (c .before .before .opened2 .given .1) at
+        (c .before .before .before .before .open .ensures .0) in omega (arith, i .short))
     walk-requires
     (λ c κs. search needs)
     returns
