@@ -41,6 +41,7 @@ abbrev pub askFound : Amount → RecordNumber → StoreBytes → Next → Record
 askFound l k b other RecordFound.Nothing = other
 askFound l k b other (RecordFound.At r)  = ask (readRecordCommand r) (awaitedRecord l k) b
 
+-- the record at that place of the stored AFL
 abbrev pub askRecord : Amount → RecordNumber → StoreBytes → Next → Next
 askRecord l k b other = askFound l k b other (aflRecordAt (storedAfl b) k)
 
@@ -60,6 +61,7 @@ afterGpo b =
     else if not (acceptsAfl (storedAfl b)) then fail reasonAfl b
     else askRecord (transactionLimit b) 1 b (fail reasonAfl b)
 
+-- the answer to GPO
 unfoldable pub gpoNext : StoreBytes → Response → Next
 gpoNext b card = readThen Awaited.Gpo cvmNotApplicable b card afterGpo
 
@@ -102,6 +104,7 @@ readFound p b card RecordFound.Nothing = fail reasonAfl b
 readFound p b card (RecordFound.At r)  =
     readThen (Awaited.Record (record { number = r .sfi })) cvmNotApplicable b card (afterRecord p)
 
+-- the answer to READ RECORD
 unfoldable pub recordNext : AwaitedRecord → StoreBytes → Response → Next
 recordNext p b card = readFound p b card (aflRecordAt (storedAfl b) (p .number))
 
@@ -157,6 +160,7 @@ cryptogramEnding a b =
 abbrev pub afterCryptogram : RequestedCryptogram → StoreBytes → Next
 afterCryptogram a b = end (cryptogramEnding a b) (cvmNumber (a .cvm)) b
 
+-- the answer to GENERATE AC
 unfoldable pub cryptogramNext : RequestedCryptogram → StoreBytes → Response → Next
 cryptogramNext a b card = readThen Awaited.Cryptogram (cvmNumber (a .cvm)) b card (afterCryptogram a)
 

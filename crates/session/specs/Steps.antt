@@ -106,6 +106,7 @@ stepOn n buf (end e m b) = record { reply = replyOf (endingTransition m n e) b; 
 abbrev pub refusedStep : Session → RefusalNumber → Buffer → Step
 refusedStep s n buf = record { reply = refusedReply s n; buffer = buf }
 
+-- the step of a call on a session
 abbrev pub stepOf : Session → Buffer → CallEffect → Step
 stepOf s buf (refuse n) = refusedStep s n buf
 stepOf s buf (follow x) = stepOn (s .count) buf x

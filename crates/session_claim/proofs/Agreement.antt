@@ -1,5 +1,7 @@
 -- The claim's definitions as they were (the names that begin with `was`), and that the ones of specs/ say the same: the
--- accepted AFL and the last command on every input, and of the stage all three facts that stood in its place.
+-- accepted AFL and the last command on every input, and of the stage all three facts that stood in its place. Beside
+-- them the ranges by phase and the choice that was made; the steps are in
+-- `session/proofs/Agreement`.
 -- Assumes nothing.
 use mathlib.Core.Path.{_≡_, refl, sym, ap, _∙_}
 use mathlib.Core.Bool.{Bool, true, false}
@@ -7,23 +9,26 @@ use mathlib.Core.List.{List, [], _∷_}
 use mathlib.Core.Option.{Option, some, none}
 use Prim.Native.Nat.{ℕ}
 use lib.Dec.{eqb}
-use Rattle.basics.specs.Choice.{if}
-use Rattle.basics.specs.Reason.{reasonNone}
+use Rattle.basics.specs.Choice.{if, both}
+use Rattle.basics.specs.Reason.{reasonNone, reasonDol}
 use Rattle.basics.proofs.Laws.{if-ind, no}
 use Rattle.tlv.specs.Tag.{tagAt, tagSize, tagFirstByte, isTemplate}
 use Rattle.tlv.specs.Length.{lengthAt}
 use Rattle.tlv.specs.Object.{headerOf}
 use Rattle.reading.specs.Answer.{responseBody}
+use Rattle.session_record.specs.declared.AwaitedResponse.{AwaitedResponse}
 use Rattle.session_record.specs.declared.Phase.{Phase}
 use Rattle.session_record.specs.declared.Session.{Session}
 use Rattle.session_record.specs.declared.CallResult.{CallResult}
 use Rattle.session_record.specs.Session.{storeBytes, Stage, fresh, running, ended, stageOf, isRunning, isEnded}
+use Rattle.session_record.specs.Ranges.{freshRanges, gpoRanges, recordRanges, cryptogramRanges, checksumRanges, endedRanges, phaseRanges}
 use Rattle.session.specs.Answer.{gpoReason}
 use Rattle.session.specs.Calls.{Call, start, answer, link-failed, stop, CallMade, isRefusal, callResult, callRefused}
 use Rattle.session.proofs.Results.{isCommand, isOutcome}
 use Rattle.session_claim.specs.Calls.{callsAccepted, lastElement}
 use Rattle.session_claim.specs.Order.{responseAfl, responseAip, cardBytes, acceptedAfl, CommandKind, cryptogram, lastKindFor, lastKind}
 use Rattle.session_claim.specs.Claim.{stageBy, stageAfter, SessionProper}
+use Rattle.session_claim.specs.ReportedCvm.{choiceMadeIn}
 
 -- ---- the accepted AFL and the last command
 
@@ -188,3 +193,39 @@ stage-agrees ms s c =
 
     passed : Passed o
     passed = last-passed (callsAccepted ms) (all-passed ms)
+
+-- ---- the ranges by phase
+
+abbrev wasRanges : Phase → Session → Bool
+wasRanges Phase.Fresh s = freshRanges (s .count) (storeBytes s)
+wasRanges (Phase.Waiting AwaitedResponse.Gpo) s = gpoRanges (s .count) (storeBytes s)
+wasRanges (Phase.Waiting (AwaitedResponse.Record p)) s = recordRanges p (s .count) (storeBytes s)
+wasRanges (Phase.Waiting (AwaitedResponse.Cryptogram a)) s = cryptogramRanges a (s .count) (storeBytes s)
+wasRanges (Phase.Waiting (AwaitedResponse.Checksum c)) s = checksumRanges c (s .count) (storeBytes s)
+wasRanges (Phase.Ended e) s = endedRanges e (s .count)
+
+pub ranges-agree : (p : Phase) (s : Session) → wasRanges p s ≡ phaseRanges p (s .count) (storeBytes s)
+ranges-agree Phase.Fresh s = refl
+ranges-agree (Phase.Waiting AwaitedResponse.Gpo) s = refl
+ranges-agree (Phase.Waiting (AwaitedResponse.Record p)) s = refl
+ranges-agree (Phase.Waiting (AwaitedResponse.Cryptogram a)) s = refl
+ranges-agree (Phase.Waiting (AwaitedResponse.Checksum c)) s = refl
+ranges-agree (Phase.Ended e) s = refl
+
+-- ---- the choice that was made
+
+abbrev wasChoice : Phase → Bool → ℕ → Bool
+wasChoice Phase.Fresh emv reason = false
+wasChoice (Phase.Waiting AwaitedResponse.Gpo) emv reason = false
+wasChoice (Phase.Waiting (AwaitedResponse.Record p)) emv reason = both emv (eqb reason reasonDol)
+wasChoice (Phase.Waiting (AwaitedResponse.Cryptogram a)) emv reason = true
+wasChoice (Phase.Waiting (AwaitedResponse.Checksum c)) emv reason = false
+wasChoice (Phase.Ended e) emv reason = false
+
+pub choice-agrees : (p : Phase) (emv : Bool) (reason : ℕ) → wasChoice p emv reason ≡ choiceMadeIn p emv reason
+choice-agrees Phase.Fresh emv reason = refl
+choice-agrees (Phase.Waiting AwaitedResponse.Gpo) emv reason = refl
+choice-agrees (Phase.Waiting (AwaitedResponse.Record p)) emv reason = refl
+choice-agrees (Phase.Waiting (AwaitedResponse.Cryptogram a)) emv reason = refl
+choice-agrees (Phase.Waiting (AwaitedResponse.Checksum c)) emv reason = refl
+choice-agrees (Phase.Ended e) emv reason = refl

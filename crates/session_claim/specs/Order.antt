@@ -76,8 +76,8 @@ cardBytes (link-failed buf) = []
 cardBytes (stop buf)        = []
 
 -- by the first answer not refused: the AFL that it brings, where the rules give it no reason on the store of the
--- session before it; before that answer none is accepted. `gpoReason` is the reason of an answer to GPO: the first answer taken
--- is always that one (`first-on-gpo` in proofs/Rules).
+-- session before it; before that answer none is accepted. `gpoReason` is the reason of an answer to GPO: the first
+-- answer taken is always that one (`first-on-gpo` in proofs/Rules).
 abbrev pub acceptedAfl : Option CallMade → Option AflBytes
 acceptedAfl none = none
 acceptedAfl (some m) =

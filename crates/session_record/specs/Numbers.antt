@@ -2,16 +2,16 @@
 -- their numbers").
 -- Assumes nothing.
 use mathlib.Core.Bool.{Bool, not}
-use Prim.Native.Nat.{ℕ}
 use Rattle.basics.specs.Choice.{if_then_else_, _and_, _=?_}
 use Rattle.basics.specs.Number.{between}
+use Rattle.basics.specs.Types.{Byte, Reason}
 use Rattle.basics.specs.Reason.{reasonNone, reasonStatus, reasonAboveLimit, reasonMode}
 use Rattle.session_record.specs.declared.Outcome.{Outcome}
 
 -- ---- outcomes
 
 -- the number of an outcome
-abbrev pub outcomeNumber : Outcome → ℕ
+abbrev pub outcomeNumber : Outcome → Byte
 outcomeNumber Outcome.Approved      = 0
 outcomeNumber Outcome.OnlineRequest = 1
 outcomeNumber Outcome.Declined      = 2
@@ -21,7 +21,7 @@ outcomeNumber Outcome.SelectNext    = 4
 -- ---- which go together
 
 -- an outcome and a reason: none with a decision, the limit with select next, every other one with ended
-unfoldable pub reasonMatchesOutcome : Outcome → ℕ → Bool
+unfoldable pub reasonMatchesOutcome : Outcome → Reason → Bool
 reasonMatchesOutcome Outcome.Approved      n = n =? reasonNone
 reasonMatchesOutcome Outcome.OnlineRequest n = n =? reasonNone
 reasonMatchesOutcome Outcome.Declined      n = n =? reasonNone
@@ -29,7 +29,7 @@ reasonMatchesOutcome Outcome.Ended         n = between reasonStatus n reasonMode
 reasonMatchesOutcome Outcome.SelectNext    n = n =? reasonAboveLimit
 
 -- the outcome of a reason other than none
-unfoldable pub outcomeOfReason : ℕ → Outcome
+unfoldable pub outcomeOfReason : Reason → Outcome
 outcomeOfReason n =
     if n =? reasonAboveLimit then Outcome.SelectNext
     else Outcome.Ended

@@ -47,6 +47,7 @@ pub data Stage : Type 0 where
   running : Stage
   ended : Stage
 
+-- by the phase
 abbrev pub stageOf : Phase → Stage
 stageOf Phase.Fresh       = fresh
 stageOf (Phase.Waiting w) = running

@@ -4,10 +4,10 @@ use mathlib.Core.Path.{_≡_}
 use mathlib.Core.Bool.{Bool, true, false, not}
 use mathlib.Core.List.{List, [], _∷_}
 use mathlib.Core.Option.{Option, some, none}
-use Prim.Native.Nat.{ℕ}
 use lib.ListN.{length, getD}
 use Rattle.basics.specs.Choice.{if_then_else_, _and_, _≤?_, _=?_}
 use Rattle.basics.specs.Number.{hasBit}
+use Rattle.basics.specs.Types.{StoreBytes, StartBytes, Value, Tag, RowNumber, Length, RefusalNumber}
 use Rattle.tlv.specs.Primitives.{Object, primitiveObjects}
 use Rattle.dictionary.specs.declared.RowFound.{RowFound}
 use Rattle.dictionary.specs.Rows.{dictionaryRows, rowAt, findRow, setByStart}
@@ -21,13 +21,13 @@ use Rattle.start_data.specs.declared.LoadResult.{LoadResult}
 -- ---- taking the objects
 
 -- a terminal type must be listed
-unfoldable pub terminalTypeListed : ℕ → List ℕ → Bool
+unfoldable pub terminalTypeListed : Tag → Value → Bool
 terminalTypeListed t v =
     if t =? 0x9F35 then listedTerminalType (getD v 0 0)
     else true
 
 -- a known object that a start may set, of a length and digits that fit, not present yet; a terminal type is listed
-unfoldable pub settableByStart : List ℕ → ℕ → Object → Bool
+unfoldable pub settableByStart : StoreBytes → RowNumber → Object → Bool
 settableByStart b k o =
     hasBit (rowAt k .setters) setByStart
     and fitsRow (rowAt k) (o .value)
@@ -35,33 +35,33 @@ settableByStart b k o =
     and terminalTypeListed (o .tag) (o .value)
 
 -- by its row in the table; an unknown one is skipped
-abbrev pub setRowFound : List ℕ → Object → RowFound → Option (List ℕ)
+abbrev pub setRowFound : StoreBytes → Object → RowFound → Option StoreBytes
 setRowFound b o RowFound.Unknown = some b
 setRowFound b o (RowFound.At k) =
     if settableByStart b k o then some (putRow dictionaryRows b k (o .value))
     else none
 
 -- one object: unknown ones are skipped
-unfoldable pub setObject : List ℕ → Object → Option (List ℕ)
+unfoldable pub setObject : StoreBytes → Object → Option StoreBytes
 setObject b o = setRowFound b o (findRow dictionaryRows (o .tag))
 
 -- one after the other, none where one may not be set
-abbrev pub thenSet : Option (List ℕ) → (List ℕ → Option (List ℕ)) → Option (List ℕ)
+abbrev pub thenSet : Option StoreBytes → (StoreBytes → Option StoreBytes) → Option StoreBytes
 thenSet none k = none
 thenSet (some b) k = k b
 
 -- one object after the other, none where one may not be set
-unfoldable pub setObjects : List ℕ → List Object → Option (List ℕ)
+unfoldable pub setObjects : StoreBytes → List Object → Option StoreBytes
 setObjects b [] = some b
 setObjects b (o ∷ os) = thenSet (setObject b o) (λ c. setObjects c os)
 
 -- the objects of a run; none where there is no run
-unfoldable pub setParsed : List ℕ → Option (List Object) → Option (List ℕ)
+unfoldable pub setParsed : StoreBytes → Option (List Object) → Option StoreBytes
 setParsed b none = none
 setParsed b (some os) = setObjects b os
 
 -- what is reported and left of a store: all were set; or one may not be set, and the store is given up
-abbrev pub SetsObjects : Bool → List ℕ → Option (List ℕ) → Type 0
+abbrev pub SetsObjects : Bool → StoreBytes → Option StoreBytes → Type 0
 SetsObjects r c none = r ≡ false
 SetsObjects r c (some d) = (r ≡ true) × (c ≡ d)
 
@@ -69,31 +69,31 @@ SetsObjects r c (some d) = (r ≡ true) × (c ≡ d)
 
 -- a store with all objects, or the number of a refusal
 pub data LoadedStore : Type 0 where
-  refusal : ℕ → LoadedStore
-  loaded : List ℕ → LoadedStore
+  refusal : RefusalNumber → LoadedStore
+  loaded : StoreBytes → LoadedStore
 
 -- all that a start must bring is present
-abbrev pub loadedIfRequired : List ℕ → LoadedStore
+abbrev pub loadedIfRequired : StoreBytes → LoadedStore
 loadedIfRequired b =
     if allRequiredPresent b then loaded b
     else refusal refusedAbsent
 
 -- an object that may not be set is 23; else what a start must bring is checked
-abbrev pub afterSetting : Option (List ℕ) → LoadedStore
+abbrev pub afterSetting : Option StoreBytes → LoadedStore
 afterSetting none = refusal refusedObject
 afterSetting (some b) = loadedIfRequired b
 
 -- bytes that are no run of primitive objects are 20; else the objects are set
-abbrev pub afterRun : List ℕ → Option (List Object) → LoadedStore
+abbrev pub afterRun : StoreBytes → Option (List Object) → LoadedStore
 afterRun b none = refusal refusedBytes
 afterRun b (some os) = afterSetting (setObjects b os)
 
 -- the most start bytes
-abbrev pub mostStartBytes : ℕ
+abbrev pub mostStartBytes : Length
 mostStartBytes = 1024
 
 -- the start bytes s into the store b
-unfoldable pub loadStart : List ℕ → List ℕ → LoadedStore
+unfoldable pub loadStart : StoreBytes → StartBytes → LoadedStore
 loadStart b s =
     if length s ≤? mostStartBytes then afterRun b (primitiveObjects s)
     else refusal refusedBytes
@@ -106,12 +106,12 @@ loadResultOf (refusal n) = LoadResult.Refused (record { number = n })
 loadResultOf (loaded c) = LoadResult.Loaded
 
 -- a refusal leaves the store b as it came
-abbrev pub storeAfterLoad : List ℕ → LoadedStore → List ℕ
+abbrev pub storeAfterLoad : StoreBytes → LoadedStore → StoreBytes
 storeAfterLoad b (refusal n) = b
 storeAfterLoad b (loaded c) = c
 
 -- what is reported, and the store c that is left of b
-pub record LoadsStart (r : LoadResult) (c b : List ℕ) (x : LoadedStore) : Type 0 where
+pub record LoadsStart (r : LoadResult) (c b : StoreBytes) (x : LoadedStore) : Type 0 where
   pub said : r ≡ loadResultOf x
   pub store : c ≡ storeAfterLoad b x
 
