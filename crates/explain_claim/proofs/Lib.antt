@@ -1,5 +1,4 @@
 pub mod Kept
 pub mod Chosen
-pub mod FormerClaim
 pub mod Calls
 pub mod Examples
