@@ -252,7 +252,7 @@ fn walk(bytes: &[u8], contents: Contents, around: u32, levels: usize, tally: Tal
         } else {
             let front = tlv::object_header(&bytes[at..end]);
             let ObjectFront::Object(h) = front else {
-                return Walked::Broken;
+                return Walked::Broken; // no whole object is next
             };
             let from = at + h.start;
             let e = from + h.len;
