@@ -47,14 +47,14 @@ module _ (s : Session) (card buf : List ℕ) (q : s .phase ≡ Phase.Waiting Awa
 afl-of : (s : Session) (c : Call) (st : Step) → isAnswer c ≡ true → st ≡ callStep s c → Small (st .reply .answer)
     → isRefusal (st .reply .answer) ≡ false → s .phase ≡ Phase.Waiting AwaitedResponse.Gpo
     → hostAfl (some (asCompleted (callMade s c st))) ≡ acceptedAfl (some (callMade s c st))
-afl-of s (start bytes buf) st a e h t q = no (sym a)
+afl-of s (start bytes buf) st a e h t q = no a
 afl-of s (answer card buf) st a e h t q =
     let r = sym (ap (λ (x : Step). isRefusal (x .reply .answer)) e) ∙ t in
     ap (λ (b : Bool). if b (responseAfl card) none)
     (word-command (st .reply .answer) h ∙ ap (λ (x : Step). isCommand (x .reply .answer)) e
     ∙ command-by-rules s card buf q r)
-afl-of s (link-failed buf) st a e h t q = no (sym a)
-afl-of s (stop buf) st a e h t q = no (sym a)
+afl-of s (link-failed buf) st a e h t q = no a
+afl-of s (stop buf) st a e h t q = no a
 
 pub read-afl : (cs : List Call)
     → hostAfl (firstAnswerCall (notRefused (map asCompleted (playCalls freshSession cs)))) ≡ acceptedAfl (firstAnswer (callsAccepted (playCalls freshSession cs)))

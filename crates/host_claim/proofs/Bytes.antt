@@ -21,7 +21,7 @@ use Rattle.session.specs.Steps as steps
 use Rattle.session.specs.Steps.{Step, CallEffect, leastBuffer, admittedStep, linkFailedStep, stopStep}
 use Rattle.session.specs.Start.{startStep}
 use Rattle.session.specs.Answer.{answerStep}
-use Rattle.layout.specs.Layout.{recordSize, encodedSession, withSessionRecord, decodedSession}
+use Rattle.layout.specs.Layout.{recordSize, bigEndianBytes, encodedSession, withSessionRecord, decodedSession}
 use Rattle.layout.specs.Word.{refusalWord}
 use Rattle.layout.proofs.Laws.{decode-encode, written-back, written-length}
 use Rattle.session.specs.Calls.{Call, start, answer, link-failed, stop, callStep}
@@ -36,7 +36,7 @@ written s l h = if-yes _ _ (le-leb recordSize (length l) h)
 
 module _ (s : Session) (i : inRanges s ≡ true) (l : List ℕ) (h : recordSize ≤ length l) where
   size : length (encodedSession s) ≡ recordSize
-  unfolding encodedSession
+  unfolding encodedSession bigEndianBytes
   size = let z = store-size s i in simp length-append (omega arith)
 
   -- it is read back

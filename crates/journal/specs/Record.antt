@@ -26,7 +26,7 @@ mostAnswerInRecord = 258
 abbrev pub mostCommandInRecord : Length
 mostCommandInRecord = 261
 
--- the sizes of their records: kind and two length bytes before them
+-- the sizes of a start's and a command's record: kind and two length bytes before them
 abbrev pub startRecordSize : Length
 startRecordSize = 1027
 
