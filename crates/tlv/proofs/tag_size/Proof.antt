@@ -41,7 +41,7 @@ returns-5 c = let s = c .before .before .before .before .before .before .before 
 
 returns-6 : tie.Need-returns-6
 unfolding if
-returns-6 c = let s = c .before .before .before .before .before .before .before .before .before .before .args .s .now in (sym (second (c .before .before .before .before .before) ∙ simp (le-ltb (length s) 2 (omega arith), ne-eqb (getD s 1 0) 0x80 (omega arith), lt-leb 0x80 (getD s 1 0) (omega arith))), omega arith)
+returns-6 c = let d = c .before .before .before .before .before in let s = d .before .before .before .before .before .args .s .now in (sym (second (c .before .before .before .before .before) ∙ simp (le-ltb (length s) 2 (omega arith), ne-eqb (getD s 1 0) 0x80 (omega arith), lt-leb 0x80 (getD s 1 0) (omega arith))), omega arith)
 
 third : (c : lts.Else6 reads.Pre reads.Post) → tagSize (c .before .before .before .before .before .before .before .before .before .before .args .s .now) ≡ fromThird (c .before .before .before .before .before .before .before .before .before .before .args .s .now)
 unfolding if
